@@ -1,0 +1,13 @@
+mod Names
+pub mod Sums
+pub mod Windows
+pub mod Served
+pub mod Runs
+pub mod Busy
+pub mod FirstRuns
+pub mod Unique
+pub mod Synchronous
+pub mod ChildSupply
+pub mod PeriodicSupply
+pub mod WorstPattern
+pub mod FullSupply

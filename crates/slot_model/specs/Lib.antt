@@ -1,0 +1,10 @@
+pub mod Name
+pub mod Slots
+pub mod Supply
+pub mod Task
+pub mod Order
+pub mod EdfOrder
+pub mod Release
+pub mod Run
+pub mod Miss
+pub mod Bound
