@@ -1,8 +1,9 @@
 -- Lists that are seen through a map: the names of a set, and the arrays and the tables of a document.
-use Rattle.std.proofs.Common.{◌≡◌, ℕ, ◌+◌, Bool, true, false, not, cond, ◌&&◌, ◌||◌, List, [], ◌∷◌, map, length, nat_lt, Option, Some, None, String, Global, string_bytes, codes, refl, ap, ◌∙◌, Bor}
+use Rattle.std.proofs.Common.{◌≡◌, ℕ, ◌+◌, Bool, true, false, not, cond, ◌&&◌, ◌||◌, ◌++◌, List, [], ◌∷◌, map, length, nat_lt, Option, Some, None, String, Global, string_bytes, codes, refl, ap, ◌∙◌, Bor}
 use Rattle.std.specs.Prelude.{position, bytes_eq}
 use Rattle.std.specs.List.{list_any, list_all, prefix_len}
 use Rattle.std.specs.Map.{keys_of}
+use Rattle.indexmap.specs.IndexSet.{insert_key}
 use Rattle.toml.specs.Data.{Data}
 use Rattle.toml.specs.View.{view, items_view, members_view}
 use Rattle.toml.specs.declared.value.Value.{Value}
@@ -31,7 +32,16 @@ pub elements_view : (vs : List Value) → elements_of (items_view vs) ≡ map vi
 elements_view [] = refl
 elements_view (v ∷ vs) = ap (λ ds. view v ∷ ds) (elements_view vs)
 
--- the keys of a table, as its map lists them
-pub has_only_view : (listed : List (List ℕ)) (es : List (String Global × Value)) → has_only listed (members_view es) ≡ list_all (λ k. list_any (bytes_eq (string_bytes k)) listed) (keys_of es)
-has_only_view listed [] = refl
-has_only_view listed (e ∷ es) = ap (λ b. list_any (bytes_eq (string_bytes e.0)) listed && b) (has_only_view listed es)
+-- the keys of a table, as its map lists them, and the listed keys as a slice of texts has them
+pub only_listed : (listed : List (Bor (List ℕ))) (es : List (String Global × Value)) → has_only (map (λ l. l.now) listed) (members_view es) ≡ list_all (λ k. list_any (λ l. bytes_eq (string_bytes k) l.now) listed) (keys_of es)
+only_listed listed [] = refl
+only_listed listed (e ∷ es) = rw (list_any_map (bytes_eq (string_bytes e.0)) (λ l. l.now) listed, only_listed listed es)
+
+pub map_append : {A B : Type 0} (f : A → B) (xs ys : List A) → map f (xs ++ ys) ≡ map f xs ++ map f ys
+map_append f [] ys = refl
+map_append f (x ∷ xs) ys = ap (λ zs. f x ∷ zs) (map_append f xs ys)
+
+-- a new name goes to the end of a set
+pub added_name : (keys : List (Bor (List ℕ))) (name : Bor (List ℕ)) → list_any (bytes_eq name.now) (map (λ k. k.now) keys) ≡ false
+    → map (λ k. k.now) (insert_key (λ x y. bytes_eq x.now y.now) keys name) ≡ map (λ k. k.now) keys ++ name.now ∷ []
+added_name keys name new = rw (← list_any_map (bytes_eq name.now) (λ k. k.now) keys, new) (map_append (λ (k : Bor (List ℕ)). k.now) keys (name ∷ []))

@@ -128,12 +128,14 @@ core_faults earlier d = table_faults (Core (length earlier)) core_keys (core_key
 abbrev pub task_keys : List (List ℕ)
 task_keys = codes "name" ∷ codes "period" ∷ codes "deadline" ∷ codes "work" ∷ []
 
-abbrev pub task_key_faults : Spot → List Data → Data → List SystemFault
-task_key_faults spot earlier d =
-    required spot (text_faults spot (new_name_faults spot earlier)) (get (codes "name") d) ++
-    (required spot (range_faults spot LIMIT) (get (codes "period") d) ++
+abbrev pub task_number_faults : Spot → Data → List SystemFault
+task_number_faults spot d =
+    required spot (range_faults spot LIMIT) (get (codes "period") d) ++
     (optional (range_faults spot (number_of (get (codes "period") d))) (get (codes "deadline") d) ++
-    required spot (range_faults spot (deadline_of d)) (get (codes "work") d)))
+    required spot (range_faults spot (deadline_of d)) (get (codes "work") d))
+
+abbrev pub task_key_faults : Spot → List Data → Data → List SystemFault
+task_key_faults spot earlier d = required spot (text_faults spot (new_name_faults spot earlier)) (get (codes "name") d) ++ task_number_faults spot d
 
 abbrev pub task_faults : ℕ → List Data → Data → List SystemFault
 task_faults q earlier d = table_faults (Task q (length earlier)) task_keys (task_key_faults (Task q (length earlier)) earlier d) d

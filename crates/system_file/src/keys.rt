@@ -1,8 +1,9 @@
-ghost use Rattle.std.specs.Prelude.{◌≡◌, ℕ, ◌≤◌, pos, Bool, true, false, List, [], ◌∷◌, ◌++◌, length, map, codes, bytes_eq, Option, Some, None, option_map, IfOk, IfErr};
+ghost use Rattle.std.specs.Prelude.{◌≡◌, ℕ, ◌≤◌, pos, Bool, true, false, List, [], ◌∷◌, ◌++◌, length, map, codes, bytes_eq, string_bytes, Option, Some, None, option_map, IfOk, IfErr};
 ghost use Rattle.toml.specs.Data.{string, integer, array, table, get_member, as_table, as_array};
 ghost use Rattle.toml.specs.View.{view, items_view, table_view};
 ghost use Rattle.tree_model.specs.System.{IsGivenBudget};
-ghost use Rattle.std.specs.List.{list_any};
+ghost use Rattle.std.specs.List.{list_any, list_all};
+ghost use Rattle.std.specs.BTreeMap.{keys};
 ghost use Rattle.system_file.specs.declared.fault.Spot.{Spot};
 ghost use Rattle.system_file.specs.declared.fault.SystemFault.{SystemFault};
 ghost use Rattle.system_file.specs.Document.{elements_of, given_number, flag_of, sched_named, array_of as elements};
@@ -188,6 +189,7 @@ pub fn check_format(table: &Table) -> Result<(), SystemFault>
     }
 }
 
+#[tactic(auto, using(crate::proofs::Elements::only_listed))]
 /// Every key of a table has to be listed.
 pub fn check_keys(table: &Table, listed: &[&str], spot: Spot) -> Result<(), SystemFault>
     ensures ok { IfOk result (λ _. has_only (map (λ key. key.now) listed.now) (table_view table.now) ≡ true) }
@@ -201,7 +203,7 @@ pub fn check_keys(table: &Table, listed: &[&str], spot: Spot) -> Result<(), Syst
 }
 
 fn all_listed(table: &Table, listed: &[&str]) -> bool
-    ensures { result ≡ has_only (map (λ key. key.now) listed.now) (table_view table.now) }
+    ensures { result ≡ list_all (λ key. list_any (λ l. bytes_eq (string_bytes key) l.now) listed.now) (keys table.now) }
 {
     table.keys().all(|key| is_listed(key.as_str(), listed))
 }

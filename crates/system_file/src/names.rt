@@ -1,4 +1,4 @@
-ghost use Rattle.std.specs.Prelude.{◌≡◌, [], ◌∷◌, ◌++◌, false, OnOk, position, bytes_eq};
+ghost use Rattle.std.specs.Prelude.{◌≡◌, ◌<◌, [], ◌∷◌, ◌++◌, false, length, OnOk, IfSome, position, bytes_eq};
 ghost use Rattle.std.specs.List.{list_any};
 
 use indexmap::IndexSet;
@@ -29,9 +29,10 @@ impl<'t> Names<'t> {
     }
 
     /// The place of a name, counted from 0.
-    #[tactic(auto, using(crate::proofs::Elements::position_map))]
+    #[tactic(auto, using(crate::proofs::Elements::position_map, crate::proofs::Elements::length_map))]
     pub fn find(&self, name: &str) -> Option<usize>
-        ensures { result ≡ position (bytes_eq name.now) self.now }
+        ensures place { result ≡ position (bytes_eq name.now) self.now }
+        ensures within { IfSome result (λ i. i < length self.now) }
     {
         self.names.get_index_of(name)
     }
