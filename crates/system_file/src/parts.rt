@@ -39,9 +39,9 @@ fn parent_of(
             if place < cores {
                 return Ok(Parent::Core(place as u32));
             }
-            let part = place - cores;
-            if earlier[part].tasks.is_empty() {
-                Ok(Parent::Part(part as u32))
+            let part = &earlier[place - cores];
+            if part.tasks.is_empty() {
+                Ok(Parent::Part((place - cores) as u32))
             } else {
                 Err(SystemFault::Mixed(spot))
             }
