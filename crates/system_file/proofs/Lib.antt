@@ -1,3 +1,4 @@
 pub mod Elements
+pub mod Along
 pub mod First
 mod Examples

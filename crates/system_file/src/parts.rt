@@ -83,14 +83,10 @@ fn read_part<'t>(
     )?;
     let text = text_at(table, "name", spot)?;
     let name = new_name(alloc, text, names, spot)?;
-    let parent = parent_of(
-        text_at(table, "parent", spot)?,
-        names,
-        cores,
-        earlier,
-        spot,
-    )?;
-    let sched = sched_of(text_at(table, "sched", spot)?, spot)?;
+    let parent_name = text_at(table, "parent", spot)?;
+    let parent = parent_of(parent_name, names, cores, earlier, spot)?;
+    let sched_name = text_at(table, "sched", spot)?;
+    let sched = sched_of(sched_name, spot)?;
     let period = number_at(table, "period", LIMIT, spot)?;
     let budget = given_number_at(table, "budget", period, spot)?;
     let extra = flag_at(table, "extra", spot)?;
