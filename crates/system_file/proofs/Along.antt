@@ -1,5 +1,5 @@
 -- Walking along the values of an array: those before a place, and those from it on.
-use Rattle.std.proofs.Common.{◌≡◌, ℕ, ◌+◌, ◌<◌, ◌≤◌, zero, suc, List, [], ◌∷◌, ◌++◌, map, length, take, drop, get_or, refl, sym, ap, ◌∙◌, arith, drop-cons, add-one, length-take-le, Option, Some}
+use Rattle.std.proofs.Common.{◌≡◌, ℕ, ◌+◌, ◌<◌, ◌≤◌, zero, suc, List, [], ◌∷◌, ◌++◌, map, length, take, drop, get_or, refl, sym, ap, ◌∙◌, arith, append_assoc, drop-cons, add-one, length-take-le, Option, Some}
 use Rattle.std.proofs.lemmas.List.{take_more}
 use Rattle.toml.specs.Data.{Data}
 use Rattle.toml.specs.View.{view}
@@ -47,3 +47,7 @@ faultless at_element vs i v h is so_far none = so_far ∙ along at_element vs i 
 pub spelled_more : {A : Type 0} (spelled : Data → A) (vs : List Value) (i : ℕ) (v : Value) (x : A) → i < length vs → v ≡ get_or vs i v → x ≡ spelled (view v) →
     map spelled (before vs i) ++ x ∷ [] ≡ map spelled (before vs (i + 1))
 spelled_more spelled vs i v x h is same = ap (λ y. map spelled (before vs i) ++ y ∷ []) same ∙ sym (map_append spelled (before vs i) (view v ∷ [])) ∙ ap (map spelled) (sym (before_more vs i v h is))
+
+-- the values before a place and those from it on are all
+pub all_values : (vs : List Value) (i : ℕ) (v : Value) → i < length vs → v ≡ get_or vs i v → before vs i ++ view v ∷ from vs (i + 1) ≡ before vs (i + 1) ++ from vs (i + 1)
+all_values vs i v h is = sym (append_assoc (before vs i) (view v ∷ []) (from vs (i + 1))) ∙ ap (λ ds. ds ++ from vs (i + 1)) (sym (before_more vs i v h is))

@@ -1,4 +1,5 @@
 pub mod Elements
 pub mod Along
 pub mod First
+pub mod Places
 mod Examples
