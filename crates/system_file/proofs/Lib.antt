@@ -1,6 +1,10 @@
 pub mod Elements
 pub mod Along
 pub mod Children
+pub mod Faultless
 pub mod First
+pub mod Found
+pub mod Nodes
+pub mod Rules
 pub mod Places
 mod Examples

@@ -96,7 +96,7 @@ parent_kept cores earlier more s parent h =
     kept None (Some r) n o e = e
     kept None None n o e = cc
 
-leaf_tasks : (ds : List Data) → is_leaf (map spelled_task ds) ≡ not (length ds == 0)
+pub leaf_tasks : (ds : List Data) → is_leaf (map spelled_task ds) ≡ not (length ds == 0)
 leaf_tasks [] = refl
 leaf_tasks (d ∷ ds) = grind (arith, nat_tests)
 
