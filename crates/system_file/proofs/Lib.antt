@@ -3,6 +3,7 @@ pub mod Along
 pub mod Children
 pub mod Faultless
 pub mod First
+pub mod Systems
 pub mod Found
 pub mod Nodes
 pub mod Rules

@@ -42,6 +42,9 @@ core_place (Some i) o c h = cc
 core_place None None c h = cc
 core_place None (Some j) c h = cc
 
+value_is : (p s : Parent) → Some p ≡ Some s → p ≡ s
+value_is p s h = cc
+
 same_place_is : (k q : ℕ) → (k == q) ≡ true → k ≡ q
 same_place_is k q h = grind (arith, nat_tests)
 
@@ -120,8 +123,7 @@ module _ (cores parts : List Data) (no_core : in_order core_faults [] cores ≡ 
       let named : parent_named cores parts new.name ≡ Some (on_part q) =
             ap (λ a. core_or_part a (position (is_named new.name) parts)) (position_none (is_named new.name) cores (neither_left _ _ split)) ∙ ap (core_or_part None) first in
       let found : Some there.parent ≡ Some (on_part q) = sym (parent_found r hr) ∙ ap (parent_named cores parts) (sym ((bytes_eq-Decides new.name there.text).0 e)) ∙ named in
-      let same : there.parent ≡ on_part q = cc in
-      ap (is_on q) same ∙ itself q
+      ap (is_on q) (value_is there.parent (on_part q) found) ∙ itself q
 
   link_false : (q r : ℕ) (hq : q < length parts) (hr : r < length parts) → bytes_eq (part_new q hq).name (parent_there r hr).text ≡ false → (p : Parent) → (parent_there r hr).parent ≡ p → is_on q p ≡ false
   link_false q r hq hr e (on_core c) same = refl

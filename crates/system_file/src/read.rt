@@ -28,7 +28,7 @@ fn read_document(alloc: Global, table: &Table) -> Result<System, SystemFault>
     let part_values = elements_at(table, "part", 512, Spot::Top)?;
     let mut names = Names::new(alloc);
     let cores = read_cores(alloc, core_values, &mut names)?;
-    let parts = read_parts(alloc, part_values, cores.len(), &mut names)?;
+    let parts = read_parts(alloc, part_values, core_values.len(), &mut names)?;
     match first_empty(alloc, &parts)? {
         Some(place) => Err(SystemFault::Empty(Spot::Part(place as u32))),
         None => Ok(System { cores, parts }),
