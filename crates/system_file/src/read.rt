@@ -1,10 +1,11 @@
 ghost use Rattle.std.specs.Prelude.{◌≡◌, ◌≢◌, [], Ok, Err, IfOk, IfErr};
 ghost use Rattle.toml.specs.Data.{table as toml_table};
+ghost use Rattle.toml.specs.Parse.{parse_document};
 ghost use Rattle.toml.specs.View.{table_view};
 ghost use Rattle.system_file.specs.declared.fault.SystemFault.TheVariants.{NoMemory};
 ghost use Rattle.system_file.specs.Document.{spelled_system};
 ghost use Rattle.system_file.specs.Faults.{faults};
-ghost use Rattle.system_file.specs.SystemFile.{system_of};
+ghost use Rattle.system_file.specs.SystemFile.{system_of, system_of_document};
 ghost use Rattle.system_file.specs.Reading.{first_of};
 
 use crate::cores::read_cores;
@@ -35,6 +36,22 @@ fn read_document(alloc: Global, table: &Table) -> Result<System, SystemFault>
     }
 }
 
+fn read_text(alloc: Global, text: &str) -> Result<System, SystemFault>
+    ensures spelled { IfOk result (λ sys. system_of_document (parse_document text.now) ≡ Ok sys) }
+    ensures fault { IfErr result (λ fault. fault ≢ NoMemory → system_of_document (parse_document text.now) ≡ Err fault) }
+{
+    match toml::table_from_str(alloc, text) {
+        Ok(table) => read_document(alloc, &table),
+        Err(error) => {
+            if error.is_memory() {
+                Err(SystemFault::NoMemory)
+            } else {
+                Err(SystemFault::NotToml)
+            }
+        }
+    }
+}
+
 /// The system that a file spells, or the first fault of its document. Bytes that are no TOML
 /// document, or no text, are `NotToml`. `NoMemory` may come in place of any answer.
 pub fn read_system(alloc: Global, bytes: &[u8]) -> Result<System, SystemFault>
@@ -42,16 +59,7 @@ pub fn read_system(alloc: Global, bytes: &[u8]) -> Result<System, SystemFault>
     ensures fault { IfErr result (λ fault. fault ≢ NoMemory → system_of bytes.now ≡ Err fault) }
 {
     match str::from_utf8(bytes) {
-        Ok(text) => match toml::table_from_str(alloc, text) {
-            Ok(table) => read_document(alloc, &table),
-            Err(error) => {
-                if error.is_memory() {
-                    Err(SystemFault::NoMemory)
-                } else {
-                    Err(SystemFault::NotToml)
-                }
-            }
-        },
+        Ok(text) => read_text(alloc, text),
         Err(_) => Err(SystemFault::NotToml),
     }
 }
