@@ -19,6 +19,7 @@ position_cons p x xs = by (p x)
   where
     shifted : (n m : ℕ) → cond (nat_lt (1 + n) (suc m)) (Some (1 + n)) None ≡ option_map suc (cond (nat_lt n m) (Some n) None)
     shifted n m = grind (arith, nat_tests)
+
     by : (b : Bool) → cond (nat_lt (cond {A = ℕ} (not b) (1 + prefix_len (λ y. not (p y)) xs) 0) (suc (length xs))) (Some (cond {A = ℕ} (not b) (1 + prefix_len (λ y. not (p y)) xs) 0)) None
         ≡ cond b (Some 0) (option_map suc (position p xs))
     by true = grind (arith, nat_tests)

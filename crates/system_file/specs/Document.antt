@@ -97,14 +97,14 @@ parent_at cores parts d = unwrap_or (parent_named cores parts (text_of (get (cod
 
 abbrev pub spelled_part : List Data → List Data → Data → PartView
 spelled_part cores parts d = record {
-    name = text_of (get (codes "name") d);
-    parent = parent_at cores parts d;
-    sched = sched_at d;
-    period = number_of (get (codes "period") d);
-    budget = given_number (get (codes "budget") d);
-    extra = flag_of (get (codes "extra") d);
-    tasks = map spelled_task (tasks_of d)
-  }
+  name = text_of (get (codes "name") d);
+  parent = parent_at cores parts d;
+  sched = sched_at d;
+  period = number_of (get (codes "period") d);
+  budget = given_number (get (codes "budget") d);
+  extra = flag_of (get (codes "extra") d);
+  tasks = map spelled_task (tasks_of d);
+}
 
 -- the system of a document
 abbrev pub spelled_system : Data → SystemView

@@ -12,5 +12,5 @@ invariant-loop-value l =
     (length l.parts.items ≡ l.value-index)
     × (length l.names ≡ l.cores + l.value-index)
     × ((core_elements : List Data) → length core_elements ≡ l.cores → HaveNames core_elements l.fn.names →
-        Known core_elements (before l.values l.value-index) (from l.values l.value-index) l.cores l.names l.parts.items
-        × (in_order (part_faults core_elements) [] (map view l.values) ≡ in_order (part_faults core_elements) (before l.values l.value-index) (from l.values l.value-index)))
+    Known core_elements (before l.values l.value-index) (from l.values l.value-index) l.cores l.names l.parts.items
+    × (in_order (part_faults core_elements) [] (map view l.values) ≡ in_order (part_faults core_elements) (before l.values l.value-index) (from l.values l.value-index)))

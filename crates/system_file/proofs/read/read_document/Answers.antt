@@ -34,7 +34,7 @@ overflow_cast-result c =
     let read = c.in_ok-parts.ensures.ok (map view c.in_ok-core_values.core_values.now) counted c.in_ok-cores.ensures.ok.2 in
     let found = rw c.in-Some.is at c.in_ok-place.ensures.found in
     let long : length c.deref.result.now ≡ length c.in_ok-part_values.part_values.now =
-          ap length (c.deref.ensures.value ∙ read.1) ∙ length_map (spelled_part (map view c.in_ok-core_values.core_values.now) (map view c.in_ok-part_values.part_values.now)) (map view c.in_ok-part_values.part_values.now) ∙ length_map view c.in_ok-part_values.part_values.now in
+    ap length (c.deref.ensures.value ∙ read.1) ∙ length_map (spelled_part (map view c.in_ok-core_values.core_values.now) (map view c.in_ok-part_values.part_values.now)) (map view c.in_ok-part_values.part_values.now) ∙ length_map view c.in_ok-part_values.part_values.now in
     omega (arith, found.0, c.in_ok-part_values.ensures.ok.2)
 
 pub returns-in-Some-clause-fault : goal.returns-in-Some-clause-fault
@@ -56,7 +56,7 @@ invariant_of-result c =
     let None_empty : List PartView → Type 0 = λ parts. (q : ℕ) → q < length parts → is_empty_part parts q (part_in parts q) ≡ false in
     let no_empty = none_empty (map view c.in_ok-core_values.core_values.now) (map view c.in_ok-part_values.part_values.now) c.in_ok-cores.ensures.ok.0 read.0 (subst None_empty (c.deref.ensures.value ∙ read.1) found) in
     rw (c.in_ok-cores.ensures.ok.1, read.1)
-      (subst IsSystem (spelled_from (table (table_view c.args.table.now)) (map view c.in_ok-core_values.core_values.now) (map view c.in_ok-part_values.part_values.now) in_top c.in_ok-core_values.ensures.ok.1 c.in_ok-part_values.ensures.ok.1 c.in_ok-cores.ensures.ok.0) (faultless_is_system (table (table_view c.args.table.now)) (no_fault (table (table_view c.args.table.now)) (map view c.in_ok-core_values.core_values.now) (map view c.in_ok-part_values.part_values.now) in_top c.in_ok-core_values.ensures.ok.1 c.in_ok-part_values.ensures.ok.1 c.in_ok-cores.ensures.ok.0 read.0 no_empty)))
+    (subst IsSystem (spelled_from (table (table_view c.args.table.now)) (map view c.in_ok-core_values.core_values.now) (map view c.in_ok-part_values.part_values.now) in_top c.in_ok-core_values.ensures.ok.1 c.in_ok-part_values.ensures.ok.1 c.in_ok-cores.ensures.ok.0) (faultless_is_system (table (table_view c.args.table.now)) (no_fault (table (table_view c.args.table.now)) (map view c.in_ok-core_values.core_values.now) (map view c.in_ok-part_values.part_values.now) in_top c.in_ok-core_values.ensures.ok.1 c.in_ok-part_values.ensures.ok.1 c.in_ok-cores.ensures.ok.0 read.0 no_empty)))
 
 pub returns-clause-ok : goal.returns-clause-ok
 returns-clause-ok c =
@@ -65,6 +65,7 @@ returns-clause-ok c =
     let read = c.in_ok-parts.ensures.ok (map view c.in_ok-core_values.core_values.now) counted c.in_ok-cores.ensures.ok.2 in
     let found = rw c.in-None.is at c.in_ok-place.ensures.found in
     let None_empty : List PartView → Type 0 = λ parts. (q : ℕ) → q < length parts → is_empty_part parts q (part_in parts q) ≡ false in
-    let no_empty = none_empty (map view c.in_ok-core_values.core_values.now) (map view c.in_ok-part_values.part_values.now) c.in_ok-cores.ensures.ok.0 read.0 (subst None_empty (c.deref.ensures.value ∙ read.1) found) in
-    (no_fault (table (table_view c.args.table.now)) (map view c.in_ok-core_values.core_values.now) (map view c.in_ok-part_values.part_values.now) in_top c.in_ok-core_values.ensures.ok.1 c.in_ok-part_values.ensures.ok.1 c.in_ok-cores.ensures.ok.0 read.0 no_empty,
-     rw (c.in_ok-cores.ensures.ok.1, read.1) (sym (spelled_from (table (table_view c.args.table.now)) (map view c.in_ok-core_values.core_values.now) (map view c.in_ok-part_values.part_values.now) in_top c.in_ok-core_values.ensures.ok.1 c.in_ok-part_values.ensures.ok.1 c.in_ok-cores.ensures.ok.0)))
+    let no_empty = none_empty (map view c.in_ok-core_values.core_values.now) (map view c.in_ok-part_values.part_values.now) c.in_ok-cores.ensures.ok.0 read.0 (subst None_empty (c.deref.ensures.value ∙ read.1) found) in (
+      no_fault (table (table_view c.args.table.now)) (map view c.in_ok-core_values.core_values.now) (map view c.in_ok-part_values.part_values.now) in_top c.in_ok-core_values.ensures.ok.1 c.in_ok-part_values.ensures.ok.1 c.in_ok-cores.ensures.ok.0 read.0 no_empty,
+      rw (c.in_ok-cores.ensures.ok.1, read.1) (sym (spelled_from (table (table_view c.args.table.now)) (map view c.in_ok-core_values.core_values.now) (map view c.in_ok-part_values.part_values.now) in_top c.in_ok-core_values.ensures.ok.1 c.in_ok-part_values.ensures.ok.1 c.in_ok-cores.ensures.ok.0)),
+    )
