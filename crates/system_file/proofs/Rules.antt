@@ -1,5 +1,5 @@
 -- What one core, one task and one part keep where they have no fault.
-use Rattle.std.proofs.Common.{◌≡◌, ℕ, ◌+◌, ◌<◌, ◌≤◌, suc, zero, Bool, true, false, List, [], ◌∷◌, ◌++◌, map, length, take, get_or, Option, Some, None, refl, sym, ap, subst, ◌∙◌, codes, arith, append_assoc, bytes_eq, length-take-le}
+use Rattle.std.proofs.Common.{◌≡◌, ℕ, ◌<◌, ◌≤◌, suc, zero, Bool, true, false, List, [], ◌∷◌, ◌++◌, map, length, take, get_or, Option, Some, None, refl, sym, ap, subst, ◌∙◌, codes, arith, append_assoc, length-take-le}
 use Rattle.std.proofs.lemmas.List.{append-nil, get_or-map, get_or-take}
 use Rattle.std.proofs.lemmas.Slice.Eq.{bytes_eq-Decides}
 use Rattle.std.proofs.lemmas.Bool.{false≢true}
@@ -9,7 +9,7 @@ use Rattle.slot_model.specs.declared.task.TheConstants.{LIMIT}
 use Rattle.toml.specs.Data.{Data, string, boolean, get}
 use Rattle.tree_model.specs.declared.place.Parent.{Parent}
 use Rattle.tree_model.specs.declared.place.Parent.TheVariants.{Core as on_core, Part as on_part}
-use Rattle.tree_model.specs.View.{NamedTask, PartView}
+use Rattle.tree_model.specs.View.{NamedTask}
 use Rattle.tree_model.specs.System.{IsPart, IsCoreSupply, AreDistinct, own_tasks}
 use Rattle.system_file.specs.declared.fault.Spot.{Spot}
 use Rattle.system_file.specs.declared.fault.Spot.TheVariants.{Core, Part, Task}

@@ -1,4 +1,3 @@
-use Rattle.std.proofs.Common.{◌≡◌, [], ◌∷◌, ◌++◌, List, ℕ, refl, sym, ◌∙◌, rules}
 use Rattle.std.proofs.lemmas.Result.{err_from_is_err_and}
 use Rattle.system_file.specs.Faults.{new_name_faults, sched_faults}
 use Rattle.system_file.proofs.First.{first_here, first_later, none_both, taken_is, more_names}

@@ -1,6 +1,4 @@
-use Rattle.std.proofs.Common.{◌≡◌, ◌-◌, ◌<◌, ◌++◌, get_or, length, List, [], Some, None, map, refl, sym, ap, ◌∙◌, arith, true, false}
-use Rattle.std.specs.Prelude.{position, bytes_eq}
-use Rattle.system_file.specs.declared.fault.SystemFault.{SystemFault}
+use Rattle.std.proofs.Common.{◌≡◌, ◌-◌, ◌++◌, get_or, length, Some, None, sym, ap, ◌∙◌, arith}
 use Rattle.system_file.specs.declared.fault.SystemFault.TheVariants.{Mixed}
 use Rattle.system_file.specs.Document.{is_named, spelled_part}
 use Rattle.system_file.specs.Faults.{is_parent_faults, fault_if}

@@ -1,8 +1,8 @@
-use Rattle.std.proofs.Common.{◌≡◌, ◌<◌, length, refl, sym, ap, ◌∙◌, arith}
-use Rattle.tree_model.specs.declared.place.Parent.TheVariants.{Core, Part}
+use Rattle.std.proofs.Common.{◌≡◌, sym, ap, ◌∙◌, arith}
+use Rattle.tree_model.specs.declared.place.Parent.TheVariants.{Part}
 use Rattle.tree_model.specs.View.{PartView}
 use Rattle.system_file.specs.Reading.{part_in}
-use Rattle.system_file.proofs.Children.{part_at_any, child_more, marked}
+use Rattle.system_file.proofs.Children.{part_at_any}
 use Rattle.system_file.proofs.parts.parents.Goals as goal
 
 pub index_mut-requires : goal.index_mut-requires

@@ -1,8 +1,7 @@
-use Rattle.std.proofs.Common.{◌≡◌, [], ◌∷◌, ◌++◌, List, ℕ, length, map, refl, sym, ap, ◌∙◌, append_assoc, arith}
+use Rattle.std.proofs.Common.{◌≡◌, [], ◌∷◌, ◌++◌, length, sym, ap, ◌∙◌, append_assoc}
 use Rattle.std.proofs.lemmas.Result.{err_from_is_err_and}
-use Rattle.toml.specs.Data.{Data}
 use Rattle.toml.specs.View.{view}
-use Rattle.system_file.specs.Document.{spelled_part, spelled_task}
+use Rattle.system_file.specs.Document.{spelled_part}
 use Rattle.system_file.specs.Faults.{new_name_faults, parent_faults, sched_faults, task_faults, in_order}
 use Rattle.system_file.specs.Reading.{first_of}
 use Rattle.system_file.specs.declared.fault.Spot.TheVariants.{Part}

@@ -1,11 +1,11 @@
-use Rattle.std.proofs.Common.{◌≡◌, ◌+◌, [], ◌∷◌, ◌++◌, List, map, length-append, refl, sym, ap, subst, ◌∙◌, arith}
+use Rattle.std.proofs.Common.{◌+◌, [], ◌∷◌, ◌++◌, List, map, length-append, sym, ap, subst, ◌∙◌, arith}
 use Rattle.std.proofs.lemmas.Result.{err_from_is_err_and}
 use Rattle.toml.specs.Data.{Data}
 use Rattle.toml.specs.View.{view}
 use Rattle.tree_model.specs.View.{PartView}
 use Rattle.system_file.specs.Document.{spelled_part}
 use Rattle.system_file.specs.Faults.{part_faults}
-use Rattle.system_file.specs.Reading.{HaveNames, Known}
+use Rattle.system_file.specs.Reading.{Known}
 use Rattle.system_file.proofs.Along.{before, from, before_more, from_more, all_values, faulty, faultless, spelled_more}
 use Rattle.system_file.proofs.parts.read_parts.Goals as goal
 

@@ -1,7 +1,6 @@
-use Rattle.std.proofs.Common.{◌≡◌, ◌+◌, ℕ, List, [], ◌++◌, map, length}
+use Rattle.std.proofs.Common.{◌≡◌, ◌+◌, List, [], map, length}
 use Rattle.toml.specs.Data.{Data}
 use Rattle.toml.specs.View.{view}
-use Rattle.system_file.specs.Document.{spelled_part}
 use Rattle.system_file.specs.Faults.{part_faults, in_order}
 use Rattle.system_file.specs.Reading.{HaveNames, Known}
 use Rattle.system_file.proofs.Along.{before, from}

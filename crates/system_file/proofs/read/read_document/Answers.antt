@@ -1,18 +1,15 @@
-use Rattle.std.proofs.Common.{◌≡◌, ◌≢◌, ℕ, ◌<◌, [], ◌∷◌, ◌++◌, List, map, length, true, false, Some, refl, sym, ap, subst, ◌∙◌, arith}
+use Rattle.std.proofs.Common.{◌≡◌, ℕ, ◌<◌, [], List, map, length, true, false, sym, ap, subst, ◌∙◌, arith}
 use Rattle.std.proofs.lemmas.Result.{err_from_is_err_and}
-use Rattle.toml.specs.Data.{Data, table}
+use Rattle.toml.specs.Data.{table}
 use Rattle.toml.specs.View.{view, table_view}
-use Rattle.tree_model.specs.View.{PartView, SystemView}
+use Rattle.tree_model.specs.View.{PartView}
 use Rattle.tree_model.specs.System.{IsSystem}
-use Rattle.system_file.specs.declared.fault.SystemFault.{SystemFault}
-use Rattle.system_file.specs.declared.fault.SystemFault.TheVariants.{Empty}
-use Rattle.system_file.specs.declared.fault.Spot.TheVariants.{Part}
-use Rattle.system_file.specs.Document.{spelled_core, spelled_part, spelled_system}
-use Rattle.system_file.specs.Faults.{top_faults, faults}
+use Rattle.system_file.specs.Document.{spelled_part}
+use Rattle.system_file.specs.Faults.{top_faults}
 use Rattle.system_file.specs.Reading.{is_empty_part, part_in, ParentsAmong}
 use Rattle.system_file.proofs.Elements.{length_map}
 use Rattle.system_file.proofs.First.{none_both}
-use Rattle.system_file.proofs.Systems.{sys, spelled, parents_among, none_empty, first_is_empty, faultless_is_system, fault_in_parts, fault_in_tree, no_fault, spelled_from}
+use Rattle.system_file.proofs.Systems.{parents_among, none_empty, first_is_empty, faultless_is_system, fault_in_parts, fault_in_tree, no_fault, spelled_from}
 use Rattle.system_file.proofs.read.read_document.Goals as goal
 
 pub returns-in_err-parts-clause-fault : goal.returns-in_err-parts-clause-fault

@@ -1,8 +1,7 @@
-use Rattle.std.proofs.Common.{◌≡◌, [], ◌∷◌, ◌++◌, List, refl, sym, ap, ◌∙◌, arith}
+use Rattle.std.proofs.Common.{[], ◌∷◌, ◌++◌, ap, ◌∙◌, arith}
 use Rattle.std.proofs.lemmas.Result.{err_from_is_err_and}
 use Rattle.system_file.specs.Document.{spelled_task}
 use Rattle.system_file.specs.Faults.{task_faults}
-use Rattle.system_file.specs.Reading.{HaveNames}
 use Rattle.system_file.proofs.Along.{before, before_more, length_before, faulty, faultless, spelled_more}
 use Rattle.system_file.proofs.tasks.read_tasks.Goals as goal
 
