@@ -3,6 +3,8 @@ pub mod Along
 pub mod Children
 pub mod Faultless
 pub mod First
+pub mod Fits
+pub mod Laws
 pub mod Systems
 pub mod Texts
 pub mod Found

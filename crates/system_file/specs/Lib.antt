@@ -1,4 +1,5 @@
 pub mod Document
 pub mod Faults
 pub mod SystemFile
+pub mod Written
 pub mod Reading

@@ -1,0 +1,283 @@
+-- The two laws of the system file: what is read is spelled by the document and is a system, and a document that is written
+-- by the rules is read where what it spells is a system.
+use Rattle.std.proofs.Common.{◌≡◌, ℕ, ◌+◌, ◌-◌, ◌<◌, ◌≤◌, ◌==◌, nat_lt, suc, zero, Bool, true, false, not, ◌&&◌, ◌||◌, List, [], ◌∷◌, ◌++◌, map, length, take, drop, get_or, Option, Some, None, Result, Ok, Err, is_none, refl, sym, ap, subst, ◌∙◌, codes, arith, bytes_eq, length-take-le, length-append, unwrap_or}
+use Rattle.std.proofs.lemmas.Bool.Decides.{nat_tests}
+use Rattle.std.proofs.lemmas.List.{get_or-map, get_or-take, get_or-append-add, take-append-le, take-append-drop}
+use Rattle.std.proofs.Math.Seq.{take-append-add}
+use Rattle.std.specs.Prelude.{position}
+use Rattle.std.specs.List.{list_any}
+use Rattle.slot_model.specs.Task.{SporadicTask, IsConstrained, task_at}
+use Rattle.slot_model.specs.declared.task.TheConstants.{LIMIT}
+use Rattle.toml.specs.Data.{Data, string, integer, float, boolean, datetime, array, table, Members, get}
+use Rattle.tree_model.specs.declared.pinned_core.Core.{Core as CoreView}
+use Rattle.tree_model.specs.declared.place.Parent.{Parent}
+use Rattle.tree_model.specs.declared.place.Parent.TheVariants.{Core as on_core, Part as on_part}
+use Rattle.tree_model.specs.View.{NamedTask, PartView, SystemView}
+use Rattle.tree_model.specs.System.{IsSystem, IsPart, IsCoreSupply, Stands, AreDistinct, is_leaf, own_tasks}
+use Rattle.system_file.specs.declared.fault.Spot.{Spot}
+use Rattle.system_file.specs.declared.fault.Spot.TheVariants.{Top, Core, Part, Task}
+use Rattle.system_file.specs.declared.fault.SystemFault.{SystemFault}
+use Rattle.system_file.specs.declared.fault.SystemFault.TheVariants.{Empty, OutOfRange, TooMany}
+use Rattle.system_file.specs.Document.{elements_of, array_of, text_of, number_of, is_text, is_named, core_or_part, parent_named, parent_at, cores_of, parts_of, tasks_of, deadline_of, spelled_core, spelled_task, spelled_part, spelled_system}
+use Rattle.system_file.specs.Faults.{fault_if, required, optional, format_faults, text_faults, parent_faults, is_parent_faults, core_array_faults, array_faults, range_faults, top_faults, top_keys, in_order, core_faults, core_keys, core_key_faults, task_faults, task_keys, task_key_faults, part_faults, part_keys, part_key_faults, empty_faults, has_tasks, is_parent, faults}
+use Rattle.system_file.specs.SystemFile.{system_of, system_of_document, document_of, first_fault_or}
+use Rattle.system_file.specs.Written.{IsTableOf, IsNameText, IsParentText, IsArray, There, MayBe, element, IsWrittenTask, IsWrittenCore, IsWrittenPart, IsWritten}
+use Rattle.system_file.proofs.Elements.{length_map, map_append}
+use Rattle.std.proofs.lemmas.Slice.Eq.{bytes_eq-Decides}
+use Rattle.system_file.proofs.First.{none_both}
+use Rattle.system_file.proofs.Places.{joined, position_append, leaf_tasks}
+use Rattle.system_file.proofs.Found.{position_holds, none_in_order}
+use Rattle.system_file.proofs.Systems.{sys, spelled, part_spelled, faultless_is_system}
+use Rattle.system_file.proofs.Fits.{right, keys_fit, name_fits, sched_fits, required_fits, optional_fits, default_fits, flag_fits, array_fits, supply_fits, new_of_distinct}
+
+-- What is read: the system that the document of the bytes spells, which has no fault and is a system.
+pub record IsReadFrom (bytes : List ℕ) (read : SystemView) : Type 0 where
+  pub members : Members
+  pub document : document_of bytes ≡ Some members
+  pub faultless : faults (table members) ≡ []
+  pub spelled_so : read ≡ spelled_system (table members)
+  pub system : IsSystem read
+
+from_faults : (bytes : List ℕ) (read : SystemView) (members : Members) → document_of bytes ≡ Some members → (found : List SystemFault) → faults (table members) ≡ found → first_fault_or (spelled_system (table members)) found ≡ Ok read → IsReadFrom bytes read
+from_faults bytes read members document [] e h =
+    let same : spelled_system (table members) ≡ read = cc in
+    record { members = members; document = document; faultless = e; spelled_so = sym same; system = subst IsSystem same (faultless_is_system (table members) e) }
+from_faults bytes read members document (x ∷ found) e h = cc
+
+from_document : (bytes : List ℕ) (read : SystemView) (o : Option Members) → document_of bytes ≡ o → system_of_document o ≡ Ok read → IsReadFrom bytes read
+from_document bytes read None e h = cc
+from_document bytes read (Some members) e h = from_faults bytes read members e (faults (table members)) refl h
+
+pub read_is_spelled : (bytes : List ℕ) (read : SystemView) → system_of bytes ≡ Ok read → IsReadFrom bytes read
+unfolding system_of
+read_is_spelled bytes read h = from_document bytes read (document_of bytes) refl h
+
+-- a task in its range
+task_fits : (q : ℕ) (earlier : List Data) (d : Data) (w : IsWrittenTask d) → list_any (is_named w.name.name) earlier ≡ false → IsConstrained (spelled_task d).task × ((spelled_task d).task.period ≤ LIMIT) → task_faults q earlier d ≡ []
+task_fits q earlier d w new fits =
+    let spot = Task q (length earlier) in
+    let works = fits.0.works in
+    let in_deadline = fits.0.in_deadline in
+    let in_period = fits.0.in_period in
+    let some_deadline : 1 ≤ deadline_of d = omega arith in
+    let some_period : 1 ≤ number_of (get (codes "period") d) = omega arith in
+    keys_fit spot task_keys (task_key_faults spot earlier d) d w.keys
+      (none_both _ _ (name_fits spot earlier (get (codes "name") d) w.name new)
+        (none_both _ _ (required_fits spot LIMIT (get (codes "period") d) w.period some_period fits.1)
+          (none_both _ _ (default_fits spot (number_of (get (codes "period") d)) (get (codes "deadline") d) w.deadline some_deadline in_period)
+            (required_fits spot (deadline_of d) (get (codes "work") d) w.work works in_deadline))))
+
+core_fits : (earlier : List Data) (d : Data) (w : IsWrittenCore d) → list_any (is_named w.name.name) earlier ≡ false → IsCoreSupply (spelled_core d).supply → core_faults earlier d ≡ []
+core_fits earlier d w new supply =
+    let spot = Core (length earlier) in
+    keys_fit spot core_keys (core_key_faults spot earlier d) d w.keys
+      (none_both _ _ (name_fits spot earlier (get (codes "name") d) w.name new)
+        (none_both _ _ (sched_fits spot (get (codes "sched") d) w.sched) (supply_fits spot (get (codes "supply_period") d) (get (codes "supply_budget") d) w.supply supply)))
+
+-- a place in the front is found in the front alone
+in_front : (a : Option ℕ) (n : ℕ) (o : Option ℕ) (r : ℕ) → joined a n o ≡ Some r → r < n → a ≡ Some r
+in_front (Some i) n o r h lt = h
+in_front None n None r h lt = cc
+in_front None n (Some j) r h lt = absurd (let e : n + j ≡ r = cc in omega arith)
+
+parent_before : (cores earlier later : List Data) (s : List ℕ) (p : Parent) → parent_named cores (earlier ++ later) s ≡ Some p → ((r : ℕ) → p ≡ on_part r → r < length earlier) → parent_named cores earlier s ≡ Some p
+parent_before cores earlier later s p h below = by (position (is_named s) cores) (position (is_named s) earlier) (position (is_named s) later) (ap (core_or_part (position (is_named s) cores)) (sym (position_append (is_named s) earlier later)) ∙ h)
+  where
+    by : (a b o : Option ℕ) → core_or_part a (joined b (length earlier) o) ≡ Some p → core_or_part a b ≡ Some p
+    by (Some c) b o e = e
+    by None (Some r) o e = e
+    by None None None e = cc
+    by None None (Some j) e = absurd (let is : p ≡ on_part (length earlier + j) = cc in let lt = below (length earlier + j) is in omega arith)
+
+parent_fits : (spot : Spot) (cores earlier later : List Data) (o : Option Data) (t : IsParentText cores (earlier ++ later) o) → ((r : ℕ) → t.parent ≡ on_part r → (r < length earlier) × (has_tasks (get_or earlier r (boolean false)) ≡ false))
+    → required spot (text_faults spot (parent_faults spot cores earlier)) o ≡ []
+parent_fits spot cores earlier later o t stands =
+    ap (required spot (text_faults spot (parent_faults spot cores earlier))) t.is
+    ∙ ap (is_parent_faults spot earlier) (parent_before cores earlier later t.text t.parent t.named (λ r e. (stands r e).0))
+    ∙ by t.parent refl
+  where
+    by : (p : Parent) → t.parent ≡ p → is_parent_faults spot earlier (Some p) ≡ []
+    by (on_core c) e = refl
+    by (on_part r) e = right _ _ (stands r e).1
+
+task_names : (ds : List Data) → map (λ (t : NamedTask). t.name) (map spelled_task ds) ≡ map (λ d. text_of (get (codes "name") d)) ds
+task_names [] = refl
+task_names (d ∷ ds) = ap (λ ns. text_of (get (codes "name") d) ∷ ns) (task_names ds)
+
+-- the tasks of a part in their ranges and of different names
+tasks_fit : (cores all : List Data) (q : ℕ) (d : Data) → IsPart (spelled_part cores all d) → ((i : ℕ) → i < length (tasks_of d) → IsWrittenTask (element (tasks_of d) i)) → in_order (task_faults q) [] (tasks_of d) ≡ []
+tasks_fit cores all q d part written =
+    none_in_order (task_faults q) [] (tasks_of d) (boolean false) (λ i h.
+      let within : i < length (map spelled_task (tasks_of d)) = rw (length_map spelled_task (tasks_of d)) h in
+      let same : task_at (own_tasks (spelled_part cores all d)) i ≡ (spelled_task (get_or (tasks_of d) i (boolean false))).task =
+            get_or-map (λ (t : NamedTask). t.task) (map spelled_task (tasks_of d)) i (spelled_task (boolean false)) (record { period = 1; deadline = 1; work = 1 }) within
+            ∙ ap (λ (t : NamedTask). t.task) (get_or-map spelled_task (tasks_of d) i (boolean false) (spelled_task (boolean false)) h) in
+      let fits : SporadicTask → Type 0 = λ t. IsConstrained t × (t.period ≤ LIMIT) in
+      task_fits q (take i (tasks_of d)) (get_or (tasks_of d) i (boolean false)) (written i h)
+        (new_of_distinct (tasks_of d) (subst AreDistinct (task_names (tasks_of d)) part.task_names) (λ k w. (written k w).name) i h)
+        (subst fits same (part.tasks i within)))
+
+part_fits : (cores earlier later : List Data) (d : Data) (w : IsWrittenPart cores (earlier ++ later) d) → list_any (is_named w.name.name) (cores ++ earlier) ≡ false
+    → ((r : ℕ) → w.parent.parent ≡ on_part r → (r < length earlier) × (has_tasks (get_or earlier r (boolean false)) ≡ false)) → IsPart (spelled_part cores (earlier ++ later) d) → part_faults cores earlier d ≡ []
+part_fits cores earlier later d w new stands part =
+    let spot = Part (length earlier) in
+    let few : length (array_of (get (codes "task") d)) ≤ 256 = rw (length_map spelled_task (tasks_of d)) at part.few_tasks in
+    keys_fit spot part_keys (part_key_faults spot cores earlier d ++ in_order (task_faults (length earlier)) [] (tasks_of d)) d w.keys
+      (none_both (part_key_faults spot cores earlier d) _
+        (none_both _ _ (name_fits spot (cores ++ earlier) (get (codes "name") d) w.name new)
+          (none_both _ _ (parent_fits spot cores earlier later (get (codes "parent") d) w.parent stands)
+            (none_both _ _ (sched_fits spot (get (codes "sched") d) w.sched)
+              (none_both _ _ (required_fits spot LIMIT (get (codes "period") d) w.period part.period.0 part.period.1)
+                (none_both _ _ (optional_fits spot (number_of (get (codes "period") d)) (get (codes "budget") d) w.budget part.budget)
+                  (none_both _ _ (flag_fits spot (get (codes "extra") d) w.extra) (array_fits spot 256 (get (codes "task") d) w.task few)))))))
+        (tasks_fit cores (earlier ++ later) (length earlier) d part w.tasks))
+
+any_from : {A : Type 0} (p : A → Bool) (xs : List A) (k : ℕ) (e : A) → k < length xs → p (get_or xs k e) ≡ true → list_any p xs ≡ true
+any_from p [] k e h here = absurd (omega arith)
+any_from p (x ∷ xs) zero e h here = ap (λ b. b || list_any p xs) here
+any_from p (x ∷ xs) (suc k) e h here = either (p x) (any_from p xs k e (omega arith) here)
+  where
+    either : (b : Bool) → list_any p xs ≡ true → (b || list_any p xs) ≡ true
+    either true r = refl
+    either false r = r
+
+get_front : (xs ys : List Data) (i : ℕ) (e : Data) → i < length xs → get_or (xs ++ ys) i e ≡ get_or xs i e
+get_front [] ys i e h = absurd (omega arith)
+get_front (x ∷ xs) ys zero e h = refl
+get_front (x ∷ xs) ys (suc i) e h = get_front xs ys i e (omega arith)
+
+part_place : (a o : Option ℕ) (k : ℕ) → core_or_part a o ≡ Some (on_part k) → o ≡ Some k
+part_place (Some c) o k h = cc
+part_place None None k h = cc
+part_place None (Some j) k h = cc
+
+core_names : (ds : List Data) → map (λ (c : CoreView). c.name) (map spelled_core ds) ≡ map (λ d. text_of (get (codes "name") d)) ds
+core_names [] = refl
+core_names (d ∷ ds) = ap (λ ns. text_of (get (codes "name") d) ∷ ns) (core_names ds)
+
+part_names : (cores all ds : List Data) → map (λ (p : PartView). p.name) (map (spelled_part cores all) ds) ≡ map (λ d. text_of (get (codes "name") d)) ds
+part_names cores all [] = refl
+part_names cores all (d ∷ ds) = ap (λ ns. text_of (get (codes "name") d) ∷ ns) (part_names cores all ds)
+
+module _ (cores parts : List Data) (wc : (c : ℕ) → c < length cores → IsWrittenCore (element cores c)) (wp : (q : ℕ) → q < length parts → IsWrittenPart cores parts (element parts q)) (system : IsSystem (sys cores parts)) where
+  all_named : (i : ℕ) → i < length (cores ++ parts) → IsNameText (get (codes "name") (get_or (cores ++ parts) i (boolean false)))
+  all_named i h = by (nat_lt i (length cores)) refl
+    where
+      whole : i < length cores + length parts
+      whole = rw (length-append {A = Data}) at h
+      by : (b : Bool) → nat_lt i (length cores) ≡ b → IsNameText (get (codes "name") (get_or (cores ++ parts) i (boolean false)))
+      by true e =
+          let lt : i < length cores = grind (arith, nat_tests) in
+          subst (λ (d : Data). IsNameText (get (codes "name") d)) (sym (get_front cores parts i (boolean false) lt)) (wc i lt).name
+      by false e =
+          let le : length cores ≤ i = grind (arith, nat_tests) in
+          let at : length cores + (i - length cores) ≡ i = omega arith in
+          subst (λ (k : ℕ). IsNameText (get (codes "name") (get_or (cores ++ parts) k (boolean false)))) at
+            (subst (λ (d : Data). IsNameText (get (codes "name") d)) (sym (get_or-append-add cores parts (i - length cores) (boolean false))) (wp (i - length cores) (omega (arith, whole))).name)
+
+  distinct : AreDistinct (map (λ d. text_of (get (codes "name") d)) (cores ++ parts))
+  distinct = subst AreDistinct
+      (ap (λ ns. ns ++ map (λ (p : PartView). p.name) (spelled cores parts)) (core_names cores)
+       ∙ ap (λ ns. map (λ (d : Data). text_of (get (codes "name") d)) cores ++ ns) (part_names cores parts parts)
+       ∙ sym (map_append (λ (d : Data). text_of (get (codes "name") d)) cores parts))
+      system.names
+
+  -- the name at a place is new among those before it
+  new_at : (i : ℕ) (d : Data) (named : IsNameText (get (codes "name") d)) → i < length (cores ++ parts) → get_or (cores ++ parts) i (boolean false) ≡ d → list_any (is_named named.name) (take i (cores ++ parts)) ≡ false
+  new_at i d named h is =
+      let same : (all_named i h).name ≡ named.name = ap text_of (sym (all_named i h).is ∙ ap (λ x. get (codes "name") x) is ∙ named.is) in
+      ap (λ s. list_any (is_named s) (take i (cores ++ parts))) (sym same) ∙ new_of_distinct (cores ++ parts) distinct all_named i h
+
+  no_core_fault : in_order core_faults [] cores ≡ []
+  no_core_fault = none_in_order core_faults [] cores (boolean false) (λ c h.
+      let whole : c < length (cores ++ parts) = rw (length-append {A = Data}) (omega arith) in
+      let supply : CoreView → Type 0 = λ x. IsCoreSupply x.supply in
+      core_fits (take c cores) (get_or cores c (boolean false)) (wc c h)
+        (ap (list_any (is_named (wc c h).name.name)) (sym (take-append-le c cores parts (omega arith))) ∙ new_at c (get_or cores c (boolean false)) (wc c h).name whole (get_front cores parts c (boolean false) h))
+        (subst supply (get_or-map spelled_core cores c (boolean false) _ h) (system.supplies c (rw (length_map spelled_core cores) h))))
+
+  parent_is : (q : ℕ) (h : q < length parts) → parent_at cores parts (get_or parts q (boolean false)) ≡ (wp q h).parent.parent
+  parent_is q h = ap (λ o. unwrap_or (parent_named cores parts (text_of o)) (on_core 0)) (wp q h).parent.is ∙ ap (λ o. unwrap_or o (on_core 0)) (wp q h).parent.named
+
+  stands : (q : ℕ) (h : q < length parts) (r : ℕ) → (wp q h).parent.parent ≡ on_part r → (r < length (take q parts)) × (has_tasks (get_or (take q parts) r (boolean false)) ≡ false)
+  stands q h r e =
+      let at : Stands (sys cores parts) q (on_part r) =
+            subst (λ (p : Parent). Stands (sys cores parts) q p) (ap (λ (p : PartView). p.parent) (part_spelled cores parts q h) ∙ parent_is q h ∙ e) (system.parents q (rw (length_map (spelled_part cores parts) parts) h)) in
+      let lt = at.0 in
+      let few : r < length parts = omega arith in
+      (rw (length-take-le q parts (omega arith)) lt,
+       ap has_tasks (get_or-take q parts r (boolean false) lt) ∙ sym (leaf_tasks (tasks_of (get_or parts r (boolean false)))) ∙ ap (λ (p : PartView). is_leaf p.tasks) (sym (part_spelled cores parts r few)) ∙ at.1)
+
+  no_part_fault : in_order (part_faults cores) [] parts ≡ []
+  no_part_fault = none_in_order (part_faults cores) [] parts (boolean false) (λ q h. at q h)
+    where
+      at : (q : ℕ) → q < length parts → part_faults cores (take q parts) (get_or parts q (boolean false)) ≡ []
+      at q h =
+          let d = get_or parts q (boolean false) in
+          let all : take q parts ++ drop q parts ≡ parts = take-append-drop q parts in
+          let w = wp q h in
+          let parent : IsParentText cores (take q parts ++ drop q parts) (get (codes "parent") d) =
+                record { text = w.parent.text; is = w.parent.is; parent = w.parent.parent; named = ap (λ ps. parent_named cores ps w.parent.text) all ∙ w.parent.named } in
+          let whole : length cores + q < length (cores ++ parts) = rw (length-append {A = Data}) (omega arith) in
+          part_fits cores (take q parts) (drop q parts) d
+            (record { keys = w.keys; name = w.name; parent = parent; sched = w.sched; period = w.period; budget = w.budget; extra = w.extra; task = w.task; tasks = w.tasks })
+            (ap (list_any (is_named w.name.name)) (sym (take-append-add cores parts q)) ∙ new_at (length cores + q) d w.name whole (get_or-append-add cores parts q (boolean false)))
+            (stands q h)
+            (subst (λ (ps : List Data). IsPart (spelled_part cores ps d)) (sym all) (subst IsPart (part_spelled cores parts q h) (system.parts q (rw (length_map (spelled_part cores parts) parts) h))))
+
+  linked : (q r : ℕ) → q < length parts → r < length parts → parent_at cores parts (get_or parts r (boolean false)) ≡ on_part q → is_parent parts (get_or parts q (boolean false)) ≡ true
+  linked q r hq hr is =
+      let text = (wp r hr).parent.text in
+      let place : position (is_named text) parts ≡ Some q = part_place _ _ q ((wp r hr).parent.named ∙ ap Some (sym (parent_is r hr) ∙ is)) in
+      let holds : is_named text (get_or parts q (boolean false)) ≡ true = position_holds (is_named text) parts q (boolean false) place in
+      any_from (λ child. is_text (text_of (get (codes "name") (get_or parts q (boolean false)))) (get (codes "parent") child)) parts r (boolean false) hr
+        (ap (is_text (text_of (get (codes "name") (get_or parts q (boolean false))))) (wp r hr).parent.is ∙ swapped text (get (codes "name") (get_or parts q (boolean false))) holds)
+    where
+      swapped : (text : List ℕ) (o : Option Data) → is_text text o ≡ true → bytes_eq (text_of o) text ≡ true
+      swapped text (Some (string s)) e = (bytes_eq-Decides s text).1 (sym ((bytes_eq-Decides text s).0 e))
+      swapped text (Some (integer z)) e = cc
+      swapped text (Some (float x)) e = cc
+      swapped text (Some (boolean b)) e = cc
+      swapped text (Some (datetime t)) e = cc
+      swapped text (Some (array ds)) e = cc
+      swapped text (Some (table m)) e = cc
+      swapped text None e = cc
+
+  no_empty : in_order (empty_faults parts) [] parts ≡ []
+  no_empty = none_in_order (empty_faults parts) [] parts (boolean false) (λ q h. right _ (Empty (Part (length (take q parts)))) (by q h (has_tasks (get_or parts q (boolean false))) refl))
+    where
+      by : (q : ℕ) → q < length parts → (b : Bool) → has_tasks (get_or parts q (boolean false)) ≡ b → (not b && not (is_parent parts (get_or parts q (boolean false)))) ≡ false
+      by q h true e = refl
+      by q h false e =
+          let leaf : is_leaf _ ≡ false = ap (λ (p : PartView). is_leaf p.tasks) (part_spelled cores parts q h) ∙ leaf_tasks (tasks_of (get_or parts q (boolean false))) ∙ e in
+          let child = system.not_empty q (rw (length_map (spelled_part cores parts) parts) h) leaf in
+          let few : child.0 < length parts = rw (length_map (spelled_part cores parts) parts) at child.1.0 in
+          ap not (linked q child.0 h few (ap (λ (p : PartView). p.parent) (sym (part_spelled cores parts child.0 few)) ∙ child.1.1))
+
+-- 1 to 64 cores
+cores_fit : (o : Option Data) → There IsArray o → 1 ≤ length (array_of o) → length (array_of o) ≤ 64 → required Top core_array_faults o ≡ []
+cores_fit None w some few = absurd w
+cores_fit (Some d) w some few = ap core_array_faults w.1 ∙ none_both _ _ (right _ (Empty Top) (not_none (length (elements_of w.0)) (rw w.1 at some))) (right _ (TooMany Top) (at_most (length (elements_of w.0)) (rw w.1 at few)))
+  where
+    not_none : (n : ℕ) → 1 ≤ n → (n == 0) ≡ false
+    not_none n h = grind (arith, nat_tests)
+    at_most : (n : ℕ) → n ≤ 64 → nat_lt 64 n ≡ false
+    at_most n h = grind (arith, nat_tests)
+
+-- a document that is written by the rules and spells a system has no fault
+pub written_is_faultless : (top : Data) → IsWritten top → IsSystem (spelled_system top) → faults top ≡ []
+written_is_faultless top w system =
+    let in_top : top_faults top ≡ [] =
+          keys_fit Top top_keys (required Top format_faults (get (codes "format") top) ++ (required Top core_array_faults (get (codes "core") top) ++ optional (array_faults Top 512) (get (codes "part") top))) top w.keys
+            (none_both _ _ (ap (required Top format_faults) w.format ∙ right false (OutOfRange Top) refl)
+              (none_both _ _ (cores_fit (get (codes "core") top) w.core (rw (length_map spelled_core (cores_of top)) at system.some_core) (rw (length_map spelled_core (cores_of top)) at system.few_cores))
+                (array_fits Top 512 (get (codes "part") top) w.part (rw (length_map (spelled_part (cores_of top) (parts_of top)) (parts_of top)) at system.few_parts)))) in
+    none_both (top_faults top) _ in_top
+      (none_both _ _ (no_core_fault (cores_of top) (parts_of top) w.cores w.parts system)
+        (none_both _ _ (no_part_fault (cores_of top) (parts_of top) w.cores w.parts system) (no_empty (cores_of top) (parts_of top) w.cores w.parts system)))
+
+-- What is written by the rules and spells a system is read as that system.
+pub written_is_read : (bytes : List ℕ) (members : Members) → document_of bytes ≡ Some members → IsWritten (table members) → IsSystem (spelled_system (table members)) → system_of bytes ≡ Ok (spelled_system (table members))
+unfolding system_of
+written_is_read bytes members document w system =
+    ap system_of_document document ∙ ap (first_fault_or (spelled_system (table members))) (written_is_faultless (table members) w system)
