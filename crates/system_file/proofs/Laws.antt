@@ -28,20 +28,21 @@ use Rattle.system_file.proofs.First.{none_both}
 use Rattle.system_file.proofs.Places.{joined, position_append, leaf_tasks}
 use Rattle.system_file.proofs.Found.{position_holds, none_in_order}
 use Rattle.system_file.proofs.Systems.{sys, spelled, part_spelled, faultless_is_system}
+use Rattle.system_file.proofs.WrittenKinds.{faultless_is_written}
 use Rattle.system_file.proofs.Fits.{right, keys_fit, name_fits, sched_fits, required_fits, optional_fits, default_fits, flag_fits, array_fits, supply_fits, new_of_distinct}
 
--- What is read: the system that the document of the bytes spells, which has no fault and is a system.
+-- What is read: the document of the bytes is written by the rules, and the system is the one that it spells.
 pub record IsReadFrom (bytes : List ℕ) (read : SystemView) : Type 0 where
   pub members : Members
   pub document : document_of bytes ≡ Some members
-  pub faultless : faults (table members) ≡ []
+  pub written : IsWritten (table members)
   pub spelled_so : read ≡ spelled_system (table members)
   pub system : IsSystem read
 
 from_faults : (bytes : List ℕ) (read : SystemView) (members : Members) → document_of bytes ≡ Some members → (found : List SystemFault) → faults (table members) ≡ found → first_fault_or (spelled_system (table members)) found ≡ Ok read → IsReadFrom bytes read
 from_faults bytes read members document [] e h =
     let same : spelled_system (table members) ≡ read = cc in
-    record { members = members; document = document; faultless = e; spelled_so = sym same; system = subst IsSystem same (faultless_is_system (table members) e) }
+    record { members = members; document = document; written = faultless_is_written (table members) e; spelled_so = sym same; system = subst IsSystem same (faultless_is_system (table members) e) }
 from_faults bytes read members document (x ∷ found) e h = cc
 
 from_document : (bytes : List ℕ) (read : SystemView) (o : Option Members) → document_of bytes ≡ o → system_of_document o ≡ Ok read → IsReadFrom bytes read

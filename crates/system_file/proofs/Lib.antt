@@ -4,6 +4,7 @@ pub mod Children
 pub mod Faultless
 pub mod First
 pub mod Fits
+pub mod WrittenKinds
 pub mod Laws
 pub mod Systems
 pub mod Texts

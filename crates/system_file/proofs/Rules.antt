@@ -93,7 +93,7 @@ part_parent cores earlier d h =
     let p = fits_parent (Part (length earlier)) earlier (parent_named cores earlier t.text) t.none in
     record { text = t.text; is = t.is; parent = p.0; found = p.1; inner = p.2 }
 
-part_server : (cores earlier : List Data) (d : Data) → part_faults cores earlier d ≡ [] → server_faults (Part (length earlier)) d ≡ []
+pub part_server : (cores earlier : List Data) (d : Data) → part_faults cores earlier d ≡ [] → server_faults (Part (length earlier)) d ≡ []
 part_server cores earlier d h =
     let spot = Part (length earlier) in
     none_right (required spot (text_faults spot (sched_faults spot)) (get (codes "sched") d)) _
