@@ -1,16 +1,14 @@
 -- Which parts are parents, along the list of parts.
 use Rattle.std.proofs.Common.{◌≡◌, ℕ, ◌+◌, ◌<◌, suc, zero, Bool, true, false, ◌||◌, ◌==◌, List, [], ◌∷◌, length, take, get_or, set, refl, sym, ap, ◌∙◌, arith}
 use Rattle.std.proofs.lemmas.Bool.Decides.{nat_tests}
-use Rattle.std.proofs.lemmas.List.{take_more}
+use Rattle.std.proofs.lemmas.List.{take_more, get_or_default}
 use Rattle.std.proofs.lemmas.List.Folds.{list_any-append}
 use Rattle.tree_model.specs.View.{PartView}
 use Rattle.system_file.specs.Reading.{is_on, has_child, part_in}
 
 -- a part in the list is the same whatever stands for those past the end
 pub part_at_any : (parts : List PartView) (q : ℕ) (e : PartView) → q < length parts → part_in parts q ≡ get_or parts q e
-part_at_any [] q e h = absurd (omega arith)
-part_at_any (p ∷ parts) zero e h = refl
-part_at_any (p ∷ parts) (suc q) e h = part_at_any parts q e (omega arith)
+part_at_any parts q e h = get_or_default parts q _ e h
 
 or_false : (b : Bool) → (b || false) ≡ b
 or_false true = refl

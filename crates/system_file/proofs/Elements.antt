@@ -1,4 +1,5 @@
 -- Lists that are seen through a map: the names of a set, and the arrays and the tables of a document.
+use Rattle.std.proofs.lemmas.List.{map-append, length-map}
 use Rattle.std.proofs.Common.{◌≡◌, ℕ, ◌+◌, Bool, false, not, cond, ◌||◌, ◌++◌, List, [], ◌∷◌, map, length, String, Global, string_bytes, refl, ap, Bor}
 use Rattle.std.specs.Prelude.{position, bytes_eq}
 use Rattle.std.specs.List.{list_any, list_all, prefix_len}
@@ -18,9 +19,9 @@ prefix_len-map : {A B : Type 0} (p : B → Bool) (f : A → B) (xs : List A) →
 prefix_len-map p f [] = refl
 prefix_len-map p f (x ∷ xs) = ap (λ n. cond {A = ℕ} (p (f x)) (1 + n) 0) (prefix_len-map p f xs)
 
+-- `length-map`, under a name that an attribute can cite
 pub length_map : {A B : Type 0} (f : A → B) (xs : List A) → length (map f xs) ≡ length xs
-length_map f [] = refl
-length_map f (x ∷ xs) = rw (length_map f xs)
+length_map f xs = length-map xs f
 
 -- the place of the first image that passes
 pub position_map : {A B : Type 0} (p : B → Bool) (f : A → B) (xs : List A) → position p (map f xs) ≡ position (λ x. p (f x)) xs
@@ -36,11 +37,7 @@ pub only_listed : (listed : List (Bor (List ℕ))) (es : List (String Global × 
 only_listed listed [] = refl
 only_listed listed (e ∷ es) = rw (list_any_map (bytes_eq (string_bytes e.0)) (λ l. l.now) listed, only_listed listed es)
 
-pub map_append : {A B : Type 0} (f : A → B) (xs ys : List A) → map f (xs ++ ys) ≡ map f xs ++ map f ys
-map_append f [] ys = refl
-map_append f (x ∷ xs) ys = ap (λ zs. f x ∷ zs) (map_append f xs ys)
-
 -- a new name goes to the end of a set
 pub added_name : (keys : List (Bor (List ℕ))) (name : Bor (List ℕ)) → list_any (bytes_eq name.now) (map (λ k. k.now) keys) ≡ false
     → map (λ k. k.now) (insert_key (λ x y. bytes_eq x.now y.now) keys name) ≡ map (λ k. k.now) keys ++ name.now ∷ []
-added_name keys name new = rw (← list_any_map (bytes_eq name.now) (λ k. k.now) keys, new) (map_append (λ (k : Bor (List ℕ)). k.now) keys (name ∷ []))
+added_name keys name new = rw (← list_any_map (bytes_eq name.now) (λ k. k.now) keys, new) (map-append (λ (k : Bor (List ℕ)). k.now) keys (name ∷ []))

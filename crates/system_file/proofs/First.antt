@@ -1,4 +1,5 @@
 -- The first fault of a list that is put together from several, and names that are looked for among elements.
+use Rattle.std.proofs.lemmas.List.{map-append}
 use Rattle.std.proofs.Common.{◌≡◌, ℕ, ◌+◌, ◌<◌, ◌||◌, List, [], ◌∷◌, ◌++◌, map, length, take, drop, Some, refl, sym, ap, ◌∙◌, codes, drop-cons, get_or, add-one}
 use Rattle.std.specs.Prelude.{bytes_eq}
 use Rattle.std.specs.List.{list_any}
@@ -7,7 +8,7 @@ use Rattle.system_file.specs.declared.fault.SystemFault.{SystemFault}
 use Rattle.system_file.specs.Document.{is_text, is_named}
 use Rattle.system_file.specs.Faults.{in_order}
 use Rattle.system_file.specs.Reading.{first_of, HaveNames}
-use Rattle.system_file.proofs.Elements.{map_append}
+
 
 -- the first of a list stays the first where more comes behind
 pub first_here : {A : Type 0} (a b : List A) (x : A) → first_of a ≡ Some x → first_of (a ++ b) ≡ Some x
@@ -45,10 +46,10 @@ taken_is ds names s have = named_by s ds ∙ ap (list_any (is_text s)) have ∙ 
 -- one more element and its name
 pub more_names : (ds : List Data) (names : List (List ℕ)) (d : Data) (s : List ℕ) → HaveNames ds names → get (codes "name") d ≡ Some (string s) → HaveNames (ds ++ d ∷ []) (names ++ s ∷ [])
 more_names ds names d s have is =
-    map_append (λ (e : Data). get (codes "name") e) ds (d ∷ [])
+    map-append (λ (e : Data). get (codes "name") e) ds (d ∷ [])
     ∙ ap (λ xs. xs ++ get (codes "name") d ∷ []) have
     ∙ ap (λ x. map (λ name. Some (string name)) names ++ x ∷ []) is
-    ∙ sym (map_append (λ (name : List ℕ). Some (string name)) names (s ∷ []))
+    ∙ sym (map-append (λ (name : List ℕ). Some (string name)) names (s ∷ []))
 
 -- one step along the elements of an array
 pub order_step : (at_element : List Data → Data → List SystemFault) (all : List Data) (i : ℕ) (d : Data) → i < length all →

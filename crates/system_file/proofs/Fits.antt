@@ -1,7 +1,7 @@
 -- Values of their kind and in their range have no fault.
 use Rattle.std.proofs.Common.{◌≡◌, ℕ, ◌<◌, ◌≤◌, zero, suc, pos, negsuc, Bool, true, false, not, ◌&&◌, nat_le, nat_lt, ◌==◌, List, [], ◌∷◌, ◌++◌, map, length, take, get_or, Option, Some, None, is_none, refl, sym, ap, ◌∙◌, codes, arith, bytes_eq, length-take-le, unwrap_or, if◌then◌else◌}
 use Rattle.std.proofs.lemmas.Bool.Decides.{nat_tests}
-use Rattle.std.proofs.lemmas.List.{get_or-map, get_or-take}
+use Rattle.std.proofs.lemmas.List.{get_or_default, get_or-map, get_or-take}
 use Rattle.std.proofs.lemmas.List.Folds.{list_any_none}
 use Rattle.std.proofs.lemmas.Slice.Eq.{bytes_eq-Decides}
 use Rattle.std.specs.List.{list_any}
@@ -83,11 +83,6 @@ supply_fits spot (Some period) None w h = absurd w
 supply_fits spot None (Some budget) w h = absurd w
 supply_fits spot (Some period) (Some budget) w h = none_both _ _ (number_fits spot LIMIT period w.0 h.0.0 h.0.1) (number_fits spot (number_of (Some period)) budget w.1 h.1 h.2)
 
-any_default : (xs : List Data) (k : ℕ) (d e : Data) → k < length xs → get_or xs k d ≡ get_or xs k e
-any_default [] k d e w = absurd (omega arith)
-any_default (x ∷ xs) zero d e w = refl
-any_default (x ∷ xs) (suc k) d e w = any_default xs k d e (omega arith)
-
 -- names that are all different are new, one after the other
 pub new_of_distinct : (ds : List Data) → AreDistinct (map (λ d. text_of (get (codes "name") d)) ds) → (named : (i : ℕ) → i < length ds → IsNameText (get (codes "name") (get_or ds i (boolean false)))) →
     (j : ℕ) (h : j < length ds) → list_any (is_named (named j h).name) (take j ds) ≡ false
@@ -103,5 +98,5 @@ new_of_distinct ds distinct named j h = list_any_none (is_named (named j h).name
     other : (k : ℕ) (d : Data) → k < j → is_named (named j h).name (get_or (take j ds) k d) ≡ false
     other k d lt =
         let w : k < length ds = omega arith in
-        ap (is_named (named j h).name) (get_or-take j ds k d lt ∙ any_default ds k d (boolean false) w)
+        ap (is_named (named j h).name) (get_or-take j ds k d lt ∙ get_or_default ds k d (boolean false) w)
         ∙ ap (is_text (named j h).name) (named k w).is ∙ apart k lt w _ refl

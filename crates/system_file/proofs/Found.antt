@@ -16,11 +16,11 @@ cons_false p x xs o px e = position_cons p x xs ∙ ap (λ b. cond b (Some 0) (o
 cons_true : {A : Type 0} (p : A → Bool) (x : A) (xs : List A) → p x ≡ true → position p (x ∷ xs) ≡ Some 0
 cons_true p x xs px = position_cons p x xs ∙ ap (λ b. cond b (Some 0) (option_map suc (position p xs))) px
 
-neither_left : (a b : Bool) → (a || b) ≡ false → a ≡ false
+pub neither_left : (a b : Bool) → (a || b) ≡ false → a ≡ false
 neither_left true b h = h
 neither_left false b h = refl
 
-neither_right : (a b : Bool) → (a || b) ≡ false → b ≡ false
+pub neither_right : (a b : Bool) → (a || b) ≡ false → b ≡ false
 neither_right true b h = cc
 neither_right false b h = h
 

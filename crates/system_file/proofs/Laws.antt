@@ -2,7 +2,7 @@
 -- by the rules is read where what it spells is a system.
 use Rattle.std.proofs.Common.{◌≡◌, ℕ, ◌+◌, ◌-◌, ◌<◌, ◌≤◌, ◌==◌, nat_lt, suc, zero, Bool, true, false, not, ◌&&◌, ◌||◌, List, [], ◌∷◌, ◌++◌, map, length, take, drop, get_or, Option, Some, None, Result, Ok, Err, is_none, refl, sym, ap, subst, ◌∙◌, codes, arith, bytes_eq, length-take-le, length-append, unwrap_or}
 use Rattle.std.proofs.lemmas.Bool.Decides.{nat_tests}
-use Rattle.std.proofs.lemmas.List.{get_or-map, get_or-take, get_or-append-add, take-append-le, take-append-drop}
+use Rattle.std.proofs.lemmas.List.{map-append, get_or-map, get_or-take, get_or-append-add, take-append-le, take-append-drop}
 use Rattle.std.proofs.Math.Seq.{take-append-add}
 use Rattle.std.specs.Prelude.{position}
 use Rattle.std.specs.List.{list_any}
@@ -22,13 +22,15 @@ use Rattle.system_file.specs.Document.{elements_of, array_of, text_of, number_of
 use Rattle.system_file.specs.Faults.{fault_if, required, optional, format_faults, text_faults, parent_faults, is_parent_faults, core_array_faults, array_faults, range_faults, top_faults, top_keys, in_order, core_faults, core_keys, core_key_faults, task_faults, task_keys, task_key_faults, part_faults, part_keys, part_key_faults, empty_faults, has_tasks, is_parent, faults}
 use Rattle.system_file.specs.SystemFile.{system_of, system_of_document, document_of, first_fault_or}
 use Rattle.system_file.specs.Written.{IsTableOf, IsNameText, IsParentText, IsArray, There, MayBe, element, IsWrittenTask, IsWrittenCore, IsWrittenPart, IsWritten}
-use Rattle.system_file.proofs.Elements.{length_map, map_append}
+use Rattle.system_file.proofs.Elements.{length_map}
 use Rattle.std.proofs.lemmas.Slice.Eq.{bytes_eq-Decides}
 use Rattle.system_file.proofs.First.{none_both}
 use Rattle.system_file.proofs.Places.{joined, position_append, leaf_tasks}
 use Rattle.system_file.proofs.Found.{position_holds, none_in_order}
-use Rattle.system_file.proofs.Systems.{sys, spelled, part_spelled, faultless_is_system}
+use Rattle.system_file.proofs.Systems.{core_names, part_names, sys, spelled, part_spelled, faultless_is_system}
 use Rattle.system_file.proofs.WrittenKinds.{faultless_is_written}
+use Rattle.system_file.proofs.Nodes.{get_front, part_place}
+use Rattle.system_file.proofs.Rules.{task_names}
 use Rattle.system_file.proofs.Fits.{right, keys_fit, name_fits, sched_fits, required_fits, optional_fits, default_fits, flag_fits, array_fits, supply_fits, new_of_distinct}
 
 -- What is read: the document of the bytes is written by the rules, and the system is the one that it spells.
@@ -101,10 +103,6 @@ parent_fits spot cores earlier later o t stands =
     by (on_core c) e = refl
     by (on_part r) e = right _ _ (stands r e).1
 
-task_names : (ds : List Data) → map (λ (t : NamedTask). t.name) (map spelled_task ds) ≡ map (λ d. text_of (get (codes "name") d)) ds
-task_names [] = refl
-task_names (d ∷ ds) = ap (λ ns. text_of (get (codes "name") d) ∷ ns) (task_names ds)
-
 -- the tasks of a part in their ranges and of different names
 tasks_fit : (cores all : List Data) (q : ℕ) (d : Data) → IsPart (spelled_part cores all d) → ((i : ℕ) → i < length (tasks_of d) → IsWrittenTask (element (tasks_of d) i)) → in_order (task_faults q) [] (tasks_of d) ≡ []
 tasks_fit cores all q d part written =
@@ -142,24 +140,6 @@ any_from p (x ∷ xs) (suc k) e h here = either (p x) (any_from p xs k e (omega 
     either true r = refl
     either false r = r
 
-get_front : (xs ys : List Data) (i : ℕ) (e : Data) → i < length xs → get_or (xs ++ ys) i e ≡ get_or xs i e
-get_front [] ys i e h = absurd (omega arith)
-get_front (x ∷ xs) ys zero e h = refl
-get_front (x ∷ xs) ys (suc i) e h = get_front xs ys i e (omega arith)
-
-part_place : (a o : Option ℕ) (k : ℕ) → core_or_part a o ≡ Some (on_part k) → o ≡ Some k
-part_place (Some c) o k h = cc
-part_place None None k h = cc
-part_place None (Some j) k h = cc
-
-core_names : (ds : List Data) → map (λ (c : CoreView). c.name) (map spelled_core ds) ≡ map (λ d. text_of (get (codes "name") d)) ds
-core_names [] = refl
-core_names (d ∷ ds) = ap (λ ns. text_of (get (codes "name") d) ∷ ns) (core_names ds)
-
-part_names : (cores all ds : List Data) → map (λ (p : PartView). p.name) (map (spelled_part cores all) ds) ≡ map (λ d. text_of (get (codes "name") d)) ds
-part_names cores all [] = refl
-part_names cores all (d ∷ ds) = ap (λ ns. text_of (get (codes "name") d) ∷ ns) (part_names cores all ds)
-
 module _ (cores parts : List Data) (wc : (c : ℕ) → c < length cores → IsWrittenCore (element cores c)) (wp : (q : ℕ) → q < length parts → IsWrittenPart cores parts (element parts q)) (system : IsSystem (sys cores parts)) where
   all_named : (i : ℕ) → i < length (cores ++ parts) → IsNameText (get (codes "name") (get_or (cores ++ parts) i (boolean false)))
   all_named i h = by (nat_lt i (length cores)) refl
@@ -180,7 +160,7 @@ module _ (cores parts : List Data) (wc : (c : ℕ) → c < length cores → IsWr
   distinct = subst AreDistinct
       (ap (λ ns. ns ++ map (λ (p : PartView). p.name) (spelled cores parts)) (core_names cores)
        ∙ ap (λ ns. map (λ (d : Data). text_of (get (codes "name") d)) cores ++ ns) (part_names cores parts parts)
-       ∙ sym (map_append (λ (d : Data). text_of (get (codes "name") d)) cores parts))
+       ∙ sym (map-append (λ (d : Data). text_of (get (codes "name") d)) cores parts))
       system.names
 
   -- the name at a place is new among those before it

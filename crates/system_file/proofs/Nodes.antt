@@ -15,24 +15,18 @@ use Rattle.system_file.specs.Document.{text_of, is_text, is_named, core_or_part,
 use Rattle.system_file.specs.Faults.{in_order, core_faults, part_faults, has_tasks}
 use Rattle.system_file.specs.Reading.{is_on}
 use Rattle.system_file.proofs.Places.{parent_kept, position_within}
-use Rattle.system_file.proofs.Found.{position_none, position_first, position_holds}
+use Rattle.system_file.proofs.Found.{neither_left, neither_right, position_none, position_first, position_holds}
 use Rattle.system_file.proofs.Faultless.{NewName}
 use Rattle.system_file.proofs.Rules.{each, core_name, part_name, ParentThere, part_parent}
 
-get_front : (xs ys : List Data) (i : ℕ) (e : Data) → i < length xs → get_or (xs ++ ys) i e ≡ get_or xs i e
+-- an element of the first list
+pub get_front : (xs ys : List Data) (i : ℕ) (e : Data) → i < length xs → get_or (xs ++ ys) i e ≡ get_or xs i e
 get_front [] ys i e h = absurd (omega arith)
 get_front (x ∷ xs) ys zero e h = refl
 get_front (x ∷ xs) ys (suc i) e h = get_front xs ys i e (omega arith)
 
-neither_left : (a b : Bool) → (a || b) ≡ false → a ≡ false
-neither_left true b h = h
-neither_left false b h = refl
-
-neither_right : (a b : Bool) → (a || b) ≡ false → b ≡ false
-neither_right true b h = cc
-neither_right false b h = h
-
-part_place : (a o : Option ℕ) (k : ℕ) → core_or_part a o ≡ Some (on_part k) → o ≡ Some k
+-- what a parent says of the look-ups
+pub part_place : (a o : Option ℕ) (k : ℕ) → core_or_part a o ≡ Some (on_part k) → o ≡ Some k
 part_place (Some c) o k h = cc
 part_place None None k h = cc
 part_place None (Some j) k h = cc

@@ -100,6 +100,12 @@ part_server cores earlier d h =
     (none_right (required spot (text_faults spot (parent_faults spot cores earlier)) (get (codes "parent") d)) _
     (none_right (required spot (text_faults spot (new_name_faults spot (cores ++ earlier))) (get (codes "name") d)) _ (part_keys_none cores earlier d h)))
 
+-- the names of spelled tasks
+pub task_names : (ds : List Data) → map (λ (t : NamedTask). t.name) (map spelled_task ds) ≡ map (λ d. text_of (get (codes "name") d)) ds
+task_names [] = refl
+task_names (d ∷ ds) = ap (λ ns. text_of (get (codes "name") d) ∷ ns) (task_names ds)
+
+-- a part's numbers and tasks are as a system asks
 pub part_is : (cores all earlier : List Data) (d : Data) → part_faults cores earlier d ≡ [] → IsPart (spelled_part cores all d)
 part_is cores all earlier d h =
     let spot = Part (length earlier) in
@@ -120,10 +126,6 @@ part_is cores all earlier d h =
           ∙ ap (λ (t : NamedTask). t.task) (get_or-map spelled_task (tasks_of d) i (boolean false) (spelled_task (boolean false)) few) in
           let is : SporadicTask → Type 0 = λ t. IsConstrained t × (t.period ≤ LIMIT) in
           subst is (sym same) (task_numbers (length earlier) (take i (tasks_of d)) (get_or (tasks_of d) i (boolean false)) (each (task_faults (length earlier)) [] (tasks_of d) i (boolean false) few in_tasks));
-      task_names = subst AreDistinct (names (tasks_of d))
+      task_names = subst AreDistinct (sym (task_names (tasks_of d)))
           (distinct (tasks_of d) (λ j few. task_name (length earlier) (take j (tasks_of d)) (get_or (tasks_of d) j (boolean false)) (each (task_faults (length earlier)) [] (tasks_of d) j (boolean false) few in_tasks)));
     }
-  where
-    names : (ds : List Data) → map (λ e. text_of (get (codes "name") e)) ds ≡ map (λ (t : NamedTask). t.name) (map spelled_task ds)
-    names [] = refl
-    names (e ∷ ds) = ap (λ ns. text_of (get (codes "name") e) ∷ ns) (names ds)

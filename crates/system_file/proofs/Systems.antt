@@ -1,7 +1,7 @@
 -- A document without faults spells a system.
 use Rattle.std.proofs.Common.{◌≡◌, ℕ, ◌<◌, ◌≤◌, ◌==◌, nat_lt, Bool, true, false, not, ◌&&◌, List, [], ◌∷◌, ◌++◌, map, length, take, get_or, Option, Some, None, refl, sym, ap, subst, ◌∙◌, codes, arith, length-take-le}
 use Rattle.std.proofs.lemmas.Bool.Decides.{nat_tests}
-use Rattle.std.proofs.lemmas.List.{get_or-map}
+use Rattle.std.proofs.lemmas.List.{map-append, get_or-map}
 use Rattle.toml.specs.Data.{Data, string, integer, float, boolean, datetime, array, table, get}
 use Rattle.tree_model.specs.declared.pinned_core.Core.{Core as CoreView}
 use Rattle.tree_model.specs.declared.place.Parent.{Parent}
@@ -14,7 +14,7 @@ use Rattle.system_file.specs.declared.fault.SystemFault.TheVariants.{Empty}
 use Rattle.system_file.specs.Document.{elements_of, array_of, text_of, is_text, cores_of, parts_of, tasks_of, parent_at, spelled_core, spelled_part, spelled_system}
 use Rattle.system_file.specs.Faults.{fault_if, required, optional, format_faults, core_array_faults, array_faults, top_faults, top_keys, in_order, core_faults, part_faults, empty_faults, has_tasks, is_parent, faults}
 use Rattle.system_file.specs.Reading.{first_of, is_on, has_child, is_empty_part, part_in, ParentsAmong}
-use Rattle.system_file.proofs.Elements.{length_map, list_any_map, map_append}
+use Rattle.system_file.proofs.Elements.{length_map, list_any_map}
 use Rattle.system_file.proofs.First.{first_here, first_later, none_both, none_left, none_right}
 use Rattle.system_file.proofs.Places.{leaf_tasks}
 use Rattle.system_file.proofs.Found.{list_any_same, any_at, none_in_order, first_in_order}
@@ -36,11 +36,12 @@ cores_few (Some (array ds)) h = by (length (elements_of ds)) (not_wrong _ _ (non
     by : (n : ℕ) → (n == 0) ≡ false → nat_lt 64 n ≡ false → (1 ≤ n) × (n ≤ 64)
     by n some few = grind (arith, nat_tests)
 
-names_of : (f : Data → CoreView) → ((d : Data) → (f d).name ≡ text_of (get (codes "name") d)) → (ds : List Data) → map (λ (c : CoreView). c.name) (map f ds) ≡ map (λ d. text_of (get (codes "name") d)) ds
-names_of f is [] = refl
-names_of f is (d ∷ ds) = rw (is d, names_of f is ds)
+-- the names of spelled cores and parts
+pub core_names : (ds : List Data) → map (λ (c : CoreView). c.name) (map spelled_core ds) ≡ map (λ d. text_of (get (codes "name") d)) ds
+core_names [] = refl
+core_names (d ∷ ds) = ap (λ ns. text_of (get (codes "name") d) ∷ ns) (core_names ds)
 
-part_names : (cores all ds : List Data) → map (λ (p : PartView). p.name) (map (spelled_part cores all) ds) ≡ map (λ d. text_of (get (codes "name") d)) ds
+pub part_names : (cores all ds : List Data) → map (λ (p : PartView). p.name) (map (spelled_part cores all) ds) ≡ map (λ d. text_of (get (codes "name") d)) ds
 part_names cores all [] = refl
 part_names cores all (d ∷ ds) = ap (λ ns. text_of (get (codes "name") d) ∷ ns) (part_names cores all ds)
 
@@ -112,8 +113,8 @@ module _ (cores parts : List Data) where
     names_distinct = subst AreDistinct names (distinct (cores ++ parts) (all_new cores parts no_core no_part))
       where
         names : map (λ d. text_of (get (codes "name") d)) (cores ++ parts) ≡ node_names sys
-        names = map_append (λ (d : Data). text_of (get (codes "name") d)) cores parts
-            ∙ ap (λ ns. ns ++ map (λ (d : Data). text_of (get (codes "name") d)) parts) (sym (names_of spelled_core (λ d. refl) cores))
+        names = map-append (λ (d : Data). text_of (get (codes "name") d)) cores parts
+            ∙ ap (λ ns. ns ++ map (λ (d : Data). text_of (get (codes "name") d)) parts) (sym (core_names cores))
             ∙ ap (λ ns. map (λ (c : CoreView). c.name) (map spelled_core cores) ++ ns) (sym (part_names cores parts parts))
 
     pub is_system : (1 ≤ length cores) × (length cores ≤ 64) → length parts ≤ 512 → in_order (empty_faults parts) [] parts ≡ [] → IsSystem sys
