@@ -93,8 +93,10 @@ tree_exists sys budgets n supplies jobs fits =
       core_runs,
       r.0,
       record {
-        core_runs = λ c l. subst (PermittedRun server (before_of (core_at sys c).sched (server_tasks sys budgets (Core c))) (server_tasks sys budgets (Core c)) (server_jobs sys budgets (Core c) n) (get_or supplies c [])) (sym (listed_at (λ c. (core_run c).0) [] (length sys.cores) c l)) (core_run c).1;
-        inner_runs = r.1.inner;
-        leaf_runs = r.1.leaf;
+        run_each_core = listed_long (λ c. (core_run c).0) (length sys.cores);
+        run_each_part = r.1.long;
+        cores = λ c l. subst (PermittedRun server (before_of (core_at sys c).sched (server_tasks sys budgets (Core c))) (server_tasks sys budgets (Core c)) (server_jobs sys budgets (Core c) n) (get_or supplies c [])) (sym (listed_at (λ c. (core_run c).0) [] (length sys.cores) c l)) (core_run c).1;
+        inner = r.1.inner;
+        leaves = r.1.leaf;
       },
     )
