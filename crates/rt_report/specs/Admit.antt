@@ -1,11 +1,12 @@
 -- The text of an admission: the verdict, then each part in file order, and below a computed leaf what defeats the next
 -- smaller budget.
-use Rattle.std.specs.Prelude.{◌≡◌, ℕ, zero, suc, ◌&&◌, Bool, if◌then◌else◌, List, [], ◌∷◌, ◌++◌, length, drop, slice_index, slice_index_or, slice_get, codes, Option, Some, None, is_none}
+use Rattle.std.specs.Prelude.{◌≡◌, ℕ, zero, suc, ◌&&◌, Bool, if◌then◌else◌, List, [], ◌∷◌, ◌++◌, length, drop, slice_index, slice_get, codes, Option, Some, None, is_none}
 use Rattle.std.specs.Fmt.{decimal}
 use Rattle.slot_model.specs.declared.miss.Miss.{Miss}
 use Rattle.slot_model.specs.Release.{push_if}
-use Rattle.tree_model.specs.View.{PartView, SystemView, NamedTask}
+use Rattle.tree_model.specs.View.{PartView, SystemView}
 use Rattle.tree_model.specs.System.{is_leaf, part_at}
+use Rattle.rt_report.specs.Words.{task_name}
 use Rattle.rt_report.specs.declared.replay.Replay.{Replay}
 use Rattle.rt_report.specs.Replay.{IsReplay}
 
@@ -20,10 +21,6 @@ origin_word (Some given) = codes " given\n"
 -- `part NAME period=P budget=B given`, or `computed`
 abbrev pub part_line : PartView → ℕ → List ℕ
 part_line part budget = codes "part " ++ (part.name ++ (codes " period=" ++ (decimal part.period ++ (codes " budget=" ++ (decimal budget ++ origin_word part.budget)))))
-
--- the name of a task of a leaf
-abbrev pub task_name : PartView → ℕ → List ℕ
-task_name part i = (slice_index_or part.tasks i (record { name = []; task = record { period = 1; deadline = 1; work = 1 } })).name
 
 -- the first task that is short, and `-` under edf
 abbrev pub short_task : PartView → Option ℕ → List ℕ

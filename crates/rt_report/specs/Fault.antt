@@ -1,5 +1,5 @@
 -- The text of a file's fault. Places count from 1.
-use Rattle.std.specs.Prelude.{ℕ, ◌+◌, List, [], ◌++◌, codes}
+use Rattle.std.specs.Prelude.{◌≢◌, ℕ, ◌+◌, List, [], ◌++◌, codes}
 use Rattle.std.specs.Fmt.{decimal}
 use Rattle.system_file.specs.declared.fault.Spot.{Spot}
 use Rattle.system_file.specs.declared.fault.Spot.TheVariants.{Top, Core, Part, Task}
@@ -34,3 +34,7 @@ system_fault_text NoMemory file = []
 
 abbrev pub fault_text : FileFault → ℕ → List ℕ
 fault_text (System fault) file = system_fault_text fault file
+
+-- a fault of the file itself: memory did not run out
+abbrev pub IsFault : FileFault → Type 0
+IsFault (System fault) = fault ≢ NoMemory

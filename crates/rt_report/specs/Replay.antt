@@ -10,7 +10,7 @@ use Rattle.slot_model.specs.Run.{guest, FirstRun}
 use Rattle.slot_model.specs.Miss.{WorstList, IsFirstMiss}
 use Rattle.miss_witness.specs.declared.defeat.Defeat.{Defeat}
 use Rattle.miss_witness.specs.Defeat.{IsDefeat}
-use Rattle.tree_model.specs.View.{SystemView, PartView}
+use Rattle.tree_model.specs.View.{SystemView}
 use Rattle.tree_model.specs.System.{part_at, own_tasks}
 use Rattle.tree_model.specs.Tree.{budget_at}
 use Rattle.rt_report.specs.declared.replay.Replay.{Replay}

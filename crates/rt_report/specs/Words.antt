@@ -1,11 +1,15 @@
 -- Names of nodes and of what a node serves, as the texts write them.
-use Rattle.std.specs.Prelude.{ℕ, zero, suc, List, [], ◌∷◌, ◌++◌, map, length, slice_index_or, codes}
+use Rattle.std.specs.Prelude.{ℕ, zero, suc, List, [], ◌∷◌, ◌++◌, ◌<◌, length, slice_index_or, codes}
 use Rattle.slot_model.specs.Release.{push_if}
 use Rattle.tree_model.specs.declared.place.Place.{Place}
 use Rattle.tree_model.specs.declared.place.Place.TheVariants.{Core, Part}
-use Rattle.tree_model.specs.View.{NamedTask, SystemView}
+use Rattle.tree_model.specs.View.{NamedTask, PartView, SystemView}
 use Rattle.tree_model.specs.System.{core_at, part_at}
 use Rattle.tree_model.specs.Tree.{is_child}
+
+-- the name of a task of a leaf; nothing past the end
+abbrev pub task_name : PartView → ℕ → List ℕ
+task_name part i = (slice_index_or part.tasks i (record { name = []; task = record { period = 1; deadline = 1; work = 1 } })).name
 
 -- `core NAME` or `part NAME`
 abbrev pub node_words : SystemView → Place → List ℕ
@@ -20,15 +24,19 @@ names_among sys node (suc n) = push_if (names_among sys node n) (is_child sys no
 abbrev pub child_names : SystemView → Place → List (List ℕ)
 child_names sys node = names_among sys node (length sys.parts)
 
--- the names of what a node serves: a leaf's tasks, else the children
-abbrev pub served_in_part : SystemView → ℕ → List NamedTask → List (List ℕ)
-served_in_part sys q [] = child_names sys (Part q)
-served_in_part sys q tasks = map (λ (t : NamedTask). t.name) tasks
+abbrev pub child_name : SystemView → Place → ℕ → List ℕ
+child_name sys node i = slice_index_or (child_names sys node) i []
 
-abbrev pub served_names : SystemView → Place → List (List ℕ)
-served_names sys (Core c) = child_names sys (Core c)
-served_names sys (Part q) = served_in_part sys q (part_at sys q).tasks
+-- the name of what a node serves, at a place among a leaf's tasks, else among the children; nothing past the end
+abbrev pub name_in_part : SystemView → ℕ → List NamedTask → ℕ → List ℕ
+name_in_part sys q [] i = child_name sys (Part q) i
+name_in_part sys q (t ∷ tasks) i = task_name (part_at sys q) i
 
--- the name at a place among these
 abbrev pub served_name : SystemView → Place → ℕ → List ℕ
-served_name sys node i = slice_index_or (served_names sys node) i []
+served_name sys (Core c) i = child_name sys (Core c) i
+served_name sys (Part q) i = name_in_part sys q (part_at sys q).tasks i
+
+-- the node is in the system
+abbrev pub IsNode : SystemView → Place → Type 0
+IsNode sys (Core c) = c < length sys.cores
+IsNode sys (Part q) = q < length sys.parts
