@@ -23,10 +23,10 @@ impl<R: Files> Model for DiskStore<R> {
     ghost Value = { DiskCounts };
 
     ghost view = { λ s. record {
-        is_open = is_some s.file;
-        faults = s.faults;
-        absences = s.absences;
-        taken = s.taken
+      is_open = is_some s.file;
+      faults = s.faults;
+      absences = s.absences;
+      taken = s.taken;
     } };
 }
 

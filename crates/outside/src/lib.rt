@@ -20,3 +20,6 @@ pub use sink::{Sink, SinkFault};
 pub use stdout_sink::StdoutSink;
 pub use store::{Store, StoreFault};
 pub use write::{WriteFault, write_all};
+
+#[cfg(test)]
+mod tests;

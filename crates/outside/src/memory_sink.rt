@@ -23,12 +23,12 @@ impl Model for MemorySink {
     ghost Value = { MemoryOutput };
 
     ghost view = { λ s. record {
-        bytes = s.bytes.items;
-        room = s.room;
-        bite = s.bite;
-        fails = s.fails.items;
-        calls = s.calls;
-        faults = s.faults
+      bytes = s.bytes.items;
+      room = s.room;
+      bite = s.bite;
+      fails = s.fails.items;
+      calls = s.calls;
+      faults = s.faults;
     } };
 
     ghost invariant = { λ s. (1 ≤ s.bite) × (s.room ≤ vec_capacity s.bytes) × (vec_len s.bytes ≤ s.room) };

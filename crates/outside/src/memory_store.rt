@@ -27,14 +27,14 @@ impl Model for MemoryStore {
     ghost Value = { MemoryFiles };
 
     ghost view = { λ s. record {
-        files = named_files s.files.items;
-        bite = s.bite;
-        fails = s.fails.items;
-        calls = s.calls;
-        rest = rest_of s.files.items s.current s.at;
-        faults = s.faults;
-        absences = s.absences;
-        taken = s.taken
+      files = named_files s.files.items;
+      bite = s.bite;
+      fails = s.fails.items;
+      calls = s.calls;
+      rest = rest_of s.files.items s.current s.at;
+      faults = s.faults;
+      absences = s.absences;
+      taken = s.taken;
     } };
 
     ghost invariant = { λ s. StoreIsSound s.bite s.files.items s.current s.at };

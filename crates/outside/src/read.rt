@@ -14,6 +14,7 @@ pub enum ReadFault {
     Failed,
     /// The file has more bytes than the limit.
     TooLong,
+    /// There was no memory to open the file or to hold its bytes.
     NoMemory,
 }
 
@@ -43,7 +44,7 @@ impl From<AllocError> for ReadFault {
     }
 }
 
-// how many bytes are asked for at once
+// The most bytes that are asked for at once.
 const PIECE: usize = 64 * 1024;
 
 fn piece_buffer(alloc: Global) -> Result<Vec<u8>, AllocError>
