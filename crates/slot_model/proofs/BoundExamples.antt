@@ -211,9 +211,9 @@ the_horizon_is_the_least_common_multiple_and_a_cycle = record {
   multiple = 12;
   common = record { some = omega arith; of_cycle = dvd_of_mod-eq-zero 3 {n = 12} refl; of_periods = twelve_is_a_multiple };
   least = λ m common.
-    let by_4 : m % 4 ≡ 0 = mod-eq-zero_of_dvd 4 (common.of_periods 0 (omega arith)) in
-    let by_6 : m % 6 ≡ 0 = mod-eq-zero_of_dvd 6 (common.of_periods 1 (omega arith)) in
-    omega (arith, common.some);
+      let by_4 : m % 4 ≡ 0 = mod-eq-zero_of_dvd 4 (common.of_periods 0 (omega arith)) in
+      let by_6 : m % 6 ≡ 0 = mod-eq-zero_of_dvd 6 (common.of_periods 1 (omega arith)) in
+      omega (arith, common.some);
   is = refl;
 }
 
@@ -230,7 +230,7 @@ one_is_the_least_budget = record {
   in_period = omega arith;
   passes = λ t l. every_slot_is_enough t;
   least = λ b l passes.
-    let no_budget : b ≡ 0 = omega arith in
-    let two : 1 ≤ 0 = subst (λ (z : ℕ). Passes Edf (task_of 2 2 1 ∷ []) (sbf 1 z)) no_budget passes 2 (omega arith) in
-    omega arith;
+      let no_budget : b ≡ 0 = omega arith in
+      let two : 1 ≤ 0 = subst (λ (z : ℕ). Passes Edf (task_of 2 2 1 ∷ []) (sbf 1 z)) no_budget passes 2 (omega arith) in
+      omega arith;
 }

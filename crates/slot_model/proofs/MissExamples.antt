@@ -88,6 +88,7 @@ the_least_deadline_moment_is_the_first_miss = (1, record { missed = record { is_
     least (suc zero) m = omega arith
     least (suc (suc zero)) m = omega arith
     least (suc (suc (suc k))) m = absurd (omega (arith, m.is_job))
+
     first : (k : ℕ) → k < 1 → Missed three_tasks three_jobs one_slot_used k → deadline_of three_tasks (job_at three_jobs k) ≢ 3
     first zero l m = λ e. omega arith
     first (suc k) l m = absurd (omega arith)

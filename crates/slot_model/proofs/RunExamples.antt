@@ -122,14 +122,17 @@ the_earlier_deadline_first_is_permitted = record { same_length = refl; no_slot =
     no_slot zero l e = cc
     no_slot (suc zero) l e = cc
     no_slot (suc (suc x)) l e = absurd (omega arith)
+
     idle : (x j : ℕ) → x < 2 → get_or two_slots x false ≡ true → get_or second_first x None ≡ None → Pending guest second_sooner both_at_0 second_first j x → ⊥
     idle zero j l s e p = cc
     idle (suc zero) j l s e p = cc
     idle (suc (suc x)) j l s e p = omega arith
+
     served : (x j : ℕ) → x < 2 → get_or second_first x None ≡ Some j → Pending guest second_sooner both_at_0 second_first j x
     served zero j l e = held_is (λ i. Pending guest second_sooner both_at_0 second_first i 0) 1 j e (pending_first second_sooner second_first 1 (omega arith))
     served (suc zero) j l e = held_is (λ i. Pending guest second_sooner both_at_0 second_first i 1) 0 j e (pending_last_0 second_sooner)
     served (suc (suc x)) j l e = absurd (omega arith)
+
     chosen : (x j k : ℕ) → x < 2 → get_or second_first x None ≡ Some j → Pending guest second_sooner both_at_0 second_first k x → edf_before second_sooner (job_at both_at_0 k) (job_at both_at_0 j) ≡ true → ⊥
     chosen zero j k l e p = held_is (λ i. edf_before second_sooner (job_at both_at_0 k) (job_at both_at_0 i) ≡ true → ⊥) 1 j e (none_before_1 second_sooner refl refl k p.is_job)
     chosen (suc zero) j k l e p = held_is (λ i. edf_before second_sooner (job_at both_at_0 k) (job_at both_at_0 i) ≡ true → ⊥) 0 j e (subst (λ i. edf_before second_sooner (job_at both_at_0 i) (job_at both_at_0 0) ≡ true → ⊥) (only_0_is_left second_sooner k p) (λ t. cc))
@@ -172,10 +175,12 @@ of_equal_deadlines_the_later_place_first_is_permitted = record { same_length = r
     no_slot zero l e = cc
     no_slot (suc zero) l e = cc
     no_slot (suc (suc x)) l e = absurd (omega arith)
+
     idle : (x j : ℕ) → x < 2 → get_or two_slots x false ≡ true → get_or second_first x None ≡ None → Pending guest equal_deadlines both_at_0 second_first j x → ⊥
     idle zero j l s e p = cc
     idle (suc zero) j l s e p = cc
     idle (suc (suc x)) j l s e p = omega arith
+
     served : (x j : ℕ) → x < 2 → get_or second_first x None ≡ Some j → Pending guest equal_deadlines both_at_0 second_first j x
     served zero j l e = held_is (λ i. Pending guest equal_deadlines both_at_0 second_first i 0) 1 j e (pending_first equal_deadlines second_first 1 (omega arith))
     served (suc zero) j l e = held_is (λ i. Pending guest equal_deadlines both_at_0 second_first i 1) 0 j e (pending_last_0 equal_deadlines)

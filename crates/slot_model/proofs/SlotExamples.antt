@@ -95,7 +95,7 @@ a_broken_period_can_be_too_late gives = let second : 2 ≤ 1 = gives 1 (omega ar
 
 -- first as early, then as late as can be: 7 places without a slot
 worst_pattern_of_period_5_and_budget_2 :
-  map (worst_slot 5 2) (0 ∷ 1 ∷ 2 ∷ 3 ∷ 4 ∷ 5 ∷ 6 ∷ 7 ∷ 8 ∷ 9 ∷ 10 ∷ 11 ∷ 12 ∷ 13 ∷ 14 ∷ []) ≡
+    map (worst_slot 5 2) (0 ∷ 1 ∷ 2 ∷ 3 ∷ 4 ∷ 5 ∷ 6 ∷ 7 ∷ 8 ∷ 9 ∷ 10 ∷ 11 ∷ 12 ∷ 13 ∷ 14 ∷ []) ≡
     true ∷ true ∷ false ∷ false ∷ false ∷ false ∷ false ∷ false ∷ true ∷ true ∷ false ∷ false ∷ false ∷ true ∷ true ∷ []
 worst_pattern_of_period_5_and_budget_2 = refl
 
@@ -152,18 +152,21 @@ jobs_a_period_apart_are_legal = record { named = named; works = works; in_work =
     named (suc (suc zero)) l = omega arith
     named (suc (suc (suc zero))) l = omega arith
     named (suc (suc (suc (suc j)))) l = absurd (omega arith)
+
     works : (j : ℕ) → j < 4 → 1 ≤ (job_at period_apart j).work
     works zero l = omega arith
     works (suc zero) l = omega arith
     works (suc (suc zero)) l = omega arith
     works (suc (suc (suc zero))) l = omega arith
     works (suc (suc (suc (suc j)))) l = absurd (omega arith)
+
     in_work : (j : ℕ) → j < 4 → (job_at period_apart j).work ≤ (task_at slow_and_fast (job_at period_apart j).task).work
     in_work zero l = omega arith
     in_work (suc zero) l = omega arith
     in_work (suc (suc zero)) l = omega arith
     in_work (suc (suc (suc zero))) l = omega arith
     in_work (suc (suc (suc (suc j)))) l = absurd (omega arith)
+
     apart : (i j : ℕ) → i < j → j < 4 → (job_at period_apart i).task ≡ (job_at period_apart j).task → (job_at period_apart i).release + (task_at slow_and_fast (job_at period_apart i).task).period ≤ (job_at period_apart j).release
     apart zero (suc zero) l m same = absurd (omega arith)
     apart zero (suc (suc zero)) l m same = omega arith
