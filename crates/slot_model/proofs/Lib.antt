@@ -15,3 +15,7 @@ mod Apart
 pub mod MissedJobs
 mod FirstMiss
 pub mod LegalJobs
+mod SlotExamples
+mod BoundExamples
+mod RunExamples
+mod MissExamples

@@ -1,13 +1,13 @@
 -- The test of a missed job, and the count of those that miss.
-use Rattle.std.proofs.Common.{◌≡◌, ℕ, zero, suc, ◌+◌, ◌<◌, ◌≤◌, Bool, true, false, cond, List, length, get_or, Option, Some, None, sym, ◌∙◌, ap, arith, inl, inr, add-one, leb-true, ltb-true, le-leb, lt-ltb}
+use Rattle.std.proofs.Common.{nat_lt, ◌≡◌, ℕ, zero, suc, ◌+◌, ◌<◌, ◌≤◌, Bool, true, false, cond, List, length, get_or, Option, None, ◌∙◌, ap, arith, inl, inr, add-one, nat_le, leb-true, ltb-true, le-leb, lt-ltb}
 use Rattle.std.proofs.lemmas.Bool.{cases_eq, cases_lt, cases_Bool, cond-true, cond-false, and_parts, and_from, both_ways}
 use Rattle.std.proofs.lemmas.List.{get_or_past}
-use Rattle.slot_model.specs.Slots.{sum_below, count_below}
+use Rattle.slot_model.specs.Slots.{count_below}
 use Rattle.slot_model.specs.Run.{holds, held, service, Level, PermittedRun}
 use Rattle.slot_model.specs.Task.{job_at, deadline_of, SporadicTask}
 use Rattle.slot_model.specs.Miss.{Missed, NoneMissed, HoldsReleased, is_missed}
 use Rattle.slot_model.specs.declared.job.Job.{Job}
-use Rattle.slot_model.proofs.Sums.{sum_below-zero, sum_below-suc, sum_below-same, sum_below-none}
+use Rattle.slot_model.proofs.Sums.{sum_below-suc, sum_below-same, sum_below-none}
 use Rattle.slot_model.proofs.Runs.{holds-is}
 
 -- one more number below the bound
@@ -42,7 +42,7 @@ service-before_release jobs run released j x early = count_below-none (λ y. hol
 pub missed_where_tested : (tasks : List SporadicTask) (jobs : List Job) (run : List (Option ℕ)) (j : ℕ) → is_missed tasks jobs run j ≡ true → Missed tasks jobs run j
 missed_where_tested tasks jobs run j t =
     let in_run : deadline_of tasks (job_at jobs j) ≤ length run = leb-true _ _ (and_parts _ _ t).0 in
-    let short : service run j (deadline_of tasks (job_at jobs j)) < (job_at jobs j).work = ltb-true (service run j (deadline_of tasks (job_at jobs j))) (job_at jobs j).work (and_parts _ _ t).1 in
+    let short : service run j (deadline_of tasks (job_at jobs j)) < (job_at jobs j).work = ltb-true (service run j (deadline_of tasks (job_at jobs j))) (job_at jobs j).work (and_parts (nat_le (deadline_of tasks (job_at jobs j)) (length run)) (nat_lt (service run j (deadline_of tasks (job_at jobs j))) (job_at jobs j).work) t).1 in
     elim (cases_lt j (length jobs)) [
       | inl l ↦ record { is_job = l; in_run = in_run; short = short }
       | inr past ↦ absurd (omega (arith, ap (λ (a : Job). a.work) (get_or_past jobs j (record { task = 0; release = 0; work = 0 }) past)))
