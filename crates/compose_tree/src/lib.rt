@@ -1,0 +1,4 @@
+//! Budgets up the tree of guests: the least ones that pass, or the first node that refuses.
+#![tactic(auto)]
+
+pub fn placeholder() {}

@@ -1,0 +1,5 @@
+pub mod ReleasedWork
+pub mod Rises
+pub mod Constrained
+pub mod Ceiling
+pub mod Parts

@@ -1,0 +1,4 @@
+pub mod View
+pub mod System
+pub mod Tree
+pub mod Admission

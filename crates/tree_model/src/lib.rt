@@ -1,0 +1,16 @@
+//! A system of pinned cores and a tree of guests, as contracts see it, and what a permitted run
+//! of the whole tree, an admission and a refusal are.
+#![tactic(auto)]
+
+mod part;
+mod pinned_core;
+mod place;
+mod plan;
+mod system;
+
+pub use part::{Named, Part};
+pub use pinned_core::Core;
+pub use place::{Parent, Place};
+pub use plan::{Plan, Refusal};
+pub use slot_model::Name;
+pub use system::System;
