@@ -3,5 +3,7 @@
 #![tactic(auto)]
 
 mod least;
+#[cfg(test)]
+mod tests;
 
 pub use least::hit;
