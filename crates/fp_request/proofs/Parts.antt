@@ -1,7 +1,7 @@
 -- The parts of a request bound, task by task.
 use Rattle.std.proofs.Common.{◌≡◌, ℕ, zero, suc, ◌+◌, ◌<◌, ◌≤◌, Bool, true, false, cond, List, [], ◌∷◌, length, get_or, refl, sym, ◌∙◌, ap, arith}
 use Rattle.std.proofs.lemmas.Bool.{cond-true, cond-false}
-use Rattle.std.proofs.lemmas.List.{length-map}
+use Rattle.std.proofs.lemmas.List.{length-map, get_or-map}
 use Rattle.slot_model.specs.declared.task.Task.{Task}
 use Rattle.slot_model.specs.Slots.{sum_below}
 use Rattle.slot_model.specs.Task.{SporadicTask, task_at, sporadic_task, sporadic_tasks}
@@ -10,9 +10,7 @@ use Rattle.slot_model.proofs.Sums.{sum_below-zero, sum_below-suc, sum_below-long
 
 -- the task at a place as its plain numbers
 pub task_at-is : (tasks : List Task) (i : ℕ) (d : Task) → i < length tasks → task_at (sporadic_tasks tasks) i ≡ sporadic_task (get_or tasks i d)
-task_at-is [] i d l = absurd (omega arith)
-task_at-is (t ∷ ts) zero d l = refl
-task_at-is (t ∷ ts) (suc i) d l = task_at-is ts i d (omega arith)
+task_at-is tasks i d l = get_or-map sporadic_task tasks i d _ l
 
 -- what task k adds to the request bound of task i
 abbrev pub part_of : (ℕ → ℕ → Bool) → List SporadicTask → ℕ → ℕ → ℕ → ℕ

@@ -4,9 +4,8 @@ ghost use Rattle.slot_model.specs.Order.{ranks_above};
 ghost use Rattle.slot_model.specs.Bound.{request_of, rbf};
 ghost use Rattle.fp_request.specs.Released.{RequestsBound};
 
-use slot_model::{Sched, Task};
-
 use crate::rank::ranks;
+use slot_model::{Sched, Task};
 
 /// The request bound of task `i` for `t` slots: its own work, and what the tasks that rank above it
 /// ask for if they are released there. None exactly where it passes 2^128 - 1.

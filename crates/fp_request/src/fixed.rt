@@ -2,11 +2,9 @@ ghost use Rattle.std.specs.Prelude.{◌≡◌, ◌≢◌, MatchOption};
 ghost use Rattle.slot_model.specs.Order.{before_of};
 ghost use Rattle.fp_request.specs.Ranks.{order_laws};
 
-use std::marker::Model;
-
-use slot_model::{Job, Order, Sched, Task};
-
 use crate::rank::ranks;
+use slot_model::{Job, Order, Sched, Task};
+use std::marker::Model;
 
 /// A fixed order of jobs: the job whose task ranks above goes first, and the jobs of one task go as
 /// they are released. Contracts see it as the `Sched` that it was made of.

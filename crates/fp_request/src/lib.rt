@@ -6,6 +6,8 @@
 mod asked;
 mod fixed;
 mod rank;
+#[cfg(test)]
+mod tests;
 
 pub use asked::request;
 pub use fixed::Fixed;

@@ -1,13 +1,9 @@
-// A library with one function.
+//! The exact test of one task under a fixed priority, over any supply: its least hit, within which
+//! each of its jobs is done, or none, where the worst pattern of the supply makes a job late.
 #![tactic(auto)]
 
-ghost use Rattle.std.specs.Prelude.{◌≡◌};
-ghost use Rattle.fp_test.specs.Echo.{echo_of};
+mod least;
+#[cfg(test)]
+mod tests;
 
-// The `ensures` clause is the contract: what `echo` returns is `echo_of` of its argument, a definition
-// in `specs/Echo.antt`, which a caller's clause can cite too.
-pub fn echo(x: usize) -> usize
-    ensures { result ≡ echo_of x }
-{
-    x
-}
+pub use least::hit;
