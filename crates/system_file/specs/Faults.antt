@@ -32,9 +32,13 @@ abbrev pub text_faults : Spot → (List ℕ → List SystemFault) → Data → L
 text_faults spot at_text (string s) = at_text s
 text_faults spot at_text _ = WrongKind spot ∷ []
 
--- a name that earlier elements may have taken
-abbrev pub name_faults : Spot → List Data → List ℕ → List SystemFault
-name_faults spot earlier s = if is_name s then fault_if (list_any (is_named s) earlier) (NameTaken spot) else BadName spot ∷ []
+-- a name, which may be taken
+abbrev pub name_faults : Spot → Bool → List ℕ → List SystemFault
+name_faults spot is_taken s = if is_name s then fault_if is_taken (NameTaken spot) else BadName spot ∷ []
+
+-- a name that is not to be that of an earlier element
+abbrev pub new_name_faults : Spot → List Data → List ℕ → List SystemFault
+new_name_faults spot earlier s = name_faults spot (list_any (is_named s) earlier) s
 
 abbrev pub sched_faults : Spot → List ℕ → List SystemFault
 sched_faults spot s = fault_if (is_none (sched_named s)) (OutOfRange spot)
@@ -113,7 +117,7 @@ core_keys = codes "name" ∷ codes "sched" ∷ codes "supply_period" ∷ codes "
 
 abbrev pub core_key_faults : Spot → List Data → Data → List SystemFault
 core_key_faults spot earlier d =
-    required spot (text_faults spot (name_faults spot earlier)) (get (codes "name") d) ++
+    required spot (text_faults spot (new_name_faults spot earlier)) (get (codes "name") d) ++
     (required spot (text_faults spot (sched_faults spot)) (get (codes "sched") d) ++
     supply_faults spot (get (codes "supply_period") d) (get (codes "supply_budget") d))
 
@@ -126,7 +130,7 @@ task_keys = codes "name" ∷ codes "period" ∷ codes "deadline" ∷ codes "work
 
 abbrev pub task_key_faults : Spot → List Data → Data → List SystemFault
 task_key_faults spot earlier d =
-    required spot (text_faults spot (name_faults spot earlier)) (get (codes "name") d) ++
+    required spot (text_faults spot (new_name_faults spot earlier)) (get (codes "name") d) ++
     (required spot (range_faults spot LIMIT) (get (codes "period") d) ++
     (optional (range_faults spot (number_of (get (codes "period") d))) (get (codes "deadline") d) ++
     required spot (range_faults spot (deadline_of d)) (get (codes "work") d)))
@@ -140,7 +144,7 @@ part_keys = codes "name" ∷ codes "parent" ∷ codes "sched" ∷ codes "period"
 
 abbrev pub part_key_faults : Spot → List Data → List Data → Data → List SystemFault
 part_key_faults spot cores earlier d =
-    required spot (text_faults spot (name_faults spot (cores ++ earlier))) (get (codes "name") d) ++
+    required spot (text_faults spot (new_name_faults spot (cores ++ earlier))) (get (codes "name") d) ++
     (required spot (text_faults spot (parent_faults spot cores earlier)) (get (codes "parent") d) ++
     (required spot (text_faults spot (sched_faults spot)) (get (codes "sched") d) ++
     (required spot (range_faults spot LIMIT) (get (codes "period") d) ++

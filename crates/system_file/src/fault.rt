@@ -1,3 +1,8 @@
+ghost use Rattle.std.specs.Prelude.{◌≡◌};
+ghost use Rattle.system_file.specs.declared.fault.SystemFault.TheVariants.{NoMemory};
+
+use std::alloc::{AllocError, AllocFailed};
+
 /// The table in which a fault stands, by places counted from 0: the top table, a core, a part, or a
 /// task of a part.
 #[derive(Clone, Copy, Debug, PartialEq, Eq)]
@@ -35,4 +40,20 @@ pub enum SystemFault {
     TooMany(Spot),
     /// Memory ran out.
     NoMemory,
+}
+
+impl From<AllocError> for SystemFault {
+    ghost from_gives = { λ _ fault. fault ≡ NoMemory };
+
+    fn from(_error: AllocError) -> SystemFault {
+        SystemFault::NoMemory
+    }
+}
+
+impl<T: Drop> From<AllocFailed<T>> for SystemFault {
+    ghost from_gives = { λ _ fault. fault ≡ NoMemory };
+
+    fn from(_error: AllocFailed<T>) -> SystemFault {
+        SystemFault::NoMemory
+    }
 }

@@ -3,5 +3,7 @@
 #![tactic(auto)]
 
 mod fault;
+mod keys;
+mod names;
 
 pub use fault::{Spot, SystemFault};
