@@ -1,4 +1,4 @@
-use Rattle.std.proofs.Common.{◌≡◌, ◌≤◌, ℕ, ◌+◌, ◌-◌, vec_len, true}
+use Rattle.std.proofs.Common.{◌≡◌, ◌≤◌, ◌+◌, ◌-◌, vec_len, true}
 use Rattle.outside.specs.Counts.{raised}
 use Rattle.outside.proofs.ReadSoFar.{HasRead}
 use Rattle.outside.proofs.read.read_all.Given as goal
