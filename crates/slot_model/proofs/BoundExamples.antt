@@ -1,5 +1,5 @@
 -- Worked examples of orders, ranks, bounds and tests, by hand. A wrong definition breaks one of them.
-use Rattle.std.proofs.Common.{◌≡◌, ℕ, zero, suc, ◌+◌, ◌*◌, ◌<◌, ◌≤◌, Bool, true, false, List, [], ◌∷◌, length, refl, arith, subst, nat_le, ◌%◌}
+use Rattle.std.proofs.Common.{◌≡◌, ℕ, zero, suc, ◌<◌, ◌≤◌, true, false, List, [], ◌∷◌, refl, arith, subst, nat_le, ◌%◌}
 use Rattle.std.proofs.lemmas.Bool.Decides.{nat_tests}
 use Rattle.std.proofs.lemmas.Nat.Gcd.{dvd_of_mod-eq-zero, mod-eq-zero_of_dvd}
 use Rattle.std.specs.Int.{◌∣◌}
@@ -8,7 +8,7 @@ use Rattle.slot_model.specs.declared.sched.Short.TheVariants.{At, Task}
 use Rattle.slot_model.specs.Slots.{sum_below}
 use Rattle.slot_model.specs.Task.{SporadicTask, task_at}
 use Rattle.slot_model.specs.Order.{edf_before, ranks_above, fixed_before, before_of, IsRank}
-use Rattle.slot_model.specs.Bound.{sbf, dbf, request_of, rbf, IsHit, DemandFits, Passes, IsFirstShortPoint, IsShortTask, IsShortfall, IsCommonMultiple, IsHorizon, IsLeastBudget}
+use Rattle.slot_model.specs.Bound.{sbf, dbf, request_of, rbf, IsHit, DemandFits, Passes, IsFirstShortPoint, IsShortTask, IsShortfall, IsHorizon, IsSmall, IsLeastBudget}
 use Rattle.slot_model.proofs.SlotExamples.{task_of, job_of}
 
 -- orders
@@ -220,6 +220,12 @@ the_horizon_is_the_least_common_multiple_and_a_cycle = record {
 a_multiple_that_is_not_the_least_is_no_horizon : IsHorizon periods_4_and_6 3 27 → ⊥
 a_multiple_that_is_not_the_least_is_no_horizon horizon =
     omega (arith, horizon.is, horizon.least 12 (record { some = omega arith; of_cycle = dvd_of_mod-eq-zero 3 {n = 12} refl; of_periods = twelve_is_a_multiple }))
+
+a_small_horizon_is_small : IsSmall Edf periods_4_and_6 3
+a_small_horizon_is_small = (15, the_horizon_is_the_least_common_multiple_and_a_cycle, omega arith)
+
+a_fixed_rank_needs_no_horizon : IsSmall Listed periods_4_and_6 3
+a_fixed_rank_needs_no_horizon = tt
 
 -- one slot in two is asked for: in periods of one slot only a full budget gives it
 every_slot_is_enough : (t : ℕ) → dbf (task_of 2 2 1 ∷ []) t ≤ sbf 1 1 t

@@ -1,9 +1,9 @@
 -- Worked examples of service, pending jobs and runs, by hand. A wrong definition breaks one of them.
-use Rattle.std.proofs.Common.{◌≡◌, ℕ, zero, suc, ◌+◌, ◌<◌, ◌≤◌, Bool, true, false, List, [], ◌∷◌, length, Option, Some, None, refl, sym, subst, arith, get_or}
+use Rattle.std.proofs.Common.{◌≡◌, ℕ, zero, suc, ◌<◌, Bool, true, false, List, [], ◌∷◌, Option, Some, None, refl, subst, arith, get_or}
 use Rattle.slot_model.specs.Slots.{sum_below}
 use Rattle.slot_model.specs.Task.{SporadicTask, job_at}
 use Rattle.slot_model.specs.Order.{edf_before}
-use Rattle.slot_model.specs.Run.{service, guest, server, Level, Pending, PermittedRun, MayHold, Entry, FirstRun, child_supply}
+use Rattle.slot_model.specs.Run.{service, guest, server, Pending, PermittedRun, MayHold, Entry, FirstRun, child_supply}
 use Rattle.slot_model.specs.declared.job.Job.{Job}
 use Rattle.slot_model.proofs.SlotExamples.{task_of, job_of}
 
@@ -79,7 +79,8 @@ second_first = Some 1 ∷ Some 0 ∷ []
 abbrev first_first : List (Option ℕ)
 first_first = Some 0 ∷ Some 1 ∷ []
 
-held_is : (P : ℕ → Type 0) (i j : ℕ) → Some i ≡ Some j → P i → P j
+-- what holds of the job that a place holds
+pub held_is : (P : ℕ → Type 0) (i j : ℕ) → Some i ≡ Some j → P i → P j
 held_is P i j e p = let same : i ≡ j = cc in subst P same p
 
 pending_first : (tasks : List SporadicTask) (run : List (Option ℕ)) (j : ℕ) → j < 2 → Pending guest tasks both_at_0 run j 0

@@ -1,7 +1,7 @@
 -- Worked examples of names, slots, supplies, tasks and releases, by hand. A wrong definition breaks one of them.
-use Rattle.std.proofs.Common.{◌≡◌, ℕ, zero, suc, ◌+◌, ◌*◌, ◌<◌, ◌≤◌, Bool, true, false, List, [], ◌∷◌, ◌++◌, length, map, refl, arith, codes, replicate}
+use Rattle.std.proofs.Common.{◌≡◌, ℕ, zero, suc, ◌+◌, ◌<◌, ◌≤◌, Bool, true, false, List, [], ◌∷◌, map, refl, arith, codes, replicate}
 use Rattle.slot_model.specs.Name.{is_name}
-use Rattle.slot_model.specs.Slots.{sum_below, count_below, slots_between}
+use Rattle.slot_model.specs.Slots.{sum_below, slots_between}
 use Rattle.slot_model.specs.Supply.{IsFull, GivesBudget, worst_slot, Follows}
 use Rattle.slot_model.specs.Task.{SporadicTask, IsConstrained, deadline_of, task_at, job_at}
 use Rattle.slot_model.specs.Release.{LegalRelease, work_within, releases_at, synchronous}
