@@ -57,8 +57,8 @@ served jobs arrivals n left ready p new h s up some kept =
       some_come = h.some_come;
       long = length-set left p (get_or left p 0 - 1) ∙ h.long;
       to_come = λ i m li.
-        let ne : (arrival_at arrivals i).place ≢ p = λ e. omega (arith, c.1, h.by_release.once i c.0 li (omega (arith, c.1, h.some_come)) (e ∙ sym c.2)) in
-        omega (arith, get_or-set_other left p (arrival_at arrivals i).place (get_or left p 0 - 1) 0 ne, h.to_come i m li);
+          let ne : (arrival_at arrivals i).place ≢ p = λ e. omega (arith, c.1, h.by_release.once i c.0 li (omega (arith, c.1, h.some_come)) (e ∙ sym c.2)) in
+          omega (arith, get_or-set_other left p (arrival_at arrivals i).place (get_or left p 0 - 1) 0 ne, h.to_come i m li);
       come = λ j t. h.come j (some j t).0;
       lacks = λ j t. (some j t).1;
       all = λ j d m. kept j (h.all j d (omega (arith, less_left left p j l))) m;
@@ -68,19 +68,25 @@ served jobs arrivals n left ready p new h s up some kept =
 -- a ready job that is served and lacks more
 one_stays : (jobs : List Job) (arrivals : List Arrival) (n : ℕ) (left ready : List ℕ) (p : ℕ) → IsState jobs arrivals n left ready → StandsIn ready p → get_or (set left p (get_or left p 0 - 1)) p 0 ≢ 0 → IsState jobs arrivals n (set left p (get_or left p 0 - 1)) ready
 one_stays jobs arrivals n left ready p h s more = served jobs arrivals n left ready p ready h s h.ascending
-    (λ j t. (t, elim (cases_eq j p) [
-      | inl e ↦ omega (arith, ap (λ (z : ℕ). get_or (set left p (get_or left p 0 - 1)) z 0) e)
-      | inr ne ↦ omega (arith, get_or-set_other left p j (get_or left p 0 - 1) 0 ne, h.lacks j t)
-    ]))
+    (λ j t. (
+      t,
+      elim (cases_eq j p) [
+        | inl e ↦ omega (arith, ap (λ (z : ℕ). get_or (set left p (get_or left p 0 - 1)) z 0) e)
+        | inr ne ↦ omega (arith, get_or-set_other left p j (get_or left p 0 - 1) 0 ne, h.lacks j t)
+      ],
+    ))
     (λ j t m. t)
 
 -- a ready job that is served and done
 one_done : (jobs : List Job) (arrivals : List Arrival) (n : ℕ) (left ready : List ℕ) (p : ℕ) (new : List ℕ) → IsState jobs arrivals n left ready → StandsIn ready p → get_or (set left p (get_or left p 0 - 1)) p 0 ≡ 0 → RemovesPlace ready p new → IsState jobs arrivals n (set left p (get_or left p 0 - 1)) new
 one_done jobs arrivals n left ready p new h s none removes = served jobs arrivals n left ready p new h s removes.ascending
-    (λ j t. (removes.no_more j t, elim (cases_eq j p) [
-      | inl e ↦ absurd (removes.gone (t.0, t.1, t.2 ∙ e))
-      | inr ne ↦ omega (arith, get_or-set_other left p j (get_or left p 0 - 1) 0 ne, h.lacks j (removes.no_more j t))
-    ]))
+    (λ j t. (
+      removes.no_more j t,
+      elim (cases_eq j p) [
+        | inl e ↦ absurd (removes.gone (t.0, t.1, t.2 ∙ e))
+        | inr ne ↦ omega (arith, get_or-set_other left p j (get_or left p 0 - 1) 0 ne, h.lacks j (removes.no_more j t))
+      ],
+    ))
     (λ j t m. removes.kept j t (λ e. omega (arith, m, ap (λ (z : ℕ). get_or (set left p (get_or left p 0 - 1)) z 0) e)))
 
 -- the same as the code reads its lists: p is the place at an index, v what its job lacks, and w what it lacks then

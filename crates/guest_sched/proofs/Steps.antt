@@ -29,18 +29,18 @@ pub ready_are : (tasks : List SporadicTask) (jobs : List Job) (arrivals : List A
     → AreReady tasks jobs run x ready
 ready_are tasks jobs arrivals n left ready run x h come later lacks = record {
   pending = λ j s.
-    let c : HasCome arrivals n j = h.come j s in
-    let l : c.0 < length arrivals = omega (arith, c.1, h.some_come) in
-    let k : j < length jobs = omega (arith, c.2, h.by_release.in_jobs c.0 l) in
-    record { is_job = k; released = omega (arith, come c.0 c.1, h.by_release.of_job c.0 l, ap (λ (z : ℕ). (job_at jobs z).release) c.2); unfinished = omega (arith, lacks j k, h.lacks j s); still_open = tt };
+      let c : HasCome arrivals n j = h.come j s in
+      let l : c.0 < length arrivals = omega (arith, c.1, h.some_come) in
+      let k : j < length jobs = omega (arith, c.2, h.by_release.in_jobs c.0 l) in
+      record { is_job = k; released = omega (arith, come c.0 c.1, h.by_release.of_job c.0 l, ap (λ (z : ℕ). (job_at jobs z).release) c.2); unfinished = omega (arith, lacks j k, h.lacks j s); still_open = tt };
   all = λ j p.
-    let e : (i : ℕ) × (i < length arrivals) × ((arrival_at arrivals i).place ≡ j) = h.by_release.every j p.is_job in
-    h.all j
-    (elim (cases_lt e.0 n) [
-      | inl l ↦ (e.0, l, e.2)
-      | inr m ↦ absurd (omega (arith, later e.0 m e.1, h.by_release.of_job e.0 e.1, ap (λ (z : ℕ). (job_at jobs z).release) e.2, p.released))
-    ])
-    (omega (arith, lacks j p.is_job, p.unfinished));
+      let e : (i : ℕ) × (i < length arrivals) × ((arrival_at arrivals i).place ≡ j) = h.by_release.every j p.is_job in
+      h.all j
+      (elim (cases_lt e.0 n) [
+        | inl l ↦ (e.0, l, e.2)
+        | inr m ↦ absurd (omega (arith, later e.0 m e.1, h.by_release.of_job e.0 e.1, ap (λ (z : ℕ). (job_at jobs z).release) e.2, p.released))
+      ])
+      (omega (arith, lacks j p.is_job, p.unfinished));
   ascending = h.ascending;
 }
 

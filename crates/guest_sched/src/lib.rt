@@ -9,3 +9,6 @@ mod ready;
 mod schedule;
 
 pub use schedule::{run_level, run_over};
+
+#[cfg(test)]
+mod tests;

@@ -1,8 +1,7 @@
-use std::alloc::{AllocError, Global};
-use slot_model::{Job, Order, Task};
-
 use crate::arrivals::{Arrival, arrivals};
 use crate::choice::first_unbeaten;
+use slot_model::{Job, Order, Task};
+use std::alloc::{AllocError, Global};
 
 /// The jobs of a guest between two slots.
 #[derive(Drop)]

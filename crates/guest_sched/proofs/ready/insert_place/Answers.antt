@@ -12,5 +12,5 @@ pub returns-in_ok-insert : goal.returns-in_ok-insert
 returns-in_ok-insert c =
     let xs = c.args.places.now.items in
     let found : (c.in-Err.at ≤ length xs) × ((k : ℕ) → k < c.in-Err.at → get_or xs k 0 < c.args.place) × ((k : ℕ) → c.in-Err.at ≤ k → k < length xs → c.args.place < get_or xs k 0)
-        = searched xs c.args.place (Err c.in-Err.at) (rw c.deref.ensures.value at c.in-Err.ensures.position) (never_falls xs c.requires) in
+    = searched xs c.args.place (Err c.in-Err.at) (rw c.deref.ensures.value at c.in-Err.ensures.position) (never_falls xs c.requires) in
     subst (AddsPlace xs c.args.place) (sym c.in_ok-insert.ensures.items) (insert_adds xs c.args.place c.in-Err.at c.requires found.0 found.1 found.2)
