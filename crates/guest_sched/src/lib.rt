@@ -5,6 +5,7 @@
 
 mod arrivals;
 mod choice;
+mod places;
 mod ready;
 mod schedule;
 

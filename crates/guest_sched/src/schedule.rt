@@ -28,7 +28,7 @@ pub fn run_over<O: Order>(
     let mut ready = Ready::new(alloc, jobs)?;
     let mut run = Vec::with_capacity(alloc, given.len())?;
     for (now, slot) in given.iter().enumerate() {
-        ready.admit(jobs, now as u64)?;
+        ready.admit(now as u64)?;
         run.push(ready.serve(order, tasks, jobs, *slot))?;
     }
     Ok(run)
