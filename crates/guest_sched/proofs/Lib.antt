@@ -1,5 +1,5 @@
 pub mod Beaten
 pub mod Sorted
-pub mod Places
+pub mod InOrder
 pub mod State
 pub mod Steps

@@ -5,7 +5,11 @@
 
 mod arrivals;
 mod choice;
+mod places;
 mod ready;
 mod schedule;
 
 pub use schedule::{run_level, run_over};
+
+#[cfg(test)]
+mod tests;

@@ -1,8 +1,8 @@
-use std::alloc::{AllocError, Global};
-use slot_model::{Job, Order, Task};
-
 use crate::arrivals::{Arrival, arrivals};
 use crate::choice::first_unbeaten;
+use crate::places::insert_place;
+use slot_model::{Job, Order, Task};
+use std::alloc::{AllocError, Global};
 
 /// The jobs of a guest between two slots.
 #[derive(Drop)]
@@ -20,14 +20,15 @@ pub struct Ready {
 impl Ready {
     ghost use Rattle.std.specs.Prelude.{◌≡◌, ℕ, ◌+◌, ◌<◌, ◌≤◌, ◌^◌, ◌↔◌, length, map, slice_index, All, IsTrue, IfOk, OnOk, Some};
     ghost use Rattle.slot_model.specs.Task.{sporadic_tasks};
-    ghost use Rattle.guest_sched.specs.Arrivals.{arrival_at};
+    ghost use Rattle.guest_sched.specs.Arrivals.{arrival_at, AreArrivals};
     ghost use Rattle.guest_sched.specs.Ready.{IsReady, HaveCome, AreToCome, IsServed, left_after};
 
     /// The jobs before the first slot.
     pub fn new(alloc: Global, jobs: &[Job]) -> Result<Ready, AllocError>
         requires few { length jobs.now < 2 ^ 32 }
         requires works { All (λ j. 1 ≤ j.work) jobs.now }
-        ensures state { IfOk result (λ r. IsReady jobs.now r) }
+        ensures state { IfOk result (λ r. IsReady r) }
+        ensures arrivals { IfOk result (λ r. AreArrivals jobs.now r.arrivals.items) }
         ensures none_come { IfOk result (λ r. r.arrived ≡ 0) }
         ensures left { IfOk result (λ r. r.left.items ≡ map (λ j. j.work) jobs.now) }
     {
@@ -40,16 +41,17 @@ impl Ready {
     }
 
     /// Lets the jobs come that are released by `now`.
-    pub fn admit(&mut self, jobs: &[Job], now: u64) -> Result<(), AllocError>
-        requires state { IsReady jobs.now self.old }
+    pub fn admit(&mut self, now: u64) -> Result<(), AllocError>
+        requires state { IsReady self.old }
         requires come { HaveCome self.old now }
-        ensures state { OnOk result (IsReady jobs.now self.new) }
+        ensures state { OnOk result (IsReady self.new) }
         ensures come { OnOk result (HaveCome self.new now) }
         ensures to_come { OnOk result (AreToCome self.new now) }
+        ensures arrivals { self.new.arrivals ≡ self.old.arrivals }
         ensures left { self.new.left ≡ self.old.left }
     {
         while self.is_next_due(now) {
-            self.admit_next(jobs)?;
+            self.admit_next()?;
         }
         Ok(())
     }
@@ -60,10 +62,10 @@ impl Ready {
         self.arrived < self.arrivals.len() && self.arrivals[self.arrived].release <= now
     }
 
-    fn admit_next(&mut self, jobs: &[Job]) -> Result<(), AllocError>
-        requires state { IsReady jobs.now self.old }
+    fn admit_next(&mut self) -> Result<(), AllocError>
+        requires state { IsReady self.old }
         requires some { self.old.arrived < length self.old.arrivals.items }
-        ensures state { OnOk result (IsReady jobs.now self.new) }
+        ensures state { OnOk result (IsReady self.new) }
         ensures one_more { OnOk result (self.new.arrived ≡ self.old.arrived + 1) }
         ensures arrivals { self.new.arrivals ≡ self.old.arrivals }
         ensures left { self.new.left ≡ self.old.left }
@@ -81,9 +83,10 @@ impl Ready {
         jobs: &[Job],
         slot: bool,
     ) -> Option<u32>
-        requires state { IsReady jobs.now self.old }
+        requires state { IsReady self.old }
+        requires all_jobs { length self.old.left.items ≡ length jobs.now }
         requires named { All (λ a. a.task < length tasks.now) jobs.now }
-        ensures state { IsReady jobs.now self.new }
+        ensures state { IsReady self.new }
         ensures served { IsServed (O.goes order.now (sporadic_tasks tasks.now)) jobs.now self.old.ready.items slot result }
         ensures left { self.new.left.items ≡ left_after self.old.left.items result }
         ensures arrivals { self.new.arrivals ≡ self.old.arrivals }
@@ -93,14 +96,14 @@ impl Ready {
             return None;
         }
         let at = first_unbeaten(order, tasks, jobs, &self.ready)?;
-        Some(self.give_slot(jobs, at))
+        Some(self.give_slot(at))
     }
 
     /// Gives a slot to the ready job at index `at`, which is ready no more if it is done.
-    fn give_slot(&mut self, jobs: &[Job], at: usize) -> u32
-        requires state { IsReady jobs.now self.old }
+    fn give_slot(&mut self, at: usize) -> u32
+        requires state { IsReady self.old }
         requires within { at < length self.old.ready.items }
-        ensures state { IsReady jobs.now self.new }
+        ensures state { IsReady self.new }
         ensures place { result ≡ slice_index self.old.ready.items at }
         ensures left { self.new.left.items ≡ left_after self.old.left.items (Some result) }
         ensures arrivals { self.new.arrivals ≡ self.old.arrivals }
@@ -113,18 +116,4 @@ impl Ready {
         }
         place
     }
-}
-
-ghost use Rattle.std.specs.Prelude.{OnOk as IfWell};
-ghost use Rattle.guest_sched.specs.Ready.{IsAscending, AddsPlace};
-
-/// Puts a place into a list of places in order.
-fn insert_place(places: &mut Vec<u32>, place: u32) -> Result<(), AllocError>
-    requires { IsAscending places.old.items }
-    ensures { IfWell result (AddsPlace places.old.items place places.new.items) }
-{
-    if let Err(at) = places.binary_search(&place) {
-        places.insert(at, place)?;
-    }
-    Ok(())
 }

@@ -4,11 +4,10 @@ ghost use Rattle.slot_model.specs.Release.{LegalRelease};
 ghost use Rattle.slot_model.specs.Supply.{Follows};
 ghost use Rattle.slot_model.specs.Run.{guest, FirstRun, PermittedRun};
 
+use crate::ready::Ready;
 use slot_model::{Job, Order, Task};
 use std::alloc::{AllocError, Global};
 use supply_bound::Supply;
-
-use crate::ready::Ready;
 
 /// The schedule of a guest over a list of slots, true where the guest has the slot: at each the
 /// place of the job that has it. Where several jobs may have it, that is the first in the list.
@@ -29,7 +28,7 @@ pub fn run_over<O: Order>(
     let mut ready = Ready::new(alloc, jobs)?;
     let mut run = Vec::with_capacity(alloc, given.len())?;
     for (now, slot) in given.iter().enumerate() {
-        ready.admit(jobs, now as u64)?;
+        ready.admit(now as u64)?;
         run.push(ready.serve(order, tasks, jobs, *slot))?;
     }
     Ok(run)

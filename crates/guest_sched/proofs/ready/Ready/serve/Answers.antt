@@ -1,4 +1,4 @@
-use Rattle.std.proofs.Common.{ℕ, List, Bool, Some, sym, subst}
+use Rattle.std.proofs.Common.{ℕ, List, Bool, Some, arith, sym, subst}
 use Rattle.slot_model.specs.Task.{sporadic_tasks}
 use Rattle.guest_sched.specs.Choice.{IsFirstUnbeaten}
 use Rattle.guest_sched.specs.Ready.{IsServed}
@@ -6,7 +6,7 @@ use Rattle.guest_sched.proofs.State.{all_in_jobs}
 use Rattle.guest_sched.proofs.ready.Ready.serve.Goals as goal
 
 pub first_unbeaten-requires-clause-in_jobs : goal.first_unbeaten-requires-clause-in_jobs
-first_unbeaten-requires-clause-in_jobs g c = all_in_jobs c.args.jobs.now _ _ _ c.args.self.now.ready.items c.deref.result.now c.requires.state c.deref.ensures.value
+first_unbeaten-requires-clause-in_jobs g c k d l = omega (arith, c.requires.all_jobs, all_in_jobs _ _ _ c.args.self.now.ready.items c.deref.result.now c.requires.state c.deref.ensures.value k d l)
 
 pub returns-clause-served : goal.returns-clause-served
 returns-clause-served g c =
