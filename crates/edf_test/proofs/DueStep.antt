@@ -1,12 +1,13 @@
 -- What is due at a moment, task by task.
-use Rattle.std.proofs.Common.{◌≡◌, ◌≢◌, ◌⊎◌, ℕ, zero, suc, ◌+◌, ◌-◌, ◌<◌, ◌≤◌, List, [], ◌∷◌, ◌++◌, length, arith, subst, inl, inr}
+use Rattle.std.proofs.Common.{◌≡◌, ◌⊎◌, ℕ, ◌+◌, ◌-◌, ◌<◌, ◌≤◌, List, [], ◌∷◌, ◌++◌, length, arith, subst, inl, inr}
 use Rattle.std.proofs.lemmas.Bool.{cases_lt}
 use Rattle.slot_model.specs.declared.task.Task.{Task}
 use Rattle.slot_model.specs.Task.{sporadic_task, sporadic_tasks}
 use Rattle.slot_model.specs.Bound.{demand_of, dbf}
 use Rattle.edf_test.specs.Deadline.{IsNextDeadline}
-use Rattle.edf_test.proofs.Points.{demand-rises, demand-still, demand-next, demand-here, demand-not_here, dbf-rises}
-use Rattle.edf_test.proofs.Tasks.{constrained, all_constrained, dbf-push}
+use Rattle.edf_test.proofs.Points.{demand-rises, demand-still, demand-next, dbf-rises}
+use Rattle.edf_test.proofs.Tasks.{constrained, dbf-push}
+use Rattle.edf_demand.proofs.Constrained.{are_constrained}
 
 -- dbf has risen by `work` at t, stays for `gap` slots, and rises there, if there is a task
 pub record IsDue (tasks : List Task) (t work gap : ℕ) : Type 0 where
@@ -27,7 +28,7 @@ one_more_due tasks task t work gap w next least due n here first under_gap under
 }
   where
     before : dbf (sporadic_tasks tasks) t ≤ dbf (sporadic_tasks tasks) (t + least)
-    before = dbf-rises (sporadic_tasks tasks) (all_constrained tasks) t (t + least) (omega arith)
+    before = dbf-rises (sporadic_tasks tasks) (are_constrained tasks) t (t + least) (omega arith)
 
     own : demand_of (sporadic_task task) t ≤ demand_of (sporadic_task task) (t + least)
     own = demand-rises (sporadic_task task) (constrained task) t (t + least) (omega arith)

@@ -1,33 +1,22 @@
 -- The level theorem of earliest deadline first, over every lawful supply.
-use Rattle.std.proofs.Common.{◌≡◌, ℕ, zero, suc, ◌+◌, ◌*◌, ◌-◌, ◌/◌, ◌<◌, ◌≤◌, Bool, false, List, length, map, get_or, Option, sym, ◌∙◌, arith, lt-ltb, le-ltb, ltb-true}
-use Rattle.std.proofs.Math.Nat.{div-mul_cancel}
+use Rattle.std.proofs.Common.{◌≡◌, ℕ, ◌+◌, ◌<◌, Bool, false, List, length, map, arith, lt-ltb, le-ltb, ltb-true}
 use Rattle.std.specs.List.{range_with_len}
 use Rattle.std.proofs.lemmas.List.FromFn.{get_or-map-range_with_len, length-map-range_with_len}
-use Rattle.slot_model.specs.Task.{SporadicTask, AreConstrained, task_at}
-use Rattle.slot_model.specs.Supply.{SupplyLaws, Follows}
+use Rattle.slot_model.specs.Task.{SporadicTask, AreConstrained}
+use Rattle.slot_model.specs.Supply.{SupplyLaws}
 use Rattle.slot_model.specs.Order.{edf_before}
-use Rattle.slot_model.specs.Run.{guest, PermittedRun}
+use Rattle.slot_model.specs.Run.{guest}
 use Rattle.slot_model.specs.Release.{synchronous}
-use Rattle.slot_model.specs.Bound.{dbf, DemandFits, IsHorizon}
+use Rattle.slot_model.specs.Bound.{dbf, DemandFits}
 use Rattle.slot_model.specs.Miss.{NoJobLost, MustMiss, WorstList, MissesFromStart}
 use Rattle.slot_model.proofs.FirstRuns.{IsStrictOrder, run_exists}
 use Rattle.slot_model.proofs.Synchronous.{legal_synchronous}
-use Rattle.edf_test.proofs.Horizon.{no_short}
 use Rattle.edf_test.proofs.EdfKeeps.{edf_no_loss}
 use Rattle.edf_test.proofs.EdfMisses.{edf_misses}
 
+-- earliest deadline first is a strict order of jobs
 pub edf_strict : (tasks : List SporadicTask) → IsStrictOrder (edf_before tasks)
 edf_strict tasks = record { not_itself = λ a. le-ltb _ _ (omega arith); in_turn = λ a b c h g. lt-ltb _ _ (omega (arith, ltb-true _ _ h, ltb-true _ _ g)) }
-
--- no short point up to the horizon means none at all
-pub fits_past_horizon : (bound : ℕ → ℕ) (amount cycle : ℕ) (pattern : ℕ → Bool) (start : ℕ) (Conforms : List Bool → Type 0) → SupplyLaws bound amount cycle pattern start Conforms
-    → (tasks : List SporadicTask) → AreConstrained tasks → (h : ℕ) → IsHorizon tasks cycle h → ((t : ℕ) → 1 ≤ t → t ≤ h → dbf tasks t ≤ bound t) → DemandFits tasks bound
-fits_past_horizon bound amount cycle pattern start Conforms laws tasks fits h horizon near =
-    let L : ℕ = horizon.multiple in
-    let whole : (L / cycle) * cycle ≡ L = div-mul_cancel cycle horizon.common.of_cycle in
-    λ t l. no_short tasks fits bound cycle amount (record { at_start = laws.none_at_zero; rises = laws.never_falls; slow = laws.rises_by_one; past = laws.each_cycle; at_cycles = laws.at_cycles })
-    (λ i. L / (task_at tasks i).period) (L / cycle) (omega (arith, horizon.common.some)) (λ i m. whole ∙ sym (div-mul_cancel (task_at tasks i).period (horizon.common.of_periods i m)))
-    (λ u a b. near u a (omega (arith, horizon.is))) t t (omega arith) l
 
 -- first half: where the demand fits, no job is lost
 pub edf_keeps : (bound : ℕ → ℕ) (amount cycle : ℕ) (pattern : ℕ → Bool) (start : ℕ) (Conforms : List Bool → Type 0) → SupplyLaws bound amount cycle pattern start Conforms
@@ -49,6 +38,7 @@ worst_list pattern start t =
     let long : length (map pattern (range_with_len 0 (start + t))) ≡ start + t = length-map-range_with_len pattern 0 (start + t) in
     record { follows = λ x l. get_or-map-range_with_len pattern 0 (start + t) x x false (omega arith) (omega arith); long = long }
 
+-- so some list that conforms and some legal release must miss
 pub edf_must_miss : (bound : ℕ → ℕ) (amount cycle : ℕ) (pattern : ℕ → Bool) (start : ℕ) (Conforms : List Bool → Type 0) → SupplyLaws bound amount cycle pattern start Conforms
     → (tasks : List SporadicTask) → AreConstrained tasks → (t : ℕ) → bound t < dbf tasks t → MustMiss Conforms (edf_before tasks) tasks
 edf_must_miss bound amount cycle pattern start Conforms laws tasks fits t short =

@@ -1,5 +1,3 @@
-pub mod Demand
-pub mod Horizon
 pub mod Tasks
 pub mod Points
 mod DueStep

@@ -5,17 +5,12 @@ use Rattle.std.proofs.lemmas.Bool.{cond-false, lt-leb}
 use Rattle.std.proofs.lemmas.List.{map-append}
 use Rattle.std.proofs.lemmas.List.Sums.{sum_by-append, sum_by-cons}
 use Rattle.slot_model.specs.declared.task.Task.{Task}
-use Rattle.slot_model.specs.Task.{AreConstrained, IsConstrained, task_at, sporadic_task, sporadic_tasks}
+use Rattle.slot_model.specs.Task.{IsConstrained, sporadic_task, sporadic_tasks}
 use Rattle.slot_model.specs.Bound.{demand_of, dbf}
 
--- the deadlines of the code's tasks are constrained
+-- a task of the code has a constrained deadline
 pub constrained : (task : Task) → IsConstrained (sporadic_task task)
 constrained task = record { works = task.works; in_deadline = task.in_deadline; in_period = task.in_period }
-
-pub all_constrained : (tasks : List Task) → AreConstrained (sporadic_tasks tasks)
-all_constrained [] i l = absurd (omega arith)
-all_constrained (x ∷ xs) zero l = constrained x
-all_constrained (x ∷ xs) (suc i) l = all_constrained xs i (omega arith)
 
 -- one task more adds its demand
 pub dbf-push : (tasks : List Task) (task : Task) (t : ℕ) → dbf (sporadic_tasks (tasks ++ task ∷ [])) t ≡ dbf (sporadic_tasks tasks) t + demand_of (sporadic_task task) t

@@ -1,7 +1,8 @@
 use Rattle.std.proofs.Common.{◌≡◌, ℕ, ◌+◌, ◌-◌, ◌<◌, ◌≤◌, List, Option, MatchOption, subst, sym, arith}
-use Rattle.slot_model.specs.Task.{SporadicTask, AreConstrained, sporadic_tasks}
+use Rattle.slot_model.specs.Task.{SporadicTask, sporadic_tasks}
 use Rattle.slot_model.specs.Bound.{dbf, IsFirstShortPoint}
-use Rattle.edf_test.proofs.Tasks.{all_constrained, some_deadline, nothing_asked}
+use Rattle.edf_test.proofs.Tasks.{some_deadline, nothing_asked}
+use Rattle.edf_demand.proofs.Constrained.{are_constrained}
 use Rattle.edf_test.proofs.Walk.{Walked, bound-le, walk_start, walk_past, walk_on, walk_short}
 use Rattle.edf_test.proofs.Level.{edf_misses_from_start, edf_must_miss}
 use Rattle.edf_test.proofs.short.first_short.Goals as goal
@@ -9,7 +10,7 @@ use Rattle.edf_test.proofs.short.first_short.Goals as goal
 pub loop-t-init : goal.loop-t-init
 loop-t-init g c =
     let d : ℕ = c.in_ok-t.field-0 in
-    walk_start (sporadic_tasks c.args.tasks.now) (all_constrained c.args.tasks.now) (g.S.Supply.bound c.args.s.now) d (some_deadline c.args.tasks.now c.in_ok-t.ensures.is_deadline.0 d c.in_ok-t.ensures.is_deadline.1 c.in_ok-t.ensures.is_deadline.2)
+    walk_start (sporadic_tasks c.args.tasks.now) (are_constrained c.args.tasks.now) (g.S.Supply.bound c.args.s.now) d (some_deadline c.args.tasks.now c.in_ok-t.ensures.is_deadline.0 d c.in_ok-t.ensures.is_deadline.1 c.in_ok-t.ensures.is_deadline.2)
     (nothing_asked c.args.tasks.now d (d - 1) c.in_ok-t.ensures.least (omega (arith, some_deadline c.args.tasks.now c.in_ok-t.ensures.is_deadline.0 d c.in_ok-t.ensures.is_deadline.1 c.in_ok-t.ensures.is_deadline.2)))
 
 -- a demand past 128 bits is more than the window has slots
@@ -22,18 +23,18 @@ returns-in_default-clause-exact g c =
 pub returns-in_default-clause-misses : goal.returns-in_default-clause-misses
 returns-in_default-clause-misses g c = λ slots worst.
     let laws = g.met.S.Supply.laws c.args.s.now in
-    (laws.worst_conforms slots worst.follows, edf_misses_from_start _ _ _ _ _ _ laws (sporadic_tasks c.args.tasks.now) (all_constrained c.args.tasks.now) c.loop-t.t (returns-in_default-clause-exact g c).0.short slots worst)
+    (laws.worst_conforms slots worst.follows, edf_misses_from_start _ _ _ _ _ _ laws (sporadic_tasks c.args.tasks.now) (are_constrained c.args.tasks.now) c.loop-t.t (returns-in_default-clause-exact g c).0.short slots worst)
 
 pub returns-in_default-clause-must_miss : goal.returns-in_default-clause-must_miss
-returns-in_default-clause-must_miss g c = edf_must_miss _ _ _ _ _ _ (g.met.S.Supply.laws c.args.s.now) (sporadic_tasks c.args.tasks.now) (all_constrained c.args.tasks.now) c.loop-t.t (returns-in_default-clause-exact g c).0.short
+returns-in_default-clause-must_miss g c = edf_must_miss _ _ _ _ _ _ (g.met.S.Supply.laws c.args.s.now) (sporadic_tasks c.args.tasks.now) (are_constrained c.args.tasks.now) c.loop-t.t (returns-in_default-clause-exact g c).0.short
 
 pub returns-then-sum-least-clause-misses : goal.returns-then-sum-least-clause-misses
 returns-then-sum-least-clause-misses g c = λ slots worst.
     let laws = g.met.S.Supply.laws c.args.s.now in
-    (laws.worst_conforms slots worst.follows, edf_misses_from_start _ _ _ _ _ _ laws (sporadic_tasks c.args.tasks.now) (all_constrained c.args.tasks.now) c.loop-t.t (omega (arith, c.due_at-due.ensures.work, c.loop-t.invariant.asked, c.in-Some.ensures, c.least.ensures, c.if-sum-least.true)) slots worst)
+    (laws.worst_conforms slots worst.follows, edf_misses_from_start _ _ _ _ _ _ laws (sporadic_tasks c.args.tasks.now) (are_constrained c.args.tasks.now) c.loop-t.t (omega (arith, c.due_at-due.ensures.work, c.loop-t.invariant.asked, c.in-Some.ensures, c.least.ensures, c.if-sum-least.true)) slots worst)
 
 pub returns-then-sum-least-clause-must_miss : goal.returns-then-sum-least-clause-must_miss
-returns-then-sum-least-clause-must_miss g c = edf_must_miss _ _ _ _ _ _ (g.met.S.Supply.laws c.args.s.now) (sporadic_tasks c.args.tasks.now) (all_constrained c.args.tasks.now) c.loop-t.t (omega (arith, c.due_at-due.ensures.work, c.loop-t.invariant.asked, c.in-Some.ensures, c.least.ensures, c.if-sum-least.true))
+returns-then-sum-least-clause-must_miss g c = edf_must_miss _ _ _ _ _ _ (g.met.S.Supply.laws c.args.s.now) (sporadic_tasks c.args.tasks.now) (are_constrained c.args.tasks.now) c.loop-t.t (omega (arith, c.due_at-due.ensures.work, c.loop-t.invariant.asked, c.in-Some.ensures, c.least.ensures, c.if-sum-least.true))
 
 -- where the next point is past 128 bits, it is past h
 pub returns-in_err-t-2-clause-exact : goal.returns-in_err-t-2-clause-exact

@@ -1,8 +1,9 @@
 use Rattle.std.proofs.Common.{◌≡◌, ℕ, Bool, true, false, not, Option, Some, None, MatchOption}
 use Rattle.std.specs.Option.{is_some}
 use Rattle.slot_model.specs.Task.{sporadic_tasks}
-use Rattle.edf_test.proofs.Tasks.{all_constrained}
-use Rattle.edf_test.proofs.Level.{fits_past_horizon, edf_keeps}
+use Rattle.edf_demand.proofs.Constrained.{are_constrained}
+use Rattle.edf_demand.proofs.Horizons.{horizon_is_enough, rises_of_laws}
+use Rattle.edf_test.proofs.Level.{edf_keeps}
 use Rattle.edf_test.proofs.short.passes.Goals as goal
 
 -- what an option's clause says where there is none
@@ -12,7 +13,7 @@ none_given P Q (Some x) true h e passed = absurd cc
 none_given P Q (Some x) false h e passed = absurd cc
 
 pub returns-clause-fits : goal.returns-clause-fits
-returns-clause-fits g c = λ passed horizon. fits_past_horizon _ _ _ _ _ _ (g.met.S.Supply.laws c.args.s.now) (sporadic_tasks c.args.tasks.now) (all_constrained c.args.tasks.now) c.args.h horizon (none_given _ _ c.first_short.result c.is_none.result c.first_short.ensures.exact c.is_none.ensures passed)
+returns-clause-fits g c = λ passed horizon. let laws = g.met.S.Supply.laws c.args.s.now in horizon_is_enough (sporadic_tasks c.args.tasks.now) (are_constrained c.args.tasks.now) _ _ _ c.args.h laws.some_cycle (rises_of_laws _ _ _ _ _ _ laws) horizon (none_given _ _ c.first_short.result c.is_none.result c.first_short.ensures.exact c.is_none.ensures passed)
 
 pub returns-clause-keeps : goal.returns-clause-keeps
-returns-clause-keeps g c = λ passed horizon. edf_keeps _ _ _ _ _ _ (g.met.S.Supply.laws c.args.s.now) (sporadic_tasks c.args.tasks.now) (all_constrained c.args.tasks.now) (returns-clause-fits g c passed horizon)
+returns-clause-keeps g c = λ passed horizon. edf_keeps _ _ _ _ _ _ (g.met.S.Supply.laws c.args.s.now) (sporadic_tasks c.args.tasks.now) (are_constrained c.args.tasks.now) (returns-clause-fits g c passed horizon)
