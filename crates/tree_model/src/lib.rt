@@ -3,6 +3,7 @@
 #![tactic(auto)]
 
 mod certificate;
+mod node_tasks;
 mod part;
 mod pinned_core;
 mod place;
@@ -12,6 +13,7 @@ mod system;
 mod tree_run;
 
 pub use certificate::{Certificate, Node};
+pub use node_tasks::tasks_of;
 pub use part::{Named, Part};
 pub use pinned_core::Core;
 pub use place::{Parent, Place};

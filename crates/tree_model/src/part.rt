@@ -2,8 +2,9 @@ ghost use Rattle.std.specs.Prelude.{◌≡◌, ◌<◌, ◌≤◌, length};
 ghost use Rattle.slot_model.specs.declared.task.TheConstants.{LIMIT};
 ghost use Rattle.slot_model.specs.Task.{IsConstrained, sporadic_task};
 ghost use Rattle.tree_model.specs.System.{is_leaf};
+ghost use Rattle.tree_model.specs.Tree.{place_of, same_place};
 
-use crate::Parent;
+use crate::{Parent, Place};
 use slot_model::{LIMIT, Name, Sched, Task};
 use std::marker::Model;
 
@@ -115,6 +116,17 @@ impl Part {
         ensures { result ≡ is_leaf self.now.tasks }
     {
         !self.tasks.is_empty()
+    }
+
+    /// Whether the part stands on this node.
+    pub fn is_child_of(&self, node: Place) -> bool
+        ensures { result ≡ same_place (place_of self.now.parent) node }
+    {
+        match (self.parent, node) {
+            (Parent::Core(on), Place::Core(core)) => on == core,
+            (Parent::Part(on), Place::Part(part)) => on == part,
+            _ => false,
+        }
     }
 
     /// The part's server as its parent sees it: a task of the server's period, with that deadline,
