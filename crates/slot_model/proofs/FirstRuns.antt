@@ -2,16 +2,12 @@
 use Rattle.std.proofs.Common.{◌≡◌, ◌⊎◌, ℕ, zero, suc, ◌<◌, ◌≤◌, Bool, true, false, cond, List, [], ◌∷◌, ◌++◌, length, get_or, Option, Some, None, refl, sym, ap, arith, subst, inl, inr}
 use Rattle.std.proofs.lemmas.Bool.{cases_eq, cases_Bool, both_ways, false≢true, true≢false}
 use Rattle.std.proofs.lemmas.List.{get_or_append_left, get_or_push, length_push}
+use Rattle.slot_model.specs.Order.{IsStrictOrder}
 use Rattle.slot_model.specs.Run.{holds, service, Level, Pending, PermittedRun, MayHold, Entry, FirstRunTo}
 use Rattle.slot_model.specs.Task.{job_at, SporadicTask}
 use Rattle.slot_model.specs.declared.job.Job.{Job}
 use Rattle.slot_model.proofs.Sums.{sum_below-same}
 use Rattle.slot_model.proofs.Runs.{search_below, is_pending}
-
--- a strict order on jobs
-pub record IsStrictOrder (before : Job → Job → Bool) : Type 0 where
-  pub not_itself : (a : Job) → before a a ≡ false
-  pub in_turn : (a b c : Job) → before a b ≡ true → before b c ≡ true → before a c ≡ true
 
 -- the first place below n that passes
 pub first_below : (P : ℕ → Type 0) → ((k : ℕ) → P k ⊎ (P k → ⊥)) → (n : ℕ) → ((k : ℕ) × (k < n) × P k × ((l : ℕ) → l < k → P l → ⊥)) ⊎ ((k : ℕ) → k < n → P k → ⊥)

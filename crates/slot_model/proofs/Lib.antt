@@ -11,3 +11,11 @@ pub mod ChildSupply
 pub mod PeriodicSupply
 pub mod WorstPattern
 pub mod FullSupply
+mod Apart
+pub mod MissedJobs
+mod FirstMiss
+pub mod LegalJobs
+mod SlotExamples
+mod BoundExamples
+mod RunExamples
+mod MissExamples

@@ -1,0 +1,4 @@
+mod Keeping
+mod Strict
+mod TreeRuns
+mod TreeExists

@@ -1,0 +1,5 @@
+pub mod Constrained
+pub mod DemandBound
+pub mod Multiples
+pub mod Periodic
+pub mod Horizons

@@ -1,0 +1,9 @@
+pub mod Demand
+pub mod Horizon
+pub mod Tasks
+pub mod Points
+mod DueStep
+mod Walk
+pub mod EdfKeeps
+pub mod EdfMisses
+pub mod Level

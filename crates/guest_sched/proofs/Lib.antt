@@ -1,0 +1,5 @@
+pub mod Beaten
+pub mod Sorted
+pub mod Places
+pub mod State
+pub mod Steps

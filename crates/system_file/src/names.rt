@@ -1,0 +1,58 @@
+ghost use Rattle.std.specs.Prelude.{◌≡◌, [], ◌∷◌, ◌++◌, false, OnOk, position, bytes_eq};
+ghost use Rattle.std.specs.List.{list_any};
+
+use indexmap::IndexSet;
+use std::alloc::{AllocError, Global};
+use std::marker::Model;
+
+/// Different names in the order in which they came, each found in one step.
+#[derive(Drop)]
+pub struct Names<'t> {
+    names: IndexSet<&'t str>,
+}
+
+impl<'t> Model for Names<'t> {
+    ghost use Rattle.std.specs.Prelude.{ℕ, List, map};
+
+    ghost Value = { List (List ℕ) };
+
+    ghost view = { λ n. map (λ name. name.now) n.names.keys };
+}
+
+impl<'t> Names<'t> {
+    pub fn new(alloc: Global) -> Names<'t>
+        ensures { result ≡ [] }
+    {
+        Names {
+            names: IndexSet::new(alloc),
+        }
+    }
+
+    /// The place of a name, counted from 0.
+    pub fn find(&self, name: &str) -> Option<usize>
+        ensures { result ≡ position (bytes_eq name.now) self.now }
+    {
+        self.names.get_index_of(name)
+    }
+
+    pub fn has(&self, name: &str) -> bool
+        ensures { result ≡ list_any (bytes_eq name.now) self.now }
+    {
+        self.names.contains(name)
+    }
+
+    /// Puts a new name at the end.
+    pub fn add(&mut self, name: &'t str) -> Result<(), AllocError>
+        requires { list_any (bytes_eq name.now) self.old ≡ false }
+        ensures { OnOk result (self.new ≡ self.old ++ name.now ∷ []) }
+    {
+        self.names.insert(name)?;
+        Ok(())
+    }
+
+    pub fn clear(&mut self)
+        ensures { self.new ≡ [] }
+    {
+        self.names.clear();
+    }
+}
