@@ -1,6 +1,6 @@
 //! Budgets up the tree of guests: the least ones that pass, or the first node that refuses.
 #![tactic(auto)]
 
-mod compose;
+mod budgets;
 
-pub use compose::compose;
+pub use budgets::compose;

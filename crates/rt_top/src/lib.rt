@@ -4,9 +4,9 @@
 mod admit;
 mod answer;
 mod replays;
-mod run;
+mod top;
 mod status;
 mod words;
 
-pub use run::run;
+pub use top::run;
 pub use status::Status;
