@@ -1,15 +1,14 @@
 -- The level theorem of earliest deadline first, over every lawful supply.
-use Rattle.std.proofs.Common.{◌≡◌, ℕ, ◌+◌, ◌<◌, Bool, false, List, length, map, arith, lt-ltb, le-ltb, ltb-true}
-use Rattle.std.specs.List.{range_with_len}
-use Rattle.std.proofs.lemmas.List.FromFn.{get_or-map-range_with_len, length-map-range_with_len}
+use Rattle.std.proofs.Common.{◌≡◌, ℕ, ◌+◌, ◌<◌, Bool, false, List, length, arith, lt-ltb, le-ltb, ltb-true}
 use Rattle.slot_model.specs.Task.{SporadicTask, AreConstrained}
 use Rattle.slot_model.specs.Supply.{SupplyLaws}
-use Rattle.slot_model.specs.Order.{edf_before}
+use Rattle.slot_model.specs.Order.{IsStrictOrder, edf_before}
 use Rattle.slot_model.specs.Run.{guest}
 use Rattle.slot_model.specs.Release.{synchronous}
 use Rattle.slot_model.specs.Bound.{dbf, DemandFits}
 use Rattle.slot_model.specs.Miss.{NoJobLost, MustMiss, WorstList, MissesFromStart}
-use Rattle.slot_model.proofs.FirstRuns.{IsStrictOrder, run_exists}
+use Rattle.slot_model.proofs.WorstLists.{worst_list, worst_list-is}
+use Rattle.slot_model.proofs.FirstRuns.{run_exists}
 use Rattle.slot_model.proofs.Synchronous.{legal_synchronous}
 use Rattle.edf_test.proofs.EdfKeeps.{edf_no_loss}
 use Rattle.edf_test.proofs.EdfMisses.{edf_misses}
@@ -32,17 +31,11 @@ edf_misses_from_start bound amount cycle pattern start Conforms laws tasks fits 
   misses = λ run permitted. edf_misses (edf_before tasks) tasks fits start t slots run worst.long permitted (omega (arith, short, laws.worst_is_exact slots t worst.follows (omega (arith, worst.long))));
 }
 
--- such a list
-worst_list : (pattern : ℕ → Bool) (start t : ℕ) → WorstList pattern start t (map pattern (range_with_len 0 (start + t)))
-worst_list pattern start t =
-    let long : length (map pattern (range_with_len 0 (start + t))) ≡ start + t = length-map-range_with_len pattern 0 (start + t) in
-    record { follows = λ x l. get_or-map-range_with_len pattern 0 (start + t) x x false (omega arith) (omega arith); long = long }
-
 -- so some list that conforms and some legal release must miss
 pub edf_must_miss : (bound : ℕ → ℕ) (amount cycle : ℕ) (pattern : ℕ → Bool) (start : ℕ) (Conforms : List Bool → Type 0) → SupplyLaws bound amount cycle pattern start Conforms
     → (tasks : List SporadicTask) → AreConstrained tasks → (t : ℕ) → bound t < dbf tasks t → MustMiss Conforms (edf_before tasks) tasks
 edf_must_miss bound amount cycle pattern start Conforms laws tasks fits t short =
-    let slots : List Bool = map pattern (range_with_len 0 (start + t)) in
-    let worst : WorstList pattern start t slots = worst_list pattern start t in
+    let slots : List Bool = worst_list pattern (start + t) in
+    let worst : WorstList pattern start t slots = worst_list-is pattern start t in
     let m : MissesFromStart pattern start t (edf_before tasks) tasks slots = edf_misses_from_start bound amount cycle pattern start Conforms laws tasks fits t short slots worst in
     record { slots = slots; jobs = synchronous tasks start t; conforms = laws.worst_conforms slots worst.follows; legal = legal_synchronous tasks fits start t; some_run = m.some_run; misses = m.misses }

@@ -1,30 +1,19 @@
 -- A task with no hit: over the worst pattern of a lawful supply its first job misses in every permitted run.
 use Rattle.std.proofs.Common.{◌≡◌, ℕ, ◌+◌, ◌%◌, ◌<◌, ◌≤◌, Bool, false, List, [], length, map, get_or, Option, sym, ◌∙◌, ap, arith, subst, add-zero}
-use Rattle.std.proofs.lemmas.List.FromFn.{length-map-range_with_len, get_or-map-range_with_len}
-use Rattle.std.specs.List.{range_with_len}
 use Rattle.slot_model.specs.declared.job.Job.{Job}
 use Rattle.slot_model.specs.Supply.{SupplyLaws, Follows}
 use Rattle.slot_model.specs.Task.{SporadicTask, AreConstrained, job_at, task_at, deadline_of}
 use Rattle.slot_model.specs.Run.{service, guest, PermittedRun}
 use Rattle.slot_model.specs.Release.{synchronous, release_of}
 use Rattle.slot_model.specs.Miss.{Missed, MustMiss, WorstList, MissesFromStart}
-use Rattle.slot_model.specs.Order.{IsRank, fixed_before}
+use Rattle.slot_model.specs.Order.{IsRank, IsStrictOrder, fixed_before}
 use Rattle.slot_model.specs.Bound.{IsShortTask}
 use Rattle.slot_model.proofs.Synchronous.{legal_synchronous}
 use Rattle.slot_model.proofs.ChildSupply.{In, has_release}
-use Rattle.slot_model.proofs.FirstRuns.{IsStrictOrder, run_exists}
+use Rattle.slot_model.proofs.WorstLists.{worst_list, worst_list-is}
+use Rattle.slot_model.proofs.FirstRuns.{run_exists}
 use Rattle.fp_request.specs.Ranks.{fixed_not_itself, fixed_in_turn}
 use Rattle.fp_test.proofs.Late.{late_from_start}
-
--- the first n slots of a pattern
-worst_list : (ℕ → Bool) → ℕ → List Bool
-worst_list pattern n = map pattern (range_with_len 0 n)
-
-worst_list-is : (pattern : ℕ → Bool) (start span : ℕ) → WorstList pattern start span (worst_list pattern (start + span))
-unfolding worst_list
-worst_list-is pattern start span =
-    let long : length (worst_list pattern (start + span)) ≡ start + span = length-map-range_with_len pattern 0 (start + span) in
-    record { follows = λ x l. get_or-map-range_with_len pattern 0 (start + span) x x false (omega (arith, long)) (omega arith); long = long }
 
 strict : (above : ℕ → ℕ → Bool) → IsRank above → IsStrictOrder (fixed_before above)
 strict above ranks = record { not_itself = fixed_not_itself above ranks; in_turn = fixed_in_turn above ranks }

@@ -19,3 +19,5 @@ mod SlotExamples
 mod BoundExamples
 mod RunExamples
 mod MissExamples
+pub mod Constrained
+pub mod WorstLists

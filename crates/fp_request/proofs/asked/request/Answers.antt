@@ -5,7 +5,7 @@ use Rattle.slot_model.specs.Task.{SporadicTask, sporadic_task, sporadic_tasks, t
 use Rattle.slot_model.specs.Order.{ranks_above}
 use Rattle.slot_model.specs.Bound.{request_of, rbf}
 use Rattle.slot_model.proofs.Sums.{sum_below-zero}
-use Rattle.fp_request.proofs.Constrained.{are_constrained}
+use Rattle.slot_model.proofs.Constrained.{are_constrained}
 use Rattle.fp_request.proofs.Parts.{task_at-is, part_of, request_to, request_to-above, request_to-not_above, request_to-more, sporadic_tasks-length}
 use Rattle.fp_request.proofs.ReleasedWork.{requests_bound}
 use Rattle.fp_request.proofs.asked.request.Goals as goal

@@ -1,7 +1,7 @@
 use Rattle.std.proofs.Common.{ℕ, ◌^◌, ◌<◌, Some, None, Bool, List, length, arith, ◌∙◌, sym}
 use Rattle.slot_model.specs.Task.{SporadicTask, AreConstrained, task_at, sporadic_tasks}
 use Rattle.slot_model.specs.Order.{ranks_above}
-use Rattle.fp_request.proofs.Constrained.{are_constrained}
+use Rattle.slot_model.proofs.Constrained.{are_constrained}
 use Rattle.fp_request.proofs.Parts.{sporadic_tasks-length}
 use Rattle.fp_test.proofs.Jumps.{bound-le, passed_first, passed_more, passed_hit, passed_late, passed_wide, before_reach}
 use Rattle.fp_test.proofs.Answer.{IsAnswer, none_answer, answer_in_time, answer_late, deadline-is, deadline_fits}

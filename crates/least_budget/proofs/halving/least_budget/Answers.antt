@@ -1,5 +1,5 @@
 use Rattle.slot_model.specs.Task.{sporadic_tasks}
-use Rattle.edf_demand.proofs.Constrained.{are_constrained}
+use Rattle.slot_model.proofs.Constrained.{are_constrained}
 use Rattle.least_budget.specs.declared.answers.Least.TheVariants.{Budget}
 use Rattle.least_budget.proofs.Between.{least_separates}
 use Rattle.least_budget.proofs.halving.least_budget.Goals as goal

@@ -4,7 +4,7 @@ use Rattle.slot_model.specs.declared.sched.Sched.TheVariants.{Edf}
 use Rattle.slot_model.specs.Task.{sporadic_tasks}
 use Rattle.slot_model.specs.Order.{before_of}
 use Rattle.least_budget.specs.Answers.{Foretells}
-use Rattle.edf_demand.proofs.Constrained.{are_constrained}
+use Rattle.slot_model.proofs.Constrained.{are_constrained}
 use Rattle.least_budget.proofs.Testing.{tested_foretells}
 use Rattle.least_budget.proofs.passing.test.Goals as goal
 
