@@ -7,7 +7,8 @@ use Rattle.slot_model.specs.Bound.{sbf, Passes, IsLeastBudget}
 use Rattle.least_budget.specs.declared.answers.Least.{Least}
 use Rattle.least_budget.specs.declared.answers.Least.TheVariants.{Budget, Over, Wide}
 use Rattle.least_budget.specs.Answers.{IsLeast, Separates}
-use Rattle.least_budget.proofs.Budgets.{larger_passes, not_passing_misses, passing_keeps, over_misses}
+use Rattle.slot_model.proofs.Budgets.{larger_passes}
+use Rattle.least_budget.proofs.Budgets.{not_passing_misses, passing_keeps, over_misses}
 
 -- `high` passes, and nothing below `low` does
 pub record IsBetween (sched : Sched) (tasks : List SporadicTask) (period low high : ℕ) : Type 0 where

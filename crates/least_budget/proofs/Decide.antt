@@ -78,18 +78,3 @@ passes_or_short Edf tasks fits laws = elim (demand_fits_or_short tasks fits laws
 passes_or_short Rm tasks fits {bound} laws = elim (all_hit_or_short (ranks_above Rm tasks) tasks bound) [ inl p ↦ inl p | inr r ↦ inr (Task r.0, r.1) ]
 passes_or_short Dm tasks fits {bound} laws = elim (all_hit_or_short (ranks_above Dm tasks) tasks bound) [ inl p ↦ inl p | inr r ↦ inr (Task r.0, r.1) ]
 passes_or_short Listed tasks fits {bound} laws = elim (all_hit_or_short (ranks_above Listed tasks) tasks bound) [ inl p ↦ inl p | inr r ↦ inr (Task r.0, r.1) ]
-
--- a task with no hit has no hit
-not_both : (above : ℕ → ℕ → Bool) (tasks : List SporadicTask) (bound : ℕ → ℕ) (i : ℕ) → IsFirstShortTask above tasks bound i → AllHit above tasks bound → ⊥
-not_both above tasks bound i h all = let r : (t : ℕ) × IsHit above tasks bound i t = all i h.is_task in omega (arith, r.1.enough, h.short r.0 r.1.some_slots r.1.in_deadline)
-
--- what is short does not pass
-pub short_not_passes : (sched : Sched) (tasks : List SporadicTask) (bound : ℕ → ℕ) (short : Short) → IsShortfall sched tasks bound short → Passes sched tasks bound → ⊥
-short_not_passes Edf tasks bound (At t) h passes = omega (arith, h.short, passes t h.some_slots)
-short_not_passes Edf tasks bound (Task i) h passes = h
-short_not_passes Rm tasks bound (At t) h passes = h
-short_not_passes Rm tasks bound (Task i) h passes = not_both (ranks_above Rm tasks) tasks bound i h passes
-short_not_passes Dm tasks bound (At t) h passes = h
-short_not_passes Dm tasks bound (Task i) h passes = not_both (ranks_above Dm tasks) tasks bound i h passes
-short_not_passes Listed tasks bound (At t) h passes = h
-short_not_passes Listed tasks bound (Task i) h passes = not_both (ranks_above Listed tasks) tasks bound i h passes

@@ -14,7 +14,7 @@ use Rattle.least_budget.specs.Answers.{IsTested, Foretells}
 use Rattle.edf_demand.specs.Cyclic.{RisesByCycle}
 use Rattle.edf_demand.proofs.Horizons.{rises_of_laws}
 use Rattle.fp_test.proofs.Answer.{IsAnswer}
-use Rattle.least_budget.proofs.Decide.{short_not_passes}
+use Rattle.slot_model.proofs.Budgets.{short_not_passes}
 use Rattle.least_budget.proofs.Level.{level_no_loss, short_misses}
 
 -- under a fixed rank

@@ -7,7 +7,8 @@ use Rattle.tree_model.specs.declared.place.Place.{Place}
 use Rattle.tree_model.specs.declared.plan.Refusal.{Refusal}
 use Rattle.tree_model.specs.declared.plan.Refusal.TheVariants.{Overfull, Wide, NoMemory}
 use Rattle.tree_model.specs.View.{SystemView}
-use Rattle.rt_report.specs.Words.{node_words, served_name, IsNode}
+use Rattle.tree_model.specs.Tree.{IsNode}
+use Rattle.rt_report.specs.Words.{node_words, served_name}
 
 -- the window in which too much can be asked for, or what is not served in time
 abbrev pub short_words : SystemView → Place → Short → List ℕ

@@ -35,8 +35,3 @@ name_in_part sys q (t ∷ tasks) i = task_name (part_at sys q) i
 abbrev pub served_name : SystemView → Place → ℕ → List ℕ
 served_name sys (Core c) i = child_name sys (Core c) i
 served_name sys (Part q) i = name_in_part sys q (part_at sys q).tasks i
-
--- the node is in the system
-abbrev pub IsNode : SystemView → Place → Type 0
-IsNode sys (Core c) = c < length sys.cores
-IsNode sys (Part q) = q < length sys.parts

@@ -1,7 +1,8 @@
 ghost use Rattle.std.specs.Prelude.{◌≡◌, ◌<◌, length};
 ghost use Rattle.tree_model.specs.declared.place.Place.TheVariants.{Core, Part};
 ghost use Rattle.tree_model.specs.System.{part_at};
-ghost use Rattle.rt_report.specs.Words.{child_name, served_name, task_name, IsNode};
+ghost use Rattle.rt_report.specs.Words.{child_name, served_name, task_name};
+ghost use Rattle.tree_model.specs.Tree.{IsNode};
 
 use tree_model::{Part, Place, System};
 
@@ -39,7 +40,7 @@ fn child(sys: &System, node: Place, i: u32) -> &str
 {
     let mut before = i;
     for part in sys.parts() {
-        if part.parent().place().is_same(node) {
+        if part.is_child_of(node) {
             if before == 0 {
                 return part.name().as_str();
             }

@@ -1,6 +1,7 @@
 ghost use Rattle.std.specs.Prelude.{◌≡◌, ◌≢◌, ◌++◌, IfOk, OnOk, string_bytes, codes};
 ghost use Rattle.tree_model.specs.System.{core_at, part_at};
-ghost use Rattle.rt_report.specs.Words.{node_words, IsNode};
+ghost use Rattle.tree_model.specs.Tree.{IsNode};
+ghost use Rattle.rt_report.specs.Words.{node_words};
 ghost use Rattle.rt_report.specs.Refusal.{short_words, refusal_text, IsRefusalOf};
 
 use crate::names;

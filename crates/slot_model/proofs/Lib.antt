@@ -21,3 +21,4 @@ mod RunExamples
 mod MissExamples
 pub mod Constrained
 pub mod WorstLists
+pub mod Budgets
