@@ -16,10 +16,11 @@ fn budgets_of_small_levels(rt: HostRuntime) -> Result<(), Fail> {
     let two = [task(50, 50, 7)?, task(75, 75, 9)?];
     assert_eq!(rt; least_budget(Sched::Edf, &two, 10), Least::Budget(3));
     assert_eq!(rt; least_budget(Sched::Rm, &two, 10), Least::Budget(4));
+    let none: [Task; 0] = [];
     let whole = [task(5, 5, 5)?];
     let long = [task(1_000_000_000, 1_000_000_000, 1_000_000_000)?];
     for sched in [Sched::Edf, Sched::Rm, Sched::Dm, Sched::Listed] {
-        assert_eq!(rt; least_budget(sched, &[], 10), Least::Budget(0));
+        assert_eq!(rt; least_budget(sched, &none, 10), Least::Budget(0));
         assert_eq!(rt; least_budget(sched, &whole, 5), Least::Budget(5));
         assert_eq!(rt;
             least_budget(sched, &long, 1_000_000_000),
