@@ -1,7 +1,7 @@
 -- The tasks of the code are constrained.
-use Rattle.std.proofs.Common.{ℕ, zero, suc, ◌<◌, List, [], ◌∷◌, length, arith}
+use Rattle.std.proofs.Common.{zero, suc, List, [], ◌∷◌, arith}
 use Rattle.slot_model.specs.declared.task.Task.{Task}
-use Rattle.slot_model.specs.Task.{sporadic_tasks, AreConstrained, IsConstrained, task_at}
+use Rattle.slot_model.specs.Task.{sporadic_tasks, AreConstrained}
 
 pub are_constrained : (tasks : List Task) → AreConstrained (sporadic_tasks tasks)
 are_constrained [] i l = absurd (omega arith)

@@ -1,5 +1,5 @@
 -- What an answer of the test says of runs.
-use Rattle.std.proofs.Common.{◌≡◌, ◌≢◌, ℕ, ◌+◌, ◌<◌, ◌≤◌, Bool, List, Option, Some, None, MatchOption, IfSome, ◌^◌, length, get_or, sym, subst, ap, arith}
+use Rattle.std.proofs.Common.{◌≡◌, ◌≢◌, ℕ, ◌+◌, ◌<◌, Bool, List, Option, Some, None, MatchOption, IfSome, ◌^◌, length, get_or, sym, subst, ap, arith}
 use Rattle.slot_model.specs.declared.job.Job.{Job}
 use Rattle.slot_model.specs.declared.task.Task.{Task}
 use Rattle.slot_model.specs.declared.sched.Sched.{Sched}
@@ -8,7 +8,7 @@ use Rattle.slot_model.specs.Supply.{SupplyLaws}
 use Rattle.slot_model.specs.Task.{SporadicTask, AreConstrained, task_at, sporadic_tasks}
 use Rattle.slot_model.specs.Miss.{TaskInTime}
 use Rattle.slot_model.specs.Order.{ranks_above, before_of}
-use Rattle.slot_model.specs.Bound.{IsHit, IsShortTask, rbf}
+use Rattle.slot_model.specs.Bound.{IsHit, IsShortTask}
 use Rattle.fp_request.specs.Ranks.{ranks_is_rank}
 use Rattle.fp_request.proofs.Parts.{task_at-is}
 use Rattle.fp_request.proofs.Before.{before_of-fixed}

@@ -1,4 +1,4 @@
-use Rattle.std.proofs.Common.{ℕ, ◌^◌, ◌<◌, Some, None, Bool, List, length, arith, ◌∙◌, sym}
+use Rattle.std.proofs.Common.{ℕ, ◌^◌, ◌<◌, Some, None, Bool, List, arith}
 use Rattle.slot_model.specs.Task.{SporadicTask, AreConstrained, task_at, sporadic_tasks}
 use Rattle.slot_model.specs.Order.{ranks_above}
 use Rattle.fp_request.proofs.Constrained.{are_constrained}
