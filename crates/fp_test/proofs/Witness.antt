@@ -20,12 +20,14 @@ use Rattle.fp_test.proofs.Late.{late_from_start}
 worst_list : (ℕ → Bool) → ℕ → List Bool
 worst_list pattern n = map pattern (range_with_len 0 n)
 
+-- it follows the pattern
 worst_list-is : (pattern : ℕ → Bool) (start span : ℕ) → WorstList pattern start span (worst_list pattern (start + span))
 unfolding worst_list
 worst_list-is pattern start span =
     let long : length (worst_list pattern (start + span)) ≡ start + span = length-map-range_with_len pattern 0 (start + span) in
     record { follows = λ x l. get_or-map-range_with_len pattern 0 (start + span) x x false (omega (arith, long)) (omega arith); long = long }
 
+-- the order of jobs by a rank is strict
 strict : (above : ℕ → ℕ → Bool) → IsRank above → IsStrictOrder (fixed_before above)
 strict above ranks = record { not_itself = fixed_not_itself above ranks; in_turn = fixed_in_turn above ranks }
 
