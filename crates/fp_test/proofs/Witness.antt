@@ -1,9 +1,9 @@
 -- A task with no hit: over the worst pattern of a lawful supply its first job misses in every permitted run.
 use Rattle.std.proofs.Common.{◌≡◌, ℕ, ◌+◌, ◌%◌, ◌<◌, ◌≤◌, Bool, false, List, [], length, map, get_or, Option, sym, ◌∙◌, ap, arith, subst, add-zero}
 use Rattle.slot_model.specs.declared.job.Job.{Job}
-use Rattle.slot_model.specs.Supply.{SupplyLaws, Follows}
+use Rattle.slot_model.specs.Supply.{SupplyLaws}
 use Rattle.slot_model.specs.Task.{SporadicTask, AreConstrained, job_at, task_at, deadline_of}
-use Rattle.slot_model.specs.Run.{service, guest, PermittedRun}
+use Rattle.slot_model.specs.Run.{service, guest}
 use Rattle.slot_model.specs.Release.{synchronous, release_of}
 use Rattle.slot_model.specs.Miss.{Missed, MustMiss, WorstList, MissesFromStart}
 use Rattle.slot_model.specs.Order.{IsRank, IsStrictOrder, fixed_before}
