@@ -5,6 +5,8 @@
 mod answers;
 mod halving;
 mod passing;
+#[cfg(test)]
+mod tests;
 
 pub use answers::{Least, Tested};
 pub use halving::least_budget;

@@ -1,0 +1,44 @@
+use Rattle.std.proofs.Common.{◌≡◌, ◌≢◌, ◌≤◌, ◌⊎◌, ℕ, List, length, map, string_bytes, Some, None, inl, inr, sym, ◌∙◌, ap, subst, arith}
+use Rattle.std.specs.Prelude.{codes, Err, vec_len}
+use Rattle.std.specs.Io.KnownBytes.{Appends}
+use Rattle.system_file.specs.SystemFile.{system_of}
+use Rattle.rt_top.specs.declared.status.Status.{Status}
+use Rattle.rt_top.specs.declared.status.Status.TheVariants.{Usage, Absent, TooLong, WriteFault}
+use Rattle.rt_top.specs.Words.{file_to_admit, usage_line}
+use Rattle.rt_top.specs.Answer.{file_limit, AdmitsSpelled, Answers, HasText}
+use Rattle.rt_top.proofs.Answering.{HasAnswer, usage_answer, absent_answer, long_answer, judged_answer, finished}
+use Rattle.rt_top.proofs.top.run.Goals as goal
+
+pub returns-in_default-clause-cut : goal.returns-in_default-clause-cut
+returns-in_default-clause-cut g c =
+    let line : c.as_bytes.result.now ≡ usage_line = c.as_bytes.ensures.value ∙ c.usage.ensures in
+    let none : file_to_admit (map string_bytes c.args.words.now) ≡ None = sym c.in_default.ensures in
+    λ cut. (Usage, c.as_bytes.result.now, tt, subst (λ (text : List ℕ). Answers (map string_bytes c.args.words.now) (g.S.Store.files c.args.store.now) Usage text) (sym line) (usage_answer (map string_bytes c.args.words.now) (g.S.Store.files c.args.store.now) none), c.finish.ensures.front cut)
+
+pub returns-in-Ok-admit-clause-answered : goal.returns-in-Ok-admit-clause-answered
+returns-in-Ok-admit-clause-answered g c =
+    let named : file_to_admit (map string_bytes c.args.words.now) ≡ Some c.in-Some.file.now = sym c.in-Some.ensures in
+    let short : length c.in-Ok.bytes.items ≤ file_limit = omega (arith, c.in-Ok.ensures.short) in
+    let read : AdmitsSpelled (system_of c.in-Ok.bytes.items) c.in-Ok-admit.answer.status c.in-Ok-admit.answer.text.items = subst (λ (bytes : List ℕ). AdmitsSpelled (system_of bytes) c.in-Ok-admit.answer.status c.in-Ok-admit.answer.text.items) c.deref.ensures.value c.in-Ok-admit.ensures.answer in
+    let answer : HasAnswer (map string_bytes c.args.words.now) (g.S.Store.files c.args.store.now) c.in-Ok-admit.answer.status c.in-Ok-admit.answer.text.items =
+    judged_answer (map string_bytes c.args.words.now) (g.S.Store.files c.args.store.now) c.in-Some.file.now c.in-Ok.bytes.items c.in-Ok-admit.answer.status c.in-Ok-admit.answer.text.items named short c.in-Ok.ensures.whole read in
+    λ has. finished (map string_bytes c.args.words.now) (g.S.Store.files c.args.store.now) c.in-Ok-admit.answer.status c.finish-in-Ok-admit.result c.in-Ok-admit.answer.text.items c.deref-in-Ok-admit.result.now (Appends (g.K.Sink.written c.args.out.now) (g.K.Sink.written c.finish-in-Ok-admit.new.out)) answer c.deref-in-Ok-admit.ensures.value c.finish-in-Ok-admit.ensures.which c.finish-in-Ok-admit.ensures.whole has
+
+pub returns-in-Ok-admit-clause-cut : goal.returns-in-Ok-admit-clause-cut
+returns-in-Ok-admit-clause-cut g c =
+    let named : file_to_admit (map string_bytes c.args.words.now) ≡ Some c.in-Some.file.now = sym c.in-Some.ensures in
+    let short : length c.in-Ok.bytes.items ≤ file_limit = omega (arith, c.in-Ok.ensures.short) in
+    let read : AdmitsSpelled (system_of c.in-Ok.bytes.items) c.in-Ok-admit.answer.status c.in-Ok-admit.answer.text.items = subst (λ (bytes : List ℕ). AdmitsSpelled (system_of bytes) c.in-Ok-admit.answer.status c.in-Ok-admit.answer.text.items) c.deref.ensures.value c.in-Ok-admit.ensures.answer in
+    let answer : HasAnswer (map string_bytes c.args.words.now) (g.S.Store.files c.args.store.now) c.in-Ok-admit.answer.status c.in-Ok-admit.answer.text.items =
+    judged_answer (map string_bytes c.args.words.now) (g.S.Store.files c.args.store.now) c.in-Some.file.now c.in-Ok.bytes.items c.in-Ok-admit.answer.status c.in-Ok-admit.answer.text.items named short c.in-Ok.ensures.whole read in
+    λ cut. (c.in-Ok-admit.answer.status, c.in-Ok-admit.answer.text.items, answer.has_text, answer.answers, rw c.deref-in-Ok-admit.ensures.value at (c.finish-in-Ok-admit.ensures.front cut))
+
+pub returns-in-Err-Absent-clause-cut : goal.returns-in-Err-Absent-clause-cut
+returns-in-Err-Absent-clause-cut g c =
+    let named : file_to_admit (map string_bytes c.args.words.now) ≡ Some c.in-Some.file.now = sym c.in-Some.ensures in
+    λ cut. (Absent, codes "absent file=1\n", tt, absent_answer (map string_bytes c.args.words.now) (g.S.Store.files c.args.store.now) c.in-Some.file.now named (c.in-Err-Absent.ensures.not_there (ap Err c.in-Err-Absent.field-0-is)), c.finish-in-Err-Absent.ensures.front cut)
+
+pub returns-in-Err-TooLong-clause-cut : goal.returns-in-Err-TooLong-clause-cut
+returns-in-Err-TooLong-clause-cut g c =
+    let named : file_to_admit (map string_bytes c.args.words.now) ≡ Some c.in-Some.file.now = sym c.in-Some.ensures in
+    λ cut. (TooLong, codes "toolong file=1\n", tt, long_answer (map string_bytes c.args.words.now) (g.S.Store.files c.args.store.now) c.in-Some.file.now named (c.in-Err-TooLong.ensures.longer (ap Err c.in-Err-TooLong.field-0-is)), c.finish-in-Err-TooLong.ensures.front cut)
