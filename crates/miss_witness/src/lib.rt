@@ -8,3 +8,6 @@ mod smaller;
 pub use defeat::Defeat;
 pub use jobs::witness_jobs;
 pub use smaller::witness;
+
+#[cfg(test)]
+mod tests;
