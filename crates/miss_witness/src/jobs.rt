@@ -1,6 +1,6 @@
 ghost use Rattle.std.specs.Prelude.{◌≡◌, ◌+◌, ◌-◌, ◌/◌, ◌<◌, ◌≤◌, ◌++◌, length, sum_by, IfOk};
 ghost use Rattle.slot_model.specs.Task.{sporadic_tasks};
-ghost use Rattle.slot_model.specs.Release.{synchronous};
+ghost use Rattle.slot_model.specs.Release.{LegalRelease, synchronous};
 ghost use Rattle.miss_witness.specs.Jobs.{task_releases};
 
 use crate::Defeat;
@@ -16,7 +16,9 @@ pub fn witness_jobs(
 ) -> Result<Vec<Job>, AllocError>
     requires in_reach { w.now.start + w.now.span ≤ 1000000 }
     requires few { length tasks.now ≤ 256 }
-    ensures { IfOk result (λ jobs. jobs.items ≡ synchronous (sporadic_tasks tasks.now) w.now.start w.now.span) }
+    ensures exact { IfOk result (λ jobs. jobs.items ≡ synchronous (sporadic_tasks tasks.now) w.now.start w.now.span) }
+    ensures legal { IfOk result (λ jobs. LegalRelease (sporadic_tasks tasks.now) jobs.items) }
+    ensures few { IfOk result (λ jobs. length jobs.items ≤ 256000000) }
 {
     let span = w.span as u64;
     let mut jobs = Vec::with_capacity(alloc, job_count(tasks, span))?;
