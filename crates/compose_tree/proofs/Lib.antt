@@ -4,3 +4,7 @@ mod TreeRuns
 mod TreeExists
 pub mod Sound
 mod CoreMisses
+mod Heavier
+mod CoreFails
+pub mod Refusals
+mod Settling
