@@ -10,11 +10,14 @@ use Rattle.tree_model.specs.declared.place.Place.TheVariants.{Core, Part}
 use Rattle.tree_model.specs.declared.plan.Refusal.{Refusal}
 use Rattle.tree_model.specs.declared.plan.Refusal.TheVariants.{Overfull, Wide, NoMemory}
 use Rattle.tree_model.specs.View.{SystemView}
-use Rattle.tree_model.specs.System.{IsSystem, core_at, part_at}
+use Rattle.tree_model.specs.System.{IsSystem, no_core, core_at, part_at}
 use Rattle.tree_model.specs.Tree.{core_bound, core_cycle, budget_at, node_tasks, ChildBudgetsFit}
 use Rattle.tree_model.specs.Admission.{SettledFrom, BudgetStands, PartPasses, CorePasses, Admitted, largest_budget, FirstRefusal}
 use Rattle.tree_model.proofs.Parents.{child_stands, part_tasks_same}
 use Rattle.tree_model.proofs.InRange.{settled_in_period}
+use Rattle.tree_model.proofs.Unique.{never_both}
+use Rattle.tree_model.specs.declared.pinned_core.Core.{Core as CoreView}
+use Rattle.std.proofs.lemmas.List.{get_or_default}
 use Rattle.compose_tree.specs.Steps.{NodeTestPasses, NodeRefuses, IsGivenOrLeast, IsPartBudget}
 
 -- the children of a part have their budgets after it is left, those of a core after all parts
@@ -123,3 +126,11 @@ settled_admits sys budgets settled pass = record {
   parts = λ q h. settled.passes q (omega arith) h;
   cores = pass;
 }
+
+-- the core that a walk of the cores has come to
+pub core_here : (sys : SystemView) (cores : List CoreView) (c : ℕ) (core : CoreView) → cores ≡ sys.cores → c < length cores → core ≡ get_or cores c core → core ≡ core_at sys c
+core_here sys cores c core same h is = is ∙ (get_or_default cores c core no_core h ∙ ap (λ (cs : List CoreView). get_or cs c no_core) same)
+
+-- where budgets admit the system, no other budgets and no refusal are the answer
+pub not_refused : (sys : SystemView) → IsSystem sys → (r : Refusal) → FirstRefusal sys r → (budgets : List ℕ) → Admitted sys budgets → r ≡ NoMemory
+not_refused sys is r refused budgets admitted = absurd (never_both sys is budgets r admitted refused)
