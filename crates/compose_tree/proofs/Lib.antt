@@ -2,3 +2,9 @@ mod Keeping
 mod Strict
 mod TreeRuns
 mod TreeExists
+pub mod Sound
+mod CoreMisses
+mod Heavier
+mod CoreFails
+pub mod Refusals
+mod Settling

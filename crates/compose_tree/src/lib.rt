@@ -2,5 +2,6 @@
 #![tactic(auto)]
 
 mod budgets;
+mod nodes;
 
 pub use budgets::compose;
