@@ -1,5 +1,5 @@
 -- Where the servers of a full core fall short, every permitted run of the tree that is long enough has an early miss there.
-use Rattle.std.proofs.Common.{◌≡◌, ℕ, zero, suc, ◌+◌, ◌-◌, ◌%◌, ◌<◌, ◌≤◌, Bool, true, false, List, [], ◌∷◌, length, get_or, Option, Some, None, refl, sym, ◌∙◌, ap, arith, subst, zero-add, lt-ltb, le-leb, inl, inr}
+use Rattle.std.proofs.Common.{◌≡◌, ℕ, ◌-◌, ◌%◌, ◌<◌, ◌≤◌, Bool, true, false, List, [], length, get_or, Option, Some, None, sym, ◌∙◌, ap, arith, subst, zero-add, lt-ltb, le-leb, inl, inr}
 use Rattle.std.proofs.lemmas.Bool.{cases_lt, or_left, or_right, and_from}
 use Rattle.slot_model.specs.declared.job.Job.{Job}
 use Rattle.slot_model.specs.declared.sched.Sched.{Sched}
@@ -7,12 +7,11 @@ use Rattle.slot_model.specs.declared.sched.Sched.TheVariants.{Edf, Rm, Dm, Liste
 use Rattle.slot_model.specs.declared.sched.Short.{Short}
 use Rattle.slot_model.specs.declared.sched.Short.TheVariants.{At, Task}
 use Rattle.slot_model.specs.Slots.{slots_between}
-use Rattle.slot_model.specs.Supply.{IsFull, GivesBudget, worst_slot}
+use Rattle.slot_model.specs.Supply.{IsFull, worst_slot}
 use Rattle.slot_model.specs.Task.{SporadicTask, AreConstrained, task_at}
 use Rattle.slot_model.specs.Order.{before_of, fixed_before, ranks_above}
 use Rattle.slot_model.specs.Release.{LegalRelease, synchronous}
 use Rattle.slot_model.specs.Run.{server, PermittedRun}
-use Rattle.slot_model.specs.Bound.{rbf}
 use Rattle.slot_model.proofs.FullSupply.{full_laws}
 use Rattle.slot_model.proofs.WorstPattern.{worst_conforms}
 use Rattle.fp_request.specs.Ranks.{ranks_is_rank}
@@ -20,7 +19,7 @@ use Rattle.least_budget.proofs.Budgets.{gives_less}
 use Rattle.tree_model.specs.declared.place.Place.TheVariants.{Core}
 use Rattle.tree_model.specs.View.{SystemView}
 use Rattle.tree_model.specs.System.{IsSystem, IsCoreSupply, core_at, part_at, own_tasks}
-use Rattle.tree_model.specs.Tree.{CoreConforms, server_tasks, server_jobs, run_at, PermittedTree, TreeInputs}
+use Rattle.tree_model.specs.Tree.{CoreConforms, server_tasks, run_at, TreeInputs}
 use Rattle.compose_tree.specs.Truth.{MissesBy, CoreMustMiss, shows_by}
 use Rattle.compose_tree.proofs.CoreMisses.{core_edf, core_fixed}
 use Rattle.compose_tree.proofs.Heavier.{FallsShort, IsShortPlace}
@@ -101,5 +100,5 @@ core_fails sys is budgets c h full fits short falls n l = record {
   some_inputs = some_inputs sys is n;
   some_run = λ supplies jobs inputs. tree_exists sys budgets n supplies jobs is;
   misses = λ supplies jobs core_runs part_runs inputs tree.
-    servers_fail (core_at sys c).sched (server_tasks sys budgets (Core c)) fits short n falls l (get_or supplies c []) (run_at core_runs c) (inputs.long c h) (full_conforms (core_at sys c).supply (get_or supplies c []) full (inputs.conforms c h)) (tree.cores c h);
+      servers_fail (core_at sys c).sched (server_tasks sys budgets (Core c)) fits short n falls l (get_or supplies c []) (run_at core_runs c) (inputs.long c h) (full_conforms (core_at sys c).supply (get_or supplies c []) full (inputs.conforms c h)) (tree.cores c h);
 }

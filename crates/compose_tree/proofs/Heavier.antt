@@ -1,6 +1,6 @@
 -- Tasks of the same periods and deadlines with no less work: what falls short for the lighter ones does so for them.
-use Rattle.std.proofs.Common.{◌≡◌, ℕ, zero, suc, ◌+◌, ◌*◌, ◌-◌, ◌/◌, ◌<◌, ◌≤◌, Bool, true, false, cond, leb, ltb, eqb, ◌&&◌, ◌||◌, List, [], ◌∷◌, ◌++◌, length, refl, sym, ◌∙◌, ap, arith, subst, inl, inr, mul-le-mul_left}
-use Rattle.std.proofs.lemmas.Bool.{cases_lt, cases_Bool, cond-true, cond-false}
+use Rattle.std.proofs.Common.{◌≡◌, ℕ, ◌+◌, ◌-◌, ◌/◌, ◌<◌, ◌≤◌, Bool, true, false, cond, leb, ltb, eqb, ◌&&◌, ◌||◌, List, [], ◌∷◌, ◌++◌, length, refl, sym, ◌∙◌, ap, arith, subst, inl, inr, mul-le-mul_left}
+use Rattle.std.proofs.lemmas.Bool.{cases_lt}
 use Rattle.std.proofs.lemmas.List.{get_or_append_left, get_or_push, length_push}
 use Rattle.slot_model.specs.declared.sched.Sched.{Sched}
 use Rattle.slot_model.specs.declared.sched.Sched.TheVariants.{Edf, Rm, Dm, Listed}
@@ -83,8 +83,8 @@ same_ranks Listed light heavy h i j l m = refl
 pub rbf_more : (sched : Sched) (light heavy : List SporadicTask) → Heavier light heavy → (i t : ℕ) → i < length light → rbf (ranks_above sched light) light i t ≤ rbf (ranks_above sched heavy) heavy i t
 rbf_more sched light heavy h i t l =
     let term : (k : ℕ) → k < length light → cond (ranks_above sched light k i) (request_of (task_at light k) t) 0 ≤ cond (ranks_above sched heavy k i) (request_of (task_at heavy k) t) 0 =
-      λ k m. subst (λ (b : Bool). cond (ranks_above sched light k i) (request_of (task_at light k) t) 0 ≤ cond b (request_of (task_at heavy k) t) 0) (same_ranks sched light heavy h k i m l)
-      (cond_more (ranks_above sched light k i) _ _ (subst (λ (b : SporadicTask). request_of (task_at light k) t ≤ request_of b t) (sym (h.each k m).1) (request_more (task_at light k) (h.each k m).0 t (h.each k m).2))) in
+    λ k m. subst (λ (b : Bool). cond (ranks_above sched light k i) (request_of (task_at light k) t) 0 ≤ cond b (request_of (task_at heavy k) t) 0) (same_ranks sched light heavy h k i m l)
+    (cond_more (ranks_above sched light k i) _ _ (subst (λ (b : SporadicTask). request_of (task_at light k) t ≤ request_of b t) (sym (h.each k m).1) (request_more (task_at light k) (h.each k m).0 t (h.each k m).2))) in
     omega (arith, ap (λ (b : SporadicTask). b.work) (h.each i l).1, (h.each i l).2, sum_below-le (λ k. cond (ranks_above sched light k i) (request_of (task_at light k) t) 0) (λ k. cond (ranks_above sched heavy k i) (request_of (task_at heavy k) t) 0) (length light) term, ap (sum_below (λ k. cond (ranks_above sched heavy k i) (request_of (task_at heavy k) t) 0)) h.same_length)
 
 -- what falls short, first or not

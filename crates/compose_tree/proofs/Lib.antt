@@ -1,4 +1,4 @@
-mod Keeping
+pub mod Keeping
 mod Strict
 mod TreeRuns
 mod TreeExists

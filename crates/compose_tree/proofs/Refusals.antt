@@ -1,13 +1,9 @@
 -- What a first refusal says holds: the refused guest or core must miss, and on a flat system so does every choice of budgets.
-use Rattle.std.proofs.Common.{◌≡◌, ◌⊎◌, ℕ, zero, suc, ◌<◌, ◌≤◌, Bool, true, false, List, length, Option, Some, None, refl, sym, ◌∙◌, ap, arith, subst, inl, inr}
+use Rattle.std.proofs.Common.{◌≡◌, ◌⊎◌, ℕ, zero, suc, ◌<◌, ◌≤◌, true, List, length, Option, Some, None, refl, sym, arith, subst, inl, inr}
 use Rattle.std.proofs.lemmas.Bool.{cases_lt, cases_eq}
-use Rattle.slot_model.specs.declared.sched.Sched.{Sched}
 use Rattle.slot_model.specs.declared.sched.Short.{Short}
-use Rattle.slot_model.specs.Supply.{GivesBudget}
-use Rattle.slot_model.specs.Task.{SporadicTask, AreConstrained}
-use Rattle.slot_model.specs.Order.{before_of}
-use Rattle.slot_model.specs.Bound.{sbf, Passes, IsShortfall, IsLeastBudget}
-use Rattle.slot_model.specs.Miss.{MustMiss}
+use Rattle.slot_model.specs.Task.{SporadicTask}
+use Rattle.slot_model.specs.Bound.{sbf, Passes, IsShortfall}
 use Rattle.slot_model.proofs.WorstPattern.{periodic_laws}
 use Rattle.least_budget.proofs.Level.{short_misses}
 use Rattle.least_budget.proofs.Decide.{passes_or_short}
@@ -19,7 +15,7 @@ use Rattle.tree_model.specs.declared.plan.Refusal.TheVariants.{Overfull, Wide, N
 use Rattle.tree_model.specs.View.{SystemView}
 use Rattle.tree_model.specs.System.{IsSystem, IsGivenBudget, core_at, part_at, own_tasks, is_leaf}
 use Rattle.tree_model.specs.Tree.{is_child, budget_at, core_bound, child_tasks, server_tasks, node_tasks}
-use Rattle.tree_model.specs.Admission.{SettledFrom, BudgetStands, largest_budget, NodeFallsShort, FirstRefusal}
+use Rattle.tree_model.specs.Admission.{BudgetStands, largest_budget, FirstRefusal}
 use Rattle.tree_model.proofs.NodeTasks.{leaf_tasks}
 use Rattle.tree_model.proofs.Parents.{servers_constrained, leaf_constrained}
 use Rattle.tree_model.proofs.InRange.{InPeriod, settled_in_period}
@@ -92,12 +88,12 @@ heavier_children sys less more each node (suc n) l =
 core_choice_fails : (sys : SystemView) → IsSystem sys → (c : ℕ) (short : Short) → FirstRefusal sys (Overfull (Core c) short) → IsFlat sys → (budgets : List ℕ) → AreChosen sys budgets → ((q : ℕ) → q < length sys.parts → LeafPasses sys budgets q) → ChoiceFails sys budgets
 core_choice_fails sys is c short refused flat budgets chosen pass =
     let no_less : (q : ℕ) → q < length sys.parts → budget_at refused.budgets q ≤ budget_at budgets q =
-      λ q h. no_smaller sys refused.budgets budgets q (part_at sys q).budget (refused.settled.stands q (omega arith) h) (chosen.each q h)
-      (subst (λ (tasks : List SporadicTask). Passes (part_at sys q).sched tasks (sbf (part_at sys q).period (budget_at budgets q))) (sym (leaf_tasks sys refused.budgets q (flat.parts q h))) (pass q h)) in
+    λ q h. no_smaller sys refused.budgets budgets q (part_at sys q).budget (refused.settled.stands q (omega arith) h) (chosen.each q h)
+    (subst (λ (tasks : List SporadicTask). Passes (part_at sys q).sched tasks (sbf (part_at sys q).period (budget_at budgets q))) (sym (leaf_tasks sys refused.budgets q (flat.parts q h))) (pass q h)) in
     let full : (core_at sys c).supply ≡ None = flat.cores c refused.is_core in
     let falls : FallsShort (core_at sys c).sched (server_tasks sys budgets (Core c)) (λ t. t) short =
-      heavier_falls (core_at sys c).sched (server_tasks sys refused.budgets (Core c)) (server_tasks sys budgets (Core c)) (heavier_children sys refused.budgets budgets no_less (Core c) (length sys.parts) (omega arith)) (λ t. t) short
-      (core_falls sys c short (core_at sys c).supply full (server_tasks sys refused.budgets (Core c)) refused.cause.shortfall) in
+    heavier_falls (core_at sys c).sched (server_tasks sys refused.budgets (Core c)) (server_tasks sys budgets (Core c)) (heavier_children sys refused.budgets budgets no_less (Core c) (length sys.parts) (omega arith)) (λ t. t) short
+    (core_falls sys c short (core_at sys c).supply full (server_tasks sys refused.budgets (Core c)) refused.cause.shortfall) in
     at_core c (shows_by (server_tasks sys budgets (Core c)) short) (shows_by (server_tasks sys budgets (Core c)) short) refused.is_core
     (core_fails sys is budgets c refused.is_core full (servers_constrained sys budgets (Core c) (λ q h child. chosen_in_period sys is budgets chosen q h)) short falls (shows_by (server_tasks sys budgets (Core c)) short) (omega arith))
 
@@ -117,8 +113,8 @@ refusal_holds sys is (Overfull (Core c) short) refused = record {
     budgets = refused.budgets;
     settled = refused.settled;
     misses = λ n l.
-      core_fails sys is refused.budgets c refused.is_core full (servers_constrained sys refused.budgets (Core c) (λ q h child. settled_in_period sys is refused.budgets 0 refused.settled q (omega arith) h)) short
-      (core_falls sys c short (core_at sys c).supply full (server_tasks sys refused.budgets (Core c)) refused.cause.shortfall) n l;
+        core_fails sys is refused.budgets c refused.is_core full (servers_constrained sys refused.budgets (Core c) (λ q h child. settled_in_period sys is refused.budgets 0 refused.settled q (omega arith) h)) short
+        (core_falls sys c short (core_at sys c).supply full (server_tasks sys refused.budgets (Core c)) refused.cause.shortfall) n l;
   };
   choices = λ flat budgets chosen. elim (leaves_pass_or_fail sys is budgets chosen (length sys.parts) (omega arith)) [
     | inl pass ↦ core_choice_fails sys is c short refused flat budgets chosen pass

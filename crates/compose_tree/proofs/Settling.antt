@@ -1,8 +1,6 @@
 -- One step of a composition: a part settled after all later ones, a core tested after all parts.
-use Rattle.std.proofs.Common.{◌≡◌, ◌⊎◌, ℕ, zero, suc, ◌<◌, ◌≤◌, Bool, true, false, List, length, set, get_or, Option, Some, None, refl, sym, ◌∙◌, ap, arith, subst, inl, inr, length-set, get_or-set_other, get_or-set_same}
-use Rattle.std.proofs.lemmas.Bool.{cases_lt, cases_eq}
-use Rattle.slot_model.specs.declared.sched.Sched.{Sched}
-use Rattle.slot_model.specs.declared.sched.Short.{Short}
+use Rattle.std.proofs.Common.{◌≡◌, ℕ, suc, ◌<◌, ◌≤◌, List, length, set, get_or, Option, Some, None, sym, ◌∙◌, ap, arith, subst, inl, inr, length-set, get_or-set_other, get_or-set_same}
+use Rattle.std.proofs.lemmas.Bool.{cases_eq}
 use Rattle.slot_model.specs.Task.{SporadicTask}
 use Rattle.slot_model.specs.Bound.{sbf, Passes, IsSmall, IsShortfall, IsLeastBudget}
 use Rattle.tree_model.specs.declared.place.Place.{Place}
@@ -42,7 +40,7 @@ passes_same : (sys : SystemView) (b c : List ℕ) (q : ℕ) → budget_at b q �
 passes_same sys b c q same tasks h = record {
   small = subst (λ (ts : List SporadicTask). IsSmall (part_at sys q).sched ts (part_at sys q).period) tasks h.small;
   passes = subst (λ (budget : ℕ). Passes (part_at sys q).sched (node_tasks sys c (Part q)) (sbf (part_at sys q).period budget)) same
-    (subst (λ (ts : List SporadicTask). Passes (part_at sys q).sched ts (sbf (part_at sys q).period (budget_at b q))) tasks h.passes);
+      (subst (λ (ts : List SporadicTask). Passes (part_at sys q).sched ts (sbf (part_at sys q).period (budget_at b q))) tasks h.passes);
 }
 
 -- a budget of a part's tasks stands
@@ -60,8 +58,8 @@ settle_one sys is budgets q budget h settled tasks same one =
     let kept : (r : ℕ) → q < r → r < length sys.parts → budget_at budgets r ≡ budget_at now r = λ r l m. sym (get_or-set_other budgets q r budget 0 (λ e. omega arith)) in
     let tasks_kept : (r : ℕ) → q ≤ r → node_tasks sys budgets (Part r) ≡ node_tasks sys now (Part r) = λ r g. part_tasks_same sys is budgets now r (λ k l m. kept k (omega arith) m) in
     let own : IsPartBudget (part_at sys q).sched (node_tasks sys now (Part q)) (part_at sys q).period (part_at sys q).budget (budget_at now q) =
-      subst (λ (b : ℕ). IsPartBudget (part_at sys q).sched (node_tasks sys now (Part q)) (part_at sys q).period (part_at sys q).budget b) (sym here)
-      (subst (λ (ts : List SporadicTask). IsPartBudget (part_at sys q).sched ts (part_at sys q).period (part_at sys q).budget budget) (same ∙ tasks_kept q (omega arith)) one) in
+    subst (λ (b : ℕ). IsPartBudget (part_at sys q).sched (node_tasks sys now (Part q)) (part_at sys q).period (part_at sys q).budget b) (sym here)
+    (subst (λ (ts : List SporadicTask). IsPartBudget (part_at sys q).sched ts (part_at sys q).period (part_at sys q).budget budget) (same ∙ tasks_kept q (omega arith)) one) in
     record {
       one_each = length-set budgets q budget ∙ settled.one_each;
       stands = λ r g m. elim (cases_eq r q) [

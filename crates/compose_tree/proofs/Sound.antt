@@ -1,18 +1,17 @@
 -- Budgets that admit a system lose no job anywhere, and every smaller whole budget of a computed leaf must miss.
-use Rattle.std.proofs.Common.{◌≡◌, ℕ, ◌<◌, ◌≤◌, true, false, Option, Some, None, List, length, arith, subst}
+use Rattle.std.proofs.Common.{◌≡◌, ℕ, ◌<◌, Option, Some, None, List, length, arith, subst}
 use Rattle.slot_model.specs.declared.sched.Sched.{Sched}
-use Rattle.slot_model.specs.Supply.{GivesBudget}
 use Rattle.slot_model.specs.Task.{SporadicTask, AreConstrained}
 use Rattle.slot_model.specs.Order.{before_of}
 use Rattle.slot_model.specs.Bound.{sbf, Passes, IsLeastBudget}
-use Rattle.slot_model.specs.Miss.{NoJobLost, MustMiss}
+use Rattle.slot_model.specs.Miss.{NoJobLost}
 use Rattle.slot_model.proofs.FullSupply.{full_laws}
 use Rattle.slot_model.proofs.WorstPattern.{periodic_laws}
 use Rattle.least_budget.proofs.Level.{level_no_loss}
 use Rattle.least_budget.proofs.Budgets.{not_passing_misses}
 use Rattle.tree_model.specs.declared.place.Place.TheVariants.{Core, Part}
 use Rattle.tree_model.specs.View.{SystemView}
-use Rattle.tree_model.specs.System.{IsSystem, IsCoreSupply, core_at, part_at, own_tasks, is_leaf}
+use Rattle.tree_model.specs.System.{IsSystem, IsCoreSupply, core_at, part_at, own_tasks}
 use Rattle.tree_model.specs.Tree.{core_bound, CoreConforms, budget_at, server_tasks, node_tasks, NoLoss}
 use Rattle.tree_model.specs.Admission.{Admitted, BudgetStands}
 use Rattle.tree_model.proofs.NodeTasks.{leaf_tasks, inner_tasks}
@@ -41,11 +40,11 @@ admitted_keeping sys is budgets a =
       budgets_fit = range;
       cores = λ c h. core_keeps (core_at sys c).supply (is.supplies c h) (core_at sys c).sched (server_tasks sys budgets (Core c)) (servers_constrained sys budgets (Core c) (λ q i child. range q i)) (a.cores c h).passes;
       inner = λ q h inner.
-        level_no_loss (part_at sys q).sched (server_tasks sys budgets (Part q)) (servers_constrained sys budgets (Part q) (λ r i child. range r i)) (periodic_laws (part_at sys q).period (budget_at budgets q) (is.parts q h).period.0 (range q h).1)
-        (subst (λ (tasks : List SporadicTask). Passes (part_at sys q).sched tasks (sbf (part_at sys q).period (budget_at budgets q))) (inner_tasks sys budgets q inner) (a.parts q h).passes);
+          level_no_loss (part_at sys q).sched (server_tasks sys budgets (Part q)) (servers_constrained sys budgets (Part q) (λ r i child. range r i)) (periodic_laws (part_at sys q).period (budget_at budgets q) (is.parts q h).period.0 (range q h).1)
+          (subst (λ (tasks : List SporadicTask). Passes (part_at sys q).sched tasks (sbf (part_at sys q).period (budget_at budgets q))) (inner_tasks sys budgets q inner) (a.parts q h).passes);
       leaves = λ q h leaf.
-        level_no_loss (part_at sys q).sched (own_tasks (part_at sys q)) (leaf_constrained sys is q h) (periodic_laws (part_at sys q).period (budget_at budgets q) (is.parts q h).period.0 (range q h).1)
-        (subst (λ (tasks : List SporadicTask). Passes (part_at sys q).sched tasks (sbf (part_at sys q).period (budget_at budgets q))) (leaf_tasks sys budgets q leaf) (a.parts q h).passes);
+          level_no_loss (part_at sys q).sched (own_tasks (part_at sys q)) (leaf_constrained sys is q h) (periodic_laws (part_at sys q).period (budget_at budgets q) (is.parts q h).period.0 (range q h).1)
+          (subst (λ (tasks : List SporadicTask). Passes (part_at sys q).sched tasks (sbf (part_at sys q).period (budget_at budgets q))) (leaf_tasks sys budgets q leaf) (a.parts q h).passes);
     }
 
 -- what is admitted loses no job, at any node, in any permitted run of the tree, and such a run exists
@@ -64,7 +63,7 @@ least_of sys budgets q None e stands = stands.1
 pub admitted_tight : (sys : SystemView) → IsSystem sys → (budgets : List ℕ) → Admitted sys budgets → IsTight sys budgets
 admitted_tight sys is budgets a = record {
   below = λ q h leaf none b less.
-    let least : IsLeastBudget (part_at sys q).sched (own_tasks (part_at sys q)) (part_at sys q).period (budget_at budgets q) =
+      let least : IsLeastBudget (part_at sys q).sched (own_tasks (part_at sys q)) (part_at sys q).period (budget_at budgets q) =
       subst (λ (tasks : List SporadicTask). IsLeastBudget (part_at sys q).sched tasks (part_at sys q).period (budget_at budgets q)) (leaf_tasks sys budgets q leaf) (least_of sys budgets q (part_at sys q).budget none (a.assigned.stands q h)) in
-    not_passing_misses (part_at sys q).sched (own_tasks (part_at sys q)) (leaf_constrained sys is q h) (part_at sys q).period b (is.parts q h).period.0 (omega (arith, least.in_period)) (least.least b less);
+      not_passing_misses (part_at sys q).sched (own_tasks (part_at sys q)) (leaf_constrained sys is q h) (part_at sys q).period b (is.parts q h).period.0 (omega (arith, least.in_period)) (least.least b less);
 }

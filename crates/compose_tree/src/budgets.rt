@@ -1,5 +1,4 @@
 ghost use Rattle.std.specs.Prelude.{◌≡◌, ◌≢◌, ℕ, suc, ◌<◌, ◌≤◌, List, length, slice_set, IfOk, IfErr, MatchResult};
-ghost use Rattle.slot_model.specs.Task.{sporadic_tasks};
 ghost use Rattle.tree_model.specs.Admission.{Admitted, SettledFrom, CorePasses, FirstRefusal};
 ghost use Rattle.tree_model.specs.Tree.{NoLoss};
 ghost use Rattle.compose_tree.specs.Truth.{IsTight, RefusalHolds};
@@ -37,7 +36,7 @@ pub fn compose(alloc: Global, sys: &System) -> Result<Plan, Refusal>
     Ok(Plan { budgets })
 }
 
-/// Writes the budgets of all parts, from the last to the first.
+/// Writes the budgets of all parts, from the last to the first. `room` is for the tasks of one node.
 fn settle_parts(sys: &System, budgets: &mut [u64], room: &mut [Task]) -> Result<(), Refusal>
     requires one_each { length budgets.old ≡ length sys.now.parts }
     requires room { 512 ≤ length room.old }
@@ -51,12 +50,7 @@ fn settle_parts(sys: &System, budgets: &mut [u64], room: &mut [Task]) -> Result<
 }
 
 /// The budget of part `q`, after those of all later parts.
-fn settle_part(
-    sys: &System,
-    budgets: &[u64],
-    q: u32,
-    room: &mut [Task],
-) -> Result<u64, Refusal>
+fn settle_part(sys: &System, budgets: &[u64], q: u32, room: &mut [Task]) -> Result<u64, Refusal>
     requires is_part { q < length sys.now.parts }
     requires settled { SettledFrom sys.now budgets.now (suc q) }
     requires room { 512 ≤ length room.old }
@@ -83,12 +77,7 @@ fn test_cores(sys: &System, budgets: &[u64], room: &mut [Task]) -> Result<(), Re
 }
 
 /// Tests core `c`, after all parts and the cores before it.
-fn test_core(
-    sys: &System,
-    budgets: &[u64],
-    c: u32,
-    room: &mut [Task],
-) -> Result<(), Refusal>
+fn test_core(sys: &System, budgets: &[u64], c: u32, room: &mut [Task]) -> Result<(), Refusal>
     requires is_core { c < length sys.now.cores }
     requires settled { SettledFrom sys.now budgets.now 0 }
     requires before { (d : ℕ) → d < c → CorePasses sys.now budgets.now d }

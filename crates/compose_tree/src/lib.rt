@@ -5,3 +5,6 @@ mod budgets;
 mod nodes;
 
 pub use budgets::compose;
+
+#[cfg(test)]
+mod tests;

@@ -1,4 +1,4 @@
-use Rattle.std.proofs.Common.{◌≡◌, ℕ, ◌<◌, List, ◌++◌, length, take, drop, arith, sym, ◌∙◌, subst}
+use Rattle.std.proofs.Common.{◌≡◌, ℕ, ◌<◌, List, ◌++◌, length, take, drop, sym, ◌∙◌, subst}
 use Rattle.std.proofs.Math.Seq.{take-append_seam}
 use Rattle.std.proofs.lemmas.Result.{err_from_is_err_and}
 use Rattle.tree_model.specs.View.{SystemView}
@@ -33,8 +33,8 @@ returns-clause-tight c = admitted_tight c.args.sys.now c.parts.ensures.system _ 
 pub returns-in_err-settle_parts-clause-complete : goal.returns-in_err-settle_parts-clause-complete
 returns-in_err-settle_parts-clause-complete c =
     λ budgets admitted.
-      let p = err_from_is_err_and c.from_residual.result c.from_residual.ensures.1 in
-      rw (p.1, p.2) (not_refused c.args.sys.now c.parts.ensures.system c.in_err-settle_parts.field-0.0 c.in_err-settle_parts.ensures.refusal budgets admitted)
+    let p = err_from_is_err_and c.from_residual.result c.from_residual.ensures.1 in
+    rw (p.1, p.2) (not_refused c.args.sys.now c.parts.ensures.system c.in_err-settle_parts.field-0.0 c.in_err-settle_parts.ensures.refusal budgets admitted)
 
 pub returns-in_err-settle_parts-clause-holds : goal.returns-in_err-settle_parts-clause-holds
 returns-in_err-settle_parts-clause-holds c =
@@ -44,8 +44,8 @@ returns-in_err-settle_parts-clause-holds c =
 pub returns-in_err-test_cores-clause-complete : goal.returns-in_err-test_cores-clause-complete
 returns-in_err-test_cores-clause-complete c =
     λ budgets admitted.
-      let p = err_from_is_err_and c.from_residual-in_err-test_cores.result c.from_residual-in_err-test_cores.ensures.1 in
-      rw (p.1, p.2) (not_refused c.args.sys.now c.parts.ensures.system c.in_err-test_cores.field-0.0 c.in_err-test_cores.ensures.refusal budgets admitted)
+    let p = err_from_is_err_and c.from_residual-in_err-test_cores.result c.from_residual-in_err-test_cores.ensures.1 in
+    rw (p.1, p.2) (not_refused c.args.sys.now c.parts.ensures.system c.in_err-test_cores.field-0.0 c.in_err-test_cores.ensures.refusal budgets admitted)
 
 pub returns-in_err-test_cores-clause-holds : goal.returns-in_err-test_cores-clause-holds
 returns-in_err-test_cores-clause-holds c =

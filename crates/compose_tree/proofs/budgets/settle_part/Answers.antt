@@ -1,4 +1,4 @@
-use Rattle.std.proofs.Common.{◌≡◌, ℕ, ◌<◌, List, Option, length, set, take, ap, arith, sym, ◌∙◌, subst, IfOk, IfErr, IfSome}
+use Rattle.std.proofs.Common.{◌≡◌, ℕ, List, Option, length, take, ap, arith, subst, IfSome}
 use Rattle.std.proofs.lemmas.Result.{IfOk-weaker, IfErr-weaker}
 use Rattle.slot_model.specs.Task.{SporadicTask, sporadic_tasks}
 use Rattle.slot_model.specs.Bound.{sbf}
@@ -6,7 +6,7 @@ use Rattle.tree_model.specs.declared.place.Place.TheVariants.{Part}
 use Rattle.tree_model.specs.View.{PartView}
 use Rattle.tree_model.specs.System.{part_at}
 use Rattle.tree_model.specs.Tree.{node_tasks}
-use Rattle.tree_model.specs.Admission.{largest_budget, SettledFrom, FirstRefusal}
+use Rattle.tree_model.specs.Admission.{largest_budget}
 use Rattle.tree_model.proofs.NodeTasks.{part_here}
 use Rattle.compose_tree.specs.Steps.{NodeRefuses, IsPartBudget}
 use Rattle.compose_tree.proofs.Settling.{part_children_fit, settle_one, part_refuses}

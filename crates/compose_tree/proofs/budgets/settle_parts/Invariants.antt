@@ -1,4 +1,3 @@
-use Rattle.std.proofs.Common.{◌≡◌, ◌≤◌, length}
 use Rattle.tree_model.specs.Admission.{SettledFrom}
 use Rattle.compose_tree.proofs.budgets.settle_parts.Given as goal
 

@@ -1,4 +1,4 @@
-use Rattle.std.proofs.Common.{◌≡◌, ℕ, Option, Some, None, sym, subst, IfErr}
+use Rattle.std.proofs.Common.{ℕ, Option, sym, subst, IfErr}
 use Rattle.slot_model.specs.Task.{sporadic_tasks}
 use Rattle.tree_model.specs.Tree.{core_bound, core_cycle}
 use Rattle.compose_tree.specs.Steps.{NodeRefuses}
