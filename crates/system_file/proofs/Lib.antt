@@ -8,3 +8,4 @@ pub mod PrintedPart
 pub mod PrintedParents
 pub mod PrintedSystem
 pub mod PrintedText
+pub mod PrintedPut

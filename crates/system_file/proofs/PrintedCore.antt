@@ -1,8 +1,7 @@
 -- A printed core has no fault, and spells the core.
-use Rattle.std.proofs.Common.{◌≡◌, ℕ, ◌≤◌, ◌==◌, Bool, true, false, List, [], ◌∷◌, length, Option, Some, None, codes, refl, sym, ap, ◌∙◌, arith}
+use Rattle.std.proofs.Common.{◌≡◌, ℕ, true, false, List, [], length, Option, Some, None, codes, refl}
 use Rattle.std.specs.List.{list_any}
 use Rattle.slot_model.specs.Name.{is_name}
-use Rattle.slot_model.specs.declared.sched.Sched.{Sched}
 use Rattle.slot_model.specs.declared.task.TheConstants.{LIMIT}
 use Rattle.toml.specs.Data.{Data, string, get}
 use Rattle.tree_model.specs.declared.pinned_core.Core.{Core as CoreView}

@@ -1,28 +1,22 @@
 -- Printed cores have no fault and are spelled back, and the parent of a printed part is found by its name.
-use Rattle.std.proofs.Common.{◌≡◌, ℕ, ◌+◌, ◌<◌, ◌≤◌, ◌==◌, Bool, true, false, not, ◌&&◌, List, [], ◌∷◌, ◌++◌, map, length, get_or, Option, Some, None, codes, refl, sym, ap, ◌∙◌, arith, nat_lt, subst, inl, inr}
+use Rattle.std.proofs.Common.{◌≡◌, ℕ, ◌<◌, true, false, List, [], ◌∷◌, ◌++◌, map, length, get_or, Some, None, sym, ap, ◌∙◌, arith, subst}
 use Rattle.std.specs.Prelude.{position, bytes_eq}
-use Rattle.std.proofs.lemmas.Bool.{cases_Bool}
-use Rattle.std.proofs.lemmas.Bool.Decides.{nat_tests}
-use Rattle.std.proofs.lemmas.List.{length-map, map-append, get_or-map, length-append, get_or_append_left, get_or-append-add, get_or_default, append_assoc}
-use Rattle.std.proofs.lemmas.List.Folds.{list_any_at, list_any-append}
-use Rattle.std.specs.List.{list_any}
+use Rattle.std.proofs.lemmas.List.{length-map, map-append, get_or-map, length-append, get_or_append_left}
 use Rattle.slot_model.specs.Name.{is_name}
-use Rattle.toml.specs.Data.{Data, string, boolean, array, table, get}
-use Rattle.toml.specs.View.{items_of}
+use Rattle.toml.specs.Data.{boolean}
 use Rattle.tree_model.specs.declared.pinned_core.Core.{Core as CoreView}
 use Rattle.tree_model.specs.declared.place.Parent.{Parent}
 use Rattle.tree_model.specs.declared.place.Parent.TheVariants.{Core as on_core, Part as on_part}
-use Rattle.tree_model.specs.View.{NamedTask, PartView, SystemView}
-use Rattle.tree_model.specs.System.{IsSystem, AreDistinct, node_names, core_at, part_at, is_leaf, Stands, no_core, no_part, IsCoreSupply}
+use Rattle.tree_model.specs.View.{PartView, SystemView}
+use Rattle.tree_model.specs.System.{IsSystem, AreDistinct, core_at, part_at, Stands, no_core, no_part, IsCoreSupply}
 use Rattle.system_file.specs.declared.fault.Spot.{Spot}
-use Rattle.system_file.specs.declared.fault.Spot.TheVariants.{Top, Core, Part}
-use Rattle.system_file.specs.Document.{is_named, is_text, parent_named, core_or_part, spelled_core, spelled_part, spelled_system, cores_of, parts_of}
-use Rattle.system_file.specs.Faults.{faults, core_faults, part_faults, parent_faults, is_parent_faults, empty_faults, is_parent, in_order, has_tasks, top_faults}
-use Rattle.system_file.specs.Printed.{printed_core, printed_part, printed, parent_name, IsPartNamed, CoresAreNamed, PartsAreNamed}
-use Rattle.system_file.proofs.PrintedNames.{named_any, named_at, place_found, place_missed, not_taken, distinct_front, distinct_back, new_among, equals_itself}
-use Rattle.system_file.proofs.PrintedWalk.{all_faultless, all_spelled, elements_back, within, stands_at}
+use Rattle.system_file.specs.Document.{is_named, parent_named, spelled_core}
+use Rattle.system_file.specs.Faults.{core_faults, parent_faults, in_order, has_tasks}
+use Rattle.system_file.specs.Printed.{printed_core, printed_part, parent_name, CoresAreNamed}
+use Rattle.system_file.proofs.PrintedNames.{named_at, place_found, place_missed, distinct_front, distinct_back, new_among}
+use Rattle.system_file.proofs.PrintedWalk.{all_faultless, all_spelled, within, stands_at}
 use Rattle.system_file.proofs.PrintedCore.{core_name, core_spelled, core_faultless}
-use Rattle.system_file.proofs.PrintedPart.{part_name, part_parent, part_has_tasks, part_faultless, part_spelled}
+use Rattle.system_file.proofs.PrintedPart.{part_name, part_has_tasks}
 
 abbrev pub core_names : SystemView → List (List ℕ)
 core_names sys = map (λ (c : CoreView). c.name) sys.cores
@@ -67,8 +61,8 @@ part_place sys is earlier later e q h =
     let at : part_at sys q ≡ get_or earlier q no_part = ap (λ (ps : List PartView). get_or ps q no_part) e ∙ get_or_append_left earlier later no_part q h in
     let name : get_or (part_names earlier) q [] ≡ (part_at sys q).name = get_or-map (λ (p : PartView). p.name) earlier q no_part [] h ∙ ap (λ (p : PartView). p.name) (sym at) in
     let differ : AreDistinct (part_names earlier) =
-      distinct_front (part_names earlier) (part_names later)
-      (subst (λ (names : List (List ℕ)). AreDistinct names) (ap part_names e ∙ map-append (λ (p : PartView). p.name) earlier later) (distinct_back (core_names sys) (part_names sys.parts) is.names)) in
+    distinct_front (part_names earlier) (part_names later)
+    (subst (λ (names : List (List ℕ)). AreDistinct names) (ap part_names e ∙ map-append (λ (p : PartView). p.name) earlier later) (distinct_back (core_names sys) (part_names sys.parts) is.names)) in
     named_at (printed_part sys) (λ p. p.name) (part_name sys) (part_at sys q).name earlier
     ∙ subst (λ (s : List ℕ). position (bytes_eq s) (part_names earlier) ≡ Some q) name (place_found (part_names earlier) differ q (omega (arith, length-map earlier (λ (p : PartView). p.name))))
 

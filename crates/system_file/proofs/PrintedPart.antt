@@ -1,22 +1,20 @@
 -- A printed part has no fault, and spells the part.
-use Rattle.std.proofs.Common.{◌≡◌, ℕ, ◌<◌, ◌≤◌, ◌==◌, Bool, true, false, not, List, [], ◌∷◌, ◌++◌, map, length, get_or, Option, Some, None, codes, refl, sym, ap, ◌∙◌, arith, nat_lt, subst}
+use Rattle.std.proofs.Common.{◌≡◌, ℕ, ◌<◌, ◌≤◌, ◌==◌, Bool, true, false, not, List, [], ◌∷◌, ◌++◌, map, length, get_or, Option, Some, None, codes, refl, ap, ◌∙◌, arith, nat_lt, subst}
 use Rattle.std.proofs.lemmas.Bool.Decides.{nat_tests}
 use Rattle.std.proofs.lemmas.List.{length-map, get_or-map}
 use Rattle.std.specs.List.{list_any}
 use Rattle.slot_model.specs.Name.{is_name}
-use Rattle.slot_model.specs.declared.sched.Sched.{Sched}
 use Rattle.slot_model.specs.declared.task.TheConstants.{LIMIT}
 use Rattle.slot_model.specs.Task.{SporadicTask, IsConstrained, task_at}
-use Rattle.toml.specs.Data.{Data, string, array, table, get}
+use Rattle.toml.specs.Data.{Data, string, array, get}
 use Rattle.toml.specs.View.{items_of}
-use Rattle.tree_model.specs.declared.place.Parent.{Parent}
 use Rattle.tree_model.specs.View.{NamedTask, PartView, SystemView}
-use Rattle.tree_model.specs.System.{IsPart, IsPeriod, IsGivenBudget, own_tasks, is_leaf, AreDistinct}
+use Rattle.tree_model.specs.System.{IsPart, IsGivenBudget, own_tasks, is_leaf}
 use Rattle.system_file.specs.declared.fault.Spot.{Spot}
 use Rattle.system_file.specs.declared.fault.Spot.TheVariants.{Part}
-use Rattle.system_file.specs.Document.{is_named, tasks_of, parent_at, parent_named, spelled_task, spelled_part}
+use Rattle.system_file.specs.Document.{is_named, tasks_of, parent_named, spelled_task, spelled_part}
 use Rattle.system_file.specs.Faults.{array_faults, in_order, new_name_faults, parent_faults, task_faults, part_keys, part_key_faults, part_faults, has_only, has_tasks, range_faults}
-use Rattle.system_file.specs.Printed.{number, printed_task, part_members, printed_part, parent_name, some_array, TasksAreNamed, IsPartNamed}
+use Rattle.system_file.specs.Printed.{number, printed_task, part_members, printed_part, parent_name, TasksAreNamed, IsPartNamed}
 use Rattle.system_file.proofs.PrintedKeys.{range_ok, new_name_ok, sched_ok, sched_back}
 use Rattle.system_file.proofs.PrintedNames.{new_among}
 use Rattle.system_file.proofs.PrintedTask.{task_name, task_spelled, task_faultless}

@@ -1,22 +1,19 @@
 -- The document that is printed for a system has no fault, and spells the system.
-use Rattle.std.proofs.Common.{◌≡◌, ℕ, ◌+◌, ◌<◌, ◌≤◌, ◌==◌, Bool, true, false, not, ◌&&◌, ◌||◌, List, [], ◌∷◌, ◌++◌, map, length, get_or, Option, Some, None, codes, refl, sym, ap, ◌∙◌, arith, nat_lt, subst, inl, inr}
+use Rattle.std.proofs.Common.{◌≡◌, ℕ, ◌<◌, ◌≤◌, ◌==◌, Bool, true, false, List, [], ◌∷◌, ◌++◌, map, length, get_or, codes, refl, sym, ap, ◌∙◌, arith, nat_lt, subst}
 use Rattle.std.specs.Prelude.{bytes_eq}
-use Rattle.std.proofs.lemmas.Bool.{cases_Bool}
 use Rattle.std.proofs.lemmas.Bool.Decides.{nat_tests}
 use Rattle.std.proofs.lemmas.List.{length-map, get_or-map, append-nil}
 use Rattle.std.proofs.lemmas.List.Folds.{list_any_at, list_any-append}
 use Rattle.std.specs.List.{list_any}
-use Rattle.toml.specs.Data.{Data, string, boolean, array, table, get}
+use Rattle.toml.specs.Data.{Data, boolean, array, table, get}
 use Rattle.toml.specs.View.{items_of}
-use Rattle.tree_model.specs.declared.pinned_core.Core.{Core as CoreView}
 use Rattle.tree_model.specs.declared.place.Parent.{Parent}
 use Rattle.tree_model.specs.declared.place.Parent.TheVariants.{Core as on_core, Part as on_part}
 use Rattle.tree_model.specs.View.{PartView, SystemView}
-use Rattle.tree_model.specs.System.{IsSystem, IsPart, core_at, part_at, is_leaf, Stands, IsChildOf, no_part}
-use Rattle.system_file.specs.declared.fault.Spot.{Spot}
-use Rattle.system_file.specs.declared.fault.Spot.TheVariants.{Top, Core, Part}
-use Rattle.system_file.specs.Document.{is_named, is_text, text_of, spelled_core, spelled_part, spelled_system, cores_of, parts_of}
-use Rattle.system_file.specs.Faults.{faults, core_faults, part_faults, empty_faults, is_parent, in_order, has_tasks, top_faults, core_array_faults, array_faults}
+use Rattle.tree_model.specs.System.{IsSystem, IsPart, part_at, is_leaf, Stands, IsChildOf, no_part}
+use Rattle.system_file.specs.declared.fault.Spot.TheVariants.{Top, Part}
+use Rattle.system_file.specs.Document.{is_named, is_text, text_of, spelled_part, spelled_system, cores_of, parts_of}
+use Rattle.system_file.specs.Faults.{faults, part_faults, empty_faults, is_parent, in_order, top_faults, core_array_faults}
 use Rattle.system_file.specs.Printed.{printed_core, printed_part, printed, parent_name, IsPartNamed, CoresAreNamed, PartsAreNamed, top_members}
 use Rattle.system_file.proofs.PrintedNames.{named_any, not_taken, distinct_back, new_among, equals_itself}
 use Rattle.system_file.proofs.PrintedWalk.{all_faultless, all_spelled, elements_back, within, stands_at}
@@ -31,10 +28,10 @@ part_new sys is earlier part later e =
     let h : length earlier < length sys.parts = within sys.parts earlier part later e in
     let name : get_or (part_names sys.parts) (length earlier) [] ≡ part.name = get_or-map (λ (p : PartView). p.name) sys.parts (length earlier) part [] h ∙ ap (λ (p : PartView). p.name) (stands_at sys.parts earlier part later part e) in
     let no_core_has : list_any (is_named part.name) (map printed_core sys.cores) ≡ false =
-      named_any printed_core (λ k. k.name) core_name part.name sys.cores
-      ∙ subst (λ (s : List ℕ). list_any (bytes_eq s) (core_names sys) ≡ false) name (not_taken (core_names sys) (part_names sys.parts) is.names (length earlier) (omega (arith, length-map sys.parts (λ (p : PartView). p.name)))) in
+    named_any printed_core (λ k. k.name) core_name part.name sys.cores
+    ∙ subst (λ (s : List ℕ). list_any (bytes_eq s) (core_names sys) ≡ false) name (not_taken (core_names sys) (part_names sys.parts) is.names (length earlier) (omega (arith, length-map sys.parts (λ (p : PartView). p.name)))) in
     let no_part_has : list_any (is_named part.name) (map (printed_part sys) earlier) ≡ false =
-      new_among (printed_part sys) (λ p. p.name) (part_name sys) sys.parts earlier part later e (distinct_back (core_names sys) (part_names sys.parts) is.names) in
+    new_among (printed_part sys) (λ p. p.name) (part_name sys) sys.parts earlier part later e (distinct_back (core_names sys) (part_names sys.parts) is.names) in
     list_any-append (is_named part.name) (map printed_core sys.cores) (map (printed_part sys) earlier) ∙ rw (no_core_has, no_part_has)
 
 parts_faultless : (sys : SystemView) → IsSystem sys → PartsAreNamed sys.parts → in_order (part_faults (map printed_core sys.cores)) [] (map (printed_part sys) sys.parts) ≡ []
@@ -120,8 +117,14 @@ top_faultless cores (d ∷ ds) some few few_parts = rw (core_array_ok cores some
 
 pub printed_faultless : (sys : SystemView) → IsSystem sys → CoresAreNamed sys.cores → PartsAreNamed sys.parts → faults (table (printed sys)) ≡ []
 printed_faultless sys is cores parts =
-    rw (top_faultless (map printed_core sys.cores) (map (printed_part sys) sys.parts) (omega (arith, is.some_core, length-map sys.cores printed_core)) (omega (arith, is.few_cores, length-map sys.cores printed_core)) (omega (arith, is.few_parts, length-map sys.parts (printed_part sys))),
-    cores_back (map printed_core sys.cores) (map (printed_part sys) sys.parts), parts_back (map printed_core sys.cores) (map (printed_part sys) sys.parts), cores_faultless sys is cores, parts_faultless sys is parts, none_empty sys is)
+    rw (
+      top_faultless (map printed_core sys.cores) (map (printed_part sys) sys.parts) (omega (arith, is.some_core, length-map sys.cores printed_core)) (omega (arith, is.few_cores, length-map sys.cores printed_core)) (omega (arith, is.few_parts, length-map sys.parts (printed_part sys))),
+      cores_back (map printed_core sys.cores) (map (printed_part sys) sys.parts),
+      parts_back (map printed_core sys.cores) (map (printed_part sys) sys.parts),
+      cores_faultless sys is cores,
+      parts_faultless sys is parts,
+      none_empty sys is,
+    )
 
 pub printed_spelled : (sys : SystemView) → IsSystem sys → spelled_system (table (printed sys)) ≡ sys
 printed_spelled sys is =

@@ -1,11 +1,10 @@
 -- A printed task has no fault, and spells the task.
-use Rattle.std.proofs.Common.{◌≡◌, ℕ, ◌≤◌, ◌==◌, Bool, true, false, List, [], ◌∷◌, length, Option, Some, None, codes, refl, sym, ap, ◌∙◌, arith, inl, inr, map}
+use Rattle.std.proofs.Common.{◌≡◌, ℕ, ◌≤◌, ◌==◌, true, false, List, [], length, Some, codes, sym, ap, arith, inl, inr}
 use Rattle.std.proofs.lemmas.Bool.{cases_Bool, eqb-true}
-use Rattle.std.proofs.lemmas.Bool.Decides.{nat_tests}
 use Rattle.std.specs.List.{list_any}
 use Rattle.slot_model.specs.Name.{is_name}
 use Rattle.slot_model.specs.declared.task.TheConstants.{LIMIT}
-use Rattle.slot_model.specs.Task.{SporadicTask, IsConstrained}
+use Rattle.slot_model.specs.Task.{IsConstrained}
 use Rattle.toml.specs.Data.{Data, string, get}
 use Rattle.tree_model.specs.View.{NamedTask}
 use Rattle.system_file.specs.Document.{is_named, spelled_task}

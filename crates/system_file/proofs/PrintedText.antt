@@ -1,9 +1,9 @@
 -- The printed document is no deeper than a reader goes, has no date-times, and so reads back.
-use Rattle.std.proofs.Common.{◌≡◌, ℕ, suc, ◌≤◌, ◌==◌, Bool, true, false, List, [], ◌∷◌, map, Option, Some, None, refl, sym, ap, ◌∙◌, arith, inl, inr, max}
-use Rattle.std.specs.Prelude.{Result, Ok}
+use Rattle.std.proofs.Common.{◌≡◌, ℕ, ◌≤◌, ◌==◌, Bool, true, false, List, [], ◌∷◌, map, Option, Some, None, refl, arith, inl, inr}
+use Rattle.std.specs.Prelude.{Ok}
 use Rattle.std.specs.Str.{is_utf8}
 use Rattle.std.proofs.lemmas.Bool.{cases_Bool}
-use Rattle.toml.specs.Data.{Data, table, items_depth, members_depth, depth, has_valid_dates, items_have_valid_dates, members_have_valid_dates}
+use Rattle.toml.specs.Data.{Data, items_depth, members_depth, depth, has_valid_dates, items_have_valid_dates, members_have_valid_dates}
 use Rattle.toml.specs.View.{items_of}
 use Rattle.toml.specs.Parse.{parse_document}
 use Rattle.tree_model.specs.declared.pinned_core.Core.{Core as CoreView}

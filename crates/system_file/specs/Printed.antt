@@ -61,8 +61,8 @@ printed_core core = table (with_supply core.supply (with_member (codes "sched") 
 abbrev pub printed_task : NamedTask → Data
 printed_task t =
     table (with_some (codes "deadline") (other_number t.task.period t.task.deadline)
-      (with_member (codes "work") (number t.task.work)
-        (with_member (codes "period") (number t.task.period) (with_member (codes "name") (string t.name) no_members))))
+    (with_member (codes "work") (number t.task.work)
+    (with_member (codes "period") (number t.task.period) (with_member (codes "name") (string t.name) no_members))))
 
 -- the name of a parent
 abbrev pub parent_name : SystemView → Parent → List ℕ
@@ -73,12 +73,12 @@ parent_name sys (Part q) = (part_at sys q).name
 abbrev pub part_members : SystemView → PartView → Members
 part_members sys part =
     with_some (codes "task") (some_array (map printed_task part.tasks))
-      (with_some (codes "extra") (true_flag part.extra)
-        (with_some (codes "budget") (some_number part.budget)
-          (with_member (codes "period") (number part.period)
-            (with_member (codes "sched") (string (sched_word part.sched))
-              (with_member (codes "parent") (string (parent_name sys part.parent))
-                (with_member (codes "name") (string part.name) no_members))))))
+    (with_some (codes "extra") (true_flag part.extra)
+    (with_some (codes "budget") (some_number part.budget)
+    (with_member (codes "period") (number part.period)
+    (with_member (codes "sched") (string (sched_word part.sched))
+    (with_member (codes "parent") (string (parent_name sys part.parent))
+    (with_member (codes "name") (string part.name) no_members))))))
 
 abbrev pub printed_part : SystemView → PartView → Data
 printed_part sys part = table (part_members sys part)

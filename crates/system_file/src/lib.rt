@@ -1,9 +1,12 @@
 //! The system file: a TOML document of cores, parts and tasks.
-//! `read_system` answers the system that a file spells, or the first fault of its document.
+//! `read_system` answers the system that a file spells, or the first fault of its document; `print_system` writes
+//! a file that spells a system.
 #![tactic(auto)]
 
 mod fault;
 mod keys;
 mod names;
+mod print;
 
 pub use fault::{Spot, SystemFault};
+pub use print::print_system;
