@@ -1,6 +1,6 @@
 -- The document that is printed for a system, table by table, and what a printer may rest on. It serves the clauses of private
 -- functions alone: what is printed reads back, whatever its layout.
-use Rattle.std.specs.Prelude.{◌≡◌, ℕ, ◌==◌, ◌<◌, pos, Bool, true, false, if◌then◌else◌, List, [], ◌∷◌, map, length, slice_index_or, codes, Option, Some, None}
+use Rattle.std.specs.Prelude.{◌≡◌, ℕ, ◌==◌, ◌<◌, pos, Bool, true, false, if◌then◌else◌, List, [], ◌∷◌, map, length, All, codes, Option, Some, None}
 use Rattle.std.specs.Cmp.Lexicographic.{slice_cmp}
 use Rattle.std.specs.Ordering.{nat_cmp, match_ordering}
 use Rattle.slot_model.specs.Name.{is_name}
@@ -98,14 +98,14 @@ IsNodeOf sys (Part q) = q < length sys.parts
 
 -- all names of a system are names
 abbrev pub TasksAreNamed : List NamedTask → Type 0
-TasksAreNamed tasks = (i : ℕ) (d : NamedTask) → i < length tasks → is_name (slice_index_or tasks i d).name ≡ true
+TasksAreNamed tasks = All (λ t. is_name t.name ≡ true) tasks
 
 pub record IsPartNamed (part : PartView) : Type 0 where
   pub name : is_name part.name ≡ true
   pub tasks : TasksAreNamed part.tasks
 
 abbrev pub CoresAreNamed : List CoreView → Type 0
-CoresAreNamed cores = (c : ℕ) (d : CoreView) → c < length cores → is_name (slice_index_or cores c d).name ≡ true
+CoresAreNamed cores = All (λ c. is_name c.name ≡ true) cores
 
 abbrev pub PartsAreNamed : List PartView → Type 0
-PartsAreNamed parts = (q : ℕ) (d : PartView) → q < length parts → IsPartNamed (slice_index_or parts q d)
+PartsAreNamed parts = All IsPartNamed parts

@@ -1,10 +1,11 @@
-ghost use Rattle.std.specs.Prelude.{◌≡◌, ℕ, ◌≤◌, ◌<◌, map, length, slice_index_or, IfOk, OnOk, IfSome, Ok as Spelled};
+ghost use Rattle.std.specs.Prelude.{◌≡◌, ℕ, ◌≤◌, ◌<◌, true, map, length, slice_index_or, IfOk, OnOk, IfSome, Ok as Spelled};
+ghost use Rattle.slot_model.specs.Name.{is_name};
 ghost use Rattle.slot_model.specs.declared.task.TheConstants.{LIMIT};
 ghost use Rattle.toml.specs.Data.{string};
 ghost use Rattle.toml.specs.View.{view, table_view};
 ghost use Rattle.tree_model.specs.System.{IsSystem, IsPart, IsCoreSupply, no_core};
 ghost use Rattle.system_file.specs.SystemFile.{system_of};
-ghost use Rattle.system_file.specs.Printed.{with_member, with_some, number, some_number, true_flag, some_array, sched_word, with_supply, printed_core, printed_task, parent_name, printed_part, printed, IsNodeOf, CoresAreNamed, PartsAreNamed};
+ghost use Rattle.system_file.specs.Printed.{with_member, with_some, number, some_number, true_flag, some_array, sched_word, with_supply, printed_core, printed_task, parent_name, printed_part, printed, IsNodeOf, TasksAreNamed, IsPartNamed, CoresAreNamed, PartsAreNamed};
 
 use slot_model::{Name, Sched};
 use std::alloc::{AllocError, Global};
@@ -17,7 +18,7 @@ mod tests;
 /// A system file that spells the system. A key that may be left out is written only where it says
 /// something else than its absence.
 pub fn print_system(alloc: Global, sys: &System) -> Result<Vec<u8>, AllocError>
-    ensures { IfOk result (λ text. CoresAreNamed sys.now.cores → PartsAreNamed sys.now.parts → system_of text.items ≡ Spelled sys.now) }
+    ensures { IfOk result (λ text. system_of text.items ≡ Spelled sys.now) }
 {
     let table = system_table(alloc, sys)?;
     match toml::table_to_string(alloc, &table) {
@@ -30,6 +31,8 @@ pub fn print_system(alloc: Global, sys: &System) -> Result<Vec<u8>, AllocError>
 fn system_table(alloc: Global, sys: &System) -> Result<Table, AllocError>
     ensures printed { IfOk result (λ table. table_view table ≡ printed sys.now) }
     ensures system { IsSystem sys.now }
+    ensures cores { OnOk result (CoresAreNamed sys.now.cores) }
+    ensures parts { OnOk result (PartsAreNamed sys.now.parts) }
 {
     let mut table = Table::new(alloc);
     let cores = core_tables(alloc, sys.cores())?;
@@ -42,7 +45,8 @@ fn system_table(alloc: Global, sys: &System) -> Result<Table, AllocError>
 
 fn core_tables(alloc: Global, cores: &[Core]) -> Result<Vec<Value>, AllocError>
     requires supplies { (c : ℕ) → c < length cores.now → IsCoreSupply (slice_index_or cores.now c no_core).supply }
-    ensures { IfOk result (λ tables. map view tables.items ≡ map printed_core cores.now) }
+    ensures printed { IfOk result (λ tables. map view tables.items ≡ map printed_core cores.now) }
+    ensures named { OnOk result (CoresAreNamed cores.now) }
 {
     let mut tables = Vec::with_capacity(alloc, cores.len())?;
     for core in cores {
@@ -52,7 +56,8 @@ fn core_tables(alloc: Global, cores: &[Core]) -> Result<Vec<Value>, AllocError>
 }
 
 fn part_tables(alloc: Global, sys: &System) -> Result<Vec<Value>, AllocError>
-    ensures { IfOk result (λ tables. map view tables.items ≡ map (printed_part sys.now) sys.now.parts) }
+    ensures printed { IfOk result (λ tables. map view tables.items ≡ map (printed_part sys.now) sys.now.parts) }
+    ensures named { OnOk result (PartsAreNamed sys.now.parts) }
 {
     let parts = sys.parts();
     let mut tables = Vec::with_capacity(alloc, parts.len())?;
@@ -63,7 +68,8 @@ fn part_tables(alloc: Global, sys: &System) -> Result<Vec<Value>, AllocError>
 }
 
 fn task_tables(alloc: Global, tasks: &[Named]) -> Result<Vec<Value>, AllocError>
-    ensures { IfOk result (λ tables. map view tables.items ≡ map printed_task tasks.now) }
+    ensures printed { IfOk result (λ tables. map view tables.items ≡ map printed_task tasks.now) }
+    ensures named { OnOk result (TasksAreNamed tasks.now) }
 {
     let mut tables = Vec::with_capacity(alloc, tasks.len())?;
     for task in tasks {
@@ -74,7 +80,8 @@ fn task_tables(alloc: Global, tasks: &[Named]) -> Result<Vec<Value>, AllocError>
 
 fn core_table(alloc: Global, core: &Core) -> Result<Value, AllocError>
     requires supply { IsCoreSupply core.now.supply }
-    ensures { IfOk result (λ table. view table ≡ printed_core core.now) }
+    ensures printed { IfOk result (λ table. view table ≡ printed_core core.now) }
+    ensures named { OnOk result (is_name core.now.name ≡ true) }
 {
     let mut table = Table::new(alloc);
     put_text(alloc, &mut table, "name", core.name.as_str())?;
@@ -86,7 +93,8 @@ fn core_table(alloc: Global, core: &Core) -> Result<Value, AllocError>
 fn part_table(alloc: Global, sys: &System, part: &Part) -> Result<Value, AllocError>
     requires parent { IsNodeOf sys.now part.now.parent }
     requires is_part { IsPart part.now }
-    ensures { IfOk result (λ table. view table ≡ printed_part sys.now part.now) }
+    ensures printed { IfOk result (λ table. view table ≡ printed_part sys.now part.now) }
+    ensures named { OnOk result (IsPartNamed part.now) }
 {
     let mut table = Table::new(alloc);
     let tasks = task_tables(alloc, part.tasks())?;
@@ -107,7 +115,8 @@ fn part_table(alloc: Global, sys: &System, part: &Part) -> Result<Value, AllocEr
 
 /// The deadline is written where it is not the period.
 fn task_table(alloc: Global, named: &Named) -> Result<Value, AllocError>
-    ensures { IfOk result (λ table. view table ≡ printed_task named.now) }
+    ensures printed { IfOk result (λ table. view table ≡ printed_task named.now) }
+    ensures named { OnOk result (is_name named.now.name ≡ true) }
 {
     let task = named.task();
     let mut table = Table::new(alloc);

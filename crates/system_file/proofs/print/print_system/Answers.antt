@@ -10,10 +10,10 @@ use Rattle.system_file.proofs.PrintedText.{printed_dated, printed_depth, reads_b
 use Rattle.system_file.proofs.print.print_system.Goals as goal
 
 pub returns-in-Ok : goal.returns-in-Ok
-returns-in-Ok c = λ cores parts.
+returns-in-Ok c =
     let utf8 : is_utf8 (string_bytes c.in-Ok.text) ≡ true = is_utf8-from_IsUtf8 (string_bytes c.in-Ok.text) (IsUtf8-string_bytes c.in-Ok.text) in
     let document : parse_document (string_bytes c.in-Ok.text) ≡ Some (printed c.args.sys.now) = c.in-Ok.ensures.reads_back (rw c.in_ok-table.ensures.printed (printed_depth c.args.sys.now)) ∙ ap Some c.in_ok-table.ensures.printed in
-    rw c.into_bytes.ensures.value (reads_back c.args.sys.now (string_bytes c.in-Ok.text) c.in_ok-table.ensures.system cores parts utf8 document)
+    rw c.into_bytes.ensures.value (reads_back c.args.sys.now (string_bytes c.in-Ok.text) c.in_ok-table.ensures.system c.in_ok-table.ensures.cores c.in_ok-table.ensures.parts utf8 document)
 
 pub unreachable-requires : goal.unreachable-requires
 unreachable-requires c =
