@@ -2,3 +2,4 @@ pub mod Document
 pub mod Faults
 pub mod SystemFile
 pub mod Reading
+pub mod Printed

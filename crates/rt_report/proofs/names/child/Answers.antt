@@ -13,7 +13,7 @@ returns-then-before-eq0 c =
     let test : c.is_same.result ≡ same_place (place_of c.part-item.result.parent) c.args.node = c.is_same.ensures ∙ ap (λ (p : Place). same_place p c.args.node) (c.place.ensures ∙ ap place_of c.parent.ensures) in
     let child = is_child_read c.args.sys.now c.args.node c.loop-part.part-index c.part-item.result c.is_same.result within is test ∙ c.if-is_same.true in
     let count : length (names_among c.args.sys.now c.args.node c.loop-part.part-index) ≡ c.args.i = omega (arith, c.loop-part.invariant, c.if-before-eq0.true) in
-    c.as_str.ensures ∙ (c.name.ensures ∙ sym (child_name_at c.args.sys.now c.args.node c.loop-part.part-index c.args.i c.part-item.result within is child count))
+    c.as_str.ensures.text ∙ (c.name.ensures ∙ sym (child_name_at c.args.sys.now c.args.node c.loop-part.part-index c.args.i c.part-item.result within is child count))
 
 pub loop-part-preserved : goal.loop-part-preserved
 loop-part-preserved c =
