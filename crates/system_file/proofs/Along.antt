@@ -1,5 +1,5 @@
 -- Walking along the values of an array: those before a place, and those from it on.
-use Rattle.std.proofs.Common.{◌≡◌, ℕ, ◌+◌, ◌<◌, ◌≤◌, zero, suc, List, [], ◌∷◌, ◌++◌, map, length, take, drop, get_or, refl, sym, ap, ◌∙◌, arith, append_assoc, drop-cons, add-one, length-take-le, Option, Some}
+use Rattle.std.proofs.Common.{◌≡◌, ℕ, ◌+◌, ◌<◌, ◌≤◌, suc, List, [], ◌∷◌, ◌++◌, map, length, take, drop, get_or, sym, ap, ◌∙◌, append_assoc, drop-cons, add-one, length-take-le, Some}
 use Rattle.std.proofs.lemmas.List.{take_more}
 use Rattle.toml.specs.Data.{Data}
 use Rattle.toml.specs.View.{view}

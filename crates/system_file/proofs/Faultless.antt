@@ -1,19 +1,15 @@
 -- What stands in a document where a definition finds no fault.
-use Rattle.std.proofs.Common.{◌≡◌, ℕ, ◌+◌, ◌<◌, ◌≤◌, pos, negsuc, suc, zero, Bool, true, false, not, ◌&&◌, nat_le, nat_lt, ◌==◌, List, [], ◌∷◌, ◌++◌, map, length, take, get_or, Option, Some, None, is_none, refl, sym, ap, ◌∙◌, codes, arith, append_assoc, unwrap_or}
+use Rattle.std.proofs.Common.{◌≡◌, ℕ, ◌≤◌, pos, negsuc, Bool, true, false, not, ◌&&◌, nat_le, nat_lt, List, [], ◌∷◌, length, Option, Some, None, refl, codes, arith, unwrap_or}
 use Rattle.std.proofs.lemmas.Bool.Decides.{nat_tests}
 use Rattle.std.specs.List.{list_any}
 use Rattle.slot_model.specs.Name.{is_name}
-use Rattle.slot_model.specs.Task.{IsConstrained}
 use Rattle.slot_model.specs.declared.task.TheConstants.{LIMIT}
-use Rattle.toml.specs.Data.{Data, string, integer, float, boolean, datetime, array, table, Members, get}
-use Rattle.tree_model.specs.System.{IsPeriod, IsGivenBudget, IsCoreSupply}
-use Rattle.tree_model.specs.declared.place.Parent.{Parent}
-use Rattle.tree_model.specs.declared.place.Parent.TheVariants.{Core as on_core, Part as on_part}
+use Rattle.toml.specs.Data.{Data, string, integer, float, boolean, datetime, array, table, get}
+use Rattle.tree_model.specs.System.{IsGivenBudget, IsCoreSupply}
 use Rattle.system_file.specs.declared.fault.Spot.{Spot}
-use Rattle.system_file.specs.declared.fault.Spot.TheVariants.{Core, Part, Task}
 use Rattle.system_file.specs.declared.fault.SystemFault.{SystemFault}
-use Rattle.system_file.specs.Document.{elements_of, array_of, number_of, given_number, is_named, supply_of, parent_named, spelled_task, deadline_of, tasks_of}
-use Rattle.system_file.specs.Faults.{fault_if, required, optional, text_faults, new_name_faults, name_faults, is_in_range, range_faults, supply_faults, array_faults, core_array_faults, table_faults, in_order, core_faults, core_keys, core_key_faults, task_faults, task_keys, task_key_faults, task_number_faults, part_faults, part_keys, part_key_faults, parent_faults, is_parent_faults, has_tasks, sched_faults, flag_faults}
+use Rattle.system_file.specs.Document.{elements_of, array_of, number_of, given_number, is_named, supply_of}
+use Rattle.system_file.specs.Faults.{fault_if, required, optional, text_faults, new_name_faults, name_faults, range_faults, supply_faults, array_faults, table_faults}
 use Rattle.system_file.proofs.First.{none_left, none_right}
 
 pub not_wrong : (b : Bool) (fault : SystemFault) → fault_if b fault ≡ [] → b ≡ false

@@ -1,5 +1,5 @@
 -- Tests along a list, and the first place that passes.
-use Rattle.std.proofs.Common.{◌≡◌, ℕ, ◌+◌, ◌<◌, ◌≤◌, suc, zero, Bool, true, false, cond, ◌||◌, ◌&&◌, List, [], ◌∷◌, ◌++◌, map, length, take, get_or, Option, Some, None, option_map, refl, sym, ap, subst, ◌∙◌, arith, append_assoc}
+use Rattle.std.proofs.Common.{◌≡◌, ℕ, ◌<◌, suc, zero, Bool, true, false, cond, ◌||◌, List, [], ◌∷◌, ◌++◌, length, take, get_or, Option, Some, None, option_map, refl, sym, ap, subst, ◌∙◌, arith, append_assoc}
 use Rattle.std.proofs.lemmas.List.{append-nil}
 use Rattle.std.specs.Prelude.{position}
 use Rattle.std.specs.List.{list_any}
@@ -81,6 +81,6 @@ first_in_order f earlier (d ∷ ds) zero e fault h none wrong = first_here (f ea
 first_in_order f earlier (d ∷ ds) (suc at) e fault h none wrong =
     let here : f earlier d ≡ [] = ap (λ xs. f xs d) (sym (append-nil earlier)) ∙ none 0 (omega arith) in
     let rest = first_in_order f (earlier ++ d ∷ []) ds at e fault (omega arith)
-                 (λ i k. ap (λ xs. f xs (get_or ds i e)) (append_assoc earlier (d ∷ []) (take i ds)) ∙ none (suc i) (omega arith))
-                 (ap (λ xs. first_of (f xs (get_or ds at e))) (append_assoc earlier (d ∷ []) (take at ds)) ∙ wrong) in
+    (λ i k. ap (λ xs. f xs (get_or ds i e)) (append_assoc earlier (d ∷ []) (take i ds)) ∙ none (suc i) (omega arith))
+    (ap (λ xs. first_of (f xs (get_or ds at e))) (append_assoc earlier (d ∷ []) (take at ds)) ∙ wrong) in
     ap (λ xs. first_of (xs ++ in_order f (earlier ++ d ∷ []) ds)) here ∙ rest

@@ -1,14 +1,14 @@
 -- Cores and parts without faults: their names, and their parents by name and by place.
-use Rattle.std.proofs.Common.{◌≡◌, ℕ, ◌+◌, ◌-◌, ◌<◌, ◌≤◌, ◌==◌, suc, zero, Bool, true, false, not, ◌||◌, ◌&&◌, nat_lt, List, [], ◌∷◌, ◌++◌, map, length, take, drop, get_or, Option, Some, None, refl, sym, ap, subst, ◌∙◌, codes, arith, bytes_eq, length-take-le, length-append, unwrap_or}
+use Rattle.std.proofs.Common.{◌≡◌, ℕ, ◌+◌, ◌-◌, ◌<◌, ◌≤◌, ◌==◌, suc, zero, Bool, true, false, ◌||◌, nat_lt, List, [], ◌∷◌, ◌++◌, length, take, drop, get_or, Option, Some, None, refl, sym, ap, subst, ◌∙◌, codes, arith, bytes_eq, length-take-le, length-append, unwrap_or}
 use Rattle.std.proofs.lemmas.Bool.{false≢true}
 use Rattle.std.proofs.lemmas.Bool.Decides.{nat_tests}
-use Rattle.std.proofs.lemmas.List.{get_or-map, get_or-take, get_or-append-add, take-append-le, take-append-drop}
+use Rattle.std.proofs.lemmas.List.{get_or-take, get_or-append-add, take-append-le, take-append-drop}
 use Rattle.std.proofs.lemmas.List.Folds.{list_any-append}
 use Rattle.std.proofs.Math.Seq.{take-append-add}
 use Rattle.std.proofs.lemmas.Slice.Eq.{bytes_eq-Decides}
 use Rattle.std.specs.Prelude.{position}
 use Rattle.std.specs.List.{list_any}
-use Rattle.toml.specs.Data.{Data, string, boolean, get}
+use Rattle.toml.specs.Data.{Data, boolean, get}
 use Rattle.tree_model.specs.declared.place.Parent.{Parent}
 use Rattle.tree_model.specs.declared.place.Parent.TheVariants.{Core as on_core, Part as on_part}
 use Rattle.system_file.specs.Document.{text_of, is_text, is_named, core_or_part, parent_named, parent_at}
@@ -65,13 +65,13 @@ module _ (cores parts : List Data) (no_core : in_order core_faults [] cores ≡ 
   front : (j : ℕ) → j < length cores → NewName (take j (cores ++ parts)) (get_or (cores ++ parts) j (boolean false))
   front j h =
       subst (λ (d : Data). NewName (take j (cores ++ parts)) d) (sym (get_front cores parts j (boolean false) h))
-        (subst (λ (ds : List Data). NewName ds (get_or cores j (boolean false))) (sym (take-append-le j cores parts (omega arith)))
-          (core_name (take j cores) (get_or cores j (boolean false)) (each core_faults [] cores j (boolean false) h no_core)))
+      (subst (λ (ds : List Data). NewName ds (get_or cores j (boolean false))) (sym (take-append-le j cores parts (omega arith)))
+      (core_name (take j cores) (get_or cores j (boolean false)) (each core_faults [] cores j (boolean false) h no_core)))
 
   back : (k : ℕ) → k < length parts → NewName (take (length cores + k) (cores ++ parts)) (get_or (cores ++ parts) (length cores + k) (boolean false))
   back k h =
       subst (λ (d : Data). NewName (take (length cores + k) (cores ++ parts)) d) (sym (get_or-append-add cores parts k (boolean false)))
-        (subst (λ (ds : List Data). NewName ds (get_or parts k (boolean false))) (sym (take-append-add cores parts k)) (part_new k h))
+      (subst (λ (ds : List Data). NewName ds (get_or parts k (boolean false))) (sym (take-append-add cores parts k)) (part_new k h))
 
   -- each core and part has a name that no core or part before it has
   pub all_new : (j : ℕ) → j < length (cores ++ parts) → NewName (take j (cores ++ parts)) (get_or (cores ++ parts) j (boolean false))
@@ -79,6 +79,7 @@ module _ (cores parts : List Data) (no_core : in_order core_faults [] cores ≡ 
     where
       whole : j < length cores + length parts
       whole = rw (length-append {A = Data}) at h
+
       by : (b : Bool) → nat_lt j (length cores) ≡ b → NewName (take j (cores ++ parts)) (get_or (cores ++ parts) j (boolean false))
       by true e = let lt : j < length cores = grind (arith, nat_tests) in front j lt
       by false e =
@@ -119,9 +120,9 @@ module _ (cores parts : List Data) (no_core : in_order core_faults [] cores ≡ 
       let there = parent_there r hr in
       let split : (list_any (is_named new.name) cores || list_any (is_named new.name) (take q parts)) ≡ false = sym (list_any-append (is_named new.name) cores (take q parts)) ∙ new.new in
       let first : position (is_named new.name) parts ≡ Some q =
-            position_first (is_named new.name) parts q (boolean false) hq (ap (is_text new.name) new.is ∙ (bytes_eq-Decides new.name new.name).1 refl) (neither_right _ _ split) in
+      position_first (is_named new.name) parts q (boolean false) hq (ap (is_text new.name) new.is ∙ (bytes_eq-Decides new.name new.name).1 refl) (neither_right _ _ split) in
       let named : parent_named cores parts new.name ≡ Some (on_part q) =
-            ap (λ a. core_or_part a (position (is_named new.name) parts)) (position_none (is_named new.name) cores (neither_left _ _ split)) ∙ ap (core_or_part None) first in
+      ap (λ a. core_or_part a (position (is_named new.name) parts)) (position_none (is_named new.name) cores (neither_left _ _ split)) ∙ ap (core_or_part None) first in
       let found : Some there.parent ≡ Some (on_part q) = sym (parent_found r hr) ∙ ap (parent_named cores parts) (sym ((bytes_eq-Decides new.name there.text).0 e)) ∙ named in
       ap (is_on q) (value_is there.parent (on_part q) found) ∙ itself q
 
@@ -132,8 +133,10 @@ module _ (cores parts : List Data) (no_core : in_order core_faults [] cores ≡ 
       holds : is_named (parent_there r hr).text (get_or parts k (boolean false)) ≡ true
       holds = position_holds (is_named (parent_there r hr).text) parts k (boolean false)
           (part_place (position (is_named (parent_there r hr).text) cores) (position (is_named (parent_there r hr).text) parts) k (parent_found r hr ∙ ap Some same))
+
       alike : k ≡ q → bytes_eq (parent_there r hr).text (part_new q hq).name ≡ true
       alike at = sym (ap (is_text (parent_there r hr).text) (part_new q hq).is) ∙ ap (λ n. is_named (parent_there r hr).text (get_or parts n (boolean false))) (sym at) ∙ holds
+
       by : (b : Bool) → (k == q) ≡ b → (k == q) ≡ false
       by false f = f
       by true f = absurd (false≢true (sym e

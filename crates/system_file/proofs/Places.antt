@@ -1,17 +1,17 @@
 -- Where a name is found among the cores and the parts so far.
-use Rattle.std.proofs.Common.{◌≡◌, ℕ, ◌+◌, ◌-◌, ◌<◌, ◌≤◌, suc, zero, Bool, true, false, not, cond, ◌==◌, nat_lt, List, [], ◌∷◌, ◌++◌, map, length, get_or, Option, Some, None, option_map, refl, sym, ap, ◌∙◌, codes, arith, unwrap_or}
+use Rattle.std.proofs.Common.{◌≡◌, ℕ, ◌+◌, ◌-◌, ◌<◌, ◌≤◌, suc, zero, Bool, true, false, not, cond, ◌==◌, nat_lt, List, [], ◌∷◌, ◌++◌, map, length, get_or, Option, Some, None, option_map, refl, sym, ap, ◌∙◌, codes, arith}
 use Rattle.std.proofs.lemmas.Bool.Decides.{nat_tests}
 use Rattle.std.specs.Prelude.{position, bytes_eq}
 use Rattle.std.specs.List.{prefix_len}
 use Rattle.toml.specs.Data.{Data, string, boolean, get}
 use Rattle.tree_model.specs.declared.place.Parent.{Parent}
 use Rattle.tree_model.specs.declared.place.Parent.TheVariants.{Core, Part}
-use Rattle.tree_model.specs.View.{NamedTask, PartView}
+use Rattle.tree_model.specs.View.{PartView}
 use Rattle.tree_model.specs.System.{is_leaf}
 use Rattle.system_file.specs.Document.{is_text, is_named, core_or_part, parent_named, spelled_part, spelled_task, tasks_of}
 use Rattle.system_file.specs.Faults.{has_tasks}
 use Rattle.system_file.specs.Reading.{HaveNames, Known}
-use Rattle.system_file.proofs.Elements.{position_map, length_map}
+use Rattle.system_file.proofs.Elements.{position_map}
 
 -- the first place by recursion
 pub position_cons : {A : Type 0} (p : A → Bool) (x : A) (xs : List A) → position p (x ∷ xs) ≡ cond (p x) (Some 0) (option_map suc (position p xs))
@@ -19,6 +19,7 @@ position_cons p x xs = by (p x)
   where
     shifted : (n m : ℕ) → cond (nat_lt (1 + n) (suc m)) (Some (1 + n)) None ≡ option_map suc (cond (nat_lt n m) (Some n) None)
     shifted n m = grind (arith, nat_tests)
+
     by : (b : Bool) → cond (nat_lt (cond {A = ℕ} (not b) (1 + prefix_len (λ y. not (p y)) xs) 0) (suc (length xs))) (Some (cond {A = ℕ} (not b) (1 + prefix_len (λ y. not (p y)) xs) 0)) None
         ≡ cond b (Some 0) (option_map suc (position p xs))
     by true = grind (arith, nat_tests)

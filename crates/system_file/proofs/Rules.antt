@@ -1,5 +1,5 @@
 -- What one core, one task and one part keep where they have no fault.
-use Rattle.std.proofs.Common.{◌≡◌, ℕ, ◌+◌, ◌<◌, ◌≤◌, suc, zero, Bool, true, false, List, [], ◌∷◌, ◌++◌, map, length, take, get_or, Option, Some, None, refl, sym, ap, subst, ◌∙◌, codes, arith, append_assoc, bytes_eq, length-take-le}
+use Rattle.std.proofs.Common.{◌≡◌, ℕ, ◌<◌, ◌≤◌, suc, zero, Bool, true, false, List, [], ◌∷◌, ◌++◌, map, length, take, get_or, Option, Some, None, refl, sym, ap, subst, ◌∙◌, codes, arith, append_assoc, length-take-le}
 use Rattle.std.proofs.lemmas.List.{append-nil, get_or-map, get_or-take}
 use Rattle.std.proofs.lemmas.Slice.Eq.{bytes_eq-Decides}
 use Rattle.std.proofs.lemmas.Bool.{false≢true}
@@ -9,7 +9,7 @@ use Rattle.slot_model.specs.declared.task.TheConstants.{LIMIT}
 use Rattle.toml.specs.Data.{Data, string, boolean, get}
 use Rattle.tree_model.specs.declared.place.Parent.{Parent}
 use Rattle.tree_model.specs.declared.place.Parent.TheVariants.{Core as on_core, Part as on_part}
-use Rattle.tree_model.specs.View.{NamedTask, PartView}
+use Rattle.tree_model.specs.View.{NamedTask}
 use Rattle.tree_model.specs.System.{IsPart, IsCoreSupply, AreDistinct, own_tasks}
 use Rattle.system_file.specs.declared.fault.Spot.{Spot}
 use Rattle.system_file.specs.declared.fault.Spot.TheVariants.{Core, Part, Task}
@@ -43,9 +43,9 @@ distinct ds new = λ i j d before within same.
     let name_i : get_or (map (λ (x : Data). text_of (get (codes "name") x)) ds) i d ≡ other.name = get_or-map (λ (x : Data). text_of (get (codes "name") x)) ds i (boolean false) d (omega arith) ∙ ap text_of other.is in
     let name_j : get_or (map (λ (x : Data). text_of (get (codes "name") x)) ds) j d ≡ this.name = get_or-map (λ (x : Data). text_of (get (codes "name") x)) ds j (boolean false) d few ∙ ap text_of this.is in
     let apart : is_named this.name (get_or ds i (boolean false)) ≡ false =
-          ap (is_named this.name) (sym (get_or-take j ds i (boolean false) before)) ∙ none_at (is_named this.name) (take j ds) i (boolean false) (taken_length j ds i before few) this.new in
+    ap (is_named this.name) (sym (get_or-take j ds i (boolean false) before)) ∙ none_at (is_named this.name) (take j ds) i (boolean false) (taken_length j ds i before few) this.new in
     let alike : is_named this.name (get_or ds i (boolean false)) ≡ true =
-          ap (is_text this.name) other.is ∙ (bytes_eq-Decides this.name other.name).1 (sym name_j ∙ sym same ∙ name_i) in
+    ap (is_text this.name) other.is ∙ (bytes_eq-Decides this.name other.name).1 (sym name_j ∙ sym same ∙ name_i) in
     false≢true (sym apart ∙ alike)
   where
     taken_length : (j : ℕ) (xs : List Data) (i : ℕ) → i < j → j < length xs → i < length (take j xs)
@@ -97,31 +97,31 @@ part_server : (cores earlier : List Data) (d : Data) → part_faults cores earli
 part_server cores earlier d h =
     let spot = Part (length earlier) in
     none_right (required spot (text_faults spot (sched_faults spot)) (get (codes "sched") d)) _
-      (none_right (required spot (text_faults spot (parent_faults spot cores earlier)) (get (codes "parent") d)) _
-        (none_right (required spot (text_faults spot (new_name_faults spot (cores ++ earlier))) (get (codes "name") d)) _ (part_keys_none cores earlier d h)))
+    (none_right (required spot (text_faults spot (parent_faults spot cores earlier)) (get (codes "parent") d)) _
+    (none_right (required spot (text_faults spot (new_name_faults spot (cores ++ earlier))) (get (codes "name") d)) _ (part_keys_none cores earlier d h)))
 
 pub part_is : (cores all earlier : List Data) (d : Data) → part_faults cores earlier d ≡ [] → IsPart (spelled_part cores all d)
 part_is cores all earlier d h =
     let spot = Part (length earlier) in
     let numbers = part_server cores earlier d h in
     let in_tasks : in_order (task_faults (length earlier)) [] (tasks_of d) ≡ [] =
-          none_right (part_key_faults (Part (length earlier)) cores earlier d) _ (table_inside (Part (length earlier)) part_keys (part_key_faults (Part (length earlier)) cores earlier d ++ in_order (task_faults (length earlier)) [] (tasks_of d)) d h) in
+    none_right (part_key_faults (Part (length earlier)) cores earlier d) _ (table_inside (Part (length earlier)) part_keys (part_key_faults (Part (length earlier)) cores earlier d ++ in_order (task_faults (length earlier)) [] (tasks_of d)) d h) in
     record {
       period = required_number spot LIMIT (get (codes "period") d) (none_left _ _ numbers);
       budget = optional_number spot (number_of (get (codes "period") d)) (get (codes "budget") d) (none_left _ _ (none_right (required spot (range_faults spot LIMIT) (get (codes "period") d)) _ numbers));
       few_tasks = rw (length_map spelled_task (tasks_of d)) (few_there spot 256 (get (codes "task") d)
-        (none_right (optional (flag_faults spot) (get (codes "extra") d)) _
+          (none_right (optional (flag_faults spot) (get (codes "extra") d)) _
           (none_right (optional (range_faults spot (number_of (get (codes "period") d))) (get (codes "budget") d)) _
-            (none_right (required spot (range_faults spot LIMIT) (get (codes "period") d)) _ numbers))));
+          (none_right (required spot (range_faults spot LIMIT) (get (codes "period") d)) _ numbers))));
       tasks = λ i within.
-        let few : i < length (tasks_of d) = rw (length_map spelled_task (tasks_of d)) at within in
-        let same : task_at (own_tasks (spelled_part cores all d)) i ≡ (spelled_task (get_or (tasks_of d) i (boolean false))).task =
-              get_or-map (λ (t : NamedTask). t.task) (map spelled_task (tasks_of d)) i (spelled_task (boolean false)) (record { period = 1; deadline = 1; work = 1 }) within
-              ∙ ap (λ (t : NamedTask). t.task) (get_or-map spelled_task (tasks_of d) i (boolean false) (spelled_task (boolean false)) few) in
-        let is : SporadicTask → Type 0 = λ t. IsConstrained t × (t.period ≤ LIMIT) in
-        subst is (sym same) (task_numbers (length earlier) (take i (tasks_of d)) (get_or (tasks_of d) i (boolean false)) (each (task_faults (length earlier)) [] (tasks_of d) i (boolean false) few in_tasks));
+          let few : i < length (tasks_of d) = rw (length_map spelled_task (tasks_of d)) at within in
+          let same : task_at (own_tasks (spelled_part cores all d)) i ≡ (spelled_task (get_or (tasks_of d) i (boolean false))).task =
+          get_or-map (λ (t : NamedTask). t.task) (map spelled_task (tasks_of d)) i (spelled_task (boolean false)) (record { period = 1; deadline = 1; work = 1 }) within
+          ∙ ap (λ (t : NamedTask). t.task) (get_or-map spelled_task (tasks_of d) i (boolean false) (spelled_task (boolean false)) few) in
+          let is : SporadicTask → Type 0 = λ t. IsConstrained t × (t.period ≤ LIMIT) in
+          subst is (sym same) (task_numbers (length earlier) (take i (tasks_of d)) (get_or (tasks_of d) i (boolean false)) (each (task_faults (length earlier)) [] (tasks_of d) i (boolean false) few in_tasks));
       task_names = subst AreDistinct (names (tasks_of d))
-        (distinct (tasks_of d) (λ j few. task_name (length earlier) (take j (tasks_of d)) (get_or (tasks_of d) j (boolean false)) (each (task_faults (length earlier)) [] (tasks_of d) j (boolean false) few in_tasks)))
+          (distinct (tasks_of d) (λ j few. task_name (length earlier) (take j (tasks_of d)) (get_or (tasks_of d) j (boolean false)) (each (task_faults (length earlier)) [] (tasks_of d) j (boolean false) few in_tasks)));
     }
   where
     names : (ds : List Data) → map (λ e. text_of (get (codes "name") e)) ds ≡ map (λ (t : NamedTask). t.name) (map spelled_task ds)

@@ -1,20 +1,18 @@
 -- A document without faults spells a system.
-use Rattle.std.proofs.Common.{◌≡◌, ℕ, ◌+◌, ◌<◌, ◌≤◌, ◌==◌, nat_lt, suc, zero, Bool, true, false, not, ◌&&◌, List, [], ◌∷◌, ◌++◌, map, length, take, get_or, Option, Some, None, refl, sym, ap, subst, ◌∙◌, codes, arith, length-take-le}
+use Rattle.std.proofs.Common.{◌≡◌, ℕ, ◌<◌, ◌≤◌, ◌==◌, nat_lt, Bool, true, false, not, ◌&&◌, List, [], ◌∷◌, ◌++◌, map, length, take, get_or, Option, Some, None, refl, sym, ap, subst, ◌∙◌, codes, arith, length-take-le}
 use Rattle.std.proofs.lemmas.Bool.Decides.{nat_tests}
 use Rattle.std.proofs.lemmas.List.{get_or-map}
-use Rattle.std.specs.List.{list_any}
-use Rattle.slot_model.specs.declared.sched.Sched.TheVariants.{Edf}
 use Rattle.toml.specs.Data.{Data, string, integer, float, boolean, datetime, array, table, get}
 use Rattle.tree_model.specs.declared.pinned_core.Core.{Core as CoreView}
 use Rattle.tree_model.specs.declared.place.Parent.{Parent}
 use Rattle.tree_model.specs.declared.place.Parent.TheVariants.{Core as on_core, Part as on_part}
 use Rattle.tree_model.specs.View.{PartView, SystemView}
-use Rattle.tree_model.specs.System.{IsSystem, IsPart, IsCoreSupply, Stands, IsChildOf, AreDistinct, node_names, is_leaf, core_at, part_at}
+use Rattle.tree_model.specs.System.{IsSystem, IsPart, IsCoreSupply, Stands, IsChildOf, AreDistinct, node_names, is_leaf}
 use Rattle.system_file.specs.declared.fault.Spot.TheVariants.{Top, Part}
 use Rattle.system_file.specs.declared.fault.SystemFault.{SystemFault}
 use Rattle.system_file.specs.declared.fault.SystemFault.TheVariants.{Empty}
-use Rattle.system_file.specs.Document.{elements_of, array_of, text_of, is_text, cores_of, parts_of, tasks_of, parent_at, spelled_core, spelled_part, spelled_task, spelled_system}
-use Rattle.system_file.specs.Faults.{fault_if, required, optional, format_faults, core_array_faults, array_faults, table_faults, top_faults, top_keys, in_order, core_faults, part_faults, empty_faults, has_tasks, is_parent, faults}
+use Rattle.system_file.specs.Document.{elements_of, array_of, text_of, is_text, cores_of, parts_of, tasks_of, parent_at, spelled_core, spelled_part, spelled_system}
+use Rattle.system_file.specs.Faults.{fault_if, required, optional, format_faults, core_array_faults, array_faults, top_faults, top_keys, in_order, core_faults, part_faults, empty_faults, has_tasks, is_parent, faults}
 use Rattle.system_file.specs.Reading.{first_of, is_on, has_child, is_empty_part, part_in, ParentsAmong}
 use Rattle.system_file.proofs.Elements.{length_map, list_any_map, map_append}
 use Rattle.system_file.proofs.First.{first_here, first_later, none_both, none_left, none_right}
@@ -71,7 +69,7 @@ module _ (cores parts : List Data) where
     child_is q h =
         list_any_map (λ (p : PartView). is_on q p.parent) (spelled_part cores parts) parts
         ∙ list_any_same (λ d. is_on q (parent_at cores parts d)) (λ d. is_text (text_of (get (codes "name") (get_or parts q (boolean false)))) (get (codes "parent") d)) parts (boolean false)
-            (λ r hr. link cores parts no_core no_part q r h hr)
+        (λ r hr. link cores parts no_core no_part q r h hr)
 
     empty_is : (q : ℕ) → q < length parts → is_empty_part spelled q (part_in spelled q) ≡ (not (has_tasks (get_or parts q (boolean false))) && not (is_parent parts (get_or parts q (boolean false))))
     empty_is q h = ap (λ b. not b && not (has_child spelled q)) (leaf_is q h) ∙ ap (λ b. not (has_tasks (get_or parts q (boolean false))) && not b) (child_is q h)
@@ -88,8 +86,8 @@ module _ (cores parts : List Data) where
         let few : at < length parts = rw (length_map (spelled_part cores parts) parts) at within in
         let long : length (take at parts) ≡ at = length-take-le at parts (omega arith) in
         first_in_order (empty_faults parts) [] parts at (boolean false) (Empty (Part at)) few
-          (λ q h. ap (λ b. fault_if b (Empty (Part (length (take q parts))))) (sym (empty_is q (omega arith)) ∙ before q h))
-          (ap (λ b. first_of (fault_if b (Empty (Part (length (take at parts)))))) (sym (empty_is at few) ∙ here) ∙ ap (λ n. Some (Empty (Part n))) long)
+        (λ q h. ap (λ b. fault_if b (Empty (Part (length (take q parts))))) (sym (empty_is q (omega arith)) ∙ before q h))
+        (ap (λ b. first_of (fault_if b (Empty (Part (length (take at parts)))))) (sym (empty_is at few) ∙ here) ∙ ap (λ n. Some (Empty (Part n))) long)
 
     stands : (q : ℕ) → q < length parts → (p : Parent) → parent_at cores parts (get_or parts q (boolean false)) ≡ p → Stands sys q p
     stands q h (on_core c) is = rw (length_map spelled_core cores) (parent_core cores parts no_core no_part q c h is)
@@ -120,22 +118,22 @@ module _ (cores parts : List Data) where
 
     pub is_system : (1 ≤ length cores) × (length cores ≤ 64) → length parts ≤ 512 → in_order (empty_faults parts) [] parts ≡ [] → IsSystem sys
     is_system few_cores few_parts no_empty = record {
-        some_core = rw (length_map spelled_core cores) few_cores.0;
-        few_cores = rw (length_map spelled_core cores) few_cores.1;
-        few_parts = rw (length_map (spelled_part cores parts) parts) few_parts;
-        names = names_distinct;
-        supplies = λ c within.
+      some_core = rw (length_map spelled_core cores) few_cores.0;
+      few_cores = rw (length_map spelled_core cores) few_cores.1;
+      few_parts = rw (length_map (spelled_part cores parts) parts) few_parts;
+      names = names_distinct;
+      supplies = λ c within.
           let few : c < length cores = rw (length_map spelled_core cores) at within in
           let supply : CoreView → Type 0 = λ x. IsCoreSupply x.supply in
           subst supply (sym (get_or-map spelled_core cores c (boolean false) _ few)) (core_supply (take c cores) (get_or cores c (boolean false)) (each core_faults [] cores c (boolean false) few no_core));
-        parts = λ q within.
+      parts = λ q within.
           let few : q < length parts = rw (length_map (spelled_part cores parts) parts) at within in
           subst IsPart (sym (part_spelled q few)) (part_is cores parts (take q parts) (get_or parts q (boolean false)) (part_none cores parts no_core no_part q few));
-        parents = λ q within.
+      parents = λ q within.
           let few : q < length parts = rw (length_map (spelled_part cores parts) parts) at within in
           subst (λ (p : Parent). Stands sys q p) (sym (ap (λ (p : PartView). p.parent) (part_spelled q few))) (stands q few _ refl);
-        not_empty = λ q within leaf. child_there no_empty q (rw (length_map (spelled_part cores parts) parts) at within) leaf
-      }
+      not_empty = λ q within leaf. child_there no_empty q (rw (length_map (spelled_part cores parts) parts) at within) leaf;
+    }
 
 -- no fault, so what is spelled is a system
 pub faultless_is_system : (top : Data) → faults top ≡ [] → IsSystem (spelled_system top)
@@ -149,9 +147,9 @@ faultless_is_system top h =
     let keys = table_inside Top top_keys (required Top format_faults (get (codes "format") top) ++ (required Top core_array_faults (get (codes "core") top) ++ optional (array_faults Top 512) (get (codes "part") top))) top in_top in
     let arrays = none_right (required Top format_faults (get (codes "format") top)) _ keys in
     is_system (cores_of top) (parts_of top) no_core no_part
-      (cores_few (get (codes "core") top) (none_left _ _ arrays))
-      (few_there Top 512 (get (codes "part") top) (none_right (required Top core_array_faults (get (codes "core") top)) _ arrays))
-      no_empty
+    (cores_few (get (codes "core") top) (none_left _ _ arrays))
+    (few_there Top 512 (get (codes "part") top) (none_right (required Top core_array_faults (get (codes "core") top)) _ arrays))
+    no_empty
 
 -- What comes after the faults of the top table, over the elements of the two arrays as a reader has them.
 module _ (top : Data) (cs ps : List Data) (in_top : top_faults top ≡ []) (cores_are : cs ≡ cores_of top) (parts_are : ps ≡ parts_of top) (no_core : in_order core_faults [] cs ≡ []) where

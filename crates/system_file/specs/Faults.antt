@@ -177,9 +177,9 @@ top_keys = codes "format" ∷ codes "core" ∷ codes "part" ∷ []
 abbrev pub top_faults : Data → List SystemFault
 top_faults top =
     table_faults Top top_keys
-      (required Top format_faults (get (codes "format") top) ++
-      (required Top core_array_faults (get (codes "core") top) ++
-      optional (array_faults Top 512) (get (codes "part") top))) top
+    (required Top format_faults (get (codes "format") top) ++
+    (required Top core_array_faults (get (codes "core") top) ++
+    optional (array_faults Top 512) (get (codes "part") top))) top
 
 -- All faults of a document: of the top table, of each core, of each part with its tasks, and then the empty parts.
 abbrev pub faults : Data → List SystemFault

@@ -104,7 +104,12 @@ pub fn number_at(table: &Table, key: &str, highest: u64, spot: Spot) -> Result<u
 }
 
 /// The number at a key that may be left out.
-pub fn given_number_at(table: &Table, key: &str, highest: u64, spot: Spot) -> Result<Option<u64>, SystemFault>
+pub fn given_number_at(
+    table: &Table,
+    key: &str,
+    highest: u64,
+    spot: Spot,
+) -> Result<Option<u64>, SystemFault>
     ensures ok { IfOk result (λ n. (optional (range_faults spot highest) (get_member key.now (table_view table.now)) ≡ []) × (n ≡ given_number (get_member key.now (table_view table.now))) × IsGivenBudget highest n) }
     ensures fault { IfErr result (λ fault. first_of (optional (range_faults spot highest) (get_member key.now (table_view table.now))) ≡ Some fault) }
 {
@@ -151,7 +156,12 @@ pub fn few_of(value: &Value, most: usize, spot: Spot) -> Result<&[Value], System
 }
 
 /// The elements at a key that may be left out, at most so many.
-pub fn elements_at<'t>(table: &'t Table, key: &str, most: usize, spot: Spot) -> Result<&'t [Value], SystemFault>
+pub fn elements_at<'t>(
+    table: &'t Table,
+    key: &str,
+    most: usize,
+    spot: Spot,
+) -> Result<&'t [Value], SystemFault>
     ensures ok { IfOk result (λ xs. (optional (array_faults spot most) (get_member key.now (table_view table.now)) ≡ []) × (map view xs.now ≡ elements (get_member key.now (table_view table.now))) × (length xs.now ≤ most)) }
     ensures fault { IfErr result (λ fault. first_of (optional (array_faults spot most) (get_member key.now (table_view table.now))) ≡ Some fault) }
 {

@@ -1,4 +1,4 @@
-use Rattle.std.proofs.Common.{◌≡◌, List, [], map}
+use Rattle.std.proofs.Common.{◌≡◌, [], map}
 use Rattle.toml.specs.View.{view}
 use Rattle.system_file.specs.Document.{spelled_core}
 use Rattle.system_file.specs.Faults.{core_faults, in_order}

@@ -1,6 +1,4 @@
-use Rattle.std.proofs.Common.{◌≡◌, ◌-◌, ◌<◌, ◌++◌, get_or, length, List, [], Some, None, map, refl, sym, ap, ◌∙◌, arith, true, false}
-use Rattle.std.specs.Prelude.{position, bytes_eq}
-use Rattle.system_file.specs.declared.fault.SystemFault.{SystemFault}
+use Rattle.std.proofs.Common.{◌≡◌, ◌-◌, ◌++◌, get_or, length, Some, None, sym, ap, ◌∙◌, arith}
 use Rattle.system_file.specs.declared.fault.SystemFault.TheVariants.{Mixed}
 use Rattle.system_file.specs.Document.{is_named, spelled_part}
 use Rattle.system_file.specs.Faults.{is_parent_faults, fault_if}
@@ -23,9 +21,9 @@ pub returns-then-has_tasks-clause-fault : goal.returns-then-has_tasks-clause-fau
 returns-then-has_tasks-clause-fault c = λ cores before later known.
     let few : length c.args.earlier.now ≡ length before = ap length known.spelled ∙ length_map (spelled_part cores (before ++ later)) before in
     let leaf = leaf_at cores (before ++ later) before (c.in-Some.place - c.args.cores) c.index-earlier-part.result (omega (arith, c.in-Some.ensures.within))
-                 (c.index-earlier-part.is ∙ ap (λ parts. get_or parts (c.in-Some.place - c.args.cores) c.index-earlier-part.result) known.spelled) in
+    (c.index-earlier-part.is ∙ ap (λ parts. get_or parts (c.in-Some.place - c.args.cores) c.index-earlier-part.result) known.spelled) in
     let found = part_found _ _ _ _ (λ k e. let lt = position_within (is_named c.args.text.now) cores k e in let counted = known.counted in omega arith)
-                  (looked_up cores before later _ _ _ c.args.text.now (Some c.in-Some.place) known (sym c.in-Some.ensures.place)) c.if-place-cores.false in
+    (looked_up cores before later _ _ _ c.args.text.now (Some c.in-Some.place) known (sym c.in-Some.ensures.place)) c.if-place-cores.false in
     ap (λ o. first_of (is_parent_faults c.args.spot before o)) found
     ∙ ap (λ b. first_of (fault_if b (Mixed c.args.spot))) (sym leaf ∙ sym c.has_tasks.ensures ∙ c.if-has_tasks.true)
 
@@ -33,9 +31,10 @@ pub returns-else-has_tasks-clause-ok : goal.returns-else-has_tasks-clause-ok
 returns-else-has_tasks-clause-ok c = λ cores before later known.
     let few : length c.args.earlier.now ≡ length before = ap length known.spelled ∙ length_map (spelled_part cores (before ++ later)) before in
     let leaf = leaf_at cores (before ++ later) before (c.in-Some.place - c.args.cores) c.index-earlier-part.result (omega (arith, c.in-Some.ensures.within))
-                 (c.index-earlier-part.is ∙ ap (λ parts. get_or parts (c.in-Some.place - c.args.cores) c.index-earlier-part.result) known.spelled) in
+    (c.index-earlier-part.is ∙ ap (λ parts. get_or parts (c.in-Some.place - c.args.cores) c.index-earlier-part.result) known.spelled) in
     let found = part_found _ _ _ _ (λ k e. let lt = position_within (is_named c.args.text.now) cores k e in let counted = known.counted in omega arith)
-                  (looked_up cores before later _ _ _ c.args.text.now (Some c.in-Some.place) known (sym c.in-Some.ensures.place)) c.if-place-cores.false in
-    (ap (is_parent_faults c.args.spot before) found
-       ∙ ap (λ b. fault_if b (Mixed c.args.spot)) (sym leaf ∙ sym c.has_tasks.ensures ∙ c.if-has_tasks.false),
-     found)
+    (looked_up cores before later _ _ _ c.args.text.now (Some c.in-Some.place) known (sym c.in-Some.ensures.place)) c.if-place-cores.false in (
+      ap (is_parent_faults c.args.spot before) found
+          ∙ ap (λ b. fault_if b (Mixed c.args.spot)) (sym leaf ∙ sym c.has_tasks.ensures ∙ c.if-has_tasks.false),
+      found,
+    )

@@ -1,18 +1,15 @@
-use Rattle.std.proofs.Common.{◌≡◌, ◌≢◌, ℕ, ◌<◌, [], ◌∷◌, ◌++◌, List, map, length, true, false, Some, refl, sym, ap, subst, ◌∙◌, arith}
+use Rattle.std.proofs.Common.{◌≡◌, ℕ, ◌<◌, [], List, map, length, true, false, sym, ap, subst, ◌∙◌, arith}
 use Rattle.std.proofs.lemmas.Result.{err_from_is_err_and}
-use Rattle.toml.specs.Data.{Data, table}
+use Rattle.toml.specs.Data.{table}
 use Rattle.toml.specs.View.{view, table_view}
-use Rattle.tree_model.specs.View.{PartView, SystemView}
+use Rattle.tree_model.specs.View.{PartView}
 use Rattle.tree_model.specs.System.{IsSystem}
-use Rattle.system_file.specs.declared.fault.SystemFault.{SystemFault}
-use Rattle.system_file.specs.declared.fault.SystemFault.TheVariants.{Empty}
-use Rattle.system_file.specs.declared.fault.Spot.TheVariants.{Part}
-use Rattle.system_file.specs.Document.{spelled_core, spelled_part, spelled_system}
-use Rattle.system_file.specs.Faults.{top_faults, faults}
+use Rattle.system_file.specs.Document.{spelled_part}
+use Rattle.system_file.specs.Faults.{top_faults}
 use Rattle.system_file.specs.Reading.{is_empty_part, part_in, ParentsAmong}
 use Rattle.system_file.proofs.Elements.{length_map}
 use Rattle.system_file.proofs.First.{none_both}
-use Rattle.system_file.proofs.Systems.{sys, spelled, parents_among, none_empty, first_is_empty, faultless_is_system, fault_in_parts, fault_in_tree, no_fault, spelled_from}
+use Rattle.system_file.proofs.Systems.{parents_among, none_empty, first_is_empty, faultless_is_system, fault_in_parts, fault_in_tree, no_fault, spelled_from}
 use Rattle.system_file.proofs.read.read_document.Goals as goal
 
 pub returns-in_err-parts-clause-fault : goal.returns-in_err-parts-clause-fault
@@ -34,7 +31,7 @@ overflow_cast-result c =
     let read = c.in_ok-parts.ensures.ok (map view c.in_ok-core_values.core_values.now) counted c.in_ok-cores.ensures.ok.2 in
     let found = rw c.in-Some.is at c.in_ok-place.ensures.found in
     let long : length c.deref.result.now ≡ length c.in_ok-part_values.part_values.now =
-          ap length (c.deref.ensures.value ∙ read.1) ∙ length_map (spelled_part (map view c.in_ok-core_values.core_values.now) (map view c.in_ok-part_values.part_values.now)) (map view c.in_ok-part_values.part_values.now) ∙ length_map view c.in_ok-part_values.part_values.now in
+    ap length (c.deref.ensures.value ∙ read.1) ∙ length_map (spelled_part (map view c.in_ok-core_values.core_values.now) (map view c.in_ok-part_values.part_values.now)) (map view c.in_ok-part_values.part_values.now) ∙ length_map view c.in_ok-part_values.part_values.now in
     omega (arith, found.0, c.in_ok-part_values.ensures.ok.2)
 
 pub returns-in-Some-clause-fault : goal.returns-in-Some-clause-fault
@@ -56,7 +53,7 @@ invariant_of-result c =
     let None_empty : List PartView → Type 0 = λ parts. (q : ℕ) → q < length parts → is_empty_part parts q (part_in parts q) ≡ false in
     let no_empty = none_empty (map view c.in_ok-core_values.core_values.now) (map view c.in_ok-part_values.part_values.now) c.in_ok-cores.ensures.ok.0 read.0 (subst None_empty (c.deref.ensures.value ∙ read.1) found) in
     rw (c.in_ok-cores.ensures.ok.1, read.1)
-      (subst IsSystem (spelled_from (table (table_view c.args.table.now)) (map view c.in_ok-core_values.core_values.now) (map view c.in_ok-part_values.part_values.now) in_top c.in_ok-core_values.ensures.ok.1 c.in_ok-part_values.ensures.ok.1 c.in_ok-cores.ensures.ok.0) (faultless_is_system (table (table_view c.args.table.now)) (no_fault (table (table_view c.args.table.now)) (map view c.in_ok-core_values.core_values.now) (map view c.in_ok-part_values.part_values.now) in_top c.in_ok-core_values.ensures.ok.1 c.in_ok-part_values.ensures.ok.1 c.in_ok-cores.ensures.ok.0 read.0 no_empty)))
+    (subst IsSystem (spelled_from (table (table_view c.args.table.now)) (map view c.in_ok-core_values.core_values.now) (map view c.in_ok-part_values.part_values.now) in_top c.in_ok-core_values.ensures.ok.1 c.in_ok-part_values.ensures.ok.1 c.in_ok-cores.ensures.ok.0) (faultless_is_system (table (table_view c.args.table.now)) (no_fault (table (table_view c.args.table.now)) (map view c.in_ok-core_values.core_values.now) (map view c.in_ok-part_values.part_values.now) in_top c.in_ok-core_values.ensures.ok.1 c.in_ok-part_values.ensures.ok.1 c.in_ok-cores.ensures.ok.0 read.0 no_empty)))
 
 pub returns-clause-ok : goal.returns-clause-ok
 returns-clause-ok c =
@@ -65,6 +62,7 @@ returns-clause-ok c =
     let read = c.in_ok-parts.ensures.ok (map view c.in_ok-core_values.core_values.now) counted c.in_ok-cores.ensures.ok.2 in
     let found = rw c.in-None.is at c.in_ok-place.ensures.found in
     let None_empty : List PartView → Type 0 = λ parts. (q : ℕ) → q < length parts → is_empty_part parts q (part_in parts q) ≡ false in
-    let no_empty = none_empty (map view c.in_ok-core_values.core_values.now) (map view c.in_ok-part_values.part_values.now) c.in_ok-cores.ensures.ok.0 read.0 (subst None_empty (c.deref.ensures.value ∙ read.1) found) in
-    (no_fault (table (table_view c.args.table.now)) (map view c.in_ok-core_values.core_values.now) (map view c.in_ok-part_values.part_values.now) in_top c.in_ok-core_values.ensures.ok.1 c.in_ok-part_values.ensures.ok.1 c.in_ok-cores.ensures.ok.0 read.0 no_empty,
-     rw (c.in_ok-cores.ensures.ok.1, read.1) (sym (spelled_from (table (table_view c.args.table.now)) (map view c.in_ok-core_values.core_values.now) (map view c.in_ok-part_values.part_values.now) in_top c.in_ok-core_values.ensures.ok.1 c.in_ok-part_values.ensures.ok.1 c.in_ok-cores.ensures.ok.0)))
+    let no_empty = none_empty (map view c.in_ok-core_values.core_values.now) (map view c.in_ok-part_values.part_values.now) c.in_ok-cores.ensures.ok.0 read.0 (subst None_empty (c.deref.ensures.value ∙ read.1) found) in (
+      no_fault (table (table_view c.args.table.now)) (map view c.in_ok-core_values.core_values.now) (map view c.in_ok-part_values.part_values.now) in_top c.in_ok-core_values.ensures.ok.1 c.in_ok-part_values.ensures.ok.1 c.in_ok-cores.ensures.ok.0 read.0 no_empty,
+      rw (c.in_ok-cores.ensures.ok.1, read.1) (sym (spelled_from (table (table_view c.args.table.now)) (map view c.in_ok-core_values.core_values.now) (map view c.in_ok-part_values.part_values.now) in_top c.in_ok-core_values.ensures.ok.1 c.in_ok-part_values.ensures.ok.1 c.in_ok-cores.ensures.ok.0)),
+    )

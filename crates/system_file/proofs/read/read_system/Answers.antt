@@ -1,4 +1,3 @@
-use Rattle.std.proofs.Common.{◌≡◌, Some}
 use Rattle.system_file.proofs.Texts.{system_none, system_text}
 use Rattle.system_file.proofs.read.read_system.Goals as goal
 

@@ -1,4 +1,3 @@
-use Rattle.std.proofs.Common.{◌≡◌, Some}
 use Rattle.toml.specs.View.{table_view}
 use Rattle.system_file.proofs.Texts.{document_spelled, document_refused}
 use Rattle.system_file.proofs.read.read_text.Goals as goal

@@ -1,6 +1,4 @@
-use Rattle.std.proofs.Common.{◌≡◌, ◌∷◌, [], ◌++◌, List, ℕ, false, map, ap, ◌∙◌, Bor}
-use Rattle.std.proofs.Common.{bytes_eq}
-use Rattle.std.specs.List.{list_any}
+use Rattle.std.proofs.Common.{◌∷◌, [], ◌++◌, List, ℕ, map, ap, ◌∙◌, Bor}
 use Rattle.system_file.proofs.Elements.{added_name}
 use Rattle.system_file.proofs.names.Names.add.Goals as goal
 
