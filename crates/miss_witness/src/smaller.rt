@@ -28,16 +28,18 @@ pub fn witness(sched: Sched, tasks: &[Task], period: u64, least: u64) -> Defeat
     ensures must_miss { (budget : ℕ) → budget < least → MustMiss (GivesBudget period budget) (before_of sched (sporadic_tasks tasks.now)) (sporadic_tasks tasks.now) }
 {
     let budget = least - 1;
+    // The worst pattern gives its first budget at once, and from there on no more than the bound.
+    let start = budget;
     match test(sched, tasks, &Periodic { period, budget }) {
         Tested::Short(Short::At(span)) => Defeat {
             budget,
-            start: budget,
+            start,
             span,
             task: None,
         },
         Tested::Short(Short::Task(task)) => Defeat {
             budget,
-            start: budget,
+            start,
             span: tasks[task as usize].deadline as u128,
             task: Some(task),
         },
