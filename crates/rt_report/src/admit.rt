@@ -29,7 +29,8 @@ pub fn admit_text(
     Ok(text.into_bytes())
 }
 
-fn is_computed_leaf(part: &Part) -> bool
+/// Whether the part has tasks and its budget is left open.
+pub fn is_computed_leaf(part: &Part) -> bool
     ensures { result ≡ is_computed_leaf part.now }
 {
     part.budget().is_none() && part.is_leaf()

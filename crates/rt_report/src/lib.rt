@@ -7,7 +7,7 @@ mod names;
 mod refusal;
 mod replay;
 
-pub use admit::admit_text;
+pub use admit::{admit_text, is_computed_leaf};
 pub use fault::{FileFault, fault_text};
 pub use refusal::refusal_text;
 pub use replay::Replay;

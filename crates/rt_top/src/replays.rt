@@ -16,7 +16,7 @@ ghost use Rattle.rt_report.specs.Replay.{IsReplay, IsReplayed};
 use fp_request::Fixed;
 use guest_sched::run_level;
 use miss_witness::{Defeat, witness, witness_jobs};
-use rt_report::Replay;
+use rt_report::{Replay, is_computed_leaf};
 use slot_model::{Edf, Job, Miss, Sched, Task, first_miss};
 use std::alloc::{AllocError, Global};
 use supply_bound::Periodic;
@@ -57,12 +57,6 @@ fn replay_leaves(
         }
     }
     Ok(replays)
-}
-
-fn is_computed_leaf(part: &Part) -> bool
-    ensures { result ≡ is_computed_leaf part.now }
-{
-    part.budget().is_none() && part.is_leaf()
 }
 
 /// The replay of the computed leaf at place `q`, whose tasks are written to `room`.

@@ -1,9 +1,9 @@
-ghost use Rattle.std.specs.Prelude.{◌≤◌, None};
+ghost use Rattle.std.specs.Prelude.{◌≤◌};
 
 mod rows;
 
 use crate::{Status, run};
-use outside::{MemorySink, MemoryStore, Store, StoreFault};
+use outside::{MemorySink, MemoryStore};
 use rows::*;
 use slot_model::Name;
 use std::alloc::{AllocError, Global};
@@ -19,16 +19,25 @@ fn words(alloc: Global, all: &[&str]) -> Result<Vec<String>, AllocError> {
     Ok(words)
 }
 
-// A store of the one file `sys`.
-fn one_file(alloc: Global, text: &str, bite: usize, fails: Vec<u64>) -> Result<MemoryStore, Fail>
+// A store of the one file `sys` with these bytes.
+fn file_of(
+    alloc: Global,
+    bytes: Vec<u8>,
+    bite: usize,
+    fails: Vec<u64>,
+) -> Result<MemoryStore, Fail>
     requires { 1 ≤ bite }
 {
     let mut files = Vec::new(alloc);
-    files.push((
-        Name::new(alloc, b"sys")?.ok_or("no name")?,
-        text.as_bytes().to_vec(alloc)?,
-    ))?;
+    files.push((Name::new(alloc, b"sys")?.ok_or("no name")?, bytes))?;
     Ok(MemoryStore::new(files, bite, fails))
+}
+
+// A store of the one file `sys` with this text.
+fn one_file(alloc: Global, text: &str, bite: usize, fails: Vec<u64>) -> Result<MemoryStore, Fail>
+    requires { 1 ≤ bite }
+{
+    file_of(alloc, text.as_bytes().to_vec(alloc)?, bite, fails)
 }
 
 // The status and the text of `admit` of a file with this text.
@@ -156,48 +165,11 @@ fn each_failing_write_leaves_the_front_of_the_text(rt: HostRuntime) -> Result<()
     Ok(())
 }
 
-// A file of so many zeros, which takes no memory. It tells nothing.
-#[derive(Drop)]
-struct Zeros {
-    left: usize,
-    is_open: bool,
-    taken: u64,
-}
-
-impl Store for Zeros {
-    ghost files = { λ s. None };
-
-    ghost rest = { λ s. None };
-
-    ghost is_open = { λ s. s.is_open };
-
-    ghost faults = { λ s. 0 };
-
-    ghost absences = { λ s. 0 };
-
-    ghost taken = { λ s. s.taken };
-
-    fn open_file(&mut self, _name: &str) -> Result<(), StoreFault> {
-        self.is_open = true;
-        Ok(())
-    }
-
-    fn read(&mut self, buf: &mut [u8]) -> Result<usize, StoreFault> {
-        let count = buf.len().min(self.left);
-        self.left -= count;
-        self.taken = self.taken.saturating_add(count as u64);
-        Ok(count)
-    }
-}
-
 #[test]
 fn one_byte_past_the_limit_is_too_long(rt: HostRuntime) -> Result<(), Fail> {
     let alloc = rt.alloc();
-    let mut store = Zeros {
-        left: 67_108_865,
-        is_open: false,
-        taken: 0,
-    };
+    let bytes = vec![in alloc; 0u8; 67_108_865]?;
+    let mut store = file_of(alloc, bytes, 4096, Vec::new(alloc))?;
     let mut out = MemorySink::new(alloc, 4096, 4096, Vec::new(alloc))?;
     let status = run(alloc, &words(alloc, &["admit", "sys"])?, &mut store, &mut out);
     assert_eq!(rt; status, Status::TooLong);
