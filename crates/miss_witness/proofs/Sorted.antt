@@ -1,12 +1,10 @@
 -- The jobs of all tasks, sorted, are the synchronous release.
-use Rattle.std.proofs.Common.{◌≡◌, ℕ, ◌<◌, Bool, false, List, length, get_or, sym, ◌∙◌, ap, subst}
-use Rattle.std.specs.List.{All, sum_by}
+use Rattle.std.proofs.Common.{◌≡◌, ℕ, false, List, length, sym, ◌∙◌, ap}
 use Rattle.std.specs.List.Sorted.{IsPermutation, IsSortedBy}
-use Rattle.std.specs.Ordering.{is_lt, nat_cmp, ordering_then}
 use Rattle.std.proofs.lemmas.Cmp.{nat_cmp_total, on_total, then_total}
 use Rattle.std.proofs.lemmas.List.Sorted.{All-permutation, ranks_by, sorted_far, sum_by-IsPermutation}
 use Rattle.std.proofs.lemmas.List.Elements.{All-from_get_or}
-use Rattle.slot_model.specs.Task.{SporadicTask, job_at, task_at}
+use Rattle.slot_model.specs.Task.{SporadicTask, task_at}
 use Rattle.slot_model.specs.Release.{synchronous}
 use Rattle.slot_model.specs.declared.job.Job.{Job}
 use Rattle.slot_model.proofs.Synchronous.{synchronous_whole}

@@ -9,11 +9,7 @@ use std::alloc::{AllocError, Global};
 
 /// The jobs of a defeat: every task releases at its start and then once a period within its span,
 /// always with full work. They stand by release, and of one moment by place.
-pub fn witness_jobs(
-    alloc: Global,
-    tasks: &[Task],
-    w: &Defeat,
-) -> Result<Vec<Job>, AllocError>
+pub fn witness_jobs(alloc: Global, tasks: &[Task], w: &Defeat) -> Result<Vec<Job>, AllocError>
     requires in_reach { w.now.start + w.now.span ≤ 1000000 }
     requires few { length tasks.now ≤ 256 }
     ensures exact { IfOk result (λ jobs. jobs.items ≡ synchronous (sporadic_tasks tasks.now) w.now.start w.now.span) }

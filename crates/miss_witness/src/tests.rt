@@ -39,8 +39,14 @@ fn defeat_of(sched: Sched, tasks: &[Task], period: u64) -> Option<Defeat>
 #[test]
 fn defeats_of_the_next_smaller_budget(rt: HostRuntime) -> Result<(), Fail> {
     let tasks = [task(50, 50, 7)?, task(75, 75, 9)?];
-    assert_eq!(rt; defeat_of(Sched::Edf, &tasks, 10), Some(defeat(2, 75, None)));
-    assert_eq!(rt; defeat_of(Sched::Rm, &tasks, 10), Some(defeat(3, 75, Some(1))));
+    assert_eq!(rt;
+        defeat_of(Sched::Edf, &tasks, 10),
+        Some(defeat(2, 75, None))
+    );
+    assert_eq!(rt;
+        defeat_of(Sched::Rm, &tasks, 10),
+        Some(defeat(3, 75, Some(1)))
+    );
     let whole = [task(5, 5, 5)?];
     assert_eq!(rt; defeat_of(Sched::Edf, &whole, 5), Some(defeat(4, 5, None)));
     Ok(())
@@ -53,7 +59,14 @@ fn jobs_by_release_and_then_by_place(rt: HostRuntime) -> Result<(), Fail> {
     let wanted = [(0, 2, 7), (1, 2, 9), (0, 52, 7)];
     assert_eq!(rt; jobs.len(), wanted.len());
     for (job, (task, release, work)) in jobs.iter().zip(wanted) {
-        assert_eq!(rt; *job, Job { task, release, work });
+        assert_eq!(rt;
+            *job,
+            Job {
+                task,
+                release,
+                work
+            }
+        );
     }
     Ok(())
 }

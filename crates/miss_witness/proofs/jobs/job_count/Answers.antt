@@ -1,4 +1,4 @@
-use Rattle.std.proofs.Common.{◌≡◌, ◌+◌, ◌-◌, ◌/◌, ◌≤◌, ◌*◌, arith}
+use Rattle.std.proofs.Common.{arith}
 use Rattle.miss_witness.proofs.Counts.{one_more_counted}
 use Rattle.miss_witness.proofs.jobs.job_count.Goals as goal
 

@@ -1,9 +1,6 @@
-use Rattle.std.proofs.Common.{ℕ, ◌+◌, ◌-◌, ◌≡◌, ◌≤◌, ◌++◌, [], ◌∷◌, arith, ap, sym, ◌∙◌, subst}
-use Rattle.slot_model.specs.Task.{sporadic_tasks, task_at, SporadicTask}
-use Rattle.slot_model.specs.Release.{release_of}
-use Rattle.slot_model.specs.declared.job.Job.{Job}
-use Rattle.fp_request.proofs.Parts.{task_at-is}
-use Rattle.miss_witness.proofs.TaskReleases.{Added, all_added, none_added, pushed_one, some_period}
+use Rattle.std.proofs.Common.{arith}
+use Rattle.slot_model.specs.Task.{sporadic_tasks}
+use Rattle.miss_witness.proofs.TaskReleases.{all_added, none_added, pushed_one, some_period}
 use Rattle.miss_witness.proofs.jobs.push_releases.Goals as goal
 
 pub loop-after-init : goal.loop-after-init

@@ -1,6 +1,6 @@
 use Rattle.std.proofs.Common.{ℕ, ◌-◌, ◌<◌, length, arith, ap, subst, refl}
 use Rattle.slot_model.specs.declared.sched.Short.{Short}
-use Rattle.slot_model.specs.declared.sched.Short.TheVariants.{At, Task}
+use Rattle.slot_model.specs.declared.sched.Short.TheVariants.{Task}
 use Rattle.slot_model.specs.Task.{sporadic_tasks, SporadicTask}
 use Rattle.slot_model.specs.Bound.{sbf, IsShortfall}
 use Rattle.slot_model.proofs.Constrained.{are_constrained}
