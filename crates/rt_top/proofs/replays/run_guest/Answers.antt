@@ -1,4 +1,4 @@
-use Rattle.std.proofs.Common.{◌≡◌, ℕ, Bool, List, length, Option, sym, subst}
+use Rattle.std.proofs.Common.{◌≡◌, Bool, List, length, sym, subst}
 use Rattle.std.specs.Prelude.{IfOk}
 use Rattle.slot_model.specs.declared.sched.Sched.{Sched}
 use Rattle.slot_model.specs.Task.{sporadic_tasks}

@@ -1,4 +1,4 @@
-use Rattle.std.proofs.Common.{sym, ◌∙◌, ◌+◌, ◌≤◌, subst, ap, arith, ℕ}
+use Rattle.std.proofs.Common.{sym, ◌∙◌, arith}
 use Rattle.slot_model.specs.Task.{sporadic_tasks}
 use Rattle.rt_top.proofs.ReplayLeaf.{RunsDefeat, run_holds_released, run_is_replay, runs_same}
 use Rattle.rt_top.proofs.replays.seen_miss.Goals as goal
