@@ -1,15 +1,15 @@
--- Files worked out by the checker: a good one, and refused ones.
-use Rattle.std.specs.Prelude.{◌≡◌, codes, [], ◌∷◌, List, ℕ, Ok, Err, None, refl}
-use Rattle.slot_model.specs.declared.sched.Sched.TheVariants.{Edf}
+-- Files and documents worked out by the checker: good ones, and refused ones with the fault that counts first.
+use Rattle.std.specs.Prelude.{◌≡◌, codes, [], ◌∷◌, List, ℕ, pos, Ok, Err, Some, None, false, refl}
+use Rattle.slot_model.specs.declared.sched.Sched.TheVariants.{Edf, Rm}
 use Rattle.std.specs.Str.{is_utf8, chars}
 use Rattle.toml.proofs.OnLiterals.{toml_on_literals}
-use Rattle.system_file.specs.declared.fault.Spot.TheVariants.{Top}
-use Rattle.system_file.specs.declared.fault.SystemFault.TheVariants.{NotToml, MissingKey}
-use Rattle.system_file.specs.SystemFile.{system_of}
+use Rattle.toml.specs.Data.{Data, string, integer, array, table, Items, no_items, item, Members, no_members, member}
+use Rattle.tree_model.specs.declared.place.Parent.TheVariants.{Core as on_core, Part as on_part}
+use Rattle.system_file.specs.declared.fault.Spot.TheVariants.{Top, Core, Part, Task}
+use Rattle.system_file.specs.declared.fault.SystemFault.TheVariants.{NotToml, MissingKey, WrongKind, UnknownKey, BadName, NameTaken, OutOfRange, NoSuchParent, Mixed, Empty}
+use Rattle.system_file.specs.SystemFile.{system_of, system_of_document}
 
-abbrev head : List ℕ
-head = codes "format = 1\n[[core]]\nname = \"cpu0\"\nsched = \"edf\"\n"
-
+-- from the bytes on
 no_bytes : system_of [] ≡ Err (MissingKey Top)
 unfolding toml_on_literals is_utf8 chars system_of
 no_bytes = refl
@@ -18,6 +18,87 @@ format_alone : system_of (codes "format =") ≡ Err NotToml
 unfolding toml_on_literals is_utf8 chars system_of
 format_alone = refl
 
-core_alone : system_of head ≡ Ok (record { cores = record { name = codes "cpu0"; sched = Edf; supply = None } ∷ []; parts = [] })
+format_as_text : system_of (codes "format = \"1\"") ≡ Err (WrongKind Top)
+unfolding toml_on_literals is_utf8 chars system_of
+format_as_text = refl
+
+no_text : system_of (0xff ∷ []) ≡ Err NotToml
+unfolding toml_on_literals is_utf8 chars system_of
+no_text = refl
+
+core_alone : system_of (codes "format = 1\n[[core]]\nname = \"cpu0\"\nsched = \"edf\"\n") ≡ Ok (record { cores = record { name = codes "cpu0"; sched = Edf; supply = None } ∷ []; parts = [] })
 unfolding toml_on_literals is_utf8 chars system_of
 core_alone = refl
+
+-- from the document on
+abbrev document : Items → Items → Members
+document cores parts = member (codes "core") (array cores) (member (codes "format") (integer (pos 1)) (member (codes "part") (array parts) no_members))
+
+abbrev core_keys : Members → Members
+core_keys more = member (codes "name") (string (codes "cpu0")) (member (codes "sched") (string (codes "edf")) more)
+
+abbrev cpu0 : Data
+cpu0 = table (core_keys no_members)
+
+abbrev task : Data → Data → Data
+task period work = table (member (codes "name") (string (codes "t")) (member (codes "period") period (member (codes "work") work no_members)))
+
+abbrev inner : List ℕ → List ℕ → Members → Data
+inner name parent more =
+    table (member (codes "name") (string name) (member (codes "parent") (string parent) (member (codes "period") (integer (pos 10)) (member (codes "sched") (string (codes "rm")) more))))
+
+abbrev leaf : List ℕ → List ℕ → Data
+leaf name parent = inner name parent (member (codes "task") (array (item (task (integer (pos 10)) (integer (pos 1))) no_items)) no_members)
+
+abbrev one_core : Items
+one_core = item cpu0 no_items
+
+a_leaf : system_of_document (Some (document one_core (item (inner (codes "m") (codes "cpu0") no_members) (item (leaf (codes "x") (codes "m")) no_items))))
+    ≡ Ok (record {
+        cores = record { name = codes "cpu0"; sched = Edf; supply = None } ∷ [];
+        parts = record { name = codes "m"; parent = on_core 0; sched = Rm; period = 10; budget = None; extra = false; tasks = [] }
+          ∷ record { name = codes "x"; parent = on_part 0; sched = Rm; period = 10; budget = None; extra = false; tasks = record { name = codes "t"; task = record { period = 10; deadline = 10; work = 1 } } ∷ [] } ∷ []
+      })
+a_leaf = refl
+
+later_parent : system_of_document (Some (document one_core (item (leaf (codes "x") (codes "y")) (item (leaf (codes "y") (codes "cpu0")) no_items)))) ≡ Err (NoSuchParent (Part 0))
+later_parent = refl
+
+leaf_as_parent : system_of_document (Some (document one_core (item (leaf (codes "y") (codes "cpu0")) (item (leaf (codes "x") (codes "y")) no_items)))) ≡ Err (Mixed (Part 1))
+leaf_as_parent = refl
+
+abbrev coloured : Items
+coloured = item (table (member (codes "colour") (integer (pos 1)) (core_keys no_members))) no_items
+
+unknown_key : system_of_document (Some (document coloured no_items)) ≡ Err (UnknownKey (Core 0))
+unknown_key = refl
+
+-- all three faults in one file: the core's counts
+three_faults : system_of_document (Some (document coloured (item (leaf (codes "x") (codes "y")) (item (leaf (codes "y") (codes "cpu0")) (item (leaf (codes "z") (codes "y")) no_items))))) ≡ Err (UnknownKey (Core 0))
+three_faults = refl
+
+bad_name : system_of_document (Some (document one_core (item (leaf (codes "9x") (codes "cpu0")) no_items))) ≡ Err (BadName (Part 0))
+bad_name = refl
+
+name_taken : system_of_document (Some (document one_core (item (leaf (codes "x") (codes "cpu0")) (item (leaf (codes "x") (codes "cpu0")) no_items)))) ≡ Err (NameTaken (Part 1))
+name_taken = refl
+
+no_tasks : system_of_document (Some (document one_core (item (inner (codes "x") (codes "cpu0") no_members) no_items))) ≡ Err (Empty (Part 0))
+no_tasks = refl
+
+-- one key at a time
+abbrev with_task : Data → Members
+with_task t = document one_core (item (inner (codes "x") (codes "cpu0") (member (codes "task") (array (item t no_items)) no_members)) no_items)
+
+too_much_work : system_of_document (Some (with_task (task (integer (pos 10)) (integer (pos 11))))) ≡ Err (OutOfRange (Task 0 0))
+too_much_work = refl
+
+whole_period : system_of_document (Some (with_task (task (string (codes "10")) (integer (pos 1))))) ≡ Err (WrongKind (Task 0 0))
+whole_period = refl
+
+supply_budget_alone : system_of_document (Some (document (item (table (core_keys (member (codes "supply_budget") (string []) no_members))) no_items) no_items)) ≡ Err (MissingKey (Core 0))
+supply_budget_alone = refl
+
+-- its own fault comes before that of the missing budget
+supply_period_of_0 : system_of_document (Some (document (item (table (core_keys (member (codes "supply_period") (integer (pos 0)) no_members))) no_items) no_items)) ≡ Err (OutOfRange (Core 0))
+supply_period_of_0 = refl
