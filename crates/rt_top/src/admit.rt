@@ -5,9 +5,9 @@ ghost use Rattle.compose_tree.specs.Truth.{RefusalHolds};
 ghost use Rattle.rt_top.specs.Answer.{AdmitsSystem, AdmitsSpelled};
 ghost use Rattle.rt_top.specs.Headline.{KeepsDeadlines, IsTrulyOverfull};
 
+use crate::Status;
 use crate::answer::Answer;
 use crate::replays::replay_all;
-use crate::Status;
 use compose_tree::compose;
 use rt_report::{FileFault, admit_text, fault_text, refusal_text};
 use std::alloc::{AllocError, Global};

@@ -10,5 +10,5 @@ mod tests;
 mod top;
 mod words;
 
-pub use top::run;
 pub use status::Status;
+pub use top::run;

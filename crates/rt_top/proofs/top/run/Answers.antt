@@ -61,13 +61,13 @@ pub returns-in-Err-Absent-clause-complete : goal.returns-in-Err-Absent-clause-co
 returns-in-Err-Absent-clause-complete g c =
     let named : file_to_admit (map string_bytes c.args.words.now) ≡ Some c.in-Some.file.now = sym c.in-Some.ensures in
     λ can store_stays out_stays. verdict_finished (map string_bytes c.args.words.now) (g.S.Store.files c.args.store.now) Absent c.finish-in-Err-Absent.result (codes "absent file=1\n") _ _
-        (record { has_text = tt; answers = absent_answer (map string_bytes c.args.words.now) (g.S.Store.files c.args.store.now) c.in-Some.file.now named (c.in-Err-Absent.ensures.not_there (ap Err c.in-Err-Absent.field-0-is)) }) c.finish-in-Err-Absent.ensures.which c.finish-in-Err-Absent.ensures.failed can out_stays
+    (record { has_text = tt; answers = absent_answer (map string_bytes c.args.words.now) (g.S.Store.files c.args.store.now) c.in-Some.file.now named (c.in-Err-Absent.ensures.not_there (ap Err c.in-Err-Absent.field-0-is)) }) c.finish-in-Err-Absent.ensures.which c.finish-in-Err-Absent.ensures.failed can out_stays
 
 pub returns-in-Err-TooLong-clause-complete : goal.returns-in-Err-TooLong-clause-complete
 returns-in-Err-TooLong-clause-complete g c =
     let named : file_to_admit (map string_bytes c.args.words.now) ≡ Some c.in-Some.file.now = sym c.in-Some.ensures in
     λ can store_stays out_stays. verdict_finished (map string_bytes c.args.words.now) (g.S.Store.files c.args.store.now) TooLong c.finish-in-Err-TooLong.result (codes "toolong file=1\n") _ _
-        (record { has_text = tt; answers = long_answer (map string_bytes c.args.words.now) (g.S.Store.files c.args.store.now) c.in-Some.file.now named (c.in-Err-TooLong.ensures.longer (ap Err c.in-Err-TooLong.field-0-is)) }) c.finish-in-Err-TooLong.ensures.which c.finish-in-Err-TooLong.ensures.failed can out_stays
+    (record { has_text = tt; answers = long_answer (map string_bytes c.args.words.now) (g.S.Store.files c.args.store.now) c.in-Some.file.now named (c.in-Err-TooLong.ensures.longer (ap Err c.in-Err-TooLong.field-0-is)) }) c.finish-in-Err-TooLong.ensures.which c.finish-in-Err-TooLong.ensures.failed can out_stays
 
 pub returns-in-Err-Failed-clause-complete : goal.returns-in-Err-Failed-clause-complete
 returns-in-Err-Failed-clause-complete g c = λ can store_stays out_stays. absurd (stays_not_rose _ _ store_stays (c.in-Err-Failed.ensures.failed (ap Err c.in-Err-Failed.field-0-is)))
