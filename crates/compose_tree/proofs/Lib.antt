@@ -1,4 +1,10 @@
-mod Keeping
+pub mod Keeping
 mod Strict
 mod TreeRuns
 mod TreeExists
+pub mod Sound
+mod CoreMisses
+mod Heavier
+mod CoreFails
+pub mod Refusals
+mod Settling

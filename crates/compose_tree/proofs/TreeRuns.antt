@@ -18,7 +18,7 @@ use Rattle.tree_model.specs.declared.place.Parent.TheVariants.{Core as on_core, 
 use Rattle.tree_model.specs.declared.place.Place.{Place}
 use Rattle.tree_model.specs.declared.place.Place.TheVariants.{Core, Part}
 use Rattle.tree_model.specs.View.{SystemView}
-use Rattle.tree_model.specs.System.{IsSystem, Stands, core_at, part_at, own_tasks, is_leaf}
+use Rattle.tree_model.specs.System.{IsSystem, Stands, core_at, part_at, is_leaf}
 use Rattle.tree_model.specs.Tree.{place_of, same_place, is_child, budget_at, server_task, child_tasks, server_tasks, server_jobs, run_at, run_of, supply_of, PermittedTree, TreeInputs, NothingLost}
 use Rattle.compose_tree.proofs.Keeping.{Keeping}
 

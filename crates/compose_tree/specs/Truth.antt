@@ -1,5 +1,5 @@
 -- What a plan and a refusal say of every supply and every release.
-use Rattle.std.specs.Prelude.{◌≡◌, ◌⊎◌, ℕ, ◌<◌, ◌≤◌, Bool, true, false, List, length, slice_index_or, Option, Some, None}
+use Rattle.std.specs.Prelude.{◌≡◌, ℕ, ◌<◌, ◌≤◌, Bool, true, List, length, Option, Some, None}
 use Rattle.slot_model.specs.declared.job.Job.{Job}
 use Rattle.slot_model.specs.declared.sched.Short.{Short}
 use Rattle.slot_model.specs.declared.sched.Short.TheVariants.{At, Task}
@@ -7,8 +7,6 @@ use Rattle.slot_model.specs.Supply.{GivesBudget}
 use Rattle.slot_model.specs.Task.{SporadicTask, task_at, job_at, deadline_of}
 use Rattle.slot_model.specs.Order.{before_of}
 use Rattle.slot_model.specs.Miss.{Missed, MustMiss}
-use Rattle.tree_model.specs.declared.place.Parent.{Parent}
-use Rattle.tree_model.specs.declared.place.Place.{Place}
 use Rattle.tree_model.specs.declared.place.Place.TheVariants.{Core, Part}
 use Rattle.tree_model.specs.declared.plan.Refusal.{Refusal}
 use Rattle.tree_model.specs.declared.plan.Refusal.TheVariants.{Overfull, Wide, NoMemory}
@@ -40,9 +38,9 @@ pub record MissesBy (tasks : List SporadicTask) (jobs : List Job) (run : List (O
 pub record CoreMustMiss (sys : SystemView) (budgets : List ℕ) (c t n : ℕ) : Type 0 where
   pub some_inputs : (supplies : List (List Bool)) × (jobs : List (List Job)) × TreeInputs sys n supplies jobs
   pub some_run : (supplies : List (List Bool)) (jobs : List (List Job)) → TreeInputs sys n supplies jobs →
-    (core_runs : List (List (Option ℕ))) × (part_runs : List (List (Option ℕ))) × PermittedTree sys budgets n supplies jobs core_runs part_runs
+      (core_runs : List (List (Option ℕ))) × (part_runs : List (List (Option ℕ))) × PermittedTree sys budgets n supplies jobs core_runs part_runs
   pub misses : (supplies : List (List Bool)) (jobs : List (List Job)) (core_runs part_runs : List (List (Option ℕ))) → TreeInputs sys n supplies jobs →
-    PermittedTree sys budgets n supplies jobs core_runs part_runs → MissesBy (server_tasks sys budgets (Core c)) (server_jobs sys budgets (Core c) n) (run_at core_runs c) t
+      PermittedTree sys budgets n supplies jobs core_runs part_runs → MissesBy (server_tasks sys budgets (Core c)) (server_jobs sys budgets (Core c) n) (run_at core_runs c) t
 
 -- the moment by which a shortfall shows: its point, or the deadline of the child that it names
 abbrev pub shows_by : List SporadicTask → Short → ℕ

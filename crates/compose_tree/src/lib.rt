@@ -2,5 +2,9 @@
 #![tactic(auto)]
 
 mod budgets;
+mod nodes;
 
 pub use budgets::compose;
+
+#[cfg(test)]
+mod tests;

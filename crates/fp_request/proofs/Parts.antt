@@ -1,12 +1,12 @@
 -- The parts of a request bound, task by task.
-use Rattle.std.proofs.Common.{◌≡◌, ℕ, zero, suc, ◌+◌, ◌<◌, ◌≤◌, Bool, true, false, cond, List, [], ◌∷◌, length, get_or, refl, sym, ◌∙◌, ap, arith}
+use Rattle.std.proofs.Common.{◌≡◌, ℕ, suc, ◌+◌, ◌<◌, ◌≤◌, Bool, true, false, cond, List, length, get_or, ap, arith}
 use Rattle.std.proofs.lemmas.Bool.{cond-true, cond-false}
 use Rattle.std.proofs.lemmas.List.{length-map, get_or-map}
 use Rattle.slot_model.specs.declared.task.Task.{Task}
 use Rattle.slot_model.specs.Slots.{sum_below}
 use Rattle.slot_model.specs.Task.{SporadicTask, task_at, sporadic_task, sporadic_tasks}
 use Rattle.slot_model.specs.Bound.{request_of, rbf}
-use Rattle.slot_model.proofs.Sums.{sum_below-zero, sum_below-suc, sum_below-longer}
+use Rattle.slot_model.proofs.Sums.{sum_below-suc, sum_below-longer}
 
 -- the task at a place as its plain numbers
 pub task_at-is : (tasks : List Task) (i : ℕ) (d : Task) → i < length tasks → task_at (sporadic_tasks tasks) i ≡ sporadic_task (get_or tasks i d)

@@ -1,5 +1,5 @@
 -- The ranks of tasks are strict total orders of their places, and every way to choose keeps the laws of an order of jobs.
-use Rattle.std.proofs.Common.{◌≡◌, ◌≢◌, ◌⊎◌, ℕ, ◌<◌, Bool, true, false, ltb, eqb, ◌&&◌, ◌||◌, List, sym, ◌∙◌, arith, subst, inl, inr, lt-ltb, le-ltb, ltb-true, eq-eqb, eqb-true}
+use Rattle.std.proofs.Common.{◌≡◌, ◌≢◌, ◌⊎◌, ℕ, ◌<◌, Bool, true, false, ltb, List, sym, ◌∙◌, arith, subst, inl, inr, lt-ltb, le-ltb, ltb-true, eq-eqb, eqb-true}
 use Rattle.std.proofs.lemmas.Bool.{cases_lt, cases_order, or_left, or_right, and_from, and_parts, or_cases, false_from_ne_true, both_ways}
 use Rattle.slot_model.specs.Task.{SporadicTask, task_at}
 use Rattle.slot_model.specs.declared.job.Job.{Job}
@@ -8,10 +8,12 @@ use Rattle.slot_model.specs.declared.sched.Sched.TheVariants.{Edf, Rm, Dm, Liste
 use Rattle.slot_model.specs.Order.{IsRank, OrderLaws, ranks_by, ranks_above, fixed_before, before_of}
 use Rattle.slot_model.specs.EdfOrder.{edf_laws}
 
+-- the order of keys, and of places where keys are equal, as a test
 keyed : (key : ℕ → ℕ) (i j : ℕ) → (key i < key j) ⊎ ((key i ≡ key j) × (i < j)) → ranks_by key i j ≡ true
 keyed key i j (inl l) = or_left _ _ (lt-ltb _ _ l)
 keyed key i j (inr h) = or_right _ _ (and_from _ _ (eq-eqb _ _ h.0) (lt-ltb _ _ h.1))
 
+-- and the test as that order
 keys : (key : ℕ → ℕ) (i j : ℕ) → ranks_by key i j ≡ true → (key i < key j) ⊎ ((key i ≡ key j) × (i < j))
 keys key i j h = elim (or_cases _ _ h) [ inl l ↦ inl (ltb-true _ _ l) | inr b ↦ inr (eqb-true _ _ (and_parts _ _ b).0, ltb-true _ _ (and_parts _ _ b).1) ]
 
@@ -52,6 +54,7 @@ ranks_is_rank Listed tasks = place_ranks
 goes : (above : ℕ → ℕ → Bool) (a b : Job) → fixed_before above a b ≡ true → (above a.task b.task ≡ true) ⊎ ((a.task ≡ b.task) × (a.release < b.release))
 goes above a b h = elim (or_cases _ _ h) [ inl u ↦ inl u | inr v ↦ inr (eqb-true _ _ (and_parts _ _ v).0, ltb-true _ _ (and_parts _ _ v).1) ]
 
+-- and back
 comes : (above : ℕ → ℕ → Bool) (a b : Job) → (above a.task b.task ≡ true) ⊎ ((a.task ≡ b.task) × (a.release < b.release)) → fixed_before above a b ≡ true
 comes above a b (inl u) = or_left _ _ u
 comes above a b (inr v) = or_right _ _ (and_from _ _ (eq-eqb _ _ v.0) (lt-ltb _ _ v.1))
@@ -79,6 +82,7 @@ fixed_laws above r = record {
   one_task = λ tasks a b same sooner. comes (above tasks) a b (inr (same, sooner));
 }
 
+-- every way to choose keeps the laws of an order of jobs
 pub order_laws : (sched : Sched) → OrderLaws (before_of sched)
 order_laws Edf = edf_laws
 order_laws Rm = fixed_laws (ranks_above Rm) (ranks_is_rank Rm)

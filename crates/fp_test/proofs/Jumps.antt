@@ -1,11 +1,10 @@
 -- What the jumps of the test pass over: from an amount of work to the least window whose bound is that amount.
-use Rattle.std.proofs.Common.{◌≡◌, ◌^◌, ℕ, zero, suc, ◌+◌, ◌<◌, ◌≤◌, Bool, List, length, Option, Some, None, ap, sym, subst, arith, inl, inr}
+use Rattle.std.proofs.Common.{◌≡◌, ℕ, zero, suc, ◌<◌, ◌≤◌, Bool, List, length, Some, arith, inl, inr}
 use Rattle.std.proofs.lemmas.Bool.{cases_lt}
 use Rattle.slot_model.specs.Supply.{SupplyLaws}
 use Rattle.slot_model.specs.Task.{SporadicTask, AreConstrained, task_at}
 use Rattle.slot_model.specs.Bound.{rbf, IsHit, IsShortTask}
 use Rattle.supply_bound.specs.Reach.{IsReach}
-use Rattle.supply_bound.proofs.Reach.{never_falls_far}
 use Rattle.fp_request.proofs.Rises.{rbf-rises}
 
 -- no window has more slots than it is long

@@ -4,7 +4,7 @@ use Rattle.std.proofs.lemmas.Bool.{cases_eq, cases_lt, cond-true, cond-false, bo
 use Rattle.std.proofs.lemmas.List.{get_or_push, get_or-map, length-map}
 use Rattle.slot_model.specs.declared.job.Job.{Job}
 use Rattle.slot_model.specs.Task.{SporadicTask, job_at}
-use Rattle.slot_model.specs.Run.{holds, service, guest, Pending, MayHold, Entry, FirstRunTo, FirstRun, PermittedRun}
+use Rattle.slot_model.specs.Run.{holds, service, guest, Pending, MayHold, Entry, FirstRunTo}
 use Rattle.slot_model.proofs.Sums.{sum_below-suc, sum_below-zero}
 use Rattle.slot_model.proofs.FirstRuns.{push_entry, none_some, same_some, service_same}
 use Rattle.guest_sched.specs.declared.arrivals.Arrival.{Arrival}
@@ -142,7 +142,3 @@ kept_more goes tasks jobs slots x run more state came after entry k h come later
       come = λ i l. omega (arith, come i (omega arith), ap (λ (a : List Arrival). (arrival_at a i).release) arr);
       lacks = subst (IsLeft jobs (run ++ entry ∷ []) (suc x)) (sym left) (left_more (goes tasks) jobs came.arrivals.items came.arrived came.left.items came.ready.items run x (get_or slots x false) entry k.run_so_far.long h lacks v);
     }))
-
--- a first run is a permitted run
-pub first_permitted : (before : Job → Job → Bool) (tasks : List SporadicTask) (jobs : List Job) (slots : List Bool) (run : List (Option ℕ)) → FirstRun guest before tasks jobs slots run → PermittedRun guest before tasks jobs slots run
-first_permitted before tasks jobs slots run h = record { same_length = h.long; no_slot = λ x l. (h.each x l).no_slot; idle = λ x j l e q. (h.each x l).idle e q j; served = λ x j l e. ((h.each x l).held j e).pending; chosen = λ x j k l e. ((h.each x l).held j e).best k }

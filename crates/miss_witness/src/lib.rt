@@ -2,5 +2,12 @@
 #![tactic(auto)]
 
 mod defeat;
+mod jobs;
+mod smaller;
 
 pub use defeat::Defeat;
+pub use jobs::witness_jobs;
+pub use smaller::witness;
+
+#[cfg(test)]
+mod tests;

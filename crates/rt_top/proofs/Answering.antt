@@ -1,14 +1,17 @@
 -- From what was read and judged to what is answered.
 use Rattle.std.proofs.Common.{◌≡◌, ◌≢◌, ◌⊎◌, ℕ, ◌<◌, ◌≤◌, List, length, Option, Some, None, inl, inr, arith, refl, subst, sym}
-use Rattle.std.specs.Prelude.{codes, IsSomeAnd, Result, Ok, Err}
+use Rattle.std.proofs.lemmas.Bool.{false≢true}
+use Rattle.std.specs.Prelude.{codes, IsSomeAnd, IsOk, Result, Ok, Err}
 use Rattle.tree_model.specs.View.{SystemView}
 use Rattle.system_file.specs.declared.fault.SystemFault.{SystemFault}
 use Rattle.system_file.specs.SystemFile.{system_of}
-use Rattle.outside.specs.Files.{Files, Told}
+use Rattle.outside.specs.Files.{Files, Told, file_named}
+use Rattle.outside.specs.Counts.{Rose}
 use Rattle.rt_top.specs.declared.status.Status.{Status}
 use Rattle.rt_top.specs.declared.status.Status.TheVariants.{Yes, No, Usage, BadFile, Wide, Absent, TooLong, ReadFault, WriteFault, NoMemory}
 use Rattle.rt_top.specs.Words.{file_to_admit, usage_line}
 use Rattle.rt_top.specs.Answer.{file_limit, AdmitsSpelled, AnswersFile, AnswersForm, Answers, HasFixedText, HasText}
+use Rattle.rt_top.specs.Causes.{IsJudgeable, IsVerdict, Stays}
 
 -- where the files are told, one fact of the named file gives another
 pub told_more : (files : Option Files) (name : List ℕ) (P Q : Option (List ℕ) → Type 0) → ((file : Option (List ℕ)) → P file → Q file) → Told files name P → Told files name Q
@@ -71,3 +74,33 @@ pub finished : (words : List (List ℕ)) (files : Option Files) (status result :
 finished words files status result text piece Adds answer same (inl e) whole has =
     (text, subst (λ (s : Status). Answers words files s text) (sym e) answer.answers, subst Adds same (whole (λ w. subst HasText w has)))
 finished words files status result text piece Adds answer same (inr w) whole has = absurd (subst HasText w has)
+
+-- where a system can be read, an answer with a text is a verdict
+verdict_of_bytes : (bytes : List ℕ) (status : Status) (text : List ℕ) → length bytes ≤ file_limit → (spelled : Result SystemView SystemFault) → IsOk spelled → AdmitsSpelled spelled status text → IsVerdict status
+verdict_of_bytes bytes Yes text short (Ok sys) ok judged = tt
+verdict_of_bytes bytes No text short (Ok sys) ok judged = tt
+verdict_of_bytes bytes Wide text short (Ok sys) ok judged = tt
+verdict_of_bytes bytes Usage text short (Ok sys) ok judged = absurd judged
+verdict_of_bytes bytes BadFile text short (Ok sys) ok judged = absurd judged
+verdict_of_bytes bytes Absent text short (Ok sys) ok judged = absurd judged
+verdict_of_bytes bytes ReadFault text short (Ok sys) ok judged = absurd judged
+verdict_of_bytes bytes TooLong text short (Ok sys) ok judged = absurd judged
+verdict_of_bytes bytes WriteFault text short (Ok sys) ok judged = absurd judged
+verdict_of_bytes bytes NoMemory text short (Ok sys) ok judged = absurd judged
+verdict_of_bytes bytes status text short (Err fault) ok judged = absurd (false≢true ok)
+
+pub verdict_answer : (words : List (List ℕ)) (files : Option Files) (status : Status) (text : List ℕ) → Answers words files status text → IsJudgeable words files → IsVerdict status
+verdict_answer words files status text answers can =
+    let form : AnswersForm (Some can.name) files status text = subst (λ (o : Option (List ℕ)). AnswersForm o files status text) can.named answers.form in
+    let told : AnswersFile (file_named can.name can.all) status text = subst (λ (o : Option Files). AnswersForm (Some can.name) o status text) can.told form in
+    let read : AnswersFile (Some can.bytes) status text = subst (λ (o : Option (List ℕ)). AnswersFile o status text) can.there told in
+    verdict_of_bytes can.bytes status text can.short (system_of can.bytes) can.spelled (read.judged can.short)
+
+-- a count that stays did not rise
+pub stays_not_rose : (before after : ℕ) → Stays before after → Rose before after → ⊥
+stays_not_rose before after stays rose = omega (arith, stays.0, stays.1, rose)
+
+pub verdict_finished : (words : List (List ℕ)) (files : Option Files) (status result : Status) (text : List ℕ) (before after : ℕ) → HasAnswer words files status text → (result ≡ status) ⊎ (result ≡ WriteFault) → (result ≡ WriteFault → Rose before after) →
+    IsJudgeable words files → Stays before after → IsVerdict result
+verdict_finished words files status result text before after answer (inl e) failed can stays = subst IsVerdict (sym e) (verdict_answer words files status text answer.answers can)
+verdict_finished words files status result text before after answer (inr w) failed can stays = absurd (stays_not_rose before after stays (failed w))

@@ -4,8 +4,10 @@
 mod admit;
 mod answer;
 mod replays;
-mod top;
 mod status;
+#[cfg(test)]
+mod tests;
+mod top;
 mod words;
 
 pub use top::run;

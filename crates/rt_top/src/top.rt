@@ -6,7 +6,7 @@ ghost use Rattle.outside.specs.Written.{AppendsProperPrefix};
 ghost use Rattle.system_file.specs.SystemFile.{system_of};
 ghost use Rattle.rt_top.specs.Words.{file_to_admit};
 ghost use Rattle.rt_top.specs.Answer.{Answers, HasText};
-ghost use Rattle.rt_top.specs.Causes.{IsOfQuietStore};
+ghost use Rattle.rt_top.specs.Causes.{IsOfQuietStore, IsJudgeable, IsVerdict, Stays};
 ghost use Rattle.rt_top.specs.Headline.{KeepsDeadlines, IsTrulyOverfull, OfSystem};
 
 use crate::admit::admit;
@@ -32,6 +32,8 @@ pub fn run<S: Store, K: Sink>(alloc: Global, words: &[String], store: &mut S, ou
     ensures read_fault { result ≡ Status.ReadFault → Rose (S.faults store.old) (S.faults store.new) }
     ensures too_long { result ≡ Status.TooLong → RoseBeyond 67108864 (S.taken store.old) (S.taken store.new) }
     ensures write_fault { result ≡ Status.WriteFault → Rose (K.faults out.old) (K.faults out.new) }
+    // a system that can be read over a store and a sink that do not fail gets its verdict
+    ensures complete { IsJudgeable (map string_bytes words.now) (S.files store.old) → Stays (S.faults store.old) (S.faults store.new) → Stays (K.faults out.old) (K.faults out.new) → IsVerdict result }
 
     // what the answer means: on yes no deadline is missed and no smaller leaf budget does; a no is true
     ensures sound { result ≡ Status.Yes → OfSystem (file_to_admit (map string_bytes words.now)) (S.files store.old) (λ sys. (text : List ℕ) × KeepsDeadlines sys text × Appends (K.written out.old) (K.written out.new) text) }

@@ -4,15 +4,17 @@
 use outside::{DiskStore, StdoutSink};
 use rt_top::{Status, run};
 use std::alloc::Global;
+use std::env::{self, Env};
+use std::io;
 use std::process::ExitCode;
-use std::{env, io};
 
 fn main(rt: HostRuntime) -> ExitCode {
-    let status = match words_of(&rt, rt.alloc()) {
+    let alloc = rt.alloc();
+    let status = match words_of(&rt, alloc) {
         Ok(words) => {
-            let mut store = DiskStore::new(rt.clone());
             let mut out = StdoutSink::new(io::writer(&rt));
-            run(rt.alloc(), &words, &mut store, &mut out)
+            let mut store = DiskStore::new(rt);
+            run(alloc, &words, &mut store, &mut out)
         }
         Err(status) => status,
     };

@@ -1,12 +1,11 @@
-use Rattle.std.proofs.Common.{◌≡◌, ◌<◌, ◌≤◌, ◌^◌, ◌+◌, ◌∙◌, ℕ, List, Option, Some, None, MatchOption, true, false, sym, ap, arith, length, get_or}
+use Rattle.std.proofs.Common.{◌≡◌, ◌<◌, ◌≤◌, ◌^◌, ◌∙◌, ℕ, List, Option, Some, None, MatchOption, sym, ap, arith, length, get_or}
 use Rattle.slot_model.specs.declared.task.Task.{Task}
-use Rattle.std.proofs.lemmas.Grind.{common_steps}
 use Rattle.slot_model.specs.Task.{SporadicTask, sporadic_task, sporadic_tasks, task_at}
 use Rattle.slot_model.specs.Order.{ranks_above}
 use Rattle.slot_model.specs.Bound.{request_of, rbf}
 use Rattle.slot_model.proofs.Sums.{sum_below-zero}
 use Rattle.slot_model.proofs.Constrained.{are_constrained}
-use Rattle.fp_request.proofs.Parts.{task_at-is, part_of, request_to, request_to-above, request_to-not_above, request_to-more, sporadic_tasks-length}
+use Rattle.fp_request.proofs.Parts.{task_at-is, part_of, request_to-above, request_to-not_above, request_to-more, sporadic_tasks-length}
 use Rattle.fp_request.proofs.ReleasedWork.{requests_bound}
 use Rattle.fp_request.proofs.asked.request.Goals as goal
 use Rattle.fp_request.proofs.asked.request.Goals.{then-ranks+in_ok-request_of_task+in_ok-sum, else-ranks}

@@ -1,4 +1,4 @@
-use Rattle.std.proofs.Common.{arith, ap, ◌*◌, ◌≡◌, ℕ}
+use Rattle.std.proofs.Common.{arith, ◌*◌, ◌≡◌}
 use Rattle.std.proofs.lemmas.Grind.{common_steps}
 use Rattle.slot_model.specs.Task.{sporadic_task}
 use Rattle.slot_model.specs.Bound.{request_of}

@@ -4,7 +4,8 @@ use Rattle.slot_model.specs.declared.job.Job.{Job}
 use Rattle.slot_model.specs.Task.{sporadic_task, sporadic_tasks}
 use Rattle.slot_model.specs.Run.{guest, FirstRunTo}
 use Rattle.slot_model.proofs.Unique.{run_unique}
-use Rattle.guest_sched.proofs.Steps.{kept_start, kept_more, first_permitted}
+use Rattle.slot_model.proofs.FirstRuns.{first_permitted}
+use Rattle.guest_sched.proofs.Steps.{kept_start, kept_more}
 use Rattle.guest_sched.proofs.schedule.run_over.Goals as goal
 
 pub loop-now-init : goal.loop-now-init
@@ -22,7 +23,7 @@ pub returns-clause-permitted : goal.returns-clause-permitted
 returns-clause-permitted g c =
     let before = g.O.Order.goes c.args.order.now (sporadic_tasks c.args.tasks.now) in
     let end : c.loop-now.now ≡ length c.args.given.now = omega arith in
-    first_permitted before (sporadic_tasks c.args.tasks.now) c.args.jobs.now c.args.given.now c.loop-now.run.items (subst (λ (n : ℕ). FirstRunTo guest before (sporadic_tasks c.args.tasks.now) c.args.jobs.now c.args.given.now n c.loop-now.run.items) end c.loop-now.invariant.run_so_far)
+    first_permitted guest before (sporadic_tasks c.args.tasks.now) c.args.jobs.now c.args.given.now c.loop-now.run.items (subst (λ (n : ℕ). FirstRunTo guest before (sporadic_tasks c.args.tasks.now) c.args.jobs.now c.args.given.now n c.loop-now.run.items) end c.loop-now.invariant.run_so_far)
 
 pub returns-clause-only : goal.returns-clause-only
 returns-clause-only g c other h =
