@@ -1,11 +1,10 @@
 -- Files worked out by the checker: a good one, and refused ones.
-use Rattle.std.specs.Prelude.{◌≡◌, codes, [], ◌∷◌, ◌++◌, List, ℕ, Ok, Err, Some, None, false, refl}
+use Rattle.std.specs.Prelude.{◌≡◌, codes, [], ◌∷◌, List, ℕ, Ok, Err, None, refl}
 use Rattle.slot_model.specs.declared.sched.Sched.TheVariants.{Edf}
 use Rattle.std.specs.Str.{is_utf8, chars}
 use Rattle.toml.proofs.OnLiterals.{toml_on_literals}
-use Rattle.tree_model.specs.declared.place.Parent.TheVariants.{Core as on_core}
-use Rattle.system_file.specs.declared.fault.Spot.TheVariants.{Top, Core, Part, Task}
-use Rattle.system_file.specs.declared.fault.SystemFault.TheVariants.{NotToml, MissingKey, WrongKind, UnknownKey, BadName, NameTaken, OutOfRange, NoSuchParent, Mixed, Empty, TooMany}
+use Rattle.system_file.specs.declared.fault.Spot.TheVariants.{Top}
+use Rattle.system_file.specs.declared.fault.SystemFault.TheVariants.{NotToml, MissingKey}
 use Rattle.system_file.specs.SystemFile.{system_of}
 
 abbrev head : List ℕ

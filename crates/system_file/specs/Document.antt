@@ -1,10 +1,9 @@
 -- What stands at the keys of a system file, and the system that a document without faults spells. A key that may be left
 -- out stands for its default; what is given for a value of another kind never counts, since it is a fault.
-use Rattle.std.specs.Prelude.{ℕ, ℤ, pos, Bool, true, false, not, if◌then◌else◌, List, [], ◌∷◌, map, position, codes, bytes_eq, Option, Some, None, option_map, unwrap_or}
+use Rattle.std.specs.Prelude.{ℕ, pos, Bool, false, if◌then◌else◌, List, [], ◌∷◌, map, position, codes, bytes_eq, Option, Some, None, option_map, unwrap_or}
 use Rattle.slot_model.specs.declared.sched.Sched.{Sched}
 use Rattle.slot_model.specs.declared.sched.Sched.TheVariants.{Edf, Rm, Dm, Listed}
-use Rattle.slot_model.specs.Task.{SporadicTask}
-use Rattle.toml.specs.Data.{Data, string, integer, boolean, array, table, Items, no_items, item, Members, get}
+use Rattle.toml.specs.Data.{Data, string, integer, boolean, array, Items, no_items, item, get}
 use Rattle.tree_model.specs.declared.pinned_core.Core.{Core as CoreView}
 use Rattle.tree_model.specs.declared.place.Parent.{Parent}
 use Rattle.tree_model.specs.declared.place.Parent.TheVariants.{Core, Part}
@@ -97,14 +96,14 @@ parent_at cores parts d = unwrap_or (parent_named cores parts (text_of (get (cod
 
 abbrev pub spelled_part : List Data → List Data → Data → PartView
 spelled_part cores parts d = record {
-    name = text_of (get (codes "name") d);
-    parent = parent_at cores parts d;
-    sched = sched_at d;
-    period = number_of (get (codes "period") d);
-    budget = given_number (get (codes "budget") d);
-    extra = flag_of (get (codes "extra") d);
-    tasks = map spelled_task (tasks_of d)
-  }
+  name = text_of (get (codes "name") d);
+  parent = parent_at cores parts d;
+  sched = sched_at d;
+  period = number_of (get (codes "period") d);
+  budget = given_number (get (codes "budget") d);
+  extra = flag_of (get (codes "extra") d);
+  tasks = map spelled_task (tasks_of d);
+}
 
 -- the system of a document
 abbrev pub spelled_system : Data → SystemView

@@ -128,12 +128,14 @@ core_faults earlier d = table_faults (Core (length earlier)) core_keys (core_key
 abbrev pub task_keys : List (List ℕ)
 task_keys = codes "name" ∷ codes "period" ∷ codes "deadline" ∷ codes "work" ∷ []
 
-abbrev pub task_key_faults : Spot → List Data → Data → List SystemFault
-task_key_faults spot earlier d =
-    required spot (text_faults spot (new_name_faults spot earlier)) (get (codes "name") d) ++
-    (required spot (range_faults spot LIMIT) (get (codes "period") d) ++
+abbrev pub task_number_faults : Spot → Data → List SystemFault
+task_number_faults spot d =
+    required spot (range_faults spot LIMIT) (get (codes "period") d) ++
     (optional (range_faults spot (number_of (get (codes "period") d))) (get (codes "deadline") d) ++
-    required spot (range_faults spot (deadline_of d)) (get (codes "work") d)))
+    required spot (range_faults spot (deadline_of d)) (get (codes "work") d))
+
+abbrev pub task_key_faults : Spot → List Data → Data → List SystemFault
+task_key_faults spot earlier d = required spot (text_faults spot (new_name_faults spot earlier)) (get (codes "name") d) ++ task_number_faults spot d
 
 abbrev pub task_faults : ℕ → List Data → Data → List SystemFault
 task_faults q earlier d = table_faults (Task q (length earlier)) task_keys (task_key_faults (Task q (length earlier)) earlier d) d
@@ -142,15 +144,19 @@ task_faults q earlier d = table_faults (Task q (length earlier)) task_keys (task
 abbrev pub part_keys : List (List ℕ)
 part_keys = codes "name" ∷ codes "parent" ∷ codes "sched" ∷ codes "period" ∷ codes "budget" ∷ codes "extra" ∷ codes "task" ∷ []
 
+abbrev pub server_faults : Spot → Data → List SystemFault
+server_faults spot d =
+    required spot (range_faults spot LIMIT) (get (codes "period") d) ++
+    (optional (range_faults spot (number_of (get (codes "period") d))) (get (codes "budget") d) ++
+    (optional (flag_faults spot) (get (codes "extra") d) ++
+    optional (array_faults spot 256) (get (codes "task") d)))
+
 abbrev pub part_key_faults : Spot → List Data → List Data → Data → List SystemFault
 part_key_faults spot cores earlier d =
     required spot (text_faults spot (new_name_faults spot (cores ++ earlier))) (get (codes "name") d) ++
     (required spot (text_faults spot (parent_faults spot cores earlier)) (get (codes "parent") d) ++
     (required spot (text_faults spot (sched_faults spot)) (get (codes "sched") d) ++
-    (required spot (range_faults spot LIMIT) (get (codes "period") d) ++
-    (optional (range_faults spot (number_of (get (codes "period") d))) (get (codes "budget") d) ++
-    (optional (flag_faults spot) (get (codes "extra") d) ++
-    (optional (array_faults spot 256) (get (codes "task") d)))))))
+    server_faults spot d))
 
 abbrev pub part_faults : List Data → List Data → Data → List SystemFault
 part_faults cores earlier d =
@@ -171,9 +177,9 @@ top_keys = codes "format" ∷ codes "core" ∷ codes "part" ∷ []
 abbrev pub top_faults : Data → List SystemFault
 top_faults top =
     table_faults Top top_keys
-      (required Top format_faults (get (codes "format") top) ++
-      (required Top core_array_faults (get (codes "core") top) ++
-      optional (array_faults Top 512) (get (codes "part") top))) top
+    (required Top format_faults (get (codes "format") top) ++
+    (required Top core_array_faults (get (codes "core") top) ++
+    optional (array_faults Top 512) (get (codes "part") top))) top
 
 -- All faults of a document: of the top table, of each core, of each part with its tasks, and then the empty parts.
 abbrev pub faults : Data → List SystemFault

@@ -1,6 +1,13 @@
 -- Words for the steps of a reader.
-use Rattle.std.specs.Prelude.{◌≡◌, ℕ, List, [], ◌∷◌, map, codes, Option, Some, None}
+use Rattle.std.specs.Prelude.{◌≡◌, ℕ, ◌<◌, ◌==◌, Bool, false, not, ◌&&◌, List, [], ◌∷◌, ◌++◌, map, length, slice_index_or, codes, Option, Some, None}
+use Rattle.std.specs.List.{list_any}
+use Rattle.slot_model.specs.declared.sched.Sched.TheVariants.{Edf}
 use Rattle.toml.specs.Data.{Data, string, get}
+use Rattle.tree_model.specs.declared.place.Parent.{Parent}
+use Rattle.tree_model.specs.declared.place.Parent.TheVariants.{Core, Part}
+use Rattle.tree_model.specs.View.{PartView}
+use Rattle.tree_model.specs.System.{is_leaf}
+use Rattle.system_file.specs.Document.{spelled_part}
 
 -- the first of a list
 abbrev pub first_of : {A : Type 0} → List A → Option A
@@ -10,3 +17,30 @@ first_of (x ∷ later) = Some x
 -- these elements have these names, one each
 abbrev pub HaveNames : List Data → List (List ℕ) → Type 0
 HaveNames elements names = map (λ d. get (codes "name") d) elements ≡ map (λ name. Some (string name)) names
+
+-- What a reader of parts knows: how many cores there are, the names of the cores and of the parts so far, and those parts
+-- as they are spelled in the whole list of parts.
+pub record Known (cores earlier later : List Data) (core_count : ℕ) (names : List (List ℕ)) (parts : List PartView) : Type 0 where
+  pub counted : length cores ≡ core_count
+  pub named : HaveNames (cores ++ earlier) names
+  pub spelled : parts ≡ map (spelled_part cores (earlier ++ later)) earlier
+
+-- part q is the parent of one of these parts
+abbrev pub is_on : ℕ → Parent → Bool
+is_on q (Core c) = false
+is_on q (Part r) = r == q
+
+abbrev pub has_child : List PartView → ℕ → Bool
+has_child parts q = list_any (λ (p : PartView). is_on q p.parent) parts
+
+-- part q has neither tasks nor children
+abbrev pub is_empty_part : List PartView → ℕ → PartView → Bool
+is_empty_part parts q part = not (is_leaf part.tasks) && not (has_child parts q)
+
+-- the part at a place
+abbrev pub part_in : List PartView → ℕ → PartView
+part_in parts q = slice_index_or parts q (record { name = []; parent = Core 0; sched = Edf; period = 1; budget = None; extra = false; tasks = [] })
+
+-- a part that is a parent is one of them
+abbrev pub ParentsAmong : List PartView → Type 0
+ParentsAmong parts = (q r : ℕ) → q < length parts → (part_in parts q).parent ≡ Part r → r < length parts

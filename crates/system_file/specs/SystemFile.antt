@@ -1,7 +1,7 @@
 -- The system of a file's bytes, or the first fault of its document.
 use Rattle.std.specs.Prelude.{ℕ, List, [], ◌∷◌, if◌then◌else◌, Option, Some, None, Result, Ok, Err}
 use Rattle.std.specs.Str.{is_utf8}
-use Rattle.toml.specs.Data.{Data, table, Members}
+use Rattle.toml.specs.Data.{table, Members}
 use Rattle.toml.specs.Parse.{parse_document}
 use Rattle.tree_model.specs.View.{SystemView}
 use Rattle.system_file.specs.declared.fault.SystemFault.{SystemFault}

@@ -1,11 +1,12 @@
-ghost use Rattle.std.specs.Prelude.{◌≡◌, ℕ, ◌≤◌, pos, Bool, true, false, List, [], ◌∷◌, ◌++◌, length, map, codes, bytes_eq, Option, Some, None, option_map, IfOk, IfErr};
-ghost use Rattle.toml.specs.Data.{string, integer, table, get_member, as_table};
-ghost use Rattle.toml.specs.View.{view, table_view};
+ghost use Rattle.std.specs.Prelude.{◌≡◌, ℕ, ◌≤◌, pos, Bool, true, false, List, [], ◌∷◌, ◌++◌, length, map, codes, bytes_eq, string_bytes, Option, Some, None, option_map, IfOk, IfErr};
+ghost use Rattle.toml.specs.Data.{string, integer, array, table, get_member, as_table, as_array};
+ghost use Rattle.toml.specs.View.{view, items_view, table_view};
 ghost use Rattle.tree_model.specs.System.{IsGivenBudget};
-ghost use Rattle.std.specs.List.{list_any};
+ghost use Rattle.std.specs.List.{list_any, list_all};
+ghost use Rattle.std.specs.BTreeMap.{keys};
 ghost use Rattle.system_file.specs.declared.fault.Spot.{Spot};
 ghost use Rattle.system_file.specs.declared.fault.SystemFault.{SystemFault};
-ghost use Rattle.system_file.specs.Document.{elements_of, given_number, flag_of, sched_named, array_of};
+ghost use Rattle.system_file.specs.Document.{elements_of, given_number, flag_of, sched_named, array_of as elements};
 ghost use Rattle.system_file.specs.Faults.{required, optional, text_faults, sched_faults, range_faults, format_faults, flag_faults, array_faults, core_array_faults, has_only, fault_if};
 ghost use Rattle.system_file.specs.Reading.{first_of};
 
@@ -103,7 +104,12 @@ pub fn number_at(table: &Table, key: &str, highest: u64, spot: Spot) -> Result<u
 }
 
 /// The number at a key that may be left out.
-pub fn given_number_at(table: &Table, key: &str, highest: u64, spot: Spot) -> Result<Option<u64>, SystemFault>
+pub fn given_number_at(
+    table: &Table,
+    key: &str,
+    highest: u64,
+    spot: Spot,
+) -> Result<Option<u64>, SystemFault>
     ensures ok { IfOk result (λ n. (optional (range_faults spot highest) (get_member key.now (table_view table.now)) ≡ []) × (n ≡ given_number (get_member key.now (table_view table.now))) × IsGivenBudget highest n) }
     ensures fault { IfErr result (λ fault. first_of (optional (range_faults spot highest) (get_member key.now (table_view table.now))) ≡ Some fault) }
 {
@@ -125,30 +131,60 @@ pub fn flag_at(table: &Table, key: &str, spot: Spot) -> Result<bool, SystemFault
     }
 }
 
+/// The elements of the array that a value has to be.
+pub fn array_of(value: &Value, spot: Spot) -> Result<&[Value], SystemFault>
+    ensures ok { IfOk result (λ xs. view value.now ≡ array (items_view xs.now)) }
+    ensures fault { IfErr result (λ fault. (fault ≡ SystemFault.WrongKind spot) × (as_array (view value.now) ≡ None)) }
+{
+    match value {
+        Value::Array(elements) => Ok(elements.as_slice()),
+        _ => Err(SystemFault::WrongKind(spot)),
+    }
+}
+
+#[tactic(auto, using(crate::proofs::Elements::elements_view, crate::proofs::Elements::length_map))]
+/// The elements of an array, at most so many.
+pub fn few_of(value: &Value, most: usize, spot: Spot) -> Result<&[Value], SystemFault>
+    ensures ok { IfOk result (λ xs. (array_faults spot most (view value.now) ≡ []) × (map view xs.now ≡ elements (Some (view value.now))) × (length xs.now ≤ most)) }
+    ensures fault { IfErr result (λ fault. first_of (array_faults spot most (view value.now)) ≡ Some fault) }
+{
+    let elements = array_of(value, spot)?;
+    if elements.len() > most {
+        return Err(SystemFault::TooMany(spot));
+    }
+    Ok(elements)
+}
+
 /// The elements at a key that may be left out, at most so many.
-pub fn elements_at<'t>(table: &'t Table, key: &str, most: usize, spot: Spot) -> Result<&'t [Value], SystemFault>
-    ensures ok { IfOk result (λ xs. (optional (array_faults spot most) (get_member key.now (table_view table.now)) ≡ []) × (map view xs.now ≡ array_of (get_member key.now (table_view table.now))) × (length xs.now ≤ most)) }
+pub fn elements_at<'t>(
+    table: &'t Table,
+    key: &str,
+    most: usize,
+    spot: Spot,
+) -> Result<&'t [Value], SystemFault>
+    ensures ok { IfOk result (λ xs. (optional (array_faults spot most) (get_member key.now (table_view table.now)) ≡ []) × (map view xs.now ≡ elements (get_member key.now (table_view table.now))) × (length xs.now ≤ most)) }
     ensures fault { IfErr result (λ fault. first_of (optional (array_faults spot most) (get_member key.now (table_view table.now))) ≡ Some fault) }
 {
     match find(table, key) {
-        Some(Value::Array(elements)) if elements.len() <= most => Ok(elements.as_slice()),
-        Some(Value::Array(_)) => Err(SystemFault::TooMany(spot)),
-        Some(_) => Err(SystemFault::WrongKind(spot)),
+        Some(value) => few_of(value, most, spot),
         None => Ok(&[]),
     }
 }
 
+#[tactic(auto, using(crate::proofs::Elements::elements_view, crate::proofs::Elements::length_map))]
 /// The cores of the top table: 1 to 64.
-pub fn cores_at<'t>(table: &'t Table) -> Result<&'t [Value], SystemFault>
-    ensures ok { IfOk result (λ xs. (required Spot.Top core_array_faults (get_member (codes "core") (table_view table.now)) ≡ []) × (map view xs.now ≡ array_of (get_member (codes "core") (table_view table.now))) × (length xs.now ≤ 64)) }
+pub fn cores_at(table: &Table) -> Result<&[Value], SystemFault>
+    ensures ok { IfOk result (λ xs. (required Spot.Top core_array_faults (get_member (codes "core") (table_view table.now)) ≡ []) × (map view xs.now ≡ elements (get_member (codes "core") (table_view table.now))) × (length xs.now ≤ 64)) }
     ensures fault { IfErr result (λ fault. first_of (required Spot.Top core_array_faults (get_member (codes "core") (table_view table.now))) ≡ Some fault) }
 {
-    match value_at(table, "core", Spot::Top)? {
-        Value::Array(elements) if elements.is_empty() => Err(SystemFault::Empty(Spot::Top)),
-        Value::Array(elements) if elements.len() <= 64 => Ok(elements.as_slice()),
-        Value::Array(_) => Err(SystemFault::TooMany(Spot::Top)),
-        _ => Err(SystemFault::WrongKind(Spot::Top)),
+    let elements = array_of(value_at(table, "core", Spot::Top)?, Spot::Top)?;
+    if elements.is_empty() {
+        return Err(SystemFault::Empty(Spot::Top));
     }
+    if elements.len() > 64 {
+        return Err(SystemFault::TooMany(Spot::Top));
+    }
+    Ok(elements)
 }
 
 /// The format of the file has to be 1.
@@ -163,20 +199,27 @@ pub fn check_format(table: &Table) -> Result<(), SystemFault>
     }
 }
 
+#[tactic(auto, using(crate::proofs::Elements::only_listed))]
 /// Every key of a table has to be listed.
 pub fn check_keys(table: &Table, listed: &[&str], spot: Spot) -> Result<(), SystemFault>
     ensures ok { IfOk result (λ _. has_only (map (λ key. key.now) listed.now) (table_view table.now) ≡ true) }
     ensures fault { IfErr result (λ fault. (has_only (map (λ key. key.now) listed.now) (table_view table.now) ≡ false) × (fault ≡ SystemFault.UnknownKey spot)) }
 {
-    if table.keys().all(|key| is_listed(key.as_str(), listed)) {
+    if all_listed(table, listed) {
         Ok(())
     } else {
         Err(SystemFault::UnknownKey(spot))
     }
 }
 
+fn all_listed(table: &Table, listed: &[&str]) -> bool
+    ensures { result ≡ list_all (λ key. list_any (λ l. bytes_eq (string_bytes key) l.now) listed.now) (keys table.now) }
+{
+    table.keys().all(|key| is_listed(key.as_str(), listed))
+}
+
 fn is_listed(key: &str, listed: &[&str]) -> bool
-    ensures { result ≡ list_any (bytes_eq key.now) (map (λ k. k.now) listed.now) }
+    ensures { result ≡ list_any (λ k. bytes_eq key.now k.now) listed.now }
 {
     listed.iter().any(|k| key == *k)
 }

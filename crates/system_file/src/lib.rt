@@ -3,10 +3,18 @@
 //! a file that spells a system.
 #![tactic(auto)]
 
+mod cores;
 mod fault;
 mod keys;
 mod names;
+mod parts;
 mod print;
+mod read;
+mod tasks;
 
 pub use fault::{Spot, SystemFault};
 pub use print::print_system;
+pub use read::read_system;
+
+#[cfg(test)]
+mod tests;

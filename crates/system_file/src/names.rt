@@ -1,4 +1,4 @@
-ghost use Rattle.std.specs.Prelude.{◌≡◌, [], ◌∷◌, ◌++◌, false, OnOk, position, bytes_eq};
+ghost use Rattle.std.specs.Prelude.{◌≡◌, ◌<◌, [], ◌∷◌, ◌++◌, false, length, OnOk, IfSome, position, bytes_eq};
 ghost use Rattle.std.specs.List.{list_any};
 
 use indexmap::IndexSet;
@@ -29,12 +29,15 @@ impl<'t> Names<'t> {
     }
 
     /// The place of a name, counted from 0.
+    #[tactic(auto, using(crate::proofs::Elements::position_map, crate::proofs::Elements::length_map))]
     pub fn find(&self, name: &str) -> Option<usize>
-        ensures { result ≡ position (bytes_eq name.now) self.now }
+        ensures place { result ≡ position (bytes_eq name.now) self.now }
+        ensures within { IfSome result (λ i. i < length self.now) }
     {
         self.names.get_index_of(name)
     }
 
+    #[tactic(auto, using(crate::proofs::Elements::list_any_map))]
     pub fn has(&self, name: &str) -> bool
         ensures { result ≡ list_any (bytes_eq name.now) self.now }
     {
@@ -42,6 +45,7 @@ impl<'t> Names<'t> {
     }
 
     /// Puts a new name at the end.
+    #[tactic(auto, using(crate::proofs::Elements::list_any_map))]
     pub fn add(&mut self, name: &'t str) -> Result<(), AllocError>
         requires { list_any (bytes_eq name.now) self.old ≡ false }
         ensures { OnOk result (self.new ≡ self.old ++ name.now ∷ []) }

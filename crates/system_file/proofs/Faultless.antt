@@ -1,0 +1,123 @@
+-- What stands in a document where a definition finds no fault.
+use Rattle.std.proofs.Common.{◌≡◌, ℕ, ◌≤◌, pos, negsuc, Bool, true, false, not, ◌&&◌, nat_le, nat_lt, List, [], ◌∷◌, length, Option, Some, None, refl, codes, arith, unwrap_or}
+use Rattle.std.proofs.lemmas.Bool.Decides.{nat_tests}
+use Rattle.std.specs.List.{list_any}
+use Rattle.slot_model.specs.Name.{is_name}
+use Rattle.slot_model.specs.declared.task.TheConstants.{LIMIT}
+use Rattle.toml.specs.Data.{Data, string, integer, float, boolean, datetime, array, table, get}
+use Rattle.tree_model.specs.System.{IsGivenBudget, IsCoreSupply}
+use Rattle.system_file.specs.declared.fault.Spot.{Spot}
+use Rattle.system_file.specs.declared.fault.SystemFault.{SystemFault}
+use Rattle.system_file.specs.Document.{elements_of, array_of, number_of, given_number, is_named, supply_of}
+use Rattle.system_file.specs.Faults.{fault_if, required, optional, text_faults, new_name_faults, name_faults, range_faults, supply_faults, array_faults, table_faults}
+use Rattle.system_file.proofs.First.{none_left, none_right}
+
+pub not_wrong : (b : Bool) (fault : SystemFault) → fault_if b fault ≡ [] → b ≡ false
+not_wrong true fault h = cc
+not_wrong false fault h = refl
+
+pub table_inside : (spot : Spot) (listed : List (List ℕ)) (at_keys : List SystemFault) (d : Data) → table_faults spot listed at_keys d ≡ [] → at_keys ≡ []
+table_inside spot listed at_keys (string s) h = cc
+table_inside spot listed at_keys (integer z) h = cc
+table_inside spot listed at_keys (float x) h = cc
+table_inside spot listed at_keys (boolean b) h = cc
+table_inside spot listed at_keys (datetime t) h = cc
+table_inside spot listed at_keys (array ds) h = cc
+table_inside spot listed at_keys (table m) h = none_right _ at_keys h
+
+-- a text without faults
+pub record TextAt (at_text : List ℕ → List SystemFault) (o : Option Data) : Type 0 where
+  pub text : List ℕ
+  pub is : o ≡ Some (string text)
+  pub none : at_text text ≡ []
+
+pub text_there : (spot : Spot) (at_text : List ℕ → List SystemFault) (o : Option Data) → required spot (text_faults spot at_text) o ≡ [] → TextAt at_text o
+text_there spot at_text None h = cc
+text_there spot at_text (Some (string s)) h = record { text = s; is = refl; none = h }
+text_there spot at_text (Some (integer z)) h = cc
+text_there spot at_text (Some (float x)) h = cc
+text_there spot at_text (Some (boolean b)) h = cc
+text_there spot at_text (Some (datetime t)) h = cc
+text_there spot at_text (Some (array ds)) h = cc
+text_there spot at_text (Some (table m)) h = cc
+
+-- a name that no earlier element has
+pub record NewName (earlier : List Data) (d : Data) : Type 0 where
+  pub name : List ℕ
+  pub is : get (codes "name") d ≡ Some (string name)
+  pub new : list_any (is_named name) earlier ≡ false
+
+free : (spot : Spot) (taken : Bool) (s : List ℕ) (valid : Bool) → valid ≡ is_name s → name_faults spot taken s ≡ [] → taken ≡ false
+free spot true s true e h = absurd (let f : name_faults spot true s ≡ name_faults spot true s = refl in wrong (rw (← e) at h))
+  where
+    wrong : {A : Type 0} {x : A} → x ∷ [] ≡ [] → ⊥
+    wrong h = cc
+free spot true s false e h = absurd (wrong (rw (← e) at h))
+  where
+    wrong : {A : Type 0} {x : A} → x ∷ [] ≡ [] → ⊥
+    wrong h = cc
+free spot false s valid e h = refl
+
+pub new_name_there : (spot : Spot) (earlier : List Data) (d : Data) → required spot (text_faults spot (new_name_faults spot earlier)) (get (codes "name") d) ≡ [] → NewName earlier d
+new_name_there spot earlier d h =
+    let t = text_there spot (new_name_faults spot earlier) (get (codes "name") d) h in
+    record { name = t.text; is = t.is; new = free spot (list_any (is_named t.text) earlier) t.text (is_name t.text) refl t.none }
+
+-- a number in its range
+abbrev pub IsNumberTo : ℕ → Option Data → Type 0
+IsNumberTo highest o = (1 ≤ number_of o) × (number_of o ≤ highest)
+
+in_range : (spot : SystemFault) (n highest : ℕ) → fault_if (not (nat_le 1 n && nat_le n highest)) spot ≡ [] → (1 ≤ n) × (n ≤ highest)
+in_range fault n highest h = tests (not_wrong _ fault h)
+  where
+    tests : not (nat_le 1 n && nat_le n highest) ≡ false → (1 ≤ n) × (n ≤ highest)
+    tests e = grind (arith, nat_tests)
+
+pub number_there : (spot : Spot) (highest : ℕ) (d : Data) → range_faults spot highest d ≡ [] → IsNumberTo highest (Some d)
+number_there spot highest (string s) h = cc
+number_there spot highest (integer (pos n)) h = in_range _ n highest h
+number_there spot highest (integer (negsuc n)) h = cc
+number_there spot highest (float x) h = cc
+number_there spot highest (boolean b) h = cc
+number_there spot highest (datetime t) h = cc
+number_there spot highest (array ds) h = cc
+number_there spot highest (table m) h = cc
+
+pub required_number : (spot : Spot) (highest : ℕ) (o : Option Data) → required spot (range_faults spot highest) o ≡ [] → IsNumberTo highest o
+required_number spot highest None h = cc
+required_number spot highest (Some d) h = number_there spot highest d h
+
+pub optional_number : (spot : Spot) (highest : ℕ) (o : Option Data) → optional (range_faults spot highest) o ≡ [] → IsGivenBudget highest (given_number o)
+optional_number spot highest None h = tt
+optional_number spot highest (Some d) h = number_there spot highest d h
+
+-- a number, or its default, which is the highest
+pub number_or : (spot : Spot) (highest : ℕ) (o : Option Data) → 1 ≤ highest → optional (range_faults spot highest) o ≡ [] → (1 ≤ unwrap_or (given_number o) highest) × (unwrap_or (given_number o) highest ≤ highest)
+number_or spot highest None some h = (some, omega arith)
+number_or spot highest (Some d) some h = number_there spot highest d h
+
+pub supply_there : (spot : Spot) (a b : Option Data) → supply_faults spot a b ≡ [] → IsCoreSupply (supply_of a b)
+supply_there spot None None h = tt
+supply_there spot (Some period) None h = absurd (wrong (none_right (range_faults spot LIMIT period) _ h))
+  where
+    wrong : {A : Type 0} {x : A} → x ∷ [] ≡ [] → ⊥
+    wrong h = cc
+supply_there spot None (Some budget) h = cc
+supply_there spot (Some period) (Some budget) h =
+    let p = number_there spot LIMIT period (none_left _ _ h) in
+    let b = number_there spot (number_of (Some period)) budget (none_right (range_faults spot LIMIT period) _ h) in
+    (p, b.0, b.1)
+
+-- an array of few elements
+pub few_there : (spot : Spot) (most : ℕ) (o : Option Data) → optional (array_faults spot most) o ≡ [] → length (array_of o) ≤ most
+few_there spot most None h = omega arith
+few_there spot most (Some (string s)) h = cc
+few_there spot most (Some (integer z)) h = cc
+few_there spot most (Some (float x)) h = cc
+few_there spot most (Some (boolean b)) h = cc
+few_there spot most (Some (datetime t)) h = cc
+few_there spot most (Some (table m)) h = cc
+few_there spot most (Some (array ds)) h = at_most (length (elements_of ds)) (not_wrong _ _ h)
+  where
+    at_most : (n : ℕ) → nat_lt most n ≡ false → n ≤ most
+    at_most n e = grind (arith, nat_tests)

@@ -1,0 +1,56 @@
+-- The first fault of a list that is put together from several, and names that are looked for among elements.
+use Rattle.std.proofs.Common.{◌≡◌, ℕ, ◌+◌, ◌<◌, ◌||◌, List, [], ◌∷◌, ◌++◌, map, length, take, drop, Some, refl, sym, ap, ◌∙◌, codes, drop-cons, get_or, add-one}
+use Rattle.std.specs.Prelude.{bytes_eq}
+use Rattle.std.specs.List.{list_any}
+use Rattle.toml.specs.Data.{Data, string, get}
+use Rattle.system_file.specs.declared.fault.SystemFault.{SystemFault}
+use Rattle.system_file.specs.Document.{is_text, is_named}
+use Rattle.system_file.specs.Faults.{in_order}
+use Rattle.system_file.specs.Reading.{first_of, HaveNames}
+use Rattle.system_file.proofs.Elements.{map_append}
+
+-- the first of a list stays the first where more comes behind
+pub first_here : {A : Type 0} (a b : List A) (x : A) → first_of a ≡ Some x → first_of (a ++ b) ≡ Some x
+first_here [] b x h = cc
+first_here (y ∷ a) b x h = h
+
+-- nothing before leaves the first as it is
+pub first_later : {A : Type 0} (a b : List A) (x : A) → a ≡ [] → first_of b ≡ Some x → first_of (a ++ b) ≡ Some x
+first_later a b x none h = rw none h
+
+pub none_both : {A : Type 0} (a b : List A) → a ≡ [] → b ≡ [] → a ++ b ≡ []
+none_both a b no_a no_b = rw (no_a, no_b)
+
+-- and what is nothing has no parts
+pub none_left : {A : Type 0} (a b : List A) → a ++ b ≡ [] → a ≡ []
+none_left [] b h = refl
+none_left (x ∷ a) b h = cc
+
+pub none_right : {A : Type 0} (a b : List A) → a ++ b ≡ [] → b ≡ []
+none_right [] b h = h
+none_right (x ∷ a) b h = cc
+
+named_by : (s : List ℕ) (ds : List Data) → list_any (is_named s) ds ≡ list_any (is_text s) (map (λ d. get (codes "name") d) ds)
+named_by s [] = refl
+named_by s (d ∷ ds) = ap (λ b. is_named s d || b) (named_by s ds)
+
+text_in : (s : List ℕ) (names : List (List ℕ)) → list_any (is_text s) (map (λ name. Some (string name)) names) ≡ list_any (bytes_eq s) names
+text_in s [] = refl
+text_in s (n ∷ names) = ap (λ b. bytes_eq s n || b) (text_in s names)
+
+-- a name is taken by an element where it is among the names
+pub taken_is : (ds : List Data) (names : List (List ℕ)) (s : List ℕ) → HaveNames ds names → list_any (is_named s) ds ≡ list_any (bytes_eq s) names
+taken_is ds names s have = named_by s ds ∙ ap (list_any (is_text s)) have ∙ text_in s names
+
+-- one more element and its name
+pub more_names : (ds : List Data) (names : List (List ℕ)) (d : Data) (s : List ℕ) → HaveNames ds names → get (codes "name") d ≡ Some (string s) → HaveNames (ds ++ d ∷ []) (names ++ s ∷ [])
+more_names ds names d s have is =
+    map_append (λ (e : Data). get (codes "name") e) ds (d ∷ [])
+    ∙ ap (λ xs. xs ++ get (codes "name") d ∷ []) have
+    ∙ ap (λ x. map (λ name. Some (string name)) names ++ x ∷ []) is
+    ∙ sym (map_append (λ (name : List ℕ). Some (string name)) names (s ∷ []))
+
+-- one step along the elements of an array
+pub order_step : (at_element : List Data → Data → List SystemFault) (all : List Data) (i : ℕ) (d : Data) → i < length all →
+    in_order at_element (take i all) (drop i all) ≡ at_element (take i all) (get_or all i d) ++ in_order at_element (take i all ++ get_or all i d ∷ []) (drop (i + 1) all)
+order_step at_element all i d h = rw (add-one, drop-cons all i d)

@@ -1,0 +1,40 @@
+use Rattle.std.proofs.Common.{◌≡◌, ◌-◌, ◌++◌, get_or, length, Some, None, sym, ap, ◌∙◌, arith}
+use Rattle.system_file.specs.declared.fault.SystemFault.TheVariants.{Mixed}
+use Rattle.system_file.specs.Document.{is_named, spelled_part}
+use Rattle.system_file.specs.Faults.{is_parent_faults, fault_if}
+use Rattle.system_file.specs.Reading.{first_of}
+use Rattle.system_file.proofs.Places.{looked_up, core_found, part_found, none_found, position_within, leaf_at}
+use Rattle.system_file.proofs.Elements.{length_map}
+use Rattle.system_file.proofs.parts.parent_of.Goals as goal
+
+pub returns-then-place-cores-clause-ok : goal.returns-then-place-cores-clause-ok
+returns-then-place-cores-clause-ok c = λ cores before later known.
+    let found = core_found _ _ _ _ (looked_up cores before later _ _ _ c.args.text.now (Some c.in-Some.place) known (sym c.in-Some.ensures.place)) c.if-place-cores.true in
+    (ap (is_parent_faults c.args.spot before) found, found)
+
+pub returns-in-None-clause-fault : goal.returns-in-None-clause-fault
+returns-in-None-clause-fault c = λ cores before later known.
+    let found = none_found _ _ _ (looked_up cores before later _ _ _ c.args.text.now None known (sym c.in-None.ensures.place)) in
+    ap (λ o. first_of (is_parent_faults c.args.spot before o)) found
+
+pub returns-then-has_tasks-clause-fault : goal.returns-then-has_tasks-clause-fault
+returns-then-has_tasks-clause-fault c = λ cores before later known.
+    let few : length c.args.earlier.now ≡ length before = ap length known.spelled ∙ length_map (spelled_part cores (before ++ later)) before in
+    let leaf = leaf_at cores (before ++ later) before (c.in-Some.place - c.args.cores) c.index-earlier-part.result (omega (arith, c.in-Some.ensures.within))
+    (c.index-earlier-part.is ∙ ap (λ parts. get_or parts (c.in-Some.place - c.args.cores) c.index-earlier-part.result) known.spelled) in
+    let found = part_found _ _ _ _ (λ k e. let lt = position_within (is_named c.args.text.now) cores k e in let counted = known.counted in omega arith)
+    (looked_up cores before later _ _ _ c.args.text.now (Some c.in-Some.place) known (sym c.in-Some.ensures.place)) c.if-place-cores.false in
+    ap (λ o. first_of (is_parent_faults c.args.spot before o)) found
+    ∙ ap (λ b. first_of (fault_if b (Mixed c.args.spot))) (sym leaf ∙ sym c.has_tasks.ensures ∙ c.if-has_tasks.true)
+
+pub returns-else-has_tasks-clause-ok : goal.returns-else-has_tasks-clause-ok
+returns-else-has_tasks-clause-ok c = λ cores before later known.
+    let few : length c.args.earlier.now ≡ length before = ap length known.spelled ∙ length_map (spelled_part cores (before ++ later)) before in
+    let leaf = leaf_at cores (before ++ later) before (c.in-Some.place - c.args.cores) c.index-earlier-part.result (omega (arith, c.in-Some.ensures.within))
+    (c.index-earlier-part.is ∙ ap (λ parts. get_or parts (c.in-Some.place - c.args.cores) c.index-earlier-part.result) known.spelled) in
+    let found = part_found _ _ _ _ (λ k e. let lt = position_within (is_named c.args.text.now) cores k e in let counted = known.counted in omega arith)
+    (looked_up cores before later _ _ _ c.args.text.now (Some c.in-Some.place) known (sym c.in-Some.ensures.place)) c.if-place-cores.false in (
+      ap (is_parent_faults c.args.spot before) found
+          ∙ ap (λ b. fault_if b (Mixed c.args.spot)) (sym leaf ∙ sym c.has_tasks.ensures ∙ c.if-has_tasks.false),
+      found,
+    )

@@ -1,0 +1,13 @@
+use Rattle.std.proofs.Common.{◌≡◌, [], map}
+use Rattle.toml.specs.View.{view}
+use Rattle.system_file.specs.Document.{spelled_task}
+use Rattle.system_file.specs.Faults.{task_faults, in_order}
+use Rattle.system_file.specs.Reading.{HaveNames}
+use Rattle.system_file.proofs.Along.{before, from}
+use Rattle.system_file.proofs.tasks.read_tasks.Given as goal
+
+abbrev pub invariant-loop-place : goal.invariant-loop-place
+invariant-loop-place l =
+    (l.tasks.items ≡ map spelled_task (before l.values l.place))
+    × HaveNames (before l.values l.place) l.names
+    × (in_order (task_faults l.part) [] (map view l.values) ≡ in_order (task_faults l.part) (before l.values l.place) (from l.values l.place))

@@ -1,0 +1,102 @@
+ghost use Rattle.std.specs.Prelude.{◌≡◌, ◌≢◌, ◌≤◌, List, [], ◌∷◌, ◌++◌, false, length, map, codes, bytes_eq, IfOk, IfErr};
+ghost use Rattle.std.specs.List.{list_any};
+ghost use Rattle.toml.specs.Data.{Data, get_member};
+ghost use Rattle.toml.specs.View.{view, table_view};
+ghost use Rattle.system_file.specs.declared.fault.SystemFault.TheVariants.{NoMemory};
+ghost use Rattle.system_file.specs.Document.{spelled_core, supply_of};
+ghost use Rattle.system_file.specs.Faults.{name_faults, supply_faults, core_keys, core_key_faults, core_faults, table_faults, in_order};
+ghost use Rattle.system_file.specs.Reading.{first_of, HaveNames};
+
+use crate::keys::{check_keys, find, number_at, number_of, sched_of, table_of, text_at};
+use crate::names::Names;
+use crate::{Spot, SystemFault};
+use slot_model::LIMIT;
+use std::alloc::Global;
+use toml::{Table, Value};
+use tree_model::{Core, Name};
+
+/// The name that a text spells, where it is not taken.
+pub fn new_name(alloc: Global, text: &str, taken: &Names, spot: Spot) -> Result<Name, SystemFault>
+    ensures ok { IfOk result (λ name. (name_faults spot (list_any (bytes_eq text.now) taken.now) text.now ≡ []) × (name ≡ text.now) × (list_any (bytes_eq text.now) taken.now ≡ false)) }
+    ensures fault { IfErr result (λ fault. fault ≢ NoMemory → first_of (name_faults spot (list_any (bytes_eq text.now) taken.now) text.now) ≡ Some fault) }
+{
+    match Name::new(alloc, text.as_bytes())? {
+        Some(name) => {
+            if taken.has(text) {
+                return Err(SystemFault::NameTaken(spot));
+            }
+            Ok(name)
+        }
+        None => Err(SystemFault::BadName(spot)),
+    }
+}
+
+/// The supply of a core: both keys or neither.
+fn supply_at(table: &Table, spot: Spot) -> Result<Option<(u64, u64)>, SystemFault>
+    ensures ok { IfOk result (λ supply. (supply_faults spot (get_member (codes "supply_period") (table_view table.now)) (get_member (codes "supply_budget") (table_view table.now)) ≡ [])
+        × (supply ≡ supply_of (get_member (codes "supply_period") (table_view table.now)) (get_member (codes "supply_budget") (table_view table.now)))) }
+    ensures fault { IfErr result (λ fault. first_of (supply_faults spot (get_member (codes "supply_period") (table_view table.now)) (get_member (codes "supply_budget") (table_view table.now))) ≡ Some fault) }
+{
+    match find(table, "supply_period") {
+        Some(value) => {
+            let period = number_of(value, LIMIT, spot)?;
+            let budget = number_at(table, "supply_budget", period, spot)?;
+            Ok(Some((period, budget)))
+        }
+        None => match find(table, "supply_budget") {
+            Some(_) => Err(SystemFault::MissingKey(spot)),
+            None => Ok(None),
+        },
+    }
+}
+
+/// A core, whose name is put behind the names of the cores before it.
+fn read_core<'t>(
+    alloc: Global,
+    value: &'t Value,
+    spot: Spot,
+    names: &mut Names<'t>,
+) -> Result<Core, SystemFault>
+    ensures ok { IfOk result (λ core. (earlier : List Data) → HaveNames earlier names.old →
+        (table_faults spot core_keys (core_key_faults spot earlier (view value.now)) (view value.now) ≡ [])
+        × (core ≡ spelled_core (view value.now))
+        × HaveNames (earlier ++ view value.now ∷ []) names.new) }
+    ensures fault { IfErr result (λ fault. fault ≢ NoMemory → (earlier : List Data) → HaveNames earlier names.old →
+        first_of (table_faults spot core_keys (core_key_faults spot earlier (view value.now)) (view value.now)) ≡ Some fault) }
+{
+    let table = table_of(value, spot)?;
+    check_keys(
+        table,
+        &["name", "sched", "supply_period", "supply_budget"],
+        spot,
+    )?;
+    let text = text_at(table, "name", spot)?;
+    let name = new_name(alloc, text, names, spot)?;
+    let sched = sched_of(text_at(table, "sched", spot)?, spot)?;
+    let supply = supply_at(table, spot)?;
+    names.add(text)?;
+    Ok(Core {
+        name,
+        sched,
+        supply,
+    })
+}
+
+/// The cores of the file, whose names are put into an empty set.
+pub fn read_cores<'t>(
+    alloc: Global,
+    values: &'t [Value],
+    names: &mut Names<'t>,
+) -> Result<Vec<Core>, SystemFault>
+    requires few { length values.now ≤ 64 }
+    requires no_names { names.old ≡ [] }
+    ensures ok { IfOk result (λ cores. (in_order core_faults [] (map view values.now) ≡ []) × (cores.items ≡ map spelled_core (map view values.now)) × HaveNames (map view values.now) names.new) }
+    ensures fault { IfErr result (λ fault. fault ≢ NoMemory → first_of (in_order core_faults [] (map view values.now)) ≡ Some fault) }
+{
+    let mut cores = Vec::with_capacity(alloc, values.len())?;
+    for (place, value) in values.iter().enumerate() {
+        let core = read_core(alloc, value, Spot::Core(place as u32), names)?;
+        cores.push(core)?;
+    }
+    Ok(cores)
+}

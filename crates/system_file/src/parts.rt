@@ -1,0 +1,167 @@
+ghost use Rattle.std.specs.Prelude.{◌≡◌, ◌≢◌, ℕ, ◌≤◌, ◌<◌, ◌+◌, List, [], ◌∷◌, ◌++◌, true, false, length, map, slice_index_or, Some, IfOk, IfErr, OnOk, MatchOption};
+ghost use Rattle.toml.specs.Data.{Data};
+ghost use Rattle.toml.specs.View.{view};
+ghost use Rattle.tree_model.specs.System.{is_leaf};
+ghost use Rattle.system_file.specs.declared.fault.SystemFault.TheVariants.{NoMemory};
+ghost use Rattle.system_file.specs.Document.{parent_named, spelled_part};
+ghost use Rattle.system_file.specs.Faults.{parent_faults, part_faults, in_order};
+ghost use Rattle.system_file.specs.Reading.{first_of, HaveNames, Known, has_child, is_empty_part, part_in, ParentsAmong};
+
+use crate::cores::new_name;
+use crate::keys::{
+    check_keys, elements_at, flag_at, given_number_at, number_at, sched_of, table_of, text_at,
+};
+use crate::names::Names;
+use crate::tasks::read_tasks;
+use crate::{Spot, SystemFault};
+use slot_model::LIMIT;
+use std::alloc::{AllocError, Global};
+use toml::Value;
+use tree_model::{Parent, Part};
+
+fn has_tasks(part: &Part) -> bool
+    ensures { result ≡ is_leaf part.now.tasks }
+{
+    !part.tasks.is_empty()
+}
+
+/// The core or the earlier part without tasks that a text names.
+fn parent_of(
+    text: &str,
+    names: &Names,
+    cores: usize,
+    earlier: &[Part],
+    spot: Spot,
+) -> Result<Parent, SystemFault>
+    requires few_cores { cores ≤ 64 }
+    requires few_parts { length earlier.now < 512 }
+    requires names { length names.now ≡ cores + length earlier.now }
+    ensures ok { IfOk result (λ parent. (core_elements before later : List Data) → Known core_elements before later cores names.now earlier.now →
+        (parent_faults spot core_elements before text.now ≡ []) × (parent_named core_elements before text.now ≡ Some parent)) }
+    ensures fault { IfErr result (λ fault. (core_elements before later : List Data) → Known core_elements before later cores names.now earlier.now →
+        first_of (parent_faults spot core_elements before text.now) ≡ Some fault) }
+{
+    match names.find(text) {
+        Some(place) => {
+            if place < cores {
+                return Ok(Parent::Core(place as u32));
+            }
+            let part = place - cores;
+            if has_tasks(&earlier[part]) {
+                return Err(SystemFault::Mixed(spot));
+            }
+            Ok(Parent::Part(part as u32))
+        }
+        None => Err(SystemFault::NoSuchParent(spot)),
+    }
+}
+
+/// A part, whose name is put behind the names of the cores and the parts before it. `tasks` is a
+/// set for the names of its tasks.
+fn read_part<'t>(
+    alloc: Global,
+    value: &'t Value,
+    cores: usize,
+    earlier: &[Part],
+    names: &mut Names<'t>,
+    tasks: &mut Names<'t>,
+) -> Result<Part, SystemFault>
+    requires few_cores { cores ≤ 64 }
+    requires few_parts { length earlier.now < 512 }
+    requires names { length names.old ≡ cores + length earlier.now }
+    ensures named { OnOk result (length names.new ≡ length names.old + 1) }
+    ensures ok { IfOk result (λ part. (core_elements before later : List Data) → Known core_elements before (view value.now ∷ later) cores names.old earlier.now →
+        (part_faults core_elements before (view value.now) ≡ [])
+        × (part ≡ spelled_part core_elements (before ++ view value.now ∷ later) (view value.now))
+        × HaveNames (core_elements ++ (before ++ view value.now ∷ [])) names.new) }
+    ensures fault { IfErr result (λ fault. fault ≢ NoMemory → (core_elements before later : List Data) → Known core_elements before (view value.now ∷ later) cores names.old earlier.now →
+        first_of (part_faults core_elements before (view value.now)) ≡ Some fault) }
+{
+    let place = earlier.len() as u32;
+    let spot = Spot::Part(place);
+    let table = table_of(value, spot)?;
+    check_keys(
+        table,
+        &[
+            "name", "parent", "sched", "period", "budget", "extra", "task",
+        ],
+        spot,
+    )?;
+    let text = text_at(table, "name", spot)?;
+    let name = new_name(alloc, text, names, spot)?;
+    let parent_name = text_at(table, "parent", spot)?;
+    let parent = parent_of(parent_name, names, cores, earlier, spot)?;
+    let sched_name = text_at(table, "sched", spot)?;
+    let sched = sched_of(sched_name, spot)?;
+    let period = number_at(table, "period", LIMIT, spot)?;
+    let budget = given_number_at(table, "budget", period, spot)?;
+    let extra = flag_at(table, "extra", spot)?;
+    let elements = elements_at(table, "task", 256, spot)?;
+    let tasks = read_tasks(alloc, elements, place, tasks)?;
+    names.add(text)?;
+    Ok(Part {
+        name,
+        parent,
+        sched,
+        period,
+        budget,
+        extra,
+        tasks,
+    })
+}
+
+/// The parts of the file, over the names of its cores.
+pub fn read_parts<'t>(
+    alloc: Global,
+    values: &'t [Value],
+    cores: usize,
+    names: &mut Names<'t>,
+) -> Result<Vec<Part>, SystemFault>
+    requires few_cores { cores ≤ 64 }
+    requires few_parts { length values.now ≤ 512 }
+    requires names { length names.old ≡ cores }
+    ensures ok { IfOk result (λ parts. (core_elements : List Data) → length core_elements ≡ cores → HaveNames core_elements names.old →
+        (in_order (part_faults core_elements) [] (map view values.now) ≡ [])
+        × (parts.items ≡ map (spelled_part core_elements (map view values.now)) (map view values.now))) }
+    ensures fault { IfErr result (λ fault. fault ≢ NoMemory → (core_elements : List Data) → length core_elements ≡ cores → HaveNames core_elements names.old →
+        first_of (in_order (part_faults core_elements) [] (map view values.now)) ≡ Some fault) }
+{
+    let mut parts = Vec::with_capacity(alloc, values.len())?;
+    let mut tasks = Names::new(alloc);
+    for value in values {
+        let part = read_part(alloc, value, cores, &parts, names, &mut tasks)?;
+        parts.push(part)?;
+    }
+    Ok(parts)
+}
+
+/// Which parts are the parent of a part.
+fn parents(alloc: Global, parts: &[Part]) -> Result<Vec<bool>, AllocError>
+    requires among { ParentsAmong parts.now }
+    ensures long { IfOk result (λ marks. length marks.items ≡ length parts.now) }
+    ensures marks { IfOk result (λ marks. (q : ℕ) → q < length parts.now → slice_index_or marks.items q false ≡ has_child parts.now q) }
+{
+    let mut marks = vec![in alloc; false; parts.len()]?;
+    for part in parts {
+        if let Parent::Part(place) = part.parent {
+            marks[place as usize] = true;
+        }
+    }
+    Ok(marks)
+}
+
+/// The first part with neither tasks nor children.
+pub fn first_empty(alloc: Global, parts: &[Part]) -> Result<Option<usize>, AllocError>
+    requires among { ParentsAmong parts.now }
+    ensures found { IfOk result (λ found. MatchOption found
+        ((q : ℕ) → q < length parts.now → is_empty_part parts.now q (part_in parts.now q) ≡ false)
+        (λ at. (at < length parts.now) × (is_empty_part parts.now at (part_in parts.now at) ≡ true) × ((q : ℕ) → q < at → is_empty_part parts.now q (part_in parts.now q) ≡ false))) }
+{
+    let marks = parents(alloc, parts)?;
+    for (place, part) in parts.iter().enumerate() {
+        if part.tasks.is_empty() && !marks[place] {
+            return Ok(Some(place));
+        }
+    }
+    Ok(None)
+}

@@ -1,0 +1,65 @@
+ghost use Rattle.std.specs.Prelude.{◌≡◌, ◌≢◌, [], Ok, Err, IfOk, IfErr};
+ghost use Rattle.toml.specs.Data.{table as toml_table};
+ghost use Rattle.toml.specs.Parse.{parse_document};
+ghost use Rattle.toml.specs.View.{table_view};
+ghost use Rattle.system_file.specs.declared.fault.SystemFault.TheVariants.{NoMemory};
+ghost use Rattle.system_file.specs.Document.{spelled_system};
+ghost use Rattle.system_file.specs.Faults.{faults};
+ghost use Rattle.system_file.specs.SystemFile.{system_of, system_of_document};
+ghost use Rattle.system_file.specs.Reading.{first_of};
+
+use crate::cores::read_cores;
+use crate::keys::{check_format, check_keys, cores_at, elements_at};
+use crate::names::Names;
+use crate::parts::{first_empty, read_parts};
+use crate::{Spot, SystemFault};
+use std::alloc::Global;
+use std::str;
+use toml::Table;
+use tree_model::System;
+
+/// The system of a TOML document, or its first fault.
+fn read_document(alloc: Global, table: &Table) -> Result<System, SystemFault>
+    ensures ok { IfOk result (λ sys. (faults (toml_table (table_view table.now)) ≡ []) × (sys ≡ spelled_system (toml_table (table_view table.now)))) }
+    ensures fault { IfErr result (λ fault. fault ≢ NoMemory → first_of (faults (toml_table (table_view table.now))) ≡ Some fault) }
+{
+    check_keys(table, &["format", "core", "part"], Spot::Top)?;
+    check_format(table)?;
+    let core_values = cores_at(table)?;
+    let part_values = elements_at(table, "part", 512, Spot::Top)?;
+    let mut names = Names::new(alloc);
+    let cores = read_cores(alloc, core_values, &mut names)?;
+    let parts = read_parts(alloc, part_values, core_values.len(), &mut names)?;
+    match first_empty(alloc, &parts)? {
+        Some(place) => Err(SystemFault::Empty(Spot::Part(place as u32))),
+        None => Ok(System { cores, parts }),
+    }
+}
+
+fn read_text(alloc: Global, text: &str) -> Result<System, SystemFault>
+    ensures spelled { IfOk result (λ sys. system_of_document (parse_document text.now) ≡ Ok sys) }
+    ensures fault { IfErr result (λ fault. fault ≢ NoMemory → system_of_document (parse_document text.now) ≡ Err fault) }
+{
+    match toml::table_from_str(alloc, text) {
+        Ok(table) => read_document(alloc, &table),
+        Err(error) => {
+            if error.is_memory() {
+                Err(SystemFault::NoMemory)
+            } else {
+                Err(SystemFault::NotToml)
+            }
+        }
+    }
+}
+
+/// The system that a file spells, or the first fault of its document. Bytes that are no TOML
+/// document, or no text, are `NotToml`. `NoMemory` may come in place of any answer.
+pub fn read_system(alloc: Global, bytes: &[u8]) -> Result<System, SystemFault>
+    ensures spelled { IfOk result (λ sys. system_of bytes.now ≡ Ok sys) }
+    ensures fault { IfErr result (λ fault. fault ≢ NoMemory → system_of bytes.now ≡ Err fault) }
+{
+    match str::from_utf8(bytes) {
+        Ok(text) => read_text(alloc, text),
+        Err(_) => Err(SystemFault::NotToml),
+    }
+}
