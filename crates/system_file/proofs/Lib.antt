@@ -20,3 +20,4 @@ pub mod PrintedParents
 pub mod PrintedSystem
 pub mod PrintedText
 pub mod PrintedPut
+mod Examples

@@ -1,7 +1,7 @@
 -- The printed document is no deeper than a reader goes, has no date-times, and so reads back.
-use Rattle.std.proofs.Common.{◌≡◌, ℕ, ◌≤◌, ◌==◌, Bool, true, false, List, [], ◌∷◌, map, Option, Some, None, refl, arith, inl, inr}
+use Rattle.std.proofs.Common.{◌≡◌, ℕ, ◌≤◌, ◌==◌, Bool, true, false, List, [], ◌∷◌, map, Option, Some, None, refl, ◌∙◌, arith, inl, inr}
 use Rattle.std.specs.Prelude.{Ok}
-use Rattle.std.specs.Str.{is_utf8}
+use Rattle.std.specs.Str.{IsUtf8}
 use Rattle.std.proofs.lemmas.Bool.{cases_Bool}
 use Rattle.toml.specs.Data.{Data, items_depth, members_depth, depth, has_valid_dates, items_have_valid_dates, members_have_valid_dates}
 use Rattle.toml.specs.View.{items_of}
@@ -11,6 +11,7 @@ use Rattle.tree_model.specs.View.{NamedTask, PartView, SystemView}
 use Rattle.tree_model.specs.System.{IsSystem}
 use Rattle.system_file.specs.SystemFile.{system_of}
 use Rattle.system_file.specs.Printed.{printed_core, printed_task, printed_part, printed, top_members, CoresAreNamed, PartsAreNamed}
+use Rattle.system_file.proofs.Texts.{system_text}
 use Rattle.system_file.proofs.PrintedSystem.{printed_faultless, printed_spelled}
 
 -- an array is one deeper than its elements
@@ -94,6 +95,5 @@ printed_dated sys = by sys.parts
     by (part ∷ parts) = rw (items_dated printed_core core_dated sys.cores, part_dated sys part, items_dated (printed_part sys) (part_dated sys) parts)
 
 -- a text that reads as the printed document reads as the system
-pub reads_back : (sys : SystemView) (text : List ℕ) → IsSystem sys → CoresAreNamed sys.cores → PartsAreNamed sys.parts → is_utf8 text ≡ true → parse_document text ≡ Some (printed sys) → system_of text ≡ Ok sys
-unfolding system_of
-reads_back sys text is cores parts utf8 document = rw (utf8, document, printed_faultless sys is cores parts, printed_spelled sys is)
+pub reads_back : (sys : SystemView) (text : List ℕ) → IsSystem sys → CoresAreNamed sys.cores → PartsAreNamed sys.parts → IsUtf8 text → parse_document text ≡ Some (printed sys) → system_of text ≡ Ok sys
+reads_back sys text is cores parts utf8 document = system_text text utf8 ∙ rw (document, printed_faultless sys is cores parts, printed_spelled sys is)

@@ -1,4 +1,4 @@
-use crate::print_system;
+use crate::{print_system, read_system};
 use slot_model::{Name, Sched, Task};
 use std::alloc::{AllocError, Global};
 use std::process::Abort;
@@ -152,5 +152,79 @@ fn a_core_alone_is_printed(rt: HostRuntime) -> Result<(), Fail> {
         }
         Err(_) => assert!(rt; false, "a system"),
     }
+    Ok(())
+}
+
+/// Reads a file and prints it.
+fn again(rt: &impl Abort, alloc: Global, bytes: &[u8]) -> Result<Vec<u8>, AllocError> {
+    let sys = read_system(alloc, bytes).expect(rt, "a system file");
+    print_system(alloc, &sys)
+}
+
+const HOST: &str = r#"format = 1
+core = [{name = "cpu0", sched = "edf"}, {name = "cpu1", sched = "rm"}]
+[[part]]
+name = "audio"
+parent = "cpu0"
+sched = "edf"
+period = 5000
+task = [{name = "frame", period = 20000, deadline = 20000, work = 1800}]
+[[part]]
+name = "video"
+parent = "cpu0"
+sched = "rm"
+period = 10000
+task = [{name = "decode", period = 40000, work = 6000}, {name = "show", period = 80000, work = 8000}]
+[[part]]
+name = "net"
+parent = "cpu0"
+sched = "edf"
+period = 20000
+task = [{name = "poll", period = 100000, deadline = 80000, work = 9000}]
+[[part]]
+name = "ctl"
+parent = "cpu1"
+sched = "dm"
+period = 5000
+task = [{name = "loop", period = 25000, deadline = 20000, work = 1200}, {name = "log", period = 50000, work = 2500}]
+[[part]]
+name = "disk"
+parent = "cpu1"
+sched = "edf"
+period = 25000
+budget = 5000
+extra = true
+task = [{name = "io", period = 100000, work = 12000}]
+[[part]]
+name = "batch"
+parent = "cpu1"
+sched = "edf"
+period = 100000
+extra = false
+task = [{name = "job", period = 800000, work = 140000}]
+"#;
+
+const NET: &str = r#"[[part]]
+name = "net"
+parent = "cpu0"
+period = 20000
+sched = "edf"
+
+[[part.task]]
+deadline = 80000
+name = "poll"
+period = 100000
+work = 9000
+"#;
+
+#[test]
+fn a_host_is_printed_and_read_again(rt: HostRuntime) -> Result<(), Fail> {
+    let alloc = rt.alloc();
+    let printed = again(&rt, alloc, HOST.as_bytes())?;
+    let text = str::from_utf8(printed.as_slice()).expect(&rt, "text");
+    assert!(rt; text.contains(NET));
+    assert!(rt; !text.contains("extra = false"));
+    let second = again(&rt, alloc, printed.as_slice())?;
+    assert_eq!(rt; str::from_utf8(second.as_slice()), Ok(text));
     Ok(())
 }

@@ -1,7 +1,6 @@
-use Rattle.std.proofs.Common.{◌≡◌, true, subst, arith}
+use Rattle.std.proofs.Common.{subst, arith}
 use Rattle.std.proofs.lemmas.Grind.{common_steps}
 use Rattle.std.proofs.lemmas.List.Elements.{All-more}
-use Rattle.tree_model.specs.View.{PartView}
 use Rattle.system_file.specs.Printed.{IsPartNamed}
 use Rattle.system_file.proofs.print.part_tables.Goals as goal
 

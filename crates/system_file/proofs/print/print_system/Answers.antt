@@ -1,7 +1,6 @@
-use Rattle.std.proofs.Common.{◌≡◌, Some, false, true, ap, ◌∙◌, sym, Err, string_bytes}
+use Rattle.std.proofs.Common.{◌≡◌, Some, false, ap, ◌∙◌, sym, Err, string_bytes}
 use Rattle.std.proofs.lemmas.Bool.{false≢true}
-use Rattle.std.proofs.lemmas.Str.{is_utf8-from_IsUtf8, IsUtf8-string_bytes}
-use Rattle.std.specs.Str.{is_utf8}
+use Rattle.std.proofs.lemmas.Str.{IsUtf8-string_bytes}
 use Rattle.toml.specs.Data.{members_have_valid_dates}
 use Rattle.toml.specs.View.{table_view}
 use Rattle.toml.specs.Parse.{parse_document}
@@ -11,9 +10,8 @@ use Rattle.system_file.proofs.print.print_system.Goals as goal
 
 pub returns-in-Ok : goal.returns-in-Ok
 returns-in-Ok c =
-    let utf8 : is_utf8 (string_bytes c.in-Ok.text) ≡ true = is_utf8-from_IsUtf8 (string_bytes c.in-Ok.text) (IsUtf8-string_bytes c.in-Ok.text) in
     let document : parse_document (string_bytes c.in-Ok.text) ≡ Some (printed c.args.sys.now) = c.in-Ok.ensures.reads_back (rw c.in_ok-table.ensures.printed (printed_depth c.args.sys.now)) ∙ ap Some c.in_ok-table.ensures.printed in
-    rw c.into_bytes.ensures.value (reads_back c.args.sys.now (string_bytes c.in-Ok.text) c.in_ok-table.ensures.system c.in_ok-table.ensures.cores c.in_ok-table.ensures.parts utf8 document)
+    rw c.into_bytes.ensures.value (reads_back c.args.sys.now (string_bytes c.in-Ok.text) c.in_ok-table.ensures.system c.in_ok-table.ensures.cores c.in_ok-table.ensures.parts (IsUtf8-string_bytes c.in-Ok.text) document)
 
 pub unreachable-requires : goal.unreachable-requires
 unreachable-requires c =
