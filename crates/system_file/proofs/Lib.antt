@@ -20,4 +20,3 @@ pub mod PrintedParents
 pub mod PrintedSystem
 pub mod PrintedText
 pub mod PrintedPut
-mod Examples
