@@ -11,3 +11,14 @@ pub mod ChildSupply
 pub mod PeriodicSupply
 pub mod WorstPattern
 pub mod FullSupply
+mod Apart
+pub mod MissedJobs
+mod FirstMiss
+pub mod LegalJobs
+mod SlotExamples
+mod BoundExamples
+mod RunExamples
+mod MissExamples
+pub mod Constrained
+pub mod WorstLists
+pub mod Budgets

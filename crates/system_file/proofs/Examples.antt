@@ -55,10 +55,10 @@ one_core = item cpu0 no_items
 
 a_leaf : system_of_document (Some (document one_core (item (inner (codes "m") (codes "cpu0") no_members) (item (leaf (codes "x") (codes "m")) no_items))))
     ≡ Ok (record {
-        cores = record { name = codes "cpu0"; sched = Edf; supply = None } ∷ [];
-        parts = record { name = codes "m"; parent = on_core 0; sched = Rm; period = 10; budget = None; extra = false; tasks = [] }
-          ∷ record { name = codes "x"; parent = on_part 0; sched = Rm; period = 10; budget = None; extra = false; tasks = record { name = codes "t"; task = record { period = 10; deadline = 10; work = 1 } } ∷ [] } ∷ []
-      })
+      cores = record { name = codes "cpu0"; sched = Edf; supply = None } ∷ [];
+      parts = record { name = codes "m"; parent = on_core 0; sched = Rm; period = 10; budget = None; extra = false; tasks = [] }
+          ∷ record { name = codes "x"; parent = on_part 0; sched = Rm; period = 10; budget = None; extra = false; tasks = record { name = codes "t"; task = record { period = 10; deadline = 10; work = 1 } } ∷ [] } ∷ [];
+    })
 a_leaf = refl
 
 later_parent : system_of_document (Some (document one_core (item (leaf (codes "x") (codes "y")) (item (leaf (codes "y") (codes "cpu0")) no_items)))) ≡ Err (NoSuchParent (Part 0))

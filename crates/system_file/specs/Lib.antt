@@ -3,3 +3,4 @@ pub mod Faults
 pub mod SystemFile
 pub mod Written
 pub mod Reading
+pub mod Printed

@@ -1,5 +1,6 @@
 //! The system file: a TOML document of cores, parts and tasks.
-//! `read_system` answers the system that a file spells, or the first fault of its document.
+//! `read_system` answers the system that a file spells, or the first fault of its document; `print_system` writes
+//! a file that spells a system.
 #![tactic(auto)]
 
 mod cores;
@@ -7,10 +8,12 @@ mod fault;
 mod keys;
 mod names;
 mod parts;
+mod print;
 mod read;
 mod tasks;
 
 pub use fault::{Spot, SystemFault};
+pub use print::print_system;
 pub use read::read_system;
 
 #[cfg(test)]

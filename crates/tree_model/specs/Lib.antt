@@ -2,3 +2,5 @@ pub mod View
 pub mod System
 pub mod Tree
 pub mod Admission
+pub mod CertificateView
+pub mod TreeRunView

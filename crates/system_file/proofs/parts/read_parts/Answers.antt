@@ -1,4 +1,4 @@
-use Rattle.std.proofs.Common.{◌+◌, [], ◌∷◌, ◌++◌, List, map, length-append, sym, ap, subst, ◌∙◌, arith}
+use Rattle.std.proofs.Common.{◌+◌, [], ◌∷◌, ◌++◌, List, map, length-append, sym, ap, subst, ◌∙◌, refl, arith}
 use Rattle.std.proofs.lemmas.Result.{err_from_is_err_and}
 use Rattle.toml.specs.Data.{Data}
 use Rattle.toml.specs.View.{view}
@@ -20,6 +20,11 @@ returns-in_err-part-clause-fault c =
     (sym c.deref.ensures.value) known in
     faulty (part_faults cores) c.args.values.now c.loop-value.value-index c.value-item.result _ (omega arith) c.value-item.is so_far.1
     (c.in_err-part.ensures.fault memory cores (before c.args.values.now c.loop-value.value-index) (from c.args.values.now (c.loop-value.value-index + 1)) seen))
+
+pub returns-in_err-push-clause-fault : goal.returns-in_err-push-clause-fault
+returns-in_err-push-clause-fault c =
+    let p = err_from_is_err_and c.from_residual-in_err-push.result c.from_residual-in_err-push.ensures.1 in
+    rw (p.1, p.2) (λ memory cores counted have. absurd (memory refl))
 
 pub loop-value-preserved : goal.loop-value-preserved
 loop-value-preserved c = (

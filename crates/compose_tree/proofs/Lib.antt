@@ -1,0 +1,10 @@
+pub mod Keeping
+mod Strict
+mod TreeRuns
+mod TreeExists
+pub mod Sound
+mod CoreMisses
+mod Heavier
+mod CoreFails
+pub mod Refusals
+mod Settling

@@ -1,0 +1,92 @@
+ghost use Rattle.std.specs.Prelude.{◌≡◌, ◌≢◌, ℕ, suc, ◌<◌, ◌≤◌, List, length, slice_set, IfOk, IfErr, MatchResult};
+ghost use Rattle.tree_model.specs.Admission.{Admitted, SettledFrom, CorePasses, FirstRefusal};
+ghost use Rattle.tree_model.specs.Tree.{NoLoss};
+ghost use Rattle.compose_tree.specs.Truth.{IsTight, RefusalHolds};
+
+use crate::nodes::{part_budget, test_core_tasks};
+use slot_model::Task;
+use std::alloc::Global;
+use tree_model::{MAX_PARTS, Place, Plan, Refusal, System, tasks_of};
+
+/// The budgets of all parts, in slots: the given ones and the least ones that pass. Parts are visited
+/// from the last to the first, and then the cores in order; the first that does not pass refuses.
+pub fn compose(alloc: Global, sys: &System) -> Result<Plan, Refusal>
+    ensures plan { IfOk result (λ plan. Admitted sys.now plan) }
+    ensures refusal { IfErr result (λ r. r ≢ Refusal.NoMemory → FirstRefusal sys.now r) }
+    // where budgets admit the system, they are the plan
+    ensures complete { (budgets : List ℕ) → Admitted sys.now budgets → MatchResult result (λ plan. plan ≡ budgets) (λ r. r ≡ Refusal.NoMemory) }
+    // what a plan and a refusal say of every supply and every release
+    ensures no_loss { IfOk result (λ plan. NoLoss sys.now plan) }
+    ensures tight { IfOk result (λ plan. IsTight sys.now plan) }
+    ensures holds { IfErr result (λ r. RefusalHolds sys.now r) }
+{
+    let filler = Task {
+        period: 1,
+        deadline: 1,
+        work: 1,
+    };
+    let Ok(mut budgets) = vec![in alloc; 0; sys.parts().len()] else {
+        return Err(Refusal::NoMemory);
+    };
+    let Ok(mut room) = vec![in alloc; filler; MAX_PARTS] else {
+        return Err(Refusal::NoMemory);
+    };
+    settle_parts(sys, &mut budgets, &mut room)?;
+    test_cores(sys, &budgets, &mut room)?;
+    Ok(Plan { budgets })
+}
+
+/// Writes the budgets of all parts, from the last to the first. `room` is for the tasks of one node.
+fn settle_parts(sys: &System, budgets: &mut [u64], room: &mut [Task]) -> Result<(), Refusal>
+    requires one_each { length budgets.old ≡ length sys.now.parts }
+    requires room { 512 ≤ length room.old }
+    ensures settled { IfOk result (λ _. SettledFrom sys.now budgets.new 0) }
+    ensures refusal { IfErr result (λ r. FirstRefusal sys.now r) }
+{
+    for q in (0..sys.parts().len() as u32).rev() {
+        budgets[q as usize] = settle_part(sys, budgets, q, room)?;
+    }
+    Ok(())
+}
+
+/// The budget of part `q`, after those of all later parts.
+fn settle_part(sys: &System, budgets: &[u64], q: u32, room: &mut [Task]) -> Result<u64, Refusal>
+    requires is_part { q < length sys.now.parts }
+    requires settled { SettledFrom sys.now budgets.now (suc q) }
+    requires room { 512 ≤ length room.old }
+    ensures settled { IfOk result (λ budget. SettledFrom sys.now (slice_set budgets.now q budget) q) }
+    ensures refusal { IfErr result (λ r. FirstRefusal sys.now r) }
+{
+    let part = &sys.parts()[q as usize];
+    let node = Place::Part(q);
+    let count = tasks_of(sys, budgets, node, room).unwrap();
+    part_budget(part, node, &room[..count])
+}
+
+/// Tests the cores in order, after all parts.
+fn test_cores(sys: &System, budgets: &[u64], room: &mut [Task]) -> Result<(), Refusal>
+    requires settled { SettledFrom sys.now budgets.now 0 }
+    requires room { 512 ≤ length room.old }
+    ensures pass { IfOk result (λ _. (c : ℕ) → c < length sys.now.cores → CorePasses sys.now budgets.now c) }
+    ensures refusal { IfErr result (λ r. FirstRefusal sys.now r) }
+{
+    for c in 0..sys.cores().len() as u32 {
+        test_core(sys, budgets, c, room)?;
+    }
+    Ok(())
+}
+
+/// Tests core `c`, after all parts and the cores before it.
+fn test_core(sys: &System, budgets: &[u64], c: u32, room: &mut [Task]) -> Result<(), Refusal>
+    requires is_core { c < length sys.now.cores }
+    requires settled { SettledFrom sys.now budgets.now 0 }
+    requires before { (d : ℕ) → d < c → CorePasses sys.now budgets.now d }
+    requires room { 512 ≤ length room.old }
+    ensures passes { IfOk result (λ _. CorePasses sys.now budgets.now c) }
+    ensures refusal { IfErr result (λ r. FirstRefusal sys.now r) }
+{
+    let core = &sys.cores()[c as usize];
+    let node = Place::Core(c);
+    let count = tasks_of(sys, budgets, node, room).unwrap();
+    test_core_tasks(core, node, &room[..count])
+}

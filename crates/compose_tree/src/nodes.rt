@@ -1,0 +1,60 @@
+ghost use Rattle.std.specs.Prelude.{◌≡◌, ◌^◌, ◌<◌, ◌≤◌, length, IfOk, IfErr};
+ghost use Rattle.slot_model.specs.Task.{sporadic_tasks};
+ghost use Rattle.slot_model.specs.Bound.{sbf};
+ghost use Rattle.tree_model.specs.System.{IsPeriod, IsGivenBudget, IsCoreSupply};
+ghost use Rattle.tree_model.specs.Tree.{core_bound, core_cycle};
+ghost use Rattle.tree_model.specs.Admission.{largest_budget};
+ghost use Rattle.compose_tree.specs.Steps.{NodeTestPasses, NodeRefuses, IsPartBudget};
+
+use least_budget::{Least, Tested, least_budget, test};
+use slot_model::{Sched, Task};
+use supply_bound::{Full, Periodic, Supply};
+use tree_model::{Core, Part, Place, Refusal};
+
+/// The budget of a part with these tasks, in slots: the given one, if it passes, else the least.
+pub fn part_budget(part: &Part, node: Place, tasks: &[Task]) -> Result<u64, Refusal>
+    requires few { length tasks.now < 2 ^ 32 }
+    requires period { IsPeriod part.now.period }
+    requires given { IsGivenBudget part.now.period part.now.budget }
+    ensures budget { IfOk result (λ budget. IsPartBudget part.now.sched (sporadic_tasks tasks.now) part.now.period part.now.budget budget) }
+    ensures refuses { IfErr result (λ r. NodeRefuses part.now.sched (sporadic_tasks tasks.now) (sbf part.now.period (largest_budget part.now.budget part.now.period)) part.now.period node r) }
+{
+    let period = part.period();
+    match part.budget() {
+        Some(budget) => {
+            test_node(part.sched(), node, tasks, &Periodic { period, budget })?;
+            Ok(budget)
+        }
+        None => match least_budget(part.sched(), tasks, period) {
+            Least::Budget(budget) => Ok(budget),
+            Least::Over(short) => Err(Refusal::Overfull(node, short)),
+            Least::Wide => Err(Refusal::Wide(node)),
+        },
+    }
+}
+
+/// Tests the server tasks of a core under every slot or its own supply.
+pub fn test_core_tasks(core: &Core, node: Place, tasks: &[Task]) -> Result<(), Refusal>
+    requires few { length tasks.now < 2 ^ 32 }
+    requires supply { IsCoreSupply core.now.supply }
+    ensures passes { IfOk result (λ _. NodeTestPasses core.now.sched (sporadic_tasks tasks.now) (core_bound core.now.supply) (core_cycle core.now.supply)) }
+    ensures refuses { IfErr result (λ r. NodeRefuses core.now.sched (sporadic_tasks tasks.now) (core_bound core.now.supply) (core_cycle core.now.supply) node r) }
+{
+    match core.supply {
+        None => test_node(core.sched, node, tasks, &Full),
+        Some((period, budget)) => test_node(core.sched, node, tasks, &Periodic { period, budget }),
+    }
+}
+
+/// The exact test of a node under a supply, and its refusal.
+fn test_node<S: Supply>(sched: Sched, node: Place, tasks: &[Task], s: &S) -> Result<(), Refusal>
+    requires { length tasks.now < 2 ^ 32 }
+    ensures passes { IfOk result (λ _. NodeTestPasses sched (sporadic_tasks tasks.now) (S.bound s.now) (S.cycle_of s.now)) }
+    ensures refuses { IfErr result (λ r. NodeRefuses sched (sporadic_tasks tasks.now) (S.bound s.now) (S.cycle_of s.now) node r) }
+{
+    match test(sched, tasks, s) {
+        Tested::Passes => Ok(()),
+        Tested::Short(short) => Err(Refusal::Overfull(node, short)),
+        Tested::Wide => Err(Refusal::Wide(node)),
+    }
+}

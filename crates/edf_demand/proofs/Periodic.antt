@@ -1,0 +1,71 @@
+-- Where no point up to a common multiple of all periods and the supply's cycle, and one cycle more, is short, none is.
+use Rattle.std.proofs.Common.{◌≡◌, ℕ, zero, suc, ◌+◌, ◌*◌, ◌-◌, ◌/◌, ◌<◌, ◌≤◌, leb, List, length, sym, ◌∙◌, ap, arith, inl, inr, le-leb}
+use Rattle.std.proofs.lemmas.Bool.{cases_lt, cond-true, cond-false, lt-leb}
+use Rattle.std.proofs.Math.Nat.{add-mul-div_right, div-eq_of_lt}
+use Rattle.slot_model.specs.Slots.{sum_below}
+use Rattle.slot_model.specs.Task.{AreConstrained, IsConstrained, task_at, SporadicTask}
+use Rattle.slot_model.specs.Bound.{demand_of, dbf}
+use Rattle.edf_demand.specs.Cyclic.{RisesByCycle}
+use Rattle.slot_model.proofs.Sums.{sum_below-same, sum_below-add, sum_below-none}
+use Rattle.slot_model.proofs.Windows.{sum_by-places}
+
+-- a task's demand as one quotient
+pub demand_closed : (b : SporadicTask) → IsConstrained b → (t : ℕ) → demand_of b t ≡ ((t + (b.period - b.deadline)) / b.period) * b.work
+demand_closed b f t = elim (cases_lt t b.deadline) [
+  | inl l ↦ omega (arith, cond-false {A = ℕ} (leb b.deadline t) (((t - b.deadline) / b.period + 1) * b.work) 0 (lt-leb _ _ l), ap (λ (z : ℕ). z * b.work) (div-eq_of_lt {n = t + (b.period - b.deadline)} {m = b.period} (omega (arith, f.works, f.in_deadline, f.in_period))))
+  | inr l ↦
+      let e : t + (b.period - b.deadline) ≡ (t - b.deadline) + 1 * b.period = omega (arith, f.in_period) in
+      let q : (t + (b.period - b.deadline)) / b.period ≡ (t - b.deadline) / b.period + 1 = ap (λ (z : ℕ). z / b.period) e ∙ add-mul-div_right (t - b.deadline) 1 (omega (arith, f.works, f.in_deadline, f.in_period)) in
+      cond-true {A = ℕ} (leb b.deadline t) (((t - b.deadline) / b.period + 1) * b.work) 0 (le-leb _ _ l) ∙ sym (ap (λ (z : ℕ). z * b.work) q)
+]
+
+-- over m periods more a task asks for m times its work
+demand_more : (b : SporadicTask) → IsConstrained b → (t m : ℕ) → demand_of b (t + m * b.period) ≡ demand_of b t + m * b.work
+demand_more b f t m =
+    let e : (t + m * b.period) + (b.period - b.deadline) ≡ (t + (b.period - b.deadline)) + m * b.period = omega arith in
+    let q : ((t + m * b.period) + (b.period - b.deadline)) / b.period ≡ (t + (b.period - b.deadline)) / b.period + m = ap (λ (z : ℕ). z / b.period) e ∙ add-mul-div_right (t + (b.period - b.deadline)) m (omega (arith, f.works, f.in_deadline, f.in_period)) in
+    omega (arith, demand_closed b f t, demand_closed b f (t + m * b.period), ap (λ (z : ℕ). z * b.work) q)
+
+-- the rise of dbf over a common multiple of the periods
+pub dbf_more : (tasks : List SporadicTask) → AreConstrained tasks → (times : ℕ → ℕ) (L t : ℕ) → ((i : ℕ) → i < length tasks → L ≡ times i * (task_at tasks i).period)
+    → dbf tasks (t + L) ≡ dbf tasks t + sum_below (λ i. times i * (task_at tasks i).work) (length tasks)
+dbf_more tasks fits times L t multiple =
+    omega (
+      arith,
+      sum_by-places (λ b. demand_of b (t + L)) (record { period = 1; deadline = 1; work = 1 }) tasks,
+      sum_by-places (λ b. demand_of b t) (record { period = 1; deadline = 1; work = 1 }) tasks,
+      sum_below-same (λ i. demand_of (task_at tasks i) (t + L)) (λ i. demand_of (task_at tasks i) t + times i * (task_at tasks i).work) (length tasks) (λ i l. ap (λ (z : ℕ). demand_of (task_at tasks i) (t + z)) (multiple i l) ∙ demand_more (task_at tasks i) (fits i l) t (times i)),
+      sum_below-add (λ i. demand_of (task_at tasks i) t) (λ i. times i * (task_at tasks i).work) (length tasks),
+    )
+
+-- dbf is 0 at 0
+pub dbf_start : (tasks : List SporadicTask) → AreConstrained tasks → dbf tasks 0 ≡ 0
+dbf_start tasks fits = sum_by-places (λ b. demand_of b 0) (record { period = 1; deadline = 1; work = 1 }) tasks ∙ (sum_below-same (λ i. demand_of (task_at tasks i) 0) (λ i. 0) (length tasks) (λ i l. cond-false {A = ℕ} (leb (task_at tasks i).deadline 0) (((0 - (task_at tasks i).deadline) / (task_at tasks i).period + 1) * (task_at tasks i).work) 0 (lt-leb _ _ (omega (arith, (fits i l).works, (fits i l).in_deadline)))) ∙ sum_below-none (length tasks))
+
+bound_cycles : (bound : ℕ → ℕ) (cycle amount : ℕ) → RisesByCycle bound amount cycle → (t n : ℕ) → cycle ≤ t → bound (t + n * cycle) ≡ bound t + n * amount
+bound_cycles bound cycle amount b t zero l = omega (arith, ap bound (let e : t + 0 * cycle ≡ t = omega arith in e))
+bound_cycles bound cycle amount b t (suc n) l = omega (arith, ap bound (let e : t + suc n * cycle ≡ (t + n * cycle) + cycle = omega arith in e), b.each_cycle (t + n * cycle) (omega arith), bound_cycles bound cycle amount b t n l)
+
+-- the finite horizon
+pub no_short : (tasks : List SporadicTask) → AreConstrained tasks → (bound : ℕ → ℕ) (cycle amount : ℕ) → RisesByCycle bound amount cycle → (times : ℕ → ℕ) (n : ℕ) → 1 ≤ n * cycle → ((i : ℕ) → i < length tasks → n * cycle ≡ times i * (task_at tasks i).period)
+    → ((t : ℕ) → 1 ≤ t → t ≤ n * cycle + cycle → dbf tasks t ≤ bound t)
+    → (fuel t : ℕ) → t ≤ fuel → 1 ≤ t → dbf tasks t ≤ bound t
+no_short tasks fits bound cycle amount b times n some multiple near zero t f l = absurd (omega arith)
+no_short tasks fits bound cycle amount b times n some multiple near (suc fuel) t f l = elim (cases_lt (n * cycle + cycle) t) [
+  | inr q ↦ near t l q
+  | inl q ↦
+      let e : (t - n * cycle) + n * cycle ≡ t = omega arith in
+      omega (
+        arith,
+        ap (dbf tasks) e,
+        ap bound e,
+        dbf_more tasks fits times (n * cycle) (t - n * cycle) multiple,
+        bound_cycles bound cycle amount b (t - n * cycle) n (omega arith),
+        no_short tasks fits bound cycle amount b times n some multiple near fuel (t - n * cycle) (omega arith) (omega arith),
+        dbf_more tasks fits times (n * cycle) 0 multiple,
+        dbf_start tasks fits,
+        ap (dbf tasks) (let z : 0 + n * cycle ≡ n * cycle = omega arith in z),
+        near (n * cycle) some (omega arith),
+        b.at_cycles n,
+      )
+]

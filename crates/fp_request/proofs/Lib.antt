@@ -1,0 +1,5 @@
+pub mod ReleasedWork
+pub mod Rises
+pub mod Before
+pub mod Ceiling
+pub mod Parts

@@ -1,0 +1,21 @@
+-- The request bound never falls.
+use Rattle.std.proofs.Common.{ℕ, ◌+◌, ◌-◌, ◌/◌, ◌≤◌, Bool, true, false, cond, List, length, arith, mul-le-mul_right, div-mul-le_self}
+use Rattle.std.proofs.lemmas.Nat.{le-div}
+use Rattle.slot_model.specs.Task.{SporadicTask, AreConstrained, task_at}
+use Rattle.slot_model.specs.Bound.{request_of, rbf}
+use Rattle.slot_model.proofs.Sums.{sum_below-le}
+
+quotient_rises : (x y p : ℕ) → 1 ≤ p → x ≤ y → x / p ≤ y / p
+quotient_rises x y p l m = le-div (x / p) y p l (omega (arith, div-mul-le_self x p))
+
+cond_rises : (v : Bool) (x y : ℕ) → x ≤ y → cond v x 0 ≤ cond v y 0
+cond_rises true x y l = l
+cond_rises false x y l = omega arith
+
+-- a longer window asks for no less
+pub rbf-rises : (above : ℕ → ℕ → Bool) (tasks : List SporadicTask) → AreConstrained tasks → (i t u : ℕ) → t ≤ u → rbf above tasks i t ≤ rbf above tasks i u
+rbf-rises above tasks fits i t u l = omega (
+  arith,
+  sum_below-le (λ k. cond (above k i) (request_of (task_at tasks k) t) 0) (λ k. cond (above k i) (request_of (task_at tasks k) u) 0) (length tasks) (λ k m. cond_rises (above k i) _ _
+      (mul-le-mul_right (task_at tasks k).work (quotient_rises (t + ((task_at tasks k).period - 1)) (u + ((task_at tasks k).period - 1)) (task_at tasks k).period (omega (arith, (fits k m).works, (fits k m).in_deadline, (fits k m).in_period)) (omega arith)))),
+)

@@ -1,0 +1,33 @@
+ghost use Rattle.std.specs.Prelude.{◌≡◌, ◌≢◌, ◌<◌, ◌≤◌, ◌^◌, length, MatchOption};
+ghost use Rattle.slot_model.specs.Task.{sporadic_task, sporadic_tasks};
+ghost use Rattle.slot_model.specs.Order.{ranks_above};
+ghost use Rattle.slot_model.specs.Bound.{request_of, rbf};
+ghost use Rattle.fp_request.specs.Released.{RequestsBound};
+
+use crate::rank::ranks;
+use slot_model::{Sched, Task};
+
+/// The request bound of task `i` for `t` slots: its own work, and what the tasks that rank above it
+/// ask for if they are released there. None exactly where it passes 2^128 - 1.
+pub fn request(sched: Sched, tasks: &[Task], i: u32, t: u128) -> Option<u128>
+    requires fixed { sched ≢ Sched.Edf }
+    requires i_named { i < length tasks.now }
+    ensures exact { MatchOption result (2 ^ 128 ≤ rbf (ranks_above sched (sporadic_tasks tasks.now)) (sporadic_tasks tasks.now) i t) (λ r. r ≡ rbf (ranks_above sched (sporadic_tasks tasks.now)) (sporadic_tasks tasks.now) i t) }
+    ensures bounds { RequestsBound (sporadic_tasks tasks.now) t }
+{
+    let mut sum = tasks[i as usize].work as u128;
+    for (k, task) in tasks.iter().enumerate() {
+        if ranks(sched, tasks, k, i as usize) {
+            sum = sum.checked_add(request_of_task(task, t)?)?;
+        }
+    }
+    Some(sum)
+}
+
+/// The work that one task's jobs ask for if they are released in `t` slots.
+fn request_of_task(task: &Task, t: u128) -> Option<u128>
+    ensures { MatchOption result (2 ^ 128 ≤ request_of (sporadic_task task.now) t) (λ r. r ≡ request_of (sporadic_task task.now) t) }
+{
+    t.div_ceil(task.period as u128)
+        .checked_mul(task.work as u128)
+}

@@ -1,0 +1,53 @@
+ghost use Rattle.std.specs.Prelude.{◌≡◌, ◌≢◌, MatchOption};
+ghost use Rattle.slot_model.specs.Order.{before_of};
+ghost use Rattle.fp_request.specs.Ranks.{order_laws};
+
+use crate::rank::ranks;
+use slot_model::{Job, Order, Sched, Task};
+use std::marker::Model;
+
+/// A fixed order of jobs: the job whose task ranks above goes first, and the jobs of one task go as
+/// they are released. Contracts see it as the `Sched` that it was made of.
+#[derive(Clone, Copy, Debug, PartialEq, Eq)]
+pub struct Fixed {
+    sched: Sched,
+}
+
+impl Model for Fixed {
+    ghost use Rattle.std.specs.Prelude.{◌≢◌};
+    ghost use Rattle.slot_model.specs.declared.sched.Sched.{Sched};
+    ghost use Rattle.slot_model.specs.declared.sched.Sched.TheVariants.{Edf};
+
+    ghost Value = { Sched };
+
+    ghost view = { λ f. f.sched };
+
+    ghost invariant = { λ f. f.sched ≢ Edf };
+
+    ghost inverse = { λ s. record { sched = s } };
+}
+
+impl Fixed {
+    /// None exactly where `sched` is `Edf`, which ranks no task.
+    pub fn new(sched: Sched) -> Option<Fixed>
+        ensures { MatchOption result (sched ≡ Sched.Edf) (λ f. (f ≡ sched) × (sched ≢ Sched.Edf)) }
+    {
+        match sched {
+            Sched::Edf => None,
+            _ => Some(Fixed { sched }),
+        }
+    }
+}
+
+impl Order for Fixed {
+    ghost goes = { λ f tasks a b. before_of f tasks a b };
+
+    fn before(&self, tasks: &[Task], a: &Job, b: &Job) -> bool {
+        if a.task == b.task {
+            return a.release < b.release;
+        }
+        ranks(self.sched, tasks, a.task as usize, b.task as usize)
+    }
+
+    ghost laws = { λ f. order_laws f };
+}

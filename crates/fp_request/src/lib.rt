@@ -1,0 +1,14 @@
+//! Fixed priorities: which task ranks above which, the order of jobs that a rank gives, and the
+//! request bound of a task (how many slots the task and all that rank above it may ask for).
+//! All numbers are slots.
+#![tactic(auto)]
+
+mod asked;
+mod fixed;
+mod rank;
+#[cfg(test)]
+mod tests;
+
+pub use asked::request;
+pub use fixed::Fixed;
+pub use rank::higher;

@@ -1,0 +1,37 @@
+ghost use Rattle.std.specs.Prelude.{◌≡◌, ◌≢◌, ◌<◌, ◌==◌, ◌&&◌, ◌||◌, nat_lt, length};
+ghost use Rattle.slot_model.specs.Task.{sporadic_tasks};
+ghost use Rattle.slot_model.specs.Order.{ranks_above};
+
+use slot_model::{Sched, Task};
+
+/// Whether task `i` ranks above task `j`: by the smaller period (`Rm`), the smaller deadline (`Dm`)
+/// or the earlier place (`Listed`), and by the earlier place where two are equal.
+pub fn higher(sched: Sched, tasks: &[Task], i: u32, j: u32) -> bool
+    requires fixed { sched ≢ Sched.Edf }
+    requires i_named { i < length tasks.now }
+    requires j_named { j < length tasks.now }
+    ensures { result ≡ ranks_above sched (sporadic_tasks tasks.now) i j }
+{
+    ranks(sched, tasks, i as usize, j as usize)
+}
+
+/// The same for places of any size.
+pub(crate) fn ranks(sched: Sched, tasks: &[Task], i: usize, j: usize) -> bool
+    requires fixed { sched ≢ Sched.Edf }
+    requires i_named { i < length tasks.now }
+    requires j_named { j < length tasks.now }
+    ensures { result ≡ ranks_above sched (sporadic_tasks tasks.now) i j }
+{
+    match sched {
+        Sched::Rm => smaller(tasks[i].period, i, tasks[j].period, j),
+        Sched::Dm => smaller(tasks[i].deadline, i, tasks[j].deadline, j),
+        Sched::Listed => i < j,
+        Sched::Edf => unreachable!(),
+    }
+}
+
+fn smaller(a: u64, i: usize, b: u64, j: usize) -> bool
+    ensures { result ≡ (nat_lt a b || (a == b && nat_lt i j)) }
+{
+    a < b || (a == b && i < j)
+}

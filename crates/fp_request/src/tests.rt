@@ -1,0 +1,104 @@
+ghost use Rattle.std.specs.Prelude.{◌≡◌, ◌<◌, length};
+ghost use Rattle.slot_model.specs.Task.{sporadic_tasks};
+
+use crate::{Fixed, higher, request};
+use slot_model::{Job, Order, Sched, Task};
+use std::test::Fail;
+
+const OUT: &str = "out of range";
+
+// A caller that knows an order by its trait alone.
+fn goes_first<O: Order>(order: &O, tasks: &[Task], a: &Job, b: &Job) -> bool
+    requires a_named { a.now.task < length tasks.now }
+    requires b_named { b.now.task < length tasks.now }
+    ensures { result ≡ O.goes order.now (sporadic_tasks tasks.now) a.now b.now }
+{
+    order.before(tasks, a, b)
+}
+
+#[test]
+fn requests_of_two_tasks(rt: HostRuntime) -> Result<(), Fail> {
+    let tasks = [
+        Task::new(50, 50, 7).ok_or(OUT)?,
+        Task::new(75, 75, 9).ok_or(OUT)?,
+    ];
+    for (sched, i, t, want) in [
+        (Sched::Rm, 1, 0, 9),
+        (Sched::Rm, 1, 1, 16),
+        (Sched::Rm, 1, 50, 16),
+        (Sched::Rm, 1, 51, 23),
+        (Sched::Rm, 0, 1_000_000, 7),
+        (Sched::Dm, 1, 100, 23),
+        (Sched::Listed, 1, 101, 30),
+    ] {
+        assert_eq!(rt; request(sched, &tasks, i, t), Some(want), "task {i} at {t}");
+    }
+    Ok(())
+}
+
+#[test]
+fn requests_past_128_bits(rt: HostRuntime) -> Result<(), Fail> {
+    let each_slot = Task::new(1, 1, 1).ok_or(OUT)?;
+    let tasks = [each_slot, each_slot];
+    assert_eq!(rt;
+        request(Sched::Rm, &tasks, 1, u128::MAX - 1),
+        Some(u128::MAX)
+    );
+    assert_eq!(rt; request(Sched::Rm, &tasks, 1, u128::MAX), None);
+    assert_eq!(rt; request(Sched::Rm, &tasks, 0, u128::MAX), Some(1));
+    Ok(())
+}
+
+#[test]
+fn ranks_and_their_ties(rt: HostRuntime) -> Result<(), Fail> {
+    let tasks = [
+        Task::new(20, 20, 1).ok_or(OUT)?,
+        Task::new(20, 10, 1).ok_or(OUT)?,
+        Task::new(10, 10, 1).ok_or(OUT)?,
+    ];
+    for (sched, i, j, want) in [
+        (Sched::Rm, 2, 0, true),
+        (Sched::Rm, 0, 1, true),
+        (Sched::Rm, 1, 0, false),
+        (Sched::Dm, 1, 0, true),
+        (Sched::Dm, 1, 2, true),
+        (Sched::Dm, 2, 1, false),
+        (Sched::Listed, 0, 2, true),
+        (Sched::Listed, 2, 1, false),
+        (Sched::Listed, 1, 1, false),
+    ] {
+        assert_eq!(rt; higher(sched, &tasks, i, j), want, "{i} above {j}");
+    }
+    Ok(())
+}
+
+#[test]
+fn fixed_orders(rt: HostRuntime) -> Result<(), Fail> {
+    assert_eq!(rt; Fixed::new(Sched::Edf), None);
+    let order = Fixed::new(Sched::Rm).ok_or(OUT)?;
+    let tasks = [
+        Task::new(75, 75, 9).ok_or(OUT)?,
+        Task::new(50, 50, 7).ok_or(OUT)?,
+    ];
+    let early = Job {
+        task: 0,
+        release: 0,
+        work: 9,
+    };
+    let late = Job {
+        task: 0,
+        release: 75,
+        work: 9,
+    };
+    let above = Job {
+        task: 1,
+        release: 100,
+        work: 7,
+    };
+    assert!(rt; goes_first(&order, &tasks, &above, &early));
+    assert!(rt; !goes_first(&order, &tasks, &early, &above));
+    assert!(rt; goes_first(&order, &tasks, &early, &late));
+    assert!(rt; !order.before(&tasks, &late, &early));
+    assert!(rt; !order.before(&tasks, &late, &late));
+    Ok(())
+}

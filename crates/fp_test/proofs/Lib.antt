@@ -1,0 +1,7 @@
+pub mod FixedKeeps
+pub mod FixedMisses
+pub mod InTime
+pub mod Late
+pub mod Witness
+pub mod Jumps
+pub mod Answer

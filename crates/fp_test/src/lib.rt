@@ -1,0 +1,9 @@
+//! The exact test of one task under a fixed priority, over any supply: its least hit, within which
+//! each of its jobs is done, or none, where the worst pattern of the supply makes a job late.
+#![tactic(auto)]
+
+mod least;
+#[cfg(test)]
+mod tests;
+
+pub use least::hit;

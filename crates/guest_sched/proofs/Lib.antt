@@ -1,0 +1,5 @@
+pub mod Beaten
+pub mod Sorted
+pub mod InOrder
+pub mod State
+pub mod Steps

@@ -1,0 +1,4 @@
+pub mod Choice
+pub mod Arrivals
+pub mod Places
+pub mod Ready

@@ -1,0 +1,5 @@
+pub mod Level
+pub mod Decide
+pub mod Budgets
+mod Testing
+mod Between

@@ -1,0 +1,68 @@
+-- What the test answers.
+use borrow.Author.Count.{below_more}
+use Rattle.std.proofs.Common.{◌+◌, ◌-◌, ◌^◌, Option, Some, None, is_some, false, ◌≡◌, ◌≢◌, ℕ, ◌<◌, ◌≤◌, Bool, true, List, length, refl, arith}
+use Rattle.slot_model.specs.declared.sched.Sched.{Sched}
+use Rattle.slot_model.specs.declared.sched.Sched.TheVariants.{Edf, Rm, Dm, Listed}
+use Rattle.slot_model.specs.declared.sched.Short.TheVariants.{Task}
+use Rattle.slot_model.specs.Task.{SporadicTask, AreConstrained}
+use Rattle.slot_model.specs.Supply.{SupplyLaws}
+use Rattle.slot_model.specs.Order.{before_of, ranks_above}
+use Rattle.slot_model.specs.Bound.{IsHit, IsShortTask, IsFirstShortTask, IsSmall, IsHorizon, DemandFits, dbf, Passes}
+use Rattle.least_budget.specs.declared.answers.Tested.{Tested}
+use Rattle.least_budget.specs.declared.answers.Tested.TheVariants.{Passes as AllPasses, Short as FirstShort, Wide as TestWide}
+use Rattle.least_budget.specs.Answers.{IsTested, Foretells}
+use Rattle.edf_demand.specs.Cyclic.{RisesByCycle}
+use Rattle.edf_demand.proofs.Horizons.{rises_of_laws}
+use Rattle.fp_test.proofs.Answer.{IsAnswer}
+use Rattle.slot_model.proofs.Budgets.{short_not_passes}
+use Rattle.least_budget.proofs.Level.{level_no_loss, short_misses}
+
+-- under a fixed rank
+pub fixed_passes : (sched : Sched) → sched ≢ Edf → (tasks : List SporadicTask) (bound : ℕ → ℕ) (cycle n : ℕ) → n ≡ length tasks → ((i : ℕ) → i < n → (t : ℕ) × IsHit (ranks_above sched tasks) tasks bound i t) → IsTested sched tasks bound cycle AllPasses
+fixed_passes Edf fixed tasks bound cycle n e all = absurd (fixed refl)
+fixed_passes Rm fixed tasks bound cycle n e all = (tt, λ i l. all i (omega arith))
+fixed_passes Dm fixed tasks bound cycle n e all = (tt, λ i l. all i (omega arith))
+fixed_passes Listed fixed tasks bound cycle n e all = (tt, λ i l. all i (omega arith))
+
+pub fixed_short : (sched : Sched) → sched ≢ Edf → (tasks : List SporadicTask) (bound : ℕ → ℕ) (cycle i : ℕ) → IsFirstShortTask (ranks_above sched tasks) tasks bound i → IsTested sched tasks bound cycle (FirstShort (Task i))
+fixed_short Edf fixed tasks bound cycle i h = absurd (fixed refl)
+fixed_short Rm fixed tasks bound cycle i h = (tt, h)
+fixed_short Dm fixed tasks bound cycle i h = (tt, h)
+fixed_short Listed fixed tasks bound cycle i h = (tt, h)
+
+-- what an answer says of every run
+pub tested_foretells : (sched : Sched) (tasks : List SporadicTask) → AreConstrained tasks
+    → {bound : ℕ → ℕ} {amount cycle : ℕ} {pattern : ℕ → Bool} {start : ℕ} {Conforms : List Bool → Type 0} → SupplyLaws bound amount cycle pattern start Conforms
+    → (answer : Tested) → IsTested sched tasks bound cycle answer → Foretells Conforms (before_of sched tasks) tasks answer
+tested_foretells sched tasks fits laws AllPasses h = level_no_loss sched tasks fits laws h.1
+tested_foretells sched tasks fits laws (FirstShort short) h = short_misses sched tasks fits laws short h.1
+tested_foretells sched tasks fits laws TestWide h = tt
+
+-- what the answer of one task's test says
+no_hit : (above : ℕ → ℕ → Bool) (tasks : List SporadicTask) (bound : ℕ → ℕ) (i : ℕ) (answer : Option ℕ) → is_some answer ≡ false → IsAnswer above tasks bound i answer → IsShortTask above tasks bound i
+no_hit above tasks bound i None e h = h
+no_hit above tasks bound i (Some t) e h = absurd (cc)
+
+some_hit : (above : ℕ → ℕ → Bool) (tasks : List SporadicTask) (bound : ℕ → ℕ) (i : ℕ) (answer : Option ℕ) → is_some answer ≡ true → IsAnswer above tasks bound i answer → (t : ℕ) × IsHit above tasks bound i t
+some_hit above tasks bound i None e h = absurd (cc)
+some_hit above tasks bound i (Some t) e h = (t, h.0)
+
+pub first_without_hit : (sched : Sched) → sched ≢ Edf → (tasks : List SporadicTask) (bound : ℕ → ℕ) (cycle i : ℕ) (answer : Option ℕ) → i < length tasks → is_some answer ≡ false → IsAnswer (ranks_above sched tasks) tasks bound i answer
+    → ((k : ℕ) → k < i → (t : ℕ) × IsHit (ranks_above sched tasks) tasks bound k t) → IsTested sched tasks bound cycle (FirstShort (Task i))
+first_without_hit sched fixed tasks bound cycle i answer l none h before = fixed_short sched fixed tasks bound cycle i (record { is_task = l; short = no_hit (ranks_above sched tasks) tasks bound i answer none h; before = before })
+
+pub one_more_hit : (above : ℕ → ℕ → Bool) (tasks : List SporadicTask) (bound : ℕ → ℕ) (i : ℕ) (answer : Option ℕ) → is_some answer ≡ true → IsAnswer above tasks bound i answer
+    → ((k : ℕ) → k < i → (t : ℕ) × IsHit above tasks bound k t) → (k : ℕ) → k < i + 1 → (t : ℕ) × IsHit above tasks bound k t
+one_more_hit above tasks bound i answer some h before = below_more (λ k. (t : ℕ) × IsHit above tasks bound k t) i before (some_hit above tasks bound i answer some h)
+
+-- where no window up to the horizon is short
+pub windows_pass : (tasks : List SporadicTask) {bound : ℕ → ℕ} {amount cycle : ℕ} {pattern : ℕ → Bool} {start : ℕ} {Conforms : List Bool → Type 0} → SupplyLaws bound amount cycle pattern start Conforms
+    → (h : ℕ) → IsHorizon tasks cycle h × (h ≤ 2 ^ 128 - 2) → ((b : ℕ → ℕ) (a : ℕ) → RisesByCycle b a cycle → ((t : ℕ) → 1 ≤ t → t ≤ h → dbf tasks t ≤ b t) → DemandFits tasks b)
+    → ((t : ℕ) → 1 ≤ t → t ≤ h → dbf tasks t ≤ bound t) → IsTested Edf tasks bound cycle AllPasses
+windows_pass tasks {bound} {amount} {cycle} {pattern} {start} {Conforms} laws h horizon enough near = ((h, horizon.0, horizon.1), enough bound amount (rises_of_laws bound amount cycle pattern start Conforms laws) near)
+
+-- an answer other than that all passes
+pub not_passing : (sched : Sched) (tasks : List SporadicTask) (bound : ℕ → ℕ) (cycle : ℕ) (answer : Tested) → (answer ≡ AllPasses → ⊥) → IsSmall sched tasks cycle → IsTested sched tasks bound cycle answer → Passes sched tasks bound → ⊥
+not_passing sched tasks bound cycle AllPasses none small h passes = none refl
+not_passing sched tasks bound cycle (FirstShort short) none small h passes = short_not_passes sched tasks bound short h.1 passes
+not_passing sched tasks bound cycle TestWide none small h passes = h small

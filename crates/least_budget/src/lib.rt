@@ -1,0 +1,13 @@
+//! The exact test of one level over any supply, and the least whole budget of a period with which
+//! a level of tasks passes it.
+#![tactic(auto)]
+
+mod answers;
+mod halving;
+mod passing;
+#[cfg(test)]
+mod tests;
+
+pub use answers::{Least, Tested};
+pub use halving::least_budget;
+pub use passing::test;

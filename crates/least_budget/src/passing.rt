@@ -1,0 +1,49 @@
+ghost use Rattle.std.specs.Prelude.{◌≡◌, ◌≢◌, ◌^◌, ◌<◌, length};
+ghost use Rattle.slot_model.specs.Task.{sporadic_tasks};
+ghost use Rattle.slot_model.specs.Order.{before_of};
+ghost use Rattle.least_budget.specs.Answers.{IsTested, Foretells};
+
+use crate::Tested;
+use edf_demand::horizon;
+use edf_test::first_short;
+use fp_test::hit;
+use slot_model::{Sched, Short, Task};
+use supply_bound::Supply;
+
+/// Whether the tasks pass over the supply, and if not, what is short first: the least window under
+/// earliest deadline first, the first task of the list under a fixed rank.
+pub fn test<S: Supply>(sched: Sched, tasks: &[Task], s: &S) -> Tested
+    requires { length tasks.now < 2 ^ 32 }
+    ensures exact { IsTested sched (sporadic_tasks tasks.now) (S.bound s.now) (S.cycle_of s.now) result }
+    ensures foretells { Foretells (S.conforms s.now) (before_of sched (sporadic_tasks tasks.now)) (sporadic_tasks tasks.now) result }
+{
+    match sched {
+        Sched::Edf => test_windows(tasks, s),
+        _ => test_tasks(sched, tasks, s),
+    }
+}
+
+fn test_windows<S: Supply>(tasks: &[Task], s: &S) -> Tested
+    ensures { IsTested Sched.Edf (sporadic_tasks tasks.now) (S.bound s.now) (S.cycle_of s.now) result }
+{
+    let Some(h) = horizon(tasks, s.cycle()) else {
+        return Tested::Wide;
+    };
+    match first_short(tasks, s, h) {
+        Some(t) => Tested::Short(Short::At(t)),
+        None => Tested::Passes,
+    }
+}
+
+fn test_tasks<S: Supply>(sched: Sched, tasks: &[Task], s: &S) -> Tested
+    requires fixed { sched ≢ Sched.Edf }
+    requires few { length tasks.now < 2 ^ 32 }
+    ensures { IsTested sched (sporadic_tasks tasks.now) (S.bound s.now) (S.cycle_of s.now) result }
+{
+    for i in 0..tasks.len() as u32 {
+        if hit(sched, tasks, i, s).is_none() {
+            return Tested::Short(Short::Task(i));
+        }
+    }
+    Tested::Passes
+}

@@ -1,0 +1,6 @@
+mod Bags
+mod TaskReleases
+mod Ordered
+mod Counts
+mod Sorted
+mod Defeats

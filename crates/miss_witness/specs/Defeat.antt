@@ -1,0 +1,26 @@
+-- What defeats the next smaller budget of a leaf.
+use Rattle.std.specs.Prelude.{◌≡◌, ℕ, ◌+◌, Bool, List, Option, Some, None}
+use Rattle.slot_model.specs.declared.sched.Sched.{Sched}
+use Rattle.slot_model.specs.declared.sched.Sched.TheVariants.{Edf, Rm, Dm, Listed}
+use Rattle.slot_model.specs.Task.{SporadicTask, task_at}
+use Rattle.slot_model.specs.Order.{ranks_above}
+use Rattle.slot_model.specs.Bound.{sbf, IsFirstShortPoint, IsFirstShortTask}
+use Rattle.miss_witness.specs.declared.defeat.Defeat.{Defeat}
+
+-- the window that is short: up to the least short point under edf, else up to the deadline of the first task without a hit
+abbrev pub IsShortTaskWindow : (ℕ → ℕ → Bool) → List SporadicTask → (ℕ → ℕ) → ℕ → Option ℕ → Type 0
+IsShortTaskWindow above tasks bound span None = ⊥
+IsShortTaskWindow above tasks bound span (Some i) = IsFirstShortTask above tasks bound i × (span ≡ (task_at tasks i).deadline)
+
+abbrev pub IsShortWindow : Sched → List SporadicTask → (ℕ → ℕ) → ℕ → Option ℕ → Type 0
+IsShortWindow Edf tasks bound span None = IsFirstShortPoint tasks bound span
+IsShortWindow Edf tasks bound span (Some i) = ⊥
+IsShortWindow Rm tasks bound span task = IsShortTaskWindow (ranks_above Rm tasks) tasks bound span task
+IsShortWindow Dm tasks bound span task = IsShortTaskWindow (ranks_above Dm tasks) tasks bound span task
+IsShortWindow Listed tasks bound span task = IsShortTaskWindow (ranks_above Listed tasks) tasks bound span task
+
+-- the defeat of the budget one below the least, whose worst pattern starts where its first budget is spent
+pub record IsDefeat (sched : Sched) (tasks : List SporadicTask) (period least : ℕ) (defeat : Defeat) : Type 0 where
+  pub next_smaller : defeat.budget + 1 ≡ least
+  pub at_start : defeat.start ≡ defeat.budget
+  pub short : IsShortWindow sched tasks (sbf period defeat.budget) defeat.span defeat.task

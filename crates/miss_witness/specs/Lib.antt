@@ -1,0 +1,2 @@
+pub mod Defeat
+pub mod Jobs

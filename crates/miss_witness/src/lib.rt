@@ -1,0 +1,13 @@
+//! Why the next smaller budget of a leaf does not do: a supply and a release that defeat it.
+#![tactic(auto)]
+
+mod defeat;
+mod jobs;
+mod smaller;
+
+pub use defeat::Defeat;
+pub use jobs::witness_jobs;
+pub use smaller::witness;
+
+#[cfg(test)]
+mod tests;

@@ -1,0 +1,48 @@
+ghost use Rattle.std.specs.Prelude.{ℕ, ◌-◌, ◌^◌, ◌<◌, ◌≤◌, Bool, List, length};
+ghost use Rattle.slot_model.specs.declared.task.TheConstants.{LIMIT};
+ghost use Rattle.slot_model.specs.Task.{sporadic_tasks};
+ghost use Rattle.slot_model.specs.Supply.{GivesBudget, worst_slot};
+ghost use Rattle.slot_model.specs.Bound.{sbf, Passes, IsSmall};
+ghost use Rattle.slot_model.specs.Order.{before_of};
+ghost use Rattle.slot_model.specs.Miss.{MissesFromStart, MustMiss, WorstList};
+ghost use Rattle.miss_witness.specs.Defeat.{IsDefeat};
+
+use crate::Defeat;
+use least_budget::{Tested, test};
+use slot_model::{Sched, Short, Task};
+use supply_bound::Periodic;
+
+/// What defeats the budget one below the least one of a level: over the worst pattern of that
+/// budget the synchronous release misses in every permitted run. So every smaller budget must miss.
+pub fn witness(sched: Sched, tasks: &[Task], period: u64, least: u64) -> Defeat
+    requires few { length tasks.now < 2 ^ 32 }
+    requires some_budget { 1 ≤ least }
+    requires in_period { least ≤ period }
+    requires in_limit { period ≤ LIMIT }
+    requires small { IsSmall sched (sporadic_tasks tasks.now) period }
+    requires falls_short { Passes sched (sporadic_tasks tasks.now) (sbf period (least - 1)) → ⊥ }
+    ensures defeat { IsDefeat sched (sporadic_tasks tasks.now) period least result }
+
+    // Over the worst pattern the synchronous release misses in every permitted run, whatever its length.
+    ensures misses { (slots : List Bool) → WorstList (worst_slot period result.budget) result.start result.span slots → GivesBudget period result.budget slots × MissesFromStart (worst_slot period result.budget) result.start result.span (before_of sched (sporadic_tasks tasks.now)) (sporadic_tasks tasks.now) slots }
+    ensures must_miss { (budget : ℕ) → budget < least → MustMiss (GivesBudget period budget) (before_of sched (sporadic_tasks tasks.now)) (sporadic_tasks tasks.now) }
+{
+    let budget = least - 1;
+    // The worst pattern gives its first budget at once, and from there on no more than the bound.
+    let start = budget;
+    match test(sched, tasks, &Periodic { period, budget }) {
+        Tested::Short(Short::At(span)) => Defeat {
+            budget,
+            start,
+            span,
+            task: None,
+        },
+        Tested::Short(Short::Task(task)) => Defeat {
+            budget,
+            start,
+            span: tasks[task as usize].deadline as u128,
+            task: Some(task),
+        },
+        Tested::Passes | Tested::Wide => unreachable!(),
+    }
+}

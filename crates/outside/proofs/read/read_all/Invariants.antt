@@ -1,0 +1,20 @@
+use Rattle.std.proofs.Common.{◌≡◌, ◌≤◌, ◌+◌, ◌-◌, vec_len, true}
+use Rattle.outside.specs.Counts.{raised}
+use Rattle.outside.proofs.ReadSoFar.{HasRead}
+use Rattle.outside.proofs.read.read_all.Given as goal
+
+abbrev pub invariant-pieces : goal.invariant-pieces
+invariant-pieces g l = record {
+  open_now : g.S.Store.is_open l.store ≡ true;
+  files : g.S.Store.files l.store ≡ g.S.Store.files l.fn.store;
+  faults : g.S.Store.faults l.store ≡ g.S.Store.faults l.fn.store;
+  absences : g.S.Store.absences l.store ≡ g.S.Store.absences l.fn.store;
+  short : vec_len l.bytes ≤ l.limit;
+  taken : raised (g.S.Store.taken l.fn.store) (vec_len l.bytes) ≤ g.S.Store.taken l.store;
+  no_more : g.S.Store.taken l.store ≤ g.S.Store.taken l.fn.store + vec_len l.bytes;
+  taken_last : g.S.Store.taken l.fn.store ≤ g.S.Store.taken l.store;
+  told : HasRead (g.S.Store.files l.fn.store) l.name l.bytes.items (g.S.Store.rest l.store);
+}
+
+abbrev pub decreases-pieces : goal.decreases-pieces
+decreases-pieces g l = l.limit - vec_len l.bytes

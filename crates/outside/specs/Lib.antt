@@ -1,0 +1,6 @@
+pub mod Counts
+pub mod Faults
+pub mod Files
+pub mod Memory
+pub mod Real
+pub mod Written

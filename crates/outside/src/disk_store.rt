@@ -1,0 +1,98 @@
+ghost use Rattle.std.specs.Prelude.{◌≡◌, ◌≤◌, length, None, false};
+
+use crate::{Store, StoreFault};
+use std::io;
+use std::io::Read;
+use std::marker::Model;
+use std::rt::Files;
+
+/// The files of the system, of which nothing is told.
+#[derive(Drop)]
+pub struct DiskStore<R: Files> {
+    rt: R,
+    file: Option<R::File>,
+    faults: u64,
+    absences: u64,
+    taken: u64,
+}
+
+impl<R: Files> Model for DiskStore<R> {
+    ghost use Rattle.std.specs.Prelude.{is_some};
+    ghost use Rattle.outside.specs.Real.{DiskCounts};
+
+    ghost Value = { DiskCounts };
+
+    ghost view = { λ s. record {
+      is_open = is_some s.file;
+      faults = s.faults;
+      absences = s.absences;
+      taken = s.taken;
+    } };
+}
+
+impl<R: Files> DiskStore<R> {
+    /// A store of the files that `rt` reaches.
+    pub fn new(rt: R) -> DiskStore<R>
+        ensures { result ≡ record { is_open = false; faults = 0; absences = 0; taken = 0 } }
+    {
+        DiskStore {
+            rt,
+            file: None,
+            faults: 0,
+            absences: 0,
+            taken: 0,
+        }
+    }
+}
+
+impl<R: Files> Store for DiskStore<R> {
+    ghost files = { λ s. None };
+
+    ghost rest = { λ s. None };
+
+    ghost is_open = { λ s. s.is_open };
+
+    ghost faults = { λ s. s.faults };
+
+    ghost absences = { λ s. s.absences };
+
+    ghost taken = { λ s. s.taken };
+
+    fn open_file(&mut self, name: &str) -> Result<(), StoreFault> {
+        self.file = None;
+        match std::fs::open(&self.rt, name) {
+            Ok(file) => {
+                self.file = Some(file);
+                Ok(())
+            }
+            Err(error) => match error.kind() {
+                io::ErrorKind::NotFound => {
+                    self.absences = self.absences.saturating_add(1);
+                    Err(StoreFault::Missing)
+                }
+                io::ErrorKind::OutOfMemory => Err(StoreFault::NoMemory),
+                _ => {
+                    self.faults = self.faults.saturating_add(1);
+                    Err(StoreFault::Failed)
+                }
+            },
+        }
+    }
+
+    fn read(&mut self, buf: &mut [u8]) -> Result<usize, StoreFault> {
+        let Some(file) = &mut self.file else {
+            unreachable!()
+        };
+        match file.read(buf) {
+            Ok(count) => {
+                self.taken = self.taken.saturating_add(count as u64);
+                Ok(count)
+            }
+            Err(_) => {
+                self.file = None;
+                self.faults = self.faults.saturating_add(1);
+                Err(StoreFault::Failed)
+            }
+        }
+    }
+}

@@ -1,0 +1,2 @@
+mod ChildNames
+mod PartLines

@@ -1,0 +1,5 @@
+pub mod Words
+pub mod Replay
+pub mod Admit
+pub mod Refusal
+pub mod Fault

@@ -1,0 +1,13 @@
+//! The texts of the reports: each is a function of what it reports, in `specs/`.
+#![tactic(auto)]
+
+mod admit;
+mod fault;
+mod names;
+mod refusal;
+mod replay;
+
+pub use admit::{admit_text, is_computed_leaf};
+pub use fault::{FileFault, fault_text};
+pub use refusal::refusal_text;
+pub use replay::Replay;

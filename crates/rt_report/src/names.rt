@@ -1,0 +1,51 @@
+ghost use Rattle.std.specs.Prelude.{◌≡◌, ◌<◌, length};
+ghost use Rattle.tree_model.specs.declared.place.Place.TheVariants.{Core, Part};
+ghost use Rattle.tree_model.specs.System.{part_at};
+ghost use Rattle.rt_report.specs.Words.{child_name, served_name, task_name};
+ghost use Rattle.tree_model.specs.Tree.{IsNode};
+
+use tree_model::{Part, Place, System};
+
+/// The name of what a node serves, at a place among its tasks or its children; nothing past the end.
+pub fn served(sys: &System, node: Place, i: u32) -> &str
+    requires { IsNode sys.now node }
+    ensures { result.now ≡ served_name sys.now node i }
+{
+    match node {
+        Place::Part(q) => {
+            let part = &sys.parts()[q as usize];
+            if part.is_leaf() {
+                task(part, i)
+            } else {
+                child(sys, node, i)
+            }
+        }
+        Place::Core(_) => child(sys, node, i),
+    }
+}
+
+/// The name of a task of a leaf; nothing past the end.
+pub fn task(part: &Part, i: u32) -> &str
+    ensures { result.now ≡ task_name part.now i }
+{
+    match part.tasks().get(i as usize) {
+        Some(named) => named.name().as_str(),
+        None => "",
+    }
+}
+
+// The name of a child of a node; nothing past the end.
+fn child(sys: &System, node: Place, i: u32) -> &str
+    ensures { result.now ≡ child_name sys.now node i }
+{
+    let mut before = i;
+    for part in sys.parts() {
+        if part.is_child_of(node) {
+            if before == 0 {
+                return part.name().as_str();
+            }
+            before -= 1;
+        }
+    }
+    ""
+}

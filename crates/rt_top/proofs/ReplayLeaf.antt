@@ -1,0 +1,126 @@
+-- What an admission says of a computed leaf, and what is seen when its defeat is run.
+use Rattle.std.proofs.Common.{◌≡◌, ℕ, ◌+◌, ◌-◌, ◌<◌, ◌≤◌, Bool, true, List, length, Option, Some, None, is_none, arith, refl, sym, ◌∙◌, subst}
+use Rattle.std.specs.Prelude.{IfSome}
+use Rattle.std.proofs.lemmas.Bool.{and_parts}
+use Rattle.slot_model.specs.declared.sched.Sched.{Sched}
+use Rattle.slot_model.specs.declared.job.Job.{Job}
+use Rattle.slot_model.specs.declared.miss.Miss.{Miss}
+use Rattle.slot_model.specs.Task.{SporadicTask}
+use Rattle.slot_model.specs.Supply.{Follows, worst_slot}
+use Rattle.slot_model.specs.Order.{before_of}
+use Rattle.slot_model.specs.Release.{synchronous}
+use Rattle.slot_model.specs.Run.{guest, FirstRun, PermittedRun}
+use Rattle.slot_model.specs.Bound.{sbf, IsLeastBudget, IsSmall, Passes}
+use Rattle.slot_model.specs.Miss.{HoldsReleased, IsFirstMiss, MissesFromStart, WorstList}
+use Rattle.slot_model.proofs.MissedJobs.{permitted_holds_released}
+use Rattle.slot_model.proofs.WorstLists.{worst_list, worst_list-is}
+use Rattle.miss_witness.specs.declared.defeat.Defeat.{Defeat}
+use Rattle.tree_model.specs.View.{PartView, SystemView}
+use Rattle.tree_model.specs.System.{IsSystem, own_tasks, part_at}
+use Rattle.tree_model.specs.Tree.{ChildBudgetsFit, budget_at, node_tasks}
+use Rattle.tree_model.specs.declared.place.Place.{Place}
+use Rattle.tree_model.specs.declared.place.Place.TheVariants.{Part}
+use Rattle.tree_model.specs.Admission.{Admitted, BudgetStands, SettledFrom}
+use Rattle.tree_model.proofs.InRange.{settled_in_period}
+use Rattle.tree_model.proofs.NodeTasks.{leaf_tasks}
+use Rattle.rt_report.specs.Admit.{is_computed_leaf}
+use Rattle.rt_report.specs.Replay.{IsReplay, IsReplayed}
+use Rattle.miss_witness.specs.Defeat.{IsDefeat}
+
+settled : (sys : SystemView) (budgets : List ℕ) → Admitted sys budgets → SettledFrom sys budgets 0
+settled sys budgets h = record { one_each = h.assigned.one_each; stands = λ q g l. h.assigned.stands q l; passes = λ q g l. h.parts q l }
+
+-- the budgets of an admission are 1 to their periods
+pub admitted_in_period : (sys : SystemView) → IsSystem sys → (budgets : List ℕ) → Admitted sys budgets → (q : ℕ) → q < length sys.parts → (1 ≤ budget_at budgets q) × (budget_at budgets q ≤ (part_at sys q).period)
+admitted_in_period sys is budgets h q l = settled_in_period sys is budgets 0 (settled sys budgets h) q (omega arith) l
+
+pub admitted_children : (sys : SystemView) → IsSystem sys → (budgets : List ℕ) → Admitted sys budgets → (node : Place) → ChildBudgetsFit sys budgets node
+admitted_children sys is budgets h node q l child = admitted_in_period sys is budgets h q l
+
+-- a computed leaf has the least budget of its own tasks
+abbrev pub LeastOf : PartView → ℕ → Type 0
+LeastOf part budget = IsSmall part.sched (own_tasks part) part.period × IsLeastBudget part.sched (own_tasks part) part.period budget
+
+pub leaf_least : (sys : SystemView) (budgets : List ℕ) → Admitted sys budgets → (q : ℕ) → q < length sys.parts → is_computed_leaf (part_at sys q) ≡ true → LeastOf (part_at sys q) (budget_at budgets q)
+leaf_least sys budgets h q l computed =
+    let kinds = and_parts _ _ computed in
+    subst (λ (tasks : List SporadicTask). IsSmall (part_at sys q).sched tasks (part_at sys q).period × IsLeastBudget (part_at sys q).sched tasks (part_at sys q).period (budget_at budgets q)) (leaf_tasks sys budgets q kinds.1) (go (part_at sys q).budget kinds.0 (h.assigned.stands q l))
+  where
+    go : (given : Option ℕ) → is_none given ≡ true → BudgetStands sys budgets q given → IsSmall (part_at sys q).sched (node_tasks sys budgets (Part q)) (part_at sys q).period × IsLeastBudget (part_at sys q).sched (node_tasks sys budgets (Part q)) (part_at sys q).period (budget_at budgets q)
+    go None e stands = stands
+    go (Some given) e stands = absurd (cc)
+
+-- a run of the defeat's jobs over its worst pattern
+pub record RunsDefeat (sched : Sched) (tasks : List SporadicTask) (period : ℕ) (defeat : Defeat) (jobs : List Job) (run : List (Option ℕ)) : Type 0 where
+  pub jobs_are : jobs ≡ synchronous tasks defeat.start defeat.span
+  pub first : (given : List Bool) → Follows (worst_slot period defeat.budget) given → length given ≡ defeat.start + defeat.span → FirstRun guest (before_of sched tasks) tasks jobs given run
+  pub permitted : (given : List Bool) → Follows (worst_slot period defeat.budget) given → length given ≡ defeat.start + defeat.span → PermittedRun guest (before_of sched tasks) tasks jobs given run
+
+-- the same lists under other names
+pub runs_same : (sched : Sched) (tasks : List SporadicTask) (period : ℕ) (defeat : Defeat) (end : ℕ) → end ≡ defeat.start + defeat.span → (jobs jobs' : List Job) (run run' : List (Option ℕ)) → jobs ≡ synchronous tasks defeat.start defeat.span → jobs' ≡ jobs → run' ≡ run
+    → ((given : List Bool) → Follows (worst_slot period defeat.budget) given → length given ≡ end → FirstRun guest (before_of sched tasks) tasks jobs given run)
+    → ((given : List Bool) → Follows (worst_slot period defeat.budget) given → length given ≡ end → PermittedRun guest (before_of sched tasks) tasks jobs given run)
+    → RunsDefeat sched tasks period defeat jobs' run'
+runs_same sched tasks period defeat end e jobs jobs' run run' exact same_jobs same_run first permitted =
+    subst (λ (z : List (Option ℕ)). RunsDefeat sched tasks period defeat jobs' z) (sym same_run) (subst (λ (z : List Job). RunsDefeat sched tasks period defeat z run) (sym same_jobs) (record { jobs_are = exact; first = λ given f l. first given f (l ∙ sym e); permitted = λ given f l. permitted given f (l ∙ sym e) }))
+
+worst : (period : ℕ) (defeat : Defeat) → WorstList (worst_slot period defeat.budget) defeat.start defeat.span (worst_list (worst_slot period defeat.budget) (defeat.start + defeat.span))
+worst period defeat = worst_list-is (worst_slot period defeat.budget) defeat.start defeat.span
+
+pub run_holds_released : (sched : Sched) (tasks : List SporadicTask) (period : ℕ) (defeat : Defeat) (jobs : List Job) (run : List (Option ℕ)) → RunsDefeat sched tasks period defeat jobs run → HoldsReleased jobs run
+run_holds_released sched tasks period defeat jobs run h =
+    let w = worst period defeat in
+    permitted_holds_released guest (before_of sched tasks) tasks jobs (worst_list (worst_slot period defeat.budget) (defeat.start + defeat.span)) run (h.permitted _ w.follows w.long)
+
+-- its first miss is there
+pub run_is_replay : (sched : Sched) (tasks : List SporadicTask) (period : ℕ) (defeat : Defeat) → defeat.start + defeat.span ≤ 1000000
+    → ((slots : List Bool) → WorstList (worst_slot period defeat.budget) defeat.start defeat.span slots → MissesFromStart (worst_slot period defeat.budget) defeat.start defeat.span (before_of sched tasks) tasks slots)
+    → (jobs : List Job) (run : List (Option ℕ)) → RunsDefeat sched tasks period defeat jobs run → (miss : Option Miss) → IsFirstMiss tasks jobs run miss → IsReplayed sched tasks period defeat miss
+run_is_replay sched tasks period defeat reach misses jobs run h None none =
+    let w = worst period defeat in
+    let W : List Job = synchronous tasks defeat.start defeat.span in
+    let permitted : PermittedRun guest (before_of sched tasks) tasks W (worst_list (worst_slot period defeat.budget) (defeat.start + defeat.span)) run = subst (λ (z : List Job). PermittedRun guest (before_of sched tasks) tasks z (worst_list (worst_slot period defeat.budget) (defeat.start + defeat.span)) run) h.jobs_are (h.permitted _ w.follows w.long) in
+    let missed = (misses _ w).misses run permitted in
+    absurd (subst (λ (z : List Job). IsFirstMiss tasks z run None) h.jobs_are none missed.0 missed.1)
+run_is_replay sched tasks period defeat reach misses jobs run h (Some miss) first =
+    let w = worst period defeat in
+    let slots : List Bool = worst_list (worst_slot period defeat.budget) (defeat.start + defeat.span) in (
+      reach,
+      record {
+        slots = slots;
+        run = run;
+        worst = w;
+        first_run = subst (λ (z : List Job). FirstRun guest (before_of sched tasks) tasks z slots run) h.jobs_are (h.first slots w.follows w.long);
+        first_miss = subst (λ (z : List Job). IsFirstMiss tasks z run (Some miss)) h.jobs_are first;
+      },
+    )
+
+-- what the code reads of a leaf
+pub record LeafRead (sys : SystemView) (budgets : List ℕ) (q : ℕ) (sched : Sched) (tasks : List SporadicTask) (period least : ℕ) : Type 0 where
+  pub sched_is : sched ≡ (part_at sys q).sched
+  pub tasks_are : tasks ≡ own_tasks (part_at sys q)
+  pub period_is : period ≡ (part_at sys q).period
+  pub least_is : least ≡ budget_at budgets q
+
+-- the tasks of a computed leaf as they are written
+pub leaf_tasks_read : (sys : SystemView) (budgets : List ℕ) (q : ℕ) → is_computed_leaf (part_at sys q) ≡ true → (count : ℕ) (answer : Option ℕ) (Tasks : ℕ → List SporadicTask) → answer ≡ Some count → IfSome answer (λ n. Tasks n ≡ node_tasks sys budgets (Part q)) → Tasks count ≡ own_tasks (part_at sys q)
+leaf_tasks_read sys budgets q computed count answer Tasks e h = subst (λ (o : Option ℕ). IfSome o (λ n. Tasks n ≡ node_tasks sys budgets (Part q))) e h ∙ leaf_tasks sys budgets q (and_parts _ _ computed).1
+
+-- its budget is the least of what was read, and 1 or more
+pub read_least : (sys : SystemView) → IsSystem sys → (budgets : List ℕ) → Admitted sys budgets → (q : ℕ) → q < length sys.parts → is_computed_leaf (part_at sys q) ≡ true
+    → (sched : Sched) (tasks : List SporadicTask) (period least : ℕ) → LeafRead sys budgets q sched tasks period least → IsSmall sched tasks period × IsLeastBudget sched tasks period least × (1 ≤ least)
+read_least sys is budgets h q l computed sched tasks period least read =
+    let known = leaf_least sys budgets h q l computed in
+    rw (read.sched_is, read.tasks_are, read.period_is, read.least_is) (known.0, known.1, (admitted_in_period sys is budgets h q l).0)
+
+pub none_smaller : (sched : Sched) (tasks : List SporadicTask) (period least : ℕ) → IsSmall sched tasks period × IsLeastBudget sched tasks period least × (1 ≤ least) → Passes sched tasks (sbf period (least - 1)) → ⊥
+none_smaller sched tasks period least h = h.1.least (least - 1) (omega (arith, h.2))
+
+-- so what was found is its replay
+pub read_replay : (sys : SystemView) (budgets : List ℕ) (q : ℕ) (sched : Sched) (tasks : List SporadicTask) (period least : ℕ) → LeafRead sys budgets q sched tasks period least
+    → (witness : Defeat) (miss : Option Miss) → IsDefeat sched tasks period least witness → IsReplayed sched tasks period witness miss → IsReplay sys budgets q (record { part = q; witness = witness; miss = miss })
+read_replay sys budgets q sched tasks period least read witness miss defeat replayed = record {
+  of_part = refl;
+  defeat = rw (← read.sched_is, ← read.tasks_are, ← read.period_is, ← read.least_is) defeat;
+  replayed = rw (← read.sched_is, ← read.tasks_are, ← read.period_is) replayed;
+}

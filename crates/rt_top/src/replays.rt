@@ -1,0 +1,147 @@
+ghost use Rattle.std.specs.Prelude.{◌≡◌, ◌+◌, ◌<◌, ◌≤◌, true, Bool, List, length, IfOk, MatchOption};
+ghost use Rattle.slot_model.specs.declared.task.TheConstants.{LIMIT};
+ghost use Rattle.slot_model.specs.Task.{sporadic_tasks};
+ghost use Rattle.slot_model.specs.Supply.{Follows, worst_slot};
+ghost use Rattle.slot_model.specs.Release.{LegalRelease};
+ghost use Rattle.slot_model.specs.Run.{guest, FirstRun, PermittedRun};
+ghost use Rattle.slot_model.specs.Bound.{IsLeastBudget, IsSmall};
+ghost use Rattle.slot_model.specs.Order.{before_of};
+ghost use Rattle.slot_model.specs.Miss.{MissesFromStart, WorstList};
+ghost use Rattle.miss_witness.specs.Defeat.{IsDefeat};
+ghost use Rattle.tree_model.specs.System.{part_at};
+ghost use Rattle.tree_model.specs.Admission.{Admitted};
+ghost use Rattle.rt_report.specs.Admit.{AreReplays, is_computed_leaf};
+ghost use Rattle.rt_report.specs.Replay.{IsReplay, IsReplayed};
+
+use fp_request::Fixed;
+use guest_sched::run_level;
+use miss_witness::{Defeat, witness, witness_jobs};
+use rt_report::{Replay, is_computed_leaf};
+use slot_model::{Edf, Job, Miss, Sched, Task, first_miss};
+use std::alloc::{AllocError, Global};
+use supply_bound::Periodic;
+use tree_model::{MAX_TASKS, Part, Place, Plan, System, tasks_of};
+
+/// The longest window that is replayed, in slots.
+const MOST_SLOTS: u64 = 1_000_000;
+
+/// The replays of all computed leaves, in file order.
+pub fn replay_all(alloc: Global, sys: &System, plan: &Plan) -> Result<Vec<Replay>, AllocError>
+    requires { Admitted sys.now plan.now }
+    ensures { IfOk result (λ replays. AreReplays sys.now plan.now replays.items) }
+{
+    let filler = Task {
+        period: 1,
+        deadline: 1,
+        work: 1,
+    };
+    let mut room = vec![in alloc; filler; MAX_TASKS]?;
+    replay_leaves(alloc, sys, plan, &mut room)
+}
+
+/// The same, where the tasks of each leaf are written to `room`.
+fn replay_leaves(
+    alloc: Global,
+    sys: &System,
+    plan: &Plan,
+    room: &mut [Task],
+) -> Result<Vec<Replay>, AllocError>
+    requires admitted { Admitted sys.now plan.now }
+    requires room { 256 ≤ length room.old }
+    ensures { IfOk result (λ replays. AreReplays sys.now plan.now replays.items) }
+{
+    let mut replays = Vec::new(alloc);
+    for (q, part) in sys.parts().iter().enumerate() {
+        if is_computed_leaf(part) {
+            replays.push(replay_leaf(alloc, sys, plan, q as u32, room)?)?;
+        }
+    }
+    Ok(replays)
+}
+
+/// The replay of the computed leaf at place `q`, whose tasks are written to `room`.
+fn replay_leaf(
+    alloc: Global,
+    sys: &System,
+    plan: &Plan,
+    q: u32,
+    room: &mut [Task],
+) -> Result<Replay, AllocError>
+    requires admitted { Admitted sys.now plan.now }
+    requires is_part { q < length sys.now.parts }
+    requires computed { is_computed_leaf (part_at sys.now q) ≡ true }
+    requires room { 256 ≤ length room.old }
+    ensures { IfOk result (λ replay. IsReplay sys.now plan.now q replay) }
+{
+    let part = &sys.parts()[q as usize];
+    let budgets = plan.budgets();
+    let count = tasks_of(sys, budgets, Place::Part(q), room).unwrap();
+    let tasks = &room[..count];
+    let witness = witness(part.sched(), tasks, part.period(), budgets[q as usize]);
+    let miss = seen_miss(alloc, part.sched(), tasks, part.period(), &witness)?;
+    Ok(Replay {
+        part: q,
+        witness,
+        miss,
+    })
+}
+
+/// The first miss that is seen when the jobs of a defeat are run over the worst pattern of its
+/// budget, and None exactly where its window ends past 1,000,000 slots.
+fn seen_miss(
+    alloc: Global,
+    sched: Sched,
+    tasks: &[Task],
+    period: u64,
+    defeat: &Defeat,
+) -> Result<Option<Miss>, AllocError>
+    requires few { length tasks.now ≤ 256 }
+    requires some_period { 1 ≤ period }
+    requires in_limit { period ≤ LIMIT }
+    requires in_period { defeat.now.budget ≤ period }
+    requires misses { (slots : List Bool) → WorstList (worst_slot period defeat.now.budget) defeat.now.start defeat.now.span slots → MissesFromStart (worst_slot period defeat.now.budget) defeat.now.start defeat.now.span (before_of sched (sporadic_tasks tasks.now)) (sporadic_tasks tasks.now) slots }
+    ensures { IfOk result (λ miss. IsReplayed sched (sporadic_tasks tasks.now) period defeat.now miss) }
+{
+    let Some(slots) = window_end(defeat) else {
+        return Ok(None);
+    };
+    let supply = Periodic {
+        period,
+        budget: defeat.budget,
+    };
+    let jobs = witness_jobs(alloc, tasks, defeat)?;
+    let run = run_guest(alloc, sched, tasks, &jobs, &supply, slots)?;
+    Ok(first_miss(&jobs, tasks, &run))
+}
+
+/// Where the window of a defeat ends, and None exactly where that is past 1,000,000 slots.
+fn window_end(defeat: &Defeat) -> Option<u64>
+    ensures { MatchOption result (1000000 < defeat.now.start + defeat.now.span) (λ end. (end ≡ defeat.now.start + defeat.now.span) × (end ≤ 1000000)) }
+{
+    let end = defeat.span.checked_add(defeat.start as u128)?;
+    if end > MOST_SLOTS as u128 {
+        return None;
+    }
+    Some(end as u64)
+}
+
+/// The schedule of a guest over the worst pattern of its supply.
+fn run_guest(
+    alloc: Global,
+    sched: Sched,
+    tasks: &[Task],
+    jobs: &[Job],
+    supply: &Periodic,
+    slots: u64,
+) -> Result<Vec<Option<u32>>, AllocError>
+    requires legal { LegalRelease (sporadic_tasks tasks.now) jobs.now }
+    requires short { slots ≤ 1000000 }
+    requires few { length jobs.now ≤ 256000000 }
+    ensures first { IfOk result (λ run. (given : List Bool) → Follows (worst_slot supply.now.period supply.now.budget) given → length given ≡ slots → FirstRun guest (before_of sched (sporadic_tasks tasks.now)) (sporadic_tasks tasks.now) jobs.now given run.items) }
+    ensures permitted { IfOk result (λ run. (given : List Bool) → Follows (worst_slot supply.now.period supply.now.budget) given → length given ≡ slots → PermittedRun guest (before_of sched (sporadic_tasks tasks.now)) (sporadic_tasks tasks.now) jobs.now given run.items) }
+{
+    match Fixed::new(sched) {
+        Some(order) => run_level(alloc, tasks, jobs, &order, supply, slots),
+        None => run_level(alloc, tasks, jobs, &Edf, supply, slots),
+    }
+}

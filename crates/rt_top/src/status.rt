@@ -1,0 +1,24 @@
+/// What was answered. The program ends with its number, from 0 for `Yes` to 9 for `NoMemory`.
+#[derive(Clone, Copy, Debug, PartialEq, Eq)]
+pub enum Status {
+    /// The system is admitted.
+    Yes,
+    /// A node does not pass its test.
+    No,
+    /// The words have none of the forms.
+    Usage,
+    /// A file is refused.
+    BadFile,
+    /// A node's horizon is too wide to be walked.
+    Wide,
+    /// There is no file of that name.
+    Absent,
+    /// Opening or reading a file failed; nothing is written.
+    ReadFault,
+    /// A file has more than 67,108,864 bytes.
+    TooLong,
+    /// Writing failed; what was written is the front of the text.
+    WriteFault,
+    /// Memory ran out; nothing is written.
+    NoMemory,
+}

@@ -1,0 +1,111 @@
+-- The document that is printed for a system, table by table, and what a printer may rest on. It serves the clauses of private
+-- functions alone: what is printed reads back, whatever its layout.
+use Rattle.std.specs.Prelude.{◌≡◌, ℕ, ◌==◌, ◌<◌, pos, Bool, true, false, if◌then◌else◌, List, [], ◌∷◌, map, length, All, codes, Option, Some, None}
+use Rattle.std.specs.Cmp.Lexicographic.{slice_cmp}
+use Rattle.std.specs.Ordering.{nat_cmp, match_ordering}
+use Rattle.slot_model.specs.Name.{is_name}
+use Rattle.slot_model.specs.declared.sched.Sched.{Sched}
+use Rattle.slot_model.specs.declared.sched.Sched.TheVariants.{Edf, Rm, Dm, Listed}
+use Rattle.toml.specs.Data.{Data, string, integer, boolean, array, table, Members, no_members, member}
+use Rattle.toml.specs.View.{items_of}
+use Rattle.tree_model.specs.declared.pinned_core.Core.{Core as CoreView}
+use Rattle.tree_model.specs.declared.place.Parent.{Parent}
+use Rattle.tree_model.specs.declared.place.Parent.TheVariants.{Core, Part}
+use Rattle.tree_model.specs.View.{NamedTask, PartView, SystemView}
+use Rattle.tree_model.specs.System.{core_at, part_at}
+
+-- a member put in the place of its key, among members whose keys ascend
+abbrev pub with_member : List ℕ → Data → Members → Members
+with_member k d no_members = member k d no_members
+with_member k d (member l e ms) = match_ordering (slice_cmp nat_cmp k l) (member k d (member l e ms)) (member l d ms) (member l e (with_member k d ms))
+
+-- the same where there is a value
+abbrev pub with_some : List ℕ → Option Data → Members → Members
+with_some k None ms = ms
+with_some k (Some d) ms = with_member k d ms
+
+abbrev pub number : ℕ → Data
+number n = integer (pos n)
+
+-- what is written for a value that may be left out
+abbrev pub other_number : ℕ → ℕ → Option Data
+other_number usual n = if n == usual then None else Some (number n)
+
+abbrev pub some_number : Option ℕ → Option Data
+some_number None = None
+some_number (Some n) = Some (number n)
+
+abbrev pub true_flag : Bool → Option Data
+true_flag true = Some (boolean true)
+true_flag false = None
+
+abbrev pub some_array : List Data → Option Data
+some_array [] = None
+some_array (d ∷ ds) = Some (array (items_of (d ∷ ds)))
+
+abbrev pub sched_word : Sched → List ℕ
+sched_word Edf = codes "edf"
+sched_word Rm = codes "rm"
+sched_word Dm = codes "dm"
+sched_word Listed = codes "listed"
+
+-- the supply of a core that is not full
+abbrev pub with_supply : Option (ℕ × ℕ) → Members → Members
+with_supply None ms = ms
+with_supply (Some supply) ms = with_member (codes "supply_budget") (number supply.1) (with_member (codes "supply_period") (number supply.0) ms)
+
+abbrev pub printed_core : CoreView → Data
+printed_core core = table (with_supply core.supply (with_member (codes "sched") (string (sched_word core.sched)) (with_member (codes "name") (string core.name) no_members)))
+
+-- a task, whose deadline is written where it is not the period
+abbrev pub printed_task : NamedTask → Data
+printed_task t =
+    table (with_some (codes "deadline") (other_number t.task.period t.task.deadline)
+    (with_member (codes "work") (number t.task.work)
+    (with_member (codes "period") (number t.task.period) (with_member (codes "name") (string t.name) no_members))))
+
+-- the name of a parent
+abbrev pub parent_name : SystemView → Parent → List ℕ
+parent_name sys (Core c) = (core_at sys c).name
+parent_name sys (Part q) = (part_at sys q).name
+
+-- a part, with what may be left out where there is something to say
+abbrev pub part_members : SystemView → PartView → Members
+part_members sys part =
+    with_some (codes "task") (some_array (map printed_task part.tasks))
+    (with_some (codes "extra") (true_flag part.extra)
+    (with_some (codes "budget") (some_number part.budget)
+    (with_member (codes "period") (number part.period)
+    (with_member (codes "sched") (string (sched_word part.sched))
+    (with_member (codes "parent") (string (parent_name sys part.parent))
+    (with_member (codes "name") (string part.name) no_members))))))
+
+abbrev pub printed_part : SystemView → PartView → Data
+printed_part sys part = table (part_members sys part)
+
+-- the top table of these cores and parts
+abbrev pub top_members : List Data → List Data → Members
+top_members cores parts =
+    with_some (codes "part") (some_array parts) (with_member (codes "core") (array (items_of cores)) (with_member (codes "format") (number 1) no_members))
+
+abbrev pub printed : SystemView → Members
+printed sys = top_members (map printed_core sys.cores) (map (printed_part sys) sys.parts)
+
+-- a parent that stands in the system
+abbrev pub IsNodeOf : SystemView → Parent → Type 0
+IsNodeOf sys (Core c) = c < length sys.cores
+IsNodeOf sys (Part q) = q < length sys.parts
+
+-- all names of a system are names
+abbrev pub TasksAreNamed : List NamedTask → Type 0
+TasksAreNamed tasks = All (λ t. is_name t.name ≡ true) tasks
+
+pub record IsPartNamed (part : PartView) : Type 0 where
+  pub name : is_name part.name ≡ true
+  pub tasks : TasksAreNamed part.tasks
+
+abbrev pub CoresAreNamed : List CoreView → Type 0
+CoresAreNamed cores = All (λ c. is_name c.name ≡ true) cores
+
+abbrev pub PartsAreNamed : List PartView → Type 0
+PartsAreNamed parts = All IsPartNamed parts

@@ -1,0 +1,230 @@
+use crate::{print_system, read_system};
+use slot_model::{Name, Sched, Task};
+use std::alloc::{AllocError, Global};
+use std::process::Abort;
+use std::str;
+use std::test::Fail;
+use tree_model::{Core, Named, Parent, Part, System};
+
+fn name(rt: &impl Abort, alloc: Global, text: &str) -> Result<Name, AllocError> {
+    Ok(Name::new(alloc, text.as_bytes())?.expect(rt, "a name"))
+}
+
+fn core(
+    rt: &impl Abort,
+    alloc: Global,
+    text: &str,
+    sched: Sched,
+    supply: Option<(u64, u64)>,
+) -> Result<Core, AllocError> {
+    Ok(Core {
+        name: name(rt, alloc, text)?,
+        sched,
+        supply,
+    })
+}
+
+fn inner(
+    rt: &impl Abort,
+    alloc: Global,
+    text: &str,
+    parent: Parent,
+    sched: Sched,
+    period: u64,
+) -> Result<Part, AllocError> {
+    Ok(Part {
+        name: name(rt, alloc, text)?,
+        parent,
+        sched,
+        period,
+        budget: None,
+        extra: false,
+        tasks: Vec::new(alloc),
+    })
+}
+
+/// Gives a part one more task of this period, deadline and work.
+fn add_task(
+    rt: &impl Abort,
+    alloc: Global,
+    part: &mut Part,
+    text: &str,
+    period: u64,
+    deadline: u64,
+    work: u64,
+) -> Result<(), AllocError> {
+    let task = Task::new(period, deadline, work).expect(rt, "a task");
+    part.tasks.push(Named {
+        name: name(rt, alloc, text)?,
+        task,
+    })?;
+    Ok(())
+}
+
+const TREE: &str = r#"format = 1
+
+[[core]]
+name = "cpu0"
+sched = "edf"
+
+[[core]]
+name = "cpu1"
+sched = "rm"
+supply_budget = 4
+supply_period = 10
+
+[[part]]
+name = "group"
+parent = "cpu1"
+period = 5
+sched = "listed"
+
+[[part]]
+budget = 3
+extra = true
+name = "web"
+parent = "group"
+period = 4
+sched = "dm"
+
+[[part.task]]
+deadline = 8
+name = "net"
+period = 10
+work = 2
+
+[[part.task]]
+name = "disk"
+period = 20
+work = 5
+
+[[part]]
+name = "db"
+parent = "cpu0"
+period = 6
+sched = "edf"
+
+[[part.task]]
+name = "net"
+period = 1000000000
+work = 1
+"#;
+
+#[test]
+fn a_tree_is_printed(rt: HostRuntime) -> Result<(), Fail> {
+    let alloc = rt.alloc();
+    let mut cores = Vec::new(alloc);
+    cores.push(core(&rt, alloc, "cpu0", Sched::Edf, None)?)?;
+    cores.push(core(&rt, alloc, "cpu1", Sched::Rm, Some((10, 4)))?)?;
+    let mut web = inner(&rt, alloc, "web", Parent::Part(0), Sched::Dm, 4)?;
+    web.budget = Some(3);
+    web.extra = true;
+    add_task(&rt, alloc, &mut web, "net", 10, 8, 2)?;
+    add_task(&rt, alloc, &mut web, "disk", 20, 20, 5)?;
+    let mut db = inner(&rt, alloc, "db", Parent::Core(0), Sched::Edf, 6)?;
+    add_task(&rt, alloc, &mut db, "net", 1_000_000_000, 1_000_000_000, 1)?;
+    let mut parts = Vec::new(alloc);
+    parts.push(inner(&rt, alloc, "group", Parent::Core(1), Sched::Listed, 5)?)?;
+    parts.push(web)?;
+    parts.push(db)?;
+    match System::new(cores, parts) {
+        Ok(sys) => {
+            let text = print_system(alloc, &sys)?;
+            assert_eq!(rt; str::from_utf8(text.as_slice()), Ok(TREE));
+        }
+        Err(_) => assert!(rt; false, "a system"),
+    }
+    Ok(())
+}
+
+#[test]
+fn a_core_alone_is_printed(rt: HostRuntime) -> Result<(), Fail> {
+    let alloc = rt.alloc();
+    let mut cores = Vec::new(alloc);
+    cores.push(core(&rt, alloc, "cpu0", Sched::Edf, None)?)?;
+    match System::new(cores, Vec::new(alloc)) {
+        Ok(sys) => {
+            let text = print_system(alloc, &sys)?;
+            assert_eq!(rt;
+                str::from_utf8(text.as_slice()),
+                Ok("format = 1\n\n[[core]]\nname = \"cpu0\"\nsched = \"edf\"\n")
+            );
+        }
+        Err(_) => assert!(rt; false, "a system"),
+    }
+    Ok(())
+}
+
+/// Reads a file and prints it.
+fn again(rt: &impl Abort, alloc: Global, bytes: &[u8]) -> Result<Vec<u8>, AllocError> {
+    let sys = read_system(alloc, bytes).expect(rt, "a system file");
+    print_system(alloc, &sys)
+}
+
+const HOST: &str = r#"format = 1
+core = [{name = "cpu0", sched = "edf"}, {name = "cpu1", sched = "rm"}]
+[[part]]
+name = "audio"
+parent = "cpu0"
+sched = "edf"
+period = 5000
+task = [{name = "frame", period = 20000, deadline = 20000, work = 1800}]
+[[part]]
+name = "video"
+parent = "cpu0"
+sched = "rm"
+period = 10000
+task = [{name = "decode", period = 40000, work = 6000}, {name = "show", period = 80000, work = 8000}]
+[[part]]
+name = "net"
+parent = "cpu0"
+sched = "edf"
+period = 20000
+task = [{name = "poll", period = 100000, deadline = 80000, work = 9000}]
+[[part]]
+name = "ctl"
+parent = "cpu1"
+sched = "dm"
+period = 5000
+task = [{name = "loop", period = 25000, deadline = 20000, work = 1200}, {name = "log", period = 50000, work = 2500}]
+[[part]]
+name = "disk"
+parent = "cpu1"
+sched = "edf"
+period = 25000
+budget = 5000
+extra = true
+task = [{name = "io", period = 100000, work = 12000}]
+[[part]]
+name = "batch"
+parent = "cpu1"
+sched = "edf"
+period = 100000
+extra = false
+task = [{name = "job", period = 800000, work = 140000}]
+"#;
+
+const NET: &str = r#"[[part]]
+name = "net"
+parent = "cpu0"
+period = 20000
+sched = "edf"
+
+[[part.task]]
+deadline = 80000
+name = "poll"
+period = 100000
+work = 9000
+"#;
+
+#[test]
+fn a_host_is_printed_and_read_again(rt: HostRuntime) -> Result<(), Fail> {
+    let alloc = rt.alloc();
+    let printed = again(&rt, alloc, HOST.as_bytes())?;
+    let text = str::from_utf8(printed.as_slice()).expect(&rt, "text");
+    assert!(rt; text.contains(NET));
+    assert!(rt; !text.contains("extra = false"));
+    let second = again(&rt, alloc, printed.as_slice())?;
+    assert_eq!(rt; str::from_utf8(second.as_slice()), Ok(text));
+    Ok(())
+}
