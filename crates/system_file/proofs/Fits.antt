@@ -90,11 +90,14 @@ new_of_distinct ds distinct named j h = list_any_none (is_named (named j h).name
   where
     name_at : (i : ℕ) (w : i < length ds) → get_or (map (λ (d : Data). text_of (get (codes "name") d)) ds) i [] ≡ (named i w).name
     name_at i w = get_or-map (λ (d : Data). text_of (get (codes "name") d)) ds i (boolean false) [] w ∙ ap text_of (named i w).is
+
     few : j < length (map (λ (d : Data). text_of (get (codes "name") d)) ds)
     few = rw (length_map (λ (d : Data). text_of (get (codes "name") d)) ds) h
+
     apart : (k : ℕ) (lt : k < j) (w : k < length ds) (b : Bool) → bytes_eq (named j h).name (named k w).name ≡ b → b ≡ false
     apart k lt w true e = absurd (distinct k j [] lt few (name_at k w ∙ sym ((bytes_eq-Decides (named j h).name (named k w).name).0 e) ∙ sym (name_at j h)))
     apart k lt w false e = refl
+
     other : (k : ℕ) (d : Data) → k < j → is_named (named j h).name (get_or (take j ds) k d) ≡ false
     other k d lt =
         let w : k < length ds = omega arith in
