@@ -9,7 +9,6 @@ use Rattle.system_file.specs.Document.{is_text, is_named}
 use Rattle.system_file.specs.Faults.{in_order}
 use Rattle.system_file.specs.Reading.{first_of, HaveNames}
 
-
 -- the first of a list stays the first where more comes behind
 pub first_here : {A : Type 0} (a b : List A) (x : A) → first_of a ≡ Some x → first_of (a ++ b) ≡ Some x
 first_here [] b x h = cc

@@ -1,6 +1,6 @@
 -- The two laws of the system file: what is read is spelled by the document and is a system, and a document that is written
 -- by the rules is read where what it spells is a system.
-use Rattle.std.proofs.Common.{◌≡◌, ℕ, ◌+◌, ◌-◌, ◌<◌, ◌≤◌, ◌==◌, nat_lt, suc, zero, Bool, true, false, not, ◌&&◌, ◌||◌, List, [], ◌∷◌, ◌++◌, map, length, take, drop, get_or, Option, Some, None, Result, Ok, Err, is_none, refl, sym, ap, subst, ◌∙◌, codes, arith, bytes_eq, length-take-le, length-append, unwrap_or}
+use Rattle.std.proofs.Common.{◌≡◌, ℕ, ◌+◌, ◌-◌, ◌<◌, ◌≤◌, ◌==◌, nat_lt, suc, zero, Bool, true, false, not, ◌&&◌, ◌||◌, List, [], ◌∷◌, ◌++◌, map, length, take, drop, get_or, Option, Some, None, Ok, refl, sym, ap, subst, ◌∙◌, codes, arith, bytes_eq, length-take-le, length-append, unwrap_or}
 use Rattle.std.proofs.lemmas.Bool.Decides.{nat_tests}
 use Rattle.std.proofs.lemmas.List.{map-append, get_or-map, get_or-take, get_or-append-add, take-append-le, take-append-drop}
 use Rattle.std.proofs.Math.Seq.{take-append-add}
@@ -19,9 +19,9 @@ use Rattle.system_file.specs.declared.fault.Spot.TheVariants.{Top, Core, Part, T
 use Rattle.system_file.specs.declared.fault.SystemFault.{SystemFault}
 use Rattle.system_file.specs.declared.fault.SystemFault.TheVariants.{Empty, OutOfRange, TooMany}
 use Rattle.system_file.specs.Document.{elements_of, array_of, text_of, number_of, is_text, is_named, core_or_part, parent_named, parent_at, cores_of, parts_of, tasks_of, deadline_of, spelled_core, spelled_task, spelled_part, spelled_system}
-use Rattle.system_file.specs.Faults.{fault_if, required, optional, format_faults, text_faults, parent_faults, is_parent_faults, core_array_faults, array_faults, range_faults, top_faults, top_keys, in_order, core_faults, core_keys, core_key_faults, task_faults, task_keys, task_key_faults, part_faults, part_keys, part_key_faults, empty_faults, has_tasks, is_parent, faults}
+use Rattle.system_file.specs.Faults.{required, optional, format_faults, text_faults, parent_faults, is_parent_faults, core_array_faults, array_faults, top_faults, top_keys, in_order, core_faults, core_keys, core_key_faults, task_faults, task_keys, task_key_faults, part_faults, part_keys, part_key_faults, empty_faults, has_tasks, is_parent, faults}
 use Rattle.system_file.specs.SystemFile.{system_of, system_of_document, document_of, first_fault_or}
-use Rattle.system_file.specs.Written.{IsTableOf, IsNameText, IsParentText, IsArray, There, MayBe, element, IsWrittenTask, IsWrittenCore, IsWrittenPart, IsWritten}
+use Rattle.system_file.specs.Written.{IsNameText, IsParentText, IsArray, There, element, IsWrittenTask, IsWrittenCore, IsWrittenPart, IsWritten}
 use Rattle.system_file.proofs.Elements.{length_map}
 use Rattle.std.proofs.lemmas.Slice.Eq.{bytes_eq-Decides}
 use Rattle.system_file.proofs.First.{none_both}
@@ -65,17 +65,17 @@ task_fits q earlier d w new fits =
     let some_deadline : 1 ≤ deadline_of d = omega arith in
     let some_period : 1 ≤ number_of (get (codes "period") d) = omega arith in
     keys_fit spot task_keys (task_key_faults spot earlier d) d w.keys
-      (none_both _ _ (name_fits spot earlier (get (codes "name") d) w.name new)
-        (none_both _ _ (required_fits spot LIMIT (get (codes "period") d) w.period some_period fits.1)
-          (none_both _ _ (default_fits spot (number_of (get (codes "period") d)) (get (codes "deadline") d) w.deadline some_deadline in_period)
-            (required_fits spot (deadline_of d) (get (codes "work") d) w.work works in_deadline))))
+    (none_both _ _ (name_fits spot earlier (get (codes "name") d) w.name new)
+    (none_both _ _ (required_fits spot LIMIT (get (codes "period") d) w.period some_period fits.1)
+    (none_both _ _ (default_fits spot (number_of (get (codes "period") d)) (get (codes "deadline") d) w.deadline some_deadline in_period)
+    (required_fits spot (deadline_of d) (get (codes "work") d) w.work works in_deadline))))
 
 core_fits : (earlier : List Data) (d : Data) (w : IsWrittenCore d) → list_any (is_named w.name.name) earlier ≡ false → IsCoreSupply (spelled_core d).supply → core_faults earlier d ≡ []
 core_fits earlier d w new supply =
     let spot = Core (length earlier) in
     keys_fit spot core_keys (core_key_faults spot earlier d) d w.keys
-      (none_both _ _ (name_fits spot earlier (get (codes "name") d) w.name new)
-        (none_both _ _ (sched_fits spot (get (codes "sched") d) w.sched) (supply_fits spot (get (codes "supply_period") d) (get (codes "supply_budget") d) w.supply supply)))
+    (none_both _ _ (name_fits spot earlier (get (codes "name") d) w.name new)
+    (none_both _ _ (sched_fits spot (get (codes "sched") d) w.sched) (supply_fits spot (get (codes "supply_period") d) (get (codes "supply_budget") d) w.supply supply)))
 
 -- a place in the front is found in the front alone
 in_front : (a : Option ℕ) (n : ℕ) (o : Option ℕ) (r : ℕ) → joined a n o ≡ Some r → r < n → a ≡ Some r
@@ -107,14 +107,14 @@ parent_fits spot cores earlier later o t stands =
 tasks_fit : (cores all : List Data) (q : ℕ) (d : Data) → IsPart (spelled_part cores all d) → ((i : ℕ) → i < length (tasks_of d) → IsWrittenTask (element (tasks_of d) i)) → in_order (task_faults q) [] (tasks_of d) ≡ []
 tasks_fit cores all q d part written =
     none_in_order (task_faults q) [] (tasks_of d) (boolean false) (λ i h.
-      let within : i < length (map spelled_task (tasks_of d)) = rw (length_map spelled_task (tasks_of d)) h in
-      let same : task_at (own_tasks (spelled_part cores all d)) i ≡ (spelled_task (get_or (tasks_of d) i (boolean false))).task =
-            get_or-map (λ (t : NamedTask). t.task) (map spelled_task (tasks_of d)) i (spelled_task (boolean false)) (record { period = 1; deadline = 1; work = 1 }) within
-            ∙ ap (λ (t : NamedTask). t.task) (get_or-map spelled_task (tasks_of d) i (boolean false) (spelled_task (boolean false)) h) in
-      let fits : SporadicTask → Type 0 = λ t. IsConstrained t × (t.period ≤ LIMIT) in
-      task_fits q (take i (tasks_of d)) (get_or (tasks_of d) i (boolean false)) (written i h)
-        (new_of_distinct (tasks_of d) (subst AreDistinct (task_names (tasks_of d)) part.task_names) (λ k w. (written k w).name) i h)
-        (subst fits same (part.tasks i within)))
+    let within : i < length (map spelled_task (tasks_of d)) = rw (length_map spelled_task (tasks_of d)) h in
+    let same : task_at (own_tasks (spelled_part cores all d)) i ≡ (spelled_task (get_or (tasks_of d) i (boolean false))).task =
+    get_or-map (λ (t : NamedTask). t.task) (map spelled_task (tasks_of d)) i (spelled_task (boolean false)) (record { period = 1; deadline = 1; work = 1 }) within
+    ∙ ap (λ (t : NamedTask). t.task) (get_or-map spelled_task (tasks_of d) i (boolean false) (spelled_task (boolean false)) h) in
+    let fits : SporadicTask → Type 0 = λ t. IsConstrained t × (t.period ≤ LIMIT) in
+    task_fits q (take i (tasks_of d)) (get_or (tasks_of d) i (boolean false)) (written i h)
+    (new_of_distinct (tasks_of d) (subst AreDistinct (task_names (tasks_of d)) part.task_names) (λ k w. (written k w).name) i h)
+    (subst fits same (part.tasks i within)))
 
 part_fits : (cores earlier later : List Data) (d : Data) (w : IsWrittenPart cores (earlier ++ later) d) → list_any (is_named w.name.name) (cores ++ earlier) ≡ false
     → ((r : ℕ) → w.parent.parent ≡ on_part r → (r < length earlier) × (has_tasks (get_or earlier r (boolean false)) ≡ false)) → IsPart (spelled_part cores (earlier ++ later) d) → part_faults cores earlier d ≡ []
@@ -122,14 +122,14 @@ part_fits cores earlier later d w new stands part =
     let spot = Part (length earlier) in
     let few : length (array_of (get (codes "task") d)) ≤ 256 = rw (length_map spelled_task (tasks_of d)) at part.few_tasks in
     keys_fit spot part_keys (part_key_faults spot cores earlier d ++ in_order (task_faults (length earlier)) [] (tasks_of d)) d w.keys
-      (none_both (part_key_faults spot cores earlier d) _
-        (none_both _ _ (name_fits spot (cores ++ earlier) (get (codes "name") d) w.name new)
-          (none_both _ _ (parent_fits spot cores earlier later (get (codes "parent") d) w.parent stands)
-            (none_both _ _ (sched_fits spot (get (codes "sched") d) w.sched)
-              (none_both _ _ (required_fits spot LIMIT (get (codes "period") d) w.period part.period.0 part.period.1)
-                (none_both _ _ (optional_fits spot (number_of (get (codes "period") d)) (get (codes "budget") d) w.budget part.budget)
-                  (none_both _ _ (flag_fits spot (get (codes "extra") d) w.extra) (array_fits spot 256 (get (codes "task") d) w.task few)))))))
-        (tasks_fit cores (earlier ++ later) (length earlier) d part w.tasks))
+    (none_both (part_key_faults spot cores earlier d) _
+    (none_both _ _ (name_fits spot (cores ++ earlier) (get (codes "name") d) w.name new)
+    (none_both _ _ (parent_fits spot cores earlier later (get (codes "parent") d) w.parent stands)
+    (none_both _ _ (sched_fits spot (get (codes "sched") d) w.sched)
+    (none_both _ _ (required_fits spot LIMIT (get (codes "period") d) w.period part.period.0 part.period.1)
+    (none_both _ _ (optional_fits spot (number_of (get (codes "period") d)) (get (codes "budget") d) w.budget part.budget)
+    (none_both _ _ (flag_fits spot (get (codes "extra") d) w.extra) (array_fits spot 256 (get (codes "task") d) w.task few)))))))
+    (tasks_fit cores (earlier ++ later) (length earlier) d part w.tasks))
 
 any_from : {A : Type 0} (p : A → Bool) (xs : List A) (k : ℕ) (e : A) → k < length xs → p (get_or xs k e) ≡ true → list_any p xs ≡ true
 any_from p [] k e h here = absurd (omega arith)
@@ -146,6 +146,7 @@ module _ (cores parts : List Data) (wc : (c : ℕ) → c < length cores → IsWr
     where
       whole : i < length cores + length parts
       whole = rw (length-append {A = Data}) at h
+
       by : (b : Bool) → nat_lt i (length cores) ≡ b → IsNameText (get (codes "name") (get_or (cores ++ parts) i (boolean false)))
       by true e =
           let lt : i < length cores = grind (arith, nat_tests) in
@@ -154,13 +155,13 @@ module _ (cores parts : List Data) (wc : (c : ℕ) → c < length cores → IsWr
           let le : length cores ≤ i = grind (arith, nat_tests) in
           let at : length cores + (i - length cores) ≡ i = omega arith in
           subst (λ (k : ℕ). IsNameText (get (codes "name") (get_or (cores ++ parts) k (boolean false)))) at
-            (subst (λ (d : Data). IsNameText (get (codes "name") d)) (sym (get_or-append-add cores parts (i - length cores) (boolean false))) (wp (i - length cores) (omega (arith, whole))).name)
+          (subst (λ (d : Data). IsNameText (get (codes "name") d)) (sym (get_or-append-add cores parts (i - length cores) (boolean false))) (wp (i - length cores) (omega (arith, whole))).name)
 
   distinct : AreDistinct (map (λ d. text_of (get (codes "name") d)) (cores ++ parts))
   distinct = subst AreDistinct
       (ap (λ ns. ns ++ map (λ (p : PartView). p.name) (spelled cores parts)) (core_names cores)
-       ∙ ap (λ ns. map (λ (d : Data). text_of (get (codes "name") d)) cores ++ ns) (part_names cores parts parts)
-       ∙ sym (map-append (λ (d : Data). text_of (get (codes "name") d)) cores parts))
+      ∙ ap (λ ns. map (λ (d : Data). text_of (get (codes "name") d)) cores ++ ns) (part_names cores parts parts)
+      ∙ sym (map-append (λ (d : Data). text_of (get (codes "name") d)) cores parts))
       system.names
 
   -- the name at a place is new among those before it
@@ -174,8 +175,8 @@ module _ (cores parts : List Data) (wc : (c : ℕ) → c < length cores → IsWr
       let whole : c < length (cores ++ parts) = rw (length-append {A = Data}) (omega arith) in
       let supply : CoreView → Type 0 = λ x. IsCoreSupply x.supply in
       core_fits (take c cores) (get_or cores c (boolean false)) (wc c h)
-        (ap (list_any (is_named (wc c h).name.name)) (sym (take-append-le c cores parts (omega arith))) ∙ new_at c (get_or cores c (boolean false)) (wc c h).name whole (get_front cores parts c (boolean false) h))
-        (subst supply (get_or-map spelled_core cores c (boolean false) _ h) (system.supplies c (rw (length_map spelled_core cores) h))))
+      (ap (list_any (is_named (wc c h).name.name)) (sym (take-append-le c cores parts (omega arith))) ∙ new_at c (get_or cores c (boolean false)) (wc c h).name whole (get_front cores parts c (boolean false) h))
+      (subst supply (get_or-map spelled_core cores c (boolean false) _ h) (system.supplies c (rw (length_map spelled_core cores) h))))
 
   parent_is : (q : ℕ) (h : q < length parts) → parent_at cores parts (get_or parts q (boolean false)) ≡ (wp q h).parent.parent
   parent_is q h = ap (λ o. unwrap_or (parent_named cores parts (text_of o)) (on_core 0)) (wp q h).parent.is ∙ ap (λ o. unwrap_or o (on_core 0)) (wp q h).parent.named
@@ -183,11 +184,12 @@ module _ (cores parts : List Data) (wc : (c : ℕ) → c < length cores → IsWr
   stands : (q : ℕ) (h : q < length parts) (r : ℕ) → (wp q h).parent.parent ≡ on_part r → (r < length (take q parts)) × (has_tasks (get_or (take q parts) r (boolean false)) ≡ false)
   stands q h r e =
       let at : Stands (sys cores parts) q (on_part r) =
-            subst (λ (p : Parent). Stands (sys cores parts) q p) (ap (λ (p : PartView). p.parent) (part_spelled cores parts q h) ∙ parent_is q h ∙ e) (system.parents q (rw (length_map (spelled_part cores parts) parts) h)) in
+      subst (λ (p : Parent). Stands (sys cores parts) q p) (ap (λ (p : PartView). p.parent) (part_spelled cores parts q h) ∙ parent_is q h ∙ e) (system.parents q (rw (length_map (spelled_part cores parts) parts) h)) in
       let lt = at.0 in
-      let few : r < length parts = omega arith in
-      (rw (length-take-le q parts (omega arith)) lt,
-       ap has_tasks (get_or-take q parts r (boolean false) lt) ∙ sym (leaf_tasks (tasks_of (get_or parts r (boolean false)))) ∙ ap (λ (p : PartView). is_leaf p.tasks) (sym (part_spelled cores parts r few)) ∙ at.1)
+      let few : r < length parts = omega arith in (
+        rw (length-take-le q parts (omega arith)) lt,
+        ap has_tasks (get_or-take q parts r (boolean false) lt) ∙ sym (leaf_tasks (tasks_of (get_or parts r (boolean false)))) ∙ ap (λ (p : PartView). is_leaf p.tasks) (sym (part_spelled cores parts r few)) ∙ at.1,
+      )
 
   no_part_fault : in_order (part_faults cores) [] parts ≡ []
   no_part_fault = none_in_order (part_faults cores) [] parts (boolean false) (λ q h. at q h)
@@ -198,13 +200,13 @@ module _ (cores parts : List Data) (wc : (c : ℕ) → c < length cores → IsWr
           let all : take q parts ++ drop q parts ≡ parts = take-append-drop q parts in
           let w = wp q h in
           let parent : IsParentText cores (take q parts ++ drop q parts) (get (codes "parent") d) =
-                record { text = w.parent.text; is = w.parent.is; parent = w.parent.parent; named = ap (λ ps. parent_named cores ps w.parent.text) all ∙ w.parent.named } in
+          record { text = w.parent.text; is = w.parent.is; parent = w.parent.parent; named = ap (λ ps. parent_named cores ps w.parent.text) all ∙ w.parent.named } in
           let whole : length cores + q < length (cores ++ parts) = rw (length-append {A = Data}) (omega arith) in
           part_fits cores (take q parts) (drop q parts) d
-            (record { keys = w.keys; name = w.name; parent = parent; sched = w.sched; period = w.period; budget = w.budget; extra = w.extra; task = w.task; tasks = w.tasks })
-            (ap (list_any (is_named w.name.name)) (sym (take-append-add cores parts q)) ∙ new_at (length cores + q) d w.name whole (get_or-append-add cores parts q (boolean false)))
-            (stands q h)
-            (subst (λ (ps : List Data). IsPart (spelled_part cores ps d)) (sym all) (subst IsPart (part_spelled cores parts q h) (system.parts q (rw (length_map (spelled_part cores parts) parts) h))))
+          (record { keys = w.keys; name = w.name; parent = parent; sched = w.sched; period = w.period; budget = w.budget; extra = w.extra; task = w.task; tasks = w.tasks })
+          (ap (list_any (is_named w.name.name)) (sym (take-append-add cores parts q)) ∙ new_at (length cores + q) d w.name whole (get_or-append-add cores parts q (boolean false)))
+          (stands q h)
+          (subst (λ (ps : List Data). IsPart (spelled_part cores ps d)) (sym all) (subst IsPart (part_spelled cores parts q h) (system.parts q (rw (length_map (spelled_part cores parts) parts) h))))
 
   linked : (q r : ℕ) → q < length parts → r < length parts → parent_at cores parts (get_or parts r (boolean false)) ≡ on_part q → is_parent parts (get_or parts q (boolean false)) ≡ true
   linked q r hq hr is =
@@ -212,7 +214,7 @@ module _ (cores parts : List Data) (wc : (c : ℕ) → c < length cores → IsWr
       let place : position (is_named text) parts ≡ Some q = part_place _ _ q ((wp r hr).parent.named ∙ ap Some (sym (parent_is r hr) ∙ is)) in
       let holds : is_named text (get_or parts q (boolean false)) ≡ true = position_holds (is_named text) parts q (boolean false) place in
       any_from (λ child. is_text (text_of (get (codes "name") (get_or parts q (boolean false)))) (get (codes "parent") child)) parts r (boolean false) hr
-        (ap (is_text (text_of (get (codes "name") (get_or parts q (boolean false))))) (wp r hr).parent.is ∙ swapped text (get (codes "name") (get_or parts q (boolean false))) holds)
+      (ap (is_text (text_of (get (codes "name") (get_or parts q (boolean false))))) (wp r hr).parent.is ∙ swapped text (get (codes "name") (get_or parts q (boolean false))) holds)
     where
       swapped : (text : List ℕ) (o : Option Data) → is_text text o ≡ true → bytes_eq (text_of o) text ≡ true
       swapped text (Some (string s)) e = (bytes_eq-Decides s text).1 (sym ((bytes_eq-Decides text s).0 e))
@@ -242,6 +244,7 @@ cores_fit (Some d) w some few = ap core_array_faults w.1 ∙ none_both _ _ (righ
   where
     not_none : (n : ℕ) → 1 ≤ n → (n == 0) ≡ false
     not_none n h = grind (arith, nat_tests)
+
     at_most : (n : ℕ) → n ≤ 64 → nat_lt 64 n ≡ false
     at_most n h = grind (arith, nat_tests)
 
@@ -249,13 +252,13 @@ cores_fit (Some d) w some few = ap core_array_faults w.1 ∙ none_both _ _ (righ
 pub written_is_faultless : (top : Data) → IsWritten top → IsSystem (spelled_system top) → faults top ≡ []
 written_is_faultless top w system =
     let in_top : top_faults top ≡ [] =
-          keys_fit Top top_keys (required Top format_faults (get (codes "format") top) ++ (required Top core_array_faults (get (codes "core") top) ++ optional (array_faults Top 512) (get (codes "part") top))) top w.keys
-            (none_both _ _ (ap (required Top format_faults) w.format ∙ right false (OutOfRange Top) refl)
-              (none_both _ _ (cores_fit (get (codes "core") top) w.core (rw (length_map spelled_core (cores_of top)) at system.some_core) (rw (length_map spelled_core (cores_of top)) at system.few_cores))
-                (array_fits Top 512 (get (codes "part") top) w.part (rw (length_map (spelled_part (cores_of top) (parts_of top)) (parts_of top)) at system.few_parts)))) in
+    keys_fit Top top_keys (required Top format_faults (get (codes "format") top) ++ (required Top core_array_faults (get (codes "core") top) ++ optional (array_faults Top 512) (get (codes "part") top))) top w.keys
+    (none_both _ _ (ap (required Top format_faults) w.format ∙ right false (OutOfRange Top) refl)
+    (none_both _ _ (cores_fit (get (codes "core") top) w.core (rw (length_map spelled_core (cores_of top)) at system.some_core) (rw (length_map spelled_core (cores_of top)) at system.few_cores))
+    (array_fits Top 512 (get (codes "part") top) w.part (rw (length_map (spelled_part (cores_of top) (parts_of top)) (parts_of top)) at system.few_parts)))) in
     none_both (top_faults top) _ in_top
-      (none_both _ _ (no_core_fault (cores_of top) (parts_of top) w.cores w.parts system)
-        (none_both _ _ (no_part_fault (cores_of top) (parts_of top) w.cores w.parts system) (no_empty (cores_of top) (parts_of top) w.cores w.parts system)))
+    (none_both _ _ (no_core_fault (cores_of top) (parts_of top) w.cores w.parts system)
+    (none_both _ _ (no_part_fault (cores_of top) (parts_of top) w.cores w.parts system) (no_empty (cores_of top) (parts_of top) w.cores w.parts system)))
 
 -- What is written by the rules and spells a system is read as that system.
 pub written_is_read : (bytes : List ℕ) (members : Members) → document_of bytes ≡ Some members → IsWritten (table members) → IsSystem (spelled_system (table members)) → system_of bytes ≡ Ok (spelled_system (table members))

@@ -1,5 +1,5 @@
 -- A document without faults is written by the rules.
-use Rattle.std.proofs.Common.{◌≡◌, ℕ, ◌+◌, ◌<◌, pos, negsuc, Bool, true, false, not, List, [], ◌∷◌, ◌++◌, length, take, drop, get_or, Option, Some, None, refl, sym, ap, subst, ◌∙◌, codes, arith, if◌then◌else◌, nat_le, ◌&&◌, ◌==◌}
+use Rattle.std.proofs.Common.{◌≡◌, ℕ, pos, negsuc, Bool, true, false, not, List, [], ◌∷◌, ◌++◌, length, take, drop, get_or, Option, Some, None, refl, ap, subst, codes, arith, if◌then◌else◌, ◌==◌}
 use Rattle.std.proofs.lemmas.Bool.Decides.{nat_tests}
 use Rattle.std.proofs.lemmas.List.{take-append-drop}
 use Rattle.std.specs.List.{list_any}
@@ -9,10 +9,10 @@ use Rattle.toml.specs.Data.{Data, string, integer, float, boolean, datetime, arr
 use Rattle.system_file.specs.declared.fault.Spot.{Spot}
 use Rattle.system_file.specs.declared.fault.Spot.TheVariants.{Top, Core, Part, Task}
 use Rattle.system_file.specs.declared.fault.SystemFault.{SystemFault}
-use Rattle.system_file.specs.declared.fault.SystemFault.TheVariants.{BadName, NameTaken, MissingKey, OutOfRange}
-use Rattle.system_file.specs.Document.{number_of, is_named, sched_named, parent_named, cores_of, parts_of, tasks_of, deadline_of}
-use Rattle.system_file.specs.Faults.{fault_if, required, optional, text_faults, new_name_faults, name_faults, sched_faults, parent_faults, is_in_range, is_one, format_faults, range_faults, flag_faults, array_faults, core_array_faults, supply_faults, has_only, table_faults, in_order, core_keys, core_key_faults, core_faults, task_keys, task_key_faults, task_number_faults, task_faults, part_keys, part_key_faults, part_faults, server_faults, top_keys, top_faults, empty_faults, faults}
-use Rattle.system_file.specs.Written.{IsTableOf, IsNameText, IsSchedText, IsParentText, IsWhole, IsFlag, IsArray, There, MayBe, BothOrNeither, element, IsWrittenTask, IsWrittenCore, IsWrittenPart, IsWritten}
+use Rattle.system_file.specs.declared.fault.SystemFault.TheVariants.{BadName, NameTaken, MissingKey}
+use Rattle.system_file.specs.Document.{number_of, is_named, cores_of, parts_of, tasks_of, deadline_of}
+use Rattle.system_file.specs.Faults.{fault_if, required, optional, text_faults, new_name_faults, sched_faults, parent_faults, format_faults, range_faults, flag_faults, array_faults, core_array_faults, supply_faults, table_faults, in_order, core_keys, core_key_faults, core_faults, task_keys, task_key_faults, task_number_faults, task_faults, part_keys, part_key_faults, part_faults, top_keys, top_faults, faults}
+use Rattle.system_file.specs.Written.{IsTableOf, IsNameText, IsSchedText, IsWhole, IsFlag, IsArray, There, MayBe, BothOrNeither, IsWrittenTask, IsWrittenCore, IsWrittenPart, IsWritten}
 use Rattle.system_file.proofs.First.{none_left, none_right}
 use Rattle.system_file.proofs.Places.{parent_kept}
 use Rattle.system_file.proofs.Faultless.{not_wrong, table_inside, text_there}
@@ -127,7 +127,7 @@ task_written q earlier d h =
       name = name_text spot earlier (get (codes "name") d) (none_left _ _ keys);
       period = whole_there spot LIMIT (get (codes "period") d) (none_left _ _ numbers);
       deadline = maybe_whole spot (number_of (get (codes "period") d)) (get (codes "deadline") d) (none_left _ _ more);
-      work = whole_there spot (deadline_of d) (get (codes "work") d) (none_right (optional (range_faults spot (number_of (get (codes "period") d))) (get (codes "deadline") d)) _ more)
+      work = whole_there spot (deadline_of d) (get (codes "work") d) (none_right (optional (range_faults spot (number_of (get (codes "period") d))) (get (codes "deadline") d)) _ more);
     }
 
 core_written : (earlier : List Data) (d : Data) → core_faults earlier d ≡ [] → IsWrittenCore d
@@ -139,7 +139,7 @@ core_written earlier d h =
       keys = table_of spot core_keys (core_key_faults spot earlier d) d h;
       name = name_text spot earlier (get (codes "name") d) (none_left _ _ keys);
       sched = sched_text spot (get (codes "sched") d) (none_left _ _ more);
-      supply = both spot (get (codes "supply_period") d) (get (codes "supply_budget") d) (none_right (required spot (text_faults spot (sched_faults spot)) (get (codes "sched") d)) _ more)
+      supply = both spot (get (codes "supply_period") d) (get (codes "supply_budget") d) (none_right (required spot (text_faults spot (sched_faults spot)) (get (codes "sched") d)) _ more);
     }
 
 part_written : (cores earlier later : List Data) (d : Data) → part_faults cores earlier d ≡ [] → IsWrittenPart cores (earlier ++ later) d
@@ -163,7 +163,7 @@ part_written cores earlier later d h =
       budget = maybe_whole spot (number_of (get (codes "period") d)) (get (codes "budget") d) (none_left _ _ after_period);
       extra = maybe_flag spot (get (codes "extra") d) (none_left _ _ after_budget);
       task = maybe_array spot 256 (get (codes "task") d) (none_right (optional (flag_faults spot) (get (codes "extra") d)) _ after_budget);
-      tasks = λ i few. task_written (length earlier) (take i (tasks_of d)) (get_or (tasks_of d) i (boolean false)) (each (task_faults (length earlier)) [] (tasks_of d) i (boolean false) few in_tasks)
+      tasks = λ i few. task_written (length earlier) (take i (tasks_of d)) (get_or (tasks_of d) i (boolean false)) (each (task_faults (length earlier)) [] (tasks_of d) i (boolean false) few in_tasks);
     }
 
 pub faultless_is_written : (top : Data) → faults top ≡ [] → IsWritten top
@@ -182,5 +182,5 @@ faultless_is_written top h =
       part = maybe_array Top 512 (get (codes "part") top) (none_right (required Top core_array_faults (get (codes "core") top)) _ arrays);
       cores = λ c few. core_written (take c (cores_of top)) (get_or (cores_of top) c (boolean false)) (each core_faults [] (cores_of top) c (boolean false) few no_core);
       parts = λ q few. subst (λ (ps : List Data). IsWrittenPart (cores_of top) ps (get_or (parts_of top) q (boolean false))) (take-append-drop q (parts_of top))
-        (part_written (cores_of top) (take q (parts_of top)) (drop q (parts_of top)) (get_or (parts_of top) q (boolean false)) (each (part_faults (cores_of top)) [] (parts_of top) q (boolean false) few no_part))
+          (part_written (cores_of top) (take q (parts_of top)) (drop q (parts_of top)) (get_or (parts_of top) q (boolean false)) (each (part_faults (cores_of top)) [] (parts_of top) q (boolean false) few no_part));
     }

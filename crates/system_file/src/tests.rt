@@ -318,7 +318,9 @@ fn numbered(alloc: Global, parts: u32) -> Result<String, AllocError> {
 fn repeated(alloc: Global, head: &str, piece: &str, count: u32) -> Result<String, AllocError> {
     let mut text = String::from_str(alloc, head)?;
     for i in 0..count {
-        let name = format!(in alloc; "[[{piece}]]\nname = 'n{i}'\nsched = 'edf'\nperiod = 10\nwork = 1\n")?;
+        let name = format!(in alloc;
+            "[[{piece}]]\nname = 'n{i}'\nsched = 'edf'\nperiod = 10\nwork = 1\n"
+        )?;
         text.push_str(name.as_str())?;
     }
     Ok(text)
@@ -328,10 +330,13 @@ fn repeated(alloc: Global, head: &str, piece: &str, count: u32) -> Result<String
 fn too_many(rt: HostRuntime) {
     let cores = repeated(rt.alloc(), "format = 1\n", "core", 65).expect(&rt, "memory");
     assert!(rt; fault_of(rt.alloc(), cores.as_str()) == Some(SystemFault::TooMany(Spot::Top)));
-    let part = "format = 1\n[[core]]\nname = 'c'\nsched = 'dm'\nsupply_period = 1000000000\nsupply_budget = 1000000000\n[[part]]\nname = 'p'\nparent = 'c'\nsched = 'listed'\nperiod = 1000000000\nbudget = 1000000000\nextra = false\n";
+    let part =
+        "format = 1\n[[core]]\nname = 'c'\nsched = 'dm'\nsupply_period = 1000000000\nsupply_budget = 1000000000\n[[part]]\nname = 'p'\nparent = 'c'\nsched = 'listed'\nperiod = 1000000000\nbudget = 1000000000\nextra = false\n";
     let tasks = repeated(rt.alloc(), part, "part.task", 257).expect(&rt, "memory");
     assert!(rt; fault_of(rt.alloc(), tasks.as_str()) == Some(SystemFault::TooMany(Spot::Part(0))));
-    let inner = format!(in rt.alloc(); "{part}task = []\n[[part]]\nname = 'q'\nparent = 'p'\nsched = 'rm'\nperiod = 1\nbudget = 1\n[[part.task]]\nname = 't'\nperiod = 1\nwork = 1\n").expect(&rt, "memory");
+    let inner = format!(in rt.alloc();
+        "{part}task = []\n[[part]]\nname = 'q'\nparent = 'p'\nsched = 'rm'\nperiod = 1\nbudget = 1\n[[part.task]]\nname = 't'\nperiod = 1\nwork = 1\n"
+    ).expect(&rt, "memory");
     assert!(rt; fault_of(rt.alloc(), inner.as_str()) == None);
 }
 
