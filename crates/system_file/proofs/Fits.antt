@@ -1,5 +1,5 @@
 -- Values of their kind and in their range have no fault.
-use Rattle.std.proofs.Common.{◌≡◌, ℕ, ◌<◌, ◌≤◌, zero, suc, pos, negsuc, Bool, true, false, not, ◌&&◌, nat_le, nat_lt, ◌==◌, List, [], ◌∷◌, ◌++◌, map, length, take, get_or, Option, Some, None, is_none, refl, sym, ap, ◌∙◌, codes, arith, bytes_eq, length-take-le, unwrap_or, if◌then◌else◌}
+use Rattle.std.proofs.Common.{◌≡◌, ℕ, ◌<◌, ◌≤◌, pos, negsuc, Bool, true, false, not, ◌&&◌, nat_le, nat_lt, List, [], ◌∷◌, map, length, take, get_or, Option, Some, None, refl, sym, ap, ◌∙◌, codes, arith, bytes_eq, length-take-le, unwrap_or, if◌then◌else◌}
 use Rattle.std.proofs.lemmas.Bool.Decides.{nat_tests}
 use Rattle.std.proofs.lemmas.List.{get_or_default, get_or-map, get_or-take}
 use Rattle.std.proofs.lemmas.List.Folds.{list_any_none}
@@ -11,9 +11,9 @@ use Rattle.toml.specs.Data.{Data, string, integer, float, boolean, datetime, arr
 use Rattle.tree_model.specs.System.{IsGivenBudget, IsCoreSupply, AreDistinct}
 use Rattle.system_file.specs.declared.fault.Spot.{Spot}
 use Rattle.system_file.specs.declared.fault.SystemFault.{SystemFault}
-use Rattle.system_file.specs.declared.fault.SystemFault.TheVariants.{OutOfRange, BadName, NameTaken, TooMany}
+use Rattle.system_file.specs.declared.fault.SystemFault.TheVariants.{BadName, NameTaken, TooMany}
 use Rattle.system_file.specs.Document.{elements_of, array_of, text_of, number_of, given_number, is_text, is_named, supply_of}
-use Rattle.system_file.specs.Faults.{fault_if, required, optional, text_faults, new_name_faults, name_faults, sched_faults, is_in_range, range_faults, flag_faults, array_faults, supply_faults, table_faults}
+use Rattle.system_file.specs.Faults.{fault_if, required, optional, text_faults, new_name_faults, name_faults, sched_faults, range_faults, flag_faults, array_faults, supply_faults, table_faults}
 use Rattle.system_file.specs.Written.{IsTableOf, IsNameText, IsSchedText, IsWhole, IsFlag, IsArray, There, MayBe, BothOrNeither}
 use Rattle.system_file.proofs.Elements.{length_map}
 use Rattle.system_file.proofs.First.{none_both}

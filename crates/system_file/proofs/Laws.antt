@@ -1,6 +1,6 @@
 -- The two laws of the system file: what is read is spelled by the document and is a system, and a document that is written
 -- by the rules is read where what it spells is a system.
-use Rattle.std.proofs.Common.{◌≡◌, ℕ, ◌+◌, ◌-◌, ◌<◌, ◌≤◌, ◌==◌, nat_lt, suc, zero, Bool, true, false, not, ◌&&◌, ◌||◌, List, [], ◌∷◌, ◌++◌, map, length, take, drop, get_or, Option, Some, None, Result, Ok, Err, is_none, refl, sym, ap, subst, ◌∙◌, codes, arith, bytes_eq, length-take-le, length-append, unwrap_or}
+use Rattle.std.proofs.Common.{◌≡◌, ℕ, ◌+◌, ◌-◌, ◌<◌, ◌≤◌, ◌==◌, nat_lt, suc, zero, Bool, true, false, not, ◌&&◌, ◌||◌, List, [], ◌∷◌, ◌++◌, map, length, take, drop, get_or, Option, Some, None, Ok, refl, sym, ap, subst, ◌∙◌, codes, arith, bytes_eq, length-take-le, length-append, unwrap_or}
 use Rattle.std.proofs.lemmas.Bool.Decides.{nat_tests}
 use Rattle.std.proofs.lemmas.List.{map-append, get_or-map, get_or-take, get_or-append-add, take-append-le, take-append-drop}
 use Rattle.std.proofs.Math.Seq.{take-append-add}
@@ -19,9 +19,9 @@ use Rattle.system_file.specs.declared.fault.Spot.TheVariants.{Top, Core, Part, T
 use Rattle.system_file.specs.declared.fault.SystemFault.{SystemFault}
 use Rattle.system_file.specs.declared.fault.SystemFault.TheVariants.{Empty, OutOfRange, TooMany}
 use Rattle.system_file.specs.Document.{elements_of, array_of, text_of, number_of, is_text, is_named, core_or_part, parent_named, parent_at, cores_of, parts_of, tasks_of, deadline_of, spelled_core, spelled_task, spelled_part, spelled_system}
-use Rattle.system_file.specs.Faults.{fault_if, required, optional, format_faults, text_faults, parent_faults, is_parent_faults, core_array_faults, array_faults, range_faults, top_faults, top_keys, in_order, core_faults, core_keys, core_key_faults, task_faults, task_keys, task_key_faults, part_faults, part_keys, part_key_faults, empty_faults, has_tasks, is_parent, faults}
+use Rattle.system_file.specs.Faults.{required, optional, format_faults, text_faults, parent_faults, is_parent_faults, core_array_faults, array_faults, top_faults, top_keys, in_order, core_faults, core_keys, core_key_faults, task_faults, task_keys, task_key_faults, part_faults, part_keys, part_key_faults, empty_faults, has_tasks, is_parent, faults}
 use Rattle.system_file.specs.SystemFile.{system_of, system_of_document, document_of, first_fault_or}
-use Rattle.system_file.specs.Written.{IsTableOf, IsNameText, IsParentText, IsArray, There, MayBe, element, IsWrittenTask, IsWrittenCore, IsWrittenPart, IsWritten}
+use Rattle.system_file.specs.Written.{IsNameText, IsParentText, IsArray, There, element, IsWrittenTask, IsWrittenCore, IsWrittenPart, IsWritten}
 use Rattle.system_file.proofs.Elements.{length_map}
 use Rattle.std.proofs.lemmas.Slice.Eq.{bytes_eq-Decides}
 use Rattle.system_file.proofs.First.{none_both}

@@ -1,5 +1,5 @@
 -- A document without faults is written by the rules.
-use Rattle.std.proofs.Common.{◌≡◌, ℕ, ◌+◌, ◌<◌, pos, negsuc, Bool, true, false, not, List, [], ◌∷◌, ◌++◌, length, take, drop, get_or, Option, Some, None, refl, sym, ap, subst, ◌∙◌, codes, arith, if◌then◌else◌, nat_le, ◌&&◌, ◌==◌}
+use Rattle.std.proofs.Common.{◌≡◌, ℕ, pos, negsuc, Bool, true, false, not, List, [], ◌∷◌, ◌++◌, length, take, drop, get_or, Option, Some, None, refl, ap, subst, codes, arith, if◌then◌else◌, ◌==◌}
 use Rattle.std.proofs.lemmas.Bool.Decides.{nat_tests}
 use Rattle.std.proofs.lemmas.List.{take-append-drop}
 use Rattle.std.specs.List.{list_any}
@@ -9,10 +9,10 @@ use Rattle.toml.specs.Data.{Data, string, integer, float, boolean, datetime, arr
 use Rattle.system_file.specs.declared.fault.Spot.{Spot}
 use Rattle.system_file.specs.declared.fault.Spot.TheVariants.{Top, Core, Part, Task}
 use Rattle.system_file.specs.declared.fault.SystemFault.{SystemFault}
-use Rattle.system_file.specs.declared.fault.SystemFault.TheVariants.{BadName, NameTaken, MissingKey, OutOfRange}
-use Rattle.system_file.specs.Document.{number_of, is_named, sched_named, parent_named, cores_of, parts_of, tasks_of, deadline_of}
-use Rattle.system_file.specs.Faults.{fault_if, required, optional, text_faults, new_name_faults, name_faults, sched_faults, parent_faults, is_in_range, is_one, format_faults, range_faults, flag_faults, array_faults, core_array_faults, supply_faults, has_only, table_faults, in_order, core_keys, core_key_faults, core_faults, task_keys, task_key_faults, task_number_faults, task_faults, part_keys, part_key_faults, part_faults, server_faults, top_keys, top_faults, empty_faults, faults}
-use Rattle.system_file.specs.Written.{IsTableOf, IsNameText, IsSchedText, IsParentText, IsWhole, IsFlag, IsArray, There, MayBe, BothOrNeither, element, IsWrittenTask, IsWrittenCore, IsWrittenPart, IsWritten}
+use Rattle.system_file.specs.declared.fault.SystemFault.TheVariants.{BadName, NameTaken, MissingKey}
+use Rattle.system_file.specs.Document.{number_of, is_named, cores_of, parts_of, tasks_of, deadline_of}
+use Rattle.system_file.specs.Faults.{fault_if, required, optional, text_faults, new_name_faults, sched_faults, parent_faults, format_faults, range_faults, flag_faults, array_faults, core_array_faults, supply_faults, table_faults, in_order, core_keys, core_key_faults, core_faults, task_keys, task_key_faults, task_number_faults, task_faults, part_keys, part_key_faults, part_faults, top_keys, top_faults, faults}
+use Rattle.system_file.specs.Written.{IsTableOf, IsNameText, IsSchedText, IsWhole, IsFlag, IsArray, There, MayBe, BothOrNeither, IsWrittenTask, IsWrittenCore, IsWrittenPart, IsWritten}
 use Rattle.system_file.proofs.First.{none_left, none_right}
 use Rattle.system_file.proofs.Places.{parent_kept}
 use Rattle.system_file.proofs.Faultless.{not_wrong, table_inside, text_there}
