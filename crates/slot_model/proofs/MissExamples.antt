@@ -11,7 +11,7 @@ use Rattle.slot_model.specs.Miss.{Lost, Missed, is_missed, IsFirstMissed, IsFirs
 use Rattle.slot_model.specs.declared.job.Job.{Job}
 use Rattle.slot_model.proofs.Runs.{holds-is}
 use Rattle.slot_model.proofs.SlotExamples.{task_of, job_of}
-use Rattle.slot_model.proofs.RunExamples.{held_is}
+use Rattle.slot_model.proofs.RunExamples.{both_at_0, held_is, pending_first, none_before}
 
 -- a job of 3 slots, released at 0 and due at 5
 abbrev tasks : List SporadicTask
@@ -122,59 +122,42 @@ a_job_that_there_is_not_is_not_held holds = let inside : 0 < 0 = (holds 0 0 (ome
 abbrev crowded : List SporadicTask
 crowded = task_of 1 1 1 ∷ task_of 1 1 1 ∷ []
 
-abbrev two_jobs : List Job
-two_jobs = job_of 0 0 1 ∷ job_of 1 0 1 ∷ []
-
-two_jobs_are_legal : LegalRelease crowded two_jobs
-two_jobs_are_legal = record { named = named; works = works; in_work = in_work; apart = apart }
+both_are_legal : LegalRelease crowded both_at_0
+both_are_legal = record { named = named; works = works; in_work = in_work; apart = apart }
   where
-    named : (j : ℕ) → j < 2 → (job_at two_jobs j).task < 2
+    named : (j : ℕ) → j < 2 → (job_at both_at_0 j).task < 2
     named zero l = omega arith
     named (suc zero) l = omega arith
     named (suc (suc j)) l = absurd (omega arith)
 
-    works : (j : ℕ) → j < 2 → 1 ≤ (job_at two_jobs j).work
+    works : (j : ℕ) → j < 2 → 1 ≤ (job_at both_at_0 j).work
     works zero l = omega arith
     works (suc zero) l = omega arith
     works (suc (suc j)) l = absurd (omega arith)
 
-    in_work : (j : ℕ) → j < 2 → (job_at two_jobs j).work ≤ (task_at crowded (job_at two_jobs j).task).work
+    in_work : (j : ℕ) → j < 2 → (job_at both_at_0 j).work ≤ (task_at crowded (job_at both_at_0 j).task).work
     in_work zero l = omega arith
     in_work (suc zero) l = omega arith
     in_work (suc (suc j)) l = absurd (omega arith)
 
-    apart : (i j : ℕ) → i < j → j < 2 → (job_at two_jobs i).task ≡ (job_at two_jobs j).task → (job_at two_jobs i).release + (task_at crowded (job_at two_jobs i).task).period ≤ (job_at two_jobs j).release
+    apart : (i j : ℕ) → i < j → j < 2 → (job_at both_at_0 i).task ≡ (job_at both_at_0 j).task → (job_at both_at_0 i).release + (task_at crowded (job_at both_at_0 i).task).period ≤ (job_at both_at_0 j).release
     apart zero (suc zero) l m same = absurd (omega arith)
     apart i (suc (suc j)) l m same = absurd (omega arith)
     apart i j l m same = absurd (omega arith)
 
-pending_at_0 : (run : List (Option ℕ)) (j : ℕ) → j < 2 → Pending guest crowded two_jobs run j 0
-unfolding sum_below
-pending_at_0 run zero l = record { is_job = omega arith; released = omega arith; unfinished = omega arith; still_open = tt }
-pending_at_0 run (suc zero) l = record { is_job = omega arith; released = omega arith; unfinished = omega arith; still_open = tt }
-pending_at_0 run (suc (suc j)) l = absurd (omega arith)
-
-none_goes_first : (i k : ℕ) → i < 2 → k < 2 → edf_before crowded (job_at two_jobs k) (job_at two_jobs i) ≡ true → ⊥
-none_goes_first zero zero l m t = cc
-none_goes_first zero (suc zero) l m t = cc
-none_goes_first (suc zero) zero l m t = cc
-none_goes_first (suc zero) (suc zero) l m t = cc
-none_goes_first (suc (suc i)) k l m t = omega arith
-none_goes_first i (suc (suc k)) l m t = omega arith
-
-first_job_alone : PermittedRun guest (edf_before crowded) crowded two_jobs (true ∷ []) (Some 0 ∷ [])
-first_job_alone = record { same_length = refl; no_slot = no_slot; idle = idle; served = served; chosen = λ x j k l e p. none_goes_first j k (served x j l e).is_job p.is_job }
+first_job_alone : PermittedRun guest (edf_before crowded) crowded both_at_0 (true ∷ []) (Some 0 ∷ [])
+first_job_alone = record { same_length = refl; no_slot = no_slot; idle = idle; served = served; chosen = λ x j k l e p. none_before crowded refl refl j k (served x j l e).is_job p.is_job }
   where
     no_slot : (x : ℕ) → x < 1 → get_or (true ∷ []) x false ≡ false → get_or {A = Option ℕ} (Some 0 ∷ []) x None ≡ None
     no_slot zero l e = cc
     no_slot (suc x) l e = absurd (omega arith)
 
-    idle : (x j : ℕ) → x < 1 → get_or (true ∷ []) x false ≡ true → get_or {A = Option ℕ} (Some 0 ∷ []) x None ≡ None → Pending guest crowded two_jobs (Some 0 ∷ []) j x → ⊥
+    idle : (x j : ℕ) → x < 1 → get_or (true ∷ []) x false ≡ true → get_or {A = Option ℕ} (Some 0 ∷ []) x None ≡ None → Pending guest crowded both_at_0 (Some 0 ∷ []) j x → ⊥
     idle zero j l s e p = cc
     idle (suc x) j l s e p = omega arith
 
-    served : (x j : ℕ) → x < 1 → get_or {A = Option ℕ} (Some 0 ∷ []) x None ≡ Some j → Pending guest crowded two_jobs (Some 0 ∷ []) j x
-    served zero j l e = held_is (λ i. Pending guest crowded two_jobs (Some 0 ∷ []) i 0) 0 j e (pending_at_0 (Some 0 ∷ []) 0 (omega arith))
+    served : (x j : ℕ) → x < 1 → get_or {A = Option ℕ} (Some 0 ∷ []) x None ≡ Some j → Pending guest crowded both_at_0 (Some 0 ∷ []) j x
+    served zero j l e = held_is (λ i. Pending guest crowded both_at_0 (Some 0 ∷ []) i 0) 0 j e (pending_first crowded (Some 0 ∷ []) 0 (omega arith))
     served (suc x) j l e = absurd (omega arith)
 
 -- the job that is not held in the one slot has no service by its deadline moment
@@ -185,15 +168,15 @@ not_served run j k e other = elim (cases_Bool (holds (get_or run 0 None) k)) [
   | inr f ↦ omega (arith, cond-false {A = ℕ} (holds (get_or run 0 None) k) 1 0 f)
 ]
 
-one_of_two_misses : (run : List (Option ℕ)) → PermittedRun guest (edf_before crowded) crowded two_jobs (true ∷ []) run → (o : Option ℕ) → get_or run 0 None ≡ o → (j : ℕ) × Missed crowded two_jobs run j
-one_of_two_misses run permitted None e = absurd (permitted.idle 0 0 (omega arith) refl e (pending_at_0 run 0 (omega arith)))
+one_of_two_misses : (run : List (Option ℕ)) → PermittedRun guest (edf_before crowded) crowded both_at_0 (true ∷ []) run → (o : Option ℕ) → get_or run 0 None ≡ o → (j : ℕ) × Missed crowded both_at_0 run j
+one_of_two_misses run permitted None e = absurd (permitted.idle 0 0 (omega arith) refl e (pending_first crowded run 0 (omega arith)))
 one_of_two_misses run permitted (Some j) e = elim (cases_eq j 0) [
   | inl first ↦ (1, record { is_job = omega arith; in_run = omega (arith, permitted.same_length); short = not_served run j 1 e (λ q. omega arith) })
   | inr other ↦ (0, record { is_job = omega arith; in_run = omega (arith, permitted.same_length); short = not_served run j 0 e other })
 ]
 
 two_tasks_that_ask_for_every_slot_must_miss : MustMiss IsFull (edf_before crowded) crowded
-two_tasks_that_ask_for_every_slot_must_miss = record { slots = true ∷ []; jobs = two_jobs; conforms = full; legal = two_jobs_are_legal; some_run = (Some 0 ∷ [], first_job_alone); misses = λ run permitted. one_of_two_misses run permitted (get_or run 0 None) refl }
+two_tasks_that_ask_for_every_slot_must_miss = record { slots = true ∷ []; jobs = both_at_0; conforms = full; legal = both_are_legal; some_run = (Some 0 ∷ [], first_job_alone); misses = λ run permitted. one_of_two_misses run permitted (get_or run 0 None) refl }
   where
     full : (x : ℕ) → x < 1 → get_or (true ∷ []) x false ≡ true
     full zero l = refl
@@ -203,7 +186,7 @@ two_tasks_that_ask_for_every_slot_must_miss = record { slots = true ∷ []; jobs
 and_some_job_is_lost : NoJobLost IsFull (edf_before crowded) crowded → ⊥
 unfolding sum_below two_tasks_that_ask_for_every_slot_must_miss
 and_some_job_is_lost none_lost =
-    none_lost guest two_jobs (true ∷ []) (Some 0 ∷ []) two_tasks_that_ask_for_every_slot_must_miss.conforms two_jobs_are_legal first_job_alone 1 1 (record { is_job = omega arith; released = omega arith; in_time = omega arith; in_run = omega arith; lacks = omega arith })
+    none_lost guest both_at_0 (true ∷ []) (Some 0 ∷ []) two_tasks_that_ask_for_every_slot_must_miss.conforms both_are_legal first_job_alone 1 1 (record { is_job = omega arith; released = omega arith; in_time = omega arith; in_run = omega arith; lacks = omega arith })
 
 without_tasks_no_job_is_lost : NoJobLost IsFull (edf_before []) []
 without_tasks_no_job_is_lost level jobs slots run full legal permitted j x lost = omega (arith, legal.named j lost.is_job)
