@@ -60,14 +60,6 @@ place_found names distinct i h =
     differ (get_or names i []) (get_or (take i names) k d)
     (λ e. distinct k i d (omega (arith, length-take-le i names (omega arith))) h (sym at ∙ (sym e ∙ get_or_default names i [] d h)))))
 
--- the names in front of others are different, and those behind others
-pub distinct_front : (before after : List (List ℕ)) → AreDistinct (before ++ after) → AreDistinct before
-distinct_front before after s i j d l h e = s i j d l (omega (arith, length-append before after)) (get_or_append_left before after d i (omega arith) ∙ (e ∙ sym (get_or_append_left before after d j h)))
-
-pub distinct_back : (before after : List (List ℕ)) → AreDistinct (before ++ after) → AreDistinct after
-distinct_back before after s i j d l h e =
-    s (length before + i) (length before + j) d (omega arith) (omega (arith, length-append before after)) (get_or-append-add before after i d ∙ (e ∙ sym (get_or-append-add before after j d)))
-
 -- an element's name is not that of an earlier one
 pub new_among : {X : Type 0} (element : X → Data) (name : X → List ℕ) → ((x : X) → get (codes "name") (element x) ≡ Some (string (name x))) →
     (all earlier : List X) (x : X) (later : List X) → all ≡ earlier ++ x ∷ later → AreDistinct (map name all) → list_any (is_named (name x)) (map element earlier) ≡ false

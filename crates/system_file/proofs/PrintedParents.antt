@@ -13,7 +13,8 @@ use Rattle.system_file.specs.declared.fault.Spot.{Spot}
 use Rattle.system_file.specs.Document.{is_named, parent_named, spelled_core}
 use Rattle.system_file.specs.Faults.{core_faults, parent_faults, in_order, has_tasks}
 use Rattle.system_file.specs.Printed.{printed_core, printed_part, parent_name, CoresAreNamed}
-use Rattle.system_file.proofs.PrintedNames.{named_at, place_found, place_missed, distinct_front, distinct_back, new_among}
+use Rattle.tree_model.proofs.Distinct.{distinct_front, distinct_back}
+use Rattle.system_file.proofs.PrintedNames.{named_at, place_found, place_missed, new_among}
 use Rattle.system_file.proofs.PrintedWalk.{all_faultless, all_spelled, within, stands_at}
 use Rattle.system_file.proofs.PrintedCore.{core_name, core_spelled, core_faultless}
 use Rattle.system_file.proofs.PrintedPart.{part_name, part_has_tasks}

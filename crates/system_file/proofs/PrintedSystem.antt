@@ -15,7 +15,8 @@ use Rattle.system_file.specs.declared.fault.Spot.TheVariants.{Top, Part}
 use Rattle.system_file.specs.Document.{is_named, is_text, text_of, spelled_part, spelled_system, cores_of, parts_of}
 use Rattle.system_file.specs.Faults.{faults, part_faults, empty_faults, is_parent, in_order, top_faults, core_array_faults}
 use Rattle.system_file.specs.Printed.{printed_core, printed_part, printed, parent_name, IsPartNamed, CoresAreNamed, PartsAreNamed, top_members}
-use Rattle.system_file.proofs.PrintedNames.{named_any, not_taken, distinct_back, new_among, equals_itself}
+use Rattle.tree_model.proofs.Distinct.{distinct_back}
+use Rattle.system_file.proofs.PrintedNames.{named_any, not_taken, new_among, equals_itself}
 use Rattle.system_file.proofs.PrintedWalk.{all_faultless, all_spelled, elements_back, within, stands_at}
 use Rattle.system_file.proofs.PrintedCore.{core_name}
 use Rattle.system_file.proofs.PrintedPart.{part_name, part_parent, part_has_tasks, few_ok, part_faultless, part_spelled}
