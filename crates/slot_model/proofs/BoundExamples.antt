@@ -1,7 +1,7 @@
 -- Worked examples of orders, ranks, bounds and tests, by hand. A wrong definition breaks one of them.
-use Rattle.std.proofs.Common.{◌≡◌, ℕ, zero, suc, ◌<◌, ◌≤◌, true, false, List, [], ◌∷◌, refl, arith, subst, nat_le, ◌%◌}
+use Rattle.std.proofs.Common.{◌≡◌, ℕ, zero, suc, ◌+◌, ◌-◌, ◌^◌, ◌<◌, ◌≤◌, true, false, List, [], ◌∷◌, refl, arith, subst, nat_le, ◌%◌}
 use Rattle.std.proofs.lemmas.Bool.Decides.{nat_tests}
-use Rattle.std.proofs.lemmas.Nat.Gcd.{dvd_of_mod-eq-zero, mod-eq-zero_of_dvd}
+use Rattle.std.proofs.lemmas.Nat.Gcd.{dvd_of_mod-eq-zero, mod-eq-zero_of_dvd, dvd_refl, le_of_dvd}
 use Rattle.std.specs.Int.{◌∣◌}
 use Rattle.slot_model.specs.declared.sched.Sched.TheVariants.{Edf, Rm, Dm, Listed}
 use Rattle.slot_model.specs.declared.sched.Short.TheVariants.{At, Task}
@@ -296,6 +296,21 @@ a_multiple_that_is_not_the_least_is_no_horizon horizon =
 
 a_small_horizon_is_small : IsSmall Edf periods_4_and_6 5
 a_small_horizon_is_small = (65, the_horizon_is_the_least_common_multiple_and_a_cycle, omega arith)
+
+-- without tasks the horizon is two cycles, of which 2 ^ 127 - 1 slots are the longest
+two_cycles : (cycle : ℕ) → 1 ≤ cycle → IsHorizon [] cycle (cycle + cycle)
+two_cycles cycle l = record {
+  multiple = cycle;
+  common = record { some = l; of_cycle = dvd_refl cycle; of_periods = λ i m. absurd (omega arith) };
+  least = λ m common. le_of_dvd common.some common.of_cycle;
+  is = refl;
+}
+
+the_longest_horizon_is_small : IsSmall Edf [] (2 ^ 127 - 1)
+the_longest_horizon_is_small = (2 ^ 128 - 2, two_cycles (2 ^ 127 - 1) (omega arith), omega arith)
+
+one_slot_more_a_cycle_is_not : IsSmall Edf [] (2 ^ 127) → ⊥
+one_slot_more_a_cycle_is_not small = omega (arith, small.2, small.1.is, le_of_dvd small.1.common.some small.1.common.of_cycle)
 
 a_fixed_rank_needs_no_horizon : IsSmall Listed periods_4_and_6 5
 a_fixed_rank_needs_no_horizon = tt
