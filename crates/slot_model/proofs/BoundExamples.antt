@@ -1,7 +1,7 @@
 -- Worked examples of orders, ranks, bounds and tests, by hand. A wrong definition breaks one of them.
-use Rattle.std.proofs.Common.{◌≡◌, ℕ, zero, suc, ◌<◌, ◌≤◌, true, false, List, [], ◌∷◌, refl, arith, subst, nat_le, ◌%◌}
+use Rattle.std.proofs.Common.{◌≡◌, ℕ, zero, suc, ◌+◌, ◌-◌, ◌^◌, ◌<◌, ◌≤◌, true, false, List, [], ◌∷◌, refl, arith, subst, nat_le, ◌%◌}
 use Rattle.std.proofs.lemmas.Bool.Decides.{nat_tests}
-use Rattle.std.proofs.lemmas.Nat.Gcd.{dvd_of_mod-eq-zero, mod-eq-zero_of_dvd}
+use Rattle.std.proofs.lemmas.Nat.Gcd.{dvd_of_mod-eq-zero, mod-eq-zero_of_dvd, dvd_refl, le_of_dvd}
 use Rattle.std.specs.Int.{◌∣◌}
 use Rattle.slot_model.specs.declared.sched.Sched.TheVariants.{Edf, Rm, Dm, Listed}
 use Rattle.slot_model.specs.declared.sched.Short.TheVariants.{At, Task}
@@ -71,6 +71,15 @@ of_one_task_the_earlier_job_goes_first = refl
 
 of_one_task_the_later_job_does_not : before_of Rm short_period_and_short_deadline (job_of 1 20 1) (job_of 1 0 1) ≡ false
 of_one_task_the_later_job_does_not = refl
+
+by_deadline_the_job_of_the_second_task_goes_first : before_of Dm short_period_and_short_deadline (job_of 1 7 1) (job_of 0 0 1) ≡ true
+by_deadline_the_job_of_the_second_task_goes_first = refl
+
+by_place_the_job_of_the_first_task_goes_first : before_of Listed short_period_and_short_deadline (job_of 0 7 1) (job_of 1 0 1) ≡ true
+by_place_the_job_of_the_first_task_goes_first = refl
+
+by_place_a_longer_period_goes_first_too : before_of Listed short_period_and_short_deadline (job_of 1 7 1) (job_of 2 0 1) ≡ true
+by_place_a_longer_period_goes_first_too = refl
 
 edf_goes_by_deadline_moments : before_of Edf short_period_and_short_deadline (job_of 0 7 1) (job_of 1 0 1) ≡ false
 edf_goes_by_deadline_moments = refl
@@ -194,37 +203,116 @@ the_first_task_has_a_hit (suc k) l = absurd (omega arith)
 the_second_task_is_the_shortfall : IsShortfall Listed too_much (λ t. t) (Task 1)
 the_second_task_is_the_shortfall = record { is_task = omega arith; short = the_second_task_is_short; before = the_first_task_has_a_hit }
 
+-- a hit just at the deadline
+a_task_with_a_hit_is_not_short : IsShortTask (ranks_above Listed too_much) too_much (λ t. t) 0 → ⊥
+unfolding sum_below
+a_task_with_a_hit_is_not_short short = let less : 2 < 2 = short 2 (omega arith) (omega arith) in omega arith
+
+-- the urgent task asks for two slots by its deadline of 3, the frequent one for three in each four
+abbrev urgent_and_frequent : List SporadicTask
+urgent_and_frequent = task_of 10 3 2 ∷ task_of 4 4 3 ∷ []
+
+abbrev frequent_and_urgent : List SporadicTask
+frequent_and_urgent = task_of 4 4 3 ∷ task_of 10 3 2 ∷ []
+
+-- where a window of t slots has t + 1, the frequent task has a hit below the urgent one, and not the other way round
+below_the_urgent_task_all_have_a_hit : Passes Dm frequent_and_urgent (λ t. suc t)
+unfolding sum_below
+below_the_urgent_task_all_have_a_hit zero l = (4, record { some_slots = omega arith; in_deadline = omega arith; enough = omega arith })
+below_the_urgent_task_all_have_a_hit (suc zero) l = (1, record { some_slots = omega arith; in_deadline = omega arith; enough = omega arith })
+below_the_urgent_task_all_have_a_hit (suc (suc i)) l = absurd (omega arith)
+
+so_they_have_by_place : Passes Listed urgent_and_frequent (λ t. suc t)
+unfolding sum_below
+so_they_have_by_place zero l = (1, record { some_slots = omega arith; in_deadline = omega arith; enough = omega arith })
+so_they_have_by_place (suc zero) l = (4, record { some_slots = omega arith; in_deadline = omega arith; enough = omega arith })
+so_they_have_by_place (suc (suc i)) l = absurd (omega arith)
+
+below_the_smaller_period_the_urgent_task_is_short : IsShortTask (ranks_above Rm urgent_and_frequent) urgent_and_frequent (λ t. suc t) 0
+unfolding sum_below
+below_the_smaller_period_the_urgent_task_is_short zero l m = absurd (omega arith)
+below_the_smaller_period_the_urgent_task_is_short (suc zero) l m = omega arith
+below_the_smaller_period_the_urgent_task_is_short (suc (suc zero)) l m = omega arith
+below_the_smaller_period_the_urgent_task_is_short (suc (suc (suc zero))) l m = omega arith
+below_the_smaller_period_the_urgent_task_is_short (suc (suc (suc (suc t)))) l m = absurd (omega arith)
+
+by_period_it_is_the_shortfall : IsShortfall Rm urgent_and_frequent (λ t. suc t) (Task 0)
+by_period_it_is_the_shortfall = record { is_task = omega arith; short = below_the_smaller_period_the_urgent_task_is_short; before = λ k l. absurd (omega arith) }
+
+by_period_the_test_fails : Passes Rm urgent_and_frequent (λ t. suc t) → ⊥
+by_period_the_test_fails passes = let hit = passes 0 (omega arith) in omega (arith, below_the_smaller_period_the_urgent_task_is_short hit.0 hit.1.some_slots hit.1.in_deadline, hit.1.enough)
+
+by_place_the_last_task_is_short : IsShortTask (ranks_above Listed frequent_and_urgent) frequent_and_urgent (λ t. suc t) 1
+unfolding sum_below
+by_place_the_last_task_is_short zero l m = absurd (omega arith)
+by_place_the_last_task_is_short (suc zero) l m = omega arith
+by_place_the_last_task_is_short (suc (suc zero)) l m = omega arith
+by_place_the_last_task_is_short (suc (suc (suc zero))) l m = omega arith
+by_place_the_last_task_is_short (suc (suc (suc (suc t)))) l m = absurd (omega arith)
+
+by_place_the_test_fails : Passes Listed frequent_and_urgent (λ t. suc t) → ⊥
+by_place_the_test_fails passes = let hit = passes 1 (omega arith) in omega (arith, by_place_the_last_task_is_short hit.0 hit.1.some_slots hit.1.in_deadline, hit.1.enough)
+
+-- where a window of t slots has t, the frequent task is short below the urgent one
+below_the_smaller_deadline_the_frequent_task_is_short : IsShortTask (ranks_above Dm frequent_and_urgent) frequent_and_urgent (λ t. t) 0
+unfolding sum_below
+below_the_smaller_deadline_the_frequent_task_is_short zero l m = absurd (omega arith)
+below_the_smaller_deadline_the_frequent_task_is_short (suc zero) l m = omega arith
+below_the_smaller_deadline_the_frequent_task_is_short (suc (suc zero)) l m = omega arith
+below_the_smaller_deadline_the_frequent_task_is_short (suc (suc (suc zero))) l m = omega arith
+below_the_smaller_deadline_the_frequent_task_is_short (suc (suc (suc (suc zero)))) l m = omega arith
+below_the_smaller_deadline_the_frequent_task_is_short (suc (suc (suc (suc (suc t))))) l m = absurd (omega arith)
+
+by_deadline_it_is_the_shortfall : IsShortfall Dm frequent_and_urgent (λ t. t) (Task 0)
+by_deadline_it_is_the_shortfall = record { is_task = omega arith; short = below_the_smaller_deadline_the_frequent_task_is_short; before = λ k l. absurd (omega arith) }
+
 three_due_in_two_slots_do_not_fit : DemandFits too_much (λ t. t) → ⊥
 three_due_in_two_slots_do_not_fit fits = let two : 3 ≤ 2 = fits 2 (omega arith) in omega arith
 
--- periods 4 and 6 with a cycle of 3: the least common multiple and a cycle
+-- periods 4 and 6 with a cycle of 5: the least common multiple and a cycle
 abbrev periods_4_and_6 : List SporadicTask
 periods_4_and_6 = task_of 4 4 1 ∷ task_of 6 6 1 ∷ []
 
-twelve_is_a_multiple : (i : ℕ) → i < 2 → (task_at periods_4_and_6 i).period ∣ 12
-twelve_is_a_multiple zero l = dvd_of_mod-eq-zero 4 {n = 12} refl
-twelve_is_a_multiple (suc zero) l = dvd_of_mod-eq-zero 6 {n = 12} refl
-twelve_is_a_multiple (suc (suc i)) l = absurd (omega arith)
+sixty_is_a_multiple : (i : ℕ) → i < 2 → (task_at periods_4_and_6 i).period ∣ 60
+sixty_is_a_multiple zero l = dvd_of_mod-eq-zero 4 {n = 60} refl
+sixty_is_a_multiple (suc zero) l = dvd_of_mod-eq-zero 6 {n = 60} refl
+sixty_is_a_multiple (suc (suc i)) l = absurd (omega arith)
 
-the_horizon_is_the_least_common_multiple_and_a_cycle : IsHorizon periods_4_and_6 3 15
+the_horizon_is_the_least_common_multiple_and_a_cycle : IsHorizon periods_4_and_6 5 65
 the_horizon_is_the_least_common_multiple_and_a_cycle = record {
-  multiple = 12;
-  common = record { some = omega arith; of_cycle = dvd_of_mod-eq-zero 3 {n = 12} refl; of_periods = twelve_is_a_multiple };
+  multiple = 60;
+  common = record { some = omega arith; of_cycle = dvd_of_mod-eq-zero 5 {n = 60} refl; of_periods = sixty_is_a_multiple };
   least = λ m common.
       let by_4 : m % 4 ≡ 0 = mod-eq-zero_of_dvd 4 (common.of_periods 0 (omega arith)) in
       let by_6 : m % 6 ≡ 0 = mod-eq-zero_of_dvd 6 (common.of_periods 1 (omega arith)) in
+      let by_5 : m % 5 ≡ 0 = mod-eq-zero_of_dvd 5 common.of_cycle in
       omega (arith, common.some);
   is = refl;
 }
 
-a_multiple_that_is_not_the_least_is_no_horizon : IsHorizon periods_4_and_6 3 27 → ⊥
+a_multiple_that_is_not_the_least_is_no_horizon : IsHorizon periods_4_and_6 5 125 → ⊥
 a_multiple_that_is_not_the_least_is_no_horizon horizon =
-    omega (arith, horizon.is, horizon.least 12 (record { some = omega arith; of_cycle = dvd_of_mod-eq-zero 3 {n = 12} refl; of_periods = twelve_is_a_multiple }))
+    omega (arith, horizon.is, horizon.least 60 (record { some = omega arith; of_cycle = dvd_of_mod-eq-zero 5 {n = 60} refl; of_periods = sixty_is_a_multiple }))
 
-a_small_horizon_is_small : IsSmall Edf periods_4_and_6 3
-a_small_horizon_is_small = (15, the_horizon_is_the_least_common_multiple_and_a_cycle, omega arith)
+a_small_horizon_is_small : IsSmall Edf periods_4_and_6 5
+a_small_horizon_is_small = (65, the_horizon_is_the_least_common_multiple_and_a_cycle, omega arith)
 
-a_fixed_rank_needs_no_horizon : IsSmall Listed periods_4_and_6 3
+-- without tasks the horizon is two cycles, of which 2 ^ 127 - 1 slots are the longest
+two_cycles : (cycle : ℕ) → 1 ≤ cycle → IsHorizon [] cycle (cycle + cycle)
+two_cycles cycle l = record {
+  multiple = cycle;
+  common = record { some = l; of_cycle = dvd_refl cycle; of_periods = λ i m. absurd (omega arith) };
+  least = λ m common. le_of_dvd common.some common.of_cycle;
+  is = refl;
+}
+
+the_longest_horizon_is_small : IsSmall Edf [] (2 ^ 127 - 1)
+the_longest_horizon_is_small = (2 ^ 128 - 2, two_cycles (2 ^ 127 - 1) (omega arith), omega arith)
+
+one_slot_more_a_cycle_is_not : IsSmall Edf [] (2 ^ 127) → ⊥
+one_slot_more_a_cycle_is_not small = omega (arith, small.2, small.1.is, le_of_dvd small.1.common.some small.1.common.of_cycle)
+
+a_fixed_rank_needs_no_horizon : IsSmall Listed periods_4_and_6 5
 a_fixed_rank_needs_no_horizon = tt
 
 -- one slot in two is asked for: in periods of one slot only a full budget gives it
