@@ -1,9 +1,10 @@
 -- Worked examples of released work and of its bound, by hand. A wrong definition breaks one of them.
-use Rattle.std.proofs.Common.{◌≡◌, ℕ, zero, suc, ◌+◌, ◌<◌, ◌≤◌, List, [], ◌∷◌, refl, arith}
+use Rattle.std.proofs.Common.{◌≡◌, ℕ, zero, suc, ◌+◌, ◌<◌, ◌≤◌, true, List, [], ◌∷◌, refl, arith}
 use Rattle.slot_model.specs.declared.job.Job.{Job}
 use Rattle.slot_model.specs.Slots.{sum_below}
-use Rattle.slot_model.specs.Task.{SporadicTask, job_at, task_at}
-use Rattle.slot_model.specs.Release.{LegalRelease}
+use Rattle.slot_model.specs.Task.{SporadicTask, job_at}
+use Rattle.slot_model.specs.Release.{LegalRelease, fits_task}
+use Rattle.slot_model.proofs.LegalJobs.{legal_where_apart}
 use Rattle.fp_request.specs.Released.{work_released, RequestsBound}
 
 abbrev job_of : ℕ → ℕ → ℕ → Job
@@ -37,19 +38,11 @@ abbrev late_job : List Job
 late_job = job_of 1 40 3 ∷ []
 
 one_job_is_legal : LegalRelease two_tasks late_job
-one_job_is_legal = record { named = named; works = works; in_work = in_work; apart = λ i j l m. absurd (omega arith) }
+one_job_is_legal = legal_where_apart two_tasks late_job fits (λ i l j k m n. absurd (omega arith))
   where
-    named : (j : ℕ) → j < 1 → (job_at late_job j).task < 2
-    named zero l = omega arith
-    named (suc j) l = absurd (omega arith)
-
-    works : (j : ℕ) → j < 1 → 1 ≤ (job_at late_job j).work
-    works zero l = omega arith
-    works (suc j) l = absurd (omega arith)
-
-    in_work : (j : ℕ) → j < 1 → (job_at late_job j).work ≤ (task_at two_tasks (job_at late_job j).task).work
-    in_work zero l = omega arith
-    in_work (suc j) l = absurd (omega arith)
+    fits : (j : ℕ) → j < 1 → fits_task two_tasks (job_at late_job j) ≡ true
+    fits zero l = refl
+    fits (suc j) l = absurd (omega arith)
 
 -- whatever bounds the requests of 5 slots bounds this job by the request of the last task, which is 3
 the_last_task_is_bounded_in_any_window : RequestsBound two_tasks 5 → work_released late_job 1 40 45 ≤ 3
