@@ -5,3 +5,4 @@ mod Walk
 pub mod EdfKeeps
 pub mod EdfMisses
 pub mod Level
+mod DeadlineExamples

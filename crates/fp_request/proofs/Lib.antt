@@ -3,3 +3,4 @@ pub mod Rises
 pub mod Before
 pub mod Ceiling
 pub mod Parts
+mod ReleasedExamples
