@@ -7,12 +7,13 @@ use Rattle.slot_model.specs.declared.sched.Sched.TheVariants.{Edf}
 use Rattle.slot_model.specs.declared.sched.Short.{Short}
 use Rattle.slot_model.specs.declared.sched.Short.TheVariants.{At, Task}
 use Rattle.slot_model.specs.Task.{SporadicTask, job_at, deadline_of}
+use Rattle.least_budget.proofs.OneAnswer.{missed_is_lost}
 use Rattle.tree_model.specs.declared.place.Parent.TheVariants.{Core as on_core}
 use Rattle.tree_model.specs.declared.place.Place.TheVariants.{Core, Part}
 use Rattle.tree_model.specs.declared.plan.Refusal.TheVariants.{Overfull}
 use Rattle.tree_model.specs.View.{SystemView, NamedTask}
 use Rattle.tree_model.specs.System.{core_at, part_at, is_leaf}
-use Rattle.tree_model.specs.Tree.{budget_at, server_tasks}
+use Rattle.tree_model.specs.Tree.{budget_at, server_tasks, server_jobs, run_at, NoLoss}
 use Rattle.compose_tree.specs.Truth.{LeafMustMiss, IsTight, LeafIsOverfull, MissesBy, CoreMustMiss, shows_by, CoreIsOverfull, IsFlat, IsChosen, RefusalHolds}
 
 -- an open budget of a period of 10 is a choice from 1 to 10, and a given one is no choice
@@ -110,6 +111,15 @@ a_tight_budget_has_none_below sys budgets q b tight h leaf none e = (tight.below
 an_overfull_core_misses_in_the_shortest_run : (sys : SystemView) (c : ℕ) (short : Short) (o : CoreIsOverfull sys c short)
     → CoreMustMiss sys o.budgets c (shows_by (server_tasks sys o.budgets (Core c)) short) (shows_by (server_tasks sys o.budgets (Core c)) short)
 an_overfull_core_misses_in_the_shortest_run sys c short o = o.misses (shows_by (server_tasks sys o.budgets (Core c)) short) (omega arith)
+
+-- a core that must miss loses a job, so no budgets that lose none make it miss
+a_core_that_must_miss_loses_a_job : (sys : SystemView) (budgets : List ℕ) (c t n : ℕ) → c < length sys.cores → CoreMustMiss sys budgets c t n → NoLoss sys budgets → ⊥
+a_core_that_must_miss_loses_a_job sys budgets c t n h must none =
+    let inputs = must.some_inputs in
+    let run = must.some_run inputs.0 inputs.1 inputs.2 in
+    let miss : MissesBy (server_tasks sys budgets (Core c)) (server_jobs sys budgets (Core c) n) (run_at run.0 c) t = must.misses inputs.0 inputs.1 run.0 run.1 inputs.2 run.2 in
+    (none.keeps n inputs.0 inputs.1 run.0 run.1 inputs.2 run.2).cores c h miss.job (deadline_of (server_tasks sys budgets (Core c)) (job_at (server_jobs sys budgets (Core c) n) miss.job))
+    (missed_is_lost (server_tasks sys budgets (Core c)) (server_jobs sys budgets (Core c) n) (run_at run.0 c) miss.job miss.missed)
 
 -- a refusal speaks of the node that it names
 the_second_core_is_overfull : (sys : SystemView) (short : Short) → RefusalHolds sys (Overfull (Core 1) short) → (core_at sys 1).supply ≡ None → CoreIsOverfull sys 1 short

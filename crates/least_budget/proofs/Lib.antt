@@ -3,4 +3,4 @@ pub mod Decide
 pub mod Budgets
 mod Testing
 mod Between
-mod OneAnswer
+pub mod OneAnswer
