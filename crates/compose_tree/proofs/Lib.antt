@@ -8,3 +8,4 @@ mod Heavier
 mod CoreFails
 pub mod Refusals
 mod Settling
+mod TruthExamples

@@ -1,5 +1,5 @@
 -- Where every node passes its test, no job is lost anywhere in any permitted run of the tree.
-use Rattle.std.proofs.Common.{◌≡◌, ℕ, zero, suc, ◌<◌, ◌≤◌, Bool, true, false, List, [], length, get_or, Option, ◌∙◌, arith}
+use Rattle.std.proofs.Common.{◌≡◌, ℕ, zero, suc, ◌<◌, Bool, true, false, List, [], length, get_or, Option, ◌∙◌, arith}
 use Rattle.std.proofs.lemmas.List.{length-map}
 use Rattle.slot_model.specs.Task.{AreConstrained}
 use Rattle.slot_model.specs.declared.job.Job.{Job}

@@ -17,7 +17,8 @@ pub fn part_budget(part: &Part, node: Place, tasks: &[Task]) -> Result<u64, Refu
     requires period { IsPeriod part.now.period }
     requires given { IsGivenBudget part.now.period part.now.budget }
     ensures budget { IfOk result (λ budget. IsPartBudget part.now.sched (sporadic_tasks tasks.now) part.now.period part.now.budget budget) }
-    ensures refuses { IfErr result (λ r. NodeRefuses part.now.sched (sporadic_tasks tasks.now) (sbf part.now.period (largest_budget part.now.budget part.now.period)) part.now.period node r) }
+    ensures refuses { let period = part.now.period in let largest = largest_budget part.now.budget period in
+        IfErr result (λ r. NodeRefuses part.now.sched (sporadic_tasks tasks.now) (sbf period largest) period node r) }
 {
     let period = part.period();
     match part.budget() {

@@ -5,3 +5,4 @@ pub mod Late
 pub mod Witness
 pub mod Jumps
 pub mod Answer
+mod LateExamples

@@ -21,9 +21,12 @@ pub fn run_over<O: Order>(
     requires legal { LegalRelease (sporadic_tasks tasks.now) jobs.now }
     requires short { length given.now ≤ 1000000 }
     requires few { length jobs.now < 2 ^ 32 }
-    ensures first { IfOk result (λ run. FirstRun guest (O.goes order.now (sporadic_tasks tasks.now)) (sporadic_tasks tasks.now) jobs.now given.now run.items) }
-    ensures permitted { IfOk result (λ run. PermittedRun guest (O.goes order.now (sporadic_tasks tasks.now)) (sporadic_tasks tasks.now) jobs.now given.now run.items) }
-    ensures only { IfOk result (λ run. (other : List (Option ℕ)) → FirstRun guest (O.goes order.now (sporadic_tasks tasks.now)) (sporadic_tasks tasks.now) jobs.now given.now other → other ≡ run.items) }
+    ensures first { let T = sporadic_tasks tasks.now in let goes = O.goes order.now T in
+        IfOk result (λ run. FirstRun guest goes T jobs.now given.now run.items) }
+    ensures permitted { let T = sporadic_tasks tasks.now in let goes = O.goes order.now T in
+        IfOk result (λ run. PermittedRun guest goes T jobs.now given.now run.items) }
+    ensures only { let T = sporadic_tasks tasks.now in let goes = O.goes order.now T in
+        IfOk result (λ run. (other : List (Option ℕ)) → FirstRun guest goes T jobs.now given.now other → other ≡ run.items) }
 {
     let mut ready = Ready::new(alloc, jobs)?;
     let mut run = Vec::with_capacity(alloc, given.len())?;
@@ -47,8 +50,10 @@ pub fn run_level<O: Order, F: Supply>(
     requires short { slots ≤ 1000000 }
     requires few { length jobs.now < 2 ^ 32 }
     ensures long { IfOk result (λ run. length run.items ≡ slots) }
-    ensures first { IfOk result (λ run. (given : List Bool) → Follows (F.pattern supply.now) given → length given ≡ slots → FirstRun guest (O.goes order.now (sporadic_tasks tasks.now)) (sporadic_tasks tasks.now) jobs.now given run.items) }
-    ensures permitted { IfOk result (λ run. (given : List Bool) → Follows (F.pattern supply.now) given → length given ≡ slots → PermittedRun guest (O.goes order.now (sporadic_tasks tasks.now)) (sporadic_tasks tasks.now) jobs.now given run.items) }
+    ensures first { let T = sporadic_tasks tasks.now in let goes = O.goes order.now T in
+        IfOk result (λ run. (given : List Bool) → Follows (F.pattern supply.now) given → length given ≡ slots → FirstRun guest goes T jobs.now given run.items) }
+    ensures permitted { let T = sporadic_tasks tasks.now in let goes = O.goes order.now T in
+        IfOk result (λ run. (given : List Bool) → Follows (F.pattern supply.now) given → length given ≡ slots → PermittedRun guest goes T jobs.now given run.items) }
 {
     let given = worst_slots(alloc, supply, slots)?;
     run_over(alloc, tasks, jobs, order, &given)

@@ -1,8 +1,7 @@
 -- A larger budget of the same period gives no fewer slots, so that passing is kept upward and missing downward.
-use Rattle.std.proofs.Common.{◌≡◌, ℕ, ◌+◌, ◌-◌, ◌≤◌, Bool, false, List, length, map, ap, arith, inl, inr}
+use Rattle.std.proofs.Common.{ℕ, ◌≤◌, Bool, List, arith, inl, inr}
 use Rattle.slot_model.specs.declared.job.Job.{Job}
 use Rattle.slot_model.specs.declared.sched.Sched.{Sched}
-use Rattle.slot_model.specs.declared.sched.Sched.TheVariants.{Edf}
 use Rattle.slot_model.specs.declared.sched.Short.{Short}
 use Rattle.slot_model.specs.Task.{SporadicTask, AreConstrained}
 use Rattle.slot_model.specs.Supply.{GivesBudget, worst_slot, SupplyLaws}

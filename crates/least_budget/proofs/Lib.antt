@@ -3,3 +3,4 @@ pub mod Decide
 pub mod Budgets
 mod Testing
 mod Between
+pub mod OneAnswer

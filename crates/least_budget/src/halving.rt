@@ -16,7 +16,7 @@ pub fn least_budget(sched: Sched, tasks: &[Task], period: u64) -> Least
     requires some_period { 1 ≤ period }
     requires in_limit { period ≤ LIMIT }
     ensures exact { IsLeast sched (sporadic_tasks tasks.now) period result }
-    ensures separates { Separates (before_of sched (sporadic_tasks tasks.now)) (sporadic_tasks tasks.now) period result }
+    ensures separates { let T = sporadic_tasks tasks.now in Separates (before_of sched T) T period result }
 {
     let whole = Periodic {
         period,

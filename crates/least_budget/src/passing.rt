@@ -15,7 +15,7 @@ use supply_bound::Supply;
 pub fn test<S: Supply>(sched: Sched, tasks: &[Task], s: &S) -> Tested
     requires { length tasks.now < 2 ^ 32 }
     ensures exact { IsTested sched (sporadic_tasks tasks.now) (S.bound s.now) (S.cycle_of s.now) result }
-    ensures foretells { Foretells (S.conforms s.now) (before_of sched (sporadic_tasks tasks.now)) (sporadic_tasks tasks.now) result }
+    ensures foretells { let T = sporadic_tasks tasks.now in Foretells (S.conforms s.now) (before_of sched T) T result }
 {
     match sched {
         Sched::Edf => test_windows(tasks, s),

@@ -4,3 +4,4 @@ mod Ordered
 mod Counts
 mod Sorted
 mod Defeats
+mod OneDefeat

@@ -24,8 +24,10 @@ pub fn witness(sched: Sched, tasks: &[Task], period: u64, least: u64) -> Defeat
     ensures defeat { IsDefeat sched (sporadic_tasks tasks.now) period least result }
 
     // Over the worst pattern the synchronous release misses in every permitted run, whatever its length.
-    ensures misses { (slots : List Bool) → WorstList (worst_slot period result.budget) result.start result.span slots → GivesBudget period result.budget slots × MissesFromStart (worst_slot period result.budget) result.start result.span (before_of sched (sporadic_tasks tasks.now)) (sporadic_tasks tasks.now) slots }
-    ensures must_miss { (budget : ℕ) → budget < least → MustMiss (GivesBudget period budget) (before_of sched (sporadic_tasks tasks.now)) (sporadic_tasks tasks.now) }
+    ensures misses { let T = sporadic_tasks tasks.now in let pattern = worst_slot period result.budget in
+        (slots : List Bool) → WorstList pattern result.start result.span slots → GivesBudget period result.budget slots × MissesFromStart pattern result.start result.span (before_of sched T) T slots }
+    ensures must_miss { let T = sporadic_tasks tasks.now in
+        (budget : ℕ) → budget < least → MustMiss (GivesBudget period budget) (before_of sched T) T }
 {
     let budget = least - 1;
     // The worst pattern gives its first budget at once, and from there on no more than the bound.
