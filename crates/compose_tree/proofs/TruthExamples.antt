@@ -7,7 +7,7 @@ use Rattle.slot_model.specs.declared.sched.Sched.TheVariants.{Edf}
 use Rattle.slot_model.specs.declared.sched.Short.{Short}
 use Rattle.slot_model.specs.declared.sched.Short.TheVariants.{At, Task}
 use Rattle.slot_model.specs.Task.{SporadicTask, job_at, deadline_of}
-use Rattle.least_budget.proofs.OneAnswer.{missed_is_lost}
+use Rattle.slot_model.proofs.MissedJobs.{missed_is_lost}
 use Rattle.tree_model.specs.declared.place.Parent.TheVariants.{Core as on_core}
 use Rattle.tree_model.specs.declared.place.Place.TheVariants.{Core, Part}
 use Rattle.tree_model.specs.declared.plan.Refusal.TheVariants.{Overfull}

@@ -1,14 +1,15 @@
--- A level has one answer, and what two answers say of its runs never stands together. A part left out of a definition breaks one of these.
+-- A level has one answer, and what two answers say of its runs never stands together. A part left out of a definition
+-- breaks one of these.
 use Rattle.std.proofs.Common.{◌≡◌, ℕ, suc, ◌≤◌, Bool, List, refl, ap, arith, Option}
 use Rattle.slot_model.specs.declared.job.Job.{Job}
 use Rattle.slot_model.specs.declared.sched.Sched.{Sched}
 use Rattle.slot_model.specs.declared.sched.Short.{Short}
-use Rattle.slot_model.specs.Task.{SporadicTask, job_at, deadline_of}
-use Rattle.slot_model.specs.Run.{guest}
+use Rattle.slot_model.specs.Task.{SporadicTask}
 use Rattle.slot_model.specs.Supply.{GivesBudget}
 use Rattle.slot_model.specs.Bound.{sbf, IsShortfall, IsLeastBudget}
-use Rattle.slot_model.specs.Miss.{Lost, Missed, NoJobLost, MustMiss}
+use Rattle.slot_model.specs.Miss.{NoJobLost, MustMiss}
 use Rattle.slot_model.proofs.Budgets.{larger_passes, short_not_passes, one_shortfall, one_least}
+use Rattle.slot_model.proofs.MissedJobs.{loses_none_or_misses}
 use Rattle.least_budget.specs.declared.answers.Tested.{Tested}
 use Rattle.least_budget.specs.declared.answers.Tested.TheVariants.{Passes as AllPasses, Short as FirstShort, Wide as TestWide}
 use Rattle.least_budget.specs.declared.answers.Least.{Least}
@@ -40,17 +41,6 @@ one_least_answer sched tasks period l (Over short) Wide p q = absurd (q p.0)
 one_least_answer sched tasks period l Wide (Budget b) p q = absurd (p q.0)
 one_least_answer sched tasks period l Wide (Over short) p q = absurd (p q.0)
 one_least_answer sched tasks period l Wide Wide p q = refl
-
--- a job that misses is lost at its deadline moment
-pub missed_is_lost : (tasks : List SporadicTask) (jobs : List Job) (run : List (Option ℕ)) (j : ℕ) → Missed tasks jobs run j → Lost tasks jobs run j (deadline_of tasks (job_at jobs j))
-missed_is_lost tasks jobs run j miss = record { is_job = miss.is_job; released = omega arith; in_time = omega arith; in_run = miss.in_run; lacks = omega (arith, miss.short) }
-
--- so no level both loses none and must miss
-loses_none_or_misses : (Conforms : List Bool → Type 0) (before : Job → Job → Bool) (tasks : List SporadicTask) → NoJobLost Conforms before tasks → MustMiss Conforms before tasks → ⊥
-loses_none_or_misses Conforms before tasks keeps must =
-    let run = must.some_run in
-    let miss = must.misses run.0 run.1 in
-    keeps guest must.jobs must.slots run.0 must.conforms must.legal run.1 miss.0 (deadline_of tasks (job_at must.jobs miss.0)) (missed_is_lost tasks must.jobs run.0 miss.0 miss.1)
 
 pub foretells_one : (Conforms : List Bool → Type 0) (before : Job → Job → Bool) (tasks : List SporadicTask) (short : Short) → Foretells Conforms before tasks AllPasses → Foretells Conforms before tasks (FirstShort short) → ⊥
 foretells_one Conforms before tasks short keeps must = loses_none_or_misses Conforms before tasks keeps must
