@@ -1,6 +1,6 @@
 -- The two laws of the system file: what is read is spelled by the document and is a system, and a document that is written
 -- by the rules is read where what it spells is a system.
-use Rattle.std.proofs.Common.{◌≡◌, ℕ, ◌+◌, ◌-◌, ◌<◌, ◌≤◌, ◌==◌, nat_lt, suc, zero, Bool, true, false, not, ◌&&◌, ◌||◌, List, [], ◌∷◌, ◌++◌, map, length, take, drop, get_or, Option, Some, None, Ok, refl, sym, ap, subst, ◌∙◌, codes, arith, bytes_eq, length-take-le, length-append, unwrap_or}
+use Rattle.std.proofs.Common.{◌≡◌, ℕ, ◌+◌, ◌-◌, ◌<◌, ◌≤◌, ◌==◌, nat_lt, suc, zero, Bool, true, false, not, ◌&&◌, ◌||◌, List, [], ◌∷◌, ◌++◌, map, length, take, drop, get_or, Option, Some, None, Result, Ok, Err, IfOk, IfErr, ◌≢◌, refl, sym, ap, subst, ◌∙◌, codes, arith, bytes_eq, length-take-le, length-append, unwrap_or}
 use Rattle.std.proofs.lemmas.Bool.Decides.{nat_tests}
 use Rattle.std.proofs.lemmas.List.{map-append, get_or-map, get_or-take, get_or-append-add, take-append-le, take-append-drop}
 use Rattle.std.proofs.Math.Seq.{take-append-add}
@@ -17,11 +17,11 @@ use Rattle.tree_model.specs.System.{IsSystem, IsPart, IsCoreSupply, Stands, AreD
 use Rattle.system_file.specs.declared.fault.Spot.{Spot}
 use Rattle.system_file.specs.declared.fault.Spot.TheVariants.{Top, Core, Part, Task}
 use Rattle.system_file.specs.declared.fault.SystemFault.{SystemFault}
-use Rattle.system_file.specs.declared.fault.SystemFault.TheVariants.{Empty, OutOfRange, TooMany}
+use Rattle.system_file.specs.declared.fault.SystemFault.TheVariants.{Empty, OutOfRange, TooMany, NoMemory}
 use Rattle.system_file.specs.Document.{elements_of, array_of, text_of, number_of, is_text, is_named, core_or_part, parent_named, parent_at, cores_of, parts_of, tasks_of, deadline_of, spelled_core, spelled_task, spelled_part, spelled_system}
 use Rattle.system_file.specs.Faults.{required, optional, format_faults, text_faults, parent_faults, is_parent_faults, core_array_faults, array_faults, top_faults, top_keys, in_order, core_faults, core_keys, core_key_faults, task_faults, task_keys, task_key_faults, part_faults, part_keys, part_key_faults, empty_faults, has_tasks, is_parent, faults}
 use Rattle.system_file.specs.SystemFile.{system_of, system_of_document, document_of, first_fault_or}
-use Rattle.system_file.specs.Written.{IsNameText, IsParentText, IsArray, There, element, IsWrittenTask, IsWrittenCore, IsWrittenPart, IsWritten}
+use Rattle.system_file.specs.Written.{IsNameText, IsParentText, IsArray, There, element, IsWrittenTask, IsWrittenCore, IsWrittenPart, IsWritten, Spells}
 use Rattle.system_file.proofs.Elements.{length_map}
 use Rattle.std.proofs.lemmas.Slice.Eq.{bytes_eq-Decides}
 use Rattle.system_file.proofs.First.{none_both}
@@ -33,25 +33,18 @@ use Rattle.system_file.proofs.Nodes.{get_front, part_place}
 use Rattle.system_file.proofs.Rules.{task_names}
 use Rattle.system_file.proofs.Fits.{right, keys_fit, name_fits, sched_fits, required_fits, optional_fits, default_fits, flag_fits, array_fits, supply_fits, new_of_distinct}
 
--- What is read: the document of the bytes is written by the rules, and the system is the one that it spells.
-pub record IsReadFrom (bytes : List ℕ) (read : SystemView) : Type 0 where
-  pub members : Members
-  pub document : document_of bytes ≡ Some members
-  pub written : IsWritten (table members)
-  pub spelled_so : read ≡ spelled_system (table members)
-  pub system : IsSystem read
-
-from_faults : (bytes : List ℕ) (read : SystemView) (members : Members) → document_of bytes ≡ Some members → (found : List SystemFault) → faults (table members) ≡ found → first_fault_or (spelled_system (table members)) found ≡ Ok read → IsReadFrom bytes read
+from_faults : (bytes : List ℕ) (read : SystemView) (members : Members) → document_of bytes ≡ Some members → (found : List SystemFault) → faults (table members) ≡ found → first_fault_or (spelled_system (table members)) found ≡ Ok read → Spells bytes read
 from_faults bytes read members document [] e h =
     let same : spelled_system (table members) ≡ read = cc in
-    record { members = members; document = document; written = faultless_is_written (table members) e; spelled_so = sym same; system = subst IsSystem same (faultless_is_system (table members) e) }
+    record { members = members; document = document; written = faultless_is_written (table members) e; spelled = sym same; system = subst IsSystem same (faultless_is_system (table members) e) }
 from_faults bytes read members document (x ∷ found) e h = cc
 
-from_document : (bytes : List ℕ) (read : SystemView) (o : Option Members) → document_of bytes ≡ o → system_of_document o ≡ Ok read → IsReadFrom bytes read
+from_document : (bytes : List ℕ) (read : SystemView) (o : Option Members) → document_of bytes ≡ o → system_of_document o ≡ Ok read → Spells bytes read
 from_document bytes read None e h = cc
 from_document bytes read (Some members) e h = from_faults bytes read members e (faults (table members)) refl h
 
-pub read_is_spelled : (bytes : List ℕ) (read : SystemView) → system_of bytes ≡ Ok read → IsReadFrom bytes read
+-- what is read is spelled
+pub read_is_spelled : (bytes : List ℕ) (read : SystemView) → system_of bytes ≡ Ok read → Spells bytes read
 unfolding system_of
 read_is_spelled bytes read h = from_document bytes read (document_of bytes) refl h
 
@@ -260,8 +253,19 @@ written_is_faultless top w system =
     (none_both _ _ (no_core_fault (cores_of top) (parts_of top) w.cores w.parts system)
     (none_both _ _ (no_part_fault (cores_of top) (parts_of top) w.cores w.parts system) (no_empty (cores_of top) (parts_of top) w.cores w.parts system)))
 
--- What is written by the rules and spells a system is read as that system.
-pub written_is_read : (bytes : List ℕ) (members : Members) → document_of bytes ≡ Some members → IsWritten (table members) → IsSystem (spelled_system (table members)) → system_of bytes ≡ Ok (spelled_system (table members))
+-- what is spelled is read
+pub spelled_is_read : (bytes : List ℕ) (read : SystemView) → Spells bytes read → system_of bytes ≡ Ok read
 unfolding system_of
-written_is_read bytes members document w system =
-    ap system_of_document document ∙ ap (first_fault_or (spelled_system (table members))) (written_is_faultless (table members) w system)
+spelled_is_read bytes read s =
+    ap system_of_document s.document
+    ∙ ap (first_fault_or (spelled_system (table s.members))) (written_is_faultless (table s.members) s.written (subst IsSystem s.spelled s.system))
+    ∙ ap Ok (sym s.spelled)
+
+-- so an answer is a system that the file spells, or the file spells none
+pub answer_spelled : (r : Result SystemView SystemFault) (bytes : List ℕ) → IfOk r (λ sys. system_of bytes ≡ Ok sys) → IfOk r (λ sys. Spells bytes sys)
+answer_spelled (Ok read) bytes h = read_is_spelled bytes read h
+answer_spelled (Err fault) bytes h = tt
+
+pub answer_refused : (r : Result SystemView SystemFault) (bytes : List ℕ) → IfErr r (λ fault. fault ≢ NoMemory → system_of bytes ≡ Err fault) → IfErr r (λ fault. fault ≢ NoMemory → (sys : SystemView) → Spells bytes sys → ⊥)
+answer_refused (Ok read) bytes h = tt
+answer_refused (Err fault) bytes h = λ memory read s. let both : Ok read ≡ Err fault = sym (spelled_is_read bytes read s) ∙ h memory in cc

@@ -12,6 +12,7 @@ pub mod Found
 pub mod Nodes
 pub mod Rules
 pub mod Places
+pub mod PrintedMembers
 pub mod PrintedKeys
 pub mod PrintedTask
 pub mod PrintedCore

@@ -11,7 +11,7 @@ use Rattle.tree_model.specs.System.{is_leaf}
 use Rattle.system_file.specs.Document.{is_text, is_named, core_or_part, parent_named, spelled_part, spelled_task, tasks_of}
 use Rattle.system_file.specs.Faults.{has_tasks}
 use Rattle.system_file.specs.Reading.{HaveNames, Known}
-use Rattle.system_file.proofs.Elements.{position_map}
+use Rattle.system_file.proofs.Elements.{position_map, length_map}
 
 -- the first place by recursion
 pub position_cons : {A : Type 0} (p : A → Bool) (x : A) (xs : List A) → position p (x ∷ xs) ≡ cond (p x) (Some 0) (option_map suc (position p xs))
@@ -70,6 +70,10 @@ pub looked_up : (cores earlier later : List Data) (count : ℕ) (names : List (L
 looked_up cores earlier later count names parts s o known found =
     ap (λ n. joined (position (is_named s) cores) n (position (is_named s) earlier)) (sym known.counted)
     ∙ sym (position_append (is_named s) cores earlier) ∙ place_is (cores ++ earlier) names s known.named ∙ found
+
+-- as many parts are spelled as came before
+pub as_many : {cores earlier later : List Data} {count : ℕ} {names : List (List ℕ)} {parts : List PartView} → Known cores earlier later count names parts → length earlier ≡ length parts
+as_many {cores} {earlier} {later} known = sym (ap length known.spelled ∙ length_map (spelled_part cores (earlier ++ later)) earlier)
 
 pub core_found : (a : Option ℕ) (n : ℕ) (o : Option ℕ) (i : ℕ) → joined a n o ≡ Some i → i < n → core_or_part a o ≡ Some (Core i)
 core_found (Some c) n o i h lt = ap (option_map Core) h

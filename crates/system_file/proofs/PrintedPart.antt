@@ -6,62 +6,63 @@ use Rattle.std.specs.List.{list_any}
 use Rattle.slot_model.specs.Name.{is_name}
 use Rattle.slot_model.specs.declared.task.TheConstants.{LIMIT}
 use Rattle.slot_model.specs.Task.{SporadicTask, IsConstrained, task_at}
-use Rattle.toml.specs.Data.{Data, string, array, get}
+use Rattle.toml.specs.Data.{Data, string, array, get, get_member, same_key}
 use Rattle.toml.specs.View.{items_of}
 use Rattle.tree_model.specs.View.{NamedTask, PartView, SystemView}
 use Rattle.tree_model.specs.System.{IsPart, IsGivenBudget, own_tasks, is_leaf}
 use Rattle.system_file.specs.declared.fault.Spot.{Spot}
 use Rattle.system_file.specs.declared.fault.Spot.TheVariants.{Part}
-use Rattle.system_file.specs.Document.{is_named, tasks_of, parent_named, spelled_task, spelled_part}
-use Rattle.system_file.specs.Faults.{array_faults, in_order, new_name_faults, parent_faults, task_faults, part_keys, part_key_faults, part_faults, has_only, has_tasks, range_faults}
-use Rattle.system_file.specs.Printed.{number, printed_task, part_members, printed_part, parent_name, TasksAreNamed, IsPartNamed}
+use Rattle.system_file.specs.Document.{is_named, array_of, flag_of, given_number, tasks_of, parent_named, spelled_task, spelled_part}
+use Rattle.system_file.specs.Faults.{optional, array_faults, in_order, flag_faults, parent_faults, task_faults, part_keys, part_key_faults, part_faults, has_only, has_tasks, range_faults}
+use Rattle.system_file.specs.Printed.{with_some, number, some_number, true_flag, some_array, sched_word, printed_task, server_members, part_members, printed_part, parent_name, TasksAreNamed, IsPartNamed}
+use Rattle.system_file.proofs.First.{none_both}
+use Rattle.system_file.proofs.PrintedMembers.{other_key, own_key, listed_key}
 use Rattle.system_file.proofs.PrintedKeys.{range_ok, new_name_ok, sched_ok, sched_back}
 use Rattle.system_file.proofs.PrintedNames.{new_among}
 use Rattle.system_file.proofs.PrintedTask.{task_name, task_spelled, task_faultless}
 use Rattle.system_file.proofs.PrintedWalk.{all_faultless, all_spelled, elements_back, within, stands_at}
 
--- the keys of a part
+-- the keys of a part: those that are always there, and the three that may be left out
+always : (k : List ℕ) (sys : SystemView) (part : PartView) → same_key k (codes "task") ≡ false → same_key k (codes "extra") ≡ false → same_key k (codes "budget") ≡ false → get k (printed_part sys part) ≡ get_member k (server_members sys part)
+always k sys part task extra budget =
+    other_key k (codes "task") (some_array (map printed_task part.tasks)) (with_some (codes "extra") (true_flag part.extra) (with_some (codes "budget") (some_number part.budget) (server_members sys part))) task
+    ∙ other_key k (codes "extra") (true_flag part.extra) (with_some (codes "budget") (some_number part.budget) (server_members sys part)) extra
+    ∙ other_key k (codes "budget") (some_number part.budget) (server_members sys part) budget
+
 pub part_name : (sys : SystemView) (part : PartView) → get (codes "name") (printed_part sys part) ≡ Some (string part.name)
-part_name sys part = by part.budget part.extra part.tasks
-  where
-    by : (budget : Option ℕ) (extra : Bool) (tasks : List NamedTask) →
-        get (codes "name") (printed_part sys (record { name = part.name; parent = part.parent; sched = part.sched; period = part.period; budget = budget; extra = extra; tasks = tasks })) ≡ Some (string part.name)
-    by None true [] = refl
-    by None true (t ∷ ts) = refl
-    by None false [] = refl
-    by None false (t ∷ ts) = refl
-    by (Some b) true [] = refl
-    by (Some b) true (t ∷ ts) = refl
-    by (Some b) false [] = refl
-    by (Some b) false (t ∷ ts) = refl
+part_name sys part = always (codes "name") sys part refl refl refl
 
 pub part_parent : (sys : SystemView) (part : PartView) → get (codes "parent") (printed_part sys part) ≡ Some (string (parent_name sys part.parent))
-part_parent sys part = by part.budget part.extra part.tasks
-  where
-    by : (budget : Option ℕ) (extra : Bool) (tasks : List NamedTask) →
-        get (codes "parent") (printed_part sys (record { name = part.name; parent = part.parent; sched = part.sched; period = part.period; budget = budget; extra = extra; tasks = tasks })) ≡ Some (string (parent_name sys part.parent))
-    by None true [] = refl
-    by None true (t ∷ ts) = refl
-    by None false [] = refl
-    by None false (t ∷ ts) = refl
-    by (Some b) true [] = refl
-    by (Some b) true (t ∷ ts) = refl
-    by (Some b) false [] = refl
-    by (Some b) false (t ∷ ts) = refl
+part_parent sys part = always (codes "parent") sys part refl refl refl
+
+part_sched : (sys : SystemView) (part : PartView) → get (codes "sched") (printed_part sys part) ≡ Some (string (sched_word part.sched))
+part_sched sys part = always (codes "sched") sys part refl refl refl
+
+part_period : (sys : SystemView) (part : PartView) → get (codes "period") (printed_part sys part) ≡ Some (number part.period)
+part_period sys part = always (codes "period") sys part refl refl refl
+
+part_budget : (sys : SystemView) (part : PartView) → get (codes "budget") (printed_part sys part) ≡ some_number part.budget
+part_budget sys part =
+    other_key (codes "budget") (codes "task") (some_array (map printed_task part.tasks)) (with_some (codes "extra") (true_flag part.extra) (with_some (codes "budget") (some_number part.budget) (server_members sys part))) refl
+    ∙ other_key (codes "budget") (codes "extra") (true_flag part.extra) (with_some (codes "budget") (some_number part.budget) (server_members sys part)) refl
+    ∙ own_key (codes "budget") (some_number part.budget) (server_members sys part) refl refl
+
+part_extra : (sys : SystemView) (part : PartView) → get (codes "extra") (printed_part sys part) ≡ true_flag part.extra
+part_extra sys part =
+    other_key (codes "extra") (codes "task") (some_array (map printed_task part.tasks)) (with_some (codes "extra") (true_flag part.extra) (with_some (codes "budget") (some_number part.budget) (server_members sys part))) refl
+    ∙ own_key (codes "extra") (true_flag part.extra) (with_some (codes "budget") (some_number part.budget) (server_members sys part)) refl (other_key (codes "extra") (codes "budget") (some_number part.budget) (server_members sys part) refl)
+
+part_array : (sys : SystemView) (part : PartView) → get (codes "task") (printed_part sys part) ≡ some_array (map printed_task part.tasks)
+part_array sys part =
+    own_key (codes "task") (some_array (map printed_task part.tasks)) (with_some (codes "extra") (true_flag part.extra) (with_some (codes "budget") (some_number part.budget) (server_members sys part))) refl
+    (other_key (codes "task") (codes "extra") (true_flag part.extra) (with_some (codes "budget") (some_number part.budget) (server_members sys part)) refl ∙ other_key (codes "task") (codes "budget") (some_number part.budget) (server_members sys part) refl)
+
+array_back : (ds : List Data) → array_of (some_array ds) ≡ ds
+array_back [] = refl
+array_back (d ∷ ds) = elements_back (d ∷ ds)
 
 pub part_tasks : (sys : SystemView) (part : PartView) → tasks_of (printed_part sys part) ≡ map printed_task part.tasks
-part_tasks sys part = by part.budget part.extra part.tasks
-  where
-    by : (budget : Option ℕ) (extra : Bool) (tasks : List NamedTask) →
-        tasks_of (printed_part sys (record { name = part.name; parent = part.parent; sched = part.sched; period = part.period; budget = budget; extra = extra; tasks = tasks })) ≡ map printed_task tasks
-    by None true [] = refl
-    by None true (t ∷ ts) = elements_back (map printed_task (t ∷ ts))
-    by None false [] = refl
-    by None false (t ∷ ts) = elements_back (map printed_task (t ∷ ts))
-    by (Some b) true [] = refl
-    by (Some b) true (t ∷ ts) = elements_back (map printed_task (t ∷ ts))
-    by (Some b) false [] = refl
-    by (Some b) false (t ∷ ts) = elements_back (map printed_task (t ∷ ts))
+part_tasks sys part = ap array_of (part_array sys part) ∙ array_back (map printed_task part.tasks)
 
 pub part_has_tasks : (sys : SystemView) (part : PartView) → has_tasks (printed_part sys part) ≡ is_leaf part.tasks
 part_has_tasks sys part = rw (part_tasks sys part) (by part.tasks)
@@ -96,42 +97,33 @@ few_ok spot most ds few = rw (elements_back ds, not_more (length ds) few)
 
 -- every key is listed, and no key has a fault
 part_keys_listed : (sys : SystemView) (part : PartView) → has_only part_keys (part_members sys part) ≡ true
-part_keys_listed sys part = by part.budget part.extra part.tasks
-  where
-    by : (budget : Option ℕ) (extra : Bool) (tasks : List NamedTask) →
-        has_only part_keys (part_members sys (record { name = part.name; parent = part.parent; sched = part.sched; period = part.period; budget = budget; extra = extra; tasks = tasks })) ≡ true
-    by None true [] = refl
-    by None true (t ∷ ts) = refl
-    by None false [] = refl
-    by None false (t ∷ ts) = refl
-    by (Some b) true [] = refl
-    by (Some b) true (t ∷ ts) = refl
-    by (Some b) false [] = refl
-    by (Some b) false (t ∷ ts) = refl
+part_keys_listed sys part =
+    listed_key part_keys (codes "task") (some_array (map printed_task part.tasks)) (with_some (codes "extra") (true_flag part.extra) (with_some (codes "budget") (some_number part.budget) (server_members sys part))) refl
+    ∙ listed_key part_keys (codes "extra") (true_flag part.extra) (with_some (codes "budget") (some_number part.budget) (server_members sys part)) refl
+    ∙ listed_key part_keys (codes "budget") (some_number part.budget) (server_members sys part) refl
+
+budget_ok : (spot : Spot) (period : ℕ) (budget : Option ℕ) → IsGivenBudget period budget → optional (range_faults spot period) (some_number budget) ≡ []
+budget_ok spot period None b = refl
+budget_ok spot period (Some n) b = range_ok spot period n b.0 b.1
+
+flag_ok : (spot : Spot) (flag : Bool) → optional (flag_faults spot) (true_flag flag) ≡ []
+flag_ok spot true = refl
+flag_ok spot false = refl
+
+some_ok : (spot : Spot) (most : ℕ) (ds : List Data) → length ds ≤ most → optional (array_faults spot most) (some_array ds) ≡ []
+some_ok spot most [] few = refl
+some_ok spot most (d ∷ ds) few = few_ok spot most (d ∷ ds) few
 
 part_keys_faultless : (sys : SystemView) (spot : Spot) (cores earlier : List Data) (part : PartView) → IsPart part → is_name part.name ≡ true → list_any (is_named part.name) (cores ++ earlier) ≡ false →
     parent_faults spot cores earlier (parent_name sys part.parent) ≡ [] → part_key_faults spot cores earlier (printed_part sys part) ≡ []
-part_keys_faultless sys spot cores earlier part is named new parent_ok = by part.budget part.extra part.tasks is.budget is.few_tasks
-  where
-    name_ok : new_name_faults spot (cores ++ earlier) part.name ≡ []
-    name_ok = new_name_ok spot (cores ++ earlier) part.name named new
-
-    period_ok : range_faults spot LIMIT (number part.period) ≡ []
-    period_ok = range_ok spot LIMIT part.period is.period.0 is.period.1
-
-    tasks_ok : (t : NamedTask) (ts : List NamedTask) → length {A = NamedTask} (t ∷ ts) ≤ 256 → array_faults spot 256 (array (items_of (map printed_task (t ∷ ts)))) ≡ []
-    tasks_ok t ts few = few_ok spot 256 (map printed_task (t ∷ ts)) (omega (arith, length-map (t ∷ ts) printed_task))
-
-    by : (budget : Option ℕ) (extra : Bool) (tasks : List NamedTask) → IsGivenBudget part.period budget → length tasks ≤ 256 →
-        part_key_faults spot cores earlier (printed_part sys (record { name = part.name; parent = part.parent; sched = part.sched; period = part.period; budget = budget; extra = extra; tasks = tasks })) ≡ []
-    by None true [] b few = rw (name_ok, parent_ok, sched_ok spot part.sched, period_ok)
-    by None false [] b few = rw (name_ok, parent_ok, sched_ok spot part.sched, period_ok)
-    by None true (t ∷ ts) b few = rw (name_ok, parent_ok, sched_ok spot part.sched, period_ok) (tasks_ok t ts few)
-    by None false (t ∷ ts) b few = rw (name_ok, parent_ok, sched_ok spot part.sched, period_ok) (tasks_ok t ts few)
-    by (Some n) true [] b few = rw (name_ok, parent_ok, sched_ok spot part.sched, period_ok, range_ok spot part.period n b.0 b.1)
-    by (Some n) false [] b few = rw (name_ok, parent_ok, sched_ok spot part.sched, period_ok, range_ok spot part.period n b.0 b.1)
-    by (Some n) true (t ∷ ts) b few = rw (name_ok, parent_ok, sched_ok spot part.sched, period_ok, range_ok spot part.period n b.0 b.1) (tasks_ok t ts few)
-    by (Some n) false (t ∷ ts) b few = rw (name_ok, parent_ok, sched_ok spot part.sched, period_ok, range_ok spot part.period n b.0 b.1) (tasks_ok t ts few)
+part_keys_faultless sys spot cores earlier part is named new parent_ok =
+    rw (part_name sys part, part_parent sys part, part_sched sys part, part_period sys part, part_budget sys part, part_extra sys part, part_array sys part)
+    (none_both _ _ (new_name_ok spot (cores ++ earlier) part.name named new)
+    (none_both _ _ parent_ok
+    (none_both _ _ (sched_ok spot part.sched)
+    (none_both _ _ (range_ok spot LIMIT part.period is.period.0 is.period.1)
+    (none_both _ _ (budget_ok spot part.period part.budget is.budget)
+    (none_both _ _ (flag_ok spot part.extra) (some_ok spot 256 (map printed_task part.tasks) (omega (arith, length-map part.tasks printed_task, is.few_tasks)))))))))
 
 -- the whole part
 pub part_faultless : (sys : SystemView) (cores earlier : List Data) (part : PartView) → IsPart part → IsPartNamed part → list_any (is_named part.name) (cores ++ earlier) ≡ false →
@@ -139,16 +131,15 @@ pub part_faultless : (sys : SystemView) (cores earlier : List Data) (part : Part
 part_faultless sys cores earlier part is named new parent_ok =
     rw (part_keys_listed sys part, part_keys_faultless sys (Part (length earlier)) cores earlier part is named.name new parent_ok, part_tasks sys part, tasks_faultless (length earlier) part is named.tasks)
 
+budget_back : (budget : Option ℕ) → given_number (some_number budget) ≡ budget
+budget_back None = refl
+budget_back (Some n) = refl
+
+flag_back : (flag : Bool) → flag_of (true_flag flag) ≡ flag
+flag_back true = refl
+flag_back false = refl
+
 pub part_spelled : (sys : SystemView) (cores parts : List Data) (part : PartView) → parent_named cores parts (parent_name sys part.parent) ≡ Some part.parent → spelled_part cores parts (printed_part sys part) ≡ part
-part_spelled sys cores parts part found = by part.budget part.extra part.tasks
-  where
-    by : (budget : Option ℕ) (extra : Bool) (tasks : List NamedTask) →
-        spelled_part cores parts (printed_part sys (record { name = part.name; parent = part.parent; sched = part.sched; period = part.period; budget = budget; extra = extra; tasks = tasks })) ≡ record { name = part.name; parent = part.parent; sched = part.sched; period = part.period; budget = budget; extra = extra; tasks = tasks }
-    by None true [] = rw (found, sched_back part.sched)
-    by None true (t ∷ ts) = rw (found, sched_back part.sched, task_spelled t, elements_back (map printed_task ts), tasks_back ts)
-    by None false [] = rw (found, sched_back part.sched)
-    by None false (t ∷ ts) = rw (found, sched_back part.sched, task_spelled t, elements_back (map printed_task ts), tasks_back ts)
-    by (Some b) true [] = rw (found, sched_back part.sched)
-    by (Some b) true (t ∷ ts) = rw (found, sched_back part.sched, task_spelled t, elements_back (map printed_task ts), tasks_back ts)
-    by (Some b) false [] = rw (found, sched_back part.sched)
-    by (Some b) false (t ∷ ts) = rw (found, sched_back part.sched, task_spelled t, elements_back (map printed_task ts), tasks_back ts)
+part_spelled sys cores parts part found =
+    rw (part_name sys part, part_parent sys part, part_sched sys part, part_period sys part, part_budget sys part, part_extra sys part, part_tasks sys part)
+    (rw (found, sched_back part.sched, budget_back part.budget, flag_back part.extra, tasks_back part.tasks))

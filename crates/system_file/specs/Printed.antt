@@ -69,16 +69,19 @@ abbrev pub parent_name : SystemView → Parent → List ℕ
 parent_name sys (Core c) = (core_at sys c).name
 parent_name sys (Part q) = (part_at sys q).name
 
--- a part, with what may be left out where there is something to say
+-- a part: what is always written, and then what may be left out where there is something to say
+abbrev pub server_members : SystemView → PartView → Members
+server_members sys part =
+    with_member (codes "period") (number part.period)
+    (with_member (codes "sched") (string (sched_word part.sched))
+    (with_member (codes "parent") (string (parent_name sys part.parent))
+    (with_member (codes "name") (string part.name) no_members)))
+
 abbrev pub part_members : SystemView → PartView → Members
 part_members sys part =
     with_some (codes "task") (some_array (map printed_task part.tasks))
     (with_some (codes "extra") (true_flag part.extra)
-    (with_some (codes "budget") (some_number part.budget)
-    (with_member (codes "period") (number part.period)
-    (with_member (codes "sched") (string (sched_word part.sched))
-    (with_member (codes "parent") (string (parent_name sys part.parent))
-    (with_member (codes "name") (string part.name) no_members))))))
+    (with_some (codes "budget") (some_number part.budget) (server_members sys part)))
 
 abbrev pub printed_part : SystemView → PartView → Data
 printed_part sys part = table (part_members sys part)

@@ -5,8 +5,11 @@ use Rattle.std.specs.Prelude.{◌≡◌, ℕ, ◌<◌, pos, Bool, true, false, L
 use Rattle.slot_model.specs.Name.{is_name}
 use Rattle.toml.specs.Data.{Data, string, integer, boolean, array, table, Items, Members, get}
 use Rattle.tree_model.specs.declared.place.Parent.{Parent}
-use Rattle.system_file.specs.Document.{sched_named, parent_named, cores_of, parts_of, tasks_of}
+use Rattle.tree_model.specs.View.{SystemView}
+use Rattle.tree_model.specs.System.{IsSystem}
+use Rattle.system_file.specs.Document.{sched_named, parent_named, cores_of, parts_of, tasks_of, spelled_system}
 use Rattle.system_file.specs.Faults.{has_only, top_keys, core_keys, part_keys, task_keys}
+use Rattle.system_file.specs.SystemFile.{document_of}
 
 -- a table whose keys are all listed
 pub record IsTableOf (listed : List (List ℕ)) (d : Data) : Type 0 where
@@ -90,3 +93,11 @@ pub record IsWritten (top : Data) : Type 0 where
   pub part : MayBe IsArray (get (codes "part") top)
   pub cores : (c : ℕ) → c < length (cores_of top) → IsWrittenCore (element (cores_of top) c)
   pub parts : (q : ℕ) → q < length (parts_of top) → IsWrittenPart (cores_of top) (parts_of top) (element (parts_of top) q)
+
+-- A file that spells a system: its document is written by the rules, and the system is the one of that document.
+pub record Spells (bytes : List ℕ) (sys : SystemView) : Type 0 where
+  pub members : Members
+  pub document : document_of bytes ≡ Some members
+  pub written : IsWritten (table members)
+  pub spelled : sys ≡ spelled_system (table members)
+  pub system : IsSystem sys

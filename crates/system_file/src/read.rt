@@ -2,11 +2,13 @@ ghost use Rattle.std.specs.Prelude.{◌≡◌, ◌≢◌, [], Ok, Err, IfOk, IfE
 ghost use Rattle.toml.specs.Data.{table as toml_table};
 ghost use Rattle.toml.specs.Parse.{parse_document};
 ghost use Rattle.toml.specs.View.{table_view};
+ghost use Rattle.tree_model.specs.View.{SystemView};
 ghost use Rattle.system_file.specs.declared.fault.SystemFault.TheVariants.{NoMemory};
 ghost use Rattle.system_file.specs.Document.{spelled_system};
 ghost use Rattle.system_file.specs.Faults.{faults};
 ghost use Rattle.system_file.specs.SystemFile.{system_of, system_of_document};
 ghost use Rattle.system_file.specs.Reading.{first_of};
+ghost use Rattle.system_file.specs.Written.{Spells};
 
 use crate::cores::read_cores;
 use crate::keys::{check_format, check_keys, cores_at, elements_at};
@@ -57,6 +59,8 @@ fn read_text(alloc: Global, text: &str) -> Result<System, SystemFault>
 pub fn read_system(alloc: Global, bytes: &[u8]) -> Result<System, SystemFault>
     ensures spelled { IfOk result (λ sys. system_of bytes.now ≡ Ok sys) }
     ensures fault { IfErr result (λ fault. fault ≢ NoMemory → system_of bytes.now ≡ Err fault) }
+    ensures read { IfOk result (λ sys. Spells bytes.now sys) }
+    ensures refused { IfErr result (λ fault. fault ≢ NoMemory → (sys : SystemView) → Spells bytes.now sys → ⊥) }
 {
     match str::from_utf8(bytes) {
         Ok(text) => read_text(alloc, text),

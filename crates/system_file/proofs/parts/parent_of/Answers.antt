@@ -1,10 +1,9 @@
-use Rattle.std.proofs.Common.{◌≡◌, ◌-◌, ◌++◌, get_or, length, Some, None, sym, ap, ◌∙◌, arith}
+use Rattle.std.proofs.Common.{◌-◌, ◌++◌, get_or, Some, None, sym, ap, ◌∙◌, arith}
 use Rattle.system_file.specs.declared.fault.SystemFault.TheVariants.{Mixed}
-use Rattle.system_file.specs.Document.{is_named, spelled_part}
+use Rattle.system_file.specs.Document.{is_named}
 use Rattle.system_file.specs.Faults.{is_parent_faults, fault_if}
 use Rattle.system_file.specs.Reading.{first_of}
-use Rattle.system_file.proofs.Places.{looked_up, core_found, part_found, none_found, position_within, leaf_at}
-use Rattle.system_file.proofs.Elements.{length_map}
+use Rattle.system_file.proofs.Places.{looked_up, core_found, part_found, none_found, position_within, leaf_at, as_many}
 use Rattle.system_file.proofs.parts.parent_of.Goals as goal
 
 pub returns-then-place-cores-clause-ok : goal.returns-then-place-cores-clause-ok
@@ -19,7 +18,7 @@ returns-in-None-clause-fault c = λ cores before later known.
 
 pub returns-then-has_tasks-clause-fault : goal.returns-then-has_tasks-clause-fault
 returns-then-has_tasks-clause-fault c = λ cores before later known.
-    let few : length c.args.earlier.now ≡ length before = ap length known.spelled ∙ length_map (spelled_part cores (before ++ later)) before in
+    let few = as_many known in
     let leaf = leaf_at cores (before ++ later) before (c.in-Some.place - c.args.cores) c.index-earlier-part.result (omega (arith, c.in-Some.ensures.within))
     (c.index-earlier-part.is ∙ ap (λ parts. get_or parts (c.in-Some.place - c.args.cores) c.index-earlier-part.result) known.spelled) in
     let found = part_found _ _ _ _ (λ k e. let lt = position_within (is_named c.args.text.now) cores k e in let counted = known.counted in omega arith)
@@ -29,7 +28,7 @@ returns-then-has_tasks-clause-fault c = λ cores before later known.
 
 pub returns-else-has_tasks-clause-ok : goal.returns-else-has_tasks-clause-ok
 returns-else-has_tasks-clause-ok c = λ cores before later known.
-    let few : length c.args.earlier.now ≡ length before = ap length known.spelled ∙ length_map (spelled_part cores (before ++ later)) before in
+    let few = as_many known in
     let leaf = leaf_at cores (before ++ later) before (c.in-Some.place - c.args.cores) c.index-earlier-part.result (omega (arith, c.in-Some.ensures.within))
     (c.index-earlier-part.is ∙ ap (λ parts. get_or parts (c.in-Some.place - c.args.cores) c.index-earlier-part.result) known.spelled) in
     let found = part_found _ _ _ _ (λ k e. let lt = position_within (is_named c.args.text.now) cores k e in let counted = known.counted in omega arith)
