@@ -1,3 +1,4 @@
 pub mod MemoryReads
 pub mod Growing
 pub mod ReadSoFar
+mod Examples

@@ -6,7 +6,7 @@ use std::io::Read;
 use std::marker::Model;
 use std::rt::Files;
 
-/// The files of the system, of which nothing is told.
+/// The files of the system, of which nothing is told but what the handle itself tells of an open one.
 #[derive(Drop)]
 pub struct DiskStore<R: Files> {
     rt: R,
@@ -17,13 +17,14 @@ pub struct DiskStore<R: Files> {
 }
 
 impl<R: Files> Model for DiskStore<R> {
-    ghost use Rattle.std.specs.Prelude.{is_some};
+    ghost use Rattle.std.specs.Prelude.{is_some, option_and_then};
     ghost use Rattle.outside.specs.Real.{DiskCounts};
 
     ghost Value = { DiskCounts };
 
     ghost view = { λ s. record {
       is_open = is_some s.file;
+      rest = option_and_then R.File.remaining s.file;
       faults = s.faults;
       absences = s.absences;
       taken = s.taken;
@@ -33,7 +34,7 @@ impl<R: Files> Model for DiskStore<R> {
 impl<R: Files> DiskStore<R> {
     /// A store of the files that `rt` reaches.
     pub fn new(rt: R) -> DiskStore<R>
-        ensures { result ≡ record { is_open = false; faults = 0; absences = 0; taken = 0 } }
+        ensures { result ≡ record { is_open = false; rest = None; faults = 0; absences = 0; taken = 0 } }
     {
         DiskStore {
             rt,
@@ -48,7 +49,7 @@ impl<R: Files> DiskStore<R> {
 impl<R: Files> Store for DiskStore<R> {
     ghost files = { λ s. None };
 
-    ghost rest = { λ s. None };
+    ghost rest = { λ s. s.rest };
 
     ghost is_open = { λ s. s.is_open };
 

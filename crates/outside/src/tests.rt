@@ -3,6 +3,7 @@ ghost use Rattle.std.specs.Prelude.{IfOk, ◌≤◌, None};
 use super::*;
 use slot_model::Name;
 use std::alloc::Global;
+use std::io::BufWriter;
 use std::test::Fail;
 use std::{fs, io};
 
@@ -171,6 +172,12 @@ fn an_output_writes_or_fails(rt: HostRuntime) -> Result<(), Fail> {
         let mut sink = StdoutSink::new(fs::create(&rt, name)?);
         assert_eq!(rt; write_all(&mut sink, b"verdict=yes\n"), want, "{name}");
     }
+    // a writer that keeps what it takes till it is flushed
+    let kept = BufWriter::new(rt.alloc(), fs::create(&rt, "/dev/full")?)?;
+    assert_eq!(rt;
+        StdoutSink::new(kept).write(b"verdict=yes\n"),
+        Err(SinkFault::Failed)
+    );
     // a writer that takes nothing
     let mut room = [0u8; 7];
     let mut sink = StdoutSink::new(room.as_mut_slice());

@@ -1,2 +1,4 @@
 mod ChildNames
 mod PartLines
+pub mod OneReplay
+mod Examples

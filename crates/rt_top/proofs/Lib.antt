@@ -1,3 +1,5 @@
 mod Answering
 mod ReplayLeaf
 mod ReplayList
+mod OneAnswer
+mod Examples

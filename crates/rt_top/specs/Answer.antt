@@ -84,3 +84,7 @@ HasText ReadFault = ⊥
 HasText WriteFault = ⊥
 HasText NoMemory = ⊥
 HasText _ = Unit {0}
+
+-- over told files there is one answer
+abbrev pub HasOneAnswer : List (List ℕ) → Files → Type 0
+HasOneAnswer words files = (status other : Status) (text another : List ℕ) → Answers words (Some files) status text → Answers words (Some files) other another → (status ≡ other) × (text ≡ another)

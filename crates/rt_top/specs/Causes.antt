@@ -5,7 +5,7 @@ use Rattle.system_file.specs.SystemFile.{system_of}
 use Rattle.rt_top.specs.Words.{file_to_admit}
 use Rattle.rt_top.specs.Answer.{file_limit}
 use Rattle.rt_top.specs.declared.status.Status.{Status}
-use Rattle.rt_top.specs.declared.status.Status.TheVariants.{Yes, No, Usage, BadFile, Wide, Absent, TooLong, ReadFault, WriteFault, NoMemory}
+use Rattle.rt_top.specs.declared.status.Status.TheVariants.{Yes, No, Wide, Absent, ReadFault, WriteFault, NoMemory}
 
 -- an answer that neither a failed call nor a name that is not there explains
 abbrev pub IsOfQuietStore : Status → Type 0

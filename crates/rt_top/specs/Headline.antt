@@ -1,5 +1,5 @@
 -- What an answer of `admit` means to who ships hardware on it.
-use Rattle.std.specs.Prelude.{◌≡◌, ◌⊎◌, ℕ, ◌≤◌, List, length, Option, Some, None, Result, Ok, Err, IfSome, IfOk}
+use Rattle.std.specs.Prelude.{◌≡◌, ℕ, List, Option, IfSome, IfOk}
 use Rattle.slot_model.specs.declared.sched.Short.{Short}
 use Rattle.tree_model.specs.declared.place.Place.{Place}
 use Rattle.tree_model.specs.declared.plan.Refusal.TheVariants.{Overfull}

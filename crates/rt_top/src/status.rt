@@ -1,3 +1,6 @@
+ghost use Rattle.std.specs.Prelude.{◌≡◌};
+ghost use Rattle.rt_top.specs.Statuses.{status_number};
+
 /// What was answered. The program ends with its number, from 0 for `Yes` to 9 for `NoMemory`.
 #[derive(Clone, Copy, Debug, PartialEq, Eq)]
 pub enum Status {
@@ -21,4 +24,13 @@ pub enum Status {
     WriteFault,
     /// Memory ran out; nothing is written.
     NoMemory,
+}
+
+impl Status {
+    /// The number with which the program ends.
+    pub fn number(self) -> u8
+        ensures { result ≡ status_number self }
+    {
+        self as u8
+    }
 }

@@ -36,17 +36,31 @@ fn one_file(alloc: Global, text: &str, bite: usize, fails: Vec<u64>) -> Result<M
     file_of(alloc, text.as_bytes().to_vec(alloc)?, bite, fails)
 }
 
-// The status and the text of `admit` of a file with this text.
-fn admit(alloc: Global, text: &str) -> Result<(Status, Vec<u8>), Fail> {
-    let mut store = one_file(alloc, text, 4096, Vec::new(alloc))?;
-    let mut out = MemorySink::new(alloc, 4096, 4096, Vec::new(alloc))?;
-    let status = run(
-        alloc,
-        &words(alloc, &["admit", "sys"])?,
-        &mut store,
-        &mut out,
-    );
+// The status of these words and what was written, at most `bite` bytes a write, where the writes of
+// `fails` fail.
+fn answered(
+    alloc: Global,
+    all: &[&str],
+    store: MemoryStore,
+    bite: usize,
+    fails: Vec<u64>,
+) -> Result<(Status, Vec<u8>), Fail>
+    requires { 1 ≤ bite }
+{
+    let mut store = store;
+    let mut out = MemorySink::new(alloc, 4096, bite, fails)?;
+    let status = run(alloc, &words(alloc, all)?, &mut store, &mut out);
     Ok((status, out.written().to_vec(alloc)?))
+}
+
+// The same of `admit` of the file `sys` of a store, where no write fails.
+fn admitted(alloc: Global, store: MemoryStore) -> Result<(Status, Vec<u8>), Fail> {
+    answered(alloc, &["admit", "sys"], store, 4096, Vec::new(alloc))
+}
+
+// The same of a file with this text.
+fn admit(alloc: Global, text: &str) -> Result<(Status, Vec<u8>), Fail> {
+    admitted(alloc, one_file(alloc, text, 4096, Vec::new(alloc))?)
 }
 
 #[test]
@@ -248,11 +262,10 @@ fn words_and_names_that_lead_nowhere(rt: HostRuntime) -> Result<(), Fail> {
         (["certify", "sys"].as_slice(), Status::Usage, USAGE),
         (["Admit", "sys"].as_slice(), Status::Usage, USAGE),
     ] {
-        let mut store = one_file(alloc, CORE, 4096, Vec::new(alloc))?;
-        let mut out = MemorySink::new(alloc, 4096, 4096, Vec::new(alloc))?;
-        let status = run(alloc, &words(alloc, all)?, &mut store, &mut out);
+        let store = one_file(alloc, CORE, 4096, Vec::new(alloc))?;
+        let (status, written) = answered(alloc, all, store, 4096, Vec::new(alloc))?;
         assert_eq!(rt; status, want, "{all:?}");
-        assert_eq!(rt; out.written(), answer.as_bytes(), "{all:?}");
+        assert_eq!(rt; written.as_slice(), answer.as_bytes(), "{all:?}");
     }
     Ok(())
 }
@@ -264,21 +277,19 @@ fn each_failing_call_of_the_store_is_a_read_fault(rt: HostRuntime) -> Result<(),
     for bite in [1, 7, 4096] {
         let calls = 2 + text.len().div_ceil(bite) as u64;
         for k in 0..calls + 1 {
-            let mut store = one_file(alloc, text.as_str(), bite, vec![in alloc; k]?)?;
-            let mut out = MemorySink::new(alloc, 4096, 4096, Vec::new(alloc))?;
-            let status = run(
-                alloc,
-                &words(alloc, &["admit", "sys"])?,
-                &mut store,
-                &mut out,
-            );
+            let store = one_file(alloc, text.as_str(), bite, vec![in alloc; k]?)?;
+            let (status, written) = admitted(alloc, store)?;
             let (want, answer) = if k < calls {
                 (Status::ReadFault, "")
             } else {
                 (Status::Yes, TWO_TASKS_ANSWER)
             };
             assert_eq!(rt; status, want, "bite {bite}, call {k}");
-            assert_eq!(rt; out.written(), answer.as_bytes(), "bite {bite}, call {k}");
+            assert_eq!(rt;
+                written.as_slice(),
+                answer.as_bytes(),
+                "bite {bite}, call {k}"
+            );
         }
     }
     Ok(())
@@ -291,14 +302,9 @@ fn each_failing_write_leaves_the_front_of_the_text(rt: HostRuntime) -> Result<()
     let answer = TWO_TASKS_ANSWER.as_bytes();
     let writes = answer.len().div_ceil(8) as u64;
     for k in 0..writes + 1 {
-        let mut store = one_file(alloc, text.as_str(), 4096, Vec::new(alloc))?;
-        let mut out = MemorySink::new(alloc, 4096, 8, vec![in alloc; k]?)?;
-        let status = run(
-            alloc,
-            &words(alloc, &["admit", "sys"])?,
-            &mut store,
-            &mut out,
-        );
+        let store = one_file(alloc, text.as_str(), 4096, Vec::new(alloc))?;
+        let words = ["admit", "sys"].as_slice();
+        let (status, written) = answered(alloc, words, store, 8, vec![in alloc; k]?)?;
         let end = (8 * k as usize).min(answer.len());
         let want = if k < writes {
             Status::WriteFault
@@ -306,7 +312,7 @@ fn each_failing_write_leaves_the_front_of_the_text(rt: HostRuntime) -> Result<()
             Status::Yes
         };
         assert_eq!(rt; status, want, "write {k}");
-        assert_eq!(rt; out.written(), &answer[..end], "write {k}");
+        assert_eq!(rt; written.as_slice(), &answer[..end], "write {k}");
     }
     Ok(())
 }
@@ -315,15 +321,8 @@ fn each_failing_write_leaves_the_front_of_the_text(rt: HostRuntime) -> Result<()
 fn one_byte_past_the_limit_is_too_long(rt: HostRuntime) -> Result<(), Fail> {
     let alloc = rt.alloc();
     let bytes = vec![in alloc; 0u8; 67_108_865]?;
-    let mut store = file_of(alloc, bytes, 4096, Vec::new(alloc))?;
-    let mut out = MemorySink::new(alloc, 4096, 4096, Vec::new(alloc))?;
-    let status = run(
-        alloc,
-        &words(alloc, &["admit", "sys"])?,
-        &mut store,
-        &mut out,
-    );
+    let (status, written) = admitted(alloc, file_of(alloc, bytes, 4096, Vec::new(alloc))?)?;
     assert_eq!(rt; status, Status::TooLong);
-    assert_eq!(rt; out.written(), b"toolong file=1\n".as_slice());
+    assert_eq!(rt; written.as_slice(), b"toolong file=1\n".as_slice());
     Ok(())
 }

@@ -1,11 +1,11 @@
 ghost use Rattle.std.specs.Prelude.{◌≡◌, ◌≢◌, ◌⊎◌, ◌<◌, ◌≤◌, ℕ, List, length, map, string_bytes, Some, IsSomeAnd, IfSome, IsOk, None, IsSome};
 ghost use Rattle.std.specs.Io.KnownBytes.{Appends};
 ghost use Rattle.outside.specs.Counts.{Rose, RoseBeyond};
-ghost use Rattle.outside.specs.Files.{Told};
+ghost use Rattle.outside.specs.Files.{Files, Told};
 ghost use Rattle.outside.specs.Written.{AppendsProperPrefix};
 ghost use Rattle.system_file.specs.SystemFile.{system_of};
 ghost use Rattle.rt_top.specs.Words.{file_to_admit};
-ghost use Rattle.rt_top.specs.Answer.{Answers, HasText};
+ghost use Rattle.rt_top.specs.Answer.{Answers, HasOneAnswer, HasText};
 ghost use Rattle.rt_top.specs.Causes.{IsOfQuietStore, IsJudgeable, IsVerdict, Stays};
 ghost use Rattle.rt_top.specs.Headline.{KeepsDeadlines, IsTrulyOverfull, OfSystem};
 
@@ -24,6 +24,8 @@ pub fn run<S: Store, K: Sink>(alloc: Global, words: &[String], store: &mut S, ou
     ensures unread { result ≡ Status.ReadFault → K.written out.new ≡ K.written out.old }
     ensures no_memory { result ≡ Status.NoMemory → K.written out.new ≡ K.written out.old }
     ensures usage { result ≡ Status.Usage → file_to_admit (map string_bytes words.now) ≡ None }
+    // over told files no other status and no other text would answer
+    ensures only { (files : Files) → HasOneAnswer (map string_bytes words.now) files }
 
     // why, over any store and sink
     ensures quiet_faults { IsOfQuietStore result → S.faults store.new ≡ S.faults store.old }

@@ -18,7 +18,7 @@ fn main(rt: HostRuntime) -> ExitCode {
         }
         Err(status) => status,
     };
-    ExitCode::from(status as u8)
+    ExitCode::from(status.number())
 }
 
 // The words without the program's own name, or the status where std refuses them.

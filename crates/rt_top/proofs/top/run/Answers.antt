@@ -1,12 +1,12 @@
-use Rattle.std.proofs.Common.{◌≡◌, ◌≢◌, ◌≤◌, ◌⊎◌, ℕ, List, length, map, string_bytes, Some, None, inl, inr, sym, ◌∙◌, ap, subst, arith}
-use Rattle.std.specs.Prelude.{codes, Err, vec_len}
+use Rattle.std.proofs.Common.{◌≡◌, ◌≤◌, ℕ, List, length, map, string_bytes, Some, None, sym, ◌∙◌, ap, subst, arith}
+use Rattle.std.specs.Prelude.{codes, Err}
 use Rattle.std.specs.Io.KnownBytes.{Appends}
 use Rattle.system_file.specs.SystemFile.{system_of}
-use Rattle.rt_top.specs.declared.status.Status.{Status}
-use Rattle.rt_top.specs.declared.status.Status.TheVariants.{Usage, Absent, TooLong, WriteFault}
+use Rattle.rt_top.specs.declared.status.Status.TheVariants.{Usage, Absent, TooLong}
 use Rattle.rt_top.specs.Words.{file_to_admit, usage_line}
-use Rattle.rt_top.specs.Answer.{file_limit, AdmitsSpelled, Answers, HasText}
+use Rattle.rt_top.specs.Answer.{file_limit, AdmitsSpelled, Answers}
 use Rattle.rt_top.proofs.Answering.{HasAnswer, usage_answer, absent_answer, long_answer, judged_answer, finished, verdict_finished, stays_not_rose}
+use Rattle.rt_top.proofs.OneAnswer.{one_answer}
 use Rattle.rt_top.proofs.top.run.Goals as goal
 
 pub returns-in_default-clause-cut : goal.returns-in_default-clause-cut
@@ -71,3 +71,21 @@ returns-in-Err-TooLong-clause-complete g c =
 
 pub returns-in-Err-Failed-clause-complete : goal.returns-in-Err-Failed-clause-complete
 returns-in-Err-Failed-clause-complete g c = λ can store_stays out_stays. absurd (stays_not_rose _ _ store_stays (c.in-Err-Failed.ensures.failed (ap Err c.in-Err-Failed.field-0-is)))
+
+pub returns-in-Ok-admit-clause-only : goal.returns-in-Ok-admit-clause-only
+returns-in-Ok-admit-clause-only g c = one_answer (map string_bytes c.args.words.now)
+
+pub returns-in-Ok-clause-only : goal.returns-in-Ok-clause-only
+returns-in-Ok-clause-only g c = one_answer (map string_bytes c.args.words.now)
+
+pub returns-in-Err-Absent-clause-only : goal.returns-in-Err-Absent-clause-only
+returns-in-Err-Absent-clause-only g c = one_answer (map string_bytes c.args.words.now)
+
+pub returns-in-Err-TooLong-clause-only : goal.returns-in-Err-TooLong-clause-only
+returns-in-Err-TooLong-clause-only g c = one_answer (map string_bytes c.args.words.now)
+
+pub returns-in-Err-Failed-clause-only : goal.returns-in-Err-Failed-clause-only
+returns-in-Err-Failed-clause-only g c = one_answer (map string_bytes c.args.words.now)
+
+pub returns-clause-only : goal.returns-clause-only
+returns-clause-only g c = one_answer (map string_bytes c.args.words.now)

@@ -1,0 +1,83 @@
+-- Worked texts: each is spelled out by hand, and what defines it comes to just this.
+use Rattle.std.proofs.Common.{◌≡◌, ℕ, false, List, [], ◌∷◌, Option, Some, None, refl}
+use Rattle.std.specs.Prelude.{codes}
+use Rattle.std.specs.Fmt.{digits}
+use Rattle.slot_model.specs.declared.sched.Sched.TheVariants.{Edf, Rm}
+use Rattle.slot_model.specs.declared.sched.Short.TheVariants.{At, Task}
+use Rattle.tree_model.specs.declared.place.Parent.{Parent}
+use Rattle.tree_model.specs.declared.place.Parent.TheVariants.{Core as on_core, Part as on_part}
+use Rattle.tree_model.specs.declared.place.Place.TheVariants.{Core, Part}
+use Rattle.tree_model.specs.declared.plan.Refusal.TheVariants.{Overfull, Wide}
+use Rattle.tree_model.specs.View.{NamedTask, PartView, SystemView}
+use Rattle.system_file.specs.declared.fault.Spot.TheVariants.{Top, Core as at_core, Part as at_part, Task as at_task}
+use Rattle.system_file.specs.declared.fault.SystemFault.TheVariants.{NotToml, MissingKey, WrongKind, UnknownKey, BadName, NameTaken, OutOfRange, NoSuchParent, Mixed, Empty, TooMany}
+use Rattle.rt_report.specs.declared.fault.FileFault.TheVariants.{System}
+use Rattle.rt_report.specs.declared.replay.Replay.{Replay}
+use Rattle.rt_report.specs.Admit.{admit_text, computed_leaves}
+use Rattle.rt_report.specs.Refusal.{refusal_text}
+use Rattle.rt_report.specs.Fault.{fault_text}
+use Rattle.rt_report.specs.Words.{served_name}
+
+abbrev task : List ℕ → ℕ → ℕ → NamedTask
+task name period work = record { name = name; task = record { period = period; deadline = period; work = work } }
+
+abbrev part : List ℕ → Parent → ℕ → Option ℕ → List NamedTask → PartView
+part name parent period budget tasks = record { name = name; parent = parent; sched = Rm; period = period; budget = budget; extra = false; tasks = tasks }
+
+-- on a core cpu0 an inner part mid with the leaves video and ctl, and a leaf net whose budget is given
+abbrev tree : SystemView
+tree = record {
+  cores = record { name = codes "cpu0"; sched = Edf; supply = None } ∷ [];
+  parts = part (codes "mid") (on_core 0) 50 None [] ∷ part (codes "net") (on_core 0) 40 (Some 2) (task (codes "n1") 80 1 ∷ [])
+      ∷ part (codes "video") (on_part 0) 100 None (task (codes "v1") 500 70 ∷ task (codes "v2") 750 90 ∷ []) ∷ part (codes "ctl") (on_part 0) 200 None (task (codes "c1") 400 40 ∷ []) ∷ [];
+}
+
+abbrev replays : List Replay
+replays =
+    record { part = 2; witness = record { budget = 27; start = 26; span = 1500; task = None }; miss = Some (record { task = 1; release = 1027; deadline = 1527; got = 58; work = 70 }) }
+    ∷ record { part = 3; witness = record { budget = 39; start = 38; span = 999999996; task = Some 0 }; miss = None } ∷ []
+
+the_text_of_a_yes : admit_text tree (30 ∷ 2 ∷ 28 ∷ 40 ∷ []) replays ≡ codes "verdict=yes\npart mid period=50 budget=30 computed\npart net period=40 budget=2 given\npart video period=100 budget=28 computed\nwitness video budget=27 start=26 span=1500 task=- replay=v2 release=1027 deadline=1527 got=58 of=70\npart ctl period=200 budget=40 computed\nwitness ctl budget=39 start=38 span=999999996 task=c1 replay=skipped\n"
+unfolding digits
+the_text_of_a_yes = refl
+
+two_leaves_are_computed : computed_leaves tree ≡ 2 ∷ 3 ∷ []
+two_leaves_are_computed = refl
+
+a_core_that_is_overfull : refusal_text tree (Overfull (Core 0) (At 20)) ≡ codes "verdict=no\noverfull core cpu0 at=20\n"
+unfolding digits
+a_core_that_is_overfull = refl
+
+a_leaf_whose_task_is_late : refusal_text tree (Overfull (Part 2) (Task 1)) ≡ codes "verdict=no\noverfull part video task=v2\n"
+a_leaf_whose_task_is_late = refl
+
+an_inner_part_whose_server_is_late : refusal_text tree (Overfull (Part 0) (Task 1)) ≡ codes "verdict=no\noverfull part mid task=ctl\n"
+an_inner_part_whose_server_is_late = refl
+
+a_leaf_that_is_wide : refusal_text tree (Wide (Part 3)) ≡ codes "verdict=wide\nwide part ctl\n"
+a_leaf_that_is_wide = refl
+
+a_core_serves_its_own_children : served_name tree (Core 0) 1 ≡ codes "net"
+a_core_serves_its_own_children = refl
+
+nothing_is_served_past_the_end : served_name tree (Part 0) 2 ≡ []
+nothing_is_served_past_the_end = refl
+
+faults_in_their_words :
+    ((fault_text (System NotToml) 1 ≡ codes "fault=NotToml file=1\n")
+    × (fault_text (System (MissingKey Top)) 1 ≡ codes "fault=MissingKey at=top file=1\n")
+    × (fault_text (System (UnknownKey (at_core 0))) 1 ≡ codes "fault=UnknownKey at=core 1 file=1\n")
+    × (fault_text (System (Mixed (at_part 1))) 2 ≡ codes "fault=Mixed at=part 2 file=2\n")
+    × (fault_text (System (OutOfRange (at_task 0 8))) 1 ≡ codes "fault=OutOfRange at=part 1 task 9 file=1\n"))
+unfolding digits
+faults_in_their_words = (refl, refl, refl, refl, refl)
+
+the_other_words_of_faults :
+    ((fault_text (System (WrongKind Top)) 1 ≡ codes "fault=WrongKind at=top file=1\n")
+    × (fault_text (System (BadName (at_part 0))) 1 ≡ codes "fault=BadName at=part 1 file=1\n")
+    × (fault_text (System (NameTaken (at_part 1))) 1 ≡ codes "fault=NameTaken at=part 2 file=1\n")
+    × (fault_text (System (NoSuchParent (at_part 0))) 1 ≡ codes "fault=NoSuchParent at=part 1 file=1\n")
+    × (fault_text (System (Empty (at_part 0))) 1 ≡ codes "fault=Empty at=part 1 file=1\n")
+    × (fault_text (System (TooMany Top)) 1 ≡ codes "fault=TooMany at=top file=1\n"))
+unfolding digits
+the_other_words_of_faults = (refl, refl, refl, refl, refl, refl)
