@@ -4,3 +4,4 @@ pub mod Before
 pub mod Ceiling
 pub mod Parts
 mod ReleasedExamples
+mod OrderExamples
