@@ -1,35 +1,18 @@
-ghost use Rattle.std.specs.Prelude.{◌≡◌, ◌≢◌, ◌≤◌, List, [], ◌∷◌, ◌++◌, false, length, map, codes, bytes_eq, IfOk, IfErr};
-ghost use Rattle.std.specs.List.{list_any};
+ghost use Rattle.std.specs.Prelude.{◌≡◌, ◌≢◌, ◌≤◌, List, [], ◌∷◌, ◌++◌, length, map, codes, IfOk, IfErr};
 ghost use Rattle.toml.specs.Data.{Data, get_member};
 ghost use Rattle.toml.specs.View.{view, table_view};
 ghost use Rattle.system_file.specs.declared.fault.SystemFault.TheVariants.{NoMemory};
 ghost use Rattle.system_file.specs.Document.{spelled_core, supply_of};
-ghost use Rattle.system_file.specs.Faults.{name_faults, supply_faults, core_keys, core_key_faults, core_faults, table_faults, in_order};
+ghost use Rattle.system_file.specs.Faults.{supply_faults, core_keys, core_key_faults, core_faults, table_faults, in_order};
 ghost use Rattle.system_file.specs.Reading.{first_of, HaveNames};
 
 use crate::keys::{check_keys, find, number_at, number_of, sched_of, table_of, text_at};
-use crate::names::Names;
+use crate::names::{Names, new_name};
 use crate::{Spot, SystemFault};
 use slot_model::LIMIT;
 use std::alloc::Global;
 use toml::{Table, Value};
-use tree_model::{Core, Name};
-
-/// The name that a text spells, where it is not taken.
-pub fn new_name(alloc: Global, text: &str, taken: &Names, spot: Spot) -> Result<Name, SystemFault>
-    ensures ok { IfOk result (λ name. (name_faults spot (list_any (bytes_eq text.now) taken.now) text.now ≡ []) × (name ≡ text.now) × (list_any (bytes_eq text.now) taken.now ≡ false)) }
-    ensures fault { IfErr result (λ fault. fault ≢ NoMemory → first_of (name_faults spot (list_any (bytes_eq text.now) taken.now) text.now) ≡ Some fault) }
-{
-    match Name::new(alloc, text.as_bytes())? {
-        Some(name) => {
-            if taken.has(text) {
-                return Err(SystemFault::NameTaken(spot));
-            }
-            Ok(name)
-        }
-        None => Err(SystemFault::BadName(spot)),
-    }
-}
+use tree_model::Core;
 
 /// The supply of a core: both keys or neither.
 fn supply_at(table: &Table, spot: Spot) -> Result<Option<(u64, u64)>, SystemFault>

@@ -1,9 +1,14 @@
-ghost use Rattle.std.specs.Prelude.{◌≡◌, ◌<◌, [], ◌∷◌, ◌++◌, false, length, OnOk, IfSome, position, bytes_eq};
+ghost use Rattle.std.specs.Prelude.{◌≡◌, ◌≢◌, ◌<◌, [], ◌∷◌, ◌++◌, false, length, IfOk, IfErr, OnOk, IfSome, position, bytes_eq};
 ghost use Rattle.std.specs.List.{list_any};
+ghost use Rattle.system_file.specs.declared.fault.SystemFault.TheVariants.{NoMemory};
+ghost use Rattle.system_file.specs.Faults.{name_faults};
+ghost use Rattle.system_file.specs.Reading.{first_of};
 
+use crate::{Spot, SystemFault};
 use indexmap::IndexSet;
 use std::alloc::{AllocError, Global};
 use std::marker::Model;
+use tree_model::Name;
 
 /// Different names in the order in which they came, each found in one step.
 #[derive(Drop)]
@@ -58,5 +63,21 @@ impl<'t> Names<'t> {
         ensures { self.new ≡ [] }
     {
         self.names.clear();
+    }
+}
+
+/// The name that a text spells, where it is not taken.
+pub fn new_name(alloc: Global, text: &str, taken: &Names, spot: Spot) -> Result<Name, SystemFault>
+    ensures ok { IfOk result (λ name. (name_faults spot (list_any (bytes_eq text.now) taken.now) text.now ≡ []) × (name ≡ text.now) × (list_any (bytes_eq text.now) taken.now ≡ false)) }
+    ensures fault { IfErr result (λ fault. fault ≢ NoMemory → first_of (name_faults spot (list_any (bytes_eq text.now) taken.now) text.now) ≡ Some fault) }
+{
+    match Name::new(alloc, text.as_bytes())? {
+        Some(name) => {
+            if taken.has(text) {
+                return Err(SystemFault::NameTaken(spot));
+            }
+            Ok(name)
+        }
+        None => Err(SystemFault::BadName(spot)),
     }
 }

@@ -7,11 +7,10 @@ ghost use Rattle.system_file.specs.Document.{parent_named, spelled_part};
 ghost use Rattle.system_file.specs.Faults.{parent_faults, part_faults, in_order};
 ghost use Rattle.system_file.specs.Reading.{first_of, HaveNames, Known, has_child, is_empty_part, part_in, ParentsAmong};
 
-use crate::cores::new_name;
 use crate::keys::{
     check_keys, elements_at, flag_at, given_number_at, number_at, sched_of, table_of, text_at,
 };
-use crate::names::Names;
+use crate::names::{Names, new_name};
 use crate::tasks::read_tasks;
 use crate::{Spot, SystemFault};
 use slot_model::LIMIT;

@@ -7,9 +7,8 @@ ghost use Rattle.system_file.specs.Document.{spelled_task};
 ghost use Rattle.system_file.specs.Faults.{task_number_faults, task_keys, task_key_faults, task_faults, table_faults, in_order};
 ghost use Rattle.system_file.specs.Reading.{first_of, HaveNames};
 
-use crate::cores::new_name;
 use crate::keys::{check_keys, given_number_at, number_at, table_of, text_at};
-use crate::names::Names;
+use crate::names::{Names, new_name};
 use crate::{Spot, SystemFault};
 use slot_model::{LIMIT, Task};
 use std::alloc::Global;
