@@ -20,7 +20,8 @@ use Rattle.tree_model.specs.declared.place.Place.TheVariants.{Core}
 use Rattle.tree_model.specs.View.{SystemView}
 use Rattle.tree_model.specs.System.{IsSystem, IsCoreSupply, core_at, part_at, own_tasks}
 use Rattle.tree_model.specs.Tree.{CoreConforms, server_tasks, run_at, TreeInputs}
-use Rattle.compose_tree.specs.Truth.{MissesBy, CoreMustMiss, shows_by}
+use Rattle.slot_model.specs.Bound.{shows_by}
+use Rattle.compose_tree.specs.Truth.{MissesBy, CoreMustMiss}
 use Rattle.compose_tree.proofs.CoreMisses.{core_edf, core_fixed}
 use Rattle.compose_tree.proofs.Heavier.{FallsShort, IsShortPlace}
 use Rattle.compose_tree.proofs.TreeExists.{listed, listed_long, listed_at, tree_exists}

@@ -3,7 +3,7 @@ use Rattle.std.proofs.Common.{◌≡◌, ◌⊎◌, ℕ, zero, suc, ◌<◌, ◌
 use Rattle.std.proofs.lemmas.Bool.{cases_lt, cases_eq}
 use Rattle.slot_model.specs.declared.sched.Short.{Short}
 use Rattle.slot_model.specs.Task.{SporadicTask}
-use Rattle.slot_model.specs.Bound.{sbf, Passes, IsShortfall}
+use Rattle.slot_model.specs.Bound.{sbf, Passes, IsShortfall, shows_by}
 use Rattle.slot_model.proofs.WorstPattern.{periodic_laws}
 use Rattle.least_budget.proofs.Level.{short_misses}
 use Rattle.least_budget.proofs.Decide.{passes_or_short}
@@ -19,7 +19,7 @@ use Rattle.tree_model.specs.Admission.{BudgetStands, largest_budget, FirstRefusa
 use Rattle.tree_model.proofs.NodeTasks.{leaf_tasks}
 use Rattle.tree_model.proofs.Parents.{servers_constrained, leaf_constrained}
 use Rattle.tree_model.proofs.InRange.{InPeriod, settled_in_period}
-use Rattle.compose_tree.specs.Truth.{LeafMustMiss, LeafIsOverfull, IsFlat, IsChosen, AreChosen, ChoiceFails, at_leaf, at_core, shows_by, RefusalHolds}
+use Rattle.compose_tree.specs.Truth.{LeafMustMiss, LeafIsOverfull, IsFlat, IsChosen, AreChosen, ChoiceFails, at_leaf, at_core, RefusalHolds}
 use Rattle.compose_tree.proofs.Heavier.{Heavier, FallsShort, heavier_push_if, heavier_falls, shortfall_falls}
 use Rattle.compose_tree.proofs.CoreFails.{core_fails}
 

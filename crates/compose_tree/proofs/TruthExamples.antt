@@ -5,7 +5,6 @@ use Rattle.slot_model.specs.Slots.{sum_below}
 use Rattle.slot_model.specs.declared.job.Job.{Job}
 use Rattle.slot_model.specs.declared.sched.Sched.TheVariants.{Edf}
 use Rattle.slot_model.specs.declared.sched.Short.{Short}
-use Rattle.slot_model.specs.declared.sched.Short.TheVariants.{At, Task}
 use Rattle.slot_model.specs.Task.{SporadicTask, job_at, deadline_of}
 use Rattle.slot_model.proofs.MissedJobs.{missed_is_lost}
 use Rattle.tree_model.specs.declared.place.Parent.TheVariants.{Core as on_core}
@@ -14,7 +13,8 @@ use Rattle.tree_model.specs.declared.plan.Refusal.TheVariants.{Overfull}
 use Rattle.tree_model.specs.View.{SystemView, NamedTask}
 use Rattle.tree_model.specs.System.{core_at, part_at, is_leaf}
 use Rattle.tree_model.specs.Tree.{budget_at, server_tasks, server_jobs, run_at, NoLoss}
-use Rattle.compose_tree.specs.Truth.{LeafMustMiss, IsTight, LeafIsOverfull, MissesBy, CoreMustMiss, shows_by, CoreIsOverfull, IsFlat, IsChosen, RefusalHolds}
+use Rattle.slot_model.specs.Bound.{shows_by}
+use Rattle.compose_tree.specs.Truth.{LeafMustMiss, IsTight, LeafIsOverfull, MissesBy, CoreMustMiss, CoreIsOverfull, IsFlat, IsChosen, RefusalHolds}
 
 -- an open budget of a period of 10 is a choice from 1 to 10, and a given one is no choice
 one_slot_is_a_choice : IsChosen 10 None 1
@@ -58,12 +58,6 @@ and_not_sooner misses = go misses.job misses.missed.is_job misses.by
     go : (j : ℕ) → j < 1 → deadline_of one_task (job_at one_job j) ≤ 4 → ⊥
     go zero l by = omega (arith, by)
     go (suc j) l by = omega arith
-
-a_point_shows_at_itself : shows_by one_task (At 7) ≡ 7
-a_point_shows_at_itself = refl
-
-a_child_shows_at_its_deadline : shows_by one_task (Task 0) ≡ 5
-a_child_shows_at_its_deadline = refl
 
 -- a leaf on a core; the same core with a supply, and the same part with no tasks, are not flat
 abbrev on_one_core : Option (ℕ × ℕ) → List NamedTask → SystemView

@@ -2,10 +2,10 @@
 use Rattle.std.specs.Prelude.{◌≡◌, ℕ, ◌<◌, ◌≤◌, Bool, true, List, length, Option, Some, None}
 use Rattle.slot_model.specs.declared.job.Job.{Job}
 use Rattle.slot_model.specs.declared.sched.Short.{Short}
-use Rattle.slot_model.specs.declared.sched.Short.TheVariants.{At, Task}
 use Rattle.slot_model.specs.Supply.{GivesBudget}
-use Rattle.slot_model.specs.Task.{SporadicTask, task_at, job_at, deadline_of}
+use Rattle.slot_model.specs.Task.{SporadicTask, job_at, deadline_of}
 use Rattle.slot_model.specs.Order.{before_of}
+use Rattle.slot_model.specs.Bound.{shows_by}
 use Rattle.slot_model.specs.Miss.{Missed, MustMiss}
 use Rattle.tree_model.specs.declared.place.Place.TheVariants.{Core, Part}
 use Rattle.tree_model.specs.declared.plan.Refusal.{Refusal}
@@ -41,11 +41,6 @@ pub record CoreMustMiss (sys : SystemView) (budgets : List ℕ) (c t n : ℕ) : 
       (core_runs : List (List (Option ℕ))) × (part_runs : List (List (Option ℕ))) × PermittedTree sys budgets n supplies jobs core_runs part_runs
   pub misses : (supplies : List (List Bool)) (jobs : List (List Job)) (core_runs part_runs : List (List (Option ℕ))) → TreeInputs sys n supplies jobs →
       PermittedTree sys budgets n supplies jobs core_runs part_runs → MissesBy (server_tasks sys budgets (Core c)) (server_jobs sys budgets (Core c) n) (run_at core_runs c) t
-
--- the moment by which a shortfall shows: its point, or the deadline of the child that it names
-abbrev pub shows_by : List SporadicTask → Short → ℕ
-shows_by tasks (At t) = t
-shows_by tasks (Task i) = (task_at tasks i).deadline
 
 -- a full core is refused under the budgets that are settled before it: in every run that is long enough one of its jobs misses
 pub record CoreIsOverfull (sys : SystemView) (c : ℕ) (short : Short) : Type 0 where

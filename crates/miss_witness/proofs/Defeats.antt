@@ -7,7 +7,7 @@ use Rattle.slot_model.specs.declared.sched.Short.TheVariants.{At, Task}
 use Rattle.slot_model.specs.Task.{SporadicTask, AreConstrained, task_at}
 use Rattle.slot_model.specs.Supply.{GivesBudget, SupplyLaws, worst_slot}
 use Rattle.slot_model.specs.Order.{before_of, ranks_above}
-use Rattle.slot_model.specs.Bound.{sbf, IsShortfall}
+use Rattle.slot_model.specs.Bound.{sbf, IsShortfall, shows_by}
 use Rattle.slot_model.specs.Miss.{MissesFromStart, WorstList}
 use Rattle.slot_model.proofs.WorstPattern.{periodic_laws}
 use Rattle.miss_witness.specs.Defeat.{IsShortWindow}
@@ -15,15 +15,10 @@ use Rattle.edf_test.proofs.Level.{edf_misses_from_start}
 use Rattle.fp_request.specs.Ranks.{ranks_is_rank}
 use Rattle.fp_test.proofs.Witness.{short_misses_from_start}
 
--- the window that a shortfall names
-abbrev pub span_of : List SporadicTask → Short → ℕ
-span_of tasks (At t) = t
-span_of tasks (Task i) = (task_at tasks i).deadline
-
 pub shortfall_defeats : (sched : Sched) (tasks : List SporadicTask) → AreConstrained tasks
     → {bound : ℕ → ℕ} {amount cycle : ℕ} {pattern : ℕ → Bool} {start : ℕ} {Conforms : List Bool → Type 0} → SupplyLaws bound amount cycle pattern start Conforms
     → (short : Short) → IsShortfall sched tasks bound short
-    → (slots : List Bool) → WorstList pattern start (span_of tasks short) slots → Conforms slots × MissesFromStart pattern start (span_of tasks short) (before_of sched tasks) tasks slots
+    → (slots : List Bool) → WorstList pattern start (shows_by tasks short) slots → Conforms slots × MissesFromStart pattern start (shows_by tasks short) (before_of sched tasks) tasks slots
 shortfall_defeats Edf tasks fits {bound} {amount} {cycle} {pattern} {start} {Conforms} laws (At t) h slots worst = (laws.worst_conforms slots worst.follows, edf_misses_from_start bound amount cycle pattern start Conforms laws tasks fits t h.short slots worst)
 shortfall_defeats Edf tasks fits laws (Task i) h slots worst = absurd h
 shortfall_defeats Rm tasks fits laws (At t) h slots worst = absurd h
@@ -34,7 +29,7 @@ shortfall_defeats Listed tasks fits laws (At t) h slots worst = absurd h
 shortfall_defeats Listed tasks fits laws (Task i) h slots worst = (laws.worst_conforms slots worst.follows, short_misses_from_start (ranks_above Listed tasks) (ranks_is_rank Listed tasks) tasks fits laws i h.is_task h.short slots worst)
 
 -- so it is of a budget
-pub budget_defeated : (sched : Sched) (tasks : List SporadicTask) → AreConstrained tasks → (period budget : ℕ) → 1 ≤ period → budget ≤ period → (short : Short) (span : ℕ) → span_of tasks short ≡ span → IsShortfall sched tasks (sbf period budget) short
+pub budget_defeated : (sched : Sched) (tasks : List SporadicTask) → AreConstrained tasks → (period budget : ℕ) → 1 ≤ period → budget ≤ period → (short : Short) (span : ℕ) → shows_by tasks short ≡ span → IsShortfall sched tasks (sbf period budget) short
     → (slots : List Bool) → WorstList (worst_slot period budget) budget span slots → GivesBudget period budget slots × MissesFromStart (worst_slot period budget) budget span (before_of sched tasks) tasks slots
 budget_defeated sched tasks fits period budget l m short span e h =
     subst (λ (z : ℕ). (slots : List Bool) → WorstList (worst_slot period budget) budget z slots → GivesBudget period budget slots × MissesFromStart (worst_slot period budget) budget z (before_of sched tasks) tasks slots) e (shortfall_defeats sched tasks fits (periodic_laws period budget l m) short h)

@@ -2,16 +2,16 @@ use Rattle.std.proofs.Common.{ℕ, ◌-◌, ◌<◌, length, arith, ap, subst, r
 use Rattle.slot_model.specs.declared.sched.Short.{Short}
 use Rattle.slot_model.specs.declared.sched.Short.TheVariants.{Task}
 use Rattle.slot_model.specs.Task.{sporadic_tasks, SporadicTask}
-use Rattle.slot_model.specs.Bound.{sbf, IsShortfall}
+use Rattle.slot_model.specs.Bound.{sbf, IsShortfall, shows_by}
 use Rattle.slot_model.proofs.Constrained.{are_constrained}
 use Rattle.fp_request.proofs.Parts.{sporadic_tasks-length, task_at-is}
-use Rattle.miss_witness.proofs.Defeats.{budget_defeated, short_task_inside, short_task_window, span_of}
+use Rattle.miss_witness.proofs.Defeats.{budget_defeated, short_task_inside, short_task_window}
 use Rattle.miss_witness.proofs.smaller.witness.Goals as goal
 
 pub returns-in-Short-At-clause-misses : goal.returns-in-Short-At-clause-misses
 returns-in-Short-At-clause-misses c =
     budget_defeated c.args.sched (sporadic_tasks c.args.tasks.now) (are_constrained c.args.tasks.now) c.args.period (c.args.least - 1) (omega arith) (omega arith) c.in-Short-At.field-0 c.in-Short-At.span
-    (ap (span_of (sporadic_tasks c.args.tasks.now)) c.in-Short-At.field-0-is) c.in-Short-At.ensures.exact.1
+    (ap (shows_by (sporadic_tasks c.args.tasks.now)) c.in-Short-At.field-0-is) c.in-Short-At.ensures.exact.1
 
 pub returns-in-Short-Task-clause-defeat : goal.returns-in-Short-Task-clause-defeat
 returns-in-Short-Task-clause-defeat c =
