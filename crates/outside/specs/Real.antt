@@ -1,5 +1,8 @@
 -- The real ends, as contracts see them: what they count, and the bytes that std tells of them.
-use Rattle.std.specs.Prelude.{ℕ, Bool, List, Option}
+use Rattle.std.specs.Prelude.{ℕ, Bool, false, List, Option, None}
+use Rattle.outside.specs.declared.store.StoreFault.{StoreFault}
+use Rattle.outside.specs.declared.store.StoreFault.TheVariants.{Failed, Missing, NoMemory}
+use Rattle.outside.specs.Counts.{raised}
 
 -- a store of real files
 pub record DiskCounts : Type 0 where
@@ -10,6 +13,12 @@ pub record DiskCounts : Type 0 where
   pub faults : ℕ
   pub absences : ℕ
   pub taken : ℕ
+
+-- a store after a refusal: no file is current, and the one count of that refusal rose by one
+abbrev pub after_refusal : DiskCounts → StoreFault → DiskCounts
+after_refusal store Failed = record { is_open = false; rest = None; faults = raised store.faults 1; absences = store.absences; taken = store.taken }
+after_refusal store Missing = record { is_open = false; rest = None; faults = store.faults; absences = raised store.absences 1; taken = store.taken }
+after_refusal store NoMemory = record { is_open = false; rest = None; faults = store.faults; absences = store.absences; taken = store.taken }
 
 -- an output over a writer
 pub record WriterCounts : Type 0 where

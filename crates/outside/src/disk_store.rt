@@ -1,8 +1,8 @@
-ghost use Rattle.std.specs.Prelude.{◌≡◌, ◌≤◌, length, None, false};
+ghost use Rattle.std.specs.Prelude.{◌≡◌, ◌≢◌, ◌≤◌, length, None, false};
+ghost use Rattle.outside.specs.Real.{after_refusal};
 
 use crate::{Store, StoreFault};
-use std::io;
-use std::io::Read;
+use std::io::{ErrorKind, Read};
 use std::marker::Model;
 use std::rt::Files;
 
@@ -44,6 +44,33 @@ impl<R: Files> DiskStore<R> {
             taken: 0,
         }
     }
+
+    // Closes the file and counts the refusal.
+    fn refuse(&mut self, fault: StoreFault)
+        ensures counted { self.new ≡ after_refusal self.old fault }
+        ensures faults_last { self.old.faults ≤ self.new.faults }
+        ensures absences_last { self.old.absences ≤ self.new.absences }
+    {
+        self.file = None;
+        match fault {
+            StoreFault::Failed => self.faults = self.faults.saturating_add(1),
+            StoreFault::Missing => self.absences = self.absences.saturating_add(1),
+            StoreFault::NoMemory => {}
+        }
+    }
+}
+
+// What an error at opening says of the file.
+fn fault_of(kind: ErrorKind) -> StoreFault
+    ensures not_found { kind ≡ ErrorKind.NotFound → result ≡ StoreFault.Missing }
+    ensures no_memory { kind ≡ ErrorKind.OutOfMemory → result ≡ StoreFault.NoMemory }
+    ensures any_other { kind ≢ ErrorKind.NotFound → kind ≢ ErrorKind.OutOfMemory → result ≡ StoreFault.Failed }
+{
+    match kind {
+        ErrorKind::NotFound => StoreFault::Missing,
+        ErrorKind::OutOfMemory => StoreFault::NoMemory,
+        _ => StoreFault::Failed,
+    }
 }
 
 impl<R: Files> Store for DiskStore<R> {
@@ -60,23 +87,16 @@ impl<R: Files> Store for DiskStore<R> {
     ghost taken = { λ s. s.taken };
 
     fn open_file(&mut self, name: &str) -> Result<(), StoreFault> {
-        self.file = None;
         match std::fs::open(&self.rt, name) {
             Ok(file) => {
                 self.file = Some(file);
                 Ok(())
             }
-            Err(error) => match error.kind() {
-                io::ErrorKind::NotFound => {
-                    self.absences = self.absences.saturating_add(1);
-                    Err(StoreFault::Missing)
-                }
-                io::ErrorKind::OutOfMemory => Err(StoreFault::NoMemory),
-                _ => {
-                    self.faults = self.faults.saturating_add(1);
-                    Err(StoreFault::Failed)
-                }
-            },
+            Err(error) => {
+                let fault = fault_of(error.kind());
+                self.refuse(fault);
+                Err(fault)
+            }
         }
     }
 
@@ -90,8 +110,7 @@ impl<R: Files> Store for DiskStore<R> {
                 Ok(count)
             }
             Err(_) => {
-                self.file = None;
-                self.faults = self.faults.saturating_add(1);
+                self.refuse(StoreFault::Failed);
                 Err(StoreFault::Failed)
             }
         }
