@@ -1,6 +1,7 @@
 mod Names
 pub mod Sums
 pub mod Windows
+pub mod Arrivals
 pub mod Served
 pub mod Runs
 pub mod Busy
@@ -22,3 +23,4 @@ mod MissExamples
 pub mod Constrained
 pub mod WorstLists
 pub mod Budgets
+pub mod Points
