@@ -3,27 +3,27 @@ use Rattle.std.proofs.Common.{◌≡◌, ℕ, zero, suc, ◌+◌, ◌*◌, ◌-�
 use Rattle.std.proofs.lemmas.Bool.{cases_lt, cond-true, cond-false, lt-leb}
 use Rattle.std.proofs.Math.Nat.{add-mul-div_right, div-eq_of_lt}
 use Rattle.slot_model.specs.Slots.{sum_below}
-use Rattle.slot_model.specs.Task.{AreConstrained, IsConstrained, task_at, SporadicTask}
+use Rattle.slot_model.specs.Task.{AreConstrained, IsConstrained, default_task, room_of, task_at, SporadicTask}
 use Rattle.slot_model.specs.Bound.{demand_of, dbf}
 use Rattle.edf_demand.specs.Cyclic.{RisesByCycle}
 use Rattle.slot_model.proofs.Sums.{sum_below-same, sum_below-add, sum_below-none}
 use Rattle.slot_model.proofs.Windows.{sum_by-places}
 
 -- a task's demand as one quotient
-pub demand_closed : (b : SporadicTask) → IsConstrained b → (t : ℕ) → demand_of b t ≡ ((t + (b.period - b.deadline)) / b.period) * b.work
-demand_closed b f t = elim (cases_lt t b.deadline) [
-  | inl l ↦ omega (arith, cond-false {A = ℕ} (leb b.deadline t) (((t - b.deadline) / b.period + 1) * b.work) 0 (lt-leb _ _ l), ap (λ (z : ℕ). z * b.work) (div-eq_of_lt {n = t + (b.period - b.deadline)} {m = b.period} (omega (arith, f.works, f.in_deadline, f.in_period))))
+pub demand_closed : (b : SporadicTask) → IsConstrained b → (t : ℕ) → demand_of b t ≡ ((t + (b.period - room_of b)) / b.period) * b.work
+demand_closed b f t = elim (cases_lt (t + b.jitter) b.deadline) [
+  | inl l ↦ omega (arith, cond-false {A = ℕ} (leb b.deadline (t + b.jitter)) (((t + b.jitter - b.deadline) / b.period + 1) * b.work) 0 (lt-leb _ _ l), ap (λ (z : ℕ). z * b.work) (div-eq_of_lt {n = t + (b.period - room_of b)} {m = b.period} (omega (arith, f.works, f.in_deadline, f.in_period))))
   | inr l ↦
-      let e : t + (b.period - b.deadline) ≡ (t - b.deadline) + 1 * b.period = omega (arith, f.in_period) in
-      let q : (t + (b.period - b.deadline)) / b.period ≡ (t - b.deadline) / b.period + 1 = ap (λ (z : ℕ). z / b.period) e ∙ add-mul-div_right (t - b.deadline) 1 (omega (arith, f.works, f.in_deadline, f.in_period)) in
-      cond-true {A = ℕ} (leb b.deadline t) (((t - b.deadline) / b.period + 1) * b.work) 0 (le-leb _ _ l) ∙ sym (ap (λ (z : ℕ). z * b.work) q)
+      let e : t + (b.period - room_of b) ≡ (t + b.jitter - b.deadline) + 1 * b.period = omega (arith, f.in_deadline, f.in_period) in
+      let q : (t + (b.period - room_of b)) / b.period ≡ (t + b.jitter - b.deadline) / b.period + 1 = ap (λ (z : ℕ). z / b.period) e ∙ add-mul-div_right (t + b.jitter - b.deadline) 1 (omega (arith, f.works, f.in_deadline, f.in_period)) in
+      cond-true {A = ℕ} (leb b.deadline (t + b.jitter)) (((t + b.jitter - b.deadline) / b.period + 1) * b.work) 0 (le-leb _ _ l) ∙ sym (ap (λ (z : ℕ). z * b.work) q)
 ]
 
 -- over m periods more a task asks for m times its work
 demand_more : (b : SporadicTask) → IsConstrained b → (t m : ℕ) → demand_of b (t + m * b.period) ≡ demand_of b t + m * b.work
 demand_more b f t m =
-    let e : (t + m * b.period) + (b.period - b.deadline) ≡ (t + (b.period - b.deadline)) + m * b.period = omega arith in
-    let q : ((t + m * b.period) + (b.period - b.deadline)) / b.period ≡ (t + (b.period - b.deadline)) / b.period + m = ap (λ (z : ℕ). z / b.period) e ∙ add-mul-div_right (t + (b.period - b.deadline)) m (omega (arith, f.works, f.in_deadline, f.in_period)) in
+    let e : (t + m * b.period) + (b.period - room_of b) ≡ (t + (b.period - room_of b)) + m * b.period = omega arith in
+    let q : ((t + m * b.period) + (b.period - room_of b)) / b.period ≡ (t + (b.period - room_of b)) / b.period + m = ap (λ (z : ℕ). z / b.period) e ∙ add-mul-div_right (t + (b.period - room_of b)) m (omega (arith, f.works, f.in_deadline, f.in_period)) in
     omega (arith, demand_closed b f t, demand_closed b f (t + m * b.period), ap (λ (z : ℕ). z * b.work) q)
 
 -- the rise of dbf over a common multiple of the periods
@@ -32,15 +32,15 @@ pub dbf_more : (tasks : List SporadicTask) → AreConstrained tasks → (times :
 dbf_more tasks fits times L t multiple =
     omega (
       arith,
-      sum_by-places (λ b. demand_of b (t + L)) (record { period = 1; deadline = 1; work = 1 }) tasks,
-      sum_by-places (λ b. demand_of b t) (record { period = 1; deadline = 1; work = 1 }) tasks,
+      sum_by-places (λ b. demand_of b (t + L)) default_task tasks,
+      sum_by-places (λ b. demand_of b t) default_task tasks,
       sum_below-same (λ i. demand_of (task_at tasks i) (t + L)) (λ i. demand_of (task_at tasks i) t + times i * (task_at tasks i).work) (length tasks) (λ i l. ap (λ (z : ℕ). demand_of (task_at tasks i) (t + z)) (multiple i l) ∙ demand_more (task_at tasks i) (fits i l) t (times i)),
       sum_below-add (λ i. demand_of (task_at tasks i) t) (λ i. times i * (task_at tasks i).work) (length tasks),
     )
 
 -- dbf is 0 at 0
 pub dbf_start : (tasks : List SporadicTask) → AreConstrained tasks → dbf tasks 0 ≡ 0
-dbf_start tasks fits = sum_by-places (λ b. demand_of b 0) (record { period = 1; deadline = 1; work = 1 }) tasks ∙ (sum_below-same (λ i. demand_of (task_at tasks i) 0) (λ i. 0) (length tasks) (λ i l. cond-false {A = ℕ} (leb (task_at tasks i).deadline 0) (((0 - (task_at tasks i).deadline) / (task_at tasks i).period + 1) * (task_at tasks i).work) 0 (lt-leb _ _ (omega (arith, (fits i l).works, (fits i l).in_deadline)))) ∙ sum_below-none (length tasks))
+dbf_start tasks fits = sum_by-places (λ b. demand_of b 0) default_task tasks ∙ (sum_below-same (λ i. demand_of (task_at tasks i) 0) (λ i. 0) (length tasks) (λ i l. cond-false {A = ℕ} (leb (task_at tasks i).deadline (0 + (task_at tasks i).jitter)) (((0 + (task_at tasks i).jitter - (task_at tasks i).deadline) / (task_at tasks i).period + 1) * (task_at tasks i).work) 0 (lt-leb _ _ (omega (arith, (fits i l).works, (fits i l).in_deadline)))) ∙ sum_below-none (length tasks))
 
 bound_cycles : (bound : ℕ → ℕ) (cycle amount : ℕ) → RisesByCycle bound amount cycle → (t n : ℕ) → cycle ≤ t → bound (t + n * cycle) ≡ bound t + n * amount
 bound_cycles bound cycle amount b t zero l = omega (arith, ap bound (let e : t + 0 * cycle ≡ t = omega arith in e))

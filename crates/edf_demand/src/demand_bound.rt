@@ -19,13 +19,13 @@ pub fn demand(tasks: &[Task], t: u128) -> Option<u128>
     Some(total)
 }
 
-/// At most `t`, since a task's work fits its deadline and its deadline its period.
+/// At most `t`, since a task's work and jitter fit its deadline and its deadline its period.
 fn demand_of_task(task: &Task, t: u128) -> u128
     ensures { result ≡ demand_of (sporadic_task task.now) t }
 {
-    let deadline = task.deadline as u128;
-    if t < deadline {
+    let room = (task.deadline - task.jitter) as u128;
+    if t < room {
         return 0;
     }
-    ((t - deadline) / task.period as u128 + 1) * task.work as u128
+    ((t - room) / task.period as u128 + 1) * task.work as u128
 }
