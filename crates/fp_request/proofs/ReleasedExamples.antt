@@ -2,13 +2,13 @@
 use Rattle.std.proofs.Common.{◌≡◌, ℕ, zero, suc, ◌+◌, ◌<◌, ◌≤◌, true, List, [], ◌∷◌, refl, arith}
 use Rattle.slot_model.specs.declared.job.Job.{Job}
 use Rattle.slot_model.specs.Slots.{sum_below}
-use Rattle.slot_model.specs.Task.{SporadicTask, job_at}
+use Rattle.slot_model.specs.Task.{SporadicTask, plain_task, plain_job, job_at}
 use Rattle.slot_model.specs.Release.{LegalRelease, fits_task}
 use Rattle.slot_model.proofs.LegalJobs.{legal_where_apart}
 use Rattle.fp_request.specs.Released.{work_released, RequestsBound}
 
 abbrev job_of : ℕ → ℕ → ℕ → Job
-job_of task release work = record { task = task; release = release; work = work }
+job_of task release work = plain_job task release work
 
 -- task 1 releases at 4, 9 and 14, and task 0 at 5
 abbrev four_jobs : List Job
@@ -32,7 +32,7 @@ another_task_has_its_own = refl
 
 -- two tasks, the second of which releases one job far from the start
 abbrev two_tasks : List SporadicTask
-two_tasks = record { period = 9; deadline = 9; work = 1 } ∷ record { period = 5; deadline = 5; work = 3 } ∷ []
+two_tasks = plain_task 9 9 1 ∷ plain_task 5 5 3 ∷ []
 
 abbrev late_job : List Job
 late_job = job_of 1 40 3 ∷ []

@@ -8,6 +8,7 @@ use Rattle.slot_model.specs.Bound.{request_of}
 use Rattle.slot_model.specs.declared.job.Job.{Job}
 use Rattle.fp_request.specs.Released.{RequestsBound}
 use Rattle.slot_model.proofs.Sums.{sum_below-le, sum_below-same, sum_below-none}
+use Rattle.slot_model.proofs.Arrivals.{arrival, early_within, arrivals_apart}
 use Rattle.slot_model.proofs.Windows.{release_window, by_task}
 
 -- whether job j is of task i and released from a on and before b
@@ -34,11 +35,13 @@ pub task_request : (tasks : List SporadicTask) (jobs : List Job) → AreConstrai
     → sum_below (λ j. cond (asks jobs a (a + t) i j) (job_at jobs j).work 0) (length jobs) ≤ request_of (task_at tasks i) t
 task_request tasks jobs fits legal a t i l =
     let f : IsConstrained (task_at tasks i) = fits i l in
-    let far : (x y : ℕ) → x < y → y < length jobs → asks jobs a (a + t) i x ≡ true → asks jobs a (a + t) i y ≡ true → (job_at jobs x).release + (task_at tasks i).period ≤ (job_at jobs y).release =
-    λ x y m n p q. subst (λ (z : ℕ). (job_at jobs x).release + (task_at tasks z).period ≤ (job_at jobs y).release) (asked jobs a (a + t) i x p).mine (legal.apart x y m n ((asked jobs a (a + t) i x p).mine ∙ sym (asked jobs a (a + t) i y q).mine)) in
+    let late : ℕ = (task_at tasks i).jitter in
+    let far : (x y : ℕ) → x < y → y < length jobs → asks jobs a (a + t) i x ≡ true → asks jobs a (a + t) i y ≡ true → arrival jobs late x + (task_at tasks i).period ≤ arrival jobs late y =
+    λ x y m n p q. arrivals_apart tasks jobs legal i x y m n (asked jobs a (a + t) i x p).mine (asked jobs a (a + t) i y q).mine in
     let works : (j : ℕ) → j < length jobs → asks jobs a (a + t) i j ≡ true → (job_at jobs j).work ≤ (task_at tasks i).work = λ j m q. subst (λ (z : ℕ). (job_at jobs j).work ≤ (task_at tasks z).work) (asked jobs a (a + t) i j q).mine (legal.in_work j m) in
-    release_window (λ j. (job_at jobs j).release) (λ j. (job_at jobs j).work) (asks jobs a (a + t) i) (task_at tasks i).period (task_at tasks i).work a (length jobs) ((t + ((task_at tasks i).period - 1)) / (task_at tasks i).period) (a + t) far (λ j m q. (works j m q, (asked jobs a (a + t) i j q).after, (asked jobs a (a + t) i j q).before))
-    (omega (arith, periods_cover t (task_at tasks i).period (omega arith)))
+    release_window (arrival jobs late) (λ j. (job_at jobs j).work) (asks jobs a (a + t) i) (task_at tasks i).period (task_at tasks i).work a (length jobs) ((t + late + ((task_at tasks i).period - 1)) / (task_at tasks i).period) (a + t + late) far
+    (λ j m q. let early : (job_at jobs j).early ≤ late = early_within tasks jobs legal i j m (asked jobs a (a + t) i j q).mine in (works j m q, omega (arith, early, (asked jobs a (a + t) i j q).after), omega (arith, (asked jobs a (a + t) i j q).before)))
+    (omega (arith, periods_cover (t + late) (task_at tasks i).period (omega arith)))
 
 -- the jobs of tasks above i that are released in t slots from a on
 abbrev pub urgent : (ℕ → ℕ → Bool) → List Job → ℕ → ℕ → ℕ → ℕ → Bool

@@ -1,5 +1,5 @@
 -- The ranks of tasks are strict total orders of their places, and every way to choose keeps the laws of an order of jobs.
-use Rattle.std.proofs.Common.{◌≡◌, ◌≢◌, ◌⊎◌, ℕ, ◌<◌, Bool, true, false, ltb, List, sym, ◌∙◌, arith, subst, inl, inr, lt-ltb, le-ltb, ltb-true, eq-eqb, eqb-true}
+use Rattle.std.proofs.Common.{◌≡◌, ◌≢◌, ◌⊎◌, ℕ, ◌+◌, ◌<◌, Bool, true, false, ltb, List, sym, ◌∙◌, arith, subst, inl, inr, lt-ltb, le-ltb, ltb-true, eq-eqb, eqb-true}
 use Rattle.std.proofs.lemmas.Bool.{cases_lt, cases_order, or_left, or_right, and_from, and_parts, or_cases, false_from_ne_true, both_ways}
 use Rattle.slot_model.specs.Task.{SporadicTask, task_at}
 use Rattle.slot_model.specs.declared.job.Job.{Job}
@@ -50,12 +50,12 @@ ranks_is_rank Rm tasks = key_ranks (λ i. (task_at tasks i).period)
 ranks_is_rank Dm tasks = key_ranks (λ i. (task_at tasks i).deadline)
 ranks_is_rank Listed tasks = place_ranks
 
--- job a goes before b: its task ranks above, or both are of one task and a is released earlier
-goes : (above : ℕ → ℕ → Bool) (a b : Job) → fixed_before above a b ≡ true → (above a.task b.task ≡ true) ⊎ ((a.task ≡ b.task) × (a.release < b.release))
+-- job a goes before b: its task ranks above, or both are of one task and a arrived earlier
+goes : (above : ℕ → ℕ → Bool) (a b : Job) → fixed_before above a b ≡ true → (above a.task b.task ≡ true) ⊎ ((a.task ≡ b.task) × (a.release + b.early < b.release + a.early))
 goes above a b h = elim (or_cases _ _ h) [ inl u ↦ inl u | inr v ↦ inr (eqb-true _ _ (and_parts _ _ v).0, ltb-true _ _ (and_parts _ _ v).1) ]
 
 -- and back
-comes : (above : ℕ → ℕ → Bool) (a b : Job) → (above a.task b.task ≡ true) ⊎ ((a.task ≡ b.task) × (a.release < b.release)) → fixed_before above a b ≡ true
+comes : (above : ℕ → ℕ → Bool) (a b : Job) → (above a.task b.task ≡ true) ⊎ ((a.task ≡ b.task) × (a.release + b.early < b.release + a.early)) → fixed_before above a b ≡ true
 comes above a b (inl u) = or_left _ _ u
 comes above a b (inr v) = or_right _ _ (and_from _ _ (eq-eqb _ _ v.0) (lt-ltb _ _ v.1))
 
@@ -67,7 +67,7 @@ fixed_not_itself above r a = false_from_ne_true _ (λ h. elim (goes above a a h)
 pub fixed_in_turn : (above : ℕ → ℕ → Bool) → IsRank above → (a b c : Job) → fixed_before above a b ≡ true → fixed_before above b c ≡ true → fixed_before above a c ≡ true
 fixed_in_turn above r a b c h g = comes above a c (turn (goes above a b h) (goes above b c g))
   where
-    turn : (above a.task b.task ≡ true) ⊎ ((a.task ≡ b.task) × (a.release < b.release)) → (above b.task c.task ≡ true) ⊎ ((b.task ≡ c.task) × (b.release < c.release)) → (above a.task c.task ≡ true) ⊎ ((a.task ≡ c.task) × (a.release < c.release))
+    turn : (above a.task b.task ≡ true) ⊎ ((a.task ≡ b.task) × (a.release + b.early < b.release + a.early)) → (above b.task c.task ≡ true) ⊎ ((b.task ≡ c.task) × (b.release + c.early < c.release + b.early)) → (above a.task c.task ≡ true) ⊎ ((a.task ≡ c.task) × (a.release + c.early < c.release + a.early))
     turn (inl u) (inl v) = inl (r.in_turn _ _ _ u v)
     turn (inl u) (inr v) = inl (subst (λ (z : ℕ). above a.task z ≡ true) v.0 u)
     turn (inr u) (inl v) = inl (subst (λ (z : ℕ). above z c.task ≡ true) (sym u.0) v)
@@ -79,7 +79,7 @@ fixed_laws above r = record {
   not_itself = λ tasks a. fixed_not_itself (above tasks) (r tasks) a;
   one_way = λ tasks a b h. false_from_ne_true _ (λ g. both_ways _ (fixed_not_itself (above tasks) (r tasks) a) (fixed_in_turn (above tasks) (r tasks) a b a h g));
   in_turn = λ tasks a b c h g. fixed_in_turn (above tasks) (r tasks) a b c h g;
-  one_task = λ tasks a b same sooner. comes (above tasks) a b (inr (same, sooner));
+  one_task = λ tasks a b same in_deadline sooner. comes (above tasks) a b (inr (same, sooner));
 }
 
 -- every way to choose keeps the laws of an order of jobs

@@ -1,4 +1,4 @@
-ghost use Rattle.std.specs.Prelude.{◌≡◌, ◌≢◌, ◌<◌, ◌≤◌, ◌^◌, length, MatchOption};
+ghost use Rattle.std.specs.Prelude.{◌≡◌, ◌≢◌, ◌+◌, ◌-◌, ◌/◌, ◌<◌, ◌≤◌, ◌^◌, length, MatchOption};
 ghost use Rattle.slot_model.specs.Task.{sporadic_task, sporadic_tasks};
 ghost use Rattle.slot_model.specs.Order.{ranks_above};
 ghost use Rattle.slot_model.specs.Bound.{request_of, rbf};
@@ -24,10 +24,20 @@ pub fn request(sched: Sched, tasks: &[Task], i: u32, t: u128) -> Option<u128>
     Some(sum)
 }
 
-/// The work that one task's jobs ask for if they are released in `t` slots.
+/// The work that one task's jobs ask for if they are released in `t` slots, and so arrive in as many
+/// and the task's jitter.
 fn request_of_task(task: &Task, t: u128) -> Option<u128>
     ensures { MatchOption result (2 ^ 128 ≤ request_of (sporadic_task task.now) t) (λ r. r ≡ request_of (sporadic_task task.now) t) }
 {
-    t.div_ceil(task.period as u128)
-        .checked_mul(task.work as u128)
+    arrivals(t, task.period, task.jitter).checked_mul(task.work as u128)
+}
+
+/// How many jobs a period apart arrive in `t + jitter` slots, a number that may pass 2^128.
+fn arrivals(t: u128, period: u64, jitter: u64) -> u128
+    requires { jitter < period }
+    ensures { result ≡ (t + jitter + (period - 1)) / period }
+{
+    let period = period as u128;
+    let rest = t % period + jitter as u128;
+    t / period + rest.div_ceil(period)
 }

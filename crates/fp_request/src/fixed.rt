@@ -1,5 +1,6 @@
-ghost use Rattle.std.specs.Prelude.{◌≡◌, ◌≢◌, MatchOption};
-ghost use Rattle.slot_model.specs.Order.{before_of};
+ghost use Rattle.std.specs.Prelude.{◌≡◌, ◌≢◌, ◌<◌, length, MatchOption};
+ghost use Rattle.slot_model.specs.Task.{sporadic_tasks};
+ghost use Rattle.slot_model.specs.Order.{before_of, arrives_before};
 ghost use Rattle.fp_request.specs.Ranks.{order_laws};
 
 use crate::rank::ranks;
@@ -7,7 +8,7 @@ use slot_model::{Job, Order, Sched, Task};
 use std::marker::Model;
 
 /// A fixed order of jobs: the job whose task ranks above goes first, and the jobs of one task go as
-/// they are released. Contracts see it as the `Sched` that it was made of.
+/// they arrived. Contracts see it as the `Sched` that it was made of.
 #[derive(Clone, Copy, Debug, PartialEq, Eq)]
 pub struct Fixed {
     sched: Sched,
@@ -43,11 +44,27 @@ impl Order for Fixed {
     ghost goes = { λ f tasks a b. before_of f tasks a b };
 
     fn before(&self, tasks: &[Task], a: &Job, b: &Job) -> bool {
-        if a.task == b.task {
-            return a.release < b.release;
-        }
-        ranks(self.sched, tasks, a.task as usize, b.task as usize)
+        comes_first(self.sched, tasks, a, b)
     }
 
     ghost laws = { λ f. order_laws f };
+}
+
+fn comes_first(sched: Sched, tasks: &[Task], a: &Job, b: &Job) -> bool
+    requires fixed { sched ≢ Sched.Edf }
+    requires a_named { a.now.task < length tasks.now }
+    requires b_named { b.now.task < length tasks.now }
+    ensures { result ≡ before_of sched (sporadic_tasks tasks.now) a.now b.now }
+{
+    if a.task == b.task {
+        return is_sooner(a, b);
+    }
+    ranks(sched, tasks, a.task as usize, b.task as usize)
+}
+
+// An arrival may lie before moment 0, so nothing is subtracted.
+fn is_sooner(a: &Job, b: &Job) -> bool
+    ensures { result ≡ arrives_before a.now b.now }
+{
+    (a.release as u128 + b.early as u128) < b.release as u128 + a.early as u128
 }

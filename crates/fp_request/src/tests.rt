@@ -1,5 +1,5 @@
-ghost use Rattle.std.specs.Prelude.{◌≡◌, ◌<◌, length};
-ghost use Rattle.slot_model.specs.Task.{sporadic_tasks};
+ghost use Rattle.std.specs.Prelude.{◌≡◌, ◌<◌, ◌≤◌, length};
+ghost use Rattle.slot_model.specs.Task.{sporadic_tasks, task_at};
 
 use crate::{Fixed, higher, request};
 use slot_model::{Job, Order, Sched, Task};
@@ -11,6 +11,8 @@ const OUT: &str = "out of range";
 fn goes_first<O: Order>(order: &O, tasks: &[Task], a: &Job, b: &Job) -> bool
     requires a_named { a.now.task < length tasks.now }
     requires b_named { b.now.task < length tasks.now }
+    requires a_in_jitter { a.now.early ≤ (task_at (sporadic_tasks tasks.now) a.now.task).jitter }
+    requires b_in_jitter { b.now.early ≤ (task_at (sporadic_tasks tasks.now) b.now.task).jitter }
     ensures { result ≡ O.goes order.now (sporadic_tasks tasks.now) a.now b.now }
 {
     order.before(tasks, a, b)
@@ -33,6 +35,24 @@ fn requests_of_two_tasks(rt: HostRuntime) -> Result<(), Fail> {
     ] {
         assert_eq!(rt; request(sched, &tasks, i, t), Some(want), "task {i} at {t}");
     }
+    Ok(())
+}
+
+#[test]
+fn requests_with_jitter(rt: HostRuntime) -> Result<(), Fail> {
+    let tasks = [
+        Task::with_jitter(50, 50, 7, 5).ok_or(OUT)?,
+        Task::new(75, 75, 9).ok_or(OUT)?,
+    ];
+    assert_eq!(rt; request(Sched::Rm, &tasks, 1, 45), Some(16));
+    assert_eq!(rt; request(Sched::Rm, &tasks, 1, 46), Some(23));
+    // The window and the jitter together pass 2^128 slots.
+    let long = [
+        Task::with_jitter(1_000_000_000, 1_000_000_000, 1, 999_999_999).ok_or(OUT)?,
+        Task::new(1_000_000_000, 1_000_000_000, 1).ok_or(OUT)?,
+    ];
+    let most = u128::MAX / 1_000_000_000 + 3;
+    assert_eq!(rt; request(Sched::Listed, &long, 1, u128::MAX), Some(most));
     Ok(())
 }
 
@@ -84,16 +104,19 @@ fn fixed_orders(rt: HostRuntime) -> Result<(), Fail> {
         task: 0,
         release: 0,
         work: 9,
+        early: 0,
     };
     let late = Job {
         task: 0,
         release: 75,
         work: 9,
+        early: 0,
     };
     let above = Job {
         task: 1,
         release: 100,
         work: 7,
+        early: 0,
     };
     assert!(rt; goes_first(&order, &tasks, &above, &early));
     assert!(rt; !goes_first(&order, &tasks, &early, &above));
