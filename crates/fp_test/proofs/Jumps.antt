@@ -2,7 +2,7 @@
 use Rattle.std.proofs.Common.{◌≡◌, ℕ, zero, suc, ◌<◌, ◌≤◌, Bool, List, length, Some, arith, inl, inr}
 use Rattle.std.proofs.lemmas.Bool.{cases_lt}
 use Rattle.slot_model.specs.Supply.{SupplyLaws}
-use Rattle.slot_model.specs.Task.{SporadicTask, AreConstrained, task_at}
+use Rattle.slot_model.specs.Task.{SporadicTask, AreConstrained, room_of, task_at}
 use Rattle.slot_model.specs.Bound.{rbf, IsHit, IsShortTask}
 use Rattle.supply_bound.specs.Reach.{IsReach}
 use Rattle.fp_request.proofs.Rises.{rbf-rises}
@@ -54,7 +54,7 @@ passed_more above tasks fits {bound} laws i asked t more passed reach e l = reco
 -- and where it asks for no more it is the least hit
 pub passed_hit : (above : ℕ → ℕ → Bool) (tasks : List SporadicTask)
     → {bound : ℕ → ℕ} {amount cycle : ℕ} {pattern : ℕ → Bool} {start : ℕ} {Conforms : List Bool → Type 0} → SupplyLaws bound amount cycle pattern start Conforms
-    → (i asked t : ℕ) → Passed above tasks bound i asked → IsReach bound asked (Some t) → t ≤ (task_at tasks i).deadline → rbf above tasks i t ≤ asked → IsHit above tasks bound i t × ((u : ℕ) → u < t → IsHit above tasks bound i u → ⊥)
+    → (i asked t : ℕ) → Passed above tasks bound i asked → IsReach bound asked (Some t) → t ≤ room_of (task_at tasks i) → rbf above tasks i t ≤ asked → IsHit above tasks bound i t × ((u : ℕ) → u < t → IsHit above tasks bound i u → ⊥)
 passed_hit above tasks {bound} laws i asked t passed reach d l = (
   record { some_slots = omega (arith, passed.some_work, reach.0, bound-le laws t); in_deadline = d; enough = omega (arith, reach.0) },
   λ u lu h. omega (arith, h.enough, passed.below u h.some_slots (below_reach laws asked t reach.1 u lu)),
@@ -63,13 +63,13 @@ passed_hit above tasks {bound} laws i asked t passed reach d l = (
 -- where the least window with the bound `asked` is past the deadline, or past 2^128, there is no hit
 pub passed_late : (above : ℕ → ℕ → Bool) (tasks : List SporadicTask)
     → {bound : ℕ → ℕ} {amount cycle : ℕ} {pattern : ℕ → Bool} {start : ℕ} {Conforms : List Bool → Type 0} → SupplyLaws bound amount cycle pattern start Conforms
-    → (i asked t : ℕ) → Passed above tasks bound i asked → ((u : ℕ) → u < t → bound u ≡ asked → ⊥) → (task_at tasks i).deadline < t → IsShortTask above tasks bound i
+    → (i asked t : ℕ) → Passed above tasks bound i asked → ((u : ℕ) → u < t → bound u ≡ asked → ⊥) → room_of (task_at tasks i) < t → IsShortTask above tasks bound i
 passed_late above tasks laws i asked t passed first d u lu lt = passed.below u lu (below_reach laws asked t first u (omega arith))
 
 -- where a window asks for more than any number of slots up to the deadline, there is no hit from it on
 pub passed_wide : (above : ℕ → ℕ → Bool) (tasks : List SporadicTask) → AreConstrained tasks
     → {bound : ℕ → ℕ} {amount cycle : ℕ} {pattern : ℕ → Bool} {start : ℕ} {Conforms : List Bool → Type 0} → SupplyLaws bound amount cycle pattern start Conforms
-    → (i t : ℕ) → ((u : ℕ) → 1 ≤ u → u < t → bound u < rbf above tasks i u) → (task_at tasks i).deadline < rbf above tasks i t → IsShortTask above tasks bound i
+    → (i t : ℕ) → ((u : ℕ) → 1 ≤ u → u < t → bound u < rbf above tasks i u) → room_of (task_at tasks i) < rbf above tasks i t → IsShortTask above tasks bound i
 passed_wide above tasks fits {bound} laws i t before wide u lu lt = elim (cases_lt u t) [
   | inl l ↦ before u lu l
   | inr l ↦ omega (arith, bound-le laws u, rbf-rises above tasks fits i t u l)

@@ -24,6 +24,22 @@ fn hits_of_two_tasks(rt: HostRuntime) -> Result<(), Fail> {
 }
 
 #[test]
+fn hits_leave_room_for_the_jitter(rt: HostRuntime) -> Result<(), Fail> {
+    let tasks = [
+        Task::with_jitter(50, 50, 7, 5).ok_or(OUT)?,
+        Task::new(75, 75, 9).ok_or(OUT)?,
+    ];
+    let four = Periodic::new(10, 4).ok_or(OUT)?;
+    assert_eq!(rt; hit(Sched::Rm, &tasks, 0, &four), Some(25));
+    assert_eq!(rt; hit(Sched::Rm, &tasks, 1, &four), Some(65));
+    let at_the_end = [Task::with_jitter(50, 30, 7, 5).ok_or(OUT)?];
+    assert_eq!(rt; hit(Sched::Rm, &at_the_end, 0, &four), Some(25));
+    let past_it = [Task::with_jitter(50, 30, 7, 6).ok_or(OUT)?];
+    assert_eq!(rt; hit(Sched::Rm, &past_it, 0, &four), None);
+    Ok(())
+}
+
+#[test]
 fn hits_of_the_longest_tasks(rt: HostRuntime) -> Result<(), Fail> {
     let tasks = [
         Task::new(999_999_996, 999_999_996, 1).ok_or(OUT)?,
