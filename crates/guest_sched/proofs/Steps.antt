@@ -3,7 +3,7 @@ use Rattle.std.proofs.Common.{◌≡◌, ℕ, suc, ◌+◌, ◌-◌, ◌<◌, �
 use Rattle.std.proofs.lemmas.Bool.{cases_eq, cases_lt, cond-true, cond-false, both_ways, true≢false, false≢true}
 use Rattle.std.proofs.lemmas.List.{get_or_push, get_or-map, length-map}
 use Rattle.slot_model.specs.declared.job.Job.{Job}
-use Rattle.slot_model.specs.Task.{SporadicTask, job_at}
+use Rattle.slot_model.specs.Task.{SporadicTask, default_job, job_at}
 use Rattle.slot_model.specs.Run.{holds, service, guest, Pending, MayHold, Entry, FirstRunTo}
 use Rattle.slot_model.proofs.Sums.{sum_below-suc, sum_below-zero}
 use Rattle.slot_model.proofs.FirstRuns.{push_entry, none_some, same_some, service_same}
@@ -121,7 +121,7 @@ kept_start before tasks jobs slots state by h none full = record {
   long = ap (λ (z : List ℕ). length z) full ∙ length-map jobs (λ (a : Job). a.work);
   is_state = h;
   come = λ i l. absurd (omega arith);
-  lacks = λ j l. omega (arith, ap (λ (z : List ℕ). get_or z j 0) full, get_or-map (λ (a : Job). a.work) jobs j (record { task = 0; release = 0; work = 0 }) 0 l, sum_below-zero (λ y. cond (holds (get_or [] y None) j) 1 0));
+  lacks = λ j l. omega (arith, ap (λ (z : List ℕ). get_or z j 0) full, get_or-map (λ (a : Job). a.work) jobs j default_job 0 l, sum_below-zero (λ y. cond (holds (get_or [] y None) j) 1 0));
 }
 
 -- after one slot more: `came` is the state when the jobs released at x have come, and `after` the state when one is served

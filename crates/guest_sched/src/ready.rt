@@ -19,7 +19,7 @@ pub struct Ready {
 
 impl Ready {
     ghost use Rattle.std.specs.Prelude.{◌≡◌, ℕ, ◌+◌, ◌<◌, ◌≤◌, ◌^◌, ◌↔◌, length, map, slice_index, All, IsTrue, IfOk, OnOk, Some};
-    ghost use Rattle.slot_model.specs.Task.{sporadic_tasks};
+    ghost use Rattle.slot_model.specs.Task.{sporadic_tasks, task_at};
     ghost use Rattle.guest_sched.specs.Arrivals.{arrival_at, AreArrivals};
     ghost use Rattle.guest_sched.specs.Ready.{IsReady, HaveCome, AreToCome, IsServed, left_after};
 
@@ -86,6 +86,7 @@ impl Ready {
         requires state { IsReady self.old }
         requires all_jobs { length self.old.left.items ≡ length jobs.now }
         requires named { All (λ a. a.task < length tasks.now) jobs.now }
+        requires in_jitter { All (λ a. a.early ≤ (task_at (sporadic_tasks tasks.now) a.task).jitter) jobs.now }
         ensures state { IsReady self.new }
         ensures served { IsServed (O.goes order.now (sporadic_tasks tasks.now)) jobs.now self.old.ready.items slot result }
         ensures left { self.new.left.items ≡ left_after self.old.left.items result }

@@ -55,6 +55,7 @@ fn jobs_of(alloc: Global, rows: &[(u32, u64, u64)]) -> Result<Vec<Job>, AllocErr
             task: *task,
             release: *release,
             work: *work,
+            early: 0,
         })?;
     }
     Ok(jobs)
