@@ -5,7 +5,7 @@ use Rattle.slot_model.specs.declared.sched.Sched.{Sched}
 use Rattle.slot_model.specs.declared.sched.Sched.TheVariants.{Edf, Rm, Dm, Listed}
 use Rattle.slot_model.specs.declared.sched.Short.{Short}
 use Rattle.slot_model.specs.declared.sched.Short.TheVariants.{At, Task}
-use Rattle.slot_model.specs.Task.{SporadicTask, AreConstrained, task_at}
+use Rattle.slot_model.specs.Task.{SporadicTask, AreConstrained, room_of, task_at}
 use Rattle.slot_model.specs.Supply.{SupplyLaws}
 use Rattle.slot_model.specs.Order.{ranks_above}
 use Rattle.slot_model.specs.Bound.{dbf, rbf, IsHit, IsShortTask, AllHit, IsFirstShortTask, IsFirstShortPoint, DemandFits, Passes, IsShortfall, IsHorizon}
@@ -45,14 +45,14 @@ demand_fits_or_short tasks fits {bound} {amount} {cycle} {pattern} {start} {Conf
 is_hit : (above : ℕ → ℕ → Bool) (tasks : List SporadicTask) (bound : ℕ → ℕ) (i t : ℕ) → IsHit above tasks bound i t ⊎ (IsHit above tasks bound i t → ⊥)
 is_hit above tasks bound i t = elim (cases_lt 0 t) [
   | inr a ↦ inr (λ h. omega (arith, h.some_slots))
-  | inl a ↦ elim (cases_lt (task_at tasks i).deadline t) [
+  | inl a ↦ elim (cases_lt (room_of (task_at tasks i)) t) [
     | inl b ↦ inr (λ h. omega (arith, h.in_deadline))
     | inr b ↦ elim (cases_lt (bound t) (rbf above tasks i t)) [ inl c ↦ inr (λ h. omega (arith, h.enough)) | inr c ↦ inl (record { some_slots = a; in_deadline = b; enough = c }) ]
   ]
 ]
 
 hit_or_short : (above : ℕ → ℕ → Bool) (tasks : List SporadicTask) (bound : ℕ → ℕ) (i : ℕ) → ((t : ℕ) × IsHit above tasks bound i t) ⊎ IsShortTask above tasks bound i
-hit_or_short above tasks bound i = elim (least_below (λ t. IsHit above tasks bound i t) (is_hit above tasks bound i) (suc (task_at tasks i).deadline)) [
+hit_or_short above tasks bound i = elim (least_below (λ t. IsHit above tasks bound i t) (is_hit above tasks bound i) (suc (room_of (task_at tasks i)))) [
   | inl r ↦ inl (r.0, r.2)
   | inr none ↦ inr (λ u lu hu. elim (cases_lt (bound u) (rbf above tasks i u)) [ inl q ↦ q | inr q ↦ absurd (none u (omega arith) (record { some_slots = lu; in_deadline = hu; enough = q })) ])
 ]

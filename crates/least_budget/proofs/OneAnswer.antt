@@ -4,7 +4,7 @@ use Rattle.std.proofs.Common.{◌≡◌, ℕ, suc, ◌≤◌, Bool, List, refl, 
 use Rattle.slot_model.specs.declared.job.Job.{Job}
 use Rattle.slot_model.specs.declared.sched.Sched.{Sched}
 use Rattle.slot_model.specs.declared.sched.Short.{Short}
-use Rattle.slot_model.specs.Task.{SporadicTask}
+use Rattle.slot_model.specs.Task.{SporadicTask, AreConstrained}
 use Rattle.slot_model.specs.Supply.{GivesBudget}
 use Rattle.slot_model.specs.Bound.{sbf, IsShortfall, IsLeastBudget}
 use Rattle.slot_model.specs.Miss.{NoJobLost, MustMiss}
@@ -42,8 +42,8 @@ one_least_answer sched tasks period l Wide (Budget b) p q = absurd (p q.0)
 one_least_answer sched tasks period l Wide (Over short) p q = absurd (p q.0)
 one_least_answer sched tasks period l Wide Wide p q = refl
 
-pub foretells_one : (Conforms : List Bool → Type 0) (before : Job → Job → Bool) (tasks : List SporadicTask) (short : Short) → Foretells Conforms before tasks AllPasses → Foretells Conforms before tasks (FirstShort short) → ⊥
-foretells_one Conforms before tasks short keeps must = loses_none_or_misses Conforms before tasks keeps must
+pub foretells_one : (Conforms : List Bool → Type 0) (before : Job → Job → Bool) (tasks : List SporadicTask) → AreConstrained tasks → (short : Short) → Foretells Conforms before tasks AllPasses → Foretells Conforms before tasks (FirstShort short) → ⊥
+foretells_one Conforms before tasks fits short keeps must = loses_none_or_misses Conforms before tasks fits keeps must
 
 -- at the least budget, one slot below it, and with the whole period
 pub separates_at_the_least : (before : Job → Job → Bool) (tasks : List SporadicTask) (period b : ℕ) → suc b ≤ period → Separates before tasks period (Budget (suc b)) → MustMiss (GivesBudget period b) before tasks × NoJobLost (GivesBudget period (suc b)) before tasks

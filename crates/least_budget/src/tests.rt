@@ -16,6 +16,12 @@ fn budgets_of_small_levels(rt: HostRuntime) -> Result<(), Fail> {
     let two = [task(50, 50, 7)?, task(75, 75, 9)?];
     assert_eq!(rt; least_budget(Sched::Edf, &two, 10), Least::Budget(3));
     assert_eq!(rt; least_budget(Sched::Rm, &two, 10), Least::Budget(4));
+    let jittery = [
+        Task::with_jitter(50, 50, 7, 5).ok_or(OUT)?,
+        task(75, 75, 9)?,
+    ];
+    assert_eq!(rt; least_budget(Sched::Edf, &jittery, 10), Least::Budget(3));
+    assert_eq!(rt; least_budget(Sched::Rm, &jittery, 10), Least::Budget(4));
     let none: [Task; 0] = [];
     let whole = [task(5, 5, 5)?];
     let long = [task(1_000_000_000, 1_000_000_000, 1_000_000_000)?];
