@@ -1,4 +1,5 @@
 -- Files and documents worked out by the checker: good ones, and refused ones with the fault that counts first.
+use Rattle.slot_model.specs.Task.{plain_task}
 use Rattle.std.specs.Prelude.{◌≡◌, codes, [], ◌∷◌, List, ℕ, pos, Ok, Err, Some, None, false, refl}
 use Rattle.slot_model.specs.declared.sched.Sched.TheVariants.{Edf, Rm}
 use Rattle.std.specs.Str.{is_utf8, chars}
@@ -57,7 +58,7 @@ a_leaf : system_of_document (Some (document one_core (item (inner (codes "m") (c
     ≡ Ok (record {
       cores = record { name = codes "cpu0"; sched = Edf; supply = None } ∷ [];
       parts = record { name = codes "m"; parent = on_core 0; sched = Rm; period = 10; budget = None; extra = false; tasks = [] }
-          ∷ record { name = codes "x"; parent = on_part 0; sched = Rm; period = 10; budget = None; extra = false; tasks = record { name = codes "t"; task = record { period = 10; deadline = 10; work = 1 } } ∷ [] } ∷ [];
+          ∷ record { name = codes "x"; parent = on_part 0; sched = Rm; period = 10; budget = None; extra = false; tasks = record { name = codes "t"; task = plain_task 10 10 1 } ∷ [] } ∷ [];
     })
 a_leaf = refl
 

@@ -6,7 +6,7 @@ use Rattle.std.proofs.lemmas.List.{map-append, get_or-map, get_or-take, get_or-a
 use Rattle.std.proofs.Math.Seq.{take-append-add}
 use Rattle.std.specs.Prelude.{position}
 use Rattle.std.specs.List.{list_any}
-use Rattle.slot_model.specs.Task.{SporadicTask, IsConstrained, task_at}
+use Rattle.slot_model.specs.Task.{default_task, SporadicTask, IsConstrained, task_at}
 use Rattle.slot_model.specs.declared.task.TheConstants.{LIMIT}
 use Rattle.toml.specs.Data.{Data, string, integer, float, boolean, datetime, array, table, Members, get}
 use Rattle.tree_model.specs.declared.pinned_core.Core.{Core as CoreView}
@@ -53,7 +53,7 @@ task_fits : (q : ℕ) (earlier : List Data) (d : Data) (w : IsWrittenTask d) →
 task_fits q earlier d w new fits =
     let spot = Task q (length earlier) in
     let works = fits.0.works in
-    let in_deadline = fits.0.in_deadline in
+    let in_deadline : number_of (get (codes "work") d) ≤ deadline_of d = omega (arith, fits.0.in_deadline) in
     let in_period = fits.0.in_period in
     let some_deadline : 1 ≤ deadline_of d = omega arith in
     let some_period : 1 ≤ number_of (get (codes "period") d) = omega arith in
@@ -102,7 +102,7 @@ tasks_fit cores all q d part written =
     none_in_order (task_faults q) [] (tasks_of d) (boolean false) (λ i h.
     let within : i < length (map spelled_task (tasks_of d)) = rw (length_map spelled_task (tasks_of d)) h in
     let same : task_at (own_tasks (spelled_part cores all d)) i ≡ (spelled_task (get_or (tasks_of d) i (boolean false))).task =
-    get_or-map (λ (t : NamedTask). t.task) (map spelled_task (tasks_of d)) i (spelled_task (boolean false)) (record { period = 1; deadline = 1; work = 1 }) within
+    get_or-map (λ (t : NamedTask). t.task) (map spelled_task (tasks_of d)) i (spelled_task (boolean false)) default_task within
     ∙ ap (λ (t : NamedTask). t.task) (get_or-map spelled_task (tasks_of d) i (boolean false) (spelled_task (boolean false)) h) in
     let fits : SporadicTask → Type 0 = λ t. IsConstrained t × (t.period ≤ LIMIT) in
     task_fits q (take i (tasks_of d)) (get_or (tasks_of d) i (boolean false)) (written i h)

@@ -14,7 +14,7 @@ use Rattle.system_file.specs.declared.fault.Spot.{Spot}
 use Rattle.system_file.specs.declared.fault.Spot.TheVariants.{Part}
 use Rattle.system_file.specs.Document.{is_named, array_of, flag_of, given_number, tasks_of, parent_named, spelled_task, spelled_part}
 use Rattle.system_file.specs.Faults.{optional, array_faults, in_order, flag_faults, parent_faults, task_faults, part_keys, part_key_faults, part_faults, has_only, has_tasks, range_faults}
-use Rattle.system_file.specs.Printed.{with_some, number, some_number, true_flag, some_array, sched_word, printed_task, server_members, part_members, printed_part, parent_name, TasksAreNamed, IsPartNamed}
+use Rattle.system_file.specs.Printed.{with_some, number, some_number, true_flag, some_array, sched_word, printed_task, server_members, part_members, printed_part, parent_name, TasksAreNamed, IsPartNamed, PartIsPlain}
 use Rattle.system_file.proofs.First.{none_both}
 use Rattle.system_file.proofs.PrintedMembers.{other_key, own_key, listed_key}
 use Rattle.system_file.proofs.PrintedKeys.{range_ok, new_name_ok, sched_ok, sched_back}
@@ -72,8 +72,10 @@ part_has_tasks sys part = rw (part_tasks sys part) (by part.tasks)
     by (t ∷ ts) = grind (arith, nat_tests)
 
 -- its tasks
-pub tasks_back : (tasks : List NamedTask) → map spelled_task (map printed_task tasks) ≡ tasks
-tasks_back tasks = all_spelled spelled_task printed_task [] tasks (λ earlier t later e. task_spelled t)
+pub tasks_back : (part : PartView) → PartIsPlain part → map spelled_task (map printed_task part.tasks) ≡ part.tasks
+tasks_back part plain = all_spelled spelled_task printed_task [] part.tasks (λ earlier t later e.
+    let numbers : task_at (own_tasks part) (length earlier) ≡ t.task = get_or-map (λ (u : NamedTask). u.task) part.tasks (length earlier) t _ (within part.tasks earlier t later e) ∙ ap (λ (u : NamedTask). u.task) (stands_at part.tasks earlier t later t e) in
+    task_spelled t (subst (λ (u : SporadicTask). u.jitter ≡ 0) numbers (plain (length earlier))))
 
 pub tasks_faultless : (q : ℕ) (part : PartView) → IsPart part → TasksAreNamed part.tasks → in_order (task_faults q) [] (map printed_task part.tasks) ≡ []
 tasks_faultless q part is named = all_faultless (task_faults q) printed_task [] part.tasks each
@@ -139,7 +141,7 @@ flag_back : (flag : Bool) → flag_of (true_flag flag) ≡ flag
 flag_back true = refl
 flag_back false = refl
 
-pub part_spelled : (sys : SystemView) (cores parts : List Data) (part : PartView) → parent_named cores parts (parent_name sys part.parent) ≡ Some part.parent → spelled_part cores parts (printed_part sys part) ≡ part
-part_spelled sys cores parts part found =
+pub part_spelled : (sys : SystemView) (cores parts : List Data) (part : PartView) → PartIsPlain part → parent_named cores parts (parent_name sys part.parent) ≡ Some part.parent → spelled_part cores parts (printed_part sys part) ≡ part
+part_spelled sys cores parts part plain found =
     rw (part_name sys part, part_parent sys part, part_sched sys part, part_period sys part, part_budget sys part, part_extra sys part, part_tasks sys part)
-    (rw (found, sched_back part.sched, budget_back part.budget, flag_back part.extra, tasks_back part.tasks))
+    (rw (found, sched_back part.sched, budget_back part.budget, flag_back part.extra, tasks_back part plain))

@@ -14,7 +14,7 @@ use Rattle.tree_model.specs.System.{IsSystem, IsPart, part_at, is_leaf, Stands, 
 use Rattle.system_file.specs.declared.fault.Spot.TheVariants.{Top, Part}
 use Rattle.system_file.specs.Document.{is_named, is_text, text_of, spelled_part, spelled_system, cores_of, parts_of}
 use Rattle.system_file.specs.Faults.{faults, part_faults, empty_faults, is_parent, in_order, top_faults, core_array_faults}
-use Rattle.system_file.specs.Printed.{printed_core, printed_part, printed, parent_name, IsPartNamed, CoresAreNamed, PartsAreNamed, top_members}
+use Rattle.system_file.specs.Printed.{printed_core, printed_part, printed, parent_name, IsPartNamed, CoresAreNamed, PartsAreNamed, PartIsPlain, IsPlain, top_members}
 use Rattle.tree_model.proofs.Distinct.{distinct_back}
 use Rattle.system_file.proofs.PrintedNames.{named_any, not_taken, new_among, equals_itself}
 use Rattle.system_file.proofs.PrintedWalk.{all_faultless, all_spelled, elements_back, within, stands_at}
@@ -52,13 +52,13 @@ stands_among : (sys : SystemView) (q : ℕ) → q < length sys.parts → (parent
 stands_among sys q h (on_core c) s = s
 stands_among sys q h (on_part r) s = let below : r < q = s.0 in omega arith
 
-parts_spelled : (sys : SystemView) → IsSystem sys → map (spelled_part (map printed_core sys.cores) (map (printed_part sys) sys.parts)) (map (printed_part sys) sys.parts) ≡ sys.parts
-parts_spelled sys is = all_spelled (spelled_part (map printed_core sys.cores) (map (printed_part sys) sys.parts)) (printed_part sys) [] sys.parts each
+parts_spelled : (sys : SystemView) → IsSystem sys → IsPlain sys → map (spelled_part (map printed_core sys.cores) (map (printed_part sys) sys.parts)) (map (printed_part sys) sys.parts) ≡ sys.parts
+parts_spelled sys is plain = all_spelled (spelled_part (map printed_core sys.cores) (map (printed_part sys) sys.parts)) (printed_part sys) [] sys.parts each
   where
     each : (earlier : List PartView) (part : PartView) (later : List PartView) → sys.parts ≡ earlier ++ part ∷ later → spelled_part (map printed_core sys.cores) (map (printed_part sys) sys.parts) (printed_part sys part) ≡ part
     each earlier part later e =
         let h : length earlier < length sys.parts = within sys.parts earlier part later e in
-        part_spelled sys (map printed_core sys.cores) (map (printed_part sys) sys.parts) part
+        part_spelled sys (map printed_core sys.cores) (map (printed_part sys) sys.parts) part (subst PartIsPlain (stands_at sys.parts earlier part later no_part e) (plain (length earlier)))
         (parent_found sys is sys.parts [] (sym (append-nil sys.parts)) part.parent
         (stands_among sys (length earlier) h part.parent (subst (λ (p : PartView). Stands sys (length earlier) p.parent) (stands_at sys.parts earlier part later no_part e) (is.parents (length earlier) h))))
 
@@ -127,6 +127,6 @@ printed_faultless sys is cores parts =
       none_empty sys is,
     )
 
-pub printed_spelled : (sys : SystemView) → IsSystem sys → spelled_system (table (printed sys)) ≡ sys
-printed_spelled sys is =
-    rw (cores_back (map printed_core sys.cores) (map (printed_part sys) sys.parts), parts_back (map printed_core sys.cores) (map (printed_part sys) sys.parts), cores_spelled sys.cores, parts_spelled sys is)
+pub printed_spelled : (sys : SystemView) → IsSystem sys → IsPlain sys → spelled_system (table (printed sys)) ≡ sys
+printed_spelled sys is plain =
+    rw (cores_back (map printed_core sys.cores) (map (printed_part sys) sys.parts), parts_back (map printed_core sys.cores) (map (printed_part sys) sys.parts), cores_spelled sys.cores, parts_spelled sys is plain)

@@ -10,7 +10,7 @@ use Rattle.tree_model.specs.declared.pinned_core.Core.{Core as CoreView}
 use Rattle.tree_model.specs.View.{NamedTask, PartView, SystemView}
 use Rattle.tree_model.specs.System.{IsSystem}
 use Rattle.system_file.specs.SystemFile.{system_of}
-use Rattle.system_file.specs.Printed.{printed_core, printed_task, printed_part, printed, top_members, CoresAreNamed, PartsAreNamed}
+use Rattle.system_file.specs.Printed.{printed_core, printed_task, printed_part, printed, top_members, CoresAreNamed, PartsAreNamed, IsPlain}
 use Rattle.system_file.proofs.Texts.{system_text}
 use Rattle.system_file.proofs.PrintedSystem.{printed_faultless, printed_spelled}
 
@@ -95,5 +95,5 @@ printed_dated sys = by sys.parts
     by (part ∷ parts) = rw (items_dated printed_core core_dated sys.cores, part_dated sys part, items_dated (printed_part sys) (part_dated sys) parts)
 
 -- a text that reads as the printed document reads as the system
-pub reads_back : (sys : SystemView) (text : List ℕ) → IsSystem sys → CoresAreNamed sys.cores → PartsAreNamed sys.parts → IsUtf8 text → parse_document text ≡ Some (printed sys) → system_of text ≡ Ok sys
-reads_back sys text is cores parts utf8 document = system_text text utf8 ∙ rw (document, printed_faultless sys is cores parts, printed_spelled sys is)
+pub reads_back : (sys : SystemView) (text : List ℕ) → IsSystem sys → CoresAreNamed sys.cores → PartsAreNamed sys.parts → IsPlain sys → IsUtf8 text → parse_document text ≡ Some (printed sys) → system_of text ≡ Ok sys
+reads_back sys text is cores parts plain utf8 document = system_text text utf8 ∙ rw (document, printed_faultless sys is cores parts, printed_spelled sys is plain)

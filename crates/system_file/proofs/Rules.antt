@@ -4,7 +4,7 @@ use Rattle.std.proofs.lemmas.List.{append-nil, get_or-map, get_or-take}
 use Rattle.std.proofs.lemmas.Slice.Eq.{bytes_eq-Decides}
 use Rattle.std.proofs.lemmas.Bool.{false≢true}
 use Rattle.std.specs.List.{list_any}
-use Rattle.slot_model.specs.Task.{SporadicTask, IsConstrained, task_at}
+use Rattle.slot_model.specs.Task.{default_task, SporadicTask, IsConstrained, task_at}
 use Rattle.slot_model.specs.declared.task.TheConstants.{LIMIT}
 use Rattle.toml.specs.Data.{Data, string, boolean, get}
 use Rattle.tree_model.specs.declared.place.Parent.{Parent}
@@ -66,7 +66,7 @@ task_numbers q earlier d h =
     let period = required_number (Task q (length earlier)) LIMIT (get (codes "period") d) (none_left _ _ numbers) in
     let deadline = number_or (Task q (length earlier)) (number_of (get (codes "period") d)) (get (codes "deadline") d) period.0 (none_left _ _ (none_right _ _ numbers)) in
     let work = required_number (Task q (length earlier)) (deadline_of d) (get (codes "work") d) (none_right _ _ (none_right _ _ numbers)) in
-    (record { works = work.0; in_deadline = work.1; in_period = deadline.1 }, period.1)
+    (record { works = work.0; in_deadline = omega (arith, work.1); in_period = deadline.1 }, period.1)
 
 -- a part's parent: a core, or an earlier part without tasks
 pub record ParentThere (cores earlier : List Data) (d : Data) : Type 0 where
@@ -122,7 +122,7 @@ part_is cores all earlier d h =
       tasks = λ i within.
           let few : i < length (tasks_of d) = rw (length_map spelled_task (tasks_of d)) at within in
           let same : task_at (own_tasks (spelled_part cores all d)) i ≡ (spelled_task (get_or (tasks_of d) i (boolean false))).task =
-          get_or-map (λ (t : NamedTask). t.task) (map spelled_task (tasks_of d)) i (spelled_task (boolean false)) (record { period = 1; deadline = 1; work = 1 }) within
+          get_or-map (λ (t : NamedTask). t.task) (map spelled_task (tasks_of d)) i (spelled_task (boolean false)) default_task within
           ∙ ap (λ (t : NamedTask). t.task) (get_or-map spelled_task (tasks_of d) i (boolean false) (spelled_task (boolean false)) few) in
           let is : SporadicTask → Type 0 = λ t. IsConstrained t × (t.period ≤ LIMIT) in
           subst is (sym same) (task_numbers (length earlier) (take i (tasks_of d)) (get_or (tasks_of d) i (boolean false)) (each (task_faults (length earlier)) [] (tasks_of d) i (boolean false) few in_tasks));

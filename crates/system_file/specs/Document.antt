@@ -1,5 +1,6 @@
 -- What stands at the keys of a system file, and the system that a document without faults spells. A key that may be left
 -- out stands for its default; what is given for a value of another kind never counts, since it is a fault.
+use Rattle.slot_model.specs.Task.{plain_task}
 use Rattle.std.specs.Prelude.{ℕ, pos, Bool, false, if◌then◌else◌, List, [], ◌∷◌, map, position, codes, bytes_eq, Option, Some, None, option_map, unwrap_or}
 use Rattle.slot_model.specs.declared.sched.Sched.{Sched}
 use Rattle.slot_model.specs.declared.sched.Sched.TheVariants.{Edf, Rm, Dm, Listed}
@@ -80,7 +81,7 @@ abbrev pub deadline_of : Data → ℕ
 deadline_of d = unwrap_or (given_number (get (codes "deadline") d)) (number_of (get (codes "period") d))
 
 abbrev pub spelled_task : Data → NamedTask
-spelled_task d = record { name = text_of (get (codes "name") d); task = record { period = number_of (get (codes "period") d); deadline = deadline_of d; work = number_of (get (codes "work") d) } }
+spelled_task d = record { name = text_of (get (codes "name") d); task = plain_task (number_of (get (codes "period") d)) (deadline_of d) (number_of (get (codes "work") d)) }
 
 -- a core's supply: full where neither key is given
 abbrev pub supply_of : Option Data → Option Data → Option (ℕ × ℕ)

@@ -12,7 +12,8 @@ use Rattle.tree_model.specs.declared.pinned_core.Core.{Core as CoreView}
 use Rattle.tree_model.specs.declared.place.Parent.{Parent}
 use Rattle.tree_model.specs.declared.place.Parent.TheVariants.{Core, Part}
 use Rattle.tree_model.specs.View.{NamedTask, PartView, SystemView}
-use Rattle.tree_model.specs.System.{core_at, part_at}
+use Rattle.slot_model.specs.Task.{task_at}
+use Rattle.tree_model.specs.System.{core_at, part_at, own_tasks}
 
 -- a member put in the place of its key, among members whose keys ascend
 abbrev pub with_member : List ℕ → Data → Members → Members
@@ -112,3 +113,10 @@ CoresAreNamed cores = All (λ c. is_name c.name ≡ true) cores
 
 abbrev pub PartsAreNamed : List PartView → Type 0
 PartsAreNamed parts = All IsPartNamed parts
+
+-- no task has release jitter, which a file does not tell
+abbrev pub PartIsPlain : PartView → Type 0
+PartIsPlain part = (i : ℕ) → (task_at (own_tasks part) i).jitter ≡ 0
+
+abbrev pub IsPlain : SystemView → Type 0
+IsPlain sys = (q : ℕ) → PartIsPlain (part_at sys q)

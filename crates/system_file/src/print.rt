@@ -5,7 +5,7 @@ ghost use Rattle.toml.specs.Data.{string};
 ghost use Rattle.toml.specs.View.{view, table_view};
 ghost use Rattle.tree_model.specs.System.{IsSystem, IsPart, IsCoreSupply, no_core};
 ghost use Rattle.system_file.specs.SystemFile.{system_of};
-ghost use Rattle.system_file.specs.Printed.{with_member, with_some, number, some_number, true_flag, some_array, sched_word, with_supply, printed_core, printed_task, parent_name, printed_part, printed, IsNodeOf, TasksAreNamed, IsPartNamed, CoresAreNamed, PartsAreNamed};
+ghost use Rattle.system_file.specs.Printed.{with_member, with_some, number, some_number, true_flag, some_array, sched_word, with_supply, printed_core, printed_task, parent_name, printed_part, printed, IsNodeOf, TasksAreNamed, IsPartNamed, CoresAreNamed, PartsAreNamed, IsPlain};
 
 use slot_model::{Name, Sched};
 use std::alloc::{AllocError, Global};
@@ -15,10 +15,10 @@ use tree_model::{Core, Named, Parent, Part, System};
 #[cfg(test)]
 mod tests;
 
-/// A system file that spells the system. A key that may be left out is written only where it says
-/// something else than its absence.
+/// A system file that spells the system, where no task has jitter. A key that may be left out is
+/// written only where it says something else than its absence.
 pub fn print_system(alloc: Global, sys: &System) -> Result<Vec<u8>, AllocError>
-    ensures { IfOk result (λ text. system_of text.items ≡ Spelled sys.now) }
+    ensures { IfOk result (λ text. IsPlain sys.now → system_of text.items ≡ Spelled sys.now) }
 {
     let table = system_table(alloc, sys)?;
     match toml::table_to_string(alloc, &table) {

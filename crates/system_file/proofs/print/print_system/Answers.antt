@@ -11,7 +11,7 @@ use Rattle.system_file.proofs.print.print_system.Goals as goal
 pub returns-in-Ok : goal.returns-in-Ok
 returns-in-Ok c =
     let document : parse_document (string_bytes c.in-Ok.text) ≡ Some (printed c.args.sys.now) = c.in-Ok.ensures.reads_back (rw c.in_ok-table.ensures.printed (printed_depth c.args.sys.now)) ∙ ap Some c.in_ok-table.ensures.printed in
-    rw c.into_bytes.ensures.value (reads_back c.args.sys.now (string_bytes c.in-Ok.text) c.in_ok-table.ensures.system c.in_ok-table.ensures.cores c.in_ok-table.ensures.parts (IsUtf8-string_bytes c.in-Ok.text) document)
+    rw c.into_bytes.ensures.value (λ plain. reads_back c.args.sys.now (string_bytes c.in-Ok.text) c.in_ok-table.ensures.system c.in_ok-table.ensures.cores c.in_ok-table.ensures.parts plain (IsUtf8-string_bytes c.in-Ok.text) document)
 
 pub unreachable-requires : goal.unreachable-requires
 unreachable-requires c =
