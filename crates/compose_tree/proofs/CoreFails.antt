@@ -8,7 +8,7 @@ use Rattle.slot_model.specs.declared.sched.Short.{Short}
 use Rattle.slot_model.specs.declared.sched.Short.TheVariants.{At, Task}
 use Rattle.slot_model.specs.Slots.{slots_between}
 use Rattle.slot_model.specs.Supply.{IsFull, worst_slot}
-use Rattle.slot_model.specs.Task.{SporadicTask, AreConstrained, task_at}
+use Rattle.slot_model.specs.Task.{SporadicTask, AreConstrained, room_of, task_at}
 use Rattle.slot_model.specs.Order.{before_of, fixed_before, ranks_above}
 use Rattle.slot_model.specs.Release.{LegalRelease, synchronous}
 use Rattle.slot_model.specs.Run.{server, PermittedRun}
@@ -47,6 +47,7 @@ no_jobs tasks = record {
   named = λ j l. absurd (omega arith);
   works = λ j l. absurd (omega arith);
   in_work = λ j l. absurd (omega arith);
+  in_jitter = λ j l. absurd (omega arith);
   apart = λ i j l m. absurd (omega arith);
 }
 
@@ -72,8 +73,8 @@ some_inputs sys is n =
 count_full : (slots : List Bool) (t : ℕ) → IsFull slots → t ≤ length slots → slots_between slots 0 t ≡ t
 count_full slots t full l = subst (λ (z : ℕ). slots_between slots 0 z ≡ t) (zero-add t) (full_laws.worst_is_exact slots t full (omega arith))
 
-fixed_fails : (sched : Sched) (tasks : List SporadicTask) → AreConstrained tasks → (i n : ℕ) → IsShortPlace (ranks_above sched tasks) tasks (λ t. t) i → (task_at tasks i).deadline ≤ n → (slots : List Bool) (run : List (Option ℕ)) → length slots ≡ n → IsFull slots
-    → PermittedRun server (fixed_before (ranks_above sched tasks)) tasks (synchronous tasks 0 n) slots run → MissesBy tasks (synchronous tasks 0 n) run (task_at tasks i).deadline
+fixed_fails : (sched : Sched) (tasks : List SporadicTask) → AreConstrained tasks → (i n : ℕ) → IsShortPlace (ranks_above sched tasks) tasks (λ t. t) i → room_of (task_at tasks i) ≤ n → (slots : List Bool) (run : List (Option ℕ)) → length slots ≡ n → IsFull slots
+    → PermittedRun server (fixed_before (ranks_above sched tasks)) tasks (synchronous tasks 0 n) slots run → MissesBy tasks (synchronous tasks 0 n) run (room_of (task_at tasks i))
 fixed_fails sched tasks fits i n short l slots run long full permitted =
     core_fixed (ranks_above sched tasks) (ranks_is_rank sched tasks) tasks fits n slots run long permitted i short.is_task l
     (λ u some within. omega (arith, count_full slots u full (omega arith), short.short u some within))

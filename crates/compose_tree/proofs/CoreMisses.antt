@@ -1,7 +1,7 @@
 -- Where the server tasks of a core fall short of its slots, one of its jobs misses early in every permitted run.
-use Rattle.std.proofs.Common.{◌≡◌, ◌⊎◌, ℕ, suc, ◌+◌, ◌%◌, ◌<◌, ◌≤◌, Bool, List, length, get_or, Option, None, sym, ◌∙◌, ap, arith, subst, inl, inr, zero-add}
+use Rattle.std.proofs.Common.{◌≡◌, ◌⊎◌, ℕ, suc, ◌+◌, ◌%◌, ◌<◌, ◌≤◌, Bool, List, length, get_or, Option, None, refl, sym, ◌∙◌, ap, arith, subst, inl, inr, zero-add}
 use Rattle.std.proofs.lemmas.Bool.{cases_lt}
-use Rattle.slot_model.specs.Task.{SporadicTask, AreConstrained, job_at, task_at, deadline_of}
+use Rattle.slot_model.specs.Task.{SporadicTask, AreConstrained, room_of, job_at, task_at, deadline_of}
 use Rattle.slot_model.specs.declared.job.Job.{Job}
 use Rattle.slot_model.specs.Run.{service, holds, server, PermittedRun}
 use Rattle.slot_model.specs.Slots.{slots_between}
@@ -37,21 +37,18 @@ misses_by tasks jobs run t j = elim (cases_lt j (length jobs)) [
       ]
 ]
 
-zero_rest : (p : ℕ) → 0 % p ≡ 0
-zero_rest p = omega arith
-
 -- under a fixed rank not all jobs due by the deadline of a short task are in time
 core_fixed_none : (above : ℕ → ℕ → Bool) → IsRank above → (tasks : List SporadicTask) → AreConstrained tasks → (n : ℕ) (slots : List Bool) (run : List (Option ℕ)) → length slots ≡ n → PermittedRun server (fixed_before above) tasks (synchronous tasks 0 n) slots run
-    → (i : ℕ) → i < length tasks → (task_at tasks i).deadline ≤ n → ((u : ℕ) → 1 ≤ u → u ≤ (task_at tasks i).deadline → slots_between slots 0 u < rbf above tasks i u)
-    → ((k : ℕ) → Missed tasks (synchronous tasks 0 n) run k → deadline_of tasks (job_at (synchronous tasks 0 n) k) ≤ (task_at tasks i).deadline → ⊥) → ⊥
+    → (i : ℕ) → i < length tasks → room_of (task_at tasks i) ≤ n → ((u : ℕ) → 1 ≤ u → u ≤ room_of (task_at tasks i) → slots_between slots 0 u < rbf above tasks i u)
+    → ((k : ℕ) → Missed tasks (synchronous tasks 0 n) run k → deadline_of tasks (job_at (synchronous tasks 0 n) k) ≤ room_of (task_at tasks i) → ⊥) → ⊥
 core_fixed_none above ranks tasks fits n slots run len permitted i li dn short none =
     let W : List Job = synchronous tasks 0 n in
-    let d : ℕ = (task_at tasks i).deadline in
-    let h : In W (release_of tasks 0 0 i) = has_release tasks 0 n 0 i li (omega (arith, (fits i li).works, (fits i li).in_deadline)) (zero_rest (task_at tasks i).period) in
+    let d : ℕ = room_of (task_at tasks i) in
+    let h : In W (release_of tasks 0 0 i) = has_release tasks 0 n 0 i li (omega (arith, (fits i li).works, (fits i li).in_deadline)) refl in
     let mine : (job_at W h.place).task ≡ i = ap (λ (b : Job). b.task) h.is in
     let first : (job_at W h.place).release ≡ 0 = ap (λ (b : Job). b.release) h.is in
     let whole : (job_at W h.place).work ≡ (task_at tasks i).work = ap (λ (b : Job). b.work) h.is in
-    let dd : deadline_of tasks (job_at W h.place) ≡ d = omega (arith, first, ap (λ (z : ℕ). (task_at tasks z).deadline) mine) in
+    let dd : deadline_of tasks (job_at W h.place) ≡ d = omega (arith, first, ap (λ (b : Job). b.early) h.is, ap (λ (z : ℕ). (task_at tasks z).deadline) mine, (fits i li).works, (fits i li).in_deadline) in
     let late = fixed_late_at server above ranks tasks fits 0 n slots run (len ∙ sym (zero-add n)) permitted i d dn
     (λ k y lk ly q. elim (cases_lt y (deadline_of tasks (job_at W k))) [ inl o ↦ o | inr o ↦ absurd (none k (record { is_job = lk; in_run = omega (arith, permitted.same_length); short = omega (arith, q, count_below-mono (λ z. holds (get_or run z None) k) (deadline_of tasks (job_at W k)) (suc y) (omega arith)) }) (omega arith)) ])
     (λ u lu hu. subst (λ (z : ℕ). slots_between slots 0 z < rbf above tasks i u) (sym (zero-add u)) (short u lu hu)) h.place h.within mine first (omega (arith, whole, (fits i li).works)) in
@@ -62,8 +59,8 @@ core_fixed_none above ranks tasks fits n slots run len permitted i li dn short n
 
 -- so one of them misses by then
 pub core_fixed : (above : ℕ → ℕ → Bool) → IsRank above → (tasks : List SporadicTask) → AreConstrained tasks → (n : ℕ) (slots : List Bool) (run : List (Option ℕ)) → length slots ≡ n → PermittedRun server (fixed_before above) tasks (synchronous tasks 0 n) slots run
-    → (i : ℕ) → i < length tasks → (task_at tasks i).deadline ≤ n → ((u : ℕ) → 1 ≤ u → u ≤ (task_at tasks i).deadline → slots_between slots 0 u < rbf above tasks i u) → MissesBy tasks (synchronous tasks 0 n) run (task_at tasks i).deadline
-core_fixed above ranks tasks fits n slots run len permitted i li dn short = elim (search_below (λ k. Missed tasks (synchronous tasks 0 n) run k × (deadline_of tasks (job_at (synchronous tasks 0 n) k) ≤ (task_at tasks i).deadline)) (misses_by tasks (synchronous tasks 0 n) run (task_at tasks i).deadline) (length (synchronous tasks 0 n))) [
+    → (i : ℕ) → i < length tasks → room_of (task_at tasks i) ≤ n → ((u : ℕ) → 1 ≤ u → u ≤ room_of (task_at tasks i) → slots_between slots 0 u < rbf above tasks i u) → MissesBy tasks (synchronous tasks 0 n) run (room_of (task_at tasks i))
+core_fixed above ranks tasks fits n slots run len permitted i li dn short = elim (search_below (λ k. Missed tasks (synchronous tasks 0 n) run k × (deadline_of tasks (job_at (synchronous tasks 0 n) k) ≤ room_of (task_at tasks i))) (misses_by tasks (synchronous tasks 0 n) run (room_of (task_at tasks i))) (length (synchronous tasks 0 n))) [
   | inl r ↦ record { job = r.0; missed = r.2.0; by = r.2.1 }
   | inr none ↦ absurd (core_fixed_none above ranks tasks fits n slots run len permitted i li dn short (λ k h d. none k h.is_job (h, d)))
 ]

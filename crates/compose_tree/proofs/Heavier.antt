@@ -1,4 +1,4 @@
--- Tasks of the same periods and deadlines with no less work: what falls short for the lighter ones does so for them.
+-- Tasks of the same periods, deadlines and jitter with no less work: what falls short for the lighter ones does so for them.
 use Rattle.std.proofs.Common.{◌≡◌, ℕ, ◌+◌, ◌-◌, ◌/◌, ◌<◌, ◌≤◌, Bool, true, false, cond, leb, ltb, eqb, ◌&&◌, ◌||◌, List, [], ◌∷◌, ◌++◌, length, refl, sym, ◌∙◌, ap, arith, subst, inl, inr, mul-le-mul_left}
 use Rattle.std.proofs.lemmas.Bool.{cases_lt}
 use Rattle.std.proofs.lemmas.List.{get_or_append_left, get_or_push, length_push}
@@ -7,7 +7,7 @@ use Rattle.slot_model.specs.declared.sched.Sched.TheVariants.{Edf, Rm, Dm, Liste
 use Rattle.slot_model.specs.declared.sched.Short.{Short}
 use Rattle.slot_model.specs.declared.sched.Short.TheVariants.{At, Task}
 use Rattle.slot_model.specs.Slots.{sum_below}
-use Rattle.slot_model.specs.Task.{SporadicTask, task_at}
+use Rattle.slot_model.specs.Task.{SporadicTask, plain_task, default_task, room_of, task_at}
 use Rattle.slot_model.specs.Order.{ranks_by, ranks_above}
 use Rattle.slot_model.specs.Release.{push_if}
 use Rattle.slot_model.specs.Bound.{demand_of, dbf, request_of, rbf, IsShortTask, IsShortfall}
@@ -16,38 +16,38 @@ use Rattle.slot_model.proofs.Windows.{sum_by-places}
 
 -- the task at a place with other work
 abbrev pub with_work : List SporadicTask → ℕ → ℕ → SporadicTask
-with_work tasks i work = record { period = (task_at tasks i).period; deadline = (task_at tasks i).deadline; work = work }
+with_work tasks i work = record { period = (task_at tasks i).period; deadline = (task_at tasks i).deadline; work = work; jitter = (task_at tasks i).jitter }
 
 pub record Heavier (light heavy : List SporadicTask) : Type 0 where
   pub same_length : length light ≡ length heavy
   pub each : (i : ℕ) → i < length light → (work : ℕ) × (task_at heavy i ≡ with_work light i work) × ((task_at light i).work ≤ work)
 
 -- one more task of each
-heavier_push : (light heavy : List SporadicTask) (b : Bool) (period deadline less more : ℕ) → less ≤ more → Heavier light heavy → Heavier (push_if light b (record { period = period; deadline = deadline; work = less })) (push_if heavy b (record { period = period; deadline = deadline; work = more }))
+heavier_push : (light heavy : List SporadicTask) (b : Bool) (period deadline less more : ℕ) → less ≤ more → Heavier light heavy → Heavier (push_if light b (plain_task period deadline less)) (push_if heavy b (plain_task period deadline more))
 heavier_push light heavy false period deadline less more l h = h
 heavier_push light heavy true period deadline less more l h =
-    let a : SporadicTask = record { period = period; deadline = deadline; work = less } in
-    let b : SporadicTask = record { period = period; deadline = deadline; work = more } in
+    let a : SporadicTask = plain_task period deadline less in
+    let b : SporadicTask = plain_task period deadline more in
     record {
       same_length = omega (arith, h.same_length, length_push light a, length_push heavy b);
       each = λ i li. elim (cases_lt i (length light)) [
         | inl old ↦
             let w = h.each i old in
-            let e : task_at (light ++ a ∷ []) i ≡ task_at light i = get_or_append_left light (a ∷ []) (record { period = 1; deadline = 1; work = 1 }) i old in (
+            let e : task_at (light ++ a ∷ []) i ≡ task_at light i = get_or_append_left light (a ∷ []) default_task i old in (
               w.0,
-              get_or_append_left heavy (b ∷ []) (record { period = 1; deadline = 1; work = 1 }) i (omega (arith, h.same_length)) ∙ (w.1 ∙ ap (λ (t : SporadicTask). record { period = t.period; deadline = t.deadline; work = w.0 }) (sym e)),
+              get_or_append_left heavy (b ∷ []) default_task i (omega (arith, h.same_length)) ∙ (w.1 ∙ ap (λ (t : SporadicTask). record { period = t.period; deadline = t.deadline; work = w.0; jitter = t.jitter }) (sym e)),
               omega (arith, w.2, ap (λ (t : SporadicTask). t.work) e),
             )
         | inr new ↦
-            let e : task_at (light ++ a ∷ []) i ≡ a = get_or_push light a (record { period = 1; deadline = 1; work = 1 }) i (omega (arith, length_push light a)) in (
+            let e : task_at (light ++ a ∷ []) i ≡ a = get_or_push light a default_task i (omega (arith, length_push light a)) in (
               more,
-              get_or_push heavy b (record { period = 1; deadline = 1; work = 1 }) i (omega (arith, h.same_length, length_push light a)) ∙ ap (λ (t : SporadicTask). record { period = t.period; deadline = t.deadline; work = more }) (sym e),
+              get_or_push heavy b default_task i (omega (arith, h.same_length, length_push light a)) ∙ ap (λ (t : SporadicTask). record { period = t.period; deadline = t.deadline; work = more; jitter = t.jitter }) (sym e),
               omega (arith, ap (λ (t : SporadicTask). t.work) e),
             )
       ];
     }
 
-pub heavier_push_if : (light heavy : List SporadicTask) (b : Bool) (period deadline less more : ℕ) → (b ≡ true → less ≤ more) → Heavier light heavy → Heavier (push_if light b (record { period = period; deadline = deadline; work = less })) (push_if heavy b (record { period = period; deadline = deadline; work = more }))
+pub heavier_push_if : (light heavy : List SporadicTask) (b : Bool) (period deadline less more : ℕ) → (b ≡ true → less ≤ more) → Heavier light heavy → Heavier (push_if light b (plain_task period deadline less)) (push_if heavy b (plain_task period deadline more))
 heavier_push_if light heavy true period deadline less more l h = heavier_push light heavy true period deadline less more (l refl) h
 heavier_push_if light heavy false period deadline less more l h = h
 
@@ -56,15 +56,15 @@ cond_more : (b : Bool) (x y : ℕ) → x ≤ y → cond b x 0 ≤ cond b y 0
 cond_more true x y l = l
 cond_more false x y l = omega arith
 
-demand_more : (task : SporadicTask) (work t : ℕ) → task.work ≤ work → demand_of task t ≤ demand_of (record { period = task.period; deadline = task.deadline; work = work }) t
-demand_more task work t l = cond_more (leb task.deadline t) _ _ (mul-le-mul_left ((t - task.deadline) / task.period + 1) l)
+demand_more : (task : SporadicTask) (work t : ℕ) → task.work ≤ work → demand_of task t ≤ demand_of (record { period = task.period; deadline = task.deadline; work = work; jitter = task.jitter }) t
+demand_more task work t l = cond_more (leb task.deadline (t + task.jitter)) _ _ (mul-le-mul_left ((t + task.jitter - task.deadline) / task.period + 1) l)
 
-request_more : (task : SporadicTask) (work t : ℕ) → task.work ≤ work → request_of task t ≤ request_of (record { period = task.period; deadline = task.deadline; work = work }) t
-request_more task work t l = mul-le-mul_left ((t + (task.period - 1)) / task.period) l
+request_more : (task : SporadicTask) (work t : ℕ) → task.work ≤ work → request_of task t ≤ request_of (record { period = task.period; deadline = task.deadline; work = work; jitter = task.jitter }) t
+request_more task work t l = mul-le-mul_left ((t + task.jitter + (task.period - 1)) / task.period) l
 
 pub dbf_more : (light heavy : List SporadicTask) → Heavier light heavy → (t : ℕ) → dbf light t ≤ dbf heavy t
 dbf_more light heavy h t =
-    let d : SporadicTask = record { period = 1; deadline = 1; work = 1 } in
+    let d : SporadicTask = default_task in
     let term : (i : ℕ) → i < length light → demand_of (task_at light i) t ≤ demand_of (task_at heavy i) t = λ i l. subst (λ (b : SporadicTask). demand_of (task_at light i) t ≤ demand_of b t) (sym (h.each i l).1) (demand_more (task_at light i) (h.each i l).0 t (h.each i l).2) in
     omega (arith, sum_by-places (λ (b : SporadicTask). demand_of b t) d light, sum_by-places (λ (b : SporadicTask). demand_of b t) d heavy, sum_below-le (λ i. demand_of (task_at light i) t) (λ i. demand_of (task_at heavy i) t) (length light) term, ap (sum_below (λ i. demand_of (task_at heavy i) t)) h.same_length)
 
@@ -115,7 +115,7 @@ shortfall_falls Listed tasks bound (Task i) h = record { is_task = h.is_task; sh
 heavier_place : (sched : Sched) (light heavy : List SporadicTask) → Heavier light heavy → (bound : ℕ → ℕ) (i : ℕ) → IsShortPlace (ranks_above sched light) light bound i → IsShortPlace (ranks_above sched heavy) heavy bound i
 heavier_place sched light heavy h bound i s = record {
   is_task = omega (arith, s.is_task, h.same_length);
-  short = λ t some within. omega (arith, s.short t some (omega (arith, ap (λ (b : SporadicTask). b.deadline) (h.each i s.is_task).1)), rbf_more sched light heavy h i t s.is_task);
+  short = λ t some within. omega (arith, s.short t some (omega (arith, ap room_of (h.each i s.is_task).1)), rbf_more sched light heavy h i t s.is_task);
 }
 
 -- more work falls short where less does

@@ -5,7 +5,9 @@ use Rattle.slot_model.specs.Slots.{sum_below}
 use Rattle.slot_model.specs.declared.job.Job.{Job}
 use Rattle.slot_model.specs.declared.sched.Sched.TheVariants.{Edf}
 use Rattle.slot_model.specs.declared.sched.Short.{Short}
-use Rattle.slot_model.specs.Task.{SporadicTask, job_at, deadline_of}
+use Rattle.slot_model.specs.Task.{AreConstrained, plain_task, plain_job, SporadicTask, job_at, deadline_of}
+use Rattle.slot_model.specs.Release.{LegalRelease}
+use Rattle.slot_model.proofs.Synchronous.{legal_synchronous}
 use Rattle.slot_model.proofs.MissedJobs.{missed_is_lost}
 use Rattle.tree_model.specs.declared.place.Parent.TheVariants.{Core as on_core}
 use Rattle.tree_model.specs.declared.place.Place.TheVariants.{Core, Part}
@@ -40,10 +42,10 @@ more_than_a_given_budget_is_no_choice chosen = omega (arith, chosen)
 
 -- a job of 3 slots, released at 0 and due at 5 with a period of 9
 abbrev one_task : List SporadicTask
-one_task = record { period = 9; deadline = 5; work = 3 } ∷ []
+one_task = plain_task 9 5 3 ∷ []
 
 abbrev one_job : List Job
-one_job = record { task = 0; release = 0; work = 3 } ∷ []
+one_job = plain_job 0 0 3 ∷ []
 
 abbrev five_idle : List (Option ℕ)
 five_idle = None ∷ None ∷ None ∷ None ∷ None ∷ []
@@ -67,7 +69,7 @@ on_one_core supply tasks = record {
 }
 
 abbrev some_tasks : List NamedTask
-some_tasks = record { name = 116 ∷ []; task = record { period = 10; deadline = 10; work = 2 } } ∷ []
+some_tasks = record { name = 116 ∷ []; task = plain_task 10 10 2 } ∷ []
 
 a_leaf_on_a_full_core_is_flat : IsFlat (on_one_core None some_tasks)
 a_leaf_on_a_full_core_is_flat = record { cores = cores; parts = parts }
@@ -107,13 +109,14 @@ an_overfull_core_misses_in_the_shortest_run : (sys : SystemView) (c : ℕ) (shor
 an_overfull_core_misses_in_the_shortest_run sys c short o = o.misses (shows_by (server_tasks sys o.budgets (Core c)) short) (omega arith)
 
 -- a core that must miss loses a job, so no budgets that lose none make it miss
-a_core_that_must_miss_loses_a_job : (sys : SystemView) (budgets : List ℕ) (c t n : ℕ) → c < length sys.cores → CoreMustMiss sys budgets c t n → NoLoss sys budgets → ⊥
-a_core_that_must_miss_loses_a_job sys budgets c t n h must none =
+a_core_that_must_miss_loses_a_job : (sys : SystemView) (budgets : List ℕ) (c t n : ℕ) → c < length sys.cores → AreConstrained (server_tasks sys budgets (Core c)) → CoreMustMiss sys budgets c t n → NoLoss sys budgets → ⊥
+a_core_that_must_miss_loses_a_job sys budgets c t n h fits must none =
     let inputs = must.some_inputs in
     let run = must.some_run inputs.0 inputs.1 inputs.2 in
     let miss : MissesBy (server_tasks sys budgets (Core c)) (server_jobs sys budgets (Core c) n) (run_at run.0 c) t = must.misses inputs.0 inputs.1 run.0 run.1 inputs.2 run.2 in
+    let legal : LegalRelease (server_tasks sys budgets (Core c)) (server_jobs sys budgets (Core c) n) = legal_synchronous (server_tasks sys budgets (Core c)) fits 0 n in
     (none.keeps n inputs.0 inputs.1 run.0 run.1 inputs.2 run.2).cores c h miss.job (deadline_of (server_tasks sys budgets (Core c)) (job_at (server_jobs sys budgets (Core c) n) miss.job))
-    (missed_is_lost (server_tasks sys budgets (Core c)) (server_jobs sys budgets (Core c) n) (run_at run.0 c) miss.job miss.missed)
+    (missed_is_lost (server_tasks sys budgets (Core c)) (server_jobs sys budgets (Core c) n) (run_at run.0 c) miss.job (omega (arith, legal.in_jitter miss.job miss.missed.is_job, (fits _ (legal.named miss.job miss.missed.is_job)).in_deadline)) miss.missed)
 
 -- a refusal speaks of the node that it names
 the_second_core_is_overfull : (sys : SystemView) (short : Short) → RefusalHolds sys (Overfull (Core 1) short) → (core_at sys 1).supply ≡ None → CoreIsOverfull sys 1 short

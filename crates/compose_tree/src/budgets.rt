@@ -24,6 +24,7 @@ pub fn compose(alloc: Global, sys: &System) -> Result<Plan, Refusal>
         period: 1,
         deadline: 1,
         work: 1,
+        jitter: 0,
     };
     let Ok(mut budgets) = vec![in alloc; 0; sys.parts().len()] else {
         return Err(Refusal::NoMemory);
