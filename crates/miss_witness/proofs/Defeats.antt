@@ -4,7 +4,7 @@ use Rattle.slot_model.specs.declared.sched.Sched.{Sched}
 use Rattle.slot_model.specs.declared.sched.Sched.TheVariants.{Edf, Rm, Dm, Listed}
 use Rattle.slot_model.specs.declared.sched.Short.{Short}
 use Rattle.slot_model.specs.declared.sched.Short.TheVariants.{At, Task}
-use Rattle.slot_model.specs.Task.{SporadicTask, AreConstrained, task_at}
+use Rattle.slot_model.specs.Task.{SporadicTask, AreConstrained, room_of, task_at}
 use Rattle.slot_model.specs.Supply.{GivesBudget, SupplyLaws, worst_slot}
 use Rattle.slot_model.specs.Order.{before_of, ranks_above}
 use Rattle.slot_model.specs.Bound.{sbf, IsShortfall, shows_by}
@@ -34,14 +34,14 @@ pub budget_defeated : (sched : Sched) (tasks : List SporadicTask) → AreConstra
 budget_defeated sched tasks fits period budget l m short span e h =
     subst (λ (z : ℕ). (slots : List Bool) → WorstList (worst_slot period budget) budget z slots → GivesBudget period budget slots × MissesFromStart (worst_slot period budget) budget z (before_of sched tasks) tasks slots) e (shortfall_defeats sched tasks fits (periodic_laws period budget l m) short h)
 
--- a task that is short first is one of the tasks, and its window ends at its deadline
+-- a task that is short first is one of the tasks, and its window is what its deadline leaves past its jitter
 pub short_task_inside : (sched : Sched) (tasks : List SporadicTask) (bound : ℕ → ℕ) (i : ℕ) → IsShortfall sched tasks bound (Task i) → i < length tasks
 short_task_inside Edf tasks bound i h = absurd h
 short_task_inside Rm tasks bound i h = h.is_task
 short_task_inside Dm tasks bound i h = h.is_task
 short_task_inside Listed tasks bound i h = h.is_task
 
-pub short_task_window : (sched : Sched) (tasks : List SporadicTask) (bound : ℕ → ℕ) (i span : ℕ) → (task_at tasks i).deadline ≡ span → IsShortfall sched tasks bound (Task i) → IsShortWindow sched tasks bound span (Some i)
+pub short_task_window : (sched : Sched) (tasks : List SporadicTask) (bound : ℕ → ℕ) (i span : ℕ) → room_of (task_at tasks i) ≡ span → IsShortfall sched tasks bound (Task i) → IsShortWindow sched tasks bound span (Some i)
 short_task_window Edf tasks bound i span e h = absurd h
 short_task_window Rm tasks bound i span e h = (h, sym e)
 short_task_window Dm tasks bound i span e h = (h, sym e)

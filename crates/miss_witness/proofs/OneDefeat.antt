@@ -3,7 +3,7 @@ use Rattle.std.proofs.Common.{◌≡◌, ℕ, Bool, List, Option, Some, None, re
 use Rattle.slot_model.specs.declared.sched.Sched.{Sched}
 use Rattle.slot_model.specs.declared.sched.Sched.TheVariants.{Edf, Rm, Dm, Listed}
 use Rattle.slot_model.specs.declared.sched.Short.TheVariants.{At, Task}
-use Rattle.slot_model.specs.Task.{SporadicTask, task_at}
+use Rattle.slot_model.specs.Task.{SporadicTask, room_of, task_at}
 use Rattle.slot_model.specs.Order.{ranks_above}
 use Rattle.slot_model.specs.Bound.{sbf, IsFirstShortTask}
 use Rattle.slot_model.proofs.Budgets.{one_shortfall}
@@ -22,7 +22,7 @@ one_task_window above tasks bound one s t None b p q = absurd p
 one_task_window above tasks bound one s t (Some i) None p q = absurd q
 one_task_window above tasks bound one s t (Some i) (Some k) p q =
     let same : i ≡ k = one i k p.0 q.0 in
-    (p.1 ∙ (ap (λ (z : ℕ). (task_at tasks z).deadline) same ∙ sym q.1), ap Some same)
+    (p.1 ∙ (ap (λ (z : ℕ). room_of (task_at tasks z)) same ∙ sym q.1), ap Some same)
 
 one_window : (sched : Sched) (tasks : List SporadicTask) (bound : ℕ → ℕ) (s t : ℕ) (a b : Option ℕ) → IsShortWindow sched tasks bound s a → IsShortWindow sched tasks bound t b → (s ≡ t) × (a ≡ b)
 one_window Edf tasks bound s t (Some i) b p q = absurd p

@@ -6,7 +6,7 @@ use Rattle.std.proofs.lemmas.Bool.{cases_eq}
 use Rattle.std.proofs.lemmas.List.Elements.{All-nil, All-push, All-weaker}
 use Rattle.std.proofs.lemmas.List.Quantifiers.{all_pairs_push}
 use Rattle.slot_model.specs.Task.{SporadicTask, task_at}
-use Rattle.slot_model.specs.Release.{push_if, release_of, releases_at, synchronous}
+use Rattle.slot_model.specs.Release.{push_if, releases_now, release_of, releases_at, synchronous}
 use Rattle.slot_model.specs.declared.job.Job.{Job}
 use Rattle.miss_witness.proofs.Bags.{InOrder}
 
@@ -48,7 +48,7 @@ stand_if tasks start x i jobs false h = record { earlier = All-weaker (Earlier s
 stand_moment : (tasks : List SporadicTask) (start x i : ℕ) (jobs : List Job) → Stands start x 0 jobs → Stands start x i (releases_at tasks start x i jobs)
 unfolding releases_at
 stand_moment tasks start x zero jobs h = h
-stand_moment tasks start x (suc i) jobs h = stand_if tasks start x i (releases_at tasks start x i jobs) (eqb (x % (task_at tasks i).period) 0) (stand_moment tasks start x i jobs h)
+stand_moment tasks start x (suc i) jobs h = stand_if tasks start x i (releases_at tasks start x i jobs) (releases_now (task_at tasks i) x) (stand_moment tasks start x i jobs h)
 
 stand : (tasks : List SporadicTask) (start x : ℕ) → Stands start x 0 (synchronous tasks start x)
 unfolding synchronous

@@ -2,15 +2,15 @@
 use Rattle.std.specs.Prelude.{◌≡◌, ℕ, ◌+◌, Bool, List, Option, Some, None}
 use Rattle.slot_model.specs.declared.sched.Sched.{Sched}
 use Rattle.slot_model.specs.declared.sched.Sched.TheVariants.{Edf, Rm, Dm, Listed}
-use Rattle.slot_model.specs.Task.{SporadicTask, task_at}
+use Rattle.slot_model.specs.Task.{SporadicTask, room_of, task_at}
 use Rattle.slot_model.specs.Order.{ranks_above}
 use Rattle.slot_model.specs.Bound.{sbf, IsFirstShortPoint, IsFirstShortTask}
 use Rattle.miss_witness.specs.declared.defeat.Defeat.{Defeat}
 
--- the window that is short: up to the least short point under edf, else up to the deadline of the first task without a hit
+-- the window that is short: up to the least short point under edf, else what the deadline of the first task without a hit leaves past its jitter
 abbrev pub IsShortTaskWindow : (ℕ → ℕ → Bool) → List SporadicTask → (ℕ → ℕ) → ℕ → Option ℕ → Type 0
 IsShortTaskWindow above tasks bound span None = ⊥
-IsShortTaskWindow above tasks bound span (Some i) = IsFirstShortTask above tasks bound i × (span ≡ (task_at tasks i).deadline)
+IsShortTaskWindow above tasks bound span (Some i) = IsFirstShortTask above tasks bound i × (span ≡ room_of (task_at tasks i))
 
 abbrev pub IsShortWindow : Sched → List SporadicTask → (ℕ → ℕ) → ℕ → Option ℕ → Type 0
 IsShortWindow Edf tasks bound span None = IsFirstShortPoint tasks bound span

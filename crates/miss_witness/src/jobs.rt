@@ -7,8 +7,9 @@ use crate::Defeat;
 use slot_model::{Job, Task};
 use std::alloc::{AllocError, Global};
 
-/// The jobs of a defeat: every task releases at its start and then once a period within its span,
-/// always with full work. They stand by release, and of one moment by place.
+/// The jobs of a defeat: every task releases at its start, with its whole jitter behind it, and then
+/// as its jobs arrive, once a period, within its span, always with full work. They stand by release,
+/// and of one moment by place.
 pub fn witness_jobs(alloc: Global, tasks: &[Task], w: &Defeat) -> Result<Vec<Job>, AllocError>
     requires in_reach { w.now.start + w.now.span ≤ 1000000 }
     requires few { length tasks.now ≤ 256 }
@@ -25,15 +26,15 @@ pub fn witness_jobs(alloc: Global, tasks: &[Task], w: &Defeat) -> Result<Vec<Job
     Ok(jobs)
 }
 
-/// How many jobs the tasks release in `span` slots.
+/// How many jobs the tasks release in `span` slots, one of each in no slot too.
 fn job_count(tasks: &[Task], span: u64) -> usize
     requires in_reach { span ≤ 1000000 }
     requires few { length tasks.now ≤ 256 }
-    ensures { result ≡ sum_by (λ task. (span + (task.period - 1)) / task.period) tasks.now }
+    ensures { result ≡ sum_by (λ task. (span + task.jitter + (task.period - 1)) / task.period) tasks.now }
 {
     let mut count = 0;
     for task in tasks {
-        count += span.div_ceil(task.period) as usize;
+        count += (span + task.jitter).div_ceil(task.period) as usize;
     }
     count
 }
@@ -53,13 +54,16 @@ fn push_releases(
 {
     let task = tasks[place];
     let mut after = 0;
+    let mut early = task.jitter;
     while after < span {
         jobs.push(Job {
             task: place as u32,
             release: start + after,
             work: task.work,
+            early,
         })?;
-        after += task.period;
+        after += task.period - early;
+        early = 0;
     }
     Ok(())
 }

@@ -39,12 +39,15 @@ pub fn witness(sched: Sched, tasks: &[Task], period: u64, least: u64) -> Defeat
             span,
             task: None,
         },
-        Tested::Short(Short::Task(task)) => Defeat {
-            budget,
-            start,
-            span: tasks[task as usize].deadline as u128,
-            task: Some(task),
-        },
+        Tested::Short(Short::Task(task)) => {
+            let late = tasks[task as usize];
+            Defeat {
+                budget,
+                start,
+                span: (late.deadline - late.jitter) as u128,
+                task: Some(task),
+            }
+        }
         Tested::Passes | Tested::Wide => unreachable!(),
     }
 }

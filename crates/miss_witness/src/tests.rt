@@ -47,6 +47,14 @@ fn defeats_of_the_next_smaller_budget(rt: HostRuntime) -> Result<(), Fail> {
         defeat_of(Sched::Rm, &tasks, 10),
         Some(defeat(3, 75, Some(1)))
     );
+    let jittery = [
+        Task::with_jitter(50, 50, 7, 5).ok_or(OUT)?,
+        task(75, 75, 9)?,
+    ];
+    assert_eq!(rt;
+        defeat_of(Sched::Edf, &jittery, 10),
+        Some(defeat(2, 45, None))
+    );
     let whole = [task(5, 5, 5)?];
     assert_eq!(rt; defeat_of(Sched::Edf, &whole, 5), Some(defeat(4, 5, None)));
     Ok(())
@@ -64,7 +72,37 @@ fn jobs_by_release_and_then_by_place(rt: HostRuntime) -> Result<(), Fail> {
             Job {
                 task,
                 release,
-                work
+                work,
+                early: 0
+            }
+        );
+    }
+    Ok(())
+}
+
+#[test]
+fn the_first_job_has_its_jitter_behind_it(rt: HostRuntime) -> Result<(), Fail> {
+    let tasks = [
+        Task::with_jitter(50, 50, 7, 5).ok_or(OUT)?,
+        task(75, 75, 9)?,
+    ];
+    let jobs = witness_jobs(rt.alloc(), &tasks, &defeat(2, 96, None))?;
+    let wanted = [
+        (0, 2, 7, 5),
+        (1, 2, 9, 0),
+        (0, 47, 7, 0),
+        (1, 77, 9, 0),
+        (0, 97, 7, 0),
+    ];
+    assert_eq!(rt; jobs.len(), wanted.len());
+    for (job, (task, release, work, early)) in jobs.iter().zip(wanted) {
+        assert_eq!(rt;
+            *job,
+            Job {
+                task,
+                release,
+                work,
+                early
             }
         );
     }

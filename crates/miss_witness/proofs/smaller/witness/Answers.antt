@@ -1,10 +1,11 @@
 use Rattle.std.proofs.Common.{ℕ, ◌-◌, ◌<◌, length, arith, ap, subst, refl}
 use Rattle.slot_model.specs.declared.sched.Short.{Short}
 use Rattle.slot_model.specs.declared.sched.Short.TheVariants.{Task}
-use Rattle.slot_model.specs.Task.{sporadic_tasks, SporadicTask}
+use Rattle.slot_model.specs.Task.{sporadic_tasks, room_of}
 use Rattle.slot_model.specs.Bound.{sbf, IsShortfall, shows_by}
 use Rattle.slot_model.proofs.Constrained.{are_constrained}
-use Rattle.fp_request.proofs.Parts.{sporadic_tasks-length, task_at-is}
+use Rattle.slot_model.proofs.LegalJobs.{task_at-read}
+use Rattle.fp_request.proofs.Parts.{sporadic_tasks-length}
 use Rattle.miss_witness.proofs.Defeats.{budget_defeated, short_task_inside, short_task_window}
 use Rattle.miss_witness.proofs.smaller.witness.Goals as goal
 
@@ -21,7 +22,7 @@ returns-in-Short-Task-clause-defeat c =
     record {
       next_smaller = omega arith;
       at_start = refl;
-      short = short_task_window c.args.sched (sporadic_tasks c.args.tasks.now) (sbf c.args.period (c.args.least - 1)) i _ (ap (λ (t : SporadicTask). t.deadline) (task_at-is c.args.tasks.now i c.index-tasks-task.result (omega (arith, inside, sporadic_tasks-length c.args.tasks.now)))) short;
+      short = short_task_window c.args.sched (sporadic_tasks c.args.tasks.now) (sbf c.args.period (c.args.least - 1)) i _ (ap room_of (task_at-read c.args.tasks.now i c.index-tasks-task.result (omega (arith, inside, sporadic_tasks-length c.args.tasks.now)) c.index-tasks-task.is)) short;
     }
 
 pub returns-in-Short-Task-clause-misses : goal.returns-in-Short-Task-clause-misses
@@ -30,4 +31,4 @@ returns-in-Short-Task-clause-misses c =
     let short : IsShortfall c.args.sched (sporadic_tasks c.args.tasks.now) (sbf c.args.period (c.args.least - 1)) (Task i) = subst (λ (s : Short). IsShortfall c.args.sched (sporadic_tasks c.args.tasks.now) (sbf c.args.period (c.args.least - 1)) s) c.in-Short-Task.field-0-is c.in-Short-Task.ensures.exact.1 in
     let inside : i < length (sporadic_tasks c.args.tasks.now) = short_task_inside c.args.sched (sporadic_tasks c.args.tasks.now) (sbf c.args.period (c.args.least - 1)) i short in
     budget_defeated c.args.sched (sporadic_tasks c.args.tasks.now) (are_constrained c.args.tasks.now) c.args.period (c.args.least - 1) (omega arith) (omega arith) (Task i) _
-    (ap (λ (t : SporadicTask). t.deadline) (task_at-is c.args.tasks.now i c.index-tasks-task.result (omega (arith, inside, sporadic_tasks-length c.args.tasks.now)))) short
+    (ap room_of (task_at-read c.args.tasks.now i c.index-tasks-task.result (omega (arith, inside, sporadic_tasks-length c.args.tasks.now)) c.index-tasks-task.is)) short
