@@ -1,4 +1,5 @@
 -- Worked texts: each is spelled out by hand, and what defines it comes to just this.
+use Rattle.slot_model.specs.Task.{plain_task}
 use Rattle.std.proofs.Common.{◌≡◌, ℕ, false, List, [], ◌∷◌, Option, Some, None, refl}
 use Rattle.std.specs.Prelude.{codes}
 use Rattle.std.specs.Fmt.{digits}
@@ -19,7 +20,7 @@ use Rattle.rt_report.specs.Fault.{fault_text}
 use Rattle.rt_report.specs.Words.{served_name}
 
 abbrev task : List ℕ → ℕ → ℕ → NamedTask
-task name period work = record { name = name; task = record { period = period; deadline = period; work = work } }
+task name period work = record { name = name; task = plain_task period period work }
 
 abbrev part : List ℕ → Parent → ℕ → Option ℕ → List NamedTask → PartView
 part name parent period budget tasks = record { name = name; parent = parent; sched = Rm; period = period; budget = budget; extra = false; tasks = tasks }

@@ -11,7 +11,7 @@ use Rattle.slot_model.specs.declared.sched.Short.TheVariants.{At, Task}
 use Rattle.slot_model.specs.declared.miss.Miss.{Miss}
 use Rattle.slot_model.specs.declared.job.Job.{Job}
 use Rattle.slot_model.specs.Supply.{worst_slot}
-use Rattle.slot_model.specs.Task.{SporadicTask, task_at}
+use Rattle.slot_model.specs.Task.{room_of, SporadicTask, task_at}
 use Rattle.slot_model.specs.Order.{before_of, ranks_above}
 use Rattle.slot_model.specs.Release.{synchronous}
 use Rattle.slot_model.specs.Run.{guest, FirstRun}
@@ -48,7 +48,7 @@ one_task_window above tasks bound s t None k one p q = absurd p
 one_task_window above tasks bound s t (Some i) None one p q = absurd q
 one_task_window above tasks bound s t (Some i) (Some k) one p q =
     let same = one i k p.0 q.0 in
-    (p.1 ∙ ap (λ (z : ℕ). (task_at tasks z).deadline) same ∙ sym q.1, ap Some same)
+    (p.1 ∙ ap (λ (z : ℕ). room_of (task_at tasks z)) same ∙ sym q.1, ap Some same)
 
 one_window : (sched : Sched) (tasks : List SporadicTask) (bound : ℕ → ℕ) (s t : ℕ) (i k : Option ℕ) → IsShortWindow sched tasks bound s i → IsShortWindow sched tasks bound t k → (s ≡ t) × (i ≡ k)
 unfolding told

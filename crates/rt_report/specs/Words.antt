@@ -1,4 +1,5 @@
 -- Names of nodes and of what a node serves, as the texts write them.
+use Rattle.slot_model.specs.Task.{default_task}
 use Rattle.std.specs.Prelude.{ℕ, zero, suc, List, [], ◌∷◌, ◌++◌, length, slice_index_or, codes}
 use Rattle.slot_model.specs.Release.{push_if}
 use Rattle.tree_model.specs.declared.place.Place.{Place}
@@ -9,7 +10,7 @@ use Rattle.tree_model.specs.Tree.{is_child}
 
 -- the name of a task of a leaf; nothing past the end
 abbrev pub task_name : PartView → ℕ → List ℕ
-task_name part i = (slice_index_or part.tasks i (record { name = []; task = record { period = 1; deadline = 1; work = 1 } })).name
+task_name part i = (slice_index_or part.tasks i (record { name = []; task = default_task })).name
 
 -- `core NAME` or `part NAME`
 abbrev pub node_words : SystemView → Place → List ℕ
