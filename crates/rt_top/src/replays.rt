@@ -34,6 +34,7 @@ pub fn replay_all(alloc: Global, sys: &System, plan: &Plan) -> Result<Vec<Replay
         period: 1,
         deadline: 1,
         work: 1,
+        jitter: 0,
     };
     let mut room = vec![in alloc; filler; MAX_TASKS]?;
     replay_leaves(alloc, sys, plan, &mut room)

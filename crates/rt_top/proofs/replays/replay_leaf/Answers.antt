@@ -1,4 +1,6 @@
-use Rattle.std.proofs.Common.{◌≡◌, ℕ, List, length, take, get_or, arith, ◌∙◌, ap, subst}
+use Rattle.std.proofs.Common.{◌≡◌, ℕ, List, length, take, get_or, arith, sym, ◌∙◌, ap, subst}
+use Rattle.slot_model.specs.declared.sched.Sched.{Sched}
+use Rattle.rt_report.specs.Replay.{IsReplayed}
 use Rattle.std.specs.Prelude.{IfSome}
 use Rattle.slot_model.specs.Task.{SporadicTask, sporadic_tasks}
 use Rattle.tree_model.specs.System.{part_at}
@@ -6,7 +8,7 @@ use Rattle.tree_model.specs.Tree.{node_tasks}
 use Rattle.tree_model.specs.declared.place.Place.TheVariants.{Part}
 use Rattle.tree_model.specs.View.{PartView}
 use Rattle.tree_model.proofs.NodeTasks.{part_here}
-use Rattle.rt_top.proofs.ReplayLeaf.{LeafRead, admitted_in_period, leaf_tasks_read, none_smaller, read_least}
+use Rattle.rt_top.proofs.ReplayLeaf.{LeafRead, admitted_in_period, leaf_tasks_read, none_smaller, read_least, read_replay}
 use Rattle.rt_top.proofs.replays.replay_leaf.Goals as goal
 
 pub witness-witness-requires-clause-some_budget : goal.witness-witness-requires-clause-some_budget
@@ -26,3 +28,21 @@ witness-witness-requires-clause-falls_short c =
       least_is = ap (λ (bs : List ℕ). get_or bs c.args.q 0) c.budgets-budgets.ensures;
     } in
     none_smaller c.sched.result tasks c.period.result least (read_least c.args.sys.now c.parts.ensures.system c.args.plan.now c.requires.admitted c.args.q c.requires.is_part c.requires.computed c.sched.result tasks c.period.result least read)
+
+pub returns : goal.returns
+returns c =
+    let here : c.index-parts-q.result ≡ part_at c.args.sys.now c.args.q = part_here c.args.sys.now c.parts.result.now c.args.q c.index-parts-q.result c.parts.ensures.parts (omega (arith, c.requires.is_part, ap (λ (ps : List PartView). length ps) c.parts.ensures.parts)) c.index-parts-q.is in
+    let tasks : List SporadicTask = sporadic_tasks (take c.unwrap-count.result c.tasks_of.new.into) in
+    let least : ℕ = get_or c.budgets-budgets.result.now c.args.q 0 in
+    let read : LeafRead c.args.sys.now c.args.plan.now c.args.q c.sched.result tasks c.period.result least =
+    record {
+      sched_is = c.sched.ensures ∙ ap (λ (p : PartView). p.sched) here;
+      tasks_are = leaf_tasks_read c.args.sys.now c.args.plan.now c.args.q c.requires.computed c.unwrap-count.result c.tasks_of.result (λ n. sporadic_tasks (take n c.tasks_of.new.into)) c.unwrap-count.ensures
+          (subst (λ (bs : List ℕ). IfSome c.tasks_of.result (λ n. sporadic_tasks (take n c.tasks_of.new.into) ≡ node_tasks c.args.sys.now bs (Part c.args.q))) c.budgets-budgets.ensures c.tasks_of.ensures.tasks);
+      period_is = c.period.ensures ∙ ap (λ (p : PartView). p.period) here;
+      least_is = ap (λ (bs : List ℕ). get_or bs c.args.q 0) c.budgets-budgets.ensures;
+    } in
+    let sched : c.sched-2.result ≡ c.sched.result = c.sched-2.ensures ∙ sym c.sched.ensures in
+    let period : c.period-2.result ≡ c.period.result = c.period-2.ensures ∙ sym c.period.ensures in
+    read_replay c.args.sys.now c.args.plan.now c.args.q c.sched.result tasks c.period.result least read c.witness-witness.result c.in_ok-miss.miss c.witness-witness.ensures.defeat
+    (subst (λ (z : Sched). IsReplayed z tasks c.period.result c.witness-witness.result c.in_ok-miss.miss) sched (subst (λ (z : ℕ). IsReplayed c.sched-2.result tasks z c.witness-witness.result c.in_ok-miss.miss) period c.in_ok-miss.ensures))
