@@ -1,6 +1,8 @@
 mod Names
 pub mod Sums
 pub mod Windows
+pub mod Rising
+pub mod Demand
 pub mod Arrivals
 pub mod Served
 pub mod Runs
@@ -24,3 +26,5 @@ pub mod Constrained
 pub mod WorstLists
 pub mod Budgets
 pub mod Points
+pub mod Covers
+mod PointExamples
