@@ -1,5 +1,6 @@
 mod Names
 pub mod Sums
+pub mod Places
 pub mod Windows
 pub mod Rising
 pub mod Demand

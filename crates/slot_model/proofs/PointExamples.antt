@@ -1,15 +1,14 @@
 -- Worked examples of covers, by hand. A wrong definition breaks one of them.
 use Rattle.std.proofs.Common.{◌≡◌, ℕ, zero, suc, ◌+◌, ◌-◌, ◌<◌, ◌≤◌, List, [], ◌∷◌, get_or, refl, arith}
-use Rattle.slot_model.specs.Task.{SporadicTask}
+use Rattle.slot_model.specs.Task.{SporadicTask, plain_task}
 use Rattle.slot_model.specs.Bound.{sbf, dbf}
 use Rattle.slot_model.specs.Points.{IsCover, IsBackward}
-use Rattle.slot_model.proofs.SlotExamples.{task_of}
 use Rattle.slot_model.proofs.BoundExamples.{two_tasks, with_jitter}
 
 -- one task of 3 slots in 10, where a window of t slots has t
 
 abbrev one_task : List SporadicTask
-one_task = task_of 10 10 3 ∷ []
+one_task = plain_task 10 10 3 ∷ []
 
 abbrev from_three : List ℕ
 from_three = 3 ∷ 12 ∷ []
