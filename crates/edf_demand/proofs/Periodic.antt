@@ -8,16 +8,7 @@ use Rattle.slot_model.specs.Bound.{demand_of, dbf}
 use Rattle.edf_demand.specs.Cyclic.{RisesByCycle}
 use Rattle.slot_model.proofs.Sums.{sum_below-same, sum_below-add, sum_below-none}
 use Rattle.slot_model.proofs.Windows.{sum_by-places}
-
--- a task's demand as one quotient
-pub demand_closed : (b : SporadicTask) → IsConstrained b → (t : ℕ) → demand_of b t ≡ ((t + (b.period - room_of b)) / b.period) * b.work
-demand_closed b f t = elim (cases_lt (t + b.jitter) b.deadline) [
-  | inl l ↦ omega (arith, cond-false {A = ℕ} (leb b.deadline (t + b.jitter)) (((t + b.jitter - b.deadline) / b.period + 1) * b.work) 0 (lt-leb _ _ l), ap (λ (z : ℕ). z * b.work) (div-eq_of_lt {n = t + (b.period - room_of b)} {m = b.period} (omega (arith, f.works, f.in_deadline, f.in_period))))
-  | inr l ↦
-      let e : t + (b.period - room_of b) ≡ (t + b.jitter - b.deadline) + 1 * b.period = omega (arith, f.in_deadline, f.in_period) in
-      let q : (t + (b.period - room_of b)) / b.period ≡ (t + b.jitter - b.deadline) / b.period + 1 = ap (λ (z : ℕ). z / b.period) e ∙ add-mul-div_right (t + b.jitter - b.deadline) 1 (omega (arith, f.works, f.in_deadline, f.in_period)) in
-      cond-true {A = ℕ} (leb b.deadline (t + b.jitter)) (((t + b.jitter - b.deadline) / b.period + 1) * b.work) 0 (le-leb _ _ l) ∙ sym (ap (λ (z : ℕ). z * b.work) q)
-]
+use Rattle.slot_model.proofs.Demand.{demand_closed, dbf_start}
 
 -- over m periods more a task asks for m times its work
 demand_more : (b : SporadicTask) → IsConstrained b → (t m : ℕ) → demand_of b (t + m * b.period) ≡ demand_of b t + m * b.work
@@ -38,11 +29,8 @@ dbf_more tasks fits times L t multiple =
       sum_below-add (λ i. demand_of (task_at tasks i) t) (λ i. times i * (task_at tasks i).work) (length tasks),
     )
 
--- dbf is 0 at 0
-pub dbf_start : (tasks : List SporadicTask) → AreConstrained tasks → dbf tasks 0 ≡ 0
-dbf_start tasks fits = sum_by-places (λ b. demand_of b 0) default_task tasks ∙ (sum_below-same (λ i. demand_of (task_at tasks i) 0) (λ i. 0) (length tasks) (λ i l. cond-false {A = ℕ} (leb (task_at tasks i).deadline (0 + (task_at tasks i).jitter)) (((0 + (task_at tasks i).jitter - (task_at tasks i).deadline) / (task_at tasks i).period + 1) * (task_at tasks i).work) 0 (lt-leb _ _ (omega (arith, (fits i l).works, (fits i l).in_deadline)))) ∙ sum_below-none (length tasks))
-
-bound_cycles : (bound : ℕ → ℕ) (cycle amount : ℕ) → RisesByCycle bound amount cycle → (t n : ℕ) → cycle ≤ t → bound (t + n * cycle) ≡ bound t + n * amount
+-- over n cycles more the bound rises n times
+pub bound_cycles : (bound : ℕ → ℕ) (cycle amount : ℕ) → RisesByCycle bound amount cycle → (t n : ℕ) → cycle ≤ t → bound (t + n * cycle) ≡ bound t + n * amount
 bound_cycles bound cycle amount b t zero l = omega (arith, ap bound (let e : t + 0 * cycle ≡ t = omega arith in e))
 bound_cycles bound cycle amount b t (suc n) l = omega (arith, ap bound (let e : t + suc n * cycle ≡ (t + n * cycle) + cycle = omega arith in e), b.each_cycle (t + n * cycle) (omega arith), bound_cycles bound cycle amount b t n l)
 

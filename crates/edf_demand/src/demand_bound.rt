@@ -23,9 +23,20 @@ pub fn demand(tasks: &[Task], t: u128) -> Option<u128>
 fn demand_of_task(task: &Task, t: u128) -> u128
     ensures { result ≡ demand_of (sporadic_task task.now) t }
 {
+    if t <= u64::MAX as u128 {
+        return demand_of_short(task, t as u64) as u128;
+    }
     let room = (task.deadline - task.jitter) as u128;
+    ((t - room) / task.period as u128 + 1) * task.work as u128
+}
+
+/// The same in 64 bits, where a division is several times as fast.
+fn demand_of_short(task: &Task, t: u64) -> u64
+    ensures { result ≡ demand_of (sporadic_task task.now) t }
+{
+    let room = task.deadline - task.jitter;
     if t < room {
         return 0;
     }
-    ((t - room) / task.period as u128 + 1) * task.work as u128
+    ((t - room) / task.period + 1) * task.work
 }

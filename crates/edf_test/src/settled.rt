@@ -1,0 +1,109 @@
+ghost use Rattle.std.specs.Prelude.{◌≡◌, ℕ, ◌+◌, ◌*◌, ◌^◌, ◌<◌, ◌≤◌, length, IfSome, MatchOption};
+ghost use Rattle.slot_model.specs.Task.{sporadic_task, sporadic_tasks};
+ghost use Rattle.slot_model.specs.Bound.{dbf};
+ghost use Rattle.edf_test.specs.Rates.{rate_up, asked_rate, asked_ahead, given_rate, given_behind, settled_point};
+
+use slot_model::Task;
+use supply_bound::Supply;
+
+/// One slot, in the unit of `Line`.
+const ONE: u128 = 1 << 60;
+
+/// The line `slope * t + offset` above the demand bound, or `slope * t - offset` below a supply's
+/// bound, in 2^60 parts of a slot.
+#[derive(Clone, Copy)]
+struct Line {
+    slope: u128,
+    offset: u128,
+}
+
+/// A window, in slots, past which no window asks for more slots than the supply gives at the least:
+/// where the line above the demand bound meets the line below the supply's bound (the classic bound
+/// of Baruah, Rosier and Howell, 1990, over a supply bound). None where the tasks' utilisation is
+/// not surely below the rate of the supply.
+pub fn settled_past<S: Supply>(tasks: &[Task], s: &S) -> Option<u128>
+    ensures settled { IfSome result (λ last. (t : ℕ) → last < t → dbf (sporadic_tasks tasks.now) t ≤ S.bound s.now t) }
+    ensures exact {
+        let T = sporadic_tasks tasks.now in
+        MatchOption result
+        (length tasks.now < 2 ^ 32 → given_rate (S.amount s.now) (S.cycle_of s.now) ≤ asked_rate T)
+        (λ last. last ≡ settled_point T (S.bound s.now) (S.amount s.now) (S.cycle_of s.now))
+    }
+{
+    let asked = demand_line(tasks)?;
+    let given = supply_line(s);
+    if given.slope <= asked.slope {
+        return None;
+    }
+    let apart = asked.offset.checked_add(given.offset)?;
+    let last = apart / (given.slope - asked.slope);
+    let cycle = s.cycle() as u128;
+    Some(if last < cycle { cycle } else { last })
+}
+
+/// A line that the demand bound never passes: each task asks for its work once a period.
+fn demand_line(tasks: &[Task]) -> Option<Line>
+    ensures above { IfSome result (λ line. (t : ℕ) → dbf (sporadic_tasks tasks.now) t * 2 ^ 60 ≤ line.slope * t + line.offset) }
+    ensures slope { IfSome result (λ line. line.slope ≡ asked_rate (sporadic_tasks tasks.now)) }
+    ensures offset {
+        MatchOption result (2 ^ 32 ≤ length tasks.now) (λ line. line.offset ≡ asked_ahead (sporadic_tasks tasks.now))
+    }
+    ensures small { IfSome result (λ line. line.offset ≤ length tasks.now * 2 ^ 90) }
+{
+    let mut slope: u128 = 0;
+    let mut offset: u128 = 0;
+    for task in tasks {
+        let rate = rate_of(task);
+        let room = task.deadline - task.jitter;
+        slope = slope.checked_add(rate)?;
+        offset = offset.checked_add(rate * (task.period - room) as u128)?;
+    }
+    Some(Line { slope, offset })
+}
+
+/// The task's work over its period, rounded up.
+fn rate_of(task: &Task) -> u128
+    ensures exact { result ≡ rate_up (sporadic_task task.now) }
+    ensures at_most_one { result ≤ 2 ^ 60 }
+{
+    let period = task.period as u128;
+    (task.work as u128 * ONE + (period - 1)) / period
+}
+
+/// A line that the supply's bound never falls below past the first cycle: each cycle gives the same
+/// amount, which comes in as few slots as can be at its end.
+fn supply_line<S: Supply>(s: &S) -> Line
+    ensures below { (t : ℕ) → S.cycle_of s.now ≤ t → result.slope * t ≤ S.bound s.now t * 2 ^ 60 + result.offset }
+    ensures slope { result.slope ≡ given_rate (S.amount s.now) (S.cycle_of s.now) }
+    ensures offset { result.offset ≡ given_behind (S.bound s.now) (S.amount s.now) (S.cycle_of s.now) }
+    ensures small { result.offset ≤ 2 ^ 125 }
+{
+    let cycle = s.cycle() as u128;
+    let amount = amount_of(s);
+    let slope = amount * ONE / cycle;
+    let latest = slope * (2 * cycle - amount);
+    Line {
+        slope,
+        offset: latest.saturating_sub(s.least(cycle) * ONE),
+    }
+}
+
+/// How much the supply's bound rises over each cycle past the first.
+fn amount_of<S: Supply>(s: &S) -> u128
+    ensures exact { result ≡ S.amount s.now }
+    ensures in_cycle { result ≤ S.cycle_of s.now }
+{
+    let cycle = s.cycle() as u128;
+    s.least(2 * cycle) - s.least(cycle)
+}
+
+/// Up to which window the windows of 1 to `h` slots are to be tested.
+pub fn last_to_test<S: Supply>(tasks: &[Task], s: &S, h: u128) -> u128
+    ensures within { result ≤ h }
+    ensures settled { (t : ℕ) → result < t → t ≤ h → dbf (sporadic_tasks tasks.now) t ≤ S.bound s.now t }
+{
+    match settled_past(tasks, s) {
+        Some(last) if last < h => last,
+        _ => h,
+    }
+}
