@@ -1,144 +1,220 @@
--- One slot more of a run.
-use Rattle.std.proofs.Common.{◌≡◌, ℕ, suc, ◌+◌, ◌-◌, ◌<◌, ◌≤◌, Bool, true, false, cond, List, [], ◌∷◌, ◌++◌, length, get_or, set, map, Option, Some, None, refl, sym, ◌∙◌, ap, arith, subst, inl, inr, add-one, eqb, eq-eqb, ne_eqb, length-set, get_or-set_same, get_or-set_other}
-use Rattle.std.proofs.lemmas.Bool.{cases_eq, cases_lt, cond-true, cond-false, both_ways, true≢false, false≢true}
-use Rattle.std.proofs.lemmas.List.{get_or_push, get_or-map, length-map}
+-- One span more of a run.
+use Rattle.std.proofs.Common.{◌≡◌, ℕ, ◌+◌, ◌-◌, ◌<◌, ◌≤◌, ◌^◌, Bool, true, false, cond, List, [], ◌++◌, length, get_or, set, map, replicate, Option, Some, None, refl, sym, ◌∙◌, ap, arith, subst, inl, inr, eqb, eq-eqb, ne_eqb, length-set, get_or-set_same, get_or-set_other}
+use Rattle.std.proofs.lemmas.Bool.{cases_eq, cases_lt, cond-true, cond-false, both_ways, true≢false}
+use Rattle.std.proofs.lemmas.List.{get_or-map, length-map}
 use Rattle.slot_model.specs.declared.job.Job.{Job}
 use Rattle.slot_model.specs.Task.{SporadicTask, default_job, job_at}
-use Rattle.slot_model.specs.Run.{holds, service, guest, Pending, MayHold, Entry, FirstRunTo}
-use Rattle.slot_model.proofs.Sums.{sum_below-suc, sum_below-zero}
-use Rattle.slot_model.proofs.FirstRuns.{push_entry, none_some, same_some, service_same}
-use Rattle.guest_sched.specs.declared.arrivals.Arrival.{Arrival}
+use Rattle.slot_model.specs.Run.{holds, service, Level, Pending, MayHold, Entry, FirstRunTo}
+use Rattle.slot_model.proofs.Sums.{sum_below-zero}
+use Rattle.slot_model.proofs.FirstRuns.{none_some, same_some}
+use Rattle.guest_sched.specs.declared.releases.Release.{Release}
 use Rattle.guest_sched.specs.declared.ready.Ready.{Ready}
-use Rattle.guest_sched.specs.Arrivals.{arrival_at, AreArrivals}
+use Rattle.guest_sched.specs.declared.spans.Span.{Span}
+use Rattle.guest_sched.specs.declared.spans.Window.{Window}
+use Rattle.guest_sched.specs.declared.windows.Stretch.{Stretch}
+use Rattle.guest_sched.specs.Releases.{release_at, AreReleases}
 use Rattle.guest_sched.specs.Choice.{job_of, IsBeaten, IsUnbeaten, IsFirstUnbeaten}
+use Rattle.guest_sched.specs.Keep.{AreEnds}
 use Rattle.guest_sched.specs.Places.{StandsIn, IsAscending}
-use Rattle.guest_sched.specs.Ready.{HasCome, IsState, IsReady, HaveCome, AreToCome, IsServed, left_after}
+use Rattle.guest_sched.specs.Ready.{HasCome, IsReady, HaveCome, AreToCome, IsServed, IsSteady, left_after}
+use Rattle.guest_sched.specs.Spans.{slots_of, entries_of}
+use Rattle.guest_sched.specs.Stretch.{IsStretch}
 use Rattle.guest_sched.proofs.State.{ready_in}
+use Rattle.guest_sched.proofs.Steady.{Steady, no_entry, span_run, gap_run, service_span}
+use Rattle.guest_sched.proofs.Given.{slot_at}
 
 -- what the state says of the run so far: each job lacks its work but for its service
 abbrev pub IsLeft : List Job → List (Option ℕ) → ℕ → List ℕ → Type 0
 IsLeft jobs run x left = (j : ℕ) → j < length jobs → get_or left j 0 + service run j x ≡ (job_at jobs j).work
 
 -- the ready jobs are those that are pending at x, in the order of their list
-pub record AreReady (tasks : List SporadicTask) (jobs : List Job) (run : List (Option ℕ)) (x : ℕ) (ready : List ℕ) : Type 0 where
-  pub pending : (j : ℕ) → StandsIn ready j → Pending guest tasks jobs run j x
-  pub all : (j : ℕ) → Pending guest tasks jobs run j x → StandsIn ready j
+pub record AreReady (level : Level) (tasks : List SporadicTask) (jobs : List Job) (run : List (Option ℕ)) (x : ℕ) (ready : List ℕ) : Type 0 where
+  pub pending : (j : ℕ) → StandsIn ready j → Pending level tasks jobs run j x
+  pub all : (j : ℕ) → Pending level tasks jobs run j x → StandsIn ready j
   pub ascending : IsAscending ready
 
-pub ready_are : (tasks : List SporadicTask) (jobs : List Job) (arrivals : List Arrival) (n : ℕ) (left ready : List ℕ) (run : List (Option ℕ)) (x : ℕ) → AreArrivals jobs arrivals → IsState arrivals n left ready → ((i : ℕ) → i < n → (arrival_at arrivals i).release ≤ x) → ((i : ℕ) → n ≤ i → i < length arrivals → x < (arrival_at arrivals i).release) → IsLeft jobs run x left
-    → AreReady tasks jobs run x ready
-ready_are tasks jobs arrivals n left ready run x by h come later lacks = record {
+ready_are : (level : Level) (tasks : List SporadicTask) (jobs : List Job) (state : Ready) (run : List (Option ℕ)) → AreReleases jobs state.releases.items → IsReady state → HaveCome state state.time → AreToCome state state.time → IsLeft jobs run state.time state.left.items
+    → AreEnds level tasks jobs state.ends.items → state.time < state.soonest → state.time < 2 ^ 64 - 1 → AreReady level tasks jobs run state.time state.ready.items
+ready_are level tasks jobs state run by h come later lacks ends soon early = record {
   pending = λ j s.
-      let c : HasCome arrivals n j = h.come j s in
-      let l : c.0 < length arrivals = omega (arith, c.1, h.some_come) in
+      let c : HasCome state.releases.items state.released j = h.come j s in
+      let l : c.0 < length state.releases.items = omega (arith, c.1, h.some_come) in
       let k : j < length jobs = omega (arith, c.2, by.in_jobs c.0 l) in
-      record { is_job = k; released = omega (arith, come c.0 c.1, by.of_job c.0 l, ap (λ (z : ℕ). (job_at jobs z).release) c.2); unfinished = omega (arith, lacks j k, h.lacks j s); still_open = tt };
+      record {
+        is_job = k;
+        released = omega (arith, come c.0 c.1, by.of_job c.0 l, ap (λ (z : ℕ). (job_at jobs z).release) c.2);
+        unfinished = omega (arith, lacks j k, h.lacks j s);
+        still_open = (ends.each j k).stays state.time (omega (arith, soon, h.soon j s));
+      };
   all = λ j p.
-      let e : (i : ℕ) × (i < length arrivals) × ((arrival_at arrivals i).place ≡ j) = by.every j p.is_job in
+      let e : (i : ℕ) × (i < length state.releases.items) × ((release_at state.releases.items i).place ≡ j) = by.every j p.is_job in
       h.all j
-      (elim (cases_lt e.0 n) [
+      (elim (cases_lt e.0 state.released) [
         | inl l ↦ (e.0, l, e.2)
         | inr m ↦ absurd (omega (arith, later e.0 m e.1, by.of_job e.0 e.1, ap (λ (z : ℕ). (job_at jobs z).release) e.2, p.released))
       ])
-      (omega (arith, lacks j p.is_job, p.unfinished));
+      (omega (arith, lacks j p.is_job, p.unfinished))
+      ((ends.each j p.is_job).closes state.time early p.still_open);
   ascending = h.ascending;
 }
 
-unbeaten_may : (before : Job → Job → Bool) (tasks : List SporadicTask) (jobs : List Job) (run : List (Option ℕ)) (x : ℕ) (ready : List ℕ) → AreReady tasks jobs run x ready → (i : ℕ) → i < length ready → IsUnbeaten before jobs ready (job_of jobs ready i) → MayHold guest before tasks jobs run x (get_or ready i 0)
-unbeaten_may before tasks jobs run x ready are i l none = record {
+unbeaten_may : (level : Level) (before : Job → Job → Bool) (tasks : List SporadicTask) (jobs : List Job) (run : List (Option ℕ)) (x : ℕ) (ready : List ℕ) → AreReady level tasks jobs run x ready → (i : ℕ) → i < length ready → IsUnbeaten before jobs ready (job_of jobs ready i) → MayHold level before tasks jobs run x (get_or ready i 0)
+unbeaten_may level before tasks jobs run x ready are i l none = record {
   pending = are.pending (get_or ready i 0) (i, l, refl);
   best = λ k p w. let s : StandsIn ready k = are.all k p in both_ways _ (none s.0 s.1) (ap (λ (z : ℕ). before (job_at jobs z) (job_of jobs ready i)) s.2 ∙ w);
 }
 
-beaten_not : (before : Job → Job → Bool) (tasks : List SporadicTask) (jobs : List Job) (run : List (Option ℕ)) (x : ℕ) (ready : List ℕ) → AreReady tasks jobs run x ready → (k : ℕ) → IsBeaten before jobs ready (job_at jobs k) → MayHold guest before tasks jobs run x k → ⊥
-beaten_not before tasks jobs run x ready are k b m = m.best (get_or ready b.0 0) (are.pending (get_or ready b.0 0) (b.0, b.1, refl)) b.2
+beaten_not : (level : Level) (before : Job → Job → Bool) (tasks : List SporadicTask) (jobs : List Job) (run : List (Option ℕ)) (x : ℕ) (ready : List ℕ) → AreReady level tasks jobs run x ready → (k : ℕ) → IsBeaten before jobs ready (job_at jobs k) → MayHold level before tasks jobs run x k → ⊥
+beaten_not level before tasks jobs run x ready are k b m = m.best (get_or ready b.0 0) (are.pending (get_or ready b.0 0) (b.0, b.1, refl)) b.2
 
-first_may : (before : Job → Job → Bool) (tasks : List SporadicTask) (jobs : List Job) (run : List (Option ℕ)) (x : ℕ) (ready : List ℕ) → AreReady tasks jobs run x ready → (i : ℕ) → IsFirstUnbeaten before jobs ready (Some i) → (k : ℕ) → k < get_or ready i 0 → MayHold guest before tasks jobs run x k → ⊥
-first_may before tasks jobs run x ready are i f k l m =
+first_may : (level : Level) (before : Job → Job → Bool) (tasks : List SporadicTask) (jobs : List Job) (run : List (Option ℕ)) (x : ℕ) (ready : List ℕ) → AreReady level tasks jobs run x ready → (i : ℕ) → IsFirstUnbeaten before jobs ready (Some i) → (k : ℕ) → k < get_or ready i 0 → MayHold level before tasks jobs run x k → ⊥
+first_may level before tasks jobs run x ready are i f k l m =
     let s : StandsIn ready k = are.all k m.pending in
     elim (cases_lt s.0 i) [
-      | inl h ↦ beaten_not before tasks jobs run x ready are k (let b : IsBeaten before jobs ready (job_of jobs ready s.0) = f.2 s.0 h in subst (λ (z : ℕ). IsBeaten before jobs ready (job_at jobs z)) s.2 b) m
+      | inl h ↦ beaten_not level before tasks jobs run x ready are k (let b : IsBeaten before jobs ready (job_of jobs ready s.0) = f.2 s.0 h in subst (λ (z : ℕ). IsBeaten before jobs ready (job_at jobs z)) s.2 b) m
       | inr h ↦ elim (cases_eq i s.0) [ inl e ↦ omega (arith, l, s.2, ap (λ (z : ℕ). get_or ready z 0) e) | inr ne ↦ omega (arith, l, s.2, are.ascending i s.0 (omega arith) s.1) ]
     ]
 
-no_entry : (before : Job → Job → Bool) (tasks : List SporadicTask) (jobs : List Job) (run : List (Option ℕ)) (x : ℕ) → Entry guest before tasks jobs run x false None
-no_entry before tasks jobs run x = record { no_slot = λ e. refl; idle = λ e. absurd (false≢true e); held = λ j e. absurd (none_some None j refl e); first = λ j k e. absurd (none_some None j refl e) }
-
--- the entry of the run at a place
-pub served_entry : (before : Job → Job → Bool) (tasks : List SporadicTask) (jobs : List Job) (run : List (Option ℕ)) (x : ℕ) (ready : List ℕ) → AreReady tasks jobs run x ready → (slot : Bool) (entry : Option ℕ) → IsServed before jobs ready slot entry → Entry guest before tasks jobs run x slot entry
-served_entry before tasks jobs run x ready are false entry h = subst (Entry guest before tasks jobs run x false) (sym h) (no_entry before tasks jobs run x)
-served_entry before tasks jobs run x ready are true None h = record {
+-- the entry of the run at the start of a span
+served_entry : (level : Level) (before : Job → Job → Bool) (tasks : List SporadicTask) (jobs : List Job) (run : List (Option ℕ)) (x : ℕ) (ready : List ℕ) → AreReady level tasks jobs run x ready → (slot : Bool) (entry : Option ℕ) → IsServed before jobs ready slot entry → Entry level before tasks jobs run x slot entry
+served_entry level before tasks jobs run x ready are false entry h = subst (Entry level before tasks jobs run x false) (sym h) (no_entry level before tasks jobs run x)
+served_entry level before tasks jobs run x ready are true None h = record {
   no_slot = λ e. refl;
   idle = λ e q j p. let s : StandsIn ready j = are.all j p in omega (arith, h, s.1);
   held = λ j e. absurd (none_some None j refl e);
   first = λ j k e. absurd (none_some None j refl e);
 }
-served_entry before tasks jobs run x ready are true (Some p) h = record {
+served_entry level before tasks jobs run x ready are true (Some p) h = record {
   no_slot = λ e. absurd (true≢false e);
   idle = λ e q. absurd (none_some (Some p) p q refl);
-  held = λ j e. subst (MayHold guest before tasks jobs run x) (h.1 ∙ same_some p j e) (unbeaten_may before tasks jobs run x ready are h.0 h.2.0 h.2.1);
-  first = λ j k e l. first_may before tasks jobs run x ready are h.0 h.2 k (omega (arith, l, h.1, same_some p j e));
+  held = λ j e. subst (MayHold level before tasks jobs run x) (h.1 ∙ same_some p j e) (unbeaten_may level before tasks jobs run x ready are h.0 h.2.0 h.2.1);
+  first = λ j k e l. first_may level before tasks jobs run x ready are h.0 h.2 k (omega (arith, l, h.1, same_some p j e));
 }
 
-service_more : (run : List (Option ℕ)) (o : Option ℕ) (j x : ℕ) → length run ≡ x → service (run ++ o ∷ []) j (suc x) ≡ service run j x + cond (holds o j) 1 0
-service_more run o j x l = omega (arith, sum_below-suc (λ y. cond (holds (get_or (run ++ o ∷ []) y None) j) 1 0) x, service_same run o j x (omega arith), ap (λ (v : Option ℕ). cond {A = ℕ} (holds v j) 1 0) (get_or_push run o None x l))
-
--- what the jobs lack after a slot that none has, and after one that a ready job has
-left_idle : (jobs : List Job) (run : List (Option ℕ)) (x : ℕ) (left : List ℕ) → length run ≡ x → IsLeft jobs run x left → IsLeft jobs (run ++ None ∷ []) (suc x) left
-left_idle jobs run x left l h j lj = omega (arith, h j lj, service_more run None j x l)
-
-left_held : (jobs : List Job) (run : List (Option ℕ)) (x : ℕ) (left : List ℕ) (p : ℕ) → length run ≡ x → IsLeft jobs run x left → p < length left → 1 ≤ get_or left p 0 → IsLeft jobs (run ++ Some p ∷ []) (suc x) (set left p (get_or left p 0 - 1))
-left_held jobs run x left p l h lp some j lj = elim (cases_eq j p) [
-  | inl e ↦ omega (arith, h j lj, service_more run (Some p) j x l, cond-true {A = ℕ} (eqb p j) 1 0 (eq-eqb p j (sym e)), ap (λ (z : ℕ). get_or (set left p (get_or left p 0 - 1)) z 0) e, ap (λ (z : ℕ). get_or left z 0) e, get_or-set_same left p (get_or left p 0 - 1) 0 lp)
-  | inr ne ↦ omega (arith, h j lj, service_more run (Some p) j x l, cond-false {A = ℕ} (eqb p j) 1 0 (ne_eqb p j (λ q. ne (sym q))), get_or-set_other left p j (get_or left p 0 - 1) 0 ne)
+-- what the jobs lack after a span
+left_more : (jobs : List Job) (run : List (Option ℕ)) (x k : ℕ) (left : List ℕ) (entry : Option ℕ) → length run ≡ x → IsLeft jobs run x left → ((p : ℕ) → entry ≡ Some p → (p < length left) × (k ≤ get_or left p 0)) → IsLeft jobs (run ++ replicate k entry) (x + k) (left_after left entry k)
+left_more jobs run x k left None l h some j lj = omega (arith, h j lj, service_span None j k x run l)
+left_more jobs run x k left (Some p) l h some j lj = elim (cases_eq j p) [
+  | inl e ↦ omega (arith, h j lj, some p refl, service_span (Some p) j k x run l, cond-true {A = ℕ} (eqb p j) k 0 (eq-eqb p j (sym e)), ap (λ (z : ℕ). get_or (set left p (get_or left p 0 - k)) z 0) e, ap (λ (z : ℕ). get_or left z 0) e, get_or-set_same left p (get_or left p 0 - k) 0 (some p refl).0)
+  | inr ne ↦ omega (arith, h j lj, service_span (Some p) j k x run l, cond-false {A = ℕ} (eqb p j) k 0 (ne_eqb p j (λ q. ne (sym q))), get_or-set_other left p j (get_or left p 0 - k) 0 ne)
 ]
 
-left_more : (before : Job → Job → Bool) (jobs : List Job) (arrivals : List Arrival) (n : ℕ) (left ready : List ℕ) (run : List (Option ℕ)) (x : ℕ) (slot : Bool) (entry : Option ℕ) → length run ≡ x → IsState arrivals n left ready → IsLeft jobs run x left → IsServed before jobs ready slot entry → IsLeft jobs (run ++ entry ∷ []) (suc x) (left_after left entry)
-left_more before jobs arrivals n left ready run x slot None l s h v = left_idle jobs run x left l h
-left_more before jobs arrivals n left ready run x false (Some p) l s h v = absurd (none_some (Some p) p v refl)
-left_more before jobs arrivals n left ready run x true (Some p) l s h v =
-    let stands : StandsIn ready p = (v.0, v.2.0, v.1) in
-    left_held jobs run x left p l h (ready_in arrivals n left ready s p stands) (s.lacks p stands)
+length_after : (left : List ℕ) (entry : Option ℕ) (k : ℕ) → length (left_after left entry k) ≡ length left
+length_after left None k = refl
+length_after left (Some p) k = length-set left p (get_or left p 0 - k)
 
-length_after : (left : List ℕ) (entry : Option ℕ) → length (left_after left entry) ≡ length left
-length_after left None = refl
-length_after left (Some p) = length-set left p (get_or left p 0 - 1)
-
--- what a scheduler keeps after x slots
-pub record Kept (before : Job → Job → Bool) (tasks : List SporadicTask) (jobs : List Job) (slots : List Bool) (x : ℕ) (run : List (Option ℕ)) (state : Ready) : Type 0 where
-  pub run_so_far : FirstRunTo guest before tasks jobs slots x run
-  pub by_release : AreArrivals jobs state.arrivals.items
+-- what a scheduler keeps between two events
+pub record Kept (level : Level) (before : Job → Job → Bool) (tasks : List SporadicTask) (jobs : List Job) (slots : List Bool) (run : List (Option ℕ)) (state : Ready) : Type 0 where
+  pub run_so_far : FirstRunTo level before tasks jobs slots state.time run
+  pub by_release : AreReleases jobs state.releases.items
   pub long : length state.left.items ≡ length jobs
   pub is_state : IsReady state
-  pub come : HaveCome state x
-  pub lacks : IsLeft jobs run x state.left.items
+  pub come : HaveCome state state.time
+  pub lacks : IsLeft jobs run state.time state.left.items
+  pub ends : AreEnds level tasks jobs state.ends.items
 
 -- before the first slot
-pub kept_start : (before : Job → Job → Bool) (tasks : List SporadicTask) (jobs : List Job) (slots : List Bool) (state : Ready) → AreArrivals jobs state.arrivals.items → IsReady state → state.arrived ≡ 0 → state.left.items ≡ map (λ (j : Job). j.work) jobs → Kept before tasks jobs slots 0 [] state
-kept_start before tasks jobs slots state by h none full = record {
-  run_so_far = record { long = refl; each = λ x l. absurd (omega arith) };
+pub kept_start : (level : Level) (before : Job → Job → Bool) (tasks : List SporadicTask) (jobs : List Job) (slots : List Bool) (state : Ready) → state.time ≡ 0 → AreReleases jobs state.releases.items → IsReady state → state.released ≡ 0 → state.left.items ≡ map (λ (j : Job). j.work) jobs → AreEnds level tasks jobs state.ends.items
+    → Kept level before tasks jobs slots [] state
+kept_start level before tasks jobs slots state start by h none full ends = record {
+  run_so_far = record { long = sym start; each = λ x l. absurd (omega arith) };
   by_release = by;
   long = ap (λ (z : List ℕ). length z) full ∙ length-map jobs (λ (a : Job). a.work);
   is_state = h;
   come = λ i l. absurd (omega arith);
-  lacks = λ j l. omega (arith, ap (λ (z : List ℕ). get_or z j 0) full, get_or-map (λ (a : Job). a.work) jobs j default_job 0 l, sum_below-zero (λ y. cond (holds (get_or [] y None) j) 1 0));
+  lacks = λ j l. omega (arith, ap (λ (z : List ℕ). get_or z j 0) full, get_or-map (λ (a : Job). a.work) jobs j default_job 0 l, sum_below-zero (λ y. cond (holds (get_or [] y None) j) 1 0), ap (service [] j) start);
+  ends = ends;
 }
 
--- after one slot more: `came` is the state when the jobs released at x have come, and `after` the state when one is served
-pub kept_more : (goes : List SporadicTask → Job → Job → Bool) (tasks : List SporadicTask) (jobs : List Job) (slots : List Bool) (x : ℕ) (run more : List (Option ℕ)) (state came after : Ready) (entry : Option ℕ) → Kept (goes tasks) tasks jobs slots x run state
-    → IsReady came → HaveCome came x → AreToCome came x → came.arrivals.items ≡ state.arrivals.items → came.left.items ≡ state.left.items
-    → IsServed (goes tasks) jobs came.ready.items (get_or slots x false) entry → IsReady after → after.left.items ≡ left_after came.left.items entry → after.arrivals.items ≡ came.arrivals.items → after.arrived ≡ came.arrived
-    → more ≡ run ++ entry ∷ [] → Kept (goes tasks) tasks jobs slots (x + 1) more after
-kept_more goes tasks jobs slots x run more state came after entry k h come later kept same v hi left arr n e =
-    let by : AreArrivals jobs came.arrivals.items = subst (AreArrivals jobs) (sym kept) k.by_release in
-    let lacks : IsLeft jobs run x came.left.items = subst (IsLeft jobs run x) (sym same) k.lacks in
-    let are : AreReady tasks jobs run x came.ready.items = ready_are tasks jobs came.arrivals.items came.arrived came.left.items came.ready.items run x by h come later lacks in
-    subst (λ (r : List (Option ℕ)). Kept (goes tasks) tasks jobs slots (x + 1) r after) (sym e)
-    (subst (λ (z : ℕ). Kept (goes tasks) tasks jobs slots z (run ++ entry ∷ []) after) (sym (add-one x)) (record {
-      run_so_far = push_entry guest (goes tasks) tasks jobs slots x run k.run_so_far entry (served_entry (goes tasks) tasks jobs run x came.ready.items are (get_or slots x false) entry v);
-      by_release = subst (AreArrivals jobs) (sym arr) by;
-      long = ap (λ (z : List ℕ). length z) left ∙ length_after came.left.items entry ∙ ap (λ (z : List ℕ). length z) same ∙ k.long;
-      is_state = hi;
-      come = λ i l. omega (arith, come i (omega arith), ap (λ (a : List Arrival). (arrival_at a i).release) arr);
-      lacks = subst (IsLeft jobs (run ++ entry ∷ []) (suc x)) (sym left) (left_more (goes tasks) jobs came.arrivals.items came.arrived came.left.items came.ready.items run x (get_or slots x false) entry k.run_so_far.long h lacks v);
-    }))
+-- a state when the jobs have come that are released by its moment, and those are given up that end by it
+pub record IsCurrent (state : Ready) : Type 0 where
+  pub is_state : IsReady state
+  pub come : HaveCome state state.time
+  pub to_come : AreToCome state state.time
+  pub none_over : state.time < state.soonest
+  pub early : state.time < 2 ^ 64 - 1
+
+-- what serves a span
+pub record Serves (before : Job → Job → Bool) (jobs : List Job) (came : Ready) (stretch : Stretch) (span : Span) (after : Ready) : Type 0 where
+  pub from : span.from ≡ came.time
+  pub some : came.time < span.until
+  pub in_stretch : span.until ≤ stretch.until
+  pub served : IsServed before jobs came.ready.items stretch.given span.job
+  pub steady : stretch.given ≡ true → IsSteady came span.until
+  pub enough : (p : ℕ) → span.job ≡ Some p → span.until - came.time ≤ get_or came.left.items p 0
+  pub left : after.left.items ≡ left_after came.left.items span.job (span.until - came.time)
+  pub is_state : IsReady after
+  pub time : after.time ≡ span.until
+  pub releases : after.releases.items ≡ came.releases.items
+  pub released : after.released ≡ came.released
+  pub ends : after.ends.items ≡ came.ends.items
+
+served_stands : (before : Job → Job → Bool) (jobs : List Job) (ready : List ℕ) (slot : Bool) (entry : Option ℕ) (p : ℕ) → IsServed before jobs ready slot entry → entry ≡ Some p → StandsIn ready p
+served_stands before jobs ready false entry p v e = absurd (none_some entry p v e)
+served_stands before jobs ready true None p v e = absurd (none_some None p refl e)
+served_stands before jobs ready true (Some j) p v e = (v.0, v.2.0, v.1 ∙ same_some j p e)
+
+-- nothing changes within a span
+steady_span : (level : Level) (before : Job → Job → Bool) (tasks : List SporadicTask) (jobs : List Job) (windows : List Window) (n : ℕ) (run : List (Option ℕ)) (state : Ready) (stretch : Stretch) (span : Span) (after : Ready)
+    → AreReleases jobs state.releases.items → AreEnds level tasks jobs state.ends.items → IsLeft jobs run state.time state.left.items → length state.left.items ≡ length jobs → IsCurrent state → AreReady level tasks jobs run state.time state.ready.items
+    → IsStretch windows state.time n stretch → Serves before jobs state stretch span after → stretch.given ≡ true
+    → Steady level tasks jobs (slots_of windows n) run state.time (span.until - state.time) stretch.given span.job
+steady_span level before tasks jobs windows n run state stretch span after by ends lacks long now are same v given = record {
+  same_slots = λ x a b. slot_at windows n x (omega (arith, same.in_slots, v.in_stretch)) ∙ same.same x a (omega (arith, v.in_stretch));
+  releases = λ j l.
+      let e : (i : ℕ) × (i < length state.releases.items) × ((release_at state.releases.items i).place ≡ j) = by.every j l in
+      let rel : (release_at state.releases.items e.0).release ≡ (job_at jobs j).release = by.of_job e.0 e.1 ∙ ap (λ (z : ℕ). (job_at jobs z).release) e.2 in
+      elim (cases_lt e.0 state.released) [
+        | inl m ↦ inl (omega (arith, now.come e.0 m))
+        | inr m ↦ inr (omega (arith, v.some, (v.steady given).none_comes (omega (arith, e.1)), now.is_state.in_order state.released e.0 m e.1))
+      ];
+  still_open = λ j x p l.
+      let s : StandsIn state.ready.items j = are.all j p in
+      (ends.each j p.is_job).stays x (omega (arith, v.some, (v.steady given).none_ends, now.is_state.soon j s));
+  enough = λ j e.
+      let s : StandsIn state.ready.items j = served_stands before jobs state.ready.items stretch.given span.job j v.served e in
+      omega (arith, v.enough j e, lacks j (are.pending j s).is_job);
+}
+
+span_more : (level : Level) (before : Job → Job → Bool) (tasks : List SporadicTask) (jobs : List Job) (windows : List Window) (n : ℕ) (run : List (Option ℕ)) (state : Ready) (stretch : Stretch) (span : Span) (after : Ready)
+    → FirstRunTo level before tasks jobs (slots_of windows n) state.time run → AreReleases jobs state.releases.items → AreEnds level tasks jobs state.ends.items → IsLeft jobs run state.time state.left.items → length state.left.items ≡ length jobs → IsCurrent state
+    → IsStretch windows state.time n stretch → Serves before jobs state stretch span after → (given : Bool) → stretch.given ≡ given
+    → FirstRunTo level before tasks jobs (slots_of windows n) (state.time + (span.until - state.time)) (run ++ replicate (span.until - state.time) span.job)
+span_more level before tasks jobs windows n run state stretch span after f by ends lacks long now same v false given =
+    let idle : None ≡ span.job = sym (subst (λ (b : Bool). IsServed before jobs state.ready.items b span.job) given v.served) in
+    subst (λ (o : Option ℕ). FirstRunTo level before tasks jobs (slots_of windows n) (state.time + (span.until - state.time)) (run ++ replicate (span.until - state.time) o)) idle
+    (gap_run level before tasks jobs (slots_of windows n) (span.until - state.time) state.time run f (λ x a b. slot_at windows n x (omega (arith, same.in_slots, v.in_stretch, v.some)) ∙ (same.same x a (omega (arith, v.in_stretch, v.some)) ∙ given)))
+span_more level before tasks jobs windows n run state stretch span after f by ends lacks long now same v true given =
+    let are : AreReady level tasks jobs run state.time state.ready.items = ready_are level tasks jobs state run by now.is_state now.come now.to_come lacks ends now.none_over now.early in
+    span_run level before tasks jobs (slots_of windows n) stretch.given span.job (span.until - state.time) state.time run f (steady_span level before tasks jobs windows n run state stretch span after by ends lacks long now are same v given)
+    (served_entry level before tasks jobs run state.time state.ready.items are stretch.given span.job v.served)
+
+-- after one span more: `came` is the state when the jobs have come, and `after` the state when one is served
+pub kept_more : (level : Level) (before : Job → Job → Bool) (tasks : List SporadicTask) (jobs : List Job) (windows : List Window) (n : ℕ) (run more : List (Option ℕ)) (state came after : Ready) (stretch : Stretch) (span : Span) → Kept level before tasks jobs (slots_of windows n) run state
+    → IsCurrent came → came.time ≡ state.time → came.releases.items ≡ state.releases.items → came.left.items ≡ state.left.items → came.ends.items ≡ state.ends.items
+    → IsStretch windows state.time n stretch → Serves before jobs came stretch span after → more ≡ run ++ entries_of span → Kept level before tasks jobs (slots_of windows n) more after
+kept_more level before tasks jobs windows n run more state came after stretch span k now time kept same_left same_ends same v e =
+    let by : AreReleases jobs came.releases.items = subst (AreReleases jobs) (sym kept) k.by_release in
+    let lacks : IsLeft jobs run came.time came.left.items = subst (λ (z : ℕ). IsLeft jobs run z came.left.items) (sym time) (subst (IsLeft jobs run state.time) (sym same_left) k.lacks) in
+    let ends : AreEnds level tasks jobs came.ends.items = subst (AreEnds level tasks jobs) (sym same_ends) k.ends in
+    let long : length came.left.items ≡ length jobs = ap (λ (z : List ℕ). length z) same_left ∙ k.long in
+    let so_far : FirstRunTo level before tasks jobs (slots_of windows n) came.time run = subst (λ (z : ℕ). FirstRunTo level before tasks jobs (slots_of windows n) z run) (sym time) k.run_so_far in
+    let stretches : IsStretch windows came.time n stretch = subst (λ (z : ℕ). IsStretch windows z n stretch) (sym time) same in
+    let is : run ++ replicate (span.until - came.time) span.job ≡ more = ap (λ (z : ℕ). run ++ replicate (span.until - z) span.job) (sym v.from) ∙ sym e in
+    let end : came.time + (span.until - came.time) ≡ after.time = omega (arith, v.some, v.time) in
+    let first : FirstRunTo level before tasks jobs (slots_of windows n) (came.time + (span.until - came.time)) (run ++ replicate (span.until - came.time) span.job)
+    = span_more level before tasks jobs windows n run came stretch span after so_far by ends lacks long now stretches v stretch.given refl in
+    let left : IsLeft jobs (run ++ replicate (span.until - came.time) span.job) (came.time + (span.until - came.time)) (left_after came.left.items span.job (span.until - came.time))
+    = left_more jobs run came.time (span.until - came.time) came.left.items span.job so_far.long lacks (λ p q. (
+      ready_in came.releases.items came.released came.left.items came.ends.items came.ready.items came.soonest came.time now.is_state p (served_stands before jobs came.ready.items stretch.given span.job p v.served q),
+      v.enough p q,
+    )) in
+    record {
+      run_so_far = subst (λ (z : ℕ). FirstRunTo level before tasks jobs (slots_of windows n) z more) end (subst (FirstRunTo level before tasks jobs (slots_of windows n) (came.time + (span.until - came.time))) is first);
+      by_release = subst (AreReleases jobs) (sym v.releases) by;
+      long = ap (λ (z : List ℕ). length z) v.left ∙ (length_after came.left.items span.job (span.until - came.time) ∙ long);
+      is_state = v.is_state;
+      come = λ i l. omega (arith, v.some, v.time, now.come i (omega (arith, v.released)), ap (λ (a : List Release). (release_at a i).release) v.releases);
+      lacks = subst (IsLeft jobs more after.time) (sym v.left) (subst (λ (z : ℕ). IsLeft jobs more z (left_after came.left.items span.job (span.until - came.time))) end (subst (λ (r : List (Option ℕ)). IsLeft jobs r (came.time + (span.until - came.time)) (left_after came.left.items span.job (span.until - came.time))) is left));
+      ends = subst (AreEnds level tasks jobs) (sym v.ends) ends;
+    }

@@ -1,4 +1,7 @@
 pub mod Choice
-pub mod Arrivals
+pub mod Releases
 pub mod Places
+pub mod Keep
+pub mod Spans
+pub mod Stretch
 pub mod Ready

@@ -1,15 +1,20 @@
-//! The schedule of one guest: which of its jobs runs in each slot that a supply gives it.
-//! A late job stays pending until it is done. The order of the jobs is any `Order`, the supply
-//! any `Supply`.
+//! The schedule of one level: which of its jobs runs in each slot that a supply gives it.
+//! A guest keeps a late job until it is done, and a level of servers gives it up at its deadline
+//! moment. The order of the jobs is any `Order`, the supply any `Supply`.
 #![tactic(auto)]
 
-mod arrivals;
+mod releases;
 mod choice;
+mod keep;
 mod places;
 mod ready;
 mod schedule;
+mod spans;
+mod windows;
 
-pub use schedule::{run_level, run_over};
+pub use schedule::{run_level, run_over, windows_of, written};
+pub use spans::{Span, Window, run_spans, server_spans};
+pub use windows::are_windows;
 
 #[cfg(test)]
 mod tests;

@@ -1,120 +1,347 @@
-use crate::arrivals::{Arrival, arrivals};
+ghost use Rattle.std.specs.Prelude.{◌≡◌, ℕ, ◌+◌, ◌-◌, ◌<◌, ◌≤◌, ◌^◌, ◌↔◌, false, true, length, map, slice_index, All, IsTrue, IfOk, IfSome, OnOk, MatchOption, Some, None};
+ghost use Rattle.slot_model.specs.Task.{sporadic_tasks, task_at};
+ghost use Rattle.guest_sched.specs.Releases.{release_at, AreReleases};
+ghost use Rattle.guest_sched.specs.Keep.{level_of, AreEnds};
+ghost use Rattle.guest_sched.specs.Places.{StandsIn};
+ghost use Rattle.guest_sched.specs.Ready.{IsReady, HaveCome, AreToCome, IsServed, IsBest, StaysBest, StaysFirst, AllEndAfter, IsSteady, left_after};
+
+use crate::releases::{Release, releases};
 use crate::choice::first_unbeaten;
-use crate::places::insert_place;
+use crate::keep::{Keep, end_moment};
+use crate::places::{insert_place, remove_place};
+use crate::spans::Span;
+use crate::windows::Stretch;
 use slot_model::{Job, Order, Task};
 use std::alloc::{AllocError, Global};
 
-/// The jobs of a guest between two slots.
+/// The jobs of a level between two events.
 #[derive(Drop)]
 pub struct Ready {
+    /// The slots before this moment are served.
+    time: u64,
     /// All jobs, by release.
-    arrivals: Vec<Arrival>,
-    /// How many of the arrivals have come.
-    arrived: usize,
+    releases: Vec<Release>,
+    /// How many of the releases have come.
+    released: usize,
     /// The slots that each job lacks.
     left: Vec<u64>,
-    /// The places of the jobs that have come and lack slots, ascending.
+    /// The moment from which each job is kept no more.
+    ends: Vec<u64>,
+    /// The places of the jobs that have come, lack slots and are kept, ascending.
     ready: Vec<u32>,
+    /// No ready job ends before this moment.
+    soonest: u64,
+    /// The ready job that goes first, where it is known.
+    best: Option<u32>,
 }
 
 impl Ready {
-    ghost use Rattle.std.specs.Prelude.{◌≡◌, ℕ, ◌+◌, ◌<◌, ◌≤◌, ◌^◌, ◌↔◌, length, map, slice_index, All, IsTrue, IfOk, OnOk, Some};
-    ghost use Rattle.slot_model.specs.Task.{sporadic_tasks, task_at};
-    ghost use Rattle.guest_sched.specs.Arrivals.{arrival_at, AreArrivals};
-    ghost use Rattle.guest_sched.specs.Ready.{IsReady, HaveCome, AreToCome, IsServed, left_after};
-
     /// The jobs before the first slot.
-    pub fn new(alloc: Global, jobs: &[Job]) -> Result<Ready, AllocError>
+    pub fn new(alloc: Global, keep: Keep, tasks: &[Task], jobs: &[Job]) -> Result<Ready, AllocError>
         requires few { length jobs.now < 2 ^ 32 }
         requires works { All (λ j. 1 ≤ j.work) jobs.now }
+        requires named { All (λ a. a.task < length tasks.now) jobs.now }
+        requires in_jitter { All (λ a. a.early ≤ (task_at (sporadic_tasks tasks.now) a.task).jitter) jobs.now }
         ensures state { IfOk result (λ r. IsReady r) }
-        ensures arrivals { IfOk result (λ r. AreArrivals jobs.now r.arrivals.items) }
-        ensures none_come { IfOk result (λ r. r.arrived ≡ 0) }
+        ensures releases { IfOk result (λ r. AreReleases jobs.now r.releases.items) }
+        ensures time { IfOk result (λ r. r.time ≡ 0) }
+        ensures none_come { IfOk result (λ r. r.released ≡ 0) }
         ensures left { IfOk result (λ r. r.left.items ≡ map (λ j. j.work) jobs.now) }
+        ensures ends { IfOk result (λ r. AreEnds (level_of keep) (sporadic_tasks tasks.now) jobs.now r.ends.items) }
+        ensures best { IfOk result (λ r. r.best ≡ None) }
     {
         Ok(Ready {
-            arrivals: arrivals(alloc, jobs)?,
-            arrived: 0,
+            time: 0,
+            releases: releases(alloc, jobs)?,
+            released: 0,
             left: jobs.iter().map(|job| job.work).collect(alloc)?,
+            ends: ends(alloc, keep, tasks, jobs)?,
             ready: Vec::with_capacity(alloc, jobs.len())?,
+            soonest: u64::MAX,
+            best: None,
         })
     }
 
-    /// Lets the jobs come that are released by `now`.
-    pub fn admit(&mut self, now: u64) -> Result<(), AllocError>
-        requires state { IsReady self.old }
-        requires come { HaveCome self.old now }
-        ensures state { OnOk result (IsReady self.new) }
-        ensures come { OnOk result (HaveCome self.new now) }
-        ensures to_come { OnOk result (AreToCome self.new now) }
-        ensures arrivals { self.new.arrivals ≡ self.old.arrivals }
-        ensures left { self.new.left ≡ self.old.left }
+    pub fn time(&self) -> u64
+        ensures { result ≡ self.now.time }
     {
-        while self.is_next_due(now) {
-            self.admit_next()?;
+        self.time
+    }
+
+    /// Lets the jobs come that are released by now, and gives those up that end by then.
+    pub fn catch_up<O: Order>(
+        &mut self,
+        order: &O,
+        tasks: &[Task],
+        jobs: &[Job],
+    ) -> Result<(), AllocError>
+        requires state { IsReady self.old }
+        requires come { HaveCome self.old self.old.time }
+        requires all_jobs { length self.old.left.items ≡ length jobs.now }
+        requires named { All (λ a. a.task < length tasks.now) jobs.now }
+        requires in_jitter { All (λ a. a.early ≤ (task_at (sporadic_tasks tasks.now) a.task).jitter) jobs.now }
+        requires best { IsBest (O.goes order.now (sporadic_tasks tasks.now)) jobs.now self.old.ready.items self.old.best }
+        requires in_time { self.old.time < 2 ^ 64 - 1 }
+        ensures state { OnOk result (IsReady self.new) }
+        ensures come { OnOk result (HaveCome self.new self.old.time) }
+        ensures to_come { OnOk result (AreToCome self.new self.old.time) }
+        ensures none_over { OnOk result (self.new.time < self.new.soonest) }
+        ensures time { self.new.time ≡ self.old.time }
+        ensures best { OnOk result (IsBest (O.goes order.now (sporadic_tasks tasks.now)) jobs.now self.new.ready.items self.new.best) }
+        ensures releases { self.new.releases ≡ self.old.releases }
+        ensures left { self.new.left ≡ self.old.left }
+        ensures ends { self.new.ends ≡ self.old.ends }
+    {
+        while self.is_next_due() {
+            self.admit_next(order, tasks, jobs)?;
+        }
+        self.give_up();
+        Ok(())
+    }
+
+    fn is_next_due(&self) -> bool
+        ensures { IsTrue result ↔ ((self.now.released < length self.now.releases.items) × ((release_at self.now.releases.items self.now.released).release ≤ self.now.time)) }
+    {
+        self.released < self.releases.len() && self.releases[self.released].release <= self.time
+    }
+
+    fn admit_next<O: Order>(
+        &mut self,
+        order: &O,
+        tasks: &[Task],
+        jobs: &[Job],
+    ) -> Result<(), AllocError>
+        requires state { IsReady self.old }
+        requires some { self.old.released < length self.old.releases.items }
+        requires all_jobs { length self.old.left.items ≡ length jobs.now }
+        requires named { All (λ a. a.task < length tasks.now) jobs.now }
+        requires in_jitter { All (λ a. a.early ≤ (task_at (sporadic_tasks tasks.now) a.task).jitter) jobs.now }
+        requires best { IsBest (O.goes order.now (sporadic_tasks tasks.now)) jobs.now self.old.ready.items self.old.best }
+        ensures state { OnOk result (IsReady self.new) }
+        ensures time { self.new.time ≡ self.old.time }
+        ensures one_more { OnOk result (self.new.released ≡ self.old.released + 1) }
+        ensures best { OnOk result (IsBest (O.goes order.now (sporadic_tasks tasks.now)) jobs.now self.new.ready.items self.new.best) }
+        ensures releases { self.new.releases ≡ self.old.releases }
+        ensures left { self.new.left ≡ self.old.left }
+        ensures ends { self.new.ends ≡ self.old.ends }
+    {
+        let place = self.releases[self.released].place;
+        insert_place(&mut self.ready, place)?;
+        self.released += 1;
+        self.soonest = self.soonest.min(self.ends[place as usize]);
+        if let Some(best) = self.best {
+            if !stays_first(order, tasks, jobs, best, place) {
+                self.best = None;
+            }
         }
         Ok(())
     }
 
-    fn is_next_due(&self, now: u64) -> bool
-        ensures { IsTrue result ↔ ((self.now.arrived < length self.now.arrivals.items) × ((arrival_at self.now.arrivals.items self.now.arrived).release ≤ now)) }
-    {
-        self.arrived < self.arrivals.len() && self.arrivals[self.arrived].release <= now
-    }
-
-    fn admit_next(&mut self) -> Result<(), AllocError>
+    /// Gives the jobs up that end by now.
+    fn give_up(&mut self)
         requires state { IsReady self.old }
-        requires some { self.old.arrived < length self.old.arrivals.items }
-        ensures state { OnOk result (IsReady self.new) }
-        ensures one_more { OnOk result (self.new.arrived ≡ self.old.arrived + 1) }
-        ensures arrivals { self.new.arrivals ≡ self.old.arrivals }
+        requires in_time { self.old.time < 2 ^ 64 - 1 }
+        ensures state { IsReady self.new }
+        ensures none_over { self.new.time < self.new.soonest }
+        ensures time { self.new.time ≡ self.old.time }
+        ensures best { StaysBest self.old self.new }
+        ensures releases { self.new.releases ≡ self.old.releases }
+        ensures released { self.new.released ≡ self.old.released }
         ensures left { self.new.left ≡ self.old.left }
+        ensures ends { self.new.ends ≡ self.old.ends }
     {
-        insert_place(&mut self.ready, self.arrivals[self.arrived].place)?;
-        self.arrived += 1;
-        Ok(())
+        if self.time < self.soonest {
+            return;
+        }
+        self.best = None;
+        while let Some(place) = find_ended(&self.ends, &self.ready, self.time) {
+            remove_place(&mut self.ready, place);
+        }
+        self.soonest = soonest_end(&self.ends, &self.ready);
     }
 
-    /// The job that has the next slot, if there is one, and is served.
+    /// The next span: the job that has its slots, if there is one, which is served.
     pub fn serve<O: Order>(
         &mut self,
         order: &O,
         tasks: &[Task],
         jobs: &[Job],
-        slot: bool,
-    ) -> Option<u32>
+        stretch: &Stretch,
+    ) -> Span
         requires state { IsReady self.old }
+        requires to_come { AreToCome self.old self.old.time }
+        requires none_over { self.old.time < self.old.soonest }
         requires all_jobs { length self.old.left.items ≡ length jobs.now }
         requires named { All (λ a. a.task < length tasks.now) jobs.now }
         requires in_jitter { All (λ a. a.early ≤ (task_at (sporadic_tasks tasks.now) a.task).jitter) jobs.now }
+        requires best { IsBest (O.goes order.now (sporadic_tasks tasks.now)) jobs.now self.old.ready.items self.old.best }
+        requires some { self.old.time < stretch.now.until }
+        ensures from { result.from ≡ self.old.time }
+        ensures some { self.old.time < result.until }
+        ensures time { self.new.time ≡ result.until }
+        ensures in_stretch { result.until ≤ stretch.now.until }
+        ensures served { IsServed (O.goes order.now (sporadic_tasks tasks.now)) jobs.now self.old.ready.items stretch.now.given result.job }
+        ensures steady { IsTrue stretch.now.given → IsSteady self.old result.until }
+        ensures enough { IfSome result.job (λ j. result.until - self.old.time ≤ slice_index self.old.left.items j) }
+        ensures left { self.new.left.items ≡ left_after self.old.left.items result.job (result.until - self.old.time) }
         ensures state { IsReady self.new }
-        ensures served { IsServed (O.goes order.now (sporadic_tasks tasks.now)) jobs.now self.old.ready.items slot result }
-        ensures left { self.new.left.items ≡ left_after self.old.left.items result }
-        ensures arrivals { self.new.arrivals ≡ self.old.arrivals }
-        ensures arrived { self.new.arrived ≡ self.old.arrived }
+        ensures best { IsBest (O.goes order.now (sporadic_tasks tasks.now)) jobs.now self.new.ready.items self.new.best }
+        ensures releases { self.new.releases ≡ self.old.releases }
+        ensures released { self.new.released ≡ self.old.released }
+        ensures ends { self.new.ends ≡ self.old.ends }
     {
-        if !slot {
-            return None;
+        if !stretch.given {
+            return self.pass(stretch.until);
         }
-        let at = first_unbeaten(order, tasks, jobs, &self.ready)?;
-        Some(self.give_slot(at))
+        let until = self.steady_until(stretch.until);
+        match self.choose(order, tasks, jobs) {
+            None => self.pass(until),
+            Some(place) => self.give(place, until),
+        }
     }
 
-    /// Gives a slot to the ready job at index `at`, which is ready no more if it is done.
-    fn give_slot(&mut self, at: usize) -> u32
+    /// Serves no job up to `until`.
+    fn pass(&mut self, until: u64) -> Span
         requires state { IsReady self.old }
-        requires within { at < length self.old.ready.items }
+        requires later { self.old.time ≤ until }
+        ensures span { result ≡ record { from = self.old.time; until = until; job = None } }
         ensures state { IsReady self.new }
-        ensures place { result ≡ slice_index self.old.ready.items at }
-        ensures left { self.new.left.items ≡ left_after self.old.left.items (Some result) }
-        ensures arrivals { self.new.arrivals ≡ self.old.arrivals }
-        ensures arrived { self.new.arrived ≡ self.old.arrived }
+        ensures rest { self.new ≡ record self.old { time = until } }
     {
-        let place = self.ready[at];
-        self.left[place as usize] -= 1;
-        if self.left[place as usize] == 0 {
-            self.ready.remove(at);
+        let from = self.time;
+        self.time = until;
+        Span {
+            from,
+            until,
+            job: None,
         }
-        place
     }
+
+    /// The last moment up to `until` before which no job comes or ends.
+    fn steady_until(&self, until: u64) -> u64
+        ensures at_most { result ≤ until }
+        ensures steady { IsSteady self.now result }
+        ensures later { (x : ℕ) → x < until → x < self.now.soonest → AreToCome self.now x → x < result }
+    {
+        let until = until.min(self.soonest);
+        if self.released < self.releases.len() {
+            until.min(self.releases[self.released].release)
+        } else {
+            until
+        }
+    }
+
+    /// The first of the ready jobs that no ready job goes before.
+    fn choose<O: Order>(&mut self, order: &O, tasks: &[Task], jobs: &[Job]) -> Option<u32>
+        requires in_jobs { All (λ p. p < length jobs.now) self.old.ready.items }
+        requires named { All (λ a. a.task < length tasks.now) jobs.now }
+        requires in_jitter { All (λ a. a.early ≤ (task_at (sporadic_tasks tasks.now) a.task).jitter) jobs.now }
+        requires best { IsBest (O.goes order.now (sporadic_tasks tasks.now)) jobs.now self.old.ready.items self.old.best }
+        ensures served { IsServed (O.goes order.now (sporadic_tasks tasks.now)) jobs.now self.old.ready.items true result }
+        ensures best { IsBest (O.goes order.now (sporadic_tasks tasks.now)) jobs.now self.new.ready.items self.new.best }
+        ensures rest { self.new ≡ record self.old { best = self.new.best } }
+    {
+        if self.best.is_some() {
+            return self.best;
+        }
+        self.best = first_place(order, tasks, jobs, &self.ready);
+        self.best
+    }
+
+    /// Gives the slots up to `until` to a ready job, as far as it lacks them.
+    fn give(&mut self, place: u32, until: u64) -> Span
+        requires state { IsReady self.old }
+        requires stands { StandsIn self.old.ready.items place }
+        requires some { self.old.time < until }
+        ensures from { result.from ≡ self.old.time }
+        ensures some { self.old.time < result.until }
+        ensures time { self.new.time ≡ result.until }
+        ensures in_time { result.until ≤ until }
+        ensures job { result.job ≡ Some place }
+        ensures enough { result.until - self.old.time ≤ slice_index self.old.left.items place }
+        ensures left { self.new.left.items ≡ left_after self.old.left.items (Some place) (result.until - self.old.time) }
+        ensures state { IsReady self.new }
+        ensures best { StaysBest self.old self.new }
+        ensures releases { self.new.releases ≡ self.old.releases }
+        ensures released { self.new.released ≡ self.old.released }
+        ensures ends { self.new.ends ≡ self.old.ends }
+    {
+        let from = self.time;
+        let lacks = self.left[place as usize];
+        let slots = lacks.min(until - from);
+        self.time += slots;
+        self.left[place as usize] = lacks - slots;
+        if slots == lacks {
+            remove_place(&mut self.ready, place);
+            self.best = None;
+        }
+        Span {
+            from,
+            until: self.time,
+            job: Some(place),
+        }
+    }
+}
+
+/// The moments from which each job is kept no more.
+fn ends(alloc: Global, keep: Keep, tasks: &[Task], jobs: &[Job]) -> Result<Vec<u64>, AllocError>
+    requires named { All (λ a. a.task < length tasks.now) jobs.now }
+    requires in_jitter { All (λ a. a.early ≤ (task_at (sporadic_tasks tasks.now) a.task).jitter) jobs.now }
+    ensures { IfOk result (λ v. AreEnds (level_of keep) (sporadic_tasks tasks.now) jobs.now v.items) }
+{
+    let mut ends = Vec::with_capacity(alloc, jobs.len())?;
+    for job in jobs {
+        ends.push(end_moment(keep, tasks, job))?;
+    }
+    Ok(ends)
+}
+
+/// Whether the job at `best`, which went first, still does where the job at `place` has come.
+fn stays_first<O: Order>(order: &O, tasks: &[Task], jobs: &[Job], best: u32, place: u32) -> bool
+    requires best_in { best < length jobs.now }
+    requires place_in { place < length jobs.now }
+    requires named { All (λ a. a.task < length tasks.now) jobs.now }
+    requires in_jitter { All (λ a. a.early ≤ (task_at (sporadic_tasks tasks.now) a.task).jitter) jobs.now }
+    ensures { IsTrue result → StaysFirst (O.goes order.now (sporadic_tasks tasks.now)) jobs.now best place }
+{
+    let old = &jobs[best as usize];
+    let new = &jobs[place as usize];
+    !order.before(tasks, new, old) && (best < place || order.before(tasks, old, new))
+}
+
+/// The place of a ready job that ends by `now`.
+fn find_ended(ends: &[u64], ready: &[u32], now: u64) -> Option<u32>
+    requires { All (λ p. p < length ends.now) ready.now }
+    ensures { MatchOption result (AllEndAfter ends.now ready.now now) (λ p. StandsIn ready.now p × (slice_index ends.now p ≤ now)) }
+{
+    for place in ready {
+        if ends[*place as usize] <= now {
+            return Some(*place);
+        }
+    }
+    None
+}
+
+/// The least end of a ready job, or the last moment of all.
+fn soonest_end(ends: &[u64], ready: &[u32]) -> u64
+    requires { All (λ p. p < length ends.now) ready.now }
+    ensures least { (k : ℕ) → k < length ready.now → result ≤ slice_index ends.now (slice_index ready.now k) }
+    ensures after { (x : ℕ) → x < 2 ^ 64 - 1 → AllEndAfter ends.now ready.now x → x < result }
+{
+    let mut soonest = u64::MAX;
+    for place in ready {
+        soonest = soonest.min(ends[*place as usize]);
+    }
+    soonest
+}
+
+/// The place of the first of the ready jobs that no ready job goes before.
+fn first_place<O: Order>(order: &O, tasks: &[Task], jobs: &[Job], ready: &[u32]) -> Option<u32>
+    requires in_jobs { All (λ p. p < length jobs.now) ready.now }
+    requires named { All (λ a. a.task < length tasks.now) jobs.now }
+    requires in_jitter { All (λ a. a.early ≤ (task_at (sporadic_tasks tasks.now) a.task).jitter) jobs.now }
+    ensures { IsServed (O.goes order.now (sporadic_tasks tasks.now)) jobs.now ready.now true result }
+{
+    let at = first_unbeaten(order, tasks, jobs, ready)?;
+    Some(ready[at])
 }

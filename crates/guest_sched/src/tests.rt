@@ -1,6 +1,7 @@
-use crate::{run_level, run_over};
+use crate::{Span, Window, are_windows, run_level, run_over, run_spans, server_spans};
 use slot_model::{Edf, Job, Task, is_legal};
 use std::alloc::{AllocError, Global};
+use std::fmt::Write;
 use std::test::Fail;
 use supply_bound::Periodic;
 
@@ -110,5 +111,85 @@ fn worst_pattern_of_a_periodic_resource(rt: HostRuntime) -> Result<(), Fail> {
         let held = run.iter().filter(|held| **held == Some(place)).count();
         assert_eq!(rt; held, slots, "job {place}");
     }
+    Ok(())
+}
+
+/// The spans at a guest or at a level of servers; none where the input is refused.
+fn spans_of(
+    alloc: Global,
+    is_server: bool,
+    tasks: &[Task],
+    jobs: &[Job],
+    given: &[Window],
+    slots: u64,
+) -> Result<Vec<Span>, AllocError> {
+    if !is_legal(tasks, jobs) || jobs.len() > 1000 {
+        return Ok(Vec::new(alloc));
+    }
+    if !are_windows(given, slots) {
+        return Ok(Vec::new(alloc));
+    }
+    if is_server {
+        server_spans(alloc, tasks, jobs, &Edf, given, slots)
+    } else {
+        run_spans(alloc, tasks, jobs, &Edf, given, slots)
+    }
+}
+
+fn windows_of(alloc: Global, rows: &[(u64, u64)]) -> Result<Vec<Window>, AllocError> {
+    let mut windows = Vec::new(alloc);
+    for (from, until) in rows {
+        windows.push(Window {
+            from: *from,
+            until: *until,
+        })?;
+    }
+    Ok(windows)
+}
+
+/// Spans as a text: each its first slot and then its job, `-` where it has none.
+fn told(alloc: Global, spans: &[Span]) -> Result<String, AllocError> {
+    let mut text = String::new(alloc);
+    for span in spans {
+        match span.job {
+            Some(place) => write!(text, "{}:{place} ", span.from)?,
+            None => write!(text, "{}:- ", span.from)?,
+        }
+    }
+    Ok(text)
+}
+
+/// One task of period and deadline 10 and work 3 with a late job: at a guest it goes on, and a
+/// server is given up at its deadline moment. The last window ends with the last slot of all.
+#[test]
+fn late_jobs_and_the_last_moment(rt: HostRuntime) -> Result<(), Fail> {
+    let alloc = rt.alloc();
+    let tasks = tasks_of(alloc, &[(10, 3)])?;
+    let jobs = jobs_of(alloc, &[(0, 0, 3), (0, 12, 3), (0, u64::MAX - 2, 3)])?;
+    let given = windows_of(alloc, &[(0, 1), (9, 14), (14, 15), (20, u64::MAX)])?;
+    let guest = spans_of(alloc, false, &tasks, &jobs, &given, u64::MAX)?;
+    assert_eq!(rt;
+        told(alloc, &guest)?.as_str(),
+        "0:0 1:- 9:0 11:- 12:1 15:- 18446744073709551613:2 "
+    );
+    let server = spans_of(alloc, true, &tasks, &jobs, &given, u64::MAX)?;
+    assert_eq!(rt;
+        told(alloc, &server)?.as_str(),
+        "0:0 1:- 9:0 10:- 12:1 15:- 18446744073709551613:2 "
+    );
+    Ok(())
+}
+
+/// A server whose job is given up gives way to one that it went before.
+#[test]
+fn servers_give_way_at_their_deadline(rt: HostRuntime) -> Result<(), Fail> {
+    let alloc = rt.alloc();
+    let tasks = tasks_of(alloc, &[(4, 3), (9, 5)])?;
+    let jobs = jobs_of(alloc, &[(1, 0, 5), (0, 1, 3)])?;
+    let given = windows_of(alloc, &[(0, 1), (3, 12)])?;
+    let server = spans_of(alloc, true, &tasks, &jobs, &given, 12)?;
+    assert_eq!(rt; told(alloc, &server)?.as_str(), "0:0 1:- 3:1 5:0 9:- ");
+    let none = spans_of(alloc, true, &tasks, &jobs, &[], 0)?;
+    assert_eq!(rt; none.len(), 0);
     Ok(())
 }

@@ -1,2 +1,1 @@
 pub mod Defeat
-pub mod Jobs

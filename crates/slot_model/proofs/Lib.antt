@@ -17,7 +17,7 @@ pub mod WorstPattern
 pub mod FullSupply
 mod Apart
 pub mod MissedJobs
-mod FirstMiss
+pub mod FirstMiss
 pub mod LegalJobs
 mod SlotExamples
 mod BoundExamples

@@ -1,38 +1,20 @@
-use Rattle.std.proofs.Common.{ℕ, ◌≡◌, ◌++◌, List, length, arith, rules, ap, sym, ◌∙◌, subst}
-use Rattle.std.specs.List.Sorted.{IsPermutation}
-use Rattle.std.proofs.lemmas.List.Sorted.{answers_always}
-use Rattle.slot_model.specs.Task.{SporadicTask, sporadic_tasks}
-use Rattle.slot_model.specs.Release.{LegalRelease, synchronous}
-use Rattle.slot_model.proofs.Constrained.{are_constrained}
-use Rattle.slot_model.proofs.Synchronous.{legal_synchronous}
+use Rattle.std.proofs.Common.{ℕ, ◌≤◌, List, length, arith, ap}
+use Rattle.std.proofs.lemmas.List.{length-map}
+use Rattle.std.proofs.lemmas.Result.{IfOk-weaker}
 use Rattle.slot_model.specs.declared.job.Job.{Job}
-use Rattle.fp_request.proofs.Parts.{sporadic_tasks-length}
-use Rattle.miss_witness.specs.Jobs.{task_releases, releases_by_task}
-use Rattle.miss_witness.proofs.TaskReleases.{no_task, one_task_more}
+use Rattle.slot_model.specs.declared.task.Task.{Task}
+use Rattle.slot_model.specs.Task.{sporadic_task, sporadic_tasks}
+use Rattle.slot_model.specs.Release.{synchronous}
 use Rattle.miss_witness.proofs.Counts.{few_jobs}
-use Rattle.miss_witness.proofs.Sorted.{sorted_is_synchronous}
 use Rattle.miss_witness.proofs.jobs.witness_jobs.Goals as goal
 
-pub loop-place-init : goal.loop-place-init
-loop-place-init c = c.in_ok-jobs.ensures.items ∙ sym (no_task (sporadic_tasks c.args.tasks.now) c.args.w.now.start c.args.w.now.span)
+few_of : (tasks : List Task) (start span : ℕ) → length tasks ≤ 256 → span ≤ 1000000 → length (synchronous (sporadic_tasks tasks) start span) ≤ 256000000
+few_of tasks start span few reach = few_jobs (sporadic_tasks tasks) start span (omega (arith, length-map tasks sporadic_task)) reach
 
-pub loop-place-preserved : goal.loop-place-preserved
-loop-place-preserved c =
-    c.in_ok-push_releases.ensures
-    ∙ ap (λ (z : List Job). z ++ task_releases (sporadic_tasks c.args.tasks.now) c.args.w.now.start c.loop-place.place c.args.w.now.span) c.loop-place.invariant
-    ∙ sym (one_task_more (sporadic_tasks c.args.tasks.now) c.args.w.now.start c.args.w.now.span c.loop-place.place)
+pub synchronous_jobs-requires-clause-few : goal.synchronous_jobs-requires-clause-few
+synchronous_jobs-requires-clause-few c = omega (arith, few_of c.args.tasks.now c.args.w.now.start c.args.w.now.span c.requires.few (omega arith))
 
-pub returns : goal.returns
-returns c =
-    let T : List SporadicTask = sporadic_tasks c.args.tasks.now in
-    let n : c.loop-place.place ≡ length T = omega (arith, sporadic_tasks-length c.args.tasks.now) in
-    let added : c.loop-place.jobs.items ≡ releases_by_task T c.args.w.now.start c.args.w.now.span (length T) = c.loop-place.invariant ∙ ap (λ (z : ℕ). releases_by_task T c.args.w.now.start c.args.w.now.span z) n in
-    let exact : c.sort_unstable_by_key.new.self.items ≡ synchronous T c.args.w.now.start c.args.w.now.span =
-    sorted_is_synchronous T c.args.w.now.start c.args.w.now.span c.sort_unstable_by_key.new.self.items
-    (subst (λ (jobs : List Job). IsPermutation jobs c.sort_unstable_by_key.new.self.items) added c.sort_unstable_by_key.ensures.permutation)
-    (c.sort_unstable_by_key.ensures.sorted (λ (job : Job). (job.release, job.task)) (answers_always _ _ _ (λ f a r g h. search rules))) in
-    record {
-      exact = exact;
-      legal = subst (LegalRelease T) (sym exact) (legal_synchronous T (are_constrained c.args.tasks.now) c.args.w.now.start c.args.w.now.span);
-      few = omega (arith, ap (λ (jobs : List Job). length jobs) exact, few_jobs T c.args.w.now.start c.args.w.now.span (omega (arith, sporadic_tasks-length c.args.tasks.now)) (omega arith));
-    }
+pub returns-clause-few : goal.returns-clause-few
+returns-clause-few c =
+    let few = few_of c.args.tasks.now c.args.w.now.start c.args.w.now.span c.requires.few (omega arith) in
+    IfOk-weaker c.synchronous_jobs.result _ _ (λ jobs e. omega (arith, few, ap (λ (z : List Job). length z) e)) c.synchronous_jobs.ensures.exact

@@ -1,16 +1,18 @@
-use Rattle.std.proofs.Common.{ℕ, List, Bool, Some, arith, sym, subst}
+use Rattle.std.proofs.Common.{subst, sym, refl, arith}
 use Rattle.slot_model.specs.Task.{sporadic_tasks}
-use Rattle.guest_sched.specs.Choice.{IsFirstUnbeaten}
-use Rattle.guest_sched.specs.Ready.{IsServed}
+use Rattle.guest_sched.specs.declared.ready.Ready.{Ready}
+use Rattle.guest_sched.specs.Ready.{IsBest}
 use Rattle.guest_sched.proofs.State.{all_in_jobs}
+use Rattle.guest_sched.proofs.Best.{best_stays}
 use Rattle.guest_sched.proofs.ready.Ready.serve.Goals as goal
 
-pub first_unbeaten-requires-clause-in_jobs : goal.first_unbeaten-requires-clause-in_jobs
-first_unbeaten-requires-clause-in_jobs g c k d l = omega (arith, c.requires.all_jobs, all_in_jobs _ _ _ c.args.self.now.ready.items c.deref.result.now c.requires.state c.deref.ensures.value k d l)
+pub returns-then-not-stretch-clause-best : goal.returns-then-not-stretch-clause-best
+returns-then-not-stretch-clause-best g c = subst (λ (s : Ready). IsBest (g.O.Order.goes c.args.order.now (sporadic_tasks c.args.tasks.now)) c.args.jobs.now s.ready.items s.best) (sym c.pass.ensures.rest) c.requires.best
 
-pub returns-clause-served : goal.returns-clause-served
-returns-clause-served g c =
-    let before = g.O.Order.goes c.args.order.now (sporadic_tasks c.args.tasks.now) in
-    let jobs = c.args.jobs.now in
-    subst (λ (b : Bool). IsServed before jobs c.args.self.now.ready.items b (Some c.give_slot.result)) (sym c.if-not-slot.false)
-    (c.in_ok-at.at, sym c.give_slot.ensures.place, subst (λ (z : List ℕ). IsFirstUnbeaten before jobs z (Some c.in_ok-at.at)) c.deref.ensures.value c.in_ok-at.ensures)
+pub choose-requires-clause-in_jobs : goal.choose-requires-clause-in_jobs
+choose-requires-clause-in_jobs g c k d l =
+    let s = c.args.self.now in
+    omega (arith, c.requires.all_jobs, all_in_jobs s.releases.items s.released s.left.items s.ends.items s.ready.items s.soonest s.time s.ready.items c.requires.state refl k d l)
+
+pub returns-in-Some-clause-best : goal.returns-in-Some-clause-best
+returns-in-Some-clause-best g c = best_stays (g.O.Order.goes c.args.order.now (sporadic_tasks c.args.tasks.now)) c.args.jobs.now c.choose.new.self c.give.new.self c.choose.ensures.best c.give.ensures.best

@@ -1,7 +1,0 @@
-use Rattle.std.proofs.Common.{◌≡◌}
-use Rattle.slot_model.specs.Task.{sporadic_tasks}
-use Rattle.miss_witness.specs.Jobs.{releases_by_task}
-use Rattle.miss_witness.proofs.jobs.witness_jobs.Given as goal
-
-abbrev pub invariant-loop-place : goal.invariant-loop-place
-invariant-loop-place l = l.jobs.items ≡ releases_by_task (sporadic_tasks l.tasks) l.w.start l.span l.place

@@ -1,0 +1,6 @@
+mod Bags
+mod TaskReleases
+mod Ordered
+mod Sorted
+mod FewTasks
+pub mod FewJobs

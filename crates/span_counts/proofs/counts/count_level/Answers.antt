@@ -1,0 +1,18 @@
+use Rattle.std.proofs.Common.{◌≡◌, ℕ, length, sym, ◌∙◌, ap}
+use Rattle.slot_model.specs.Slots.{count_below, slots_between}
+use Rattle.guest_sched.specs.Spans.{slots_of}
+use Rattle.guest_sched.proofs.Given.{slots-long}
+use Rattle.span_counts.specs.Counts.{is_early}
+use Rattle.span_counts.proofs.counts.count_level.Goals as goal
+
+pub returns : goal.returns
+returns c =
+    let slots = slots_of c.args.given.now c.args.slots in
+    let long : length slots ≡ c.args.slots = slots-long c.args.given.now c.args.slots in
+    record {
+      given = c.slots_given.ensures c.args.slots c.requires.windows ∙ ap (slots_between slots 0) (sym long);
+      released = c.jobs_before.ensures ∙ ap (λ (n : ℕ). count_below (is_early c.args.jobs.now n) (length c.args.jobs.now)) (sym long);
+      missed = c.count_missed.ensures.number;
+      none = c.count_missed.ensures.none;
+      first = c.first_missed.ensures;
+    }

@@ -1,0 +1,242 @@
+ghost use Rattle.std.specs.Prelude.{◌≡◌, ◌↔◌, ℕ, ◌+◌, ◌-◌, ◌^◌, ◌≤◌, ◌<◌, min, true, false, length, IfOk, MatchOption};
+ghost use Rattle.slot_model.specs.Slots.{count_below, slots_between};
+ghost use Rattle.slot_model.specs.Task.{sporadic_tasks};
+ghost use Rattle.slot_model.specs.Miss.{AreInJitter, AreNamed, HoldsReleased, IsFirstMiss, NoneMissed, is_missed, miss_of};
+ghost use Rattle.guest_sched.specs.Spans.{AreWindows, AreSpans, slots_of, run_of};
+ghost use Rattle.span_counts.specs.Counts.{AreCounts, AreServices, is_early};
+
+use guest_sched::{Span, Window};
+use slot_model::{Job, Miss, Task, deadline_moment};
+use std::alloc::{AllocError, Global};
+
+/// What is counted of a level's run: the slots that it is given, its jobs that are released before
+/// the end, those of them that miss, and the first miss.
+#[derive(Clone, Copy, Debug, PartialEq, Eq)]
+pub struct Counts {
+    pub given: u64,
+    pub released: u64,
+    pub missed: u64,
+    pub first: Option<Miss>,
+}
+
+/// The counts of a level's run over windows of `slots` slots, in one pass over its windows, its
+/// spans and its jobs.
+pub fn count_level(
+    alloc: Global,
+    tasks: &[Task],
+    jobs: &[Job],
+    given: &[Window],
+    spans: &[Span],
+    slots: u64,
+) -> Result<Counts, AllocError>
+    requires named { AreNamed (sporadic_tasks tasks.now) jobs.now }
+    requires in_jitter { AreInJitter (sporadic_tasks tasks.now) jobs.now }
+    requires released { HoldsReleased jobs.now (run_of spans.now) }
+    requires windows { AreWindows given.now slots }
+    requires spans { AreSpans spans.now slots }
+    requires long { length (run_of spans.now) ≡ slots }
+    ensures { IfOk result (λ counts. AreCounts (sporadic_tasks tasks.now) jobs.now (slots_of given.now slots) (run_of spans.now) counts) }
+{
+    let got = services(alloc, tasks, jobs, spans)?;
+    Ok(Counts {
+        given: slots_given(given),
+        released: jobs_before(jobs, slots),
+        missed: count_missed(tasks, jobs, spans, &got),
+        first: first_missed(tasks, jobs, spans, &got),
+    })
+}
+
+/// The number of jobs that miss in a run of spans: their deadline moment is within the run, and they
+/// got fewer slots than their work before it.
+pub fn misses(
+    alloc: Global,
+    jobs: &[Job],
+    tasks: &[Task],
+    spans: &[Span],
+) -> Result<u64, AllocError>
+    requires named { AreNamed (sporadic_tasks tasks.now) jobs.now }
+    requires in_jitter { AreInJitter (sporadic_tasks tasks.now) jobs.now }
+    requires released { HoldsReleased jobs.now (run_of spans.now) }
+    requires spans { AreSpans spans.now (length (run_of spans.now)) }
+    ensures number { let T = sporadic_tasks tasks.now in let run = run_of spans.now in
+        IfOk result (λ n. n ≡ count_below (is_missed T jobs.now run) (length jobs.now)) }
+    ensures none { let T = sporadic_tasks tasks.now in
+        IfOk result (λ n. (n ≡ 0) ↔ NoneMissed T jobs.now (run_of spans.now)) }
+{
+    let got = services(alloc, tasks, jobs, spans)?;
+    Ok(count_missed(tasks, jobs, spans, &got))
+}
+
+/// The missed job with the earliest deadline moment in a run of spans, and of several the first in
+/// the list.
+pub fn first_miss(
+    alloc: Global,
+    jobs: &[Job],
+    tasks: &[Task],
+    spans: &[Span],
+) -> Result<Option<Miss>, AllocError>
+    requires named { AreNamed (sporadic_tasks tasks.now) jobs.now }
+    requires in_jitter { AreInJitter (sporadic_tasks tasks.now) jobs.now }
+    requires released { HoldsReleased jobs.now (run_of spans.now) }
+    requires spans { AreSpans spans.now (length (run_of spans.now)) }
+    ensures { let T = sporadic_tasks tasks.now in
+        IfOk result (λ miss. IsFirstMiss T jobs.now (run_of spans.now) miss) }
+{
+    let got = services(alloc, tasks, jobs, spans)?;
+    Ok(first_missed(tasks, jobs, spans, &got))
+}
+
+/// The number of slots of windows.
+fn slots_given(windows: &[Window]) -> u64
+    requires { AreWindows windows.now (2 ^ 64 - 1) }
+    ensures { (n : ℕ) → AreWindows windows.now n → result ≡ slots_between (slots_of windows.now n) 0 n }
+{
+    let mut given = 0;
+    for window in windows {
+        given += window.until - window.from;
+    }
+    given
+}
+
+/// The number of jobs that are released before a moment.
+fn jobs_before(jobs: &[Job], moment: u64) -> u64
+    ensures { result ≡ count_below (is_early jobs.now moment) (length jobs.now) }
+{
+    let mut released = 0;
+    for job in jobs {
+        if job.release < moment {
+            released += 1;
+        }
+    }
+    released
+}
+
+/// The slots that each job gets before its deadline moment.
+fn services(
+    alloc: Global,
+    tasks: &[Task],
+    jobs: &[Job],
+    spans: &[Span],
+) -> Result<Vec<u64>, AllocError>
+    requires named { AreNamed (sporadic_tasks tasks.now) jobs.now }
+    requires in_jitter { AreInJitter (sporadic_tasks tasks.now) jobs.now }
+    requires released { HoldsReleased jobs.now (run_of spans.now) }
+    requires spans { AreSpans spans.now (length (run_of spans.now)) }
+    ensures { IfOk result (λ got. AreServices (sporadic_tasks tasks.now) jobs.now (run_of spans.now) got.items) }
+{
+    let mut got = vec![in alloc; 0; jobs.len()]?;
+    for span in spans {
+        if let Some(job) = span.job {
+            let place = job as usize;
+            let due = deadline_moment(tasks, &jobs[place]);
+            let before = got[place];
+            got[place] = before + slots_before(span, due);
+        }
+    }
+    Ok(got)
+}
+
+/// The slots of a span before a moment.
+fn slots_before(span: &Span, moment: u128) -> u64
+    requires { span.now.from ≤ span.now.until }
+    ensures slots { result + min moment span.now.from ≡ min moment span.now.until }
+    ensures fits { span.now.until < 2 ^ 64 }
+{
+    if span.until as u128 <= moment {
+        return span.until - span.from;
+    }
+    if moment <= span.from as u128 {
+        return 0;
+    }
+    moment as u64 - span.from
+}
+
+/// The number of jobs that miss: their deadline moment is within the run, and they got fewer slots
+/// than their work before it.
+fn count_missed(tasks: &[Task], jobs: &[Job], spans: &[Span], got: &[u64]) -> u64
+    requires named { AreNamed (sporadic_tasks tasks.now) jobs.now }
+    requires in_jitter { AreInJitter (sporadic_tasks tasks.now) jobs.now }
+    requires spans { AreSpans spans.now (length (run_of spans.now)) }
+    requires got { AreServices (sporadic_tasks tasks.now) jobs.now (run_of spans.now) got.now }
+    ensures number { result ≡ count_below (is_missed (sporadic_tasks tasks.now) jobs.now (run_of spans.now)) (length jobs.now) }
+    ensures none { (result ≡ 0) ↔ NoneMissed (sporadic_tasks tasks.now) jobs.now (run_of spans.now) }
+{
+    let mut missed = 0;
+    for place in 0..jobs.len() {
+        if find_miss(tasks, jobs, spans, got, place).is_some() {
+            missed += 1;
+        }
+    }
+    missed
+}
+
+/// The missed job with the earliest deadline moment, and of several the first in the list.
+fn first_missed(tasks: &[Task], jobs: &[Job], spans: &[Span], got: &[u64]) -> Option<Miss>
+    requires named { AreNamed (sporadic_tasks tasks.now) jobs.now }
+    requires in_jitter { AreInJitter (sporadic_tasks tasks.now) jobs.now }
+    requires spans { AreSpans spans.now (length (run_of spans.now)) }
+    requires got { AreServices (sporadic_tasks tasks.now) jobs.now (run_of spans.now) got.now }
+    ensures { IsFirstMiss (sporadic_tasks tasks.now) jobs.now (run_of spans.now) result }
+{
+    let mut first = None;
+    for place in 0..jobs.len() {
+        if let Some(miss) = find_miss(tasks, jobs, spans, got, place) {
+            first = Some(earlier(first, miss));
+        }
+    }
+    first
+}
+
+// The miss that is there already stays where the moments are equal.
+fn earlier(first: Option<Miss>, miss: Miss) -> Miss
+    ensures { MatchOption first (result ≡ miss) (λ old. (old.deadline ≤ miss.deadline → result ≡ old) × (miss.deadline < old.deadline → result ≡ miss)) }
+{
+    match first {
+        Some(old) if old.deadline <= miss.deadline => old,
+        _ => miss,
+    }
+}
+
+// None exactly where the job at `place` does not miss.
+fn find_miss(
+    tasks: &[Task],
+    jobs: &[Job],
+    spans: &[Span],
+    got: &[u64],
+    place: usize,
+) -> Option<Miss>
+    requires named { AreNamed (sporadic_tasks tasks.now) jobs.now }
+    requires in_jitter { AreInJitter (sporadic_tasks tasks.now) jobs.now }
+    requires spans { AreSpans spans.now (length (run_of spans.now)) }
+    requires got { AreServices (sporadic_tasks tasks.now) jobs.now (run_of spans.now) got.now }
+    requires is_job { place < length jobs.now }
+    ensures { MatchOption result (is_missed (sporadic_tasks tasks.now) jobs.now (run_of spans.now) place ≡ false) (λ miss. (is_missed (sporadic_tasks tasks.now) jobs.now (run_of spans.now) place ≡ true) × (miss ≡ miss_of (sporadic_tasks tasks.now) jobs.now (run_of spans.now) place)) }
+{
+    let job = jobs[place];
+    let moment = deadline_moment(tasks, &job);
+    if moment > end_of_run(spans) as u128 {
+        return None;
+    }
+    let got = got[place];
+    if got >= job.work {
+        return None;
+    }
+    Some(Miss {
+        task: job.task,
+        release: job.release,
+        deadline: moment as u64,
+        got,
+        work: job.work,
+    })
+}
+
+/// Where a run of spans ends.
+fn end_of_run(spans: &[Span]) -> u64
+    requires { AreSpans spans.now (length (run_of spans.now)) }
+    ensures { result ≡ length (run_of spans.now) }
+{
+    match spans.last() {
+        Some(last) => last.until,
+        None => 0,
+    }
+}

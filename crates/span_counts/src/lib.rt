@@ -1,0 +1,7 @@
+//! What is counted of a run of spans: the slots that it is given, its jobs, and those that miss. It
+//! takes time for each span and each job, and none for a slot.
+#![tactic(auto)]
+
+mod counts;
+
+pub use counts::{Counts, count_level, first_miss, misses};
