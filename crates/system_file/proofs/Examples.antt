@@ -1,14 +1,16 @@
 -- Files and documents worked out by the checker: good ones, and refused ones with the fault that counts first.
 use Rattle.slot_model.specs.Task.{plain_task}
-use Rattle.std.specs.Prelude.{◌≡◌, codes, [], ◌∷◌, List, ℕ, pos, Ok, Err, Some, None, false, refl}
+use Rattle.std.specs.Prelude.{◌≡◌, codes, [], ◌∷◌, List, ℕ, ℤ, pos, negsuc, Ok, Err, Some, None, false, refl}
 use Rattle.slot_model.specs.declared.sched.Sched.TheVariants.{Edf, Rm}
 use Rattle.std.specs.Str.{is_utf8, chars}
 use Rattle.toml.proofs.OnLiterals.{toml_on_literals}
 use Rattle.toml.specs.Data.{Data, string, integer, array, table, Items, no_items, item, Members, no_members, member}
+use Rattle.tree_model.specs.View.{SystemView}
 use Rattle.tree_model.specs.declared.place.Parent.TheVariants.{Core as on_core, Part as on_part}
 use Rattle.system_file.specs.declared.fault.Spot.TheVariants.{Top, Core, Part, Task}
 use Rattle.system_file.specs.declared.fault.SystemFault.TheVariants.{NotToml, MissingKey, WrongKind, UnknownKey, BadName, NameTaken, OutOfRange, NoSuchParent, Mixed, Empty}
-use Rattle.system_file.specs.SystemFile.{system_of, system_of_document}
+use Rattle.system_file.specs.declared.format.Format.TheVariants.{One, Two}
+use Rattle.system_file.specs.SystemFile.{system_of, system_of_document, file_format, needed_format}
 
 -- from the bytes on
 no_bytes : system_of [] ≡ Err (MissingKey Top)
@@ -32,8 +34,13 @@ unfolding toml_on_literals is_utf8 chars system_of
 core_alone = refl
 
 -- from the document on
+abbrev of_format : ℤ → Items → Items → Members
+of_format format cores parts =
+    member (codes "core") (array cores)
+    (member (codes "format") (integer format) (member (codes "part") (array parts) no_members))
+
 abbrev document : Items → Items → Members
-document cores parts = member (codes "core") (array cores) (member (codes "format") (integer (pos 1)) (member (codes "part") (array parts) no_members))
+document cores parts = of_format (pos 1) cores parts
 
 abbrev core_keys : Members → Members
 core_keys more = member (codes "name") (string (codes "cpu0")) (member (codes "sched") (string (codes "edf")) more)
@@ -103,3 +110,80 @@ supply_budget_alone = refl
 -- its own fault comes before that of the missing budget
 supply_period_of_0 : system_of_document (Some (document (item (table (core_keys (member (codes "supply_period") (integer (pos 0)) no_members))) no_items) no_items)) ≡ Err (OutOfRange (Core 0))
 supply_period_of_0 = refl
+
+-- a task with jitter: in format 2 alone, and with work up to what the jitter leaves of the deadline
+abbrev late_task : Data → Data → Data
+late_task jitter work =
+    table (member (codes "deadline") (integer (pos 9))
+    (member (codes "jitter") jitter
+    (member (codes "name") (string (codes "t"))
+    (member (codes "period") (integer (pos 10)) (member (codes "work") work no_members)))))
+
+abbrev of_task : ℤ → Data → Members
+of_task format t =
+    of_format format one_core
+    (item (inner (codes "x") (codes "cpu0") (member (codes "task") (array (item t no_items)) no_members))
+    no_items)
+
+abbrev late : ℕ → ℕ → SystemView
+late jitter work = record {
+  cores = record { name = codes "cpu0"; sched = Edf; supply = None } ∷ [];
+  parts = record {
+    name = codes "x";
+    parent = on_core 0;
+    sched = Rm;
+    period = 10;
+    budget = None;
+    extra = false;
+    tasks = record {
+      name = codes "t";
+      task = record { period = 10; deadline = 9; work = work; jitter = jitter };
+    } ∷ [];
+  } ∷ [];
+}
+
+jitter_read : system_of_document (Some (of_task (pos 2) (late_task (integer (pos 4)) (integer (pos 5))))) ≡ Ok (late 4 5)
+jitter_read = refl
+
+most_jitter : system_of_document (Some (of_task (pos 2) (late_task (integer (pos 8)) (integer (pos 1))))) ≡ Ok (late 8 1)
+most_jitter = refl
+
+work_in_the_jitter : system_of_document (Some (of_task (pos 2) (late_task (integer (pos 4)) (integer (pos 6))))) ≡ Err (OutOfRange (Task 0 0))
+work_in_the_jitter = refl
+
+jitter_of_the_deadline : system_of_document (Some (of_task (pos 2) (late_task (integer (pos 9)) (integer (pos 1))))) ≡ Err (OutOfRange (Task 0 0))
+jitter_of_the_deadline = refl
+
+jitter_below_0 : system_of_document (Some (of_task (pos 2) (late_task (integer (negsuc 0)) (integer (pos 1))))) ≡ Err (OutOfRange (Task 0 0))
+jitter_below_0 = refl
+
+-- its kind counts before the range of the work
+jitter_as_text : system_of_document (Some (of_task (pos 2) (late_task (string (codes "4")) (integer (pos 9))))) ≡ Err (WrongKind (Task 0 0))
+jitter_as_text = refl
+
+jitter_in_format_1 : system_of_document (Some (of_task (pos 1) (late_task (integer (pos 4)) (integer (pos 5))))) ≡ Err (UnknownKey (Task 0 0))
+jitter_in_format_1 = refl
+
+no_jitter_in_format_2 : system_of_document (Some (of_task (pos 2) (task (integer (pos 10)) (integer (pos 10))))) ≡ system_of_document (Some (of_task (pos 1) (task (integer (pos 10)) (integer (pos 10)))))
+no_jitter_in_format_2 = refl
+
+-- other formats
+format_0 : system_of_document (Some (of_format (pos 0) one_core no_items)) ≡ Err (OutOfRange Top)
+format_0 = refl
+
+format_3 : system_of_document (Some (of_format (pos 3) one_core no_items)) ≡ Err (OutOfRange Top)
+format_3 = refl
+
+format_below_0 : system_of_document (Some (of_format (negsuc 0) one_core no_items)) ≡ Err (OutOfRange Top)
+format_below_0 = refl
+
+-- the format of a text, and the one that a system needs
+format_of_a_text : file_format (codes "format = 2") ≡ Some Two
+unfolding toml_on_literals is_utf8 chars
+format_of_a_text = refl
+
+needs_2 : needed_format (late 1 1) ≡ Two
+needs_2 = refl
+
+needs_1 : needed_format (late 0 1) ≡ One
+needs_1 = refl

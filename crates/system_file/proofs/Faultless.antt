@@ -1,5 +1,5 @@
 -- What stands in a document where a definition finds no fault.
-use Rattle.std.proofs.Common.{◌≡◌, ℕ, ◌≤◌, pos, negsuc, Bool, true, false, not, ◌&&◌, nat_le, nat_lt, List, [], ◌∷◌, length, Option, Some, None, refl, codes, arith, unwrap_or}
+use Rattle.std.proofs.Common.{◌≡◌, ℕ, ◌≤◌, pos, negsuc, Bool, true, false, not, ◌&&◌, nat_le, nat_lt, ◌<◌, List, [], ◌∷◌, length, Option, Some, None, refl, codes, arith, unwrap_or}
 use Rattle.std.proofs.lemmas.Bool.Decides.{nat_tests}
 use Rattle.std.specs.List.{list_any}
 use Rattle.slot_model.specs.Name.{is_name}
@@ -9,7 +9,7 @@ use Rattle.tree_model.specs.System.{IsGivenBudget, IsCoreSupply}
 use Rattle.system_file.specs.declared.fault.Spot.{Spot}
 use Rattle.system_file.specs.declared.fault.SystemFault.{SystemFault}
 use Rattle.system_file.specs.Document.{elements_of, array_of, number_of, given_number, is_named, supply_of}
-use Rattle.system_file.specs.Faults.{fault_if, required, optional, text_faults, new_name_faults, name_faults, range_faults, supply_faults, array_faults, table_faults}
+use Rattle.system_file.specs.Faults.{fault_if, required, optional, text_faults, new_name_faults, name_faults, range_faults, below_faults, supply_faults, array_faults, table_faults}
 use Rattle.system_file.proofs.First.{none_left, none_right}
 
 pub not_wrong : (b : Bool) (fault : SystemFault) → fault_if b fault ≡ [] → b ≡ false
@@ -95,6 +95,21 @@ optional_number spot highest (Some d) h = number_there spot highest d h
 pub number_or : (spot : Spot) (highest : ℕ) (o : Option Data) → 1 ≤ highest → optional (range_faults spot highest) o ≡ [] → (1 ≤ unwrap_or (given_number o) highest) × (unwrap_or (given_number o) highest ≤ highest)
 number_or spot highest None some h = (some, omega arith)
 number_or spot highest (Some d) some h = number_there spot highest d h
+
+-- a number below a bound, or 0
+pub below_there : (spot : Spot) (bound : ℕ) (o : Option Data) → 1 ≤ bound → optional (below_faults spot bound) o ≡ [] → number_of o < bound
+below_there spot bound None some h = some
+below_there spot bound (Some (string s)) some h = cc
+below_there spot bound (Some (integer (pos n))) some h = below n (not_wrong _ _ h)
+  where
+    below : (n : ℕ) → not (nat_lt n bound) ≡ false → n < bound
+    below n e = grind (arith, nat_tests)
+below_there spot bound (Some (integer (negsuc n))) some h = cc
+below_there spot bound (Some (float x)) some h = cc
+below_there spot bound (Some (boolean b)) some h = cc
+below_there spot bound (Some (datetime t)) some h = cc
+below_there spot bound (Some (array ds)) some h = cc
+below_there spot bound (Some (table m)) some h = cc
 
 pub supply_there : (spot : Spot) (a b : Option Data) → supply_faults spot a b ≡ [] → IsCoreSupply (supply_of a b)
 supply_there spot None None h = tt

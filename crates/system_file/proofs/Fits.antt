@@ -13,7 +13,7 @@ use Rattle.system_file.specs.declared.fault.Spot.{Spot}
 use Rattle.system_file.specs.declared.fault.SystemFault.{SystemFault}
 use Rattle.system_file.specs.declared.fault.SystemFault.TheVariants.{BadName, NameTaken, TooMany}
 use Rattle.system_file.specs.Document.{elements_of, array_of, text_of, number_of, given_number, is_text, is_named, supply_of}
-use Rattle.system_file.specs.Faults.{fault_if, required, optional, text_faults, new_name_faults, name_faults, sched_faults, range_faults, flag_faults, array_faults, supply_faults, table_faults}
+use Rattle.system_file.specs.Faults.{fault_if, required, optional, text_faults, new_name_faults, name_faults, sched_faults, range_faults, below_faults, flag_faults, array_faults, supply_faults, table_faults}
 use Rattle.system_file.specs.Written.{IsTableOf, IsNameText, IsSchedText, IsWhole, IsFlag, IsArray, There, MayBe, BothOrNeither}
 use Rattle.system_file.proofs.Elements.{length_map}
 use Rattle.system_file.proofs.First.{none_both}
@@ -59,6 +59,17 @@ optional_fits spot highest (Some d) w h = number_fits spot highest d w h.0 h.1
 pub default_fits : (spot : Spot) (highest : ℕ) (o : Option Data) → MayBe IsWhole o → 1 ≤ unwrap_or (given_number o) highest → unwrap_or (given_number o) highest ≤ highest → optional (range_faults spot highest) o ≡ []
 default_fits spot highest None w low high = refl
 default_fits spot highest (Some d) w low high = number_fits spot highest d w low high
+
+pub below_fits : (spot : Spot) (bound : ℕ) (o : Option Data) → MayBe IsWhole o → number_of o < bound → optional (below_faults spot bound) o ≡ []
+below_fits spot bound None w h = refl
+below_fits spot bound (Some (string s)) w h = let e = w.1 in cc
+below_fits spot bound (Some (integer (pos n))) w h = right _ _ (let e : not (nat_lt n bound) ≡ false = grind (arith, nat_tests) in e)
+below_fits spot bound (Some (integer (negsuc n))) w h = let e = w.1 in cc
+below_fits spot bound (Some (float x)) w h = let e = w.1 in cc
+below_fits spot bound (Some (boolean b)) w h = let e = w.1 in cc
+below_fits spot bound (Some (datetime t)) w h = let e = w.1 in cc
+below_fits spot bound (Some (array ds)) w h = let e = w.1 in cc
+below_fits spot bound (Some (table m)) w h = let e = w.1 in cc
 
 pub flag_fits : (spot : Spot) (o : Option Data) → MayBe IsFlag o → optional (flag_faults spot) o ≡ []
 flag_fits spot None w = refl

@@ -6,7 +6,7 @@ use Rattle.std.proofs.lemmas.List.{map-append, get_or-map, get_or-take, get_or-a
 use Rattle.std.proofs.Math.Seq.{take-append-add}
 use Rattle.std.specs.Prelude.{position}
 use Rattle.std.specs.List.{list_any}
-use Rattle.slot_model.specs.Task.{default_task, SporadicTask, IsConstrained, task_at}
+use Rattle.slot_model.specs.Task.{default_task, room_of, SporadicTask, IsConstrained, task_at}
 use Rattle.slot_model.specs.declared.task.TheConstants.{LIMIT}
 use Rattle.toml.specs.Data.{Data, string, integer, float, boolean, datetime, array, table, Members, get}
 use Rattle.tree_model.specs.declared.pinned_core.Core.{Core as CoreView}
@@ -14,11 +14,12 @@ use Rattle.tree_model.specs.declared.place.Parent.{Parent}
 use Rattle.tree_model.specs.declared.place.Parent.TheVariants.{Core as on_core, Part as on_part}
 use Rattle.tree_model.specs.View.{NamedTask, PartView, SystemView}
 use Rattle.tree_model.specs.System.{IsSystem, IsPart, IsCoreSupply, Stands, AreDistinct, is_leaf, own_tasks}
+use Rattle.system_file.specs.declared.format.Format.{Format}
 use Rattle.system_file.specs.declared.fault.Spot.{Spot}
 use Rattle.system_file.specs.declared.fault.Spot.TheVariants.{Top, Core, Part, Task}
 use Rattle.system_file.specs.declared.fault.SystemFault.{SystemFault}
 use Rattle.system_file.specs.declared.fault.SystemFault.TheVariants.{Empty, OutOfRange, TooMany, NoMemory}
-use Rattle.system_file.specs.Document.{elements_of, array_of, text_of, number_of, is_text, is_named, core_or_part, parent_named, parent_at, cores_of, parts_of, tasks_of, deadline_of, spelled_core, spelled_task, spelled_part, spelled_system}
+use Rattle.system_file.specs.Document.{format_of, elements_of, array_of, text_of, number_of, is_text, is_named, core_or_part, parent_named, parent_at, cores_of, parts_of, tasks_of, deadline_of, spelled_core, spelled_task, spelled_part, spelled_system}
 use Rattle.system_file.specs.Faults.{required, optional, format_faults, text_faults, parent_faults, is_parent_faults, core_array_faults, array_faults, top_faults, top_keys, in_order, core_faults, core_keys, core_key_faults, task_faults, task_keys, task_key_faults, part_faults, part_keys, part_key_faults, empty_faults, has_tasks, is_parent, faults}
 use Rattle.system_file.specs.SystemFile.{system_of, system_of_document, document_of, first_fault_or}
 use Rattle.system_file.specs.Written.{IsNameText, IsParentText, IsArray, There, element, IsWrittenTask, IsWrittenCore, IsWrittenPart, IsWritten, Spells}
@@ -31,7 +32,7 @@ use Rattle.system_file.proofs.Systems.{core_names, part_names, sys, spelled, par
 use Rattle.system_file.proofs.WrittenKinds.{faultless_is_written}
 use Rattle.system_file.proofs.Nodes.{get_front, part_place}
 use Rattle.system_file.proofs.Rules.{task_names}
-use Rattle.system_file.proofs.Fits.{right, keys_fit, name_fits, sched_fits, required_fits, optional_fits, default_fits, flag_fits, array_fits, supply_fits, new_of_distinct}
+use Rattle.system_file.proofs.Fits.{right, keys_fit, name_fits, sched_fits, required_fits, optional_fits, default_fits, below_fits, flag_fits, array_fits, supply_fits, new_of_distinct}
 
 from_faults : (bytes : List ℕ) (read : SystemView) (members : Members) → document_of bytes ≡ Some members → (found : List SystemFault) → faults (table members) ≡ found → first_fault_or (spelled_system (table members)) found ≡ Ok read → Spells bytes read
 from_faults bytes read members document [] e h =
@@ -49,19 +50,22 @@ unfolding system_of
 read_is_spelled bytes read h = from_document bytes read (document_of bytes) refl h
 
 -- a task in its range
-task_fits : (q : ℕ) (earlier : List Data) (d : Data) (w : IsWrittenTask d) → list_any (is_named w.name.name) earlier ≡ false → IsConstrained (spelled_task d).task × ((spelled_task d).task.period ≤ LIMIT) → task_faults q earlier d ≡ []
-task_fits q earlier d w new fits =
+task_fits : (format : Format) (q : ℕ) (earlier : List Data) (d : Data) (w : IsWrittenTask format d) → list_any (is_named w.name.name) earlier ≡ false → IsConstrained (spelled_task d).task × ((spelled_task d).task.period ≤ LIMIT) → task_faults format q earlier d ≡ []
+task_fits format q earlier d w new fits =
     let spot = Task q (length earlier) in
     let works = fits.0.works in
-    let in_deadline : number_of (get (codes "work") d) ≤ deadline_of d = omega (arith, fits.0.in_deadline) in
+    let in_deadline : number_of (get (codes "work") d) + number_of (get (codes "jitter") d) ≤ deadline_of d = fits.0.in_deadline in
     let in_period = fits.0.in_period in
     let some_deadline : 1 ≤ deadline_of d = omega arith in
     let some_period : 1 ≤ number_of (get (codes "period") d) = omega arith in
-    keys_fit spot task_keys (task_key_faults spot earlier d) d w.keys
+    let below : number_of (get (codes "jitter") d) < deadline_of d = omega (arith, works) in
+    let in_room : number_of (get (codes "work") d) ≤ room_of (spelled_task d).task = omega (arith, in_deadline) in
+    keys_fit spot (task_keys format) (task_key_faults spot earlier d) d w.keys
     (none_both _ _ (name_fits spot earlier (get (codes "name") d) w.name new)
     (none_both _ _ (required_fits spot LIMIT (get (codes "period") d) w.period some_period fits.1)
     (none_both _ _ (default_fits spot (number_of (get (codes "period") d)) (get (codes "deadline") d) w.deadline some_deadline in_period)
-    (required_fits spot (deadline_of d) (get (codes "work") d) w.work works in_deadline))))
+    (none_both _ _ (below_fits spot (deadline_of d) (get (codes "jitter") d) w.jitter below)
+    (required_fits spot (room_of (spelled_task d).task) (get (codes "work") d) w.work works in_room)))))
 
 core_fits : (earlier : List Data) (d : Data) (w : IsWrittenCore d) → list_any (is_named w.name.name) earlier ≡ false → IsCoreSupply (spelled_core d).supply → core_faults earlier d ≡ []
 core_fits earlier d w new supply =
@@ -97,24 +101,24 @@ parent_fits spot cores earlier later o t stands =
     by (on_part r) e = right _ _ (stands r e).1
 
 -- the tasks of a part in their ranges and of different names
-tasks_fit : (cores all : List Data) (q : ℕ) (d : Data) → IsPart (spelled_part cores all d) → ((i : ℕ) → i < length (tasks_of d) → IsWrittenTask (element (tasks_of d) i)) → in_order (task_faults q) [] (tasks_of d) ≡ []
-tasks_fit cores all q d part written =
-    none_in_order (task_faults q) [] (tasks_of d) (boolean false) (λ i h.
+tasks_fit : (format : Format) (cores all : List Data) (q : ℕ) (d : Data) → IsPart (spelled_part cores all d) → ((i : ℕ) → i < length (tasks_of d) → IsWrittenTask format (element (tasks_of d) i)) → in_order (task_faults format q) [] (tasks_of d) ≡ []
+tasks_fit format cores all q d part written =
+    none_in_order (task_faults format q) [] (tasks_of d) (boolean false) (λ i h.
     let within : i < length (map spelled_task (tasks_of d)) = rw (length_map spelled_task (tasks_of d)) h in
     let same : task_at (own_tasks (spelled_part cores all d)) i ≡ (spelled_task (get_or (tasks_of d) i (boolean false))).task =
     get_or-map (λ (t : NamedTask). t.task) (map spelled_task (tasks_of d)) i (spelled_task (boolean false)) default_task within
     ∙ ap (λ (t : NamedTask). t.task) (get_or-map spelled_task (tasks_of d) i (boolean false) (spelled_task (boolean false)) h) in
     let fits : SporadicTask → Type 0 = λ t. IsConstrained t × (t.period ≤ LIMIT) in
-    task_fits q (take i (tasks_of d)) (get_or (tasks_of d) i (boolean false)) (written i h)
+    task_fits format q (take i (tasks_of d)) (get_or (tasks_of d) i (boolean false)) (written i h)
     (new_of_distinct (tasks_of d) (subst AreDistinct (task_names (tasks_of d)) part.task_names) (λ k w. (written k w).name) i h)
     (subst fits same (part.tasks i within)))
 
-part_fits : (cores earlier later : List Data) (d : Data) (w : IsWrittenPart cores (earlier ++ later) d) → list_any (is_named w.name.name) (cores ++ earlier) ≡ false
-    → ((r : ℕ) → w.parent.parent ≡ on_part r → (r < length earlier) × (has_tasks (get_or earlier r (boolean false)) ≡ false)) → IsPart (spelled_part cores (earlier ++ later) d) → part_faults cores earlier d ≡ []
-part_fits cores earlier later d w new stands part =
+part_fits : (format : Format) (cores earlier later : List Data) (d : Data) (w : IsWrittenPart format cores (earlier ++ later) d) → list_any (is_named w.name.name) (cores ++ earlier) ≡ false
+    → ((r : ℕ) → w.parent.parent ≡ on_part r → (r < length earlier) × (has_tasks (get_or earlier r (boolean false)) ≡ false)) → IsPart (spelled_part cores (earlier ++ later) d) → part_faults format cores earlier d ≡ []
+part_fits format cores earlier later d w new stands part =
     let spot = Part (length earlier) in
     let few : length (array_of (get (codes "task") d)) ≤ 256 = rw (length_map spelled_task (tasks_of d)) at part.few_tasks in
-    keys_fit spot part_keys (part_key_faults spot cores earlier d ++ in_order (task_faults (length earlier)) [] (tasks_of d)) d w.keys
+    keys_fit spot part_keys (part_key_faults spot cores earlier d ++ in_order (task_faults format (length earlier)) [] (tasks_of d)) d w.keys
     (none_both (part_key_faults spot cores earlier d) _
     (none_both _ _ (name_fits spot (cores ++ earlier) (get (codes "name") d) w.name new)
     (none_both _ _ (parent_fits spot cores earlier later (get (codes "parent") d) w.parent stands)
@@ -122,7 +126,7 @@ part_fits cores earlier later d w new stands part =
     (none_both _ _ (required_fits spot LIMIT (get (codes "period") d) w.period part.period.0 part.period.1)
     (none_both _ _ (optional_fits spot (number_of (get (codes "period") d)) (get (codes "budget") d) w.budget part.budget)
     (none_both _ _ (flag_fits spot (get (codes "extra") d) w.extra) (array_fits spot 256 (get (codes "task") d) w.task few)))))))
-    (tasks_fit cores (earlier ++ later) (length earlier) d part w.tasks))
+    (tasks_fit format cores (earlier ++ later) (length earlier) d part w.tasks))
 
 any_from : {A : Type 0} (p : A → Bool) (xs : List A) (k : ℕ) (e : A) → k < length xs → p (get_or xs k e) ≡ true → list_any p xs ≡ true
 any_from p [] k e h here = absurd (omega arith)
@@ -133,7 +137,7 @@ any_from p (x ∷ xs) (suc k) e h here = either (p x) (any_from p xs k e (omega 
     either true r = refl
     either false r = r
 
-module _ (cores parts : List Data) (wc : (c : ℕ) → c < length cores → IsWrittenCore (element cores c)) (wp : (q : ℕ) → q < length parts → IsWrittenPart cores parts (element parts q)) (system : IsSystem (sys cores parts)) where
+module _ (format : Format) (cores parts : List Data) (wc : (c : ℕ) → c < length cores → IsWrittenCore (element cores c)) (wp : (q : ℕ) → q < length parts → IsWrittenPart format cores parts (element parts q)) (system : IsSystem (sys cores parts)) where
   all_named : (i : ℕ) → i < length (cores ++ parts) → IsNameText (get (codes "name") (get_or (cores ++ parts) i (boolean false)))
   all_named i h = by (nat_lt i (length cores)) refl
     where
@@ -184,10 +188,10 @@ module _ (cores parts : List Data) (wc : (c : ℕ) → c < length cores → IsWr
         ap has_tasks (get_or-take q parts r (boolean false) lt) ∙ sym (leaf_tasks (tasks_of (get_or parts r (boolean false)))) ∙ ap (λ (p : PartView). is_leaf p.tasks) (sym (part_spelled cores parts r few)) ∙ at.1,
       )
 
-  no_part_fault : in_order (part_faults cores) [] parts ≡ []
-  no_part_fault = none_in_order (part_faults cores) [] parts (boolean false) (λ q h. at q h)
+  no_part_fault : in_order (part_faults format cores) [] parts ≡ []
+  no_part_fault = none_in_order (part_faults format cores) [] parts (boolean false) (λ q h. at q h)
     where
-      at : (q : ℕ) → q < length parts → part_faults cores (take q parts) (get_or parts q (boolean false)) ≡ []
+      at : (q : ℕ) → q < length parts → part_faults format cores (take q parts) (get_or parts q (boolean false)) ≡ []
       at q h =
           let d = get_or parts q (boolean false) in
           let all : take q parts ++ drop q parts ≡ parts = take-append-drop q parts in
@@ -195,7 +199,7 @@ module _ (cores parts : List Data) (wc : (c : ℕ) → c < length cores → IsWr
           let parent : IsParentText cores (take q parts ++ drop q parts) (get (codes "parent") d) =
           record { text = w.parent.text; is = w.parent.is; parent = w.parent.parent; named = ap (λ ps. parent_named cores ps w.parent.text) all ∙ w.parent.named } in
           let whole : length cores + q < length (cores ++ parts) = rw (length-append {A = Data}) (omega arith) in
-          part_fits cores (take q parts) (drop q parts) d
+          part_fits format cores (take q parts) (drop q parts) d
           (record { keys = w.keys; name = w.name; parent = parent; sched = w.sched; period = w.period; budget = w.budget; extra = w.extra; task = w.task; tasks = w.tasks })
           (ap (list_any (is_named w.name.name)) (sym (take-append-add cores parts q)) ∙ new_at (length cores + q) d w.name whole (get_or-append-add cores parts q (boolean false)))
           (stands q h)
@@ -246,12 +250,12 @@ pub written_is_faultless : (top : Data) → IsWritten top → IsSystem (spelled_
 written_is_faultless top w system =
     let in_top : top_faults top ≡ [] =
     keys_fit Top top_keys (required Top format_faults (get (codes "format") top) ++ (required Top core_array_faults (get (codes "core") top) ++ optional (array_faults Top 512) (get (codes "part") top))) top w.keys
-    (none_both _ _ (ap (required Top format_faults) w.format ∙ right false (OutOfRange Top) refl)
+    (none_both _ _ (ap (required Top format_faults) w.format.is ∙ right _ (OutOfRange Top) w.format.listed)
     (none_both _ _ (cores_fit (get (codes "core") top) w.core (rw (length_map spelled_core (cores_of top)) at system.some_core) (rw (length_map spelled_core (cores_of top)) at system.few_cores))
     (array_fits Top 512 (get (codes "part") top) w.part (rw (length_map (spelled_part (cores_of top) (parts_of top)) (parts_of top)) at system.few_parts)))) in
     none_both (top_faults top) _ in_top
-    (none_both _ _ (no_core_fault (cores_of top) (parts_of top) w.cores w.parts system)
-    (none_both _ _ (no_part_fault (cores_of top) (parts_of top) w.cores w.parts system) (no_empty (cores_of top) (parts_of top) w.cores w.parts system)))
+    (none_both _ _ (no_core_fault (format_of top) (cores_of top) (parts_of top) w.cores w.parts system)
+    (none_both _ _ (no_part_fault (format_of top) (cores_of top) (parts_of top) w.cores w.parts system) (no_empty (format_of top) (cores_of top) (parts_of top) w.cores w.parts system)))
 
 -- what is spelled is read
 pub spelled_is_read : (bytes : List ℕ) (read : SystemView) → Spells bytes read → system_of bytes ≡ Ok read

@@ -11,6 +11,7 @@ use Rattle.std.specs.List.{list_any}
 use Rattle.toml.specs.Data.{Data, boolean, get}
 use Rattle.tree_model.specs.declared.place.Parent.{Parent}
 use Rattle.tree_model.specs.declared.place.Parent.TheVariants.{Core as on_core, Part as on_part}
+use Rattle.system_file.specs.declared.format.Format.{Format}
 use Rattle.system_file.specs.Document.{text_of, is_text, is_named, core_or_part, parent_named, parent_at}
 use Rattle.system_file.specs.Faults.{in_order, core_faults, part_faults, has_tasks}
 use Rattle.system_file.specs.Reading.{is_on}
@@ -49,12 +50,12 @@ pub on_part_is : (q : ℕ) (p : Parent) → is_on q p ≡ true → p ≡ on_part
 on_part_is q (on_core c) h = cc
 on_part_is q (on_part k) h = ap on_part (same_place_is k q h)
 
-module _ (cores parts : List Data) (no_core : in_order core_faults [] cores ≡ []) (no_part : in_order (part_faults cores) [] parts ≡ []) where
-  pub part_none : (q : ℕ) → q < length parts → part_faults cores (take q parts) (get_or parts q (boolean false)) ≡ []
-  part_none q h = each (part_faults cores) [] parts q (boolean false) h no_part
+module _ (format : Format) (cores parts : List Data) (no_core : in_order core_faults [] cores ≡ []) (no_part : in_order (part_faults format cores) [] parts ≡ []) where
+  pub part_none : (q : ℕ) → q < length parts → part_faults format cores (take q parts) (get_or parts q (boolean false)) ≡ []
+  part_none q h = each (part_faults format cores) [] parts q (boolean false) h no_part
 
   pub part_new : (q : ℕ) → q < length parts → NewName (cores ++ take q parts) (get_or parts q (boolean false))
-  part_new q h = part_name cores (take q parts) (get_or parts q (boolean false)) (part_none q h)
+  part_new q h = part_name format cores (take q parts) (get_or parts q (boolean false)) (part_none q h)
 
   front : (j : ℕ) → j < length cores → NewName (take j (cores ++ parts)) (get_or (cores ++ parts) j (boolean false))
   front j h =
@@ -83,7 +84,7 @@ module _ (cores parts : List Data) (no_core : in_order core_faults [] cores ≡ 
 
   -- a part's parent, found among the parts before it, is found among all
   pub parent_there : (r : ℕ) → r < length parts → ParentThere cores (take r parts) (get_or parts r (boolean false))
-  parent_there r h = part_parent cores (take r parts) (get_or parts r (boolean false)) (part_none r h)
+  parent_there r h = part_parent format cores (take r parts) (get_or parts r (boolean false)) (part_none r h)
 
   pub parent_found : (r : ℕ) (h : r < length parts) → parent_named cores parts (parent_there r h).text ≡ Some (parent_there r h).parent
   parent_found r h =

@@ -10,17 +10,20 @@ use Rattle.toml.specs.Data.{Data, string, array, get, get_member, same_key}
 use Rattle.toml.specs.View.{items_of}
 use Rattle.tree_model.specs.View.{NamedTask, PartView, SystemView}
 use Rattle.tree_model.specs.System.{IsPart, IsGivenBudget, own_tasks, is_leaf}
+use Rattle.system_file.specs.declared.format.Format.{Format}
+use Rattle.system_file.specs.declared.format.Format.TheVariants.{One, Two}
+use Rattle.system_file.specs.SystemFile.{has_jitter, part_has_jitter}
 use Rattle.system_file.specs.declared.fault.Spot.{Spot}
 use Rattle.system_file.specs.declared.fault.Spot.TheVariants.{Part}
 use Rattle.system_file.specs.Document.{is_named, array_of, flag_of, given_number, tasks_of, parent_named, spelled_task, spelled_part}
 use Rattle.system_file.specs.Faults.{optional, array_faults, in_order, flag_faults, parent_faults, task_faults, part_keys, part_key_faults, part_faults, has_only, has_tasks, range_faults}
-use Rattle.system_file.specs.Printed.{with_some, number, some_number, true_flag, some_array, sched_word, printed_task, server_members, part_members, printed_part, parent_name, TasksAreNamed, IsPartNamed, PartIsPlain}
+use Rattle.system_file.specs.Printed.{with_some, number, some_number, true_flag, some_array, sched_word, printed_task, server_members, part_members, printed_part, parent_name, TasksAreNamed, IsPartNamed}
 use Rattle.system_file.proofs.First.{none_both}
 use Rattle.system_file.proofs.PrintedMembers.{other_key, own_key, listed_key}
 use Rattle.system_file.proofs.PrintedKeys.{range_ok, new_name_ok, sched_ok, sched_back}
 use Rattle.system_file.proofs.PrintedNames.{new_among}
-use Rattle.system_file.proofs.PrintedTask.{task_name, task_spelled, task_faultless}
-use Rattle.system_file.proofs.PrintedWalk.{all_faultless, all_spelled, elements_back, within, stands_at}
+use Rattle.system_file.proofs.PrintedTask.{Tells, task_name, task_spelled, task_faultless}
+use Rattle.system_file.proofs.PrintedWalk.{all_faultless, all_spelled, elements_back, within, stands_at, none_among}
 
 -- the keys of a part: those that are always there, and the three that may be left out
 always : (k : List ℕ) (sys : SystemView) (part : PartView) → same_key k (codes "task") ≡ false → same_key k (codes "extra") ≡ false → same_key k (codes "budget") ≡ false → get k (printed_part sys part) ≡ get_member k (server_members sys part)
@@ -72,21 +75,28 @@ part_has_tasks sys part = rw (part_tasks sys part) (by part.tasks)
     by (t ∷ ts) = grind (arith, nat_tests)
 
 -- its tasks
-pub tasks_back : (part : PartView) → PartIsPlain part → map spelled_task (map printed_task part.tasks) ≡ part.tasks
-tasks_back part plain = all_spelled spelled_task printed_task [] part.tasks (λ earlier t later e.
-    let numbers : task_at (own_tasks part) (length earlier) ≡ t.task = get_or-map (λ (u : NamedTask). u.task) part.tasks (length earlier) t _ (within part.tasks earlier t later e) ∙ ap (λ (u : NamedTask). u.task) (stands_at part.tasks earlier t later t e) in
-    task_spelled t (subst (λ (u : SporadicTask). u.jitter ≡ 0) numbers (plain (length earlier))))
+pub tasks_back : (tasks : List NamedTask) → map spelled_task (map printed_task tasks) ≡ tasks
+tasks_back tasks = all_spelled spelled_task printed_task [] tasks (λ earlier t later e. task_spelled t)
 
-pub tasks_faultless : (q : ℕ) (part : PartView) → IsPart part → TasksAreNamed part.tasks → in_order (task_faults q) [] (map printed_task part.tasks) ≡ []
-tasks_faultless q part is named = all_faultless (task_faults q) printed_task [] part.tasks each
+-- a format in which the jitter of its tasks can be told
+abbrev pub PartTells : Format → PartView → Type 0
+PartTells One part = part_has_jitter part ≡ false
+PartTells Two part = Unit {0}
+
+task_tells : (format : Format) (part : PartView) → PartTells format part → (earlier : List NamedTask) (t : NamedTask) (later : List NamedTask) → part.tasks ≡ earlier ++ t ∷ later → Tells format t
+task_tells One part none earlier t later e = none_among has_jitter part.tasks earlier t later e none
+task_tells Two part told earlier t later e = tt
+
+pub tasks_faultless : (format : Format) (q : ℕ) (part : PartView) → PartTells format part → IsPart part → TasksAreNamed part.tasks → in_order (task_faults format q) [] (map printed_task part.tasks) ≡ []
+tasks_faultless format q part tells is named = all_faultless (task_faults format q) printed_task [] part.tasks each
   where
-    each : (earlier : List NamedTask) (t : NamedTask) (later : List NamedTask) → part.tasks ≡ earlier ++ t ∷ later → task_faults q (map printed_task earlier) (printed_task t) ≡ []
+    each : (earlier : List NamedTask) (t : NamedTask) (later : List NamedTask) → part.tasks ≡ earlier ++ t ∷ later → task_faults format q (map printed_task earlier) (printed_task t) ≡ []
     each earlier t later e =
         let h : length earlier < length part.tasks = within part.tasks earlier t later e in
         let at : get_or part.tasks (length earlier) t ≡ t = stands_at part.tasks earlier t later t e in
         let numbers : task_at (own_tasks part) (length earlier) ≡ t.task = get_or-map (λ (u : NamedTask). u.task) part.tasks (length earlier) t _ h ∙ ap (λ (u : NamedTask). u.task) at in
         let ranged = is.tasks (length earlier) h in
-        task_faultless q (map printed_task earlier) t (subst (λ (u : NamedTask). is_name u.name ≡ true) at (named (length earlier) t h))
+        task_faultless format q (map printed_task earlier) t (task_tells format part tells earlier t later e) (subst (λ (u : NamedTask). is_name u.name ≡ true) at (named (length earlier) t h))
         (new_among printed_task (λ u. u.name) task_name part.tasks earlier t later e is.task_names)
         (subst (λ (u : SporadicTask). IsConstrained u) numbers ranged.0) (subst (λ (u : SporadicTask). u.period ≤ LIMIT) numbers ranged.1)
 
@@ -128,10 +138,10 @@ part_keys_faultless sys spot cores earlier part is named new parent_ok =
     (none_both _ _ (flag_ok spot part.extra) (some_ok spot 256 (map printed_task part.tasks) (omega (arith, length-map part.tasks printed_task, is.few_tasks)))))))))
 
 -- the whole part
-pub part_faultless : (sys : SystemView) (cores earlier : List Data) (part : PartView) → IsPart part → IsPartNamed part → list_any (is_named part.name) (cores ++ earlier) ≡ false →
-    parent_faults (Part (length earlier)) cores earlier (parent_name sys part.parent) ≡ [] → part_faults cores earlier (printed_part sys part) ≡ []
-part_faultless sys cores earlier part is named new parent_ok =
-    rw (part_keys_listed sys part, part_keys_faultless sys (Part (length earlier)) cores earlier part is named.name new parent_ok, part_tasks sys part, tasks_faultless (length earlier) part is named.tasks)
+pub part_faultless : (format : Format) (sys : SystemView) (cores earlier : List Data) (part : PartView) → PartTells format part → IsPart part → IsPartNamed part → list_any (is_named part.name) (cores ++ earlier) ≡ false →
+    parent_faults (Part (length earlier)) cores earlier (parent_name sys part.parent) ≡ [] → part_faults format cores earlier (printed_part sys part) ≡ []
+part_faultless format sys cores earlier part tells is named new parent_ok =
+    rw (part_keys_listed sys part, part_keys_faultless sys (Part (length earlier)) cores earlier part is named.name new parent_ok, part_tasks sys part, tasks_faultless format (length earlier) part tells is named.tasks)
 
 budget_back : (budget : Option ℕ) → given_number (some_number budget) ≡ budget
 budget_back None = refl
@@ -141,7 +151,7 @@ flag_back : (flag : Bool) → flag_of (true_flag flag) ≡ flag
 flag_back true = refl
 flag_back false = refl
 
-pub part_spelled : (sys : SystemView) (cores parts : List Data) (part : PartView) → PartIsPlain part → parent_named cores parts (parent_name sys part.parent) ≡ Some part.parent → spelled_part cores parts (printed_part sys part) ≡ part
-part_spelled sys cores parts part plain found =
+pub part_spelled : (sys : SystemView) (cores parts : List Data) (part : PartView) → parent_named cores parts (parent_name sys part.parent) ≡ Some part.parent → spelled_part cores parts (printed_part sys part) ≡ part
+part_spelled sys cores parts part found =
     rw (part_name sys part, part_parent sys part, part_sched sys part, part_period sys part, part_budget sys part, part_extra sys part, part_tasks sys part)
-    (rw (found, sched_back part.sched, budget_back part.budget, flag_back part.extra, tasks_back part plain))
+    (rw (found, sched_back part.sched, budget_back part.budget, flag_back part.extra, tasks_back part.tasks))

@@ -1,5 +1,5 @@
 -- The document that is printed for a system has no fault, and spells the system.
-use Rattle.std.proofs.Common.{◌≡◌, ℕ, ◌<◌, ◌≤◌, ◌==◌, Bool, true, false, List, [], ◌∷◌, ◌++◌, map, length, get_or, codes, refl, sym, ap, ◌∙◌, arith, nat_lt, subst}
+use Rattle.std.proofs.Common.{◌≡◌, ℕ, ◌<◌, ◌≤◌, ◌==◌, Bool, true, false, List, [], ◌∷◌, ◌++◌, map, length, get_or, codes, refl, sym, ap, ◌∙◌, arith, nat_lt, subst, if◌then◌else◌}
 use Rattle.std.specs.Prelude.{bytes_eq}
 use Rattle.std.proofs.lemmas.Bool.Decides.{nat_tests}
 use Rattle.std.proofs.lemmas.List.{length-map, get_or-map, append-nil}
@@ -11,15 +11,18 @@ use Rattle.tree_model.specs.declared.place.Parent.{Parent}
 use Rattle.tree_model.specs.declared.place.Parent.TheVariants.{Core as on_core, Part as on_part}
 use Rattle.tree_model.specs.View.{PartView, SystemView}
 use Rattle.tree_model.specs.System.{IsSystem, IsPart, part_at, is_leaf, Stands, IsChildOf, no_part}
+use Rattle.system_file.specs.declared.format.Format.{Format}
+use Rattle.system_file.specs.declared.format.Format.TheVariants.{One, Two}
 use Rattle.system_file.specs.declared.fault.Spot.TheVariants.{Top, Part}
-use Rattle.system_file.specs.Document.{is_named, is_text, text_of, spelled_part, spelled_system, cores_of, parts_of}
+use Rattle.system_file.specs.Document.{format_of, is_named, is_text, text_of, spelled_part, spelled_system, cores_of, parts_of}
 use Rattle.system_file.specs.Faults.{faults, part_faults, empty_faults, is_parent, in_order, top_faults, core_array_faults}
-use Rattle.system_file.specs.Printed.{printed_core, printed_part, printed, parent_name, IsPartNamed, CoresAreNamed, PartsAreNamed, PartIsPlain, IsPlain, top_members}
+use Rattle.system_file.specs.Printed.{printed_core, printed_part, printed, parent_name, IsPartNamed, CoresAreNamed, PartsAreNamed, top_members}
+use Rattle.system_file.specs.SystemFile.{part_has_jitter, needed_format}
 use Rattle.tree_model.proofs.Distinct.{distinct_back}
 use Rattle.system_file.proofs.PrintedNames.{named_any, not_taken, new_among, equals_itself}
-use Rattle.system_file.proofs.PrintedWalk.{all_faultless, all_spelled, elements_back, within, stands_at}
+use Rattle.system_file.proofs.PrintedWalk.{all_faultless, all_spelled, elements_back, within, stands_at, none_among}
 use Rattle.system_file.proofs.PrintedCore.{core_name}
-use Rattle.system_file.proofs.PrintedPart.{part_name, part_parent, part_has_tasks, few_ok, part_faultless, part_spelled}
+use Rattle.system_file.proofs.PrintedPart.{PartTells, part_name, part_parent, part_has_tasks, few_ok, part_faultless, part_spelled}
 use Rattle.system_file.proofs.PrintedParents.{core_names, part_names, cores_faultless, cores_spelled, StandsAmong, parent_found, parent_faultless}
 
 -- no core and no earlier part has the name of a part
@@ -35,14 +38,20 @@ part_new sys is earlier part later e =
     new_among (printed_part sys) (λ p. p.name) (part_name sys) sys.parts earlier part later e (distinct_back (core_names sys) (part_names sys.parts) is.names) in
     list_any-append (is_named part.name) (map printed_core sys.cores) (map (printed_part sys) earlier) ∙ rw (no_core_has, no_part_has)
 
-parts_faultless : (sys : SystemView) → IsSystem sys → PartsAreNamed sys.parts → in_order (part_faults (map printed_core sys.cores)) [] (map (printed_part sys) sys.parts) ≡ []
-parts_faultless sys is named = all_faultless (part_faults (map printed_core sys.cores)) (printed_part sys) [] sys.parts each
+-- the jitter of its tasks can be told
+part_tells : (sys : SystemView) (some : Bool) → list_any part_has_jitter sys.parts ≡ some → (earlier : List PartView) (part : PartView) (later : List PartView) → sys.parts ≡ earlier ++ part ∷ later → PartTells (if some then Two else One) part
+part_tells sys true is earlier part later e = tt
+part_tells sys false is earlier part later e = none_among part_has_jitter sys.parts earlier part later e is
+
+parts_faultless : (sys : SystemView) → IsSystem sys → PartsAreNamed sys.parts → in_order (part_faults (needed_format sys) (map printed_core sys.cores)) [] (map (printed_part sys) sys.parts) ≡ []
+parts_faultless sys is named = all_faultless (part_faults (needed_format sys) (map printed_core sys.cores)) (printed_part sys) [] sys.parts each
   where
-    each : (earlier : List PartView) (part : PartView) (later : List PartView) → sys.parts ≡ earlier ++ part ∷ later → part_faults (map printed_core sys.cores) (map (printed_part sys) earlier) (printed_part sys part) ≡ []
+    each : (earlier : List PartView) (part : PartView) (later : List PartView) → sys.parts ≡ earlier ++ part ∷ later → part_faults (needed_format sys) (map printed_core sys.cores) (map (printed_part sys) earlier) (printed_part sys part) ≡ []
     each earlier part later e =
         let h : length earlier < length sys.parts = within sys.parts earlier part later e in
         let at : (d : PartView) → get_or sys.parts (length earlier) d ≡ part = λ d. stands_at sys.parts earlier part later d e in
-        part_faultless sys (map printed_core sys.cores) (map (printed_part sys) earlier) part
+        part_faultless (needed_format sys) sys (map printed_core sys.cores) (map (printed_part sys) earlier) part
+        (part_tells sys (list_any part_has_jitter sys.parts) refl earlier part later e)
         (subst (λ (p : PartView). IsPart p) (at no_part) (is.parts (length earlier) h))
         (subst (λ (p : PartView). IsPartNamed p) (at part) (named (length earlier) part h))
         (part_new sys is earlier part later e)
@@ -52,13 +61,13 @@ stands_among : (sys : SystemView) (q : ℕ) → q < length sys.parts → (parent
 stands_among sys q h (on_core c) s = s
 stands_among sys q h (on_part r) s = let below : r < q = s.0 in omega arith
 
-parts_spelled : (sys : SystemView) → IsSystem sys → IsPlain sys → map (spelled_part (map printed_core sys.cores) (map (printed_part sys) sys.parts)) (map (printed_part sys) sys.parts) ≡ sys.parts
-parts_spelled sys is plain = all_spelled (spelled_part (map printed_core sys.cores) (map (printed_part sys) sys.parts)) (printed_part sys) [] sys.parts each
+parts_spelled : (sys : SystemView) → IsSystem sys → map (spelled_part (map printed_core sys.cores) (map (printed_part sys) sys.parts)) (map (printed_part sys) sys.parts) ≡ sys.parts
+parts_spelled sys is = all_spelled (spelled_part (map printed_core sys.cores) (map (printed_part sys) sys.parts)) (printed_part sys) [] sys.parts each
   where
     each : (earlier : List PartView) (part : PartView) (later : List PartView) → sys.parts ≡ earlier ++ part ∷ later → spelled_part (map printed_core sys.cores) (map (printed_part sys) sys.parts) (printed_part sys part) ≡ part
     each earlier part later e =
         let h : length earlier < length sys.parts = within sys.parts earlier part later e in
-        part_spelled sys (map printed_core sys.cores) (map (printed_part sys) sys.parts) part (subst PartIsPlain (stands_at sys.parts earlier part later no_part e) (plain (length earlier)))
+        part_spelled sys (map printed_core sys.cores) (map (printed_part sys) sys.parts) part
         (parent_found sys is sys.parts [] (sym (append-nil sys.parts)) part.parent
         (stands_among sys (length earlier) h part.parent (subst (λ (p : PartView). Stands sys (length earlier) p.parent) (stands_at sys.parts earlier part later no_part e) (is.parents (length earlier) h))))
 
@@ -95,13 +104,19 @@ none_empty sys is = all_faultless (empty_faults (map (printed_part sys) sys.part
         by false inner = let child = is.not_empty q h inner in rw (part_has_tasks sys (part_at sys q), inner, parent_of_one sys q h child.0 child.1)
 
 -- the top table
-cores_back : (cores parts : List Data) → cores_of (table (top_members cores parts)) ≡ cores
-cores_back cores [] = elements_back cores
-cores_back cores (d ∷ ds) = elements_back cores
+format_back : (format : Format) (cores parts : List Data) → format_of (table (top_members format cores parts)) ≡ format
+format_back One cores [] = refl
+format_back One cores (d ∷ ds) = refl
+format_back Two cores [] = refl
+format_back Two cores (d ∷ ds) = refl
 
-parts_back : (cores parts : List Data) → parts_of (table (top_members cores parts)) ≡ parts
-parts_back cores [] = refl
-parts_back cores (d ∷ ds) = elements_back (d ∷ ds)
+cores_back : (format : Format) (cores parts : List Data) → cores_of (table (top_members format cores parts)) ≡ cores
+cores_back format cores [] = elements_back cores
+cores_back format cores (d ∷ ds) = elements_back cores
+
+parts_back : (format : Format) (cores parts : List Data) → parts_of (table (top_members format cores parts)) ≡ parts
+parts_back format cores [] = refl
+parts_back format cores (d ∷ ds) = elements_back (d ∷ ds)
 
 core_array_ok : (cores : List Data) → 1 ≤ length cores → length cores ≤ 64 → core_array_faults (array (items_of cores)) ≡ []
 core_array_ok cores some few = rw (elements_back cores, some_are (length cores) some, not_more (length cores) few)
@@ -112,21 +127,31 @@ core_array_ok cores some few = rw (elements_back cores, some_are (length cores) 
     not_more : (n : ℕ) → n ≤ 64 → nat_lt 64 n ≡ false
     not_more n few = grind (arith, nat_tests)
 
-top_faultless : (cores parts : List Data) → 1 ≤ length cores → length cores ≤ 64 → length parts ≤ 512 → top_faults (table (top_members cores parts)) ≡ []
-top_faultless cores [] some few few_parts = rw (core_array_ok cores some few)
-top_faultless cores (d ∷ ds) some few few_parts = rw (core_array_ok cores some few, few_ok Top 512 (d ∷ ds) few_parts)
+top_faultless : (format : Format) (cores parts : List Data) → 1 ≤ length cores → length cores ≤ 64 → length parts ≤ 512 → top_faults (table (top_members format cores parts)) ≡ []
+top_faultless One cores [] some few few_parts = rw (core_array_ok cores some few)
+top_faultless One cores (d ∷ ds) some few few_parts = rw (core_array_ok cores some few, few_ok Top 512 (d ∷ ds) few_parts)
+top_faultless Two cores [] some few few_parts = rw (core_array_ok cores some few)
+top_faultless Two cores (d ∷ ds) some few few_parts = rw (core_array_ok cores some few, few_ok Top 512 (d ∷ ds) few_parts)
 
 pub printed_faultless : (sys : SystemView) → IsSystem sys → CoresAreNamed sys.cores → PartsAreNamed sys.parts → faults (table (printed sys)) ≡ []
 printed_faultless sys is cores parts =
+    let core_tables = map printed_core sys.cores in
+    let part_tables = map (printed_part sys) sys.parts in
     rw (
-      top_faultless (map printed_core sys.cores) (map (printed_part sys) sys.parts) (omega (arith, is.some_core, length-map sys.cores printed_core)) (omega (arith, is.few_cores, length-map sys.cores printed_core)) (omega (arith, is.few_parts, length-map sys.parts (printed_part sys))),
-      cores_back (map printed_core sys.cores) (map (printed_part sys) sys.parts),
-      parts_back (map printed_core sys.cores) (map (printed_part sys) sys.parts),
+      top_faultless (needed_format sys) core_tables part_tables (omega (arith, is.some_core, length-map sys.cores printed_core)) (omega (arith, is.few_cores, length-map sys.cores printed_core)) (omega (arith, is.few_parts, length-map sys.parts (printed_part sys))),
+      format_back (needed_format sys) core_tables part_tables,
+      cores_back (needed_format sys) core_tables part_tables,
+      parts_back (needed_format sys) core_tables part_tables,
       cores_faultless sys is cores,
       parts_faultless sys is parts,
       none_empty sys is,
     )
 
-pub printed_spelled : (sys : SystemView) → IsSystem sys → IsPlain sys → spelled_system (table (printed sys)) ≡ sys
-printed_spelled sys is plain =
-    rw (cores_back (map printed_core sys.cores) (map (printed_part sys) sys.parts), parts_back (map printed_core sys.cores) (map (printed_part sys) sys.parts), cores_spelled sys.cores, parts_spelled sys is plain)
+pub printed_spelled : (sys : SystemView) → IsSystem sys → spelled_system (table (printed sys)) ≡ sys
+printed_spelled sys is =
+    let core_tables = map printed_core sys.cores in
+    let part_tables = map (printed_part sys) sys.parts in
+    rw (cores_back (needed_format sys) core_tables part_tables, parts_back (needed_format sys) core_tables part_tables, cores_spelled sys.cores, parts_spelled sys is)
+
+pub printed_format : (sys : SystemView) → format_of (table (printed sys)) ≡ needed_format sys
+printed_format sys = format_back (needed_format sys) (map printed_core sys.cores) (map (printed_part sys) sys.parts)

@@ -1,42 +1,124 @@
 -- A printed task has no fault, and spells the task.
-use Rattle.std.proofs.Common.{◌≡◌, ℕ, ◌≤◌, ◌==◌, true, false, List, [], length, Some, codes, sym, ap, ◌∙◌, arith, inl, inr}
-use Rattle.std.proofs.lemmas.Bool.{cases_Bool, eqb-true}
+use Rattle.std.proofs.Common.{◌≡◌, ℕ, ◌<◌, ◌≤◌, ◌==◌, Bool, true, false, not, List, [], length, Some, None, codes, refl, sym, ap, ◌∙◌, arith, nat_lt}
+use Rattle.std.specs.Prelude.{unwrap_or}
+use Rattle.std.proofs.lemmas.Bool.{eqb-true}
+use Rattle.std.proofs.lemmas.Bool.Decides.{nat_tests}
 use Rattle.std.specs.List.{list_any}
 use Rattle.slot_model.specs.Name.{is_name}
 use Rattle.slot_model.specs.declared.task.TheConstants.{LIMIT}
-use Rattle.slot_model.specs.Task.{plain_task, IsConstrained}
-use Rattle.toml.specs.Data.{Data, string, get}
+use Rattle.slot_model.specs.Task.{room_of, IsConstrained}
+use Rattle.toml.specs.Data.{Data, string, Members, no_members, get, get_member, same_key}
 use Rattle.tree_model.specs.View.{NamedTask}
-use Rattle.system_file.specs.Document.{is_named, spelled_task}
-use Rattle.system_file.specs.Faults.{task_faults, new_name_faults}
-use Rattle.system_file.specs.Printed.{printed_task}
+use Rattle.system_file.specs.declared.format.Format.{Format}
+use Rattle.system_file.specs.declared.format.Format.TheVariants.{One, Two}
+use Rattle.system_file.specs.Document.{number_of, given_number, is_named, spelled_task}
+use Rattle.system_file.specs.Faults.{optional, range_faults, below_faults, has_only, task_keys, task_key_faults, task_faults}
+use Rattle.system_file.specs.SystemFile.{has_jitter}
+use Rattle.system_file.specs.Printed.{with_member, with_some, number, other_number, task_members, printed_task}
 use Rattle.system_file.specs.declared.fault.Spot.{Spot}
 use Rattle.system_file.specs.declared.fault.Spot.TheVariants.{Task}
+use Rattle.system_file.proofs.First.{none_both}
+use Rattle.system_file.proofs.PrintedMembers.{other_key, own_key, listed_key}
 use Rattle.system_file.proofs.PrintedKeys.{range_ok, new_name_ok}
 
+-- what is always written, and with the deadline
+abbrev fixed_members : NamedTask → Members
+fixed_members t =
+    with_member (codes "work") (number t.task.work)
+    (with_member (codes "period") (number t.task.period) (with_member (codes "name") (string t.name) no_members))
+
+abbrev due_members : NamedTask → Members
+due_members t = with_some (codes "deadline") (other_number t.task.period t.task.deadline) (fixed_members t)
+
+-- the keys of a task: those that are always there, and the two that may be left out
+always : (k : List ℕ) (t : NamedTask) → same_key k (codes "jitter") ≡ false → same_key k (codes "deadline") ≡ false → get k (printed_task t) ≡ get_member k (fixed_members t)
+always k t jitter deadline =
+    other_key k (codes "jitter") (other_number 0 t.task.jitter) (due_members t) jitter
+    ∙ other_key k (codes "deadline") (other_number t.task.period t.task.deadline) (fixed_members t) deadline
+
 pub task_name : (t : NamedTask) → get (codes "name") (printed_task t) ≡ Some (string t.name)
-task_name t = elim (cases_Bool (t.task.deadline == t.task.period)) [
-  | inl same ↦ rw same
-  | inr other ↦ rw other
-]
+task_name t = always (codes "name") t refl refl
 
-plain_is : (t : NamedTask) → t.task.jitter ≡ 0 → record { name = t.name; task = plain_task t.task.period t.task.deadline t.task.work } ≡ t
-plain_is t none = ap (λ (jitter : ℕ). record { name = t.name; task = record { period = t.task.period; deadline = t.task.deadline; work = t.task.work; jitter = jitter } }) (sym none)
+task_period : (t : NamedTask) → get (codes "period") (printed_task t) ≡ Some (number t.task.period)
+task_period t = always (codes "period") t refl refl
 
-pub task_spelled : (t : NamedTask) → t.task.jitter ≡ 0 → spelled_task (printed_task t) ≡ t
-task_spelled t none = elim (cases_Bool (t.task.deadline == t.task.period)) [
-  | inl same ↦ rw same (ap (λ deadline. record { name = t.name; task = plain_task t.task.period deadline t.task.work }) (sym (eqb-true t.task.deadline t.task.period same)) ∙ plain_is t none)
-  | inr other ↦ rw other (plain_is t none)
-]
+task_work : (t : NamedTask) → get (codes "work") (printed_task t) ≡ Some (number t.task.work)
+task_work t = always (codes "work") t refl refl
 
-pub task_faultless : (q : ℕ) (earlier : List Data) (t : NamedTask) → is_name t.name ≡ true → list_any (is_named t.name) earlier ≡ false → IsConstrained t.task → t.task.period ≤ LIMIT → task_faults q earlier (printed_task t) ≡ []
-task_faultless q earlier t name new is limit = elim (cases_Bool (t.task.deadline == t.task.period)) [
-  | inl same ↦ rw (same, name_ok, range_ok spot LIMIT t.task.period (omega arith) limit, range_ok spot t.task.period t.task.work is.works (omega arith))
-  | inr other ↦ rw (other, name_ok, range_ok spot LIMIT t.task.period (omega arith) limit, range_ok spot t.task.period t.task.deadline (omega arith) is.in_period, range_ok spot t.task.deadline t.task.work is.works (omega (arith, is.in_deadline)))
-]
+task_deadline : (t : NamedTask) → get (codes "deadline") (printed_task t) ≡ other_number t.task.period t.task.deadline
+task_deadline t =
+    other_key (codes "deadline") (codes "jitter") (other_number 0 t.task.jitter) (due_members t) refl
+    ∙ own_key (codes "deadline") (other_number t.task.period t.task.deadline) (fixed_members t) refl refl
+
+task_jitter : (t : NamedTask) → get (codes "jitter") (printed_task t) ≡ other_number 0 t.task.jitter
+task_jitter t =
+    own_key (codes "jitter") (other_number 0 t.task.jitter) (due_members t) refl
+    (other_key (codes "jitter") (codes "deadline") (other_number t.task.period t.task.deadline) (fixed_members t) refl)
+
+-- a number that may be left out is read back
+given_back : (usual n : ℕ) → unwrap_or (given_number (other_number usual n)) usual ≡ n
+given_back usual n = by (n == usual) refl
   where
-    spot : Spot
-    spot = Task q (length earlier)
+    by : (b : Bool) → (n == usual) ≡ b → unwrap_or (given_number (other_number usual n)) usual ≡ n
+    by true same = rw same (sym (eqb-true n usual same))
+    by false other = rw other
 
-    name_ok : new_name_faults spot earlier t.name ≡ []
-    name_ok = new_name_ok spot earlier t.name name new
+number_back : (n : ℕ) → number_of (other_number 0 n) ≡ n
+number_back n = by (n == 0) refl
+  where
+    by : (b : Bool) → (n == 0) ≡ b → number_of (other_number 0 n) ≡ n
+    by true same = rw same (sym (eqb-true n 0 same))
+    by false other = rw other
+
+pub task_spelled : (t : NamedTask) → spelled_task (printed_task t) ≡ t
+task_spelled t = rw (task_name t, task_period t, task_work t, task_deadline t, task_jitter t) (rw (given_back t.task.period t.task.deadline, number_back t.task.jitter))
+
+-- and has no fault
+deadline_ok : (spot : Spot) (period deadline : ℕ) → 1 ≤ deadline → deadline ≤ period → optional (range_faults spot period) (other_number period deadline) ≡ []
+deadline_ok spot period deadline some within = by (deadline == period) refl
+  where
+    by : (b : Bool) → (deadline == period) ≡ b → optional (range_faults spot period) (other_number period deadline) ≡ []
+    by true same = rw same
+    by false other = rw other (range_ok spot period deadline some within)
+
+jitter_ok : (spot : Spot) (bound jitter : ℕ) → jitter < bound → optional (below_faults spot bound) (other_number 0 jitter) ≡ []
+jitter_ok spot bound jitter below = by (jitter == 0) refl
+  where
+    is_less : nat_lt jitter bound ≡ true
+    is_less = grind (arith, nat_tests)
+
+    by : (b : Bool) → (jitter == 0) ≡ b → optional (below_faults spot bound) (other_number 0 jitter) ≡ []
+    by true none = rw none
+    by false some = rw (some, is_less)
+
+task_keys_faultless : (spot : Spot) (earlier : List Data) (t : NamedTask) → is_name t.name ≡ true → list_any (is_named t.name) earlier ≡ false → IsConstrained t.task → t.task.period ≤ LIMIT → task_key_faults spot earlier (printed_task t) ≡ []
+task_keys_faultless spot earlier t name new is limit =
+    let works = is.works in
+    let in_deadline = is.in_deadline in
+    let in_period = is.in_period in
+    rw (task_name t, task_period t, task_work t, task_deadline t, task_jitter t)
+    (rw (given_back t.task.period t.task.deadline, number_back t.task.jitter)
+    (none_both _ _ (new_name_ok spot earlier t.name name new)
+    (none_both _ _ (range_ok spot LIMIT t.task.period (omega arith) limit)
+    (none_both _ _ (deadline_ok spot t.task.period t.task.deadline (omega arith) in_period)
+    (none_both _ _ (jitter_ok spot t.task.deadline t.task.jitter (omega arith))
+    (range_ok spot (room_of t.task) t.task.work works (omega arith)))))))
+
+-- a format in which the jitter can be told
+abbrev pub Tells : Format → NamedTask → Type 0
+Tells One t = has_jitter t ≡ false
+Tells Two t = Unit {0}
+
+task_listed : (format : Format) (t : NamedTask) → Tells format t → has_only (task_keys format) (task_members t) ≡ true
+task_listed One t none =
+    ap (λ jitter. has_only (task_keys One) (with_some (codes "jitter") jitter (due_members t))) (left_out t.task.jitter none)
+    ∙ listed_key (task_keys One) (codes "deadline") (other_number t.task.period t.task.deadline) (fixed_members t) refl
+  where
+    left_out : (n : ℕ) → not (n == 0) ≡ false → other_number 0 n ≡ None
+    left_out n e = let zero : (n == 0) ≡ true = grind arith in rw zero
+task_listed Two t told =
+    listed_key (task_keys Two) (codes "jitter") (other_number 0 t.task.jitter) (due_members t) refl
+    ∙ listed_key (task_keys Two) (codes "deadline") (other_number t.task.period t.task.deadline) (fixed_members t) refl
+
+pub task_faultless : (format : Format) (q : ℕ) (earlier : List Data) (t : NamedTask) → Tells format t → is_name t.name ≡ true → list_any (is_named t.name) earlier ≡ false → IsConstrained t.task → t.task.period ≤ LIMIT → task_faults format q earlier (printed_task t) ≡ []
+task_faultless format q earlier t tells name new is limit = rw (task_listed format t tells, task_keys_faultless (Task q (length earlier)) earlier t name new is limit)

@@ -1,11 +1,13 @@
 -- Walking along printed elements: each is judged with the elements before it.
-use Rattle.std.proofs.Common.{◌≡◌, ℕ, ◌-◌, ◌<◌, List, [], ◌∷◌, ◌++◌, map, length, get_or, refl, sym, ap, ◌∙◌, arith, append_assoc}
+use Rattle.std.proofs.Common.{◌≡◌, ℕ, ◌-◌, ◌<◌, Bool, false, List, [], ◌∷◌, ◌++◌, map, length, get_or, refl, sym, ap, ◌∙◌, arith, append_assoc}
 use Rattle.std.proofs.lemmas.List.{map-append, length-append, get_or-append_right}
+use Rattle.std.specs.List.{list_any}
 use Rattle.toml.specs.Data.{Data}
 use Rattle.toml.specs.View.{items_of}
 use Rattle.system_file.specs.declared.fault.SystemFault.{SystemFault}
 use Rattle.system_file.specs.Document.{elements_of}
 use Rattle.system_file.specs.Faults.{in_order}
+use Rattle.system_file.proofs.Rules.{none_at}
 
 -- no element has a fault
 pub all_faultless : {X : Type 0} (at_element : List Data → Data → List SystemFault) (element : X → Data) (before xs : List X) →
@@ -38,3 +40,7 @@ stands_at all earlier x later d e = ap (λ xs. get_or xs (length earlier) d) e �
   where
     zero_at : (n : ℕ) → n - n ≡ 0
     zero_at n = omega arith
+
+-- where no element passes, this one does not
+pub none_among : {X : Type 0} (p : X → Bool) (all earlier : List X) (x : X) (later : List X) → all ≡ earlier ++ x ∷ later → list_any p all ≡ false → p x ≡ false
+none_among p all earlier x later e none = ap p (sym (stands_at all earlier x later x e)) ∙ none_at p all (length earlier) x (within all earlier x later e) none

@@ -1,24 +1,25 @@
 -- What one core, one task and one part keep where they have no fault.
-use Rattle.std.proofs.Common.{◌≡◌, ℕ, ◌<◌, ◌≤◌, suc, zero, Bool, true, false, List, [], ◌∷◌, ◌++◌, map, length, take, get_or, Option, Some, None, refl, sym, ap, subst, ◌∙◌, codes, arith, append_assoc, length-take-le}
+use Rattle.std.proofs.Common.{◌≡◌, ℕ, ◌+◌, ◌-◌, ◌<◌, ◌≤◌, suc, zero, Bool, true, false, List, [], ◌∷◌, ◌++◌, map, length, take, get_or, Option, Some, None, refl, sym, ap, subst, ◌∙◌, codes, arith, append_assoc, length-take-le}
 use Rattle.std.proofs.lemmas.List.{append-nil, get_or-map, get_or-take}
 use Rattle.std.proofs.lemmas.Slice.Eq.{bytes_eq-Decides}
 use Rattle.std.proofs.lemmas.Bool.{false≢true}
 use Rattle.std.specs.List.{list_any}
-use Rattle.slot_model.specs.Task.{default_task, SporadicTask, IsConstrained, task_at}
+use Rattle.slot_model.specs.Task.{default_task, room_of, SporadicTask, IsConstrained, task_at}
 use Rattle.slot_model.specs.declared.task.TheConstants.{LIMIT}
 use Rattle.toml.specs.Data.{Data, string, boolean, get}
 use Rattle.tree_model.specs.declared.place.Parent.{Parent}
 use Rattle.tree_model.specs.declared.place.Parent.TheVariants.{Core as on_core, Part as on_part}
 use Rattle.tree_model.specs.View.{NamedTask}
 use Rattle.tree_model.specs.System.{IsPart, IsCoreSupply, AreDistinct, own_tasks}
+use Rattle.system_file.specs.declared.format.Format.{Format}
 use Rattle.system_file.specs.declared.fault.Spot.{Spot}
 use Rattle.system_file.specs.declared.fault.Spot.TheVariants.{Core, Part, Task}
 use Rattle.system_file.specs.declared.fault.SystemFault.{SystemFault}
 use Rattle.system_file.specs.Document.{text_of, number_of, is_text, is_named, parent_named, spelled_core, spelled_task, spelled_part, tasks_of, deadline_of}
-use Rattle.system_file.specs.Faults.{in_order, core_faults, core_keys, core_key_faults, task_faults, task_keys, task_key_faults, task_number_faults, part_faults, part_keys, part_key_faults, is_parent_faults, parent_faults, has_tasks, server_faults, required, optional, text_faults, new_name_faults, sched_faults, range_faults, flag_faults}
+use Rattle.system_file.specs.Faults.{in_order, core_faults, core_keys, core_key_faults, task_faults, task_keys, task_key_faults, task_number_faults, part_faults, part_keys, part_key_faults, is_parent_faults, parent_faults, has_tasks, server_faults, required, optional, text_faults, new_name_faults, sched_faults, range_faults, below_faults, flag_faults}
 use Rattle.system_file.proofs.Elements.{length_map}
 use Rattle.system_file.proofs.First.{none_left, none_right}
-use Rattle.system_file.proofs.Faultless.{not_wrong, table_inside, text_there, NewName, new_name_there, required_number, optional_number, number_or, supply_there, few_there}
+use Rattle.system_file.proofs.Faultless.{not_wrong, table_inside, text_there, NewName, new_name_there, required_number, optional_number, number_or, below_there, supply_there, few_there}
 
 -- no element of an array has a fault
 pub each : (at_element : List Data → Data → List SystemFault) (earlier ds : List Data) (i : ℕ) (e : Data) → i < length ds → in_order at_element earlier ds ≡ [] → at_element (earlier ++ take i ds) (get_or ds i e) ≡ []
@@ -57,16 +58,24 @@ core_name earlier d h = new_name_there (Core (length earlier)) earlier d (none_l
 pub core_supply : (earlier : List Data) (d : Data) → core_faults earlier d ≡ [] → IsCoreSupply (spelled_core d).supply
 core_supply earlier d h = supply_there (Core (length earlier)) _ _ (none_right _ _ (none_right _ _ (table_inside _ core_keys (core_key_faults (Core (length earlier)) earlier d) d h)))
 
-pub task_name : (q : ℕ) (earlier : List Data) (d : Data) → task_faults q earlier d ≡ [] → NewName earlier d
-task_name q earlier d h = new_name_there (Task q (length earlier)) earlier d (none_left _ _ (table_inside _ task_keys (task_key_faults (Task q (length earlier)) earlier d) d h))
+pub task_name : (format : Format) (q : ℕ) (earlier : List Data) (d : Data) → task_faults format q earlier d ≡ [] → NewName earlier d
+task_name format q earlier d h = new_name_there (Task q (length earlier)) earlier d (none_left _ _ (table_inside _ (task_keys format) (task_key_faults (Task q (length earlier)) earlier d) d h))
 
-pub task_numbers : (q : ℕ) (earlier : List Data) (d : Data) → task_faults q earlier d ≡ [] → IsConstrained (spelled_task d).task × ((spelled_task d).task.period ≤ LIMIT)
-task_numbers q earlier d h =
-    let numbers : task_number_faults (Task q (length earlier)) d ≡ [] = none_right _ _ (table_inside _ task_keys (task_key_faults (Task q (length earlier)) earlier d) d h) in
-    let period = required_number (Task q (length earlier)) LIMIT (get (codes "period") d) (none_left _ _ numbers) in
-    let deadline = number_or (Task q (length earlier)) (number_of (get (codes "period") d)) (get (codes "deadline") d) period.0 (none_left _ _ (none_right _ _ numbers)) in
-    let work = required_number (Task q (length earlier)) (deadline_of d) (get (codes "work") d) (none_right _ _ (none_right _ _ numbers)) in
-    (record { works = work.0; in_deadline = omega (arith, work.1); in_period = deadline.1 }, period.1)
+-- work in the room that the jitter leaves fits before the deadline
+in_room : (work jitter deadline : ℕ) → work ≤ deadline - jitter → jitter < deadline → work + jitter ≤ deadline
+in_room work jitter deadline room below = omega arith
+
+pub task_numbers : (format : Format) (q : ℕ) (earlier : List Data) (d : Data) → task_faults format q earlier d ≡ [] → IsConstrained (spelled_task d).task × ((spelled_task d).task.period ≤ LIMIT)
+task_numbers format q earlier d h =
+    let spot = Task q (length earlier) in
+    let numbers : task_number_faults (Task q (length earlier)) d ≡ [] = none_right _ _ (table_inside _ (task_keys format) (task_key_faults (Task q (length earlier)) earlier d) d h) in
+    let period = required_number spot LIMIT (get (codes "period") d) (none_left _ _ numbers) in
+    let after_period = none_right (required spot (range_faults spot LIMIT) (get (codes "period") d)) _ numbers in
+    let deadline = number_or spot (number_of (get (codes "period") d)) (get (codes "deadline") d) period.0 (none_left _ _ after_period) in
+    let after_deadline = none_right (optional (range_faults spot (number_of (get (codes "period") d))) (get (codes "deadline") d)) _ after_period in
+    let jitter : number_of (get (codes "jitter") d) < deadline_of d = below_there spot (deadline_of d) (get (codes "jitter") d) deadline.0 (none_left _ _ after_deadline) in
+    let work = required_number spot (room_of (spelled_task d).task) (get (codes "work") d) (none_right (optional (below_faults spot (deadline_of d)) (get (codes "jitter") d)) _ after_deadline) in
+    (record { works = work.0; in_deadline = in_room _ _ _ work.1 jitter; in_period = deadline.1 }, period.1)
 
 -- a part's parent: a core, or an earlier part without tasks
 pub record ParentThere (cores earlier : List Data) (d : Data) : Type 0 where
@@ -81,24 +90,24 @@ fits_parent spot earlier None h = cc
 fits_parent spot earlier (Some (on_core c)) h = (on_core c, refl, λ r e. cc)
 fits_parent spot earlier (Some (on_part k)) h = (on_part k, refl, λ r e. let same : k ≡ r = cc in ap (λ n. has_tasks (get_or earlier n (boolean false))) (sym same) ∙ not_wrong _ _ h)
 
-pub part_keys_none : (cores earlier : List Data) (d : Data) → part_faults cores earlier d ≡ [] → part_key_faults (Part (length earlier)) cores earlier d ≡ []
-part_keys_none cores earlier d h = none_left _ _ (table_inside (Part (length earlier)) part_keys (part_key_faults (Part (length earlier)) cores earlier d ++ in_order (task_faults (length earlier)) [] (tasks_of d)) d h)
+pub part_keys_none : (format : Format) (cores earlier : List Data) (d : Data) → part_faults format cores earlier d ≡ [] → part_key_faults (Part (length earlier)) cores earlier d ≡ []
+part_keys_none format cores earlier d h = none_left _ _ (table_inside (Part (length earlier)) part_keys (part_key_faults (Part (length earlier)) cores earlier d ++ in_order (task_faults format (length earlier)) [] (tasks_of d)) d h)
 
-pub part_name : (cores earlier : List Data) (d : Data) → part_faults cores earlier d ≡ [] → NewName (cores ++ earlier) d
-part_name cores earlier d h = new_name_there (Part (length earlier)) (cores ++ earlier) d (none_left _ _ (part_keys_none cores earlier d h))
+pub part_name : (format : Format) (cores earlier : List Data) (d : Data) → part_faults format cores earlier d ≡ [] → NewName (cores ++ earlier) d
+part_name format cores earlier d h = new_name_there (Part (length earlier)) (cores ++ earlier) d (none_left _ _ (part_keys_none format cores earlier d h))
 
-pub part_parent : (cores earlier : List Data) (d : Data) → part_faults cores earlier d ≡ [] → ParentThere cores earlier d
-part_parent cores earlier d h =
-    let t = text_there (Part (length earlier)) (parent_faults (Part (length earlier)) cores earlier) (get (codes "parent") d) (none_left _ _ (none_right _ _ (part_keys_none cores earlier d h))) in
+pub part_parent : (format : Format) (cores earlier : List Data) (d : Data) → part_faults format cores earlier d ≡ [] → ParentThere cores earlier d
+part_parent format cores earlier d h =
+    let t = text_there (Part (length earlier)) (parent_faults (Part (length earlier)) cores earlier) (get (codes "parent") d) (none_left _ _ (none_right _ _ (part_keys_none format cores earlier d h))) in
     let p = fits_parent (Part (length earlier)) earlier (parent_named cores earlier t.text) t.none in
     record { text = t.text; is = t.is; parent = p.0; found = p.1; inner = p.2 }
 
-pub part_server : (cores earlier : List Data) (d : Data) → part_faults cores earlier d ≡ [] → server_faults (Part (length earlier)) d ≡ []
-part_server cores earlier d h =
+pub part_server : (format : Format) (cores earlier : List Data) (d : Data) → part_faults format cores earlier d ≡ [] → server_faults (Part (length earlier)) d ≡ []
+part_server format cores earlier d h =
     let spot = Part (length earlier) in
     none_right (required spot (text_faults spot (sched_faults spot)) (get (codes "sched") d)) _
     (none_right (required spot (text_faults spot (parent_faults spot cores earlier)) (get (codes "parent") d)) _
-    (none_right (required spot (text_faults spot (new_name_faults spot (cores ++ earlier))) (get (codes "name") d)) _ (part_keys_none cores earlier d h)))
+    (none_right (required spot (text_faults spot (new_name_faults spot (cores ++ earlier))) (get (codes "name") d)) _ (part_keys_none format cores earlier d h)))
 
 -- the names of spelled tasks
 pub task_names : (ds : List Data) → map (λ (t : NamedTask). t.name) (map spelled_task ds) ≡ map (λ d. text_of (get (codes "name") d)) ds
@@ -106,12 +115,12 @@ task_names [] = refl
 task_names (d ∷ ds) = ap (λ ns. text_of (get (codes "name") d) ∷ ns) (task_names ds)
 
 -- a part's numbers and tasks are as a system asks
-pub part_is : (cores all earlier : List Data) (d : Data) → part_faults cores earlier d ≡ [] → IsPart (spelled_part cores all d)
-part_is cores all earlier d h =
+pub part_is : (format : Format) (cores all earlier : List Data) (d : Data) → part_faults format cores earlier d ≡ [] → IsPart (spelled_part cores all d)
+part_is format cores all earlier d h =
     let spot = Part (length earlier) in
-    let numbers = part_server cores earlier d h in
-    let in_tasks : in_order (task_faults (length earlier)) [] (tasks_of d) ≡ [] =
-    none_right (part_key_faults (Part (length earlier)) cores earlier d) _ (table_inside (Part (length earlier)) part_keys (part_key_faults (Part (length earlier)) cores earlier d ++ in_order (task_faults (length earlier)) [] (tasks_of d)) d h) in
+    let numbers = part_server format cores earlier d h in
+    let in_tasks : in_order (task_faults format (length earlier)) [] (tasks_of d) ≡ [] =
+    none_right (part_key_faults (Part (length earlier)) cores earlier d) _ (table_inside (Part (length earlier)) part_keys (part_key_faults (Part (length earlier)) cores earlier d ++ in_order (task_faults format (length earlier)) [] (tasks_of d)) d h) in
     record {
       period = required_number spot LIMIT (get (codes "period") d) (none_left _ _ numbers);
       budget = optional_number spot (number_of (get (codes "period") d)) (get (codes "budget") d) (none_left _ _ (none_right (required spot (range_faults spot LIMIT) (get (codes "period") d)) _ numbers));
@@ -125,7 +134,7 @@ part_is cores all earlier d h =
           get_or-map (λ (t : NamedTask). t.task) (map spelled_task (tasks_of d)) i (spelled_task (boolean false)) default_task within
           ∙ ap (λ (t : NamedTask). t.task) (get_or-map spelled_task (tasks_of d) i (boolean false) (spelled_task (boolean false)) few) in
           let is : SporadicTask → Type 0 = λ t. IsConstrained t × (t.period ≤ LIMIT) in
-          subst is (sym same) (task_numbers (length earlier) (take i (tasks_of d)) (get_or (tasks_of d) i (boolean false)) (each (task_faults (length earlier)) [] (tasks_of d) i (boolean false) few in_tasks));
+          subst is (sym same) (task_numbers format (length earlier) (take i (tasks_of d)) (get_or (tasks_of d) i (boolean false)) (each (task_faults format (length earlier)) [] (tasks_of d) i (boolean false) few in_tasks));
       task_names = subst AreDistinct (sym (task_names (tasks_of d)))
-          (distinct (tasks_of d) (λ j few. task_name (length earlier) (take j (tasks_of d)) (get_or (tasks_of d) j (boolean false)) (each (task_faults (length earlier)) [] (tasks_of d) j (boolean false) few in_tasks)));
+          (distinct (tasks_of d) (λ j few. task_name format (length earlier) (take j (tasks_of d)) (get_or (tasks_of d) j (boolean false)) (each (task_faults format (length earlier)) [] (tasks_of d) j (boolean false) few in_tasks)));
     }

@@ -8,10 +8,11 @@ use Rattle.tree_model.specs.declared.place.Parent.{Parent}
 use Rattle.tree_model.specs.declared.place.Parent.TheVariants.{Core as on_core, Part as on_part}
 use Rattle.tree_model.specs.View.{PartView, SystemView}
 use Rattle.tree_model.specs.System.{IsSystem, IsPart, IsCoreSupply, Stands, IsChildOf, AreDistinct, node_names, is_leaf}
+use Rattle.system_file.specs.declared.format.Format.{Format}
 use Rattle.system_file.specs.declared.fault.Spot.TheVariants.{Top, Part}
 use Rattle.system_file.specs.declared.fault.SystemFault.{SystemFault}
 use Rattle.system_file.specs.declared.fault.SystemFault.TheVariants.{Empty}
-use Rattle.system_file.specs.Document.{elements_of, array_of, text_of, is_text, cores_of, parts_of, tasks_of, parent_at, spelled_core, spelled_part, spelled_system}
+use Rattle.system_file.specs.Document.{format_of, elements_of, array_of, text_of, is_text, cores_of, parts_of, tasks_of, parent_at, spelled_core, spelled_part, spelled_system}
 use Rattle.system_file.specs.Faults.{fault_if, required, optional, format_faults, core_array_faults, array_faults, top_faults, top_keys, in_order, core_faults, part_faults, empty_faults, has_tasks, is_parent, faults}
 use Rattle.system_file.specs.Reading.{first_of, is_on, has_child, is_empty_part, part_in, ParentsAmong}
 use Rattle.system_file.proofs.Elements.{length_map, list_any_map}
@@ -59,18 +60,18 @@ module _ (cores parts : List Data) where
   leaf_is : (q : ℕ) → q < length parts → is_leaf (part_in spelled q).tasks ≡ has_tasks (get_or parts q (boolean false))
   leaf_is q h = ap (λ (p : PartView). is_leaf p.tasks) (part_spelled q h) ∙ leaf_tasks (tasks_of (get_or parts q (boolean false)))
 
-  module _ (no_core : in_order core_faults [] cores ≡ []) (no_part : in_order (part_faults cores) [] parts ≡ []) where
+  module _ (format : Format) (no_core : in_order core_faults [] cores ≡ []) (no_part : in_order (part_faults format cores) [] parts ≡ []) where
     pub parents_among : ParentsAmong spelled
     parents_among = λ q r within is.
         let few : q < length parts = rw (length_map (spelled_part cores parts) parts) at within in
-        let below = parent_part cores parts no_core no_part q r few (sym (ap (λ (p : PartView). p.parent) (part_spelled q few)) ∙ is) in
+        let below = parent_part format cores parts no_core no_part q r few (sym (ap (λ (p : PartView). p.parent) (part_spelled q few)) ∙ is) in
         rw (length_map (spelled_part cores parts) parts) (omega (arith, below.0))
 
     child_is : (q : ℕ) → q < length parts → has_child spelled q ≡ is_parent parts (get_or parts q (boolean false))
     child_is q h =
         list_any_map (λ (p : PartView). is_on q p.parent) (spelled_part cores parts) parts
         ∙ list_any_same (λ d. is_on q (parent_at cores parts d)) (λ d. is_text (text_of (get (codes "name") (get_or parts q (boolean false)))) (get (codes "parent") d)) parts (boolean false)
-        (λ r hr. link cores parts no_core no_part q r h hr)
+        (λ r hr. link format cores parts no_core no_part q r h hr)
 
     empty_is : (q : ℕ) → q < length parts → is_empty_part spelled q (part_in spelled q) ≡ (not (has_tasks (get_or parts q (boolean false))) && not (is_parent parts (get_or parts q (boolean false))))
     empty_is q h = ap (λ b. not b && not (has_child spelled q)) (leaf_is q h) ∙ ap (λ b. not (has_tasks (get_or parts q (boolean false))) && not b) (child_is q h)
@@ -91,9 +92,9 @@ module _ (cores parts : List Data) where
         (ap (λ b. first_of (fault_if b (Empty (Part (length (take at parts)))))) (sym (empty_is at few) ∙ here) ∙ ap (λ n. Some (Empty (Part n))) long)
 
     stands : (q : ℕ) → q < length parts → (p : Parent) → parent_at cores parts (get_or parts q (boolean false)) ≡ p → Stands sys q p
-    stands q h (on_core c) is = rw (length_map spelled_core cores) (parent_core cores parts no_core no_part q c h is)
+    stands q h (on_core c) is = rw (length_map spelled_core cores) (parent_core format cores parts no_core no_part q c h is)
     stands q h (on_part r) is =
-        let below = parent_part cores parts no_core no_part q r h is in
+        let below = parent_part format cores parts no_core no_part q r h is in
         (below.0, leaf_is r (omega (arith, below.0)) ∙ below.1)
 
     childless : (a b : Bool) (fault : SystemFault) → fault_if (not a && not b) fault ≡ [] → a ≡ false → b ≡ true
@@ -106,11 +107,11 @@ module _ (cores parts : List Data) where
         let d = get_or parts q (boolean false) in
         let parent : is_parent parts d ≡ true = childless (has_tasks d) (is_parent parts d) _ (each (empty_faults parts) [] parts q (boolean false) h no_empty) (sym (leaf_is q h) ∙ leaf) in
         let child = any_at (λ c. is_text (text_of (get (codes "name") d)) (get (codes "parent") c)) parts (boolean false) parent in
-        let on : parent_at cores parts (get_or parts child.place (boolean false)) ≡ on_part q = on_part_is q _ (link cores parts no_core no_part q child.place h child.within ∙ child.passes) in
+        let on : parent_at cores parts (get_or parts child.place (boolean false)) ≡ on_part q = on_part_is q _ (link format cores parts no_core no_part q child.place h child.within ∙ child.passes) in
         (child.place, (rw (length_map (spelled_part cores parts) parts) child.within, ap (λ (p : PartView). p.parent) (part_spelled child.place child.within) ∙ on))
 
     names_distinct : AreDistinct (node_names sys)
-    names_distinct = subst AreDistinct names (distinct (cores ++ parts) (all_new cores parts no_core no_part))
+    names_distinct = subst AreDistinct names (distinct (cores ++ parts) (all_new format cores parts no_core no_part))
       where
         names : map (λ d. text_of (get (codes "name") d)) (cores ++ parts) ≡ node_names sys
         names = map-append (λ (d : Data). text_of (get (codes "name") d)) cores parts
@@ -129,7 +130,7 @@ module _ (cores parts : List Data) where
           subst supply (sym (get_or-map spelled_core cores c (boolean false) _ few)) (core_supply (take c cores) (get_or cores c (boolean false)) (each core_faults [] cores c (boolean false) few no_core));
       parts = λ q within.
           let few : q < length parts = rw (length_map (spelled_part cores parts) parts) at within in
-          subst IsPart (sym (part_spelled q few)) (part_is cores parts (take q parts) (get_or parts q (boolean false)) (part_none cores parts no_core no_part q few));
+          subst IsPart (sym (part_spelled q few)) (part_is format cores parts (take q parts) (get_or parts q (boolean false)) (part_none format cores parts no_core no_part q few));
       parents = λ q within.
           let few : q < length parts = rw (length_map (spelled_part cores parts) parts) at within in
           subst (λ (p : Parent). Stands sys q p) (sym (ap (λ (p : PartView). p.parent) (part_spelled q few))) (stands q few _ refl);
@@ -143,35 +144,35 @@ faultless_is_system top h =
     let rest = none_right (top_faults top) _ h in
     let no_core : in_order core_faults [] (cores_of top) ≡ [] = none_left _ _ rest in
     let rest_2 = none_right (in_order core_faults [] (cores_of top)) _ rest in
-    let no_part : in_order (part_faults (cores_of top)) [] (parts_of top) ≡ [] = none_left _ _ rest_2 in
-    let no_empty = none_right (in_order (part_faults (cores_of top)) [] (parts_of top)) _ rest_2 in
+    let no_part : in_order (part_faults (format_of top) (cores_of top)) [] (parts_of top) ≡ [] = none_left _ _ rest_2 in
+    let no_empty = none_right (in_order (part_faults (format_of top) (cores_of top)) [] (parts_of top)) _ rest_2 in
     let keys = table_inside Top top_keys (required Top format_faults (get (codes "format") top) ++ (required Top core_array_faults (get (codes "core") top) ++ optional (array_faults Top 512) (get (codes "part") top))) top in_top in
     let arrays = none_right (required Top format_faults (get (codes "format") top)) _ keys in
-    is_system (cores_of top) (parts_of top) no_core no_part
+    is_system (cores_of top) (parts_of top) (format_of top) no_core no_part
     (cores_few (get (codes "core") top) (none_left _ _ arrays))
     (few_there Top 512 (get (codes "part") top) (none_right (required Top core_array_faults (get (codes "core") top)) _ arrays))
     no_empty
 
--- What comes after the faults of the top table, over the elements of the two arrays as a reader has them.
-module _ (top : Data) (cs ps : List Data) (in_top : top_faults top ≡ []) (cores_are : cs ≡ cores_of top) (parts_are : ps ≡ parts_of top) (no_core : in_order core_faults [] cs ≡ []) where
+-- What comes after the faults of the top table, over the format and the elements of the two arrays as a reader has them.
+module _ (top : Data) (format : Format) (cs ps : List Data) (in_top : top_faults top ≡ []) (format_is : format ≡ format_of top) (cores_are : cs ≡ cores_of top) (parts_are : ps ≡ parts_of top) (no_core : in_order core_faults [] cs ≡ []) where
   core_none : in_order core_faults [] (cores_of top) ≡ []
   core_none = ap (in_order core_faults []) (sym cores_are) ∙ no_core
 
-  parts_same : in_order (part_faults (cores_of top)) [] (parts_of top) ≡ in_order (part_faults cs) [] ps
-  parts_same = ap (λ es. in_order (part_faults es) [] (parts_of top)) (sym cores_are) ∙ ap (λ es. in_order (part_faults cs) [] es) (sym parts_are)
+  parts_same : in_order (part_faults (format_of top) (cores_of top)) [] (parts_of top) ≡ in_order (part_faults format cs) [] ps
+  parts_same = ap (λ es. in_order (part_faults (format_of top) es) [] (parts_of top)) (sym cores_are) ∙ ap (λ es. in_order (part_faults (format_of top) cs) [] es) (sym parts_are) ∙ ap (λ f. in_order (part_faults f cs) [] ps) (sym format_is)
 
   empties_same : in_order (empty_faults (parts_of top)) [] (parts_of top) ≡ in_order (empty_faults ps) [] ps
   empties_same = ap (λ es. in_order (empty_faults es) [] es) (sym parts_are)
 
-  pub fault_in_parts : (x : SystemFault) → first_of (in_order (part_faults cs) [] ps) ≡ Some x → first_of (faults top) ≡ Some x
+  pub fault_in_parts : (x : SystemFault) → first_of (in_order (part_faults format cs) [] ps) ≡ Some x → first_of (faults top) ≡ Some x
   fault_in_parts x wrong =
       first_later (top_faults top) _ x in_top (first_later _ _ x core_none (first_here _ _ x (ap first_of parts_same ∙ wrong)))
 
-  pub fault_in_tree : (x : SystemFault) → in_order (part_faults cs) [] ps ≡ [] → first_of (in_order (empty_faults ps) [] ps) ≡ Some x → first_of (faults top) ≡ Some x
+  pub fault_in_tree : (x : SystemFault) → in_order (part_faults format cs) [] ps ≡ [] → first_of (in_order (empty_faults ps) [] ps) ≡ Some x → first_of (faults top) ≡ Some x
   fault_in_tree x none wrong =
       first_later (top_faults top) _ x in_top (first_later _ _ x core_none (first_later _ _ x (parts_same ∙ none) (ap first_of empties_same ∙ wrong)))
 
-  pub no_fault : in_order (part_faults cs) [] ps ≡ [] → in_order (empty_faults ps) [] ps ≡ [] → faults top ≡ []
+  pub no_fault : in_order (part_faults format cs) [] ps ≡ [] → in_order (empty_faults ps) [] ps ≡ [] → faults top ≡ []
   no_fault none no_empty = none_both (top_faults top) _ in_top (none_both _ _ core_none (none_both _ _ (parts_same ∙ none) (empties_same ∙ no_empty)))
 
   pub spelled_from : spelled_system top ≡ sys cs ps

@@ -1,18 +1,19 @@
 -- A document without faults is written by the rules.
-use Rattle.std.proofs.Common.{◌≡◌, ℕ, pos, negsuc, Bool, true, false, not, List, [], ◌∷◌, ◌++◌, length, take, drop, get_or, Option, Some, None, refl, ap, subst, codes, arith, if◌then◌else◌, ◌==◌}
-use Rattle.std.proofs.lemmas.Bool.Decides.{nat_tests}
+use Rattle.std.proofs.Common.{◌≡◌, ℕ, pos, negsuc, Bool, true, false, not, List, [], ◌∷◌, ◌++◌, length, take, drop, get_or, Option, Some, None, refl, subst, codes, if◌then◌else◌}
 use Rattle.std.proofs.lemmas.List.{take-append-drop}
 use Rattle.std.specs.List.{list_any}
 use Rattle.slot_model.specs.Name.{is_name}
 use Rattle.slot_model.specs.declared.task.TheConstants.{LIMIT}
+use Rattle.slot_model.specs.Task.{room_of}
 use Rattle.toml.specs.Data.{Data, string, integer, float, boolean, datetime, array, table, get}
+use Rattle.system_file.specs.declared.format.Format.{Format}
 use Rattle.system_file.specs.declared.fault.Spot.{Spot}
 use Rattle.system_file.specs.declared.fault.Spot.TheVariants.{Top, Core, Part, Task}
 use Rattle.system_file.specs.declared.fault.SystemFault.{SystemFault}
 use Rattle.system_file.specs.declared.fault.SystemFault.TheVariants.{BadName, NameTaken, MissingKey}
-use Rattle.system_file.specs.Document.{number_of, is_named, cores_of, parts_of, tasks_of, deadline_of}
-use Rattle.system_file.specs.Faults.{fault_if, required, optional, text_faults, new_name_faults, sched_faults, parent_faults, format_faults, range_faults, flag_faults, array_faults, core_array_faults, supply_faults, table_faults, in_order, core_keys, core_key_faults, core_faults, task_keys, task_key_faults, task_number_faults, task_faults, part_keys, part_key_faults, part_faults, top_keys, top_faults, faults}
-use Rattle.system_file.specs.Written.{IsTableOf, IsNameText, IsSchedText, IsWhole, IsFlag, IsArray, There, MayBe, BothOrNeither, IsWrittenTask, IsWrittenCore, IsWrittenPart, IsWritten}
+use Rattle.system_file.specs.Document.{number_of, format_of, is_named, cores_of, parts_of, tasks_of, deadline_of, spelled_task}
+use Rattle.system_file.specs.Faults.{fault_if, required, optional, text_faults, new_name_faults, sched_faults, parent_faults, format_faults, range_faults, below_faults, flag_faults, array_faults, core_array_faults, supply_faults, table_faults, in_order, core_keys, core_key_faults, core_faults, task_keys, task_key_faults, task_number_faults, task_faults, part_keys, part_key_faults, part_faults, top_keys, top_faults, faults}
+use Rattle.system_file.specs.Written.{IsTableOf, IsFormatNumber, IsNameText, IsSchedText, IsWhole, IsFlag, IsArray, There, MayBe, BothOrNeither, IsWrittenTask, IsWrittenCore, IsWrittenPart, IsWritten}
 use Rattle.system_file.proofs.First.{none_left, none_right}
 use Rattle.system_file.proofs.Places.{parent_kept}
 use Rattle.system_file.proofs.Faultless.{not_wrong, table_inside, text_there}
@@ -93,19 +94,26 @@ array_there (Some (datetime t)) h = cc
 array_there (Some (array ds)) h = (ds, refl)
 array_there (Some (table m)) h = cc
 
-format_is : (o : Option Data) → required Top format_faults o ≡ [] → o ≡ Some (integer (pos 1))
-format_is None h = cc
-format_is (Some (string s)) h = cc
-format_is (Some (integer (pos n))) h = one n (not_wrong _ _ h)
-  where
-    one : (n : ℕ) → not (n == 1) ≡ false → Some (integer (pos n)) ≡ Some (integer (pos 1))
-    one n e = let same : n ≡ 1 = grind (arith, nat_tests) in ap (λ k. Some (integer (pos k))) same
-format_is (Some (integer (negsuc n))) h = cc
-format_is (Some (float x)) h = cc
-format_is (Some (boolean b)) h = cc
-format_is (Some (datetime t)) h = cc
-format_is (Some (array ds)) h = cc
-format_is (Some (table m)) h = cc
+maybe_below : (spot : Spot) (bound : ℕ) (o : Option Data) → optional (below_faults spot bound) o ≡ [] → MayBe IsWhole o
+maybe_below spot bound None h = tt
+maybe_below spot bound (Some (string s)) h = cc
+maybe_below spot bound (Some (integer (pos n))) h = (n, refl)
+maybe_below spot bound (Some (integer (negsuc n))) h = cc
+maybe_below spot bound (Some (float x)) h = cc
+maybe_below spot bound (Some (boolean b)) h = cc
+maybe_below spot bound (Some (datetime t)) h = cc
+maybe_below spot bound (Some (array ds)) h = cc
+maybe_below spot bound (Some (table m)) h = cc
+
+format_there : (o : Option Data) → required Top format_faults o ≡ [] → IsFormatNumber o
+format_there None h = cc
+format_there (Some (string s)) h = cc
+format_there (Some (integer z)) h = record { number = z; is = refl; listed = not_wrong _ _ h }
+format_there (Some (float x)) h = cc
+format_there (Some (boolean b)) h = cc
+format_there (Some (datetime t)) h = cc
+format_there (Some (array ds)) h = cc
+format_there (Some (table m)) h = cc
 
 both : (spot : Spot) (a b : Option Data) → supply_faults spot a b ≡ [] → BothOrNeither a b
 both spot None None h = tt
@@ -116,18 +124,21 @@ both spot (Some period) None h = nothing (none_right (range_faults spot LIMIT pe
 both spot None (Some budget) h = cc
 both spot (Some period) (Some budget) h = (whole spot LIMIT period (none_left _ _ h), whole spot (number_of (Some period)) budget (none_right (range_faults spot LIMIT period) _ h))
 
-task_written : (q : ℕ) (earlier : List Data) (d : Data) → task_faults q earlier d ≡ [] → IsWrittenTask d
-task_written q earlier d h =
+task_written : (format : Format) (q : ℕ) (earlier : List Data) (d : Data) → task_faults format q earlier d ≡ [] → IsWrittenTask format d
+task_written format q earlier d h =
     let spot = Task q (length earlier) in
-    let keys : task_key_faults (Task q (length earlier)) earlier d ≡ [] = table_inside spot task_keys (task_key_faults spot earlier d) d h in
+    let keys : task_key_faults (Task q (length earlier)) earlier d ≡ [] = table_inside spot (task_keys format) (task_key_faults spot earlier d) d h in
     let numbers : task_number_faults (Task q (length earlier)) d ≡ [] = none_right _ _ keys in
-    let more = none_right (required spot (range_faults spot LIMIT) (get (codes "period") d)) _ numbers in
+    let after_period = none_right (required spot (range_faults spot LIMIT) (get (codes "period") d)) _ numbers in
+    let after_deadline = none_right (optional (range_faults spot (number_of (get (codes "period") d))) (get (codes "deadline") d)) _ after_period in
+    let after_jitter = none_right (optional (below_faults spot (deadline_of d)) (get (codes "jitter") d)) _ after_deadline in
     record {
-      keys = table_of spot task_keys (task_key_faults spot earlier d) d h;
+      keys = table_of spot (task_keys format) (task_key_faults spot earlier d) d h;
       name = name_text spot earlier (get (codes "name") d) (none_left _ _ keys);
       period = whole_there spot LIMIT (get (codes "period") d) (none_left _ _ numbers);
-      deadline = maybe_whole spot (number_of (get (codes "period") d)) (get (codes "deadline") d) (none_left _ _ more);
-      work = whole_there spot (deadline_of d) (get (codes "work") d) (none_right (optional (range_faults spot (number_of (get (codes "period") d))) (get (codes "deadline") d)) _ more);
+      deadline = maybe_whole spot (number_of (get (codes "period") d)) (get (codes "deadline") d) (none_left _ _ after_period);
+      jitter = maybe_below spot (deadline_of d) (get (codes "jitter") d) (none_left _ _ after_deadline);
+      work = whole_there spot (room_of (spelled_task d).task) (get (codes "work") d) after_jitter;
     }
 
 core_written : (earlier : List Data) (d : Data) → core_faults earlier d ≡ [] → IsWrittenCore d
@@ -142,14 +153,14 @@ core_written earlier d h =
       supply = both spot (get (codes "supply_period") d) (get (codes "supply_budget") d) (none_right (required spot (text_faults spot (sched_faults spot)) (get (codes "sched") d)) _ more);
     }
 
-part_written : (cores earlier later : List Data) (d : Data) → part_faults cores earlier d ≡ [] → IsWrittenPart cores (earlier ++ later) d
-part_written cores earlier later d h =
+part_written : (format : Format) (cores earlier later : List Data) (d : Data) → part_faults format cores earlier d ≡ [] → IsWrittenPart format cores (earlier ++ later) d
+part_written format cores earlier later d h =
     let spot = Part (length earlier) in
-    let at_keys = part_key_faults spot cores earlier d ++ in_order (task_faults (length earlier)) [] (tasks_of d) in
-    let keys = part_keys_none cores earlier d h in
-    let server = part_server cores earlier d h in
-    let in_tasks : in_order (task_faults (length earlier)) [] (tasks_of d) ≡ [] = none_right (part_key_faults spot cores earlier d) _ (table_inside spot part_keys at_keys d h) in
-    let there = part_parent cores earlier d h in
+    let at_keys = part_key_faults spot cores earlier d ++ in_order (task_faults format (length earlier)) [] (tasks_of d) in
+    let keys = part_keys_none format cores earlier d h in
+    let server = part_server format cores earlier d h in
+    let in_tasks : in_order (task_faults format (length earlier)) [] (tasks_of d) ≡ [] = none_right (part_key_faults spot cores earlier d) _ (table_inside spot part_keys at_keys d h) in
+    let there = part_parent format cores earlier d h in
     let after_name = none_right (required spot (text_faults spot (new_name_faults spot (cores ++ earlier))) (get (codes "name") d)) _ keys in
     let after_parent = none_right (required spot (text_faults spot (parent_faults spot cores earlier)) (get (codes "parent") d)) _ after_name in
     let after_period = none_right (required spot (range_faults spot LIMIT) (get (codes "period") d)) _ server in
@@ -163,7 +174,7 @@ part_written cores earlier later d h =
       budget = maybe_whole spot (number_of (get (codes "period") d)) (get (codes "budget") d) (none_left _ _ after_period);
       extra = maybe_flag spot (get (codes "extra") d) (none_left _ _ after_budget);
       task = maybe_array spot 256 (get (codes "task") d) (none_right (optional (flag_faults spot) (get (codes "extra") d)) _ after_budget);
-      tasks = λ i few. task_written (length earlier) (take i (tasks_of d)) (get_or (tasks_of d) i (boolean false)) (each (task_faults (length earlier)) [] (tasks_of d) i (boolean false) few in_tasks);
+      tasks = λ i few. task_written format (length earlier) (take i (tasks_of d)) (get_or (tasks_of d) i (boolean false)) (each (task_faults format (length earlier)) [] (tasks_of d) i (boolean false) few in_tasks);
     }
 
 pub faultless_is_written : (top : Data) → faults top ≡ [] → IsWritten top
@@ -171,16 +182,16 @@ faultless_is_written top h =
     let in_top : top_faults top ≡ [] = none_left _ _ h in
     let rest = none_right (top_faults top) _ h in
     let no_core : in_order core_faults [] (cores_of top) ≡ [] = none_left _ _ rest in
-    let no_part : in_order (part_faults (cores_of top)) [] (parts_of top) ≡ [] = none_left _ _ (none_right (in_order core_faults [] (cores_of top)) _ rest) in
+    let no_part : in_order (part_faults (format_of top) (cores_of top)) [] (parts_of top) ≡ [] = none_left _ _ (none_right (in_order core_faults [] (cores_of top)) _ rest) in
     let at_keys = required Top format_faults (get (codes "format") top) ++ (required Top core_array_faults (get (codes "core") top) ++ optional (array_faults Top 512) (get (codes "part") top)) in
     let keys = table_inside Top top_keys at_keys top in_top in
     let arrays = none_right (required Top format_faults (get (codes "format") top)) _ keys in
     record {
       keys = table_of Top top_keys at_keys top in_top;
-      format = format_is (get (codes "format") top) (none_left _ _ keys);
+      format = format_there (get (codes "format") top) (none_left _ _ keys);
       core = array_there (get (codes "core") top) (none_left _ _ arrays);
       part = maybe_array Top 512 (get (codes "part") top) (none_right (required Top core_array_faults (get (codes "core") top)) _ arrays);
       cores = λ c few. core_written (take c (cores_of top)) (get_or (cores_of top) c (boolean false)) (each core_faults [] (cores_of top) c (boolean false) few no_core);
-      parts = λ q few. subst (λ (ps : List Data). IsWrittenPart (cores_of top) ps (get_or (parts_of top) q (boolean false))) (take-append-drop q (parts_of top))
-          (part_written (cores_of top) (take q (parts_of top)) (drop q (parts_of top)) (get_or (parts_of top) q (boolean false)) (each (part_faults (cores_of top)) [] (parts_of top) q (boolean false) few no_part));
+      parts = λ q few. subst (λ (ps : List Data). IsWrittenPart (format_of top) (cores_of top) ps (get_or (parts_of top) q (boolean false))) (take-append-drop q (parts_of top))
+          (part_written (format_of top) (cores_of top) (take q (parts_of top)) (drop q (parts_of top)) (get_or (parts_of top) q (boolean false)) (each (part_faults (format_of top) (cores_of top)) [] (parts_of top) q (boolean false) few no_part));
     }

@@ -1,7 +1,6 @@
 -- What stands at the keys of a system file, and the system that a document without faults spells. A key that may be left
 -- out stands for its default; what is given for a value of another kind never counts, since it is a fault.
-use Rattle.slot_model.specs.Task.{plain_task}
-use Rattle.std.specs.Prelude.{ℕ, pos, Bool, false, if◌then◌else◌, List, [], ◌∷◌, map, position, codes, bytes_eq, Option, Some, None, option_map, unwrap_or}
+use Rattle.std.specs.Prelude.{ℕ, ◌==◌, ℤ, pos, negsuc, Bool, false, if◌then◌else◌, List, [], ◌∷◌, map, position, codes, bytes_eq, Option, Some, None, option_map, unwrap_or}
 use Rattle.slot_model.specs.declared.sched.Sched.{Sched}
 use Rattle.slot_model.specs.declared.sched.Sched.TheVariants.{Edf, Rm, Dm, Listed}
 use Rattle.toml.specs.Data.{Data, string, integer, boolean, array, Items, no_items, item, get}
@@ -9,6 +8,8 @@ use Rattle.tree_model.specs.declared.pinned_core.Core.{Core as CoreView}
 use Rattle.tree_model.specs.declared.place.Parent.{Parent}
 use Rattle.tree_model.specs.declared.place.Parent.TheVariants.{Core, Part}
 use Rattle.tree_model.specs.View.{NamedTask, PartView, SystemView}
+use Rattle.system_file.specs.declared.format.Format.{Format}
+use Rattle.system_file.specs.declared.format.Format.TheVariants.{One, Two}
 
 -- the elements of an array
 abbrev pub elements_of : Items → List Data
@@ -36,6 +37,18 @@ flag_of _ = false
 abbrev pub given_number : Option Data → Option ℕ
 given_number None = None
 given_number (Some d) = Some (number_of (Some d))
+
+-- the format of a number, and of a document
+abbrev pub format_numbered : ℤ → Option Format
+format_numbered (pos n) = if n == 1 then Some One else if n == 2 then Some Two else None
+format_numbered (negsuc n) = None
+
+abbrev pub format_at : Option Data → Format
+format_at (Some (integer z)) = unwrap_or (format_numbered z) One
+format_at _ = One
+
+abbrev pub format_of : Data → Format
+format_of top = format_at (get (codes "format") top)
 
 -- the scheduler that a text names
 abbrev pub sched_named : List ℕ → Option Sched
@@ -76,12 +89,20 @@ parts_of top = array_of (get (codes "part") top)
 abbrev pub tasks_of : Data → List Data
 tasks_of part = array_of (get (codes "task") part)
 
--- a task; its deadline is its period where none is given
+-- a task; its deadline is its period and its jitter 0 where none is given
 abbrev pub deadline_of : Data → ℕ
 deadline_of d = unwrap_or (given_number (get (codes "deadline") d)) (number_of (get (codes "period") d))
 
 abbrev pub spelled_task : Data → NamedTask
-spelled_task d = record { name = text_of (get (codes "name") d); task = plain_task (number_of (get (codes "period") d)) (deadline_of d) (number_of (get (codes "work") d)) }
+spelled_task d = record {
+  name = text_of (get (codes "name") d);
+  task = record {
+    period = number_of (get (codes "period") d);
+    deadline = deadline_of d;
+    work = number_of (get (codes "work") d);
+    jitter = number_of (get (codes "jitter") d);
+  };
+}
 
 -- a core's supply: full where neither key is given
 abbrev pub supply_of : Option Data → Option Data → Option (ℕ × ℕ)

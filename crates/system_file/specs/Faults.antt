@@ -3,15 +3,18 @@
 use Rattle.std.specs.Prelude.{ℕ, ◌==◌, nat_lt, nat_le, ℤ, pos, negsuc, Bool, true, false, not, ◌&&◌, if◌then◌else◌, List, [], ◌∷◌, ◌++◌, length, slice_index_or, codes, bytes_eq, Option, Some, None, is_none}
 use Rattle.std.specs.List.{list_any}
 use Rattle.slot_model.specs.Name.{is_name}
+use Rattle.slot_model.specs.Task.{room_of}
 use Rattle.slot_model.specs.declared.task.TheConstants.{LIMIT}
 use Rattle.toml.specs.Data.{Data, string, integer, boolean, array, table, Members, no_members, member, get}
 use Rattle.tree_model.specs.declared.place.Parent.{Parent}
 use Rattle.tree_model.specs.declared.place.Parent.TheVariants.{Core as on_core, Part as on_part}
+use Rattle.system_file.specs.declared.format.Format.{Format}
+use Rattle.system_file.specs.declared.format.Format.TheVariants.{One, Two}
 use Rattle.system_file.specs.declared.fault.Spot.{Spot}
 use Rattle.system_file.specs.declared.fault.Spot.TheVariants.{Top, Core, Part, Task}
 use Rattle.system_file.specs.declared.fault.SystemFault.{SystemFault}
 use Rattle.system_file.specs.declared.fault.SystemFault.TheVariants.{MissingKey, WrongKind, UnknownKey, BadName, NameTaken, OutOfRange, NoSuchParent, Mixed, Empty, TooMany}
-use Rattle.system_file.specs.Document.{elements_of, number_of, text_of, sched_named, is_text, is_named, parent_named, cores_of, parts_of, tasks_of, deadline_of}
+use Rattle.system_file.specs.Document.{elements_of, number_of, text_of, format_numbered, format_of, sched_named, is_text, is_named, parent_named, cores_of, parts_of, tasks_of, deadline_of, spelled_task}
 
 -- a fault where something is wrong
 abbrev pub fault_if : Bool → SystemFault → List SystemFault
@@ -65,13 +68,18 @@ abbrev pub range_faults : Spot → ℕ → Data → List SystemFault
 range_faults spot highest (integer z) = fault_if (not (is_in_range highest z)) (OutOfRange spot)
 range_faults spot highest _ = WrongKind spot ∷ []
 
--- the number of the format is 1
-abbrev pub is_one : ℤ → Bool
-is_one (pos n) = n == 1
-is_one (negsuc n) = false
+-- A whole number from 0 on that is less than a bound.
+abbrev pub is_below : ℕ → ℤ → Bool
+is_below bound (pos n) = nat_lt n bound
+is_below bound (negsuc n) = false
 
+abbrev pub below_faults : Spot → ℕ → Data → List SystemFault
+below_faults spot bound (integer z) = fault_if (not (is_below bound z)) (OutOfRange spot)
+below_faults spot bound _ = WrongKind spot ∷ []
+
+-- the number of a format
 abbrev pub format_faults : Data → List SystemFault
-format_faults (integer z) = fault_if (not (is_one z)) (OutOfRange Top)
+format_faults (integer z) = fault_if (is_none (format_numbered z)) (OutOfRange Top)
 format_faults _ = WrongKind Top ∷ []
 
 -- true or false
@@ -124,21 +132,26 @@ core_key_faults spot earlier d =
 abbrev pub core_faults : List Data → Data → List SystemFault
 core_faults earlier d = table_faults (Core (length earlier)) core_keys (core_key_faults (Core (length earlier)) earlier d) d
 
--- A task of part q, the elements before it in `task` being given.
-abbrev pub task_keys : List (List ℕ)
-task_keys = codes "name" ∷ codes "period" ∷ codes "deadline" ∷ codes "work" ∷ []
+-- A task of part q, the elements before it in `task` being given. Only format 2 lists jitter.
+abbrev pub task_keys : Format → List (List ℕ)
+task_keys One = codes "name" ∷ codes "period" ∷ codes "deadline" ∷ codes "work" ∷ []
+task_keys Two =
+    codes "name" ∷ codes "period" ∷ codes "deadline" ∷ codes "jitter" ∷ codes "work" ∷ []
 
 abbrev pub task_number_faults : Spot → Data → List SystemFault
 task_number_faults spot d =
     required spot (range_faults spot LIMIT) (get (codes "period") d) ++
     (optional (range_faults spot (number_of (get (codes "period") d))) (get (codes "deadline") d) ++
-    required spot (range_faults spot (deadline_of d)) (get (codes "work") d))
+    (optional (below_faults spot (deadline_of d)) (get (codes "jitter") d) ++
+    required spot (range_faults spot (room_of (spelled_task d).task)) (get (codes "work") d)))
 
 abbrev pub task_key_faults : Spot → List Data → Data → List SystemFault
 task_key_faults spot earlier d = required spot (text_faults spot (new_name_faults spot earlier)) (get (codes "name") d) ++ task_number_faults spot d
 
-abbrev pub task_faults : ℕ → List Data → Data → List SystemFault
-task_faults q earlier d = table_faults (Task q (length earlier)) task_keys (task_key_faults (Task q (length earlier)) earlier d) d
+abbrev pub task_faults : Format → ℕ → List Data → Data → List SystemFault
+task_faults format q earlier d =
+    table_faults (Task q (length earlier)) (task_keys format)
+    (task_key_faults (Task q (length earlier)) earlier d) d
 
 -- A part, the cores and the elements before it in `part` being given.
 abbrev pub part_keys : List (List ℕ)
@@ -158,9 +171,11 @@ part_key_faults spot cores earlier d =
     (required spot (text_faults spot (sched_faults spot)) (get (codes "sched") d) ++
     server_faults spot d))
 
-abbrev pub part_faults : List Data → List Data → Data → List SystemFault
-part_faults cores earlier d =
-    table_faults (Part (length earlier)) part_keys (part_key_faults (Part (length earlier)) cores earlier d ++ in_order (task_faults (length earlier)) [] (tasks_of d)) d
+abbrev pub part_faults : Format → List Data → List Data → Data → List SystemFault
+part_faults format cores earlier d =
+    table_faults (Part (length earlier)) part_keys
+    (part_key_faults (Part (length earlier)) cores earlier d ++
+    in_order (task_faults format (length earlier)) [] (tasks_of d)) d
 
 -- whether a part is the parent of one of the parts
 abbrev pub is_parent : List Data → Data → Bool
@@ -186,5 +201,5 @@ abbrev pub faults : Data → List SystemFault
 faults top =
     top_faults top ++
     (in_order core_faults [] (cores_of top) ++
-    (in_order (part_faults (cores_of top)) [] (parts_of top) ++
+    (in_order (part_faults (format_of top) (cores_of top)) [] (parts_of top) ++
     in_order (empty_faults (parts_of top)) [] (parts_of top)))

@@ -12,8 +12,10 @@ use Rattle.tree_model.specs.declared.pinned_core.Core.{Core as CoreView}
 use Rattle.tree_model.specs.declared.place.Parent.{Parent}
 use Rattle.tree_model.specs.declared.place.Parent.TheVariants.{Core, Part}
 use Rattle.tree_model.specs.View.{NamedTask, PartView, SystemView}
-use Rattle.slot_model.specs.Task.{task_at}
-use Rattle.tree_model.specs.System.{core_at, part_at, own_tasks}
+use Rattle.tree_model.specs.System.{core_at, part_at}
+use Rattle.system_file.specs.SystemFile.{needed_format}
+use Rattle.system_file.specs.declared.format.Format.{Format}
+use Rattle.system_file.specs.declared.format.Format.TheVariants.{One, Two}
 
 -- a member put in the place of its key, among members whose keys ascend
 abbrev pub with_member : List ℕ → Data → Members → Members
@@ -58,12 +60,17 @@ with_supply (Some supply) ms = with_member (codes "supply_budget") (number suppl
 abbrev pub printed_core : CoreView → Data
 printed_core core = table (with_supply core.supply (with_member (codes "sched") (string (sched_word core.sched)) (with_member (codes "name") (string core.name) no_members)))
 
--- a task, whose deadline is written where it is not the period
-abbrev pub printed_task : NamedTask → Data
-printed_task t =
-    table (with_some (codes "deadline") (other_number t.task.period t.task.deadline)
+-- a task, whose deadline is written where it is not the period, and its jitter where it is not 0
+abbrev pub task_members : NamedTask → Members
+task_members t =
+    with_some (codes "jitter") (other_number 0 t.task.jitter)
+    (with_some (codes "deadline") (other_number t.task.period t.task.deadline)
     (with_member (codes "work") (number t.task.work)
-    (with_member (codes "period") (number t.task.period) (with_member (codes "name") (string t.name) no_members))))
+    (with_member (codes "period") (number t.task.period)
+    (with_member (codes "name") (string t.name) no_members))))
+
+abbrev pub printed_task : NamedTask → Data
+printed_task t = table (task_members t)
 
 -- the name of a parent
 abbrev pub parent_name : SystemView → Parent → List ℕ
@@ -87,13 +94,22 @@ part_members sys part =
 abbrev pub printed_part : SystemView → PartView → Data
 printed_part sys part = table (part_members sys part)
 
--- the top table of these cores and parts
-abbrev pub top_members : List Data → List Data → Members
-top_members cores parts =
-    with_some (codes "part") (some_array parts) (with_member (codes "core") (array (items_of cores)) (with_member (codes "format") (number 1) no_members))
+-- the number of a format
+abbrev pub format_number : Format → ℕ
+format_number One = 1
+format_number Two = 2
+
+-- the top table of a format, cores and parts
+abbrev pub top_members : Format → List Data → List Data → Members
+top_members format cores parts =
+    with_some (codes "part") (some_array parts)
+    (with_member (codes "core") (array (items_of cores))
+    (with_member (codes "format") (number (format_number format)) no_members))
 
 abbrev pub printed : SystemView → Members
-printed sys = top_members (map printed_core sys.cores) (map (printed_part sys) sys.parts)
+printed sys =
+    top_members (needed_format sys) (map printed_core sys.cores)
+    (map (printed_part sys) sys.parts)
 
 -- a parent that stands in the system
 abbrev pub IsNodeOf : SystemView → Parent → Type 0
@@ -113,10 +129,3 @@ CoresAreNamed cores = All (λ c. is_name c.name ≡ true) cores
 
 abbrev pub PartsAreNamed : List PartView → Type 0
 PartsAreNamed parts = All IsPartNamed parts
-
--- no task has release jitter, which a file does not tell
-abbrev pub PartIsPlain : PartView → Type 0
-PartIsPlain part = (i : ℕ) → (task_at (own_tasks part) i).jitter ≡ 0
-
-abbrev pub IsPlain : SystemView → Type 0
-IsPlain sys = (q : ℕ) → PartIsPlain (part_at sys q)

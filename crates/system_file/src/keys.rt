@@ -6,10 +6,11 @@ ghost use Rattle.std.specs.List.{list_any, list_all};
 ghost use Rattle.std.specs.BTreeMap.{keys};
 ghost use Rattle.system_file.specs.declared.fault.Spot.{Spot};
 ghost use Rattle.system_file.specs.declared.fault.SystemFault.{SystemFault};
-ghost use Rattle.system_file.specs.Document.{elements_of, given_number, flag_of, sched_named, array_of as elements};
-ghost use Rattle.system_file.specs.Faults.{required, optional, text_faults, sched_faults, range_faults, format_faults, flag_faults, array_faults, core_array_faults, has_only, fault_if};
+ghost use Rattle.system_file.specs.Document.{format_at as format_in, elements_of, number_of as number_in, given_number, flag_of, sched_named, array_of as elements};
+ghost use Rattle.system_file.specs.Faults.{required, optional, text_faults, sched_faults, range_faults, below_faults, format_faults, flag_faults, array_faults, core_array_faults, has_only, fault_if};
 ghost use Rattle.system_file.specs.Reading.{first_of};
 
+use crate::format::Format;
 use crate::{Spot, SystemFault};
 use slot_model::Sched;
 use toml::{Table, Value};
@@ -119,6 +120,32 @@ pub fn given_number_at(
     }
 }
 
+/// The number from 0 on and below a bound at a key that may be left out, and is then 0.
+pub fn below_at(table: &Table, key: &str, bound: u64, spot: Spot) -> Result<u64, SystemFault>
+    ensures ok { IfOk result (λ n. let at = get_member key.now (table_view table.now) in
+        (optional (below_faults spot bound) at ≡ []) × (n ≡ number_in at)) }
+    ensures fault { IfErr result (λ fault. let at = get_member key.now (table_view table.now) in
+        first_of (optional (below_faults spot bound) at) ≡ Some fault) }
+{
+    match find(table, key) {
+        Some(Value::Integer(n)) => below(*n, bound, spot),
+        Some(_) => Err(SystemFault::WrongKind(spot)),
+        None => Ok(0),
+    }
+}
+
+fn below(n: i64, bound: u64, spot: Spot) -> Result<u64, SystemFault>
+    ensures ok { IfOk result (λ m. (below_faults spot bound (integer n) ≡ []) × (n ≡ pos m)) }
+    ensures fault { IfErr result (λ fault.
+        first_of (below_faults spot bound (integer n)) ≡ Some fault) }
+{
+    if 0 <= n && (n as u64) < bound {
+        Ok(n as u64)
+    } else {
+        Err(SystemFault::OutOfRange(spot))
+    }
+}
+
 /// The truth value at a key that may be left out, and is then false.
 pub fn flag_at(table: &Table, key: &str, spot: Spot) -> Result<bool, SystemFault>
     ensures ok { IfOk result (λ flag. (optional (flag_faults spot) (get_member key.now (table_view table.now)) ≡ []) × (flag ≡ flag_of (get_member key.now (table_view table.now)))) }
@@ -187,13 +214,18 @@ pub fn cores_at(table: &Table) -> Result<&[Value], SystemFault>
     Ok(elements)
 }
 
-/// The format of the file has to be 1.
-pub fn check_format(table: &Table) -> Result<(), SystemFault>
-    ensures ok { IfOk result (λ _. required Spot.Top format_faults (get_member (codes "format") (table_view table.now)) ≡ []) }
-    ensures fault { IfErr result (λ fault. first_of (required Spot.Top format_faults (get_member (codes "format") (table_view table.now))) ≡ Some fault) }
+/// The format of the file.
+pub fn format_at(table: &Table) -> Result<Format, SystemFault>
+    ensures ok { IfOk result (λ format.
+        let at = get_member (codes "format") (table_view table.now) in
+        (required Spot.Top format_faults at ≡ []) × (format ≡ format_in at)) }
+    ensures fault { IfErr result (λ fault.
+        let at = get_member (codes "format") (table_view table.now) in
+        first_of (required Spot.Top format_faults at) ≡ Some fault) }
 {
     match value_at(table, "format", Spot::Top)? {
-        Value::Integer(1) => Ok(()),
+        Value::Integer(1) => Ok(Format::One),
+        Value::Integer(2) => Ok(Format::Two),
         Value::Integer(_) => Err(SystemFault::OutOfRange(Spot::Top)),
         _ => Err(SystemFault::WrongKind(Spot::Top)),
     }

@@ -5,6 +5,7 @@
 
 mod cores;
 mod fault;
+mod format;
 mod keys;
 mod names;
 mod parts;

@@ -7,6 +7,7 @@ ghost use Rattle.system_file.specs.Document.{parent_named, spelled_part};
 ghost use Rattle.system_file.specs.Faults.{parent_faults, part_faults, in_order};
 ghost use Rattle.system_file.specs.Reading.{first_of, HaveNames, Known, has_child, is_empty_part, part_in, ParentsAmong};
 
+use crate::format::Format;
 use crate::keys::{
     check_keys, elements_at, flag_at, given_number_at, number_at, sched_of, table_of, text_at,
 };
@@ -60,6 +61,7 @@ fn parent_of(
 fn read_part<'t>(
     alloc: Global,
     value: &'t Value,
+    format: Format,
     cores: usize,
     earlier: &[Part],
     names: &mut Names<'t>,
@@ -69,12 +71,16 @@ fn read_part<'t>(
     requires few_parts { length earlier.now < 512 }
     requires names { length names.old ≡ cores + length earlier.now }
     ensures named { OnOk result (length names.new ≡ length names.old + 1) }
-    ensures ok { IfOk result (λ part. (core_elements before later : List Data) → Known core_elements before (view value.now ∷ later) cores names.old earlier.now →
-        (part_faults core_elements before (view value.now) ≡ [])
+    ensures ok { IfOk result (λ part.
+        (core_elements before later : List Data) →
+        Known core_elements before (view value.now ∷ later) cores names.old earlier.now →
+        (part_faults format core_elements before (view value.now) ≡ [])
         × (part ≡ spelled_part core_elements (before ++ view value.now ∷ later) (view value.now))
         × HaveNames (core_elements ++ (before ++ view value.now ∷ [])) names.new) }
-    ensures fault { IfErr result (λ fault. fault ≢ NoMemory → (core_elements before later : List Data) → Known core_elements before (view value.now ∷ later) cores names.old earlier.now →
-        first_of (part_faults core_elements before (view value.now)) ≡ Some fault) }
+    ensures fault { IfErr result (λ fault. fault ≢ NoMemory →
+        (core_elements before later : List Data) →
+        Known core_elements before (view value.now ∷ later) cores names.old earlier.now →
+        first_of (part_faults format core_elements before (view value.now)) ≡ Some fault) }
 {
     let place = earlier.len() as u32;
     let spot = Spot::Part(place);
@@ -96,7 +102,7 @@ fn read_part<'t>(
     let budget = given_number_at(table, "budget", period, spot)?;
     let extra = flag_at(table, "extra", spot)?;
     let elements = elements_at(table, "task", 256, spot)?;
-    let tasks = read_tasks(alloc, elements, place, tasks)?;
+    let tasks = read_tasks(alloc, elements, format, place, tasks)?;
     names.add(text)?;
     Ok(Part {
         name,
@@ -113,22 +119,27 @@ fn read_part<'t>(
 pub fn read_parts<'t>(
     alloc: Global,
     values: &'t [Value],
+    format: Format,
     cores: usize,
     names: &mut Names<'t>,
 ) -> Result<Vec<Part>, SystemFault>
     requires few_cores { cores ≤ 64 }
     requires few_parts { length values.now ≤ 512 }
     requires names { length names.old ≡ cores }
-    ensures ok { IfOk result (λ parts. (core_elements : List Data) → length core_elements ≡ cores → HaveNames core_elements names.old →
-        (in_order (part_faults core_elements) [] (map view values.now) ≡ [])
-        × (parts.items ≡ map (spelled_part core_elements (map view values.now)) (map view values.now))) }
-    ensures fault { IfErr result (λ fault. fault ≢ NoMemory → (core_elements : List Data) → length core_elements ≡ cores → HaveNames core_elements names.old →
-        first_of (in_order (part_faults core_elements) [] (map view values.now)) ≡ Some fault) }
+    ensures ok { IfOk result (λ parts. (core_elements : List Data) →
+        length core_elements ≡ cores → HaveNames core_elements names.old →
+        let elements = map view values.now in
+        (in_order (part_faults format core_elements) [] elements ≡ [])
+        × (parts.items ≡ map (spelled_part core_elements elements) elements)) }
+    ensures fault { IfErr result (λ fault. fault ≢ NoMemory → (core_elements : List Data) →
+        length core_elements ≡ cores → HaveNames core_elements names.old →
+        let elements = map view values.now in
+        first_of (in_order (part_faults format core_elements) [] elements) ≡ Some fault) }
 {
     let mut parts = Vec::with_capacity(alloc, values.len())?;
     let mut tasks = Names::new(alloc);
     for value in values {
-        let part = read_part(alloc, value, cores, &parts, names, &mut tasks)?;
+        let part = read_part(alloc, value, format, cores, &parts, names, &mut tasks)?;
         parts.push(part)?;
     }
     Ok(parts)

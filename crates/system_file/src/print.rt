@@ -1,12 +1,14 @@
-ghost use Rattle.std.specs.Prelude.{◌≡◌, ℕ, ◌≤◌, ◌<◌, true, map, length, slice_index_or, IfOk, OnOk, IfSome, Ok as Spelled};
+ghost use Rattle.std.specs.Prelude.{◌≡◌, ℕ, ◌≤◌, ◌<◌, true, map, length, slice_index_or, Some, IfOk, OnOk, IfSome, Ok as Spelled};
+ghost use Rattle.std.specs.List.{list_any};
 ghost use Rattle.slot_model.specs.Name.{is_name};
 ghost use Rattle.slot_model.specs.declared.task.TheConstants.{LIMIT};
 ghost use Rattle.toml.specs.Data.{string};
 ghost use Rattle.toml.specs.View.{view, table_view};
 ghost use Rattle.tree_model.specs.System.{IsSystem, IsPart, IsCoreSupply, no_core};
-ghost use Rattle.system_file.specs.SystemFile.{system_of};
-ghost use Rattle.system_file.specs.Printed.{with_member, with_some, number, some_number, true_flag, some_array, sched_word, with_supply, printed_core, printed_task, parent_name, printed_part, printed, IsNodeOf, TasksAreNamed, IsPartNamed, CoresAreNamed, PartsAreNamed, IsPlain};
+ghost use Rattle.system_file.specs.SystemFile.{system_of, file_format, part_has_jitter, needed_format as format_needed};
+ghost use Rattle.system_file.specs.Printed.{with_member, with_some, number, other_number, some_number, true_flag, some_array, sched_word, with_supply, printed_core, printed_task, parent_name, printed_part, printed, IsNodeOf, TasksAreNamed, IsPartNamed, format_number, CoresAreNamed, PartsAreNamed};
 
+use crate::format::Format;
 use slot_model::{Name, Sched};
 use std::alloc::{AllocError, Global};
 use toml::{Table, Value};
@@ -15,10 +17,11 @@ use tree_model::{Core, Named, Parent, Part, System};
 #[cfg(test)]
 mod tests;
 
-/// A system file that spells the system, where no task has jitter. A key that may be left out is
-/// written only where it says something else than its absence.
+/// A system file that spells the system, of format 1 where no task has jitter and else of format 2.
+/// A key that may be left out is written only where it says something else than its absence.
 pub fn print_system(alloc: Global, sys: &System) -> Result<Vec<u8>, AllocError>
-    ensures { IfOk result (λ text. IsPlain sys.now → system_of text.items ≡ Spelled sys.now) }
+    ensures spells { IfOk result (λ text. system_of text.items ≡ Spelled sys.now) }
+    ensures format { IfOk result (λ text. file_format text.items ≡ Some (format_needed sys.now)) }
 {
     let table = system_table(alloc, sys)?;
     match toml::table_to_string(alloc, &table) {
@@ -37,10 +40,42 @@ fn system_table(alloc: Global, sys: &System) -> Result<Table, AllocError>
     let mut table = Table::new(alloc);
     let cores = core_tables(alloc, sys.cores())?;
     let parts = part_tables(alloc, sys)?;
-    put_number(alloc, &mut table, "format", 1)?;
+    put_number(alloc, &mut table, "format", number_of(needed_format(sys)))?;
     put(alloc, &mut table, "core", Value::Array(cores))?;
     put_some_array(alloc, &mut table, "part", parts)?;
     Ok(table)
+}
+
+/// Format 2 exactly where some task has jitter.
+fn needed_format(sys: &System) -> Format
+    ensures { result ≡ format_needed sys.now }
+{
+    if any_has_jitter(sys.parts()) {
+        Format::Two
+    } else {
+        Format::One
+    }
+}
+
+fn any_has_jitter(parts: &[Part]) -> bool
+    ensures { result ≡ list_any part_has_jitter parts.now }
+{
+    parts.iter().any(|part| has_jitter(part))
+}
+
+fn has_jitter(part: &Part) -> bool
+    ensures { result ≡ part_has_jitter part.now }
+{
+    part.tasks().iter().any(|named| named.task().jitter > 0)
+}
+
+fn number_of(format: Format) -> u64
+    ensures { result ≡ format_number format }
+{
+    match format {
+        Format::One => 1,
+        Format::Two => 2,
+    }
 }
 
 fn core_tables(alloc: Global, cores: &[Core]) -> Result<Vec<Value>, AllocError>
@@ -113,7 +148,7 @@ fn part_table(alloc: Global, sys: &System, part: &Part) -> Result<Value, AllocEr
     Ok(Value::Table(table))
 }
 
-/// The deadline is written where it is not the period.
+/// The deadline is written where it is not the period, and the jitter where it is not 0.
 fn task_table(alloc: Global, named: &Named) -> Result<Value, AllocError>
     ensures printed { IfOk result (λ table. view table ≡ printed_task named.now) }
     ensures named { OnOk result (is_name named.now.name ≡ true) }
@@ -123,9 +158,8 @@ fn task_table(alloc: Global, named: &Named) -> Result<Value, AllocError>
     put_text(alloc, &mut table, "name", named.name().as_str())?;
     put_number(alloc, &mut table, "period", task.period)?;
     put_number(alloc, &mut table, "work", task.work)?;
-    if task.deadline != task.period {
-        put_number(alloc, &mut table, "deadline", task.deadline)?;
-    }
+    put_other_number(alloc, &mut table, "deadline", task.period, task.deadline)?;
+    put_other_number(alloc, &mut table, "jitter", 0, task.jitter)?;
     Ok(Value::Table(table))
 }
 
@@ -183,6 +217,25 @@ fn put_some_number(
     match n {
         Some(n) => put_number(alloc, table, key, n),
         None => Ok(()),
+    }
+}
+
+/// The usual number is left out.
+fn put_other_number(
+    alloc: Global,
+    table: &mut Table,
+    key: &str,
+    usual: u64,
+    n: u64,
+) -> Result<(), AllocError>
+    requires { n ≤ LIMIT }
+    ensures { OnOk result (
+        table_view table.new ≡ with_some key.now (other_number usual n) (table_view table.old)) }
+{
+    if n == usual {
+        Ok(())
+    } else {
+        put_number(alloc, table, key, n)
     }
 }
 

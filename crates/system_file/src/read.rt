@@ -11,7 +11,7 @@ ghost use Rattle.system_file.specs.Reading.{first_of};
 ghost use Rattle.system_file.specs.Written.{Spells};
 
 use crate::cores::read_cores;
-use crate::keys::{check_format, check_keys, cores_at, elements_at};
+use crate::keys::{check_keys, cores_at, elements_at, format_at};
 use crate::names::Names;
 use crate::parts::{first_empty, read_parts};
 use crate::{Spot, SystemFault};
@@ -26,12 +26,12 @@ fn read_document(alloc: Global, table: &Table) -> Result<System, SystemFault>
     ensures fault { IfErr result (λ fault. fault ≢ NoMemory → first_of (faults (toml_table (table_view table.now))) ≡ Some fault) }
 {
     check_keys(table, &["format", "core", "part"], Spot::Top)?;
-    check_format(table)?;
+    let format = format_at(table)?;
     let core_values = cores_at(table)?;
     let part_values = elements_at(table, "part", 512, Spot::Top)?;
     let mut names = Names::new(alloc);
     let cores = read_cores(alloc, core_values, &mut names)?;
-    let parts = read_parts(alloc, part_values, core_values.len(), &mut names)?;
+    let parts = read_parts(alloc, part_values, format, core_values.len(), &mut names)?;
     match first_empty(alloc, &parts)? {
         Some(place) => Err(SystemFault::Empty(Spot::Part(place as u32))),
         None => Ok(System { cores, parts }),

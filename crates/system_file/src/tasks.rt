@@ -4,10 +4,11 @@ ghost use Rattle.toml.specs.Data.{Data, table as toml_table};
 ghost use Rattle.toml.specs.View.{view, table_view};
 ghost use Rattle.system_file.specs.declared.fault.SystemFault.TheVariants.{NoMemory};
 ghost use Rattle.system_file.specs.Document.{spelled_task};
-ghost use Rattle.system_file.specs.Faults.{task_number_faults, task_keys, task_key_faults, task_faults, table_faults, in_order};
+ghost use Rattle.system_file.specs.Faults.{task_number_faults, task_keys as keys, task_key_faults, task_faults, table_faults, in_order};
 ghost use Rattle.system_file.specs.Reading.{first_of, HaveNames};
 
-use crate::keys::{check_keys, given_number_at, number_at, table_of, text_at};
+use crate::format::{Format, task_keys};
+use crate::keys::{below_at, check_keys, given_number_at, number_at, table_of, text_at};
 use crate::names::{Names, new_name};
 use crate::{Spot, SystemFault};
 use slot_model::{LIMIT, Task};
@@ -15,15 +16,18 @@ use std::alloc::Global;
 use toml::{Table, Value};
 use tree_model::Named;
 
-/// The numbers of a task, whose deadline is its period where none is given.
+/// The numbers of a task, whose deadline is its period and whose jitter is 0 where none is given.
 fn numbers_at(table: &Table, spot: Spot) -> Result<Task, SystemFault>
-    ensures ok { IfOk result (λ t. (task_number_faults spot (toml_table (table_view table.now)) ≡ []) × (sporadic_task t ≡ (spelled_task (toml_table (table_view table.now))).task)) }
-    ensures fault { IfErr result (λ fault. first_of (task_number_faults spot (toml_table (table_view table.now))) ≡ Some fault) }
+    ensures ok { IfOk result (λ t. let d = toml_table (table_view table.now) in
+        (task_number_faults spot d ≡ []) × (sporadic_task t ≡ (spelled_task d).task)) }
+    ensures fault { IfErr result (λ fault. let d = toml_table (table_view table.now) in
+        first_of (task_number_faults spot d) ≡ Some fault) }
 {
     let period = number_at(table, "period", LIMIT, spot)?;
     let deadline = given_number_at(table, "deadline", period, spot)?.unwrap_or(period);
-    let work = number_at(table, "work", deadline, spot)?;
-    match Task::new(period, deadline, work) {
+    let jitter = below_at(table, "jitter", deadline, spot)?;
+    let work = number_at(table, "work", deadline - jitter, spot)?;
+    match Task::with_jitter(period, deadline, work, jitter) {
         Some(task) => Ok(task),
         None => unreachable!(),
     }
@@ -33,18 +37,22 @@ fn numbers_at(table: &Table, spot: Spot) -> Result<Task, SystemFault>
 fn read_task<'t>(
     alloc: Global,
     value: &'t Value,
+    format: Format,
     spot: Spot,
     names: &mut Names<'t>,
 ) -> Result<Named, SystemFault>
-    ensures ok { IfOk result (λ named. (earlier : List Data) → HaveNames earlier names.old →
-        (table_faults spot task_keys (task_key_faults spot earlier (view value.now)) (view value.now) ≡ [])
-        × (named ≡ spelled_task (view value.now))
-        × HaveNames (earlier ++ view value.now ∷ []) names.new) }
-    ensures fault { IfErr result (λ fault. fault ≢ NoMemory → (earlier : List Data) → HaveNames earlier names.old →
-        first_of (table_faults spot task_keys (task_key_faults spot earlier (view value.now)) (view value.now)) ≡ Some fault) }
+    ensures ok { IfOk result (λ named.
+        (earlier : List Data) → HaveNames earlier names.old → let d = view value.now in
+        (table_faults spot (keys format) (task_key_faults spot earlier d) d ≡ [])
+        × (named ≡ spelled_task d)
+        × HaveNames (earlier ++ d ∷ []) names.new) }
+    ensures fault { IfErr result (λ fault. fault ≢ NoMemory →
+        (earlier : List Data) → HaveNames earlier names.old → let d = view value.now in
+        let found = table_faults spot (keys format) (task_key_faults spot earlier d) d in
+        first_of found ≡ Some fault) }
 {
     let table = table_of(value, spot)?;
-    check_keys(table, &["name", "period", "deadline", "work"], spot)?;
+    check_keys(table, task_keys(format), spot)?;
     let text = text_at(table, "name", spot)?;
     let name = new_name(alloc, text, names, spot)?;
     let task = numbers_at(table, spot)?;
@@ -56,17 +64,22 @@ fn read_task<'t>(
 pub fn read_tasks<'t>(
     alloc: Global,
     values: &'t [Value],
+    format: Format,
     part: u32,
     names: &mut Names<'t>,
 ) -> Result<Vec<Named>, SystemFault>
     requires few { length values.now ≤ 256 }
-    ensures ok { IfOk result (λ tasks. (in_order (task_faults part) [] (map view values.now) ≡ []) × (tasks.items ≡ map spelled_task (map view values.now))) }
-    ensures fault { IfErr result (λ fault. fault ≢ NoMemory → first_of (in_order (task_faults part) [] (map view values.now)) ≡ Some fault) }
+    ensures ok { IfOk result (λ tasks.
+        (in_order (task_faults format part) [] (map view values.now) ≡ [])
+        × (tasks.items ≡ map spelled_task (map view values.now))) }
+    ensures fault { IfErr result (λ fault. fault ≢ NoMemory →
+        first_of (in_order (task_faults format part) [] (map view values.now)) ≡ Some fault) }
 {
     names.clear();
     let mut tasks = Vec::with_capacity(alloc, values.len())?;
     for (place, value) in values.iter().enumerate() {
-        let task = read_task(alloc, value, Spot::Task(part, place as u32), names)?;
+        let spot = Spot::Task(part, place as u32);
+        let task = read_task(alloc, value, format, spot, names)?;
         tasks.push(task)?;
     }
     Ok(tasks)

@@ -41,6 +41,7 @@ fn whole_files(rt: HostRuntime) {
         ("format = 0", SystemFault::OutOfRange(top)),
         ("format = -1", SystemFault::OutOfRange(top)),
         ("format = 3", SystemFault::OutOfRange(top)),
+        ("format = 2", SystemFault::MissingKey(top)),
         ("colour = 1", SystemFault::UnknownKey(top)),
         ("format = 1", SystemFault::MissingKey(top)),
         ("format = 1\ncore = 1", SystemFault::WrongKind(top)),
@@ -268,6 +269,59 @@ fn tasks(rt: HostRuntime) {
             rt.alloc(),
             "name = 't'\nperiod = 1000000000\ndeadline = 1000000000\nwork = 1000000000"
         ) == None
+    );
+}
+
+/// The fault of a file of format 2 with one task.
+fn fault_of_late_task(alloc: Global, task: &str) -> Option<SystemFault> {
+    match format!(in alloc;
+        "format = 2\n[[core]]\nname = 'c'\nsched = 'edf'\n[[part]]\nname = 'p'\nparent = 'c'\nsched = 'edf'\nperiod = 10\n[[part.task]]\nname = 't'\n{task}"
+    ) {
+        Ok(whole) => fault_of(alloc, whole.as_str()),
+        Err(_) => Some(SystemFault::NoMemory),
+    }
+}
+
+#[test]
+fn jitter(rt: HostRuntime) {
+    let first = Spot::Task(0, 0);
+    for (text, fault) in [
+        (
+            "period = 10\njitter = 10\nwork = 1",
+            SystemFault::OutOfRange(first),
+        ),
+        (
+            "period = 10\ndeadline = 8\njitter = 8",
+            SystemFault::OutOfRange(first),
+        ),
+        ("period = 10\njitter = -1", SystemFault::OutOfRange(first)),
+        ("period = 10\njitter = 1.0", SystemFault::WrongKind(first)),
+        ("period = 10\njitter = 4", SystemFault::MissingKey(first)),
+        (
+            "period = 10\njitter = 4\nwork = 7",
+            SystemFault::OutOfRange(first),
+        ),
+        (
+            "period = 10\njitter = 4\nwork = 6\nearly = 1",
+            SystemFault::UnknownKey(first),
+        ),
+    ] {
+        assert!(rt;
+            fault_of_late_task(rt.alloc(), text) == Some(fault),
+            "{text}"
+        );
+    }
+    for text in [
+        "period = 10\njitter = 4\nwork = 6",
+        "period = 10\njitter = 9\nwork = 1",
+        "period = 10\njitter = 0\nwork = 10",
+        "period = 10\nwork = 10",
+    ] {
+        assert!(rt; fault_of_late_task(rt.alloc(), text) == None, "{text}");
+    }
+    assert!(rt;
+        fault_of_task(rt.alloc(), "name = 't'\nperiod = 10\njitter = 0\nwork = 1")
+            == Some(SystemFault::UnknownKey(first))
     );
 }
 

@@ -228,3 +228,50 @@ fn a_host_is_printed_and_read_again(rt: HostRuntime) -> Result<(), Fail> {
     assert_eq!(rt; str::from_utf8(second.as_slice()), Ok(text));
     Ok(())
 }
+
+const LATE: &str = r#"format = 2
+
+[[core]]
+name = "cpu0"
+sched = "edf"
+
+[[part]]
+name = "web"
+parent = "cpu0"
+period = 4
+sched = "edf"
+
+[[part.task]]
+name = "disk"
+period = 20
+work = 5
+
+[[part.task]]
+deadline = 8
+jitter = 3
+name = "net"
+period = 10
+work = 2
+"#;
+
+#[test]
+fn jitter_is_printed_and_read_again(rt: HostRuntime) -> Result<(), Fail> {
+    let alloc = rt.alloc();
+    let sys = read_system(alloc, LATE.as_bytes()).expect(&rt, "a system file");
+    let tasks = sys.parts()[0].tasks();
+    assert!(rt; tasks.len() == 2 && tasks[0].task().jitter == 0 && tasks[1].task().jitter == 3);
+    let printed = print_system(alloc, &sys)?;
+    assert_eq!(rt; str::from_utf8(printed.as_slice()), Ok(LATE));
+    Ok(())
+}
+
+#[test]
+fn no_jitter_is_printed_in_format_1(rt: HostRuntime) -> Result<(), Fail> {
+    let text = "format = 2\n[[core]]\nname = \"cpu0\"\nsched = \"edf\"\n";
+    let printed = again(&rt, rt.alloc(), text.as_bytes())?;
+    assert_eq!(rt;
+        str::from_utf8(printed.as_slice()),
+        Ok("format = 1\n\n[[core]]\nname = \"cpu0\"\nsched = \"edf\"\n")
+    );
+    Ok(())
+}

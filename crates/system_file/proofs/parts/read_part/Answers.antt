@@ -94,7 +94,7 @@ returns-in_err-tasks-clause-fault c =
     let parent_ok = (c.in_ok-parent.ensures.ok cores before (view c.args.value.now ∷ later) known).0 in
     let period_ok = rw c.in_ok-period.ensures.ok.1 at c.in_ok-period.ensures.ok.0 in
     rw (as_many known, c.in_ok-table.ensures.ok, c.in_ok-check_keys.ensures.ok, c.in_ok-text.ensures.ok, taken_is (cores ++ before) c.args.names.now c.in_ok-text.text.now known.named, c.in_ok-parent_name.ensures.ok, c.in_ok-sched_name.ensures.ok, c.in_ok-period.ensures.ok.1)
-    (first_later _ _ _ (none_both _ _ c.in_ok-name.ensures.ok.0 (none_both _ _ parent_ok (none_both _ _ c.in_ok-sched.ensures.ok.0 (none_both _ _ period_ok (none_both _ _ c.in_ok-budget.ensures.ok.0 (none_both _ _ c.in_ok-extra.ensures.ok.0 c.in_ok-elements.ensures.ok.0)))))) (ap (λ ds. first_of (in_order (task_faults (length c.args.earlier.now)) [] ds)) (sym c.in_ok-elements.ensures.ok.1) ∙ c.in_err-tasks.ensures.fault memory)))
+    (first_later _ _ _ (none_both _ _ c.in_ok-name.ensures.ok.0 (none_both _ _ parent_ok (none_both _ _ c.in_ok-sched.ensures.ok.0 (none_both _ _ period_ok (none_both _ _ c.in_ok-budget.ensures.ok.0 (none_both _ _ c.in_ok-extra.ensures.ok.0 c.in_ok-elements.ensures.ok.0)))))) (ap (λ ds. first_of (in_order (task_faults c.args.format (length c.args.earlier.now)) [] ds)) (sym c.in_ok-elements.ensures.ok.1) ∙ c.in_err-tasks.ensures.fault memory)))
 
 pub returns-clause-ok : goal.returns-clause-ok
 returns-clause-ok c = λ cores before later known.
@@ -104,7 +104,7 @@ returns-clause-ok c = λ cores before later known.
     let kept_in = rw c.in_ok-table.ensures.ok at kept in (
       rw (as_many known, c.in_ok-table.ensures.ok, c.in_ok-check_keys.ensures.ok, c.in_ok-text.ensures.ok, taken_is (cores ++ before) c.args.names.now c.in_ok-text.text.now known.named, c.in_ok-parent_name.ensures.ok, c.in_ok-sched_name.ensures.ok, c.in_ok-period.ensures.ok.1)
           (none_both _ _ (none_both _ _ c.in_ok-name.ensures.ok.0 (none_both _ _ parent_ok (none_both _ _ c.in_ok-sched.ensures.ok.0 (none_both _ _ period_ok (none_both _ _ c.in_ok-budget.ensures.ok.0 (none_both _ _ c.in_ok-extra.ensures.ok.0 c.in_ok-elements.ensures.ok.0))))))
-          (ap (λ ds. in_order (task_faults (length c.args.earlier.now)) [] ds) (sym c.in_ok-elements.ensures.ok.1) ∙ c.in_ok-tasks.ensures.ok.0)),
+          (ap (λ ds. in_order (task_faults c.args.format (length c.args.earlier.now)) [] ds) (sym c.in_ok-elements.ensures.ok.1) ∙ c.in_ok-tasks.ensures.ok.0)),
       rw (
         c.in_ok-table.ensures.ok,
         c.in_ok-text.ensures.ok,

@@ -18,7 +18,7 @@ returns-in_err-part-clause-fault c =
     (from_more c.args.values.now c.loop-value.value-index c.value-item.result (omega arith) c.value-item.is) so_far.0 in
     let seen = subst (λ (parts : List PartView). Known cores (before c.args.values.now c.loop-value.value-index) (view c.value-item.result ∷ from c.args.values.now (c.loop-value.value-index + 1)) c.args.cores c.loop-value.names parts)
     (sym c.deref.ensures.value) known in
-    faulty (part_faults cores) c.args.values.now c.loop-value.value-index c.value-item.result _ (omega arith) c.value-item.is so_far.1
+    faulty (part_faults c.args.format cores) c.args.values.now c.loop-value.value-index c.value-item.result _ (omega arith) c.value-item.is so_far.1
     (c.in_err-part.ensures.fault memory cores (before c.args.values.now c.loop-value.value-index) (from c.args.values.now (c.loop-value.value-index + 1)) seen))
 
 pub returns-in_err-push-clause-fault : goal.returns-in_err-push-clause-fault
@@ -48,6 +48,6 @@ loop-value-preserved c = (
               ∙ ap (λ all. map (spelled_part cores all) (before c.args.values.now (c.loop-value.value-index + 1)))
               (all_values c.args.values.now c.loop-value.value-index c.value-item.result (omega arith) c.value-item.is);
         },
-        faultless (part_faults cores) c.args.values.now c.loop-value.value-index c.value-item.result (omega arith) c.value-item.is so_far.1 ok.0,
+        faultless (part_faults c.args.format cores) c.args.values.now c.loop-value.value-index c.value-item.result (omega arith) c.value-item.is so_far.1 ok.0,
       ),
 )
