@@ -3,6 +3,8 @@
 
 mod admit;
 mod answer;
+#[cfg(test)]
+mod jitter_tests;
 mod replays;
 mod status;
 #[cfg(test)]
