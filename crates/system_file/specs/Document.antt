@@ -1,5 +1,6 @@
--- What stands at the keys of a system file, and the system that a document without faults spells. A key that may be left
--- out stands for its default; what is given for a value of another kind never counts, since it is a fault.
+-- What stands at the keys of a system file, and the system that a document without faults spells. A
+-- key that may be left out stands for its default; what is given for a value of another kind never
+-- counts, since it is a fault.
 use Rattle.std.specs.Prelude.{ℕ, ◌==◌, ℤ, pos, negsuc, Bool, false, if◌then◌else◌, List, [], ◌∷◌, map, position, codes, bytes_eq, Option, Some, None, option_map, unwrap_or}
 use Rattle.slot_model.specs.declared.sched.Sched.{Sched}
 use Rattle.slot_model.specs.declared.sched.Sched.TheVariants.{Edf, Rm, Dm, Listed}
@@ -16,7 +17,8 @@ abbrev pub elements_of : Items → List Data
 elements_of no_items = []
 elements_of (item d ds) = d ∷ elements_of ds
 
--- the array, the text, the number and the flag that stand at a key; where nothing does, no elements, no bytes, 0 and false
+-- the array, the text, the number and the flag that stand at a key; where nothing does, no
+-- elements, no bytes, 0 and false
 abbrev pub array_of : Option Data → List Data
 array_of (Some (array ds)) = elements_of ds
 array_of _ = []
@@ -77,7 +79,8 @@ core_or_part (Some c) part = Some (Core c)
 core_or_part None part = option_map Part part
 
 abbrev pub parent_named : List Data → List Data → List ℕ → Option Parent
-parent_named cores parts name = core_or_part (position (is_named name) cores) (position (is_named name) parts)
+parent_named cores parts name =
+    core_or_part (position (is_named name) cores) (position (is_named name) parts)
 
 -- the cores, the parts, and the tasks of a part
 abbrev pub cores_of : Data → List Data
@@ -91,7 +94,8 @@ tasks_of part = array_of (get (codes "task") part)
 
 -- a task; its deadline is its period and its jitter 0 where none is given
 abbrev pub deadline_of : Data → ℕ
-deadline_of d = unwrap_or (given_number (get (codes "deadline") d)) (number_of (get (codes "period") d))
+deadline_of d =
+    unwrap_or (given_number (get (codes "deadline") d)) (number_of (get (codes "period") d))
 
 abbrev pub spelled_task : Data → NamedTask
 spelled_task d = record {
@@ -110,11 +114,16 @@ supply_of (Some period) (Some budget) = Some (number_of (Some period), number_of
 supply_of _ _ = None
 
 abbrev pub spelled_core : Data → CoreView
-spelled_core d = record { name = text_of (get (codes "name") d); sched = sched_at d; supply = supply_of (get (codes "supply_period") d) (get (codes "supply_budget") d) }
+spelled_core d = record {
+  name = text_of (get (codes "name") d);
+  sched = sched_at d;
+  supply = supply_of (get (codes "supply_period") d) (get (codes "supply_budget") d);
+}
 
 -- a part of these cores and parts
 abbrev pub parent_at : List Data → List Data → Data → Parent
-parent_at cores parts d = unwrap_or (parent_named cores parts (text_of (get (codes "parent") d))) (Core 0)
+parent_at cores parts d =
+    unwrap_or (parent_named cores parts (text_of (get (codes "parent") d))) (Core 0)
 
 abbrev pub spelled_part : List Data → List Data → Data → PartView
 spelled_part cores parts d = record {
@@ -129,4 +138,7 @@ spelled_part cores parts d = record {
 
 -- the system of a document
 abbrev pub spelled_system : Data → SystemView
-spelled_system top = record { cores = map spelled_core (cores_of top); parts = map (spelled_part (cores_of top) (parts_of top)) (parts_of top) }
+spelled_system top = record {
+  cores = map spelled_core (cores_of top);
+  parts = map (spelled_part (cores_of top) (parts_of top)) (parts_of top);
+}

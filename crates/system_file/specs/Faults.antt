@@ -1,5 +1,6 @@
--- All faults of a document, in the order in which they count. Each key and each table has its own faults by a definition
--- of its own; a name is looked for among the elements before, and never in what a reader has collected.
+-- All faults of a document, in the order in which they count. Each key and each table has its own
+-- faults by a definition of its own; a name is looked for among the elements before, and never in
+-- what a reader has collected.
 use Rattle.std.specs.Prelude.{ℕ, ◌==◌, nat_lt, nat_le, ℤ, pos, negsuc, Bool, true, false, not, ◌&&◌, if◌then◌else◌, List, [], ◌∷◌, ◌++◌, length, slice_index_or, codes, bytes_eq, Option, Some, None, is_none}
 use Rattle.std.specs.List.{list_any}
 use Rattle.slot_model.specs.Name.{is_name}
@@ -37,7 +38,8 @@ text_faults spot at_text _ = WrongKind spot ∷ []
 
 -- a name, which may be taken
 abbrev pub name_faults : Spot → Bool → List ℕ → List SystemFault
-name_faults spot is_taken s = if is_name s then fault_if is_taken (NameTaken spot) else BadName spot ∷ []
+name_faults spot is_taken s =
+    if is_name s then fault_if is_taken (NameTaken spot) else BadName spot ∷ []
 
 -- a name that is not to be that of an earlier element
 abbrev pub new_name_faults : Spot → List Data → List ℕ → List SystemFault
@@ -54,7 +56,8 @@ has_tasks part = not (length (tasks_of part) == 0)
 abbrev pub is_parent_faults : Spot → List Data → Option Parent → List SystemFault
 is_parent_faults spot earlier None = NoSuchParent spot ∷ []
 is_parent_faults spot earlier (Some (on_core c)) = []
-is_parent_faults spot earlier (Some (on_part r)) = fault_if (has_tasks (slice_index_or earlier r (boolean false))) (Mixed spot)
+is_parent_faults spot earlier (Some (on_part r)) =
+    fault_if (has_tasks (slice_index_or earlier r (boolean false))) (Mixed spot)
 
 abbrev pub parent_faults : Spot → List Data → List Data → List ℕ → List SystemFault
 parent_faults spot cores earlier s = is_parent_faults spot earlier (parent_named cores earlier s)
@@ -94,7 +97,9 @@ array_faults spot most _ = WrongKind spot ∷ []
 
 -- the cores: at least one, at most 64
 abbrev pub core_array_faults : Data → List SystemFault
-core_array_faults (array ds) = fault_if (length (elements_of ds) == 0) (Empty Top) ++ fault_if (nat_lt 64 (length (elements_of ds))) (TooMany Top)
+core_array_faults (array ds) =
+    fault_if (length (elements_of ds) == 0) (Empty Top)
+    ++ fault_if (nat_lt 64 (length (elements_of ds))) (TooMany Top)
 core_array_faults _ = WrongKind Top ∷ []
 
 -- A core has both supply keys or neither.
@@ -102,7 +107,8 @@ abbrev pub supply_faults : Spot → Option Data → Option Data → List SystemF
 supply_faults spot None None = []
 supply_faults spot (Some period) None = range_faults spot LIMIT period ++ MissingKey spot ∷ []
 supply_faults spot None (Some budget) = MissingKey spot ∷ []
-supply_faults spot (Some period) (Some budget) = range_faults spot LIMIT period ++ range_faults spot (number_of (Some period)) budget
+supply_faults spot (Some period) (Some budget) =
+    range_faults spot LIMIT period ++ range_faults spot (number_of (Some period)) budget
 
 -- whether every key of a table is listed
 abbrev pub has_only : List (List ℕ) → Members → Bool
@@ -111,13 +117,16 @@ has_only listed (member key d rest) = list_any (bytes_eq key) listed && has_only
 
 -- A table of listed keys, with the faults of its keys.
 abbrev pub table_faults : Spot → List (List ℕ) → List SystemFault → Data → List SystemFault
-table_faults spot listed at_keys (table members) = fault_if (not (has_only listed members)) (UnknownKey spot) ++ at_keys
+table_faults spot listed at_keys (table members) =
+    fault_if (not (has_only listed members)) (UnknownKey spot) ++ at_keys
 table_faults spot listed at_keys _ = WrongKind spot ∷ []
 
 -- The elements of an array in order, each judged with the elements before it.
-abbrev pub in_order : (List Data → Data → List SystemFault) → List Data → List Data → List SystemFault
+abbrev pub in_order : (List Data → Data → List SystemFault) → List Data → List Data →
+    List SystemFault
 in_order at_element earlier [] = []
-in_order at_element earlier (d ∷ later) = at_element earlier d ++ in_order at_element (earlier ++ d ∷ []) later
+in_order at_element earlier (d ∷ later) =
+    at_element earlier d ++ in_order at_element (earlier ++ d ∷ []) later
 
 -- A core, the elements before it in `core` being given.
 abbrev pub core_keys : List (List ℕ)
@@ -130,7 +139,9 @@ core_key_faults spot earlier d =
     supply_faults spot (get (codes "supply_period") d) (get (codes "supply_budget") d))
 
 abbrev pub core_faults : List Data → Data → List SystemFault
-core_faults earlier d = table_faults (Core (length earlier)) core_keys (core_key_faults (Core (length earlier)) earlier d) d
+core_faults earlier d =
+    table_faults (Core (length earlier)) core_keys
+    (core_key_faults (Core (length earlier)) earlier d) d
 
 -- A task of part q, the elements before it in `task` being given. Only format 2 lists jitter.
 abbrev pub task_keys : Format → List (List ℕ)
@@ -146,7 +157,9 @@ task_number_faults spot d =
     required spot (range_faults spot (room_of (spelled_task d).task)) (get (codes "work") d)))
 
 abbrev pub task_key_faults : Spot → List Data → Data → List SystemFault
-task_key_faults spot earlier d = required spot (text_faults spot (new_name_faults spot earlier)) (get (codes "name") d) ++ task_number_faults spot d
+task_key_faults spot earlier d =
+    required spot (text_faults spot (new_name_faults spot earlier)) (get (codes "name") d)
+    ++ task_number_faults spot d
 
 abbrev pub task_faults : Format → ℕ → List Data → Data → List SystemFault
 task_faults format q earlier d =
@@ -155,7 +168,9 @@ task_faults format q earlier d =
 
 -- A part, the cores and the elements before it in `part` being given.
 abbrev pub part_keys : List (List ℕ)
-part_keys = codes "name" ∷ codes "parent" ∷ codes "sched" ∷ codes "period" ∷ codes "budget" ∷ codes "extra" ∷ codes "task" ∷ []
+part_keys =
+    codes "name" ∷ codes "parent" ∷ codes "sched" ∷ codes "period" ∷ codes "budget" ∷
+    codes "extra" ∷ codes "task" ∷ []
 
 abbrev pub server_faults : Spot → Data → List SystemFault
 server_faults spot d =
@@ -166,7 +181,8 @@ server_faults spot d =
 
 abbrev pub part_key_faults : Spot → List Data → List Data → Data → List SystemFault
 part_key_faults spot cores earlier d =
-    required spot (text_faults spot (new_name_faults spot (cores ++ earlier))) (get (codes "name") d) ++
+    required spot (text_faults spot (new_name_faults spot (cores ++ earlier)))
+    (get (codes "name") d) ++
     (required spot (text_faults spot (parent_faults spot cores earlier)) (get (codes "parent") d) ++
     (required spot (text_faults spot (sched_faults spot)) (get (codes "sched") d) ++
     server_faults spot d))
@@ -179,11 +195,13 @@ part_faults format cores earlier d =
 
 -- whether a part is the parent of one of the parts
 abbrev pub is_parent : List Data → Data → Bool
-is_parent parts d = list_any (λ child. is_text (text_of (get (codes "name") d)) (get (codes "parent") child)) parts
+is_parent parts d =
+    list_any (λ child. is_text (text_of (get (codes "name") d)) (get (codes "parent") child)) parts
 
 -- a part with neither tasks nor children
 abbrev pub empty_faults : List Data → List Data → Data → List SystemFault
-empty_faults parts earlier d = fault_if (not (has_tasks d) && not (is_parent parts d)) (Empty (Part (length earlier)))
+empty_faults parts earlier d =
+    fault_if (not (has_tasks d) && not (is_parent parts d)) (Empty (Part (length earlier)))
 
 -- The top table.
 abbrev pub top_keys : List (List ℕ)
@@ -196,7 +214,8 @@ top_faults top =
     (required Top core_array_faults (get (codes "core") top) ++
     optional (array_faults Top 512) (get (codes "part") top))) top
 
--- All faults of a document: of the top table, of each core, of each part with its tasks, and then the empty parts.
+-- All faults of a document: of the top table, of each core, of each part with its tasks, and then
+-- the empty parts.
 abbrev pub faults : Data → List SystemFault
 faults top =
     top_faults top ++

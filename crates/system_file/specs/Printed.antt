@@ -1,5 +1,5 @@
--- The document that is printed for a system, table by table, and what a printer may rest on. It serves the clauses of private
--- functions alone: what is printed reads back, whatever its layout.
+-- The document that is printed for a system, table by table, and what a printer may rest on. It
+-- serves the clauses of private functions alone: what is printed reads back, whatever its layout.
 use Rattle.std.specs.Prelude.{◌≡◌, ℕ, ◌==◌, ◌<◌, pos, Bool, true, false, if◌then◌else◌, List, [], ◌∷◌, map, length, All, codes, Option, Some, None}
 use Rattle.std.specs.Cmp.Lexicographic.{slice_cmp}
 use Rattle.std.specs.Ordering.{nat_cmp, match_ordering}
@@ -20,7 +20,9 @@ use Rattle.system_file.specs.declared.format.Format.TheVariants.{One, Two}
 -- a member put in the place of its key, among members whose keys ascend
 abbrev pub with_member : List ℕ → Data → Members → Members
 with_member k d no_members = member k d no_members
-with_member k d (member l e ms) = match_ordering (slice_cmp nat_cmp k l) (member k d (member l e ms)) (member l d ms) (member l e (with_member k d ms))
+with_member k d (member l e ms) =
+    match_ordering (slice_cmp nat_cmp k l) (member k d (member l e ms)) (member l d ms)
+    (member l e (with_member k d ms))
 
 -- the same where there is a value
 abbrev pub with_some : List ℕ → Option Data → Members → Members
@@ -55,10 +57,15 @@ sched_word Listed = codes "listed"
 -- the supply of a core that is not full
 abbrev pub with_supply : Option (ℕ × ℕ) → Members → Members
 with_supply None ms = ms
-with_supply (Some supply) ms = with_member (codes "supply_budget") (number supply.1) (with_member (codes "supply_period") (number supply.0) ms)
+with_supply (Some supply) ms =
+    with_member (codes "supply_budget") (number supply.1)
+    (with_member (codes "supply_period") (number supply.0) ms)
 
 abbrev pub printed_core : CoreView → Data
-printed_core core = table (with_supply core.supply (with_member (codes "sched") (string (sched_word core.sched)) (with_member (codes "name") (string core.name) no_members)))
+printed_core core =
+    table (with_supply core.supply
+    (with_member (codes "sched") (string (sched_word core.sched))
+    (with_member (codes "name") (string core.name) no_members)))
 
 -- a task, whose deadline is written where it is not the period, and its jitter where it is not 0
 abbrev pub task_members : NamedTask → Members

@@ -6,7 +6,7 @@ use Rattle.toml.specs.Data.{Data, string, get}
 use Rattle.tree_model.specs.declared.place.Parent.{Parent}
 use Rattle.tree_model.specs.declared.place.Parent.TheVariants.{Core, Part}
 use Rattle.tree_model.specs.View.{PartView}
-use Rattle.tree_model.specs.System.{is_leaf}
+use Rattle.tree_model.specs.System.{is_leaf, no_part}
 use Rattle.system_file.specs.Document.{spelled_part}
 
 -- the first of a list
@@ -16,11 +16,13 @@ first_of (x ∷ later) = Some x
 
 -- these elements have these names, one each
 abbrev pub HaveNames : List Data → List (List ℕ) → Type 0
-HaveNames elements names = map (λ d. get (codes "name") d) elements ≡ map (λ name. Some (string name)) names
+HaveNames elements names =
+    map (λ d. get (codes "name") d) elements ≡ map (λ name. Some (string name)) names
 
--- What a reader of parts knows: how many cores there are, the names of the cores and of the parts so far, and those parts
--- as they are spelled in the whole list of parts.
-pub record Known (cores earlier later : List Data) (core_count : ℕ) (names : List (List ℕ)) (parts : List PartView) : Type 0 where
+-- What a reader of parts knows: how many cores there are, the names of the cores and of the parts
+-- so far, and those parts as they are spelled in the whole list of parts.
+pub record Known (cores earlier later : List Data) (core_count : ℕ) (names : List (List ℕ))
+    (parts : List PartView) : Type 0 where
   pub counted : length cores ≡ core_count
   pub named : HaveNames (cores ++ earlier) names
   pub spelled : parts ≡ map (spelled_part cores (earlier ++ later)) earlier
@@ -39,8 +41,9 @@ is_empty_part parts q part = not (is_leaf part.tasks) && not (has_child parts q)
 
 -- the part at a place
 abbrev pub part_in : List PartView → ℕ → PartView
-part_in parts q = slice_index_or parts q (record { name = []; parent = Core 0; sched = Edf; period = 1; budget = None; extra = false; tasks = [] })
+part_in parts q = slice_index_or parts q no_part
 
 -- a part that is a parent is one of them
 abbrev pub ParentsAmong : List PartView → Type 0
-ParentsAmong parts = (q r : ℕ) → q < length parts → (part_in parts q).parent ≡ Part r → r < length parts
+ParentsAmong parts = (q r : ℕ) → q < length parts → (part_in parts q).parent ≡ Part r →
+    r < length parts

@@ -23,7 +23,8 @@ first_fault_or sys (fault ∷ later) = Err fault
 
 abbrev pub system_of_document : Option Members → Result SystemView SystemFault
 system_of_document None = Err NotToml
-system_of_document (Some members) = first_fault_or (spelled_system (table members)) (faults (table members))
+system_of_document (Some members) =
+    first_fault_or (spelled_system (table members)) (faults (table members))
 
 unfoldable pub system_of : List ℕ → Result SystemView SystemFault
 system_of bytes = system_of_document (document_of bytes)

@@ -104,7 +104,8 @@ pub record IsWritten (top : Data) : Type 0 where
   pub parts : (q : ℕ) → q < length (parts_of top) →
       IsWrittenPart (format_of top) (cores_of top) (parts_of top) (element (parts_of top) q)
 
--- A file that spells a system: its document is written by the rules, and the system is the one of that document.
+-- A file that spells a system: its document is written by the rules, and the system is the one of
+-- that document.
 pub record Spells (bytes : List ℕ) (sys : SystemView) : Type 0 where
   pub members : Members
   pub document : document_of bytes ≡ Some members

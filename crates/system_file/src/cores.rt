@@ -16,9 +16,14 @@ use tree_model::Core;
 
 /// The supply of a core: both keys or neither.
 fn supply_at(table: &Table, spot: Spot) -> Result<Option<(u64, u64)>, SystemFault>
-    ensures ok { IfOk result (λ supply. (supply_faults spot (get_member (codes "supply_period") (table_view table.now)) (get_member (codes "supply_budget") (table_view table.now)) ≡ [])
-        × (supply ≡ supply_of (get_member (codes "supply_period") (table_view table.now)) (get_member (codes "supply_budget") (table_view table.now)))) }
-    ensures fault { IfErr result (λ fault. first_of (supply_faults spot (get_member (codes "supply_period") (table_view table.now)) (get_member (codes "supply_budget") (table_view table.now))) ≡ Some fault) }
+    ensures ok { IfOk result (λ supply.
+        let period = get_member (codes "supply_period") (table_view table.now) in
+        let budget = get_member (codes "supply_budget") (table_view table.now) in
+        (supply_faults spot period budget ≡ []) × (supply ≡ supply_of period budget)) }
+    ensures fault { IfErr result (λ fault.
+        let period = get_member (codes "supply_period") (table_view table.now) in
+        let budget = get_member (codes "supply_budget") (table_view table.now) in
+        first_of (supply_faults spot period budget) ≡ Some fault) }
 {
     match find(table, "supply_period") {
         Some(value) => {
@@ -41,11 +46,14 @@ fn read_core<'t>(
     names: &mut Names<'t>,
 ) -> Result<Core, SystemFault>
     ensures ok { IfOk result (λ core. (earlier : List Data) → HaveNames earlier names.old →
-        (table_faults spot core_keys (core_key_faults spot earlier (view value.now)) (view value.now) ≡ [])
+        (table_faults spot core_keys (core_key_faults spot earlier (view value.now))
+        (view value.now) ≡ [])
         × (core ≡ spelled_core (view value.now))
         × HaveNames (earlier ++ view value.now ∷ []) names.new) }
-    ensures fault { IfErr result (λ fault. fault ≢ NoMemory → (earlier : List Data) → HaveNames earlier names.old →
-        first_of (table_faults spot core_keys (core_key_faults spot earlier (view value.now)) (view value.now)) ≡ Some fault) }
+    ensures fault { IfErr result (λ fault. fault ≢ NoMemory → (earlier : List Data) →
+        HaveNames earlier names.old →
+        let d = view value.now in
+        first_of (table_faults spot core_keys (core_key_faults spot earlier d) d) ≡ Some fault) }
 {
     let table = table_of(value, spot)?;
     check_keys(
@@ -73,8 +81,11 @@ pub fn read_cores<'t>(
 ) -> Result<Vec<Core>, SystemFault>
     requires few { length values.now ≤ 64 }
     requires no_names { names.old ≡ [] }
-    ensures ok { IfOk result (λ cores. (in_order core_faults [] (map view values.now) ≡ []) × (cores.items ≡ map spelled_core (map view values.now)) × HaveNames (map view values.now) names.new) }
-    ensures fault { IfErr result (λ fault. fault ≢ NoMemory → first_of (in_order core_faults [] (map view values.now)) ≡ Some fault) }
+    ensures ok { IfOk result (λ cores. (in_order core_faults [] (map view values.now) ≡ [])
+        × (cores.items ≡ map spelled_core (map view values.now))
+        × HaveNames (map view values.now) names.new) }
+    ensures fault { IfErr result (λ fault. fault ≢ NoMemory →
+        first_of (in_order core_faults [] (map view values.now)) ≡ Some fault) }
 {
     let mut cores = Vec::with_capacity(alloc, values.len())?;
     for (place, value) in values.iter().enumerate() {

@@ -25,7 +25,8 @@ pub fn find<'t>(table: &'t Table, key: &str) -> Option<&'t Value>
 /// The value at a key that has to be there.
 pub fn value_at<'t>(table: &'t Table, key: &str, spot: Spot) -> Result<&'t Value, SystemFault>
     ensures ok { IfOk result (λ v. get_member key.now (table_view table.now) ≡ Some (view v.now)) }
-    ensures fault { IfErr result (λ fault. (get_member key.now (table_view table.now) ≡ None) × (fault ≡ SystemFault.MissingKey spot)) }
+    ensures fault { IfErr result (λ fault. (get_member key.now (table_view table.now) ≡ None)
+        × (fault ≡ SystemFault.MissingKey spot)) }
 {
     match find(table, key) {
         Some(value) => Ok(value),
@@ -36,7 +37,8 @@ pub fn value_at<'t>(table: &'t Table, key: &str, spot: Spot) -> Result<&'t Value
 /// The table that a value has to be.
 pub fn table_of(value: &Value, spot: Spot) -> Result<&Table, SystemFault>
     ensures ok { IfOk result (λ t. view value.now ≡ table (table_view t.now)) }
-    ensures fault { IfErr result (λ fault. (fault ≡ SystemFault.WrongKind spot) × (as_table (view value.now) ≡ None)) }
+    ensures fault { IfErr result (λ fault. (fault ≡ SystemFault.WrongKind spot)
+        × (as_table (view value.now) ≡ None)) }
 {
     match value {
         Value::Table(table) => Ok(table),
@@ -46,9 +48,12 @@ pub fn table_of(value: &Value, spot: Spot) -> Result<&Table, SystemFault>
 
 /// The text at a key that has to be there.
 pub fn text_at<'t>(table: &'t Table, key: &str, spot: Spot) -> Result<&'t str, SystemFault>
-    ensures ok { IfOk result (λ s. get_member key.now (table_view table.now) ≡ Some (string s.now)) }
+    ensures ok { IfOk result (λ s.
+        get_member key.now (table_view table.now) ≡ Some (string s.now)) }
     ensures fault { IfErr result (λ fault. (at_text : List ℕ → List SystemFault) →
-        first_of (required spot (text_faults spot at_text) (get_member key.now (table_view table.now))) ≡ Some fault) }
+        first_of
+        (required spot (text_faults spot at_text) (get_member key.now (table_view table.now)))
+        ≡ Some fault) }
 {
     match value_at(table, key, spot)? {
         Value::String(text) => Ok(text.as_str()),
@@ -58,7 +63,8 @@ pub fn text_at<'t>(table: &'t Table, key: &str, spot: Spot) -> Result<&'t str, S
 
 /// The scheduler that a text names.
 pub fn sched_of(text: &str, spot: Spot) -> Result<Sched, SystemFault>
-    ensures ok { IfOk result (λ sched. (sched_faults spot text.now ≡ []) × (sched_named text.now ≡ Some sched)) }
+    ensures ok { IfOk result (λ sched. (sched_faults spot text.now ≡ [])
+        × (sched_named text.now ≡ Some sched)) }
     ensures fault { IfErr result (λ fault. first_of (sched_faults spot text.now) ≡ Some fault) }
 {
     if text == "edf" {
@@ -76,8 +82,10 @@ pub fn sched_of(text: &str, spot: Spot) -> Result<Sched, SystemFault>
 
 /// The whole number from 1 to the highest that a value has to be.
 pub fn number_of(value: &Value, highest: u64, spot: Spot) -> Result<u64, SystemFault>
-    ensures ok { IfOk result (λ n. (range_faults spot highest (view value.now) ≡ []) × (view value.now ≡ integer (pos n)) × (1 ≤ n) × (n ≤ highest)) }
-    ensures fault { IfErr result (λ fault. first_of (range_faults spot highest (view value.now)) ≡ Some fault) }
+    ensures ok { IfOk result (λ n. (range_faults spot highest (view value.now) ≡ [])
+        × (view value.now ≡ integer (pos n)) × (1 ≤ n) × (n ≤ highest)) }
+    ensures fault { IfErr result (λ fault.
+        first_of (range_faults spot highest (view value.now)) ≡ Some fault) }
 {
     match value {
         Value::Integer(n) => ranged(*n, highest, spot),
@@ -86,8 +94,10 @@ pub fn number_of(value: &Value, highest: u64, spot: Spot) -> Result<u64, SystemF
 }
 
 fn ranged(n: i64, highest: u64, spot: Spot) -> Result<u64, SystemFault>
-    ensures ok { IfOk result (λ m. (range_faults spot highest (integer n) ≡ []) × (n ≡ pos m) × (1 ≤ m) × (m ≤ highest)) }
-    ensures fault { IfErr result (λ fault. first_of (range_faults spot highest (integer n)) ≡ Some fault) }
+    ensures ok { IfOk result (λ m. (range_faults spot highest (integer n) ≡ []) × (n ≡ pos m)
+        × (1 ≤ m) × (m ≤ highest)) }
+    ensures fault { IfErr result (λ fault.
+        first_of (range_faults spot highest (integer n)) ≡ Some fault) }
 {
     if 1 <= n && n as u64 <= highest {
         Ok(n as u64)
@@ -98,8 +108,14 @@ fn ranged(n: i64, highest: u64, spot: Spot) -> Result<u64, SystemFault>
 
 /// The number at a key that has to be there.
 pub fn number_at(table: &Table, key: &str, highest: u64, spot: Spot) -> Result<u64, SystemFault>
-    ensures ok { IfOk result (λ n. (required spot (range_faults spot highest) (get_member key.now (table_view table.now)) ≡ []) × (get_member key.now (table_view table.now) ≡ Some (integer (pos n))) × (1 ≤ n) × (n ≤ highest)) }
-    ensures fault { IfErr result (λ fault. first_of (required spot (range_faults spot highest) (get_member key.now (table_view table.now))) ≡ Some fault) }
+    ensures ok { IfOk result (λ n.
+        (required spot (range_faults spot highest) (get_member key.now (table_view table.now)) ≡ [])
+        × (get_member key.now (table_view table.now) ≡ Some (integer (pos n))) × (1 ≤ n)
+        × (n ≤ highest)) }
+    ensures fault { IfErr result (λ fault.
+        first_of
+        (required spot (range_faults spot highest) (get_member key.now (table_view table.now)))
+        ≡ Some fault) }
 {
     number_of(value_at(table, key, spot)?, highest, spot)
 }
@@ -111,8 +127,13 @@ pub fn given_number_at(
     highest: u64,
     spot: Spot,
 ) -> Result<Option<u64>, SystemFault>
-    ensures ok { IfOk result (λ n. (optional (range_faults spot highest) (get_member key.now (table_view table.now)) ≡ []) × (n ≡ given_number (get_member key.now (table_view table.now))) × IsGivenBudget highest n) }
-    ensures fault { IfErr result (λ fault. first_of (optional (range_faults spot highest) (get_member key.now (table_view table.now))) ≡ Some fault) }
+    ensures ok { IfOk result (λ n.
+        (optional (range_faults spot highest) (get_member key.now (table_view table.now)) ≡ [])
+        × (n ≡ given_number (get_member key.now (table_view table.now)))
+        × IsGivenBudget highest n) }
+    ensures fault { IfErr result (λ fault.
+        first_of (optional (range_faults spot highest) (get_member key.now (table_view table.now)))
+        ≡ Some fault) }
 {
     match find(table, key) {
         Some(value) => Ok(Some(number_of(value, highest, spot)?)),
@@ -148,8 +169,12 @@ fn below(n: i64, bound: u64, spot: Spot) -> Result<u64, SystemFault>
 
 /// The truth value at a key that may be left out, and is then false.
 pub fn flag_at(table: &Table, key: &str, spot: Spot) -> Result<bool, SystemFault>
-    ensures ok { IfOk result (λ flag. (optional (flag_faults spot) (get_member key.now (table_view table.now)) ≡ []) × (flag ≡ flag_of (get_member key.now (table_view table.now)))) }
-    ensures fault { IfErr result (λ fault. first_of (optional (flag_faults spot) (get_member key.now (table_view table.now))) ≡ Some fault) }
+    ensures ok { IfOk result (λ flag.
+        (optional (flag_faults spot) (get_member key.now (table_view table.now)) ≡ [])
+        × (flag ≡ flag_of (get_member key.now (table_view table.now)))) }
+    ensures fault { IfErr result (λ fault.
+        first_of (optional (flag_faults spot) (get_member key.now (table_view table.now)))
+        ≡ Some fault) }
 {
     match find(table, key) {
         Some(Value::Boolean(flag)) => Ok(*flag),
@@ -161,7 +186,8 @@ pub fn flag_at(table: &Table, key: &str, spot: Spot) -> Result<bool, SystemFault
 /// The elements of the array that a value has to be.
 pub fn array_of(value: &Value, spot: Spot) -> Result<&[Value], SystemFault>
     ensures ok { IfOk result (λ xs. view value.now ≡ array (items_view xs.now)) }
-    ensures fault { IfErr result (λ fault. (fault ≡ SystemFault.WrongKind spot) × (as_array (view value.now) ≡ None)) }
+    ensures fault { IfErr result (λ fault. (fault ≡ SystemFault.WrongKind spot)
+        × (as_array (view value.now) ≡ None)) }
 {
     match value {
         Value::Array(elements) => Ok(elements.as_slice()),
@@ -172,8 +198,10 @@ pub fn array_of(value: &Value, spot: Spot) -> Result<&[Value], SystemFault>
 #[tactic(auto, using(crate::proofs::Elements::elements_view, crate::proofs::Elements::length_map))]
 /// The elements of an array, at most so many.
 pub fn few_of(value: &Value, most: usize, spot: Spot) -> Result<&[Value], SystemFault>
-    ensures ok { IfOk result (λ xs. (array_faults spot most (view value.now) ≡ []) × (map view xs.now ≡ elements (Some (view value.now))) × (length xs.now ≤ most)) }
-    ensures fault { IfErr result (λ fault. first_of (array_faults spot most (view value.now)) ≡ Some fault) }
+    ensures ok { IfOk result (λ xs. (array_faults spot most (view value.now) ≡ [])
+        × (map view xs.now ≡ elements (Some (view value.now))) × (length xs.now ≤ most)) }
+    ensures fault { IfErr result (λ fault.
+        first_of (array_faults spot most (view value.now)) ≡ Some fault) }
 {
     let elements = array_of(value, spot)?;
     if elements.len() > most {
@@ -189,8 +217,13 @@ pub fn elements_at<'t>(
     most: usize,
     spot: Spot,
 ) -> Result<&'t [Value], SystemFault>
-    ensures ok { IfOk result (λ xs. (optional (array_faults spot most) (get_member key.now (table_view table.now)) ≡ []) × (map view xs.now ≡ elements (get_member key.now (table_view table.now))) × (length xs.now ≤ most)) }
-    ensures fault { IfErr result (λ fault. first_of (optional (array_faults spot most) (get_member key.now (table_view table.now))) ≡ Some fault) }
+    ensures ok { IfOk result (λ xs.
+        (optional (array_faults spot most) (get_member key.now (table_view table.now)) ≡ [])
+        × (map view xs.now ≡ elements (get_member key.now (table_view table.now)))
+        × (length xs.now ≤ most)) }
+    ensures fault { IfErr result (λ fault.
+        first_of (optional (array_faults spot most) (get_member key.now (table_view table.now)))
+        ≡ Some fault) }
 {
     match find(table, key) {
         Some(value) => few_of(value, most, spot),
@@ -201,8 +234,13 @@ pub fn elements_at<'t>(
 #[tactic(auto, using(crate::proofs::Elements::elements_view, crate::proofs::Elements::length_map))]
 /// The cores of the top table: 1 to 64.
 pub fn cores_at(table: &Table) -> Result<&[Value], SystemFault>
-    ensures ok { IfOk result (λ xs. (required Spot.Top core_array_faults (get_member (codes "core") (table_view table.now)) ≡ []) × (map view xs.now ≡ elements (get_member (codes "core") (table_view table.now))) × (length xs.now ≤ 64)) }
-    ensures fault { IfErr result (λ fault. first_of (required Spot.Top core_array_faults (get_member (codes "core") (table_view table.now))) ≡ Some fault) }
+    ensures ok { IfOk result (λ xs.
+        let at = get_member (codes "core") (table_view table.now) in
+        (required Spot.Top core_array_faults at ≡ []) × (map view xs.now ≡ elements at)
+        × (length xs.now ≤ 64)) }
+    ensures fault { IfErr result (λ fault.
+        let at = get_member (codes "core") (table_view table.now) in
+        first_of (required Spot.Top core_array_faults at) ≡ Some fault) }
 {
     let elements = array_of(value_at(table, "core", Spot::Top)?, Spot::Top)?;
     if elements.is_empty() {
@@ -234,8 +272,11 @@ pub fn format_at(table: &Table) -> Result<Format, SystemFault>
 #[tactic(auto, using(crate::proofs::Elements::only_listed))]
 /// Every key of a table has to be listed.
 pub fn check_keys(table: &Table, listed: &[&str], spot: Spot) -> Result<(), SystemFault>
-    ensures ok { IfOk result (λ _. has_only (map (λ key. key.now) listed.now) (table_view table.now) ≡ true) }
-    ensures fault { IfErr result (λ fault. (has_only (map (λ key. key.now) listed.now) (table_view table.now) ≡ false) × (fault ≡ SystemFault.UnknownKey spot)) }
+    ensures ok { IfOk result (λ _.
+        has_only (map (λ key. key.now) listed.now) (table_view table.now) ≡ true) }
+    ensures fault { IfErr result (λ fault.
+        (has_only (map (λ key. key.now) listed.now) (table_view table.now) ≡ false)
+        × (fault ≡ SystemFault.UnknownKey spot)) }
 {
     if all_listed(table, listed) {
         Ok(())
@@ -245,7 +286,8 @@ pub fn check_keys(table: &Table, listed: &[&str], spot: Spot) -> Result<(), Syst
 }
 
 fn all_listed(table: &Table, listed: &[&str]) -> bool
-    ensures { result ≡ list_all (λ key. list_any (λ l. bytes_eq (string_bytes key) l.now) listed.now) (keys table.now) }
+    ensures { result ≡ list_all (λ key.
+        list_any (λ l. bytes_eq (string_bytes key) l.now) listed.now) (keys table.now) }
 {
     table.keys().all(|key| is_listed(key.as_str(), listed))
 }

@@ -1,6 +1,6 @@
-//! The system file: a TOML document of cores, parts and tasks.
-//! `read_system` answers the system that a file spells, or the first fault of its document; `print_system` writes
-//! a file that spells a system.
+//! The system file: a TOML document of cores, parts and tasks. `read_system` answers the system
+//! that a file spells, or the first fault of its document; `print_system` writes a file that spells
+//! a system.
 #![tactic(auto)]
 
 mod cores;

@@ -68,8 +68,12 @@ impl<'t> Names<'t> {
 
 /// The name that a text spells, where it is not taken.
 pub fn new_name(alloc: Global, text: &str, taken: &Names, spot: Spot) -> Result<Name, SystemFault>
-    ensures ok { IfOk result (λ name. (name_faults spot (list_any (bytes_eq text.now) taken.now) text.now ≡ []) × (name ≡ text.now) × (list_any (bytes_eq text.now) taken.now ≡ false)) }
-    ensures fault { IfErr result (λ fault. fault ≢ NoMemory → first_of (name_faults spot (list_any (bytes_eq text.now) taken.now) text.now) ≡ Some fault) }
+    ensures ok { IfOk result (λ name.
+        (name_faults spot (list_any (bytes_eq text.now) taken.now) text.now ≡ [])
+        × (name ≡ text.now) × (list_any (bytes_eq text.now) taken.now ≡ false)) }
+    ensures fault { IfErr result (λ fault. fault ≢ NoMemory →
+        first_of (name_faults spot (list_any (bytes_eq text.now) taken.now) text.now)
+        ≡ Some fault) }
 {
     match Name::new(alloc, text.as_bytes())? {
         Some(name) => {

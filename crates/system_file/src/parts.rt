@@ -36,9 +36,12 @@ fn parent_of(
     requires few_cores { cores ≤ 64 }
     requires few_parts { length earlier.now < 512 }
     requires names { length names.now ≡ cores + length earlier.now }
-    ensures ok { IfOk result (λ parent. (core_elements before later : List Data) → Known core_elements before later cores names.now earlier.now →
-        (parent_faults spot core_elements before text.now ≡ []) × (parent_named core_elements before text.now ≡ Some parent)) }
-    ensures fault { IfErr result (λ fault. (core_elements before later : List Data) → Known core_elements before later cores names.now earlier.now →
+    ensures ok { IfOk result (λ parent. (core_elements before later : List Data) →
+        Known core_elements before later cores names.now earlier.now →
+        (parent_faults spot core_elements before text.now ≡ [])
+        × (parent_named core_elements before text.now ≡ Some parent)) }
+    ensures fault { IfErr result (λ fault. (core_elements before later : List Data) →
+        Known core_elements before later cores names.now earlier.now →
         first_of (parent_faults spot core_elements before text.now) ≡ Some fault) }
 {
     match names.find(text) {
@@ -149,7 +152,8 @@ pub fn read_parts<'t>(
 fn parents(alloc: Global, parts: &[Part]) -> Result<Vec<bool>, AllocError>
     requires among { ParentsAmong parts.now }
     ensures long { IfOk result (λ marks. length marks.items ≡ length parts.now) }
-    ensures marks { IfOk result (λ marks. (q : ℕ) → q < length parts.now → slice_index_or marks.items q false ≡ has_child parts.now q) }
+    ensures marks { IfOk result (λ marks. (q : ℕ) → q < length parts.now →
+        slice_index_or marks.items q false ≡ has_child parts.now q) }
 {
     let mut marks = vec![in alloc; false; parts.len()]?;
     for part in parts {
@@ -165,7 +169,8 @@ pub fn first_empty(alloc: Global, parts: &[Part]) -> Result<Option<usize>, Alloc
     requires among { ParentsAmong parts.now }
     ensures found { IfOk result (λ found. MatchOption found
         ((q : ℕ) → q < length parts.now → is_empty_part parts.now q (part_in parts.now q) ≡ false)
-        (λ at. (at < length parts.now) × (is_empty_part parts.now at (part_in parts.now at) ≡ true) × ((q : ℕ) → q < at → is_empty_part parts.now q (part_in parts.now q) ≡ false))) }
+        (λ at. (at < length parts.now) × (is_empty_part parts.now at (part_in parts.now at) ≡ true)
+        × ((q : ℕ) → q < at → is_empty_part parts.now q (part_in parts.now q) ≡ false))) }
 {
     let marks = parents(alloc, parts)?;
     for (place, part) in parts.iter().enumerate() {

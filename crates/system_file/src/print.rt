@@ -79,7 +79,8 @@ fn number_of(format: Format) -> u64
 }
 
 fn core_tables(alloc: Global, cores: &[Core]) -> Result<Vec<Value>, AllocError>
-    requires supplies { (c : ℕ) → c < length cores.now → IsCoreSupply (slice_index_or cores.now c no_core).supply }
+    requires supplies { (c : ℕ) → c < length cores.now →
+        IsCoreSupply (slice_index_or cores.now c no_core).supply }
     ensures printed { IfOk result (λ tables. map view tables.items ≡ map printed_core cores.now) }
     ensures named { OnOk result (CoresAreNamed cores.now) }
 {
@@ -91,7 +92,8 @@ fn core_tables(alloc: Global, cores: &[Core]) -> Result<Vec<Value>, AllocError>
 }
 
 fn part_tables(alloc: Global, sys: &System) -> Result<Vec<Value>, AllocError>
-    ensures printed { IfOk result (λ tables. map view tables.items ≡ map (printed_part sys.now) sys.now.parts) }
+    ensures printed { IfOk result (λ tables.
+        map view tables.items ≡ map (printed_part sys.now) sys.now.parts) }
     ensures named { OnOk result (PartsAreNamed sys.now.parts) }
 {
     let parts = sys.parts();
@@ -186,21 +188,24 @@ fn word(sched: Sched) -> &'static str
 }
 
 fn put(alloc: Global, table: &mut Table, key: &str, value: Value) -> Result<(), AllocError>
-    ensures { OnOk result (table_view table.new ≡ with_member key.now (view value) (table_view table.old)) }
+    ensures { OnOk result (table_view table.new
+        ≡ with_member key.now (view value) (table_view table.old)) }
 {
     table.insert(String::from_str(alloc, key)?, value)?;
     Ok(())
 }
 
 fn put_text(alloc: Global, table: &mut Table, key: &str, text: &str) -> Result<(), AllocError>
-    ensures { OnOk result (table_view table.new ≡ with_member key.now (string text.now) (table_view table.old)) }
+    ensures { OnOk result (table_view table.new
+        ≡ with_member key.now (string text.now) (table_view table.old)) }
 {
     put(alloc, table, key, Value::string(alloc, text)?)
 }
 
 fn put_number(alloc: Global, table: &mut Table, key: &str, n: u64) -> Result<(), AllocError>
     requires { n ≤ LIMIT }
-    ensures { OnOk result (table_view table.new ≡ with_member key.now (number n) (table_view table.old)) }
+    ensures { OnOk result (table_view table.new
+        ≡ with_member key.now (number n) (table_view table.old)) }
 {
     put(alloc, table, key, Value::Integer(n as i64))
 }
@@ -212,7 +217,8 @@ fn put_some_number(
     n: Option<u64>,
 ) -> Result<(), AllocError>
     requires { IfSome n (λ n. n ≤ LIMIT) }
-    ensures { OnOk result (table_view table.new ≡ with_some key.now (some_number n) (table_view table.old)) }
+    ensures { OnOk result (table_view table.new
+        ≡ with_some key.now (some_number n) (table_view table.old)) }
 {
     match n {
         Some(n) => put_number(alloc, table, key, n),
@@ -258,7 +264,8 @@ fn put_supply(
 }
 
 fn put_true(alloc: Global, table: &mut Table, key: &str, flag: bool) -> Result<(), AllocError>
-    ensures { OnOk result (table_view table.new ≡ with_some key.now (true_flag flag) (table_view table.old)) }
+    ensures { OnOk result (table_view table.new
+        ≡ with_some key.now (true_flag flag) (table_view table.old)) }
 {
     if flag {
         put(alloc, table, key, Value::Boolean(true))
@@ -273,7 +280,8 @@ fn put_some_array(
     key: &str,
     elements: Vec<Value>,
 ) -> Result<(), AllocError>
-    ensures { OnOk result (table_view table.new ≡ with_some key.now (some_array (map view elements.items)) (table_view table.old)) }
+    ensures { OnOk result (table_view table.new
+        ≡ with_some key.now (some_array (map view elements.items)) (table_view table.old)) }
 {
     if elements.is_empty() {
         Ok(())

@@ -22,8 +22,10 @@ use tree_model::System;
 
 /// The system of a TOML document, or its first fault.
 fn read_document(alloc: Global, table: &Table) -> Result<System, SystemFault>
-    ensures ok { IfOk result (λ sys. (faults (toml_table (table_view table.now)) ≡ []) × (sys ≡ spelled_system (toml_table (table_view table.now)))) }
-    ensures fault { IfErr result (λ fault. fault ≢ NoMemory → first_of (faults (toml_table (table_view table.now))) ≡ Some fault) }
+    ensures ok { IfOk result (λ sys. (faults (toml_table (table_view table.now)) ≡ [])
+        × (sys ≡ spelled_system (toml_table (table_view table.now)))) }
+    ensures fault { IfErr result (λ fault. fault ≢ NoMemory →
+        first_of (faults (toml_table (table_view table.now))) ≡ Some fault) }
 {
     check_keys(table, &["format", "core", "part"], Spot::Top)?;
     let format = format_at(table)?;
@@ -40,7 +42,8 @@ fn read_document(alloc: Global, table: &Table) -> Result<System, SystemFault>
 
 fn read_text(alloc: Global, text: &str) -> Result<System, SystemFault>
     ensures spelled { IfOk result (λ sys. system_of_document (parse_document text.now) ≡ Ok sys) }
-    ensures fault { IfErr result (λ fault. fault ≢ NoMemory → system_of_document (parse_document text.now) ≡ Err fault) }
+    ensures fault { IfErr result (λ fault. fault ≢ NoMemory →
+        system_of_document (parse_document text.now) ≡ Err fault) }
 {
     match toml::table_from_str(alloc, text) {
         Ok(table) => read_document(alloc, &table),
@@ -60,7 +63,8 @@ pub fn read_system(alloc: Global, bytes: &[u8]) -> Result<System, SystemFault>
     ensures spelled { IfOk result (λ sys. system_of bytes.now ≡ Ok sys) }
     ensures fault { IfErr result (λ fault. fault ≢ NoMemory → system_of bytes.now ≡ Err fault) }
     ensures read { IfOk result (λ sys. Spells bytes.now sys) }
-    ensures refused { IfErr result (λ fault. fault ≢ NoMemory → (sys : SystemView) → Spells bytes.now sys → ⊥) }
+    ensures refused { IfErr result (λ fault. fault ≢ NoMemory → (sys : SystemView) →
+        Spells bytes.now sys → ⊥) }
 {
     match str::from_utf8(bytes) {
         Ok(text) => read_text(alloc, text),

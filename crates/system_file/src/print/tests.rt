@@ -258,8 +258,10 @@ work = 2
 fn jitter_is_printed_and_read_again(rt: HostRuntime) -> Result<(), Fail> {
     let alloc = rt.alloc();
     let sys = read_system(alloc, LATE.as_bytes()).expect(&rt, "a system file");
-    let tasks = sys.parts()[0].tasks();
-    assert!(rt; tasks.len() == 2 && tasks[0].task().jitter == 0 && tasks[1].task().jitter == 3);
+    let parts = sys.parts();
+    assert!(rt; parts.len() == 1 && parts[0].tasks().len() == 2);
+    let tasks = parts[0].tasks();
+    assert!(rt; tasks[0].task().jitter == 0 && tasks[1].task().jitter == 3);
     let printed = print_system(alloc, &sys)?;
     assert_eq!(rt; str::from_utf8(printed.as_slice()), Ok(LATE));
     Ok(())
