@@ -3,6 +3,7 @@ ghost use Rattle.slot_model.specs.Task.{sporadic_task, sporadic_tasks};
 ghost use Rattle.slot_model.specs.Bound.{dbf};
 ghost use Rattle.edf_test.specs.Rates.{rate_up, asked_rate, asked_ahead, given_rate, given_behind, settled_point};
 
+use crate::amount::amount_of;
 use slot_model::Task;
 use supply_bound::Supply;
 
@@ -85,25 +86,5 @@ fn supply_line<S: Supply>(s: &S) -> Line
     Line {
         slope,
         offset: latest.saturating_sub(s.least(cycle) * ONE),
-    }
-}
-
-/// How much the supply's bound rises over each cycle past the first.
-fn amount_of<S: Supply>(s: &S) -> u128
-    ensures exact { result ≡ S.amount s.now }
-    ensures in_cycle { result ≤ S.cycle_of s.now }
-{
-    let cycle = s.cycle() as u128;
-    s.least(2 * cycle) - s.least(cycle)
-}
-
-/// Up to which window the windows of 1 to `h` slots are to be tested.
-pub fn last_to_test<S: Supply>(tasks: &[Task], s: &S, h: u128) -> u128
-    ensures within { result ≤ h }
-    ensures settled { (t : ℕ) → result < t → t ≤ h → dbf (sporadic_tasks tasks.now) t ≤ S.bound s.now t }
-{
-    match settled_past(tasks, s) {
-        Some(last) if last < h => last,
-        _ => h,
     }
 }
