@@ -51,10 +51,8 @@ fn is_multiple(tasks: &[Task], m: u128) -> bool
 /// How far the demand bound may be ahead of the tasks' rate, in parts of 1/m of a slot. None where
 /// that passes 128 bits.
 fn ahead_of_rate(tasks: &[Task], m: u128) -> Option<u128>
-    ensures {
-        let ahead = ahead_over (sporadic_tasks tasks.now) m in
-        MatchOption result (2 ^ 128 ≤ ahead) (λ a. a ≡ ahead)
-    }
+    ensures { let ahead = ahead_over (sporadic_tasks tasks.now) m in
+        MatchOption result (2 ^ 128 ≤ ahead) (λ a. a ≡ ahead) }
 {
     let mut ahead: u128 = 0;
     for task in tasks {
@@ -65,10 +63,8 @@ fn ahead_of_rate(tasks: &[Task], m: u128) -> Option<u128>
 
 /// The same of one task: its work, for the part of the period past its deadline less its jitter.
 fn ahead_of_task(task: &Task, m: u128) -> Option<u128>
-    ensures {
-        let ahead = task_ahead m (sporadic_task task.now) in
-        MatchOption result (2 ^ 128 ≤ ahead) (λ a. a ≡ ahead)
-    }
+    ensures { let ahead = task_ahead m (sporadic_task task.now) in
+        MatchOption result (2 ^ 128 ≤ ahead) (λ a. a ≡ ahead) }
 {
     let work = m / task.period as u128 * task.work as u128;
     let early = task.period - (task.deadline - task.jitter);

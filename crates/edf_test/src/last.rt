@@ -19,8 +19,7 @@ pub fn last_to_test<S: Supply>(tasks: &[Task], s: &S, h: u128) -> u128
     }
     let cycle = s.cycle() as u128;
     if cycle < h && never_meets(tasks, s, h - cycle) {
-        cycle
-    } else {
-        h
+        return cycle;
     }
+    h
 }

@@ -17,12 +17,10 @@ pub fn cover<S: Supply>(
     h: u128,
 ) -> Result<Option<Vec<u128>>, AllocError>
     requires { h ≤ 2 ^ 128 - 2 }
-    ensures exact {
-        let T = sporadic_tasks tasks.now in
+    ensures exact { let T = sporadic_tasks tasks.now in
         IfOk result (λ answer. MatchOption answer
-            ((t : ℕ) × (1 ≤ t) × (t ≤ h) × (S.bound s.now t < dbf T t))
-            (λ points. IsCover T (S.bound s.now) h points.items × IsBackward T (S.bound s.now) h points.items))
-    }
+        ((t : ℕ) × (1 ≤ t) × (t ≤ h) × (S.bound s.now t < dbf T t))
+        (λ points. IsCover T (S.bound s.now) h points.items × IsBackward T (S.bound s.now) h points.items)) }
     ensures shows { CoversShow (sporadic_tasks tasks.now) (S.bound s.now) h }
 {
     let mut points = Vec::new(alloc);

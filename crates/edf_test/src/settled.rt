@@ -24,12 +24,10 @@ struct Line {
 /// not surely below the rate of the supply.
 pub fn settled_past<S: Supply>(tasks: &[Task], s: &S) -> Option<u128>
     ensures settled { IfSome result (λ last. (t : ℕ) → last < t → dbf (sporadic_tasks tasks.now) t ≤ S.bound s.now t) }
-    ensures exact {
-        let T = sporadic_tasks tasks.now in
+    ensures exact { let T = sporadic_tasks tasks.now in
         MatchOption result
         (length tasks.now < 2 ^ 32 → given_rate (S.amount s.now) (S.cycle_of s.now) ≤ asked_rate T)
-        (λ last. last ≡ settled_point T (S.bound s.now) (S.amount s.now) (S.cycle_of s.now))
-    }
+        (λ last. last ≡ settled_point T (S.bound s.now) (S.amount s.now) (S.cycle_of s.now)) }
 {
     let asked = demand_line(tasks)?;
     let given = supply_line(s);
@@ -46,9 +44,7 @@ pub fn settled_past<S: Supply>(tasks: &[Task], s: &S) -> Option<u128>
 fn demand_line(tasks: &[Task]) -> Option<Line>
     ensures above { IfSome result (λ line. (t : ℕ) → dbf (sporadic_tasks tasks.now) t * 2 ^ 60 ≤ line.slope * t + line.offset) }
     ensures slope { IfSome result (λ line. line.slope ≡ asked_rate (sporadic_tasks tasks.now)) }
-    ensures offset {
-        MatchOption result (2 ^ 32 ≤ length tasks.now) (λ line. line.offset ≡ asked_ahead (sporadic_tasks tasks.now))
-    }
+    ensures offset { MatchOption result (2 ^ 32 ≤ length tasks.now) (λ line. line.offset ≡ asked_ahead (sporadic_tasks tasks.now)) }
     ensures small { IfSome result (λ line. line.offset ≤ length tasks.now * 2 ^ 90) }
 {
     let mut slope: u128 = 0;
