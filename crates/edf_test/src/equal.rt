@@ -1,7 +1,7 @@
 ghost use Rattle.std.specs.Prelude.{◌≡◌, ◌↔◌, ℕ, ◌-◌, ◌*◌, ◌/◌, ◌^◌, ◌%◌, ◌≤◌, IsTrue, MatchOption, All};
 ghost use Rattle.slot_model.specs.Task.{sporadic_task, sporadic_tasks};
 ghost use Rattle.slot_model.specs.Bound.{dbf, IsCommonMultiple};
-ghost use Rattle.edf_test.specs.Rates.{task_ahead, ahead_over, behind_over, NeverMeets};
+ghost use Rattle.edf_test.specs.Rates.{IsSettledPast, task_ahead, ahead_over, behind_over, NeverMeets};
 
 use crate::amount::amount_of;
 use edf_demand::demand;
@@ -12,8 +12,10 @@ use supply_bound::Supply;
 /// never catches up with the supply's bound: an exact test for rates that are equal, too.
 pub fn never_meets<S: Supply>(tasks: &[Task], s: &S, m: u128) -> bool
     requires { 1 ≤ m }
-    ensures exact { IsTrue result ↔ NeverMeets (sporadic_tasks tasks.now) (S.bound s.now) (S.amount s.now) (S.cycle_of s.now) m }
-    ensures settled { IsTrue result → (t : ℕ) → S.cycle_of s.now ≤ t → dbf (sporadic_tasks tasks.now) t ≤ S.bound s.now t }
+    ensures exact { let T = sporadic_tasks tasks.now in
+        IsTrue result ↔ NeverMeets T (S.bound s.now) (S.amount s.now) (S.cycle_of s.now) m }
+    ensures settled { let T = sporadic_tasks tasks.now in
+        IsTrue result → IsSettledPast T (S.bound s.now) (S.cycle_of s.now) }
 {
     let cycle = s.cycle() as u128;
     if !is_common_multiple(tasks, s.cycle(), m) {

@@ -1,6 +1,6 @@
-ghost use Rattle.std.specs.Prelude.{ℕ, ◌<◌, ◌≤◌};
+ghost use Rattle.std.specs.Prelude.{◌≤◌};
 ghost use Rattle.slot_model.specs.Task.{sporadic_tasks};
-ghost use Rattle.slot_model.specs.Bound.{dbf};
+ghost use Rattle.edf_test.specs.Back.{FitsPast};
 
 use crate::equal::never_meets;
 use crate::settled::settled_past;
@@ -12,7 +12,7 @@ use supply_bound::Supply;
 /// otherwise that is `h` itself.
 pub fn last_to_test<S: Supply>(tasks: &[Task], s: &S, h: u128) -> u128
     ensures within { result ≤ h }
-    ensures settled { (t : ℕ) → result < t → t ≤ h → dbf (sporadic_tasks tasks.now) t ≤ S.bound s.now t }
+    ensures settled { FitsPast (sporadic_tasks tasks.now) (S.bound s.now) result h }
 {
     if let Some(last) = settled_past(tasks, s) {
         return last.min(h);

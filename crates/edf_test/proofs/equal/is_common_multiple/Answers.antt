@@ -1,4 +1,4 @@
-use Rattle.std.proofs.Common.{arith, eqb-true}
+use Rattle.std.proofs.Common.{eqb-true}
 use Rattle.std.proofs.lemmas.Nat.Gcd.{dvd_of_mod-eq-zero, mod-eq-zero_of_dvd}
 use Rattle.edf_test.proofs.NeverMeets.{all_divide, divide_all}
 use Rattle.edf_test.proofs.equal.is_common_multiple.Goals as goal

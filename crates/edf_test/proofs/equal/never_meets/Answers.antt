@@ -1,6 +1,6 @@
-use Rattle.std.proofs.Common.{◌≡◌, ℕ, ◌+◌, ◌*◌, ◌-◌, ◌/◌, ◌<◌, ◌≤◌, List, ltb-true, div-mul-le_self, mul-le-mul_left, ap, arith, subst, ◌∙◌}
+use Rattle.std.proofs.Common.{◌≡◌, ℕ, ◌*◌, ◌/◌, ◌≤◌, List, ltb-true, div-mul-le_self, mul-le-mul_left, ap, arith, subst, ◌∙◌}
 use Rattle.slot_model.specs.Task.{SporadicTask, sporadic_tasks}
-use Rattle.slot_model.specs.Bound.{dbf, IsCommonMultiple}
+use Rattle.slot_model.specs.Bound.{IsCommonMultiple}
 use Rattle.slot_model.proofs.Constrained.{are_constrained}
 use Rattle.edf_demand.proofs.Horizons.{rises_of_laws}
 use Rattle.edf_test.specs.Rates.{NeverMeets, behind_over}
@@ -33,7 +33,7 @@ returns-then-behind-cycle-clause-settled g c less t later =
       no_faster = omega (arith, c.in-Some.ensures.exact, c.if-asked-cycles.false, given);
       close = omega (arith, ltb-true _ _ less, c.in-Some-ahead_of_rate.ensures, behind);
     } in
-    never_catches_up T (are_constrained c.args.tasks.now) bound amount cycle c.args.m (rises_of_laws _ _ _ _ _ _ laws) laws.never_falls laws.rises_by_one laws.some_cycle in_cycle never t later
+    never_catches_up T (are_constrained c.args.tasks.now) bound amount cycle c.args.m (rises_of_laws _ _ _ _ _ _ laws) laws.never_falls laws.rises_by_one laws.some_cycle in_cycle never t (omega (arith, later))
 
 pub returns-else-behind-cycle-clause-exact : goal.returns-else-behind-cycle-clause-exact
 returns-else-behind-cycle-clause-exact g c =
