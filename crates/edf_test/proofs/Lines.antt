@@ -80,6 +80,10 @@ past_crossing asked given slope offset rate behind last t above below l is past 
     let whole : rate * t ≡ slope * t + t * k = ap (λ (z : ℕ). z * t) (let e : rate ≡ slope + k = omega arith in e) ∙ omega arith in
     omega (arith, above, below, over, product, whole)
 
+-- a cycle adds no more than its slots
+pub amount_in_cycle : (bound : ℕ → ℕ) (amount cycle : ℕ) → RisesByCycle bound amount cycle → ((t : ℕ) → bound (suc t) ≤ suc (bound t)) → amount ≤ cycle
+amount_in_cycle bound amount cycle by slow = omega (arith, by.each_cycle cycle (omega arith), rises_at_most bound slow cycle cycle)
+
 -- what a cycle adds past the first one, as the code reads it
 pub amount_read : (bound : ℕ → ℕ) (amount cycle read two one : ℕ) → RisesByCycle bound amount cycle → ((t : ℕ) → bound (suc t) ≤ suc (bound t)) → read ≡ cycle → two ≡ bound (2 * read) → one ≡ bound read → (two - one ≡ amount) × (two - one ≤ cycle) × (one ≤ two)
 amount_read bound amount cycle read two one by slow r e f =

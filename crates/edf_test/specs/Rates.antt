@@ -1,6 +1,13 @@
--- Rates in 2^60 parts, the tasks' rounded up and the supply's rounded down, and the window past which they settle the test.
-use Rattle.std.specs.Prelude.{ℕ, ◌+◌, ◌-◌, ◌*◌, ◌/◌, ◌^◌, max, List, sum_by}
+-- Where the rates of the tasks and of a supply settle the test.
+use Rattle.std.specs.Prelude.{ℕ, ◌+◌, ◌-◌, ◌*◌, ◌/◌, ◌^◌, ◌<◌, ◌≤◌, max, List, sum_by}
 use Rattle.slot_model.specs.Task.{SporadicTask, room_of}
+use Rattle.slot_model.specs.Bound.{dbf, IsCommonMultiple}
+
+-- no window past `last` asks for more than the bound
+abbrev pub IsSettledPast : List SporadicTask → (ℕ → ℕ) → ℕ → Type 0
+IsSettledPast tasks bound last = (t : ℕ) → last < t → dbf tasks t ≤ bound t
+
+-- rates in 2^60 parts, the tasks' rounded up and the supply's rounded down
 
 -- a task's work over its period
 abbrev pub rate_up : SporadicTask → ℕ
@@ -9,7 +16,7 @@ rate_up task = (task.work * 2 ^ 60 + (task.period - 1)) / task.period
 abbrev pub asked_rate : List SporadicTask → ℕ
 asked_rate tasks = sum_by rate_up tasks
 
--- how far the demand bound may be ahead of that rate: a job is due in its room, and not only in its period
+-- how far the demand bound may be ahead of that rate: a job is due before its period ends
 abbrev pub asked_ahead : List SporadicTask → ℕ
 asked_ahead tasks = sum_by (λ task. rate_up task * (task.period - room_of task)) tasks
 
@@ -17,13 +24,36 @@ asked_ahead tasks = sum_by (λ task. rate_up task * (task.period - room_of task)
 abbrev pub given_rate : ℕ → ℕ → ℕ
 given_rate amount cycle = amount * 2 ^ 60 / cycle
 
--- how far a supply's bound may fall behind that rate past the first cycle: it is flat for as long as a cycle's amount lets it
+-- how far a supply's bound may fall behind that rate past the first cycle, where a cycle's amount
+-- comes as late as can be
 abbrev pub given_behind : (ℕ → ℕ) → ℕ → ℕ → ℕ
 given_behind bound amount cycle =
     given_rate amount cycle * (2 * cycle - amount) - bound cycle * 2 ^ 60
 
--- where the line above the demand bound meets the line below the supply's bound, and a cycle at the least
+-- where the line above the demand bound meets the line below the supply's bound,
+-- and no less than a cycle
 abbrev pub settled_point : List SporadicTask → (ℕ → ℕ) → ℕ → ℕ → ℕ
 settled_point tasks bound amount cycle =
     max cycle
-    ((asked_ahead tasks + given_behind bound amount cycle) / (given_rate amount cycle - asked_rate tasks))
+    ((asked_ahead tasks + given_behind bound amount cycle) /
+    (given_rate amount cycle - asked_rate tasks))
+
+-- The same with no rounding, over m slots that are a multiple of the cycle and of all periods:
+-- how far the demand bound may be ahead of its rate, in parts of 1/m of a slot, ..
+abbrev pub task_ahead : ℕ → SporadicTask → ℕ
+task_ahead m task = m / task.period * task.work * (task.period - room_of task)
+
+abbrev pub ahead_over : List SporadicTask → ℕ → ℕ
+ahead_over tasks m = sum_by (task_ahead m) tasks
+
+-- .. and how far a supply's bound may fall behind its rate, in parts of 1/cycle
+abbrev pub behind_over : (ℕ → ℕ) → ℕ → ℕ → ℕ
+behind_over bound amount cycle = amount * (2 * cycle - amount) - bound cycle * cycle
+
+-- the tasks ask at no higher rate than the supply gives, and the two lines begin less than a slot
+-- apart, so that the demand never catches up with the bound
+pub record NeverMeets (tasks : List SporadicTask) (bound : ℕ → ℕ) (amount cycle m : ℕ)
+    : Type 0 where
+  pub common : IsCommonMultiple tasks cycle m
+  pub no_faster : dbf tasks m ≤ m / cycle * amount
+  pub close : ahead_over tasks m + m / cycle * behind_over bound amount cycle < m

@@ -8,8 +8,9 @@ use slot_model::Task;
 use std::alloc::{AllocError, Global};
 use supply_bound::Supply;
 
-/// The points of the walk backwards from `h + 1`, in ascending order: they show that no window of 1
-/// to `h` slots asks for more slots than the supply gives at the least. None exactly where one does.
+/// The points of the walk backwards from `h + 1`, in slots and ascending: they show that no window
+/// of 1 to `h` slots asks for more slots than the supply gives at the least. None exactly where one
+/// does. Fails where memory runs out.
 pub fn cover<S: Supply>(
     alloc: Global,
     tasks: &[Task],
@@ -17,12 +18,11 @@ pub fn cover<S: Supply>(
     h: u128,
 ) -> Result<Option<Vec<u128>>, AllocError>
     requires { h ≤ 2 ^ 128 - 2 }
-    ensures exact {
-        let T = sporadic_tasks tasks.now in
+    ensures exact { let T = sporadic_tasks tasks.now in
         IfOk result (λ answer. MatchOption answer
-            ((t : ℕ) × (1 ≤ t) × (t ≤ h) × (S.bound s.now t < dbf T t))
-            (λ points. IsCover T (S.bound s.now) h points.items × IsBackward T (S.bound s.now) h points.items))
-    }
+        ((t : ℕ) × (1 ≤ t) × (t ≤ h) × (S.bound s.now t < dbf T t))
+        (λ points. IsCover T (S.bound s.now) h points.items
+        × IsBackward T (S.bound s.now) h points.items)) }
     ensures shows { CoversShow (sporadic_tasks tasks.now) (S.bound s.now) h }
 {
     let mut points = Vec::new(alloc);

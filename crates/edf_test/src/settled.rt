@@ -1,8 +1,9 @@
 ghost use Rattle.std.specs.Prelude.{◌≡◌, ℕ, ◌+◌, ◌*◌, ◌^◌, ◌<◌, ◌≤◌, length, IfSome, MatchOption};
 ghost use Rattle.slot_model.specs.Task.{sporadic_task, sporadic_tasks};
 ghost use Rattle.slot_model.specs.Bound.{dbf};
-ghost use Rattle.edf_test.specs.Rates.{rate_up, asked_rate, asked_ahead, given_rate, given_behind, settled_point};
+ghost use Rattle.edf_test.specs.Rates.{IsSettledPast, rate_up, asked_rate, asked_ahead, given_rate, given_behind, settled_point};
 
+use crate::amount::amount_of;
 use slot_model::Task;
 use supply_bound::Supply;
 
@@ -22,13 +23,13 @@ struct Line {
 /// of Baruah, Rosier and Howell, 1990, over a supply bound). None where the tasks' utilisation is
 /// not surely below the rate of the supply.
 pub fn settled_past<S: Supply>(tasks: &[Task], s: &S) -> Option<u128>
-    ensures settled { IfSome result (λ last. (t : ℕ) → last < t → dbf (sporadic_tasks tasks.now) t ≤ S.bound s.now t) }
-    ensures exact {
-        let T = sporadic_tasks tasks.now in
+    ensures settled { let T = sporadic_tasks tasks.now in
+        IfSome result (λ last. IsSettledPast T (S.bound s.now) last) }
+    ensures exact { let T = sporadic_tasks tasks.now in
         MatchOption result
-        (length tasks.now < 2 ^ 32 → given_rate (S.amount s.now) (S.cycle_of s.now) ≤ asked_rate T)
-        (λ last. last ≡ settled_point T (S.bound s.now) (S.amount s.now) (S.cycle_of s.now))
-    }
+        (length tasks.now < 2 ^ 32 →
+        given_rate (S.amount s.now) (S.cycle_of s.now) ≤ asked_rate T)
+        (λ last. last ≡ settled_point T (S.bound s.now) (S.amount s.now) (S.cycle_of s.now)) }
 {
     let asked = demand_line(tasks)?;
     let given = supply_line(s);
@@ -43,11 +44,13 @@ pub fn settled_past<S: Supply>(tasks: &[Task], s: &S) -> Option<u128>
 
 /// A line that the demand bound never passes: each task asks for its work once a period.
 fn demand_line(tasks: &[Task]) -> Option<Line>
-    ensures above { IfSome result (λ line. (t : ℕ) → dbf (sporadic_tasks tasks.now) t * 2 ^ 60 ≤ line.slope * t + line.offset) }
+    ensures above { let T = sporadic_tasks tasks.now in
+        IfSome result (λ line. (t : ℕ) → dbf T t * 2 ^ 60 ≤ line.slope * t + line.offset) }
     ensures slope { IfSome result (λ line. line.slope ≡ asked_rate (sporadic_tasks tasks.now)) }
-    ensures offset {
-        MatchOption result (2 ^ 32 ≤ length tasks.now) (λ line. line.offset ≡ asked_ahead (sporadic_tasks tasks.now))
-    }
+    ensures offset { let T = sporadic_tasks tasks.now in
+        MatchOption result
+        (2 ^ 32 ≤ length tasks.now)
+        (λ line. line.offset ≡ asked_ahead T) }
     ensures small { IfSome result (λ line. line.offset ≤ length tasks.now * 2 ^ 90) }
 {
     let mut slope: u128 = 0;
@@ -73,9 +76,11 @@ fn rate_of(task: &Task) -> u128
 /// A line that the supply's bound never falls below past the first cycle: each cycle gives the same
 /// amount, which comes in as few slots as can be at its end.
 fn supply_line<S: Supply>(s: &S) -> Line
-    ensures below { (t : ℕ) → S.cycle_of s.now ≤ t → result.slope * t ≤ S.bound s.now t * 2 ^ 60 + result.offset }
+    ensures below { (t : ℕ) → S.cycle_of s.now ≤ t →
+        result.slope * t ≤ S.bound s.now t * 2 ^ 60 + result.offset }
     ensures slope { result.slope ≡ given_rate (S.amount s.now) (S.cycle_of s.now) }
-    ensures offset { result.offset ≡ given_behind (S.bound s.now) (S.amount s.now) (S.cycle_of s.now) }
+    ensures offset { let behind = given_behind (S.bound s.now) (S.amount s.now) (S.cycle_of s.now) in
+        result.offset ≡ behind }
     ensures small { result.offset ≤ 2 ^ 125 }
 {
     let cycle = s.cycle() as u128;
@@ -85,25 +90,5 @@ fn supply_line<S: Supply>(s: &S) -> Line
     Line {
         slope,
         offset: latest.saturating_sub(s.least(cycle) * ONE),
-    }
-}
-
-/// How much the supply's bound rises over each cycle past the first.
-fn amount_of<S: Supply>(s: &S) -> u128
-    ensures exact { result ≡ S.amount s.now }
-    ensures in_cycle { result ≤ S.cycle_of s.now }
-{
-    let cycle = s.cycle() as u128;
-    s.least(2 * cycle) - s.least(cycle)
-}
-
-/// Up to which window the windows of 1 to `h` slots are to be tested.
-pub fn last_to_test<S: Supply>(tasks: &[Task], s: &S, h: u128) -> u128
-    ensures within { result ≤ h }
-    ensures settled { (t : ℕ) → result < t → t ≤ h → dbf (sporadic_tasks tasks.now) t ≤ S.bound s.now t }
-{
-    match settled_past(tasks, s) {
-        Some(last) if last < h => last,
-        _ => h,
     }
 }

@@ -2,5 +2,6 @@ pub mod Level
 pub mod Decide
 pub mod Budgets
 mod Testing
+mod Rate
 mod Between
 pub mod OneAnswer

@@ -38,6 +38,13 @@ tested_foretells sched tasks fits laws AllPasses h = level_no_loss sched tasks f
 tested_foretells sched tasks fits laws (FirstShort short) h = short_misses sched tasks fits laws short h.1
 tested_foretells sched tasks fits laws TestWide h = tt
 
+-- it needs no horizon
+pub fixed_small : (sched : Sched) → sched ≢ Edf → (tasks : List SporadicTask) (cycle : ℕ) → IsSmall sched tasks cycle
+fixed_small Edf fixed tasks cycle = absurd (fixed refl)
+fixed_small Rm fixed tasks cycle = tt
+fixed_small Dm fixed tasks cycle = tt
+fixed_small Listed fixed tasks cycle = tt
+
 -- what the answer of one task's test says
 no_hit : (above : ℕ → ℕ → Bool) (tasks : List SporadicTask) (bound : ℕ → ℕ) (i : ℕ) (answer : Option ℕ) → is_some answer ≡ false → IsAnswer above tasks bound i answer → IsShortTask above tasks bound i
 no_hit above tasks bound i None e h = h

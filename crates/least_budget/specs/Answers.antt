@@ -1,14 +1,15 @@
 -- What the test of a level and the search for its least budget answer.
-use Rattle.std.specs.Prelude.{ℕ, ◌<◌, ◌≤◌, Bool, List}
+use Rattle.std.specs.Prelude.{◌≡◌, ◌≢◌, ℕ, ◌<◌, ◌≤◌, Bool, List, Option, Some, None}
 use Rattle.slot_model.specs.declared.job.Job.{Job}
 use Rattle.slot_model.specs.declared.sched.Sched.{Sched}
+use Rattle.slot_model.specs.declared.sched.Sched.TheVariants.{Edf}
 use Rattle.least_budget.specs.declared.answers.Tested.{Tested}
 use Rattle.least_budget.specs.declared.answers.Tested.TheVariants.{Passes as AllPasses, Short as FirstShort, Wide as TestWide}
 use Rattle.least_budget.specs.declared.answers.Least.{Least}
 use Rattle.least_budget.specs.declared.answers.Least.TheVariants.{Budget, Over, Wide}
 use Rattle.slot_model.specs.Task.{SporadicTask}
 use Rattle.slot_model.specs.Supply.{GivesBudget}
-use Rattle.slot_model.specs.Bound.{sbf, Passes, IsShortfall, IsSmall, IsLeastBudget}
+use Rattle.slot_model.specs.Bound.{sbf, Passes, IsShortfall, IsHorizon, IsSmall, IsLeastBudget}
 use Rattle.slot_model.specs.Miss.{NoJobLost, MustMiss}
 
 -- nothing is short, or what is short first, or the horizon is too long to be walked
@@ -22,6 +23,11 @@ abbrev pub Foretells : (List Bool → Type 0) → (Job → Job → Bool) → Lis
 Foretells Conforms before tasks AllPasses = NoJobLost Conforms before tasks
 Foretells Conforms before tasks (FirstShort short) = MustMiss Conforms before tasks
 Foretells Conforms before tasks TestWide = Unit {0}
+
+-- what is tested up to: the horizon under earliest deadline first, and none under a fixed rank
+abbrev pub IsHorizonOf : Sched → List SporadicTask → ℕ → Option ℕ → Type 0
+IsHorizonOf sched tasks cycle None = sched ≢ Edf
+IsHorizonOf sched tasks cycle (Some h) = (sched ≡ Edf) × IsHorizon tasks cycle h
 
 -- the least budget that passes, or what is short with the whole period, or the horizon is too long to be walked
 abbrev pub IsLeast : Sched → List SporadicTask → ℕ → Least → Type 0

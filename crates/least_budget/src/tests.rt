@@ -91,3 +91,25 @@ fn tests_at_the_least_budget(rt: HostRuntime) -> Result<(), Fail> {
     }
     Ok(())
 }
+
+// The horizon is some 10^22 slots.
+#[test]
+fn periods_with_no_small_common_multiple(rt: HostRuntime) -> Result<(), Fail> {
+    let tasks = [
+        task(33_333, 33_333, 3_000)?,
+        task(16_667, 16_667, 1_500)?,
+        task(21_333, 21_333, 900)?,
+        task(12_500, 12_500, 700)?,
+        task(99_991, 99_991, 2_000)?,
+    ];
+    assert_eq!(rt;
+        least_budget(Sched::Edf, &tasks, 4_000),
+        Least::Budget(1_217)
+    );
+    let below = Periodic::new(4_000, 1_216).ok_or(OUT)?;
+    assert_eq!(rt;
+        test(Sched::Edf, &tasks, &below),
+        Tested::Short(Short::At(100_002))
+    );
+    Ok(())
+}

@@ -1,0 +1,12 @@
+ghost use Rattle.std.specs.Prelude.{◌≡◌, ◌≤◌};
+
+use supply_bound::Supply;
+
+/// How much the supply's bound rises over each cycle past the first.
+pub fn amount_of<S: Supply>(s: &S) -> u128
+    ensures exact { result ≡ S.amount s.now }
+    ensures in_cycle { result ≤ S.cycle_of s.now }
+{
+    let cycle = s.cycle() as u128;
+    s.least(2 * cycle) - s.least(cycle)
+}
