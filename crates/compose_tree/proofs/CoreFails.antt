@@ -1,4 +1,5 @@
--- Where the servers of a full core fall short, every permitted run of the tree that is long enough has an early miss there.
+-- Where the servers of a full core fall short, every permitted run of the tree that is long
+-- enough has an early miss there.
 use Rattle.std.proofs.Common.{◌≡◌, ℕ, ◌-◌, ◌%◌, ◌<◌, ◌≤◌, Bool, true, false, List, [], length, get_or, Option, Some, None, sym, ◌∙◌, ap, arith, subst, zero-add, lt-ltb, le-leb, inl, inr}
 use Rattle.std.proofs.lemmas.Bool.{cases_lt, or_left, or_right, and_from}
 use Rattle.slot_model.specs.declared.job.Job.{Job}

@@ -1,4 +1,5 @@
--- Tasks of the same periods, deadlines and jitter with no less work: what falls short for the lighter ones does so for them.
+-- Tasks of the same periods, deadlines and jitter with no less work: what falls short for the
+-- lighter ones does so for them.
 use Rattle.std.proofs.Common.{◌≡◌, ℕ, ◌+◌, ◌-◌, ◌/◌, ◌<◌, ◌≤◌, Bool, true, false, cond, leb, ltb, eqb, ◌&&◌, ◌||◌, List, [], ◌∷◌, ◌++◌, length, refl, sym, ◌∙◌, ap, arith, subst, inl, inr, mul-le-mul_left}
 use Rattle.std.proofs.lemmas.Bool.{cases_lt}
 use Rattle.std.proofs.lemmas.List.{get_or_append_left, get_or_push, length_push}

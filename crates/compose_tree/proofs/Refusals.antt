@@ -1,4 +1,5 @@
--- What a first refusal says holds: the refused guest or core must miss, and on a flat system so does every choice of budgets.
+-- What a first refusal says holds: the refused guest or core must miss, and on a flat system so
+-- does every choice of budgets.
 use Rattle.std.proofs.Common.{◌≡◌, ◌⊎◌, ℕ, zero, suc, ◌<◌, ◌≤◌, true, List, length, Option, Some, None, refl, sym, arith, subst, inl, inr}
 use Rattle.std.proofs.lemmas.Bool.{cases_lt, cases_eq}
 use Rattle.slot_model.specs.declared.sched.Short.{Short}
@@ -23,7 +24,8 @@ use Rattle.compose_tree.specs.Truth.{LeafMustMiss, LeafIsOverfull, IsFlat, IsCho
 use Rattle.compose_tree.proofs.Heavier.{Heavier, FallsShort, heavier_push_if, heavier_falls, shortfall_falls}
 use Rattle.compose_tree.proofs.CoreFails.{core_fails}
 
--- a leaf falls short with its largest budget: with a given one it must miss, else with every one up to its period
+-- a leaf falls short with its largest budget: with a given one it must miss, else with every one
+-- up to its period
 leaf_overfull : (sys : SystemView) → IsSystem sys → (q : ℕ) → q < length sys.parts → (given : Option ℕ) → IsGivenBudget (part_at sys q).period given → (short : Short)
     → IsShortfall (part_at sys q).sched (own_tasks (part_at sys q)) (sbf (part_at sys q).period (largest_budget given (part_at sys q).period)) short → LeafIsOverfull sys q given
 leaf_overfull sys is q h (Some given) range short falls = short_misses (part_at sys q).sched (own_tasks (part_at sys q)) (leaf_constrained sys is q h) (periodic_laws (part_at sys q).period given (is.parts q h).period.0 range.1) short falls

@@ -1,4 +1,5 @@
--- Budgets that admit a system lose no job anywhere, and every smaller whole budget of a computed leaf must miss.
+-- Budgets that admit a system lose no job anywhere, and every smaller whole budget of a computed
+-- leaf must miss.
 use Rattle.std.proofs.Common.{◌≡◌, ℕ, ◌<◌, Option, Some, None, List, length, arith, subst}
 use Rattle.slot_model.specs.declared.sched.Sched.{Sched}
 use Rattle.slot_model.specs.Task.{SporadicTask, AreConstrained}
@@ -47,7 +48,8 @@ admitted_keeping sys is budgets a =
           (subst (λ (tasks : List SporadicTask). Passes (part_at sys q).sched tasks (sbf (part_at sys q).period (budget_at budgets q))) (leaf_tasks sys budgets q leaf) (a.parts q h).passes);
     }
 
--- what is admitted loses no job, at any node, in any permitted run of the tree, and such a run exists
+-- what is admitted loses no job, at any node, in any permitted run of the tree, and such a run
+-- exists
 pub admitted_no_loss : (sys : SystemView) → IsSystem sys → (budgets : List ℕ) → Admitted sys budgets → NoLoss sys budgets
 admitted_no_loss sys is budgets a = record {
   some_run = λ n supplies jobs inputs. tree_exists sys budgets n supplies jobs is;

@@ -1,4 +1,5 @@
--- Worked examples of what a plan and a refusal say. A wrong end of a range, or a part left out, breaks one of them.
+-- Worked examples of what a plan and a refusal say. A wrong end of a range, or a part left out,
+-- breaks one of them.
 use Rattle.std.proofs.Common.{◌≡◌, ℕ, zero, suc, ◌<◌, ◌≤◌, true, false, List, [], ◌∷◌, length, Option, Some, None, refl, arith}
 use Rattle.std.proofs.lemmas.Bool.{false≢true}
 use Rattle.slot_model.specs.Slots.{sum_below}
