@@ -4,7 +4,7 @@
 mod budgets;
 mod nodes;
 
-pub use budgets::compose;
+pub use budgets::{assign, compose};
 
 #[cfg(test)]
 mod tests;
