@@ -17,9 +17,9 @@ use Rattle.tree_model.specs.View.{SystemView}
 use Rattle.tree_model.specs.System.{IsSystem, IsGivenBudget, core_at, part_at, own_tasks, is_leaf}
 use Rattle.tree_model.specs.Tree.{is_child, budget_at, core_bound, child_tasks, server_tasks, node_tasks}
 use Rattle.tree_model.specs.Admission.{BudgetStands, largest_budget, FirstRefusal}
-use Rattle.tree_model.proofs.NodeTasks.{leaf_tasks}
+use Rattle.tree_model.proofs.NodeTasks.{leaf_tasks, child_tasks-zero, child_tasks-suc}
 use Rattle.tree_model.proofs.Parents.{servers_constrained, leaf_constrained}
-use Rattle.tree_model.proofs.InRange.{InPeriod, settled_in_period}
+use Rattle.tree_model.proofs.InRange.{InPeriod, assigned_in_period}
 use Rattle.compose_tree.specs.Truth.{LeafMustMiss, LeafIsOverfull, IsFlat, IsChosen, AreChosen, ChoiceFails, at_leaf, at_core, RefusalHolds}
 use Rattle.compose_tree.proofs.Heavier.{Heavier, FallsShort, heavier_push_if, heavier_falls, shortfall_falls}
 use Rattle.compose_tree.proofs.CoreFails.{core_fails}
@@ -33,8 +33,8 @@ leaf_overfull sys is q h None range short falls = λ b l. over_misses (part_at s
 
 refused_leaf : (sys : SystemView) → IsSystem sys → (q : ℕ) (short : Short) → FirstRefusal sys (Overfull (Part q) short) → is_leaf (part_at sys q).tasks ≡ true → LeafIsOverfull sys q (part_at sys q).budget
 refused_leaf sys is q short refused leaf =
-    leaf_overfull sys is q refused.is_part (part_at sys q).budget (is.parts q refused.is_part).budget short
-    (subst (λ (tasks : List SporadicTask). IsShortfall (part_at sys q).sched tasks (sbf (part_at sys q).period (largest_budget (part_at sys q).budget (part_at sys q).period)) short) (leaf_tasks sys refused.budgets q leaf) refused.cause.shortfall)
+    leaf_overfull sys is q refused.is_node (part_at sys q).budget (is.parts q refused.is_node).budget short
+    (subst (λ (tasks : List SporadicTask). IsShortfall (part_at sys q).sched tasks (sbf (part_at sys q).period (largest_budget (part_at sys q).budget (part_at sys q).period)) short) (leaf_tasks sys refused.budgets q leaf) refused.cause.1)
 
 -- the core's servers under the settled budgets
 core_falls : (sys : SystemView) (c : ℕ) (short : Short) (supply : Option (ℕ × ℕ)) → supply ≡ None → (tasks : List SporadicTask) → IsShortfall (core_at sys c).sched tasks (core_bound supply) short → FallsShort (core_at sys c).sched tasks (λ t. t) short
@@ -82,22 +82,24 @@ no_smaller sys settled budgets q None stands chosen passes = elim (cases_lt (bud
 
 -- so the servers of a node ask for no less
 heavier_children : (sys : SystemView) (less more : List ℕ) → ((q : ℕ) → q < length sys.parts → budget_at less q ≤ budget_at more q) → (node : Place) (n : ℕ) → n ≤ length sys.parts → Heavier (child_tasks sys less node n) (child_tasks sys more node n)
-heavier_children sys less more each node zero l = record { same_length = refl; each = λ i h. absurd (omega arith) }
+heavier_children sys less more each node zero l =
+    rw (child_tasks-zero sys less node, child_tasks-zero sys more node) (record { same_length = refl; each = λ i h. absurd (omega arith) })
 heavier_children sys less more each node (suc n) l =
-    heavier_push_if (child_tasks sys less node n) (child_tasks sys more node n) (is_child sys node n) (part_at sys n).period (part_at sys n).period (budget_at less n) (budget_at more n) (λ e. each n (omega arith)) (heavier_children sys less more each node n (omega arith))
+    rw (child_tasks-suc sys less node n, child_tasks-suc sys more node n)
+    (heavier_push_if (child_tasks sys less node n) (child_tasks sys more node n) (is_child sys node n) (part_at sys n).period (part_at sys n).period (budget_at less n) (budget_at more n) (λ e. each n (omega arith)) (heavier_children sys less more each node n (omega arith)))
 
 -- on a flat system a refused core must miss under every choice whose leaves pass
 core_choice_fails : (sys : SystemView) → IsSystem sys → (c : ℕ) (short : Short) → FirstRefusal sys (Overfull (Core c) short) → IsFlat sys → (budgets : List ℕ) → AreChosen sys budgets → ((q : ℕ) → q < length sys.parts → LeafPasses sys budgets q) → ChoiceFails sys budgets
 core_choice_fails sys is c short refused flat budgets chosen pass =
     let no_less : (q : ℕ) → q < length sys.parts → budget_at refused.budgets q ≤ budget_at budgets q =
-    λ q h. no_smaller sys refused.budgets budgets q (part_at sys q).budget (refused.settled.stands q (omega arith) h) (chosen.each q h)
+    λ q h. no_smaller sys refused.budgets budgets q (part_at sys q).budget (refused.settled.assigned.stands q (omega arith) h) (chosen.each q h)
     (subst (λ (tasks : List SporadicTask). Passes (part_at sys q).sched tasks (sbf (part_at sys q).period (budget_at budgets q))) (sym (leaf_tasks sys refused.budgets q (flat.parts q h))) (pass q h)) in
-    let full : (core_at sys c).supply ≡ None = flat.cores c refused.is_core in
+    let full : (core_at sys c).supply ≡ None = flat.cores c refused.is_node in
     let falls : FallsShort (core_at sys c).sched (server_tasks sys budgets (Core c)) (λ t. t) short =
     heavier_falls (core_at sys c).sched (server_tasks sys refused.budgets (Core c)) (server_tasks sys budgets (Core c)) (heavier_children sys refused.budgets budgets no_less (Core c) (length sys.parts) (omega arith)) (λ t. t) short
-    (core_falls sys c short (core_at sys c).supply full (server_tasks sys refused.budgets (Core c)) refused.cause.shortfall) in
-    at_core c (shows_by (server_tasks sys budgets (Core c)) short) (shows_by (server_tasks sys budgets (Core c)) short) refused.is_core
-    (core_fails sys is budgets c refused.is_core full (servers_constrained sys budgets (Core c) (λ q h child. chosen_in_period sys is budgets chosen q h)) short falls (shows_by (server_tasks sys budgets (Core c)) short) (omega arith))
+    (core_falls sys c short (core_at sys c).supply full (server_tasks sys refused.budgets (Core c)) refused.cause.1) in
+    at_core c (shows_by (server_tasks sys budgets (Core c)) short) (shows_by (server_tasks sys budgets (Core c)) short) refused.is_node
+    (core_fails sys is budgets c refused.is_node full (servers_constrained sys budgets (Core c) (λ q h child. chosen_in_period sys is budgets chosen q h)) short falls (shows_by (server_tasks sys budgets (Core c)) short) (omega arith))
 
 -- a refused leaf must miss under every choice
 leaf_choice_fails : (sys : SystemView) (budgets : List ℕ) (q : ℕ) → q < length sys.parts → (given : Option ℕ) → LeafIsOverfull sys q given → IsChosen (part_at sys q).period given (budget_at budgets q) → ChoiceFails sys budgets
@@ -108,15 +110,15 @@ leaf_choice_fails sys budgets q h None overfull chosen = at_leaf q h (overfull (
 pub refusal_holds : (sys : SystemView) → IsSystem sys → (r : Refusal) → FirstRefusal sys r → RefusalHolds sys r
 refusal_holds sys is (Overfull (Part q) short) refused = record {
   leaf = λ leaf. refused_leaf sys is q short refused leaf;
-  choices = λ flat budgets chosen. leaf_choice_fails sys budgets q refused.is_part (part_at sys q).budget (refused_leaf sys is q short refused (flat.parts q refused.is_part)) (chosen.each q refused.is_part);
+  choices = λ flat budgets chosen. leaf_choice_fails sys budgets q refused.is_node (part_at sys q).budget (refused_leaf sys is q short refused (flat.parts q refused.is_node)) (chosen.each q refused.is_node);
 }
 refusal_holds sys is (Overfull (Core c) short) refused = record {
   core = λ full. record {
     budgets = refused.budgets;
     settled = refused.settled;
     misses = λ n l.
-        core_fails sys is refused.budgets c refused.is_core full (servers_constrained sys refused.budgets (Core c) (λ q h child. settled_in_period sys is refused.budgets 0 refused.settled q (omega arith) h)) short
-        (core_falls sys c short (core_at sys c).supply full (server_tasks sys refused.budgets (Core c)) refused.cause.shortfall) n l;
+        core_fails sys is refused.budgets c refused.is_node full (servers_constrained sys refused.budgets (Core c) (λ q h child. assigned_in_period sys is refused.budgets 0 refused.settled.assigned q (omega arith) h)) short
+        (core_falls sys c short (core_at sys c).supply full (server_tasks sys refused.budgets (Core c)) refused.cause.1) n l;
   };
   choices = λ flat budgets chosen. elim (leaves_pass_or_fail sys is budgets chosen (length sys.parts) (omega arith)) [
     | inl pass ↦ core_choice_fails sys is c short refused flat budgets chosen pass

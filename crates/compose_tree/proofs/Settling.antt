@@ -1,8 +1,10 @@
 -- One step of a composition: a part settled after all later ones, a core tested after all parts.
-use Rattle.std.proofs.Common.{◌≡◌, ℕ, suc, ◌<◌, ◌≤◌, List, length, set, get_or, Option, None, sym, ◌∙◌, ap, arith, subst, inl, inr, length-set, get_or-set_other, get_or-set_same}
+use Rattle.std.proofs.Common.{◌≡◌, ℕ, suc, ◌<◌, ◌≤◌, List, length, set, take, drop, ◌++◌, get_or, Option, Some, None, IfSome, sym, ◌∙◌, ap, arith, subst, inl, inr, length-set, get_or-set_other, get_or-set_same}
+use Rattle.std.proofs.Math.Seq.{take-append_seam}
 use Rattle.std.proofs.lemmas.Bool.{cases_eq}
 use Rattle.std.proofs.lemmas.List.{get_or_default}
-use Rattle.slot_model.specs.Task.{SporadicTask}
+use Rattle.slot_model.specs.Task.{SporadicTask, sporadic_tasks}
+use Rattle.slot_model.specs.declared.task.Task.{Task}
 use Rattle.slot_model.specs.Bound.{sbf, IsSmall, TestPasses, TestFails}
 use Rattle.tree_model.specs.declared.place.Place.{Place}
 use Rattle.tree_model.specs.declared.place.Place.TheVariants.{Core, Part}
@@ -121,6 +123,10 @@ node_unassigned sys budgets node h computed assigned tasks same (Wide place) ref
     (record { is_node = h; computed = computed; budgets = budgets; assigned = assigned; cause = subst (λ (ts : List SporadicTask). IsSmall (node_sched sys node) ts (node_cycle sys node) → ⊥) same refuses.1 })
 node_unassigned sys budgets node h computed assigned tasks same NoMemory refuses = absurd refuses
 
+-- the tasks that are read for a node are its tasks
+pub tasks_read : (sys : SystemView) (budgets : List ℕ) (node : Place) (into : List Task) (answer : Option ℕ) (n : ℕ) → answer ≡ Some n → IfSome answer (λ k. sporadic_tasks (take k into) ≡ node_tasks sys budgets node) → sporadic_tasks (take n into) ≡ node_tasks sys budgets node
+tasks_read sys budgets node into answer n is read = subst (λ (o : Option ℕ). IfSome o (λ k. sporadic_tasks (take k into) ≡ node_tasks sys budgets node)) is read
+
 -- the core that a walk of the cores has come to
 pub core_here : (sys : SystemView) (cores : List CoreView) (c : ℕ) (core : CoreView) → cores ≡ sys.cores → c < length cores → core ≡ get_or cores c core → core ≡ core_at sys c
 core_here sys cores c core same h is = is ∙ (get_or_default cores c core no_core h ∙ ap (λ (cs : List CoreView). get_or cs c no_core) same)
@@ -131,3 +137,10 @@ not_refused sys is r refused budgets admitted = absurd (never_both sys is budget
 
 pub not_unassigned : (sys : SystemView) → IsSystem sys → (r : Refusal) → FirstUnassigned sys r → (budgets : List ℕ) → Assigned sys budgets → r ≡ NoMemory
 not_unassigned sys is r refused budgets assigned = absurd (never_assigned sys is budgets r assigned refused)
+
+-- budgets that are written back as a whole
+pub written_back : (n : ℕ) (written before : List ℕ) → length written ≡ n → take n (written ++ drop (length written) before) ≡ written
+written_back n written before e = subst (λ (k : ℕ). take k (written ++ drop (length written) before) ≡ written) e (take-append_seam written (drop (length written) before))
+
+pub assigned_back : (sys : SystemView) (n : ℕ) (written before : List ℕ) → length written ≡ n → Assigned sys written → Assigned sys (take n (written ++ drop (length written) before))
+assigned_back sys n written before e assigned = subst (λ (bs : List ℕ). Assigned sys bs) (sym (written_back n written before e)) assigned

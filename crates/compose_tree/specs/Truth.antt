@@ -13,7 +13,7 @@ use Rattle.tree_model.specs.declared.plan.Refusal.TheVariants.{Overfull, Wide, N
 use Rattle.tree_model.specs.View.{SystemView}
 use Rattle.tree_model.specs.System.{core_at, part_at, own_tasks, is_leaf}
 use Rattle.tree_model.specs.Tree.{budget_at, server_tasks, server_jobs, run_at, PermittedTree, TreeInputs}
-use Rattle.tree_model.specs.Admission.{SettledFrom}
+use Rattle.tree_model.specs.Admission.{SettledBefore}
 
 -- under this budget some supply that gives it and some legal release make a job of leaf q miss in every permitted run
 abbrev pub LeafMustMiss : SystemView → ℕ → ℕ → Type 0
@@ -45,7 +45,7 @@ pub record CoreMustMiss (sys : SystemView) (budgets : List ℕ) (c t n : ℕ) : 
 -- a full core is refused under the budgets that are settled before it: in every run that is long enough one of its jobs misses
 pub record CoreIsOverfull (sys : SystemView) (c : ℕ) (short : Short) : Type 0 where
   pub budgets : List ℕ
-  pub settled : SettledFrom sys budgets 0
+  pub settled : SettledBefore sys budgets (Core c)
   pub misses : (n : ℕ) → shows_by (server_tasks sys budgets (Core c)) short ≤ n → CoreMustMiss sys budgets c (shows_by (server_tasks sys budgets (Core c)) short) n
 
 -- every core is full and every part a leaf

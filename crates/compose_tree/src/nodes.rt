@@ -39,11 +39,11 @@ pub fn untested_budget(part: &Part, node: Place, tasks: &[Task]) -> Result<u64, 
     requires period { IsPeriod part.now.period }
     ensures budget { let T = sporadic_tasks tasks.now in
         IfOk result (λ b. IsGivenOrLeast part.now.sched T part.now.period part.now.budget b) }
-    ensures computed { IfErr result (λ _. part.now.budget ≡ None) }
     ensures refuses { let T = sporadic_tasks tasks.now in
         let period = part.now.period in
         let largest = largest_budget part.now.budget period in
-        IfErr result (λ r. NodeRefuses part.now.sched T (sbf period largest) period node r) }
+        IfErr result (λ r. (part.now.budget ≡ None)
+        × NodeRefuses part.now.sched T (sbf period largest) period node r) }
 {
     match part.budget() {
         Some(budget) => Ok(budget),
