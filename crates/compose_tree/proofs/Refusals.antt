@@ -14,7 +14,7 @@ use Rattle.tree_model.specs.declared.place.Place.TheVariants.{Core, Part}
 use Rattle.tree_model.specs.declared.plan.Refusal.{Refusal}
 use Rattle.tree_model.specs.declared.plan.Refusal.TheVariants.{Overfull, Wide, NoMemory}
 use Rattle.tree_model.specs.View.{SystemView}
-use Rattle.tree_model.specs.System.{IsSystem, IsGivenBudget, core_at, part_at, own_tasks, is_leaf}
+use Rattle.tree_model.specs.System.{IsSystem, IsGivenBudget, core_at, part_at, own_tasks_at, is_leaf_at}
 use Rattle.tree_model.specs.Tree.{is_child, budget_at, core_bound, child_tasks, server_tasks, node_tasks}
 use Rattle.tree_model.specs.Admission.{BudgetStands, largest_budget, FirstRefusal}
 use Rattle.tree_model.proofs.NodeTasks.{leaf_tasks, child_tasks-zero, child_tasks-suc}
@@ -27,11 +27,11 @@ use Rattle.compose_tree.proofs.CoreFails.{core_fails}
 -- a leaf falls short with its largest budget: with a given one it must miss, else with every one
 -- up to its period
 leaf_overfull : (sys : SystemView) → IsSystem sys → (q : ℕ) → q < length sys.parts → (given : Option ℕ) → IsGivenBudget (part_at sys q).period given → (short : Short)
-    → IsShortfall (part_at sys q).sched (own_tasks (part_at sys q)) (sbf (part_at sys q).period (largest_budget given (part_at sys q).period)) short → LeafIsOverfull sys q given
-leaf_overfull sys is q h (Some given) range short falls = short_misses (part_at sys q).sched (own_tasks (part_at sys q)) (leaf_constrained sys is q h) (periodic_laws (part_at sys q).period given (is.parts q h).period.0 range.1) short falls
-leaf_overfull sys is q h None range short falls = λ b l. over_misses (part_at sys q).sched (own_tasks (part_at sys q)) (leaf_constrained sys is q h) (part_at sys q).period b (is.parts q h).period.0 l short falls
+    → IsShortfall (part_at sys q).sched (own_tasks_at sys q) (sbf (part_at sys q).period (largest_budget given (part_at sys q).period)) short → LeafIsOverfull sys q given
+leaf_overfull sys is q h (Some given) range short falls = short_misses (part_at sys q).sched (own_tasks_at sys q) (leaf_constrained sys is q h) (periodic_laws (part_at sys q).period given (is.parts q h).period.0 range.1) short falls
+leaf_overfull sys is q h None range short falls = λ b l. over_misses (part_at sys q).sched (own_tasks_at sys q) (leaf_constrained sys is q h) (part_at sys q).period b (is.parts q h).period.0 l short falls
 
-refused_leaf : (sys : SystemView) → IsSystem sys → (q : ℕ) (short : Short) → FirstRefusal sys (Overfull (Part q) short) → is_leaf (part_at sys q).tasks ≡ true → LeafIsOverfull sys q (part_at sys q).budget
+refused_leaf : (sys : SystemView) → IsSystem sys → (q : ℕ) (short : Short) → FirstRefusal sys (Overfull (Part q) short) → is_leaf_at sys q ≡ true → LeafIsOverfull sys q (part_at sys q).budget
 refused_leaf sys is q short refused leaf =
     leaf_overfull sys is q refused.is_node (part_at sys q).budget (is.parts q refused.is_node).budget short
     (subst (λ (tasks : List SporadicTask). IsShortfall (part_at sys q).sched tasks (sbf (part_at sys q).period (largest_budget (part_at sys q).budget (part_at sys q).period)) short) (leaf_tasks sys refused.budgets q leaf) refused.cause.1)
@@ -51,14 +51,14 @@ chosen_in_period sys is budgets chosen q h = chosen_one (part_at sys q).period (
 
 -- on a flat system each of the first n leaves passes under its chosen budget, or one must miss
 abbrev LeafPasses : SystemView → List ℕ → ℕ → Type 0
-LeafPasses sys budgets q = Passes (part_at sys q).sched (own_tasks (part_at sys q)) (sbf (part_at sys q).period (budget_at budgets q))
+LeafPasses sys budgets q = Passes (part_at sys q).sched (own_tasks_at sys q) (sbf (part_at sys q).period (budget_at budgets q))
 
 leaf_passes_or_misses : (sys : SystemView) → IsSystem sys → (budgets : List ℕ) → AreChosen sys budgets → (q : ℕ) → q < length sys.parts → LeafPasses sys budgets q ⊎ LeafMustMiss sys q (budget_at budgets q)
 leaf_passes_or_misses sys is budgets chosen q h =
     let laws = periodic_laws (part_at sys q).period (budget_at budgets q) (is.parts q h).period.0 (chosen_in_period sys is budgets chosen q h).1 in
-    elim (passes_or_short (part_at sys q).sched (own_tasks (part_at sys q)) (leaf_constrained sys is q h) laws) [
+    elim (passes_or_short (part_at sys q).sched (own_tasks_at sys q) (leaf_constrained sys is q h) laws) [
       | inl passes ↦ inl passes
-      | inr r ↦ inr (short_misses (part_at sys q).sched (own_tasks (part_at sys q)) (leaf_constrained sys is q h) laws r.0 r.1)
+      | inr r ↦ inr (short_misses (part_at sys q).sched (own_tasks_at sys q) (leaf_constrained sys is q h) laws r.0 r.1)
     ]
 
 leaves_pass_or_fail : (sys : SystemView) → IsSystem sys → (budgets : List ℕ) → AreChosen sys budgets → (n : ℕ) → n ≤ length sys.parts → ((q : ℕ) → q < n → LeafPasses sys budgets q) ⊎ ChoiceFails sys budgets

@@ -37,7 +37,8 @@ passes_same sys b c q same tasks h =
     subst (λ (budget : ℕ). TestPasses (part_at sys q).sched (node_tasks sys c (Part q)) (sbf (part_at sys q).period budget) (part_at sys q).period) same
     (subst (λ (ts : List SporadicTask). TestPasses (part_at sys q).sched ts (sbf (part_at sys q).period (budget_at b q)) (part_at sys q).period) tasks h)
 
--- the budget that is written is that of its part, and those of later parts are kept, and so are the tasks
+-- the budget that is written is that of its part, and those of later parts are kept, and so are
+-- the tasks
 budget_kept : (budgets : List ℕ) (q budget r : ℕ) → q < r → budget_at budgets r ≡ budget_at (set budgets q budget) r
 budget_kept budgets q budget r l = sym (get_or-set_other budgets q r budget 0 (λ e. omega arith))
 

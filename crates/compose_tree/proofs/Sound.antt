@@ -12,7 +12,7 @@ use Rattle.least_budget.proofs.Level.{level_no_loss}
 use Rattle.least_budget.proofs.Budgets.{not_passing_misses}
 use Rattle.tree_model.specs.declared.place.Place.TheVariants.{Core, Part}
 use Rattle.tree_model.specs.View.{SystemView}
-use Rattle.tree_model.specs.System.{IsSystem, IsCoreSupply, core_at, part_at, own_tasks}
+use Rattle.tree_model.specs.System.{IsSystem, IsCoreSupply, core_at, part_at, own_tasks_at}
 use Rattle.tree_model.specs.Tree.{core_bound, CoreConforms, budget_at, server_tasks, node_tasks, NoLoss}
 use Rattle.tree_model.specs.Admission.{Admitted, BudgetStands}
 use Rattle.tree_model.proofs.NodeTasks.{leaf_tasks, inner_tasks}
@@ -39,7 +39,7 @@ admitted_keeping sys is budgets a =
           level_no_loss (part_at sys q).sched (server_tasks sys budgets (Part q)) (servers_constrained sys budgets (Part q) (λ r i child. range r i)) (periodic_laws (part_at sys q).period (budget_at budgets q) (is.parts q h).period.0 (range q h).1)
           (subst (λ (tasks : List SporadicTask). Passes (part_at sys q).sched tasks (sbf (part_at sys q).period (budget_at budgets q))) (inner_tasks sys budgets q inner) (a.passes (Part q) h).1);
       leaves = λ q h leaf.
-          level_no_loss (part_at sys q).sched (own_tasks (part_at sys q)) (leaf_constrained sys is q h) (periodic_laws (part_at sys q).period (budget_at budgets q) (is.parts q h).period.0 (range q h).1)
+          level_no_loss (part_at sys q).sched (own_tasks_at sys q) (leaf_constrained sys is q h) (periodic_laws (part_at sys q).period (budget_at budgets q) (is.parts q h).period.0 (range q h).1)
           (subst (λ (tasks : List SporadicTask). Passes (part_at sys q).sched tasks (sbf (part_at sys q).period (budget_at budgets q))) (leaf_tasks sys budgets q leaf) (a.passes (Part q) h).1);
     }
 
@@ -60,7 +60,7 @@ least_of sys budgets q None e stands = stands.1
 pub admitted_tight : (sys : SystemView) → IsSystem sys → (budgets : List ℕ) → Admitted sys budgets → IsTight sys budgets
 admitted_tight sys is budgets a = record {
   below = λ q h leaf none b less.
-      let least : IsLeastBudget (part_at sys q).sched (own_tasks (part_at sys q)) (part_at sys q).period (budget_at budgets q) =
+      let least : IsLeastBudget (part_at sys q).sched (own_tasks_at sys q) (part_at sys q).period (budget_at budgets q) =
       subst (λ (tasks : List SporadicTask). IsLeastBudget (part_at sys q).sched tasks (part_at sys q).period (budget_at budgets q)) (leaf_tasks sys budgets q leaf) (least_of sys budgets q (part_at sys q).budget none (a.assigned.stands q (omega arith) h)) in
-      not_passing_misses (part_at sys q).sched (own_tasks (part_at sys q)) (leaf_constrained sys is q h) (part_at sys q).period b (is.parts q h).period.0 (omega (arith, least.in_period)) (least.least b less);
+      not_passing_misses (part_at sys q).sched (own_tasks_at sys q) (leaf_constrained sys is q h) (part_at sys q).period b (is.parts q h).period.0 (omega (arith, least.in_period)) (least.least b less);
 }

@@ -18,7 +18,8 @@ NodeRefuses sched tasks bound cycle node (Wide place) =
     (place ≡ node) × (IsSmall sched tasks cycle → ⊥)
 NodeRefuses sched tasks bound cycle node NoMemory = ⊥
 
--- the budget of a part is the one that is given, or the least that passes, and the part passes under it
+-- the budget of a part is the one that is given, or the least that passes, and the part passes
+-- under it
 pub record IsPartBudget (sched : Sched) (tasks : List SporadicTask) (period : ℕ)
     (given : Option ℕ) (budget : ℕ) : Type 0 where
   pub is : IsGivenOrLeast sched tasks period given budget

@@ -1,17 +1,18 @@
 ghost use Rattle.std.specs.Prelude.{◌≡◌, ◌≢◌, ℕ, suc, ◌<◌, ◌≤◌, List, length, slice_set, IfOk, IfErr, MatchResult};
 ghost use Rattle.tree_model.specs.System.{IsSystem};
 ghost use Rattle.tree_model.specs.Tree.{NoLoss};
-ghost use Rattle.tree_model.specs.Admission.{NodePasses, AssignedFrom, Assigned, Admitted, FirstRefusal, FirstUnassigned};
+ghost use Rattle.tree_model.specs.Admission.{NodePasses, AssignedFrom, Assigned, Admitted, FirstRefusal};
 ghost use Rattle.compose_tree.specs.Steps.{PartsPassFrom, CoresPassTo};
 ghost use Rattle.compose_tree.specs.Truth.{IsTight, RefusalHolds};
 
-use crate::nodes::{part_budget, test_core_tasks, untested_budget};
+use crate::nodes::{part_budget, test_core_tasks};
 use slot_model::Task;
 use std::alloc::Global;
 use tree_model::{MAX_PARTS, Place, Plan, Refusal, System, tasks_of};
 
-/// The budgets of all parts, in slots: the given ones and the least ones that pass. Parts are visited
-/// from the last to the first, and then the cores in order; the first that does not pass refuses.
+/// The budgets of all parts, in slots: the given ones and the least ones that pass. Parts are
+/// visited from the last to the first, and then the cores in order; the first that does not pass
+/// refuses.
 pub fn compose(alloc: Global, sys: &System) -> Result<Plan, Refusal>
     ensures plan { IfOk result (λ plan. Admitted sys.now plan) }
     ensures refusal { IfErr result (λ r. r ≢ Refusal.NoMemory → FirstRefusal sys.now r) }
@@ -29,26 +30,8 @@ pub fn compose(alloc: Global, sys: &System) -> Result<Plan, Refusal>
     Ok(Plan { budgets })
 }
 
-/// The budgets of all parts, in slots: the given ones, untested, and the least ones that pass. Parts
-/// are visited as `compose` does, and no core is tested; the first part that has no given budget and
-/// no budget that passes refuses.
-pub fn assign(alloc: Global, sys: &System) -> Result<Plan, Refusal>
-    ensures plan { IfOk result (λ plan. Assigned sys.now plan) }
-    ensures refusal { IfErr result (λ r. r ≢ Refusal.NoMemory → FirstUnassigned sys.now r) }
-    // where budgets are assigned to the system, they are the plan
-    ensures complete { (budgets : List ℕ) → Assigned sys.now budgets →
-        MatchResult result (λ plan. plan ≡ budgets) (λ r. r ≡ Refusal.NoMemory) }
-    // so a plan of `compose`
-    ensures as_composed { (budgets : List ℕ) → Admitted sys.now budgets →
-        MatchResult result (λ plan. plan ≡ budgets) (λ r. r ≡ Refusal.NoMemory) }
-{
-    let (mut budgets, mut room) = rooms(alloc, sys)?;
-    assign_parts(sys, &mut budgets, &mut room)?;
-    Ok(Plan { budgets })
-}
-
 /// Room for one budget a part, and for the tasks of one node.
-fn rooms(alloc: Global, sys: &System) -> Result<(Vec<u64>, Vec<Task>), Refusal>
+pub fn rooms(alloc: Global, sys: &System) -> Result<(Vec<u64>, Vec<Task>), Refusal>
     ensures one_each { IfOk result (λ rooms. length rooms.0.items ≡ length sys.now.parts) }
     ensures room { IfOk result (λ rooms. 512 ≤ length rooms.1.items) }
     ensures system { IsSystem sys.now }
@@ -69,7 +52,8 @@ fn rooms(alloc: Global, sys: &System) -> Result<(Vec<u64>, Vec<Task>), Refusal>
     Ok((budgets, room))
 }
 
-/// Writes the budgets of all parts, from the last to the first. `room` is for the tasks of one node.
+/// Writes the budgets of all parts, from the last to the first. `room` is for the tasks of one
+/// node.
 fn settle_parts(sys: &System, budgets: &mut [u64], room: &mut [Task]) -> Result<(), Refusal>
     requires one_each { length budgets.old ≡ length sys.now.parts }
     requires room { 512 ≤ length room.old }
@@ -97,33 +81,6 @@ fn settle_part(sys: &System, budgets: &[u64], q: u32, room: &mut [Task]) -> Resu
     let node = Place::Part(q);
     let count = tasks_of(sys, budgets, node, room).unwrap();
     part_budget(part, node, &room[..count])
-}
-
-/// Writes the budgets of all parts, from the last to the first, and tests none that is given.
-fn assign_parts(sys: &System, budgets: &mut [u64], room: &mut [Task]) -> Result<(), Refusal>
-    requires one_each { length budgets.old ≡ length sys.now.parts }
-    requires room { 512 ≤ length room.old }
-    ensures assigned { IfOk result (λ _. Assigned sys.now budgets.new) }
-    ensures refusal { IfErr result (λ r. FirstUnassigned sys.now r) }
-{
-    for q in (0..sys.parts().len() as u32).rev() {
-        budgets[q as usize] = assign_part(sys, budgets, q, room)?;
-    }
-    Ok(())
-}
-
-/// The budget of part `q`, after those of all later parts, untested where it is given.
-fn assign_part(sys: &System, budgets: &[u64], q: u32, room: &mut [Task]) -> Result<u64, Refusal>
-    requires is_part { q < length sys.now.parts }
-    requires assigned { AssignedFrom sys.now budgets.now (suc q) }
-    requires room { 512 ≤ length room.old }
-    ensures assigned { IfOk result (λ b. AssignedFrom sys.now (slice_set budgets.now q b) q) }
-    ensures refusal { IfErr result (λ r. FirstUnassigned sys.now r) }
-{
-    let part = &sys.parts()[q as usize];
-    let node = Place::Part(q);
-    let count = tasks_of(sys, budgets, node, room).unwrap();
-    untested_budget(part, node, &room[..count])
 }
 
 /// Tests the cores in order, after all parts.

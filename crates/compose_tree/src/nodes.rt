@@ -37,6 +37,7 @@ pub fn part_budget(part: &Part, node: Place, tasks: &[Task]) -> Result<u64, Refu
 pub fn untested_budget(part: &Part, node: Place, tasks: &[Task]) -> Result<u64, Refusal>
     requires few { length tasks.now < 2 ^ 32 }
     requires period { IsPeriod part.now.period }
+    requires given { IsGivenBudget part.now.period part.now.budget }
     ensures budget { let T = sporadic_tasks tasks.now in
         IfOk result (λ b. IsGivenOrLeast part.now.sched T part.now.period part.now.budget b) }
     ensures refuses { let T = sporadic_tasks tasks.now in
@@ -52,15 +53,11 @@ pub fn untested_budget(part: &Part, node: Place, tasks: &[Task]) -> Result<u64, 
 }
 
 /// The least budget of these tasks that passes.
-fn computed_budget(
-    sched: Sched,
-    node: Place,
-    tasks: &[Task],
-    period: u64,
-) -> Result<u64, Refusal>
+fn computed_budget(sched: Sched, node: Place, tasks: &[Task], period: u64) -> Result<u64, Refusal>
     requires few { length tasks.now < 2 ^ 32 }
     requires period { IsPeriod period }
-    ensures budget { IfOk result (λ b. IsPartBudget sched (sporadic_tasks tasks.now) period None b) }
+    ensures budget { let T = sporadic_tasks tasks.now in
+        IfOk result (λ b. IsPartBudget sched T period None b) }
     ensures refuses { let T = sporadic_tasks tasks.now in
         IfErr result (λ r. NodeRefuses sched T (sbf period period) period node r) }
 {

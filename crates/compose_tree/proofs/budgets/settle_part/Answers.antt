@@ -1,4 +1,4 @@
-use Rattle.std.proofs.Common.{◌≡◌, ℕ, List, None, length, take, ap, arith, subst, ◌∙◌, sym}
+use Rattle.std.proofs.Common.{◌≡◌, List, length, take, ap, arith, subst}
 use Rattle.std.proofs.lemmas.Result.{IfOk-weaker, IfErr-weaker}
 use Rattle.slot_model.specs.Task.{SporadicTask, sporadic_tasks}
 use Rattle.slot_model.specs.Bound.{sbf}
@@ -6,7 +6,7 @@ use Rattle.tree_model.specs.declared.place.Place.TheVariants.{Part}
 use Rattle.tree_model.specs.View.{PartView}
 use Rattle.tree_model.specs.System.{part_at}
 use Rattle.tree_model.specs.Tree.{node_tasks}
-use Rattle.tree_model.specs.Admission.{IsGivenOrLeast, largest_budget}
+use Rattle.tree_model.specs.Admission.{largest_budget}
 use Rattle.tree_model.proofs.NodeTasks.{part_here}
 use Rattle.tree_model.proofs.InRange.{children_fit}
 use Rattle.compose_tree.specs.Steps.{NodeRefuses, IsPartBudget}

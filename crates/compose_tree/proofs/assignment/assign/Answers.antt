@@ -2,7 +2,7 @@ use Rattle.std.proofs.Common.{◌∙◌}
 use Rattle.std.proofs.lemmas.Result.{err_from_is_err_and}
 use Rattle.tree_model.proofs.Unique.{one_assignment}
 use Rattle.compose_tree.proofs.Settling.{assigned_back, not_unassigned}
-use Rattle.compose_tree.proofs.budgets.assign.Goals as goal
+use Rattle.compose_tree.proofs.assignment.assign.Goals as goal
 
 pub returns-clause-plan : goal.returns-clause-plan
 returns-clause-plan c = assigned_back c.args.sys.now c.in_ok-budgets.budgets.len c.assign_parts.new.budgets c.in_ok-budgets.budgets.items (c.assign_parts.auto.budgets ∙ c.deref_mut.ensures.len) c.in_ok-assign_parts.ensures.assigned

@@ -1,4 +1,4 @@
-use Rattle.std.proofs.Common.{◌≡◌, ℕ, List, None, length, take, ap, arith, subst, ◌∙◌, sym}
+use Rattle.std.proofs.Common.{◌≡◌, List, length, take, ap, arith, subst, ◌∙◌, sym}
 use Rattle.std.proofs.lemmas.Result.{IfOk-weaker, IfErr-weaker}
 use Rattle.slot_model.specs.Task.{SporadicTask, sporadic_tasks}
 use Rattle.slot_model.specs.Bound.{sbf}
@@ -9,9 +9,9 @@ use Rattle.tree_model.specs.Tree.{node_tasks}
 use Rattle.tree_model.specs.Admission.{IsGivenOrLeast, largest_budget}
 use Rattle.tree_model.proofs.NodeTasks.{part_here}
 use Rattle.tree_model.proofs.InRange.{children_fit}
-use Rattle.compose_tree.specs.Steps.{NodeRefuses, IsPartBudget}
+use Rattle.compose_tree.specs.Steps.{NodeRefuses}
 use Rattle.compose_tree.proofs.Settling.{tasks_read, assign_one, node_unassigned}
-use Rattle.compose_tree.proofs.budgets.assign_part.Goals as goal
+use Rattle.compose_tree.proofs.assignment.assign_part.Goals as goal
 
 pub tasks_of-requires-clause-in_period : goal.tasks_of-requires-clause-in_period
 tasks_of-requires-clause-in_period c = children_fit c.args.sys.now c.parts.ensures.system c.args.budgets.now (Part c.args.q) c.requires.assigned
