@@ -1,9 +1,10 @@
--- Where the servers of a full core fall short, every permitted run of the tree that is long enough has an early miss there.
+-- Where the servers of a full core fall short, every permitted run of the tree that is long
+-- enough has an early miss there.
 use Rattle.std.proofs.Common.{◌≡◌, ℕ, ◌-◌, ◌%◌, ◌<◌, ◌≤◌, Bool, true, false, List, [], length, get_or, Option, Some, None, sym, ◌∙◌, ap, arith, subst, zero-add, lt-ltb, le-leb, inl, inr}
 use Rattle.std.proofs.lemmas.Bool.{cases_lt, or_left, or_right, and_from}
 use Rattle.slot_model.specs.declared.job.Job.{Job}
 use Rattle.slot_model.specs.declared.sched.Sched.{Sched}
-use Rattle.slot_model.specs.declared.sched.Sched.TheVariants.{Edf, Rm, Dm, Listed}
+use Rattle.slot_model.specs.declared.sched.Sched.TheVariants.{Edf}
 use Rattle.slot_model.specs.declared.sched.Short.{Short}
 use Rattle.slot_model.specs.declared.sched.Short.TheVariants.{At, Task}
 use Rattle.slot_model.specs.Slots.{slots_between}
@@ -18,7 +19,7 @@ use Rattle.fp_request.specs.Ranks.{ranks_is_rank}
 use Rattle.least_budget.proofs.Budgets.{gives_less}
 use Rattle.tree_model.specs.declared.place.Place.TheVariants.{Core}
 use Rattle.tree_model.specs.View.{SystemView}
-use Rattle.tree_model.specs.System.{IsSystem, IsCoreSupply, core_at, part_at, own_tasks}
+use Rattle.tree_model.specs.System.{IsSystem, IsCoreSupply, core_at, own_tasks_at}
 use Rattle.tree_model.specs.Tree.{CoreConforms, server_tasks, run_at, TreeInputs}
 use Rattle.slot_model.specs.Bound.{shows_by}
 use Rattle.compose_tree.specs.Truth.{MissesBy, CoreMustMiss}
@@ -64,7 +65,7 @@ some_inputs sys is n =
         long = λ c h. ap (λ (s : List Bool). length s) (given c h) ∙ listed_long (λ x. true) n;
         conforms = λ c h. subst (CoreConforms (core_at sys c).supply) (sym (given c h)) (given_conforms (core_at sys c).supply (is.supplies c h) n);
         jobs_each_part = listed_long (λ r. []) (length sys.parts);
-        releases = λ q h leaf. subst (LegalRelease (own_tasks (part_at sys q))) (sym (none q h)) (no_jobs (own_tasks (part_at sys q)));
+        releases = λ q h leaf. subst (LegalRelease (own_tasks_at sys q)) (sym (none q h)) (no_jobs (own_tasks_at sys q));
         none_inner = λ q h inner. none q h;
       },
     )
@@ -84,12 +85,8 @@ servers_fail : (sched : Sched) (tasks : List SporadicTask) → AreConstrained ta
     → PermittedRun server (before_of sched tasks) tasks (synchronous tasks 0 n) slots run → MissesBy tasks (synchronous tasks 0 n) run (shows_by tasks short)
 servers_fail Edf tasks fits (At t) n short l slots run long full permitted = core_edf (before_of Edf tasks) tasks fits t n slots run l long permitted (omega (arith, count_full slots t full (omega arith), short))
 servers_fail Edf tasks fits (Task i) n short l slots run long full permitted = absurd short
-servers_fail Rm tasks fits (At t) n short l slots run long full permitted = absurd short
-servers_fail Rm tasks fits (Task i) n short l slots run long full permitted = fixed_fails Rm tasks fits i n short l slots run long full permitted
-servers_fail Dm tasks fits (At t) n short l slots run long full permitted = absurd short
-servers_fail Dm tasks fits (Task i) n short l slots run long full permitted = fixed_fails Dm tasks fits i n short l slots run long full permitted
-servers_fail Listed tasks fits (At t) n short l slots run long full permitted = absurd short
-servers_fail Listed tasks fits (Task i) n short l slots run long full permitted = fixed_fails Listed tasks fits i n short l slots run long full permitted
+servers_fail rule tasks fits (At t) n short l slots run long full permitted = absurd short
+servers_fail rule tasks fits (Task i) n short l slots run long full permitted = fixed_fails rule tasks fits i n short l slots run long full permitted
 
 full_conforms : (supply : Option (ℕ × ℕ)) (slots : List Bool) → supply ≡ None → CoreConforms supply slots → IsFull slots
 full_conforms None slots e h = h

@@ -1,5 +1,6 @@
--- Where the server tasks of a core fall short of its slots, one of its jobs misses early in every permitted run.
-use Rattle.std.proofs.Common.{◌≡◌, ◌⊎◌, ℕ, suc, ◌+◌, ◌%◌, ◌<◌, ◌≤◌, Bool, List, length, get_or, Option, None, refl, sym, ◌∙◌, ap, arith, subst, inl, inr, zero-add}
+-- Where the server tasks of a core fall short of its slots, one of its jobs misses early in every
+-- permitted run.
+use Rattle.std.proofs.Common.{◌≡◌, ◌⊎◌, ℕ, suc, ◌+◌, ◌<◌, ◌≤◌, Bool, List, length, get_or, Option, None, refl, sym, ◌∙◌, ap, arith, subst, inl, inr, zero-add}
 use Rattle.std.proofs.lemmas.Bool.{cases_lt}
 use Rattle.slot_model.specs.Task.{SporadicTask, AreConstrained, room_of, job_at, task_at, deadline_of}
 use Rattle.slot_model.specs.declared.job.Job.{Job}

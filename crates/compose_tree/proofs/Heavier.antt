@@ -1,13 +1,14 @@
--- Tasks of the same periods, deadlines and jitter with no less work: what falls short for the lighter ones does so for them.
+-- Tasks of the same periods, deadlines and jitter with no less work: what falls short for the
+-- lighter ones does so for them.
 use Rattle.std.proofs.Common.{◌≡◌, ℕ, ◌+◌, ◌-◌, ◌/◌, ◌<◌, ◌≤◌, Bool, true, false, cond, leb, ltb, eqb, ◌&&◌, ◌||◌, List, [], ◌∷◌, ◌++◌, length, refl, sym, ◌∙◌, ap, arith, subst, inl, inr, mul-le-mul_left}
 use Rattle.std.proofs.lemmas.Bool.{cases_lt}
 use Rattle.std.proofs.lemmas.List.{get_or_append_left, get_or_push, length_push}
 use Rattle.slot_model.specs.declared.sched.Sched.{Sched}
-use Rattle.slot_model.specs.declared.sched.Sched.TheVariants.{Edf, Rm, Dm, Listed}
+use Rattle.slot_model.specs.declared.sched.Sched.TheVariants.{Edf, Rm, Dm}
 use Rattle.slot_model.specs.declared.sched.Short.{Short}
 use Rattle.slot_model.specs.declared.sched.Short.TheVariants.{At, Task}
 use Rattle.slot_model.specs.Slots.{sum_below}
-use Rattle.slot_model.specs.Task.{SporadicTask, plain_task, default_task, room_of, task_at}
+use Rattle.slot_model.specs.Task.{SporadicTask, plain_task, default_task, room_of, task_at, jittery_task}
 use Rattle.slot_model.specs.Order.{ranks_by, ranks_above}
 use Rattle.slot_model.specs.Release.{push_if}
 use Rattle.slot_model.specs.Bound.{demand_of, dbf, request_of, rbf, IsShortTask, IsShortfall}
@@ -16,7 +17,7 @@ use Rattle.slot_model.proofs.Windows.{sum_by-places}
 
 -- the task at a place with other work
 abbrev pub with_work : List SporadicTask → ℕ → ℕ → SporadicTask
-with_work tasks i work = record { period = (task_at tasks i).period; deadline = (task_at tasks i).deadline; work = work; jitter = (task_at tasks i).jitter }
+with_work tasks i work = jittery_task (task_at tasks i).period (task_at tasks i).deadline work (task_at tasks i).jitter
 
 pub record Heavier (light heavy : List SporadicTask) : Type 0 where
   pub same_length : length light ≡ length heavy
@@ -41,7 +42,7 @@ heavier_push light heavy true period deadline less more l h =
         | inr new ↦
             let e : task_at (light ++ a ∷ []) i ≡ a = get_or_push light a default_task i (omega (arith, length_push light a)) in (
               more,
-              get_or_push heavy b default_task i (omega (arith, h.same_length, length_push light a)) ∙ ap (λ (t : SporadicTask). record { period = t.period; deadline = t.deadline; work = more; jitter = t.jitter }) (sym e),
+              get_or_push heavy b default_task i (omega (arith, h.same_length, length_push light a)) ∙ ap (λ (t : SporadicTask). jittery_task t.period t.deadline more t.jitter) (sym e),
               omega (arith, ap (λ (t : SporadicTask). t.work) e),
             )
       ];
@@ -56,10 +57,10 @@ cond_more : (b : Bool) (x y : ℕ) → x ≤ y → cond b x 0 ≤ cond b y 0
 cond_more true x y l = l
 cond_more false x y l = omega arith
 
-demand_more : (task : SporadicTask) (work t : ℕ) → task.work ≤ work → demand_of task t ≤ demand_of (record { period = task.period; deadline = task.deadline; work = work; jitter = task.jitter }) t
+demand_more : (task : SporadicTask) (work t : ℕ) → task.work ≤ work → demand_of task t ≤ demand_of (jittery_task task.period task.deadline work task.jitter) t
 demand_more task work t l = cond_more (leb task.deadline (t + task.jitter)) _ _ (mul-le-mul_left ((t + task.jitter - task.deadline) / task.period + 1) l)
 
-request_more : (task : SporadicTask) (work t : ℕ) → task.work ≤ work → request_of task t ≤ request_of (record { period = task.period; deadline = task.deadline; work = work; jitter = task.jitter }) t
+request_more : (task : SporadicTask) (work t : ℕ) → task.work ≤ work → request_of task t ≤ request_of (jittery_task task.period task.deadline work task.jitter) t
 request_more task work t l = mul-le-mul_left ((t + task.jitter + (task.period - 1)) / task.period) l
 
 pub dbf_more : (light heavy : List SporadicTask) → Heavier light heavy → (t : ℕ) → dbf light t ≤ dbf heavy t
@@ -73,12 +74,11 @@ same_keys : (f g : ℕ → ℕ) (i j : ℕ) → f i ≡ g i → f j ≡ g j → 
 same_keys f g i j a b = ap (λ (x : ℕ). ltb x (f j) || (eqb x (f j) && ltb i j)) a ∙ ap (λ (y : ℕ). ltb (g i) y || (eqb (g i) y && ltb i j)) b
 
 same_ranks : (sched : Sched) (light heavy : List SporadicTask) → Heavier light heavy → (i j : ℕ) → i < length light → j < length light → ranks_above sched light i j ≡ ranks_above sched heavy i j
-same_ranks Edf light heavy h i j l m = refl
 same_ranks Rm light heavy h i j l m =
     same_keys (λ k. (task_at light k).period) (λ k. (task_at heavy k).period) i j (ap (λ (t : SporadicTask). t.period) (sym (h.each i l).1)) (ap (λ (t : SporadicTask). t.period) (sym (h.each j m).1))
 same_ranks Dm light heavy h i j l m =
     same_keys (λ k. (task_at light k).deadline) (λ k. (task_at heavy k).deadline) i j (ap (λ (t : SporadicTask). t.deadline) (sym (h.each i l).1)) (ap (λ (t : SporadicTask). t.deadline) (sym (h.each j m).1))
-same_ranks Listed light heavy h i j l m = refl
+same_ranks other light heavy h i j l m = refl
 
 pub rbf_more : (sched : Sched) (light heavy : List SporadicTask) → Heavier light heavy → (i t : ℕ) → i < length light → rbf (ranks_above sched light) light i t ≤ rbf (ranks_above sched heavy) heavy i t
 rbf_more sched light heavy h i t l =
@@ -95,22 +95,14 @@ pub record IsShortPlace (above : ℕ → ℕ → Bool) (tasks : List SporadicTas
 abbrev pub FallsShort : Sched → List SporadicTask → (ℕ → ℕ) → Short → Type 0
 FallsShort Edf tasks bound (At t) = bound t < dbf tasks t
 FallsShort Edf tasks bound (Task i) = ⊥
-FallsShort Rm tasks bound (At t) = ⊥
-FallsShort Rm tasks bound (Task i) = IsShortPlace (ranks_above Rm tasks) tasks bound i
-FallsShort Dm tasks bound (At t) = ⊥
-FallsShort Dm tasks bound (Task i) = IsShortPlace (ranks_above Dm tasks) tasks bound i
-FallsShort Listed tasks bound (At t) = ⊥
-FallsShort Listed tasks bound (Task i) = IsShortPlace (ranks_above Listed tasks) tasks bound i
+FallsShort rule tasks bound (At t) = ⊥
+FallsShort rule tasks bound (Task i) = IsShortPlace (ranks_above rule tasks) tasks bound i
 
 pub shortfall_falls : (sched : Sched) (tasks : List SporadicTask) (bound : ℕ → ℕ) (short : Short) → IsShortfall sched tasks bound short → FallsShort sched tasks bound short
 shortfall_falls Edf tasks bound (At t) h = h.short
 shortfall_falls Edf tasks bound (Task i) h = h
-shortfall_falls Rm tasks bound (At t) h = h
-shortfall_falls Rm tasks bound (Task i) h = record { is_task = h.is_task; short = h.short }
-shortfall_falls Dm tasks bound (At t) h = h
-shortfall_falls Dm tasks bound (Task i) h = record { is_task = h.is_task; short = h.short }
-shortfall_falls Listed tasks bound (At t) h = h
-shortfall_falls Listed tasks bound (Task i) h = record { is_task = h.is_task; short = h.short }
+shortfall_falls rule tasks bound (At t) h = h
+shortfall_falls rule tasks bound (Task i) h = record { is_task = h.is_task; short = h.short }
 
 heavier_place : (sched : Sched) (light heavy : List SporadicTask) → Heavier light heavy → (bound : ℕ → ℕ) (i : ℕ) → IsShortPlace (ranks_above sched light) light bound i → IsShortPlace (ranks_above sched heavy) heavy bound i
 heavier_place sched light heavy h bound i s = record {
@@ -122,9 +114,5 @@ heavier_place sched light heavy h bound i s = record {
 pub heavier_falls : (sched : Sched) (light heavy : List SporadicTask) → Heavier light heavy → (bound : ℕ → ℕ) (short : Short) → FallsShort sched light bound short → FallsShort sched heavy bound short
 heavier_falls Edf light heavy h bound (At t) s = omega (arith, s, dbf_more light heavy h t)
 heavier_falls Edf light heavy h bound (Task i) s = s
-heavier_falls Rm light heavy h bound (At t) s = s
-heavier_falls Rm light heavy h bound (Task i) s = heavier_place Rm light heavy h bound i s
-heavier_falls Dm light heavy h bound (At t) s = s
-heavier_falls Dm light heavy h bound (Task i) s = heavier_place Dm light heavy h bound i s
-heavier_falls Listed light heavy h bound (At t) s = s
-heavier_falls Listed light heavy h bound (Task i) s = heavier_place Listed light heavy h bound i s
+heavier_falls rule light heavy h bound (At t) s = s
+heavier_falls rule light heavy h bound (Task i) s = heavier_place rule light heavy h bound i s

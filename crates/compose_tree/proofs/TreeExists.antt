@@ -10,7 +10,7 @@ use Rattle.tree_model.specs.declared.place.Parent.{Parent}
 use Rattle.tree_model.specs.declared.place.Parent.TheVariants.{Core as on_core, Part as on_part}
 use Rattle.tree_model.specs.declared.place.Place.TheVariants.{Core, Part}
 use Rattle.tree_model.specs.View.{SystemView}
-use Rattle.tree_model.specs.System.{IsSystem, Stands, core_at, part_at, own_tasks, is_leaf}
+use Rattle.tree_model.specs.System.{IsSystem, Stands, core_at, part_at, own_tasks_at, is_leaf_at}
 use Rattle.tree_model.specs.Tree.{place_of, server_tasks, server_jobs, run_at, run_of, supply_of, rank_among, PermittedTree}
 use Rattle.compose_tree.proofs.Strict.{order_strict}
 
@@ -35,8 +35,8 @@ listed_at f d (suc n) i l = elim (cases_eq i n) [
 -- the runs of the first m parts
 record RunsTo (sys : SystemView) (budgets : List ℕ) (n : ℕ) (jobs : List (List Job)) (core_runs : List (List (Option ℕ))) (m : ℕ) (part_runs : List (List (Option ℕ))) : Type 0 where
   long : length part_runs ≡ m
-  inner : (q : ℕ) → q < m → is_leaf (part_at sys q).tasks ≡ false → PermittedRun server (before_of (part_at sys q).sched (server_tasks sys budgets (Part q))) (server_tasks sys budgets (Part q)) (server_jobs sys budgets (Part q) n) (supply_of sys budgets n core_runs part_runs q) (run_at part_runs q)
-  leaf : (q : ℕ) → q < m → is_leaf (part_at sys q).tasks ≡ true → PermittedRun guest (before_of (part_at sys q).sched (own_tasks (part_at sys q))) (own_tasks (part_at sys q)) (get_or jobs q []) (supply_of sys budgets n core_runs part_runs q) (run_at part_runs q)
+  inner : (q : ℕ) → q < m → is_leaf_at sys q ≡ false → PermittedRun server (before_of (part_at sys q).sched (server_tasks sys budgets (Part q))) (server_tasks sys budgets (Part q)) (server_jobs sys budgets (Part q) n) (supply_of sys budgets n core_runs part_runs q) (run_at part_runs q)
+  leaf : (q : ℕ) → q < m → is_leaf_at sys q ≡ true → PermittedRun guest (before_of (part_at sys q).sched (own_tasks_at sys q)) (own_tasks_at sys q) (get_or jobs q []) (supply_of sys budgets n core_runs part_runs q) (run_at part_runs q)
 
 -- one more run changes no earlier one
 run_same : (core_runs part_runs : List (List (Option ℕ))) (x : List (Option ℕ)) (sys : SystemView) (q : ℕ) (parent : Parent) → Stands sys q parent → q ≤ length part_runs → run_of core_runs (part_runs ++ x ∷ []) (place_of parent) ≡ run_of core_runs part_runs (place_of parent)
@@ -53,11 +53,11 @@ before_end : (Q : List Bool → List (Option ℕ) → Type 0) (sys : SystemView)
 before_end Q sys budgets n core_runs part_runs x fits q l e h = subst (λ v. Q v (run_at (part_runs ++ x ∷ []) q)) (sym (supply_same sys budgets n core_runs part_runs x fits q l (omega arith))) (subst (λ v. Q (supply_of sys budgets n core_runs part_runs q) v) (sym (get_or_append_left part_runs (x ∷ []) [] q e)) h)
 
 -- a run of part m over its slots
-new_run : (sys : SystemView) (budgets : List ℕ) (n : ℕ) (jobs : List (List Job)) (slots : List Bool) (m : ℕ) → (v : Bool) → is_leaf (part_at sys m).tasks ≡ v
-    → (x : List (Option ℕ)) × (is_leaf (part_at sys m).tasks ≡ false → PermittedRun server (before_of (part_at sys m).sched (server_tasks sys budgets (Part m))) (server_tasks sys budgets (Part m)) (server_jobs sys budgets (Part m) n) slots x)
-    × (is_leaf (part_at sys m).tasks ≡ true → PermittedRun guest (before_of (part_at sys m).sched (own_tasks (part_at sys m))) (own_tasks (part_at sys m)) (get_or jobs m []) slots x)
+new_run : (sys : SystemView) (budgets : List ℕ) (n : ℕ) (jobs : List (List Job)) (slots : List Bool) (m : ℕ) → (v : Bool) → is_leaf_at sys m ≡ v
+    → (x : List (Option ℕ)) × (is_leaf_at sys m ≡ false → PermittedRun server (before_of (part_at sys m).sched (server_tasks sys budgets (Part m))) (server_tasks sys budgets (Part m)) (server_jobs sys budgets (Part m) n) slots x)
+    × (is_leaf_at sys m ≡ true → PermittedRun guest (before_of (part_at sys m).sched (own_tasks_at sys m)) (own_tasks_at sys m) (get_or jobs m []) slots x)
 new_run sys budgets n jobs slots m true e =
-    let r = run_exists guest (before_of (part_at sys m).sched (own_tasks (part_at sys m))) (order_strict (part_at sys m).sched (own_tasks (part_at sys m))) (own_tasks (part_at sys m)) (get_or jobs m []) slots in
+    let r = run_exists guest (before_of (part_at sys m).sched (own_tasks_at sys m)) (order_strict (part_at sys m).sched (own_tasks_at sys m)) (own_tasks_at sys m) (get_or jobs m []) slots in
     (r.0, (λ f. absurd (true≢false (sym e ∙ f))), λ t. r.1)
 new_run sys budgets n jobs slots m false e =
     let r = run_exists server (before_of (part_at sys m).sched (server_tasks sys budgets (Part m))) (order_strict (part_at sys m).sched (server_tasks sys budgets (Part m))) (server_tasks sys budgets (Part m)) (server_jobs sys budgets (Part m) n) slots in
@@ -68,19 +68,19 @@ runs_to sys budgets n jobs core_runs fits zero l = ([], record { long = refl; in
 runs_to sys budgets n jobs core_runs fits (suc m) l =
     let r : (part_runs : List (List (Option ℕ))) × RunsTo sys budgets n jobs core_runs m part_runs = runs_to sys budgets n jobs core_runs fits m (omega arith) in
     let part_runs : List (List (Option ℕ)) = r.0 in
-    let x = new_run sys budgets n jobs (supply_of sys budgets n core_runs part_runs m) m (is_leaf (part_at sys m).tasks) refl in (
+    let x = new_run sys budgets n jobs (supply_of sys budgets n core_runs part_runs m) m (is_leaf_at sys m) refl in (
       part_runs ++ x.0 ∷ [],
       record {
         long = omega (arith, length_push part_runs x.0, r.1.long);
         inner = λ q lq f. elim (cases_eq q m) [
-          | inl now ↦ subst (λ (z : ℕ). is_leaf (part_at sys z).tasks ≡ false → PermittedRun server (before_of (part_at sys z).sched (server_tasks sys budgets (Part z))) (server_tasks sys budgets (Part z)) (server_jobs sys budgets (Part z) n) (supply_of sys budgets n core_runs (part_runs ++ x.0 ∷ []) z) (run_at (part_runs ++ x.0 ∷ []) z)) (sym now)
+          | inl now ↦ subst (λ (z : ℕ). is_leaf_at sys z ≡ false → PermittedRun server (before_of (part_at sys z).sched (server_tasks sys budgets (Part z))) (server_tasks sys budgets (Part z)) (server_jobs sys budgets (Part z) n) (supply_of sys budgets n core_runs (part_runs ++ x.0 ∷ []) z) (run_at (part_runs ++ x.0 ∷ []) z)) (sym now)
               (λ f. at_end (PermittedRun server (before_of (part_at sys m).sched (server_tasks sys budgets (Part m))) (server_tasks sys budgets (Part m)) (server_jobs sys budgets (Part m) n)) sys budgets n core_runs part_runs x.0 fits m l r.1.long (x.1 f)) f
           | inr ne ↦ before_end (PermittedRun server (before_of (part_at sys q).sched (server_tasks sys budgets (Part q))) (server_tasks sys budgets (Part q)) (server_jobs sys budgets (Part q) n)) sys budgets n core_runs part_runs x.0 fits q (omega arith) (omega (arith, r.1.long)) (r.1.inner q (omega arith) f)
         ];
         leaf = λ q lq f. elim (cases_eq q m) [
-          | inl now ↦ subst (λ (z : ℕ). is_leaf (part_at sys z).tasks ≡ true → PermittedRun guest (before_of (part_at sys z).sched (own_tasks (part_at sys z))) (own_tasks (part_at sys z)) (get_or jobs z []) (supply_of sys budgets n core_runs (part_runs ++ x.0 ∷ []) z) (run_at (part_runs ++ x.0 ∷ []) z)) (sym now)
-              (λ f. at_end (PermittedRun guest (before_of (part_at sys m).sched (own_tasks (part_at sys m))) (own_tasks (part_at sys m)) (get_or jobs m [])) sys budgets n core_runs part_runs x.0 fits m l r.1.long (x.2 f)) f
-          | inr ne ↦ before_end (PermittedRun guest (before_of (part_at sys q).sched (own_tasks (part_at sys q))) (own_tasks (part_at sys q)) (get_or jobs q [])) sys budgets n core_runs part_runs x.0 fits q (omega arith) (omega (arith, r.1.long)) (r.1.leaf q (omega arith) f)
+          | inl now ↦ subst (λ (z : ℕ). is_leaf_at sys z ≡ true → PermittedRun guest (before_of (part_at sys z).sched (own_tasks_at sys z)) (own_tasks_at sys z) (get_or jobs z []) (supply_of sys budgets n core_runs (part_runs ++ x.0 ∷ []) z) (run_at (part_runs ++ x.0 ∷ []) z)) (sym now)
+              (λ f. at_end (PermittedRun guest (before_of (part_at sys m).sched (own_tasks_at sys m)) (own_tasks_at sys m) (get_or jobs m [])) sys budgets n core_runs part_runs x.0 fits m l r.1.long (x.2 f)) f
+          | inr ne ↦ before_end (PermittedRun guest (before_of (part_at sys q).sched (own_tasks_at sys q)) (own_tasks_at sys q) (get_or jobs q [])) sys budgets n core_runs part_runs x.0 fits q (omega arith) (omega (arith, r.1.long)) (r.1.leaf q (omega arith) f)
         ];
       },
     )

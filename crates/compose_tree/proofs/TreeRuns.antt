@@ -15,7 +15,7 @@ use Rattle.tree_model.specs.declared.place.Parent.TheVariants.{Core as on_core, 
 use Rattle.tree_model.specs.declared.place.Place.{Place}
 use Rattle.tree_model.specs.declared.place.Place.TheVariants.{Core, Part}
 use Rattle.tree_model.specs.View.{SystemView}
-use Rattle.tree_model.specs.System.{IsSystem, Stands, core_at, part_at, is_leaf}
+use Rattle.tree_model.specs.System.{IsSystem, Stands, core_at, part_at, is_leaf_at}
 use Rattle.tree_model.specs.Tree.{place_of, is_child, budget_at, server_tasks, server_jobs, run_at, run_of, supply_of, PermittedTree, TreeInputs, NothingLost}
 use Rattle.tree_model.proofs.Children.{IsServer, server_at, same_itself}
 use Rattle.tree_model.proofs.Parents.{servers_constrained}
@@ -43,7 +43,7 @@ core_fine sys budgets n supplies jobs core_runs part_runs h c l =
     let f : AreConstrained (server_tasks sys budgets (Core c)) = servers_constrained sys budgets (Core c) (λ q l child. h.pass.budgets_fit q l) in
     h.pass.cores c l server (server_jobs sys budgets (Core c) n) (get_or supplies c []) (run_at core_runs c) (h.inputs.conforms c l) (legal_synchronous (server_tasks sys budgets (Core c)) f 0 n) (h.tree.cores c l)
 
-inner_fine : (sys : SystemView) (budgets : List ℕ) (n : ℕ) (supplies : List (List Bool)) (jobs : List (List Job)) (core_runs part_runs : List (List (Option ℕ))) → Running sys budgets n supplies jobs core_runs part_runs → (q : ℕ) → q < length sys.parts → is_leaf (part_at sys q).tasks ≡ false → GivesBudget (part_at sys q).period (budget_at budgets q) (supply_of sys budgets n core_runs part_runs q)
+inner_fine : (sys : SystemView) (budgets : List ℕ) (n : ℕ) (supplies : List (List Bool)) (jobs : List (List Job)) (core_runs part_runs : List (List (Option ℕ))) → Running sys budgets n supplies jobs core_runs part_runs → (q : ℕ) → q < length sys.parts → is_leaf_at sys q ≡ false → GivesBudget (part_at sys q).period (budget_at budgets q) (supply_of sys budgets n core_runs part_runs q)
     → (j x : ℕ) → Lost (server_tasks sys budgets (Part q)) (server_jobs sys budgets (Part q) n) (run_at part_runs q) j x → ⊥
 inner_fine sys budgets n supplies jobs core_runs part_runs h q l inner g =
     let f : AreConstrained (server_tasks sys budgets (Part q)) = servers_constrained sys budgets (Part q) (λ r m child. h.pass.budgets_fit r m) in

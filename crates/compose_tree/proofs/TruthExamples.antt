@@ -1,4 +1,5 @@
--- Worked examples of what a plan and a refusal say. A wrong end of a range, or a part left out, breaks one of them.
+-- Worked examples of what a plan and a refusal say. A wrong end of a range, or a part left out,
+-- breaks one of them.
 use Rattle.std.proofs.Common.{◌≡◌, ℕ, zero, suc, ◌<◌, ◌≤◌, true, false, List, [], ◌∷◌, length, Option, Some, None, refl, arith}
 use Rattle.std.proofs.lemmas.Bool.{false≢true}
 use Rattle.slot_model.specs.Slots.{sum_below}
@@ -13,7 +14,7 @@ use Rattle.tree_model.specs.declared.place.Parent.TheVariants.{Core as on_core}
 use Rattle.tree_model.specs.declared.place.Place.TheVariants.{Core, Part}
 use Rattle.tree_model.specs.declared.plan.Refusal.TheVariants.{Overfull}
 use Rattle.tree_model.specs.View.{SystemView, NamedTask}
-use Rattle.tree_model.specs.System.{core_at, part_at, is_leaf}
+use Rattle.tree_model.specs.System.{core_at, part_at, is_leaf, is_leaf_at}
 use Rattle.tree_model.specs.Tree.{budget_at, server_tasks, server_jobs, run_at, NoLoss}
 use Rattle.slot_model.specs.Bound.{shows_by}
 use Rattle.compose_tree.specs.Truth.{LeafMustMiss, IsTight, LeafIsOverfull, MissesBy, CoreMustMiss, CoreIsOverfull, IsFlat, IsChosen, RefusalHolds}
@@ -99,7 +100,7 @@ an_open_one_must_miss_at_both_ends : (sys : SystemView) (q : ℕ) → LeafIsOver
 an_open_one_must_miss_at_both_ends sys q overfull = (overfull 0 (omega arith), overfull (part_at sys q).period (omega arith))
 
 -- a computed budget of b + 1 is tight at b and at 0
-a_tight_budget_has_none_below : (sys : SystemView) (budgets : List ℕ) (q b : ℕ) → IsTight sys budgets → q < length sys.parts → is_leaf (part_at sys q).tasks ≡ true → (part_at sys q).budget ≡ None → budget_at budgets q ≡ suc b
+a_tight_budget_has_none_below : (sys : SystemView) (budgets : List ℕ) (q b : ℕ) → IsTight sys budgets → q < length sys.parts → is_leaf_at sys q ≡ true → (part_at sys q).budget ≡ None → budget_at budgets q ≡ suc b
     → LeafMustMiss sys q b × LeafMustMiss sys q 0
 a_tight_budget_has_none_below sys budgets q b tight h leaf none e = (tight.below q h leaf none b (omega arith), tight.below q h leaf none 0 (omega arith))
 
@@ -122,5 +123,5 @@ a_core_that_must_miss_loses_a_job sys budgets c t n h fits must none =
 the_second_core_is_overfull : (sys : SystemView) (short : Short) → RefusalHolds sys (Overfull (Core 1) short) → (core_at sys 1).supply ≡ None → CoreIsOverfull sys 1 short
 the_second_core_is_overfull sys short holds full = holds.core full
 
-the_second_part_is_overfull : (sys : SystemView) (short : Short) → RefusalHolds sys (Overfull (Part 1) short) → is_leaf (part_at sys 1).tasks ≡ true → LeafIsOverfull sys 1 (part_at sys 1).budget
+the_second_part_is_overfull : (sys : SystemView) (short : Short) → RefusalHolds sys (Overfull (Part 1) short) → is_leaf_at sys 1 ≡ true → LeafIsOverfull sys 1 (part_at sys 1).budget
 the_second_part_is_overfull sys short holds leaf = holds.leaf leaf

@@ -11,17 +11,22 @@ use Rattle.tree_model.specs.declared.place.Place.TheVariants.{Core, Part}
 use Rattle.tree_model.specs.declared.plan.Refusal.{Refusal}
 use Rattle.tree_model.specs.declared.plan.Refusal.TheVariants.{Overfull, Wide, NoMemory}
 use Rattle.tree_model.specs.View.{SystemView}
-use Rattle.tree_model.specs.System.{core_at, part_at, own_tasks, is_leaf}
-use Rattle.tree_model.specs.Tree.{budget_at, server_tasks, server_jobs, run_at, PermittedTree, TreeInputs}
-use Rattle.tree_model.specs.Admission.{SettledFrom}
+use Rattle.tree_model.specs.System.{core_at, part_at, own_tasks_at, is_leaf_at}
+use Rattle.tree_model.specs.Tree.{budget_at, server_tasks, server_jobs, run_at, PermittedTree, HasTreeRun, TreeInputs}
+use Rattle.tree_model.specs.Admission.{SettledBefore}
 
--- under this budget some supply that gives it and some legal release make a job of leaf q miss in every permitted run
+-- under this budget some supply that gives it and some legal release make a job of leaf q miss in
+-- every permitted run
 abbrev pub LeafMustMiss : SystemView → ℕ → ℕ → Type 0
-LeafMustMiss sys q budget = MustMiss (GivesBudget (part_at sys q).period budget) (before_of (part_at sys q).sched (own_tasks (part_at sys q))) (own_tasks (part_at sys q))
+LeafMustMiss sys q budget =
+    let tasks = own_tasks_at sys q in
+    MustMiss (GivesBudget (part_at sys q).period budget)
+    (before_of (part_at sys q).sched tasks) tasks
 
 -- every whole budget below a computed leaf budget must miss
 pub record IsTight (sys : SystemView) (budgets : List ℕ) : Type 0 where
-  pub below : (q : ℕ) → q < length sys.parts → is_leaf (part_at sys q).tasks ≡ true → (part_at sys q).budget ≡ None → (b : ℕ) → b < budget_at budgets q → LeafMustMiss sys q b
+  pub below : (q : ℕ) → q < length sys.parts → is_leaf_at sys q ≡ true →
+      (part_at sys q).budget ≡ None → (b : ℕ) → b < budget_at budgets q → LeafMustMiss sys q b
 
 -- a leaf is refused with the budget that is given, or with every budget up to its period
 abbrev pub LeafIsOverfull : SystemView → ℕ → Option ℕ → Type 0
@@ -29,29 +34,38 @@ LeafIsOverfull sys q (Some given) = LeafMustMiss sys q given
 LeafIsOverfull sys q None = (b : ℕ) → b ≤ (part_at sys q).period → LeafMustMiss sys q b
 
 -- a job of the run misses with its deadline moment at most t
-pub record MissesBy (tasks : List SporadicTask) (jobs : List Job) (run : List (Option ℕ)) (t : ℕ) : Type 0 where
+pub record MissesBy (tasks : List SporadicTask) (jobs : List Job) (run : List (Option ℕ))
+    (t : ℕ) : Type 0 where
   pub job : ℕ
   pub missed : Missed tasks jobs run job
   pub by : deadline_of tasks (job_at jobs job) ≤ t
 
--- in n slots: inputs exist, over all inputs a permitted run of the tree exists, and in every one a job of core c misses by t
+-- in n slots: inputs exist, over all inputs a permitted run of the tree exists, and in every one
+-- a job of core c misses by t
 pub record CoreMustMiss (sys : SystemView) (budgets : List ℕ) (c t n : ℕ) : Type 0 where
-  pub some_inputs : (supplies : List (List Bool)) × (jobs : List (List Job)) × TreeInputs sys n supplies jobs
-  pub some_run : (supplies : List (List Bool)) (jobs : List (List Job)) → TreeInputs sys n supplies jobs →
-      (core_runs : List (List (Option ℕ))) × (part_runs : List (List (Option ℕ))) × PermittedTree sys budgets n supplies jobs core_runs part_runs
-  pub misses : (supplies : List (List Bool)) (jobs : List (List Job)) (core_runs part_runs : List (List (Option ℕ))) → TreeInputs sys n supplies jobs →
-      PermittedTree sys budgets n supplies jobs core_runs part_runs → MissesBy (server_tasks sys budgets (Core c)) (server_jobs sys budgets (Core c) n) (run_at core_runs c) t
+  pub some_inputs : (supplies : List (List Bool)) × (jobs : List (List Job)) ×
+      TreeInputs sys n supplies jobs
+  pub some_run : (supplies : List (List Bool)) (jobs : List (List Job)) →
+      TreeInputs sys n supplies jobs → HasTreeRun sys budgets n supplies jobs
+  pub misses : (supplies : List (List Bool)) (jobs : List (List Job))
+      (core_runs part_runs : List (List (Option ℕ))) → TreeInputs sys n supplies jobs →
+      PermittedTree sys budgets n supplies jobs core_runs part_runs →
+      MissesBy (server_tasks sys budgets (Core c)) (server_jobs sys budgets (Core c) n)
+      (run_at core_runs c) t
 
--- a full core is refused under the budgets that are settled before it: in every run that is long enough one of its jobs misses
+-- a full core is refused under the budgets that are settled before it: in every run that is long
+-- enough one of its jobs misses
 pub record CoreIsOverfull (sys : SystemView) (c : ℕ) (short : Short) : Type 0 where
   pub budgets : List ℕ
-  pub settled : SettledFrom sys budgets 0
-  pub misses : (n : ℕ) → shows_by (server_tasks sys budgets (Core c)) short ≤ n → CoreMustMiss sys budgets c (shows_by (server_tasks sys budgets (Core c)) short) n
+  pub settled : SettledBefore sys budgets (Core c)
+  pub misses : (n : ℕ) →
+      let window = shows_by (server_tasks sys budgets (Core c)) short in
+      window ≤ n → CoreMustMiss sys budgets c window n
 
 -- every core is full and every part a leaf
 pub record IsFlat (sys : SystemView) : Type 0 where
   pub cores : (c : ℕ) → c < length sys.cores → (core_at sys c).supply ≡ None
-  pub parts : (q : ℕ) → q < length sys.parts → is_leaf (part_at sys q).tasks ≡ true
+  pub parts : (q : ℕ) → q < length sys.parts → is_leaf_at sys q ≡ true
 
 -- a choice of budgets: each as it is given, or any whole one from 1 to the period
 abbrev pub IsChosen : ℕ → Option ℕ → ℕ → Type 0
@@ -60,20 +74,25 @@ IsChosen period None budget = (1 ≤ budget) × (budget ≤ period)
 
 pub record AreChosen (sys : SystemView) (budgets : List ℕ) : Type 0 where
   pub one_each : length budgets ≡ length sys.parts
-  pub each : (q : ℕ) → q < length sys.parts → IsChosen (part_at sys q).period (part_at sys q).budget (budget_at budgets q)
+  pub each : (q : ℕ) → q < length sys.parts →
+      IsChosen (part_at sys q).period (part_at sys q).budget (budget_at budgets q)
 
--- a choice of budgets fails: a leaf must miss, or a job of some core misses in every permitted run of some length
+-- a choice of budgets fails: a leaf must miss, or a job of some core misses in every permitted
+-- run of some length
 pub data ChoiceFails (sys : SystemView) (budgets : List ℕ) : Type 0 where
-  at_leaf : (q : ℕ) → q < length sys.parts → LeafMustMiss sys q (budget_at budgets q) → ChoiceFails sys budgets
-  at_core : (c t n : ℕ) → c < length sys.cores → CoreMustMiss sys budgets c t n → ChoiceFails sys budgets
+  at_leaf : (q : ℕ) → q < length sys.parts → LeafMustMiss sys q (budget_at budgets q) →
+      ChoiceFails sys budgets
+  at_core : (c t n : ℕ) → c < length sys.cores → CoreMustMiss sys budgets c t n →
+      ChoiceFails sys budgets
 
 -- on a flat system no choice of budgets does
 abbrev pub NoChoiceServes : SystemView → Type 0
-NoChoiceServes sys = IsFlat sys → (budgets : List ℕ) → AreChosen sys budgets → ChoiceFails sys budgets
+NoChoiceServes sys =
+    IsFlat sys → (budgets : List ℕ) → AreChosen sys budgets → ChoiceFails sys budgets
 
 -- what a refusal says
 pub record LeafRefusalHolds (sys : SystemView) (q : ℕ) : Type 0 where
-  pub leaf : is_leaf (part_at sys q).tasks ≡ true → LeafIsOverfull sys q (part_at sys q).budget
+  pub leaf : is_leaf_at sys q ≡ true → LeafIsOverfull sys q (part_at sys q).budget
   pub choices : NoChoiceServes sys
 
 pub record CoreRefusalHolds (sys : SystemView) (c : ℕ) (short : Short) : Type 0 where

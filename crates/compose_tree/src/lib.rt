@@ -1,9 +1,11 @@
 //! Budgets up the tree of guests: the least ones that pass, or the first node that refuses.
 #![tactic(auto)]
 
+mod assignment;
 mod budgets;
 mod nodes;
 
+pub use assignment::assign;
 pub use budgets::compose;
 
 #[cfg(test)]

@@ -1,10 +1,10 @@
-ghost use Rattle.std.specs.Prelude.{◌≡◌, ◌^◌, ◌<◌, ◌≤◌, length, IfOk, IfErr};
+ghost use Rattle.std.specs.Prelude.{◌≡◌, ◌^◌, ◌<◌, ◌≤◌, None, length, IfOk, IfErr};
 ghost use Rattle.slot_model.specs.Task.{sporadic_tasks};
-ghost use Rattle.slot_model.specs.Bound.{sbf};
+ghost use Rattle.slot_model.specs.Bound.{sbf, TestPasses};
 ghost use Rattle.tree_model.specs.System.{IsPeriod, IsGivenBudget, IsCoreSupply};
 ghost use Rattle.tree_model.specs.Tree.{core_bound, core_cycle};
-ghost use Rattle.tree_model.specs.Admission.{largest_budget};
-ghost use Rattle.compose_tree.specs.Steps.{NodeTestPasses, NodeRefuses, IsPartBudget};
+ghost use Rattle.tree_model.specs.Admission.{IsGivenOrLeast, largest_budget};
+ghost use Rattle.compose_tree.specs.Steps.{NodeRefuses, IsPartBudget};
 
 use least_budget::{Least, Tested, least_budget, test};
 use slot_model::{Sched, Task};
@@ -16,9 +16,12 @@ pub fn part_budget(part: &Part, node: Place, tasks: &[Task]) -> Result<u64, Refu
     requires few { length tasks.now < 2 ^ 32 }
     requires period { IsPeriod part.now.period }
     requires given { IsGivenBudget part.now.period part.now.budget }
-    ensures budget { IfOk result (λ budget. IsPartBudget part.now.sched (sporadic_tasks tasks.now) part.now.period part.now.budget budget) }
-    ensures refuses { let period = part.now.period in let largest = largest_budget part.now.budget period in
-        IfErr result (λ r. NodeRefuses part.now.sched (sporadic_tasks tasks.now) (sbf period largest) period node r) }
+    ensures budget { let T = sporadic_tasks tasks.now in
+        IfOk result (λ b. IsPartBudget part.now.sched T part.now.period part.now.budget b) }
+    ensures refuses { let T = sporadic_tasks tasks.now in
+        let period = part.now.period in
+        let largest = largest_budget part.now.budget period in
+        IfErr result (λ r. NodeRefuses part.now.sched T (sbf period largest) period node r) }
 {
     let period = part.period();
     match part.budget() {
@@ -26,11 +29,42 @@ pub fn part_budget(part: &Part, node: Place, tasks: &[Task]) -> Result<u64, Refu
             test_node(part.sched(), node, tasks, &Periodic { period, budget })?;
             Ok(budget)
         }
-        None => match least_budget(part.sched(), tasks, period) {
-            Least::Budget(budget) => Ok(budget),
-            Least::Over(short) => Err(Refusal::Overfull(node, short)),
-            Least::Wide => Err(Refusal::Wide(node)),
-        },
+        None => computed_budget(part.sched(), node, tasks, period),
+    }
+}
+
+/// The budget of a part with these tasks, in slots: the given one, untested, else the least.
+pub fn untested_budget(part: &Part, node: Place, tasks: &[Task]) -> Result<u64, Refusal>
+    requires few { length tasks.now < 2 ^ 32 }
+    requires period { IsPeriod part.now.period }
+    requires given { IsGivenBudget part.now.period part.now.budget }
+    ensures budget { let T = sporadic_tasks tasks.now in
+        IfOk result (λ b. IsGivenOrLeast part.now.sched T part.now.period part.now.budget b) }
+    ensures refuses { let T = sporadic_tasks tasks.now in
+        let period = part.now.period in
+        let largest = largest_budget part.now.budget period in
+        IfErr result (λ r. (part.now.budget ≡ None)
+        × NodeRefuses part.now.sched T (sbf period largest) period node r) }
+{
+    match part.budget() {
+        Some(budget) => Ok(budget),
+        None => computed_budget(part.sched(), node, tasks, part.period()),
+    }
+}
+
+/// The least budget of these tasks that passes.
+fn computed_budget(sched: Sched, node: Place, tasks: &[Task], period: u64) -> Result<u64, Refusal>
+    requires few { length tasks.now < 2 ^ 32 }
+    requires period { IsPeriod period }
+    ensures budget { let T = sporadic_tasks tasks.now in
+        IfOk result (λ b. IsPartBudget sched T period None b) }
+    ensures refuses { let T = sporadic_tasks tasks.now in
+        IfErr result (λ r. NodeRefuses sched T (sbf period period) period node r) }
+{
+    match least_budget(sched, tasks, period) {
+        Least::Budget(budget) => Ok(budget),
+        Least::Over(short) => Err(Refusal::Overfull(node, short)),
+        Least::Wide => Err(Refusal::Wide(node)),
     }
 }
 
@@ -38,8 +72,13 @@ pub fn part_budget(part: &Part, node: Place, tasks: &[Task]) -> Result<u64, Refu
 pub fn test_core_tasks(core: &Core, node: Place, tasks: &[Task]) -> Result<(), Refusal>
     requires few { length tasks.now < 2 ^ 32 }
     requires supply { IsCoreSupply core.now.supply }
-    ensures passes { IfOk result (λ _. NodeTestPasses core.now.sched (sporadic_tasks tasks.now) (core_bound core.now.supply) (core_cycle core.now.supply)) }
-    ensures refuses { IfErr result (λ r. NodeRefuses core.now.sched (sporadic_tasks tasks.now) (core_bound core.now.supply) (core_cycle core.now.supply) node r) }
+    ensures passes { let T = sporadic_tasks tasks.now in
+        let supply = core.now.supply in
+        IfOk result (λ _. TestPasses core.now.sched T (core_bound supply) (core_cycle supply)) }
+    ensures refuses { let T = sporadic_tasks tasks.now in
+        let supply = core.now.supply in
+        IfErr result (λ r.
+        NodeRefuses core.now.sched T (core_bound supply) (core_cycle supply) node r) }
 {
     match core.supply {
         None => test_node(core.sched, node, tasks, &Full),
@@ -50,8 +89,10 @@ pub fn test_core_tasks(core: &Core, node: Place, tasks: &[Task]) -> Result<(), R
 /// The exact test of a node under a supply, and its refusal.
 fn test_node<S: Supply>(sched: Sched, node: Place, tasks: &[Task], s: &S) -> Result<(), Refusal>
     requires { length tasks.now < 2 ^ 32 }
-    ensures passes { IfOk result (λ _. NodeTestPasses sched (sporadic_tasks tasks.now) (S.bound s.now) (S.cycle_of s.now)) }
-    ensures refuses { IfErr result (λ r. NodeRefuses sched (sporadic_tasks tasks.now) (S.bound s.now) (S.cycle_of s.now) node r) }
+    ensures passes { let T = sporadic_tasks tasks.now in
+        IfOk result (λ _. TestPasses sched T (S.bound s.now) (S.cycle_of s.now)) }
+    ensures refuses { let T = sporadic_tasks tasks.now in
+        IfErr result (λ r. NodeRefuses sched T (S.bound s.now) (S.cycle_of s.now) node r) }
 {
     match test(sched, tasks, s) {
         Tested::Passes => Ok(()),

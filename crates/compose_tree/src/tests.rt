@@ -1,4 +1,4 @@
-use crate::compose;
+use crate::{assign, compose};
 use slot_model::{Name, Sched, Short, Task};
 use std::alloc::{AllocError, Global};
 use std::process::Abort;
@@ -37,13 +37,13 @@ fn part(
     })
 }
 
-/// What `compose` answers for these parts on one core under earliest deadline first.
-fn answer(
+/// These parts on one core under earliest deadline first.
+fn system(
     rt: &impl Abort,
     alloc: Global,
     supply: Option<(u64, u64)>,
     parts: Vec<Part>,
-) -> Result<Result<Plan, Refusal>, AllocError> {
+) -> Result<System, AllocError> {
     let mut cores = Vec::new(alloc);
     cores.push(Core {
         name: name(rt, alloc, b"cpu0")?,
@@ -51,9 +51,31 @@ fn answer(
         supply,
     })?;
     match System::new(cores, parts) {
-        Ok(sys) => Ok(compose(alloc, &sys)),
+        Ok(sys) => Ok(sys),
         Err(_) => panic!(rt; "no system"),
     }
+}
+
+/// What `compose` answers for them.
+fn answer(
+    rt: &impl Abort,
+    alloc: Global,
+    supply: Option<(u64, u64)>,
+    parts: Vec<Part>,
+) -> Result<Result<Plan, Refusal>, AllocError> {
+    let sys = system(rt, alloc, supply, parts)?;
+    Ok(compose(alloc, &sys))
+}
+
+/// What `assign` answers for them.
+fn assigned(
+    rt: &impl Abort,
+    alloc: Global,
+    supply: Option<(u64, u64)>,
+    parts: Vec<Part>,
+) -> Result<Result<Plan, Refusal>, AllocError> {
+    let sys = system(rt, alloc, supply, parts)?;
+    Ok(assign(alloc, &sys))
 }
 
 fn assert_plan(rt: &impl Abort, answer: Result<Plan, Refusal>, budgets: &[u64]) {
@@ -125,20 +147,37 @@ fn least_budgets_go_up_the_tree(rt: HostRuntime) -> Result<(), Fail> {
 }
 
 #[test]
+fn assigned_budgets_are_not_tested(rt: HostRuntime) -> Result<(), Fail> {
+    let alloc = rt.alloc();
+    let mut parts = two_leaves(&rt, alloc, 10)?;
+    parts[0].budget = Some(1);
+    assert_plan(&rt, assigned(&rt, alloc, None, parts)?, &[1, 10]);
+    let parts = two_leaves(&rt, alloc, 11)?;
+    assert_plan(&rt, assigned(&rt, alloc, None, parts)?, &[5, 11]);
+    let parts = three_levels(&rt, alloc)?;
+    assert_plan(
+        &rt,
+        assigned(&rt, alloc, Some((20, 14)), parts)?,
+        &[30, 28, 40],
+    );
+    Ok(())
+}
+
+/// A leaf whose tasks ask for more than every slot.
+fn overfull_leaf(rt: &impl Abort, alloc: Global) -> Result<Vec<Part>, AllocError> {
+    let numbers = [(2, 2, 2), (3, 3, 1)];
+    let mut parts = Vec::new(alloc);
+    parts.push(part(rt, alloc, b"A", Parent::Core(0), 10, &numbers)?)?;
+    Ok(parts)
+}
+
+#[test]
 fn a_leaf_that_no_budget_serves_refuses(rt: HostRuntime) -> Result<(), Fail> {
     let alloc = rt.alloc();
-    let mut parts = Vec::new(alloc);
-    parts.push(part(
-        &rt,
-        alloc,
-        b"A",
-        Parent::Core(0),
-        10,
-        &[(2, 2, 2), (3, 3, 1)],
-    )?)?;
-    assert_eq!(rt;
-        answer(&rt, alloc, None, parts)?.err(),
-        Some(Refusal::Overfull(Place::Part(0), Short::At(4)))
-    );
+    let refusal = Some(Refusal::Overfull(Place::Part(0), Short::At(4)));
+    let parts = overfull_leaf(&rt, alloc)?;
+    assert_eq!(rt; answer(&rt, alloc, None, parts)?.err(), refusal);
+    let parts = overfull_leaf(&rt, alloc)?;
+    assert_eq!(rt; assigned(&rt, alloc, None, parts)?.err(), refusal);
     Ok(())
 }

@@ -23,11 +23,9 @@ push_if-last xs true y d i e l = get_or_push xs y d i l
 push_if-last xs false y d i e l = absurd (false≢true e)
 
 pub places_where-zero : (passes : ℕ → Bool) → places_where passes 0 ≡ []
-unfolding places_where
 places_where-zero passes = refl
 
 pub places_where-suc : (passes : ℕ → Bool) (n : ℕ) → places_where passes (suc n) ≡ push_if (places_where passes n) (passes n) n
-unfolding places_where
 places_where-suc passes n = refl
 
 -- they are as many as are counted

@@ -1,0 +1,5 @@
+use Rattle.tree_model.specs.Admission.{AssignedFrom}
+use Rattle.compose_tree.proofs.assignment.assign_parts.Given as goal
+
+abbrev pub invariant-loop-q : goal.invariant-loop-q
+invariant-loop-q l = AssignedFrom l.sys l.budgets l.q
