@@ -11,8 +11,8 @@ pub enum FileFault {
     System(SystemFault),
 }
 
-/// The line of a fault of the file word `file`, counted from 1. Where a fault names a node, its name
-/// is that of `sys`.
+/// The line of a fault of the file word `file`, counted from 1. `sys` has the names of nodes that a
+/// fault tells.
 pub fn fault_text(
     alloc: Global,
     sys: Option<&System>,
