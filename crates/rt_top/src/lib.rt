@@ -3,12 +3,13 @@
 
 mod admit;
 mod answer;
+mod command;
+mod file;
 mod replays;
 mod status;
 #[cfg(test)]
 mod tests;
 mod top;
-mod words;
 
 pub use status::Status;
 pub use top::run;
