@@ -14,11 +14,15 @@ pub record DiskCounts : Type 0 where
   pub absences : ℕ
   pub taken : ℕ
 
+-- a store of which no file is current
+abbrev pub closed_store : DiskCounts → DiskCounts
+closed_store store = record store { is_open = false; rest = None }
+
 -- a store after a refusal: no file is current, and the one count of that refusal rose by one
 abbrev pub after_refusal : DiskCounts → StoreFault → DiskCounts
-after_refusal store Failed = record { is_open = false; rest = None; faults = raised store.faults 1; absences = store.absences; taken = store.taken }
-after_refusal store Missing = record { is_open = false; rest = None; faults = store.faults; absences = raised store.absences 1; taken = store.taken }
-after_refusal store NoMemory = record { is_open = false; rest = None; faults = store.faults; absences = store.absences; taken = store.taken }
+after_refusal store Failed = record (closed_store store) { faults = raised store.faults 1 }
+after_refusal store Missing = record (closed_store store) { absences = raised store.absences 1 }
+after_refusal store NoMemory = closed_store store
 
 -- an output over a writer
 pub record WriterCounts : Type 0 where

@@ -6,7 +6,8 @@ use std::io::{ErrorKind, Read};
 use std::marker::Model;
 use std::rt::Files;
 
-/// The files of the system, of which nothing is told but what the handle itself tells of an open one.
+/// The files of the system. Nothing is told of them but what the handle itself tells of an open
+/// one.
 #[derive(Drop)]
 pub struct DiskStore<R: Files> {
     rt: R,
@@ -34,7 +35,8 @@ impl<R: Files> Model for DiskStore<R> {
 impl<R: Files> DiskStore<R> {
     /// A store of the files that `rt` reaches.
     pub fn new(rt: R) -> DiskStore<R>
-        ensures { result ≡ record { is_open = false; rest = None; faults = 0; absences = 0; taken = 0 } }
+        ensures {
+            result ≡ record { is_open = false; rest = None; faults = 0; absences = 0; taken = 0 } }
     {
         DiskStore {
             rt,
@@ -64,7 +66,8 @@ impl<R: Files> DiskStore<R> {
 fn fault_of(kind: ErrorKind) -> StoreFault
     ensures not_found { kind ≡ ErrorKind.NotFound → result ≡ StoreFault.Missing }
     ensures no_memory { kind ≡ ErrorKind.OutOfMemory → result ≡ StoreFault.NoMemory }
-    ensures any_other { kind ≢ ErrorKind.NotFound → kind ≢ ErrorKind.OutOfMemory → result ≡ StoreFault.Failed }
+    ensures any_other {
+        kind ≢ ErrorKind.NotFound → kind ≢ ErrorKind.OutOfMemory → result ≡ StoreFault.Failed }
 {
     match kind {
         ErrorKind::NotFound => StoreFault::Missing,

@@ -1,6 +1,7 @@
 //! The edge of the program: where files are read and where output is written.
 //! A `Store` and a `Sink` count their own refusals, so that whoever is refused can name the cause.
-//! Both stand in memory, for tests, and over the real system; `read_all` and `write_all` use either.
+//! Both stand in memory, for tests, and over the real system; `read_all` and `write_all` use
+//! either.
 #![tactic(auto)]
 
 mod disk_store;

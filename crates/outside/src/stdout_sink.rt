@@ -6,8 +6,8 @@ use crate::{Sink, SinkFault};
 use std::io::Write;
 use std::marker::Model;
 
-/// A writer of the system, as standard output. Each write is flushed. It tells nothing, since a write
-/// whose flush fails is refused; `write` says of its own what a writer that tells then holds.
+/// A writer of the system, as standard output. Each write is flushed. It tells nothing, since a
+/// write whose flush fails is refused; `write` says of its own what a writer that tells then holds.
 #[derive(Drop)]
 pub struct StdoutSink<W: Write> {
     out: W,
@@ -42,7 +42,8 @@ impl<W: Write> Sink for StdoutSink<W> {
     fn write(&mut self, piece: &[u8]) -> Result<usize, SinkFault>
         ensures count { IfOk result (λ n. n ≤ length piece.now) }
         ensures some { IfOk result (λ n. 0 < length piece.now → 0 < n) }
-        ensures front { IfOk result (λ n. Appends self.old.contents self.new.contents (take n piece.now)) }
+        ensures front {
+            IfOk result (λ n. Appends self.old.contents self.new.contents (take n piece.now)) }
         ensures quiet { OnOk result (self.new.faults ≡ self.old.faults) }
         ensures failed { OnErr result (self.new.faults ≡ raised self.old.faults 1) }
         ensures faults_last { self.old.faults ≤ self.new.faults }
@@ -57,10 +58,12 @@ impl<W: Write> Sink for StdoutSink<W> {
     }
 }
 
-// Writes the front of the piece and flushes it. None where that fails, or takes nothing of a piece that is not empty.
+// Writes the front of the piece and flushes it. None where that fails, or takes nothing of a piece
+// that is not empty.
 fn write_front<W: Write>(out: &mut W, piece: &[u8]) -> Option<usize>
     ensures count { IfSome result (λ n. (n ≤ length piece.now) × (0 < length piece.now → 0 < n)) }
-    ensures front { IfSome result (λ n. Appends (W.contents out.old) (W.contents out.new) (take n piece.now)) }
+    ensures front {
+        IfSome result (λ n. Appends (W.contents out.old) (W.contents out.new) (take n piece.now)) }
 {
     let count = out.write(piece).ok()?;
     if count == 0 && !piece.is_empty() {

@@ -17,6 +17,8 @@ use Rattle.rt_report.specs.declared.replay.Replay.{Replay}
 use Rattle.rt_report.specs.Admit.{admit_text, computed_leaves}
 use Rattle.rt_report.specs.Refusal.{refusal_text}
 use Rattle.rt_report.specs.Fault.{fault_text}
+use Rattle.rt_report.specs.Unread.{absent_text, too_long_text}
+use Rattle.rt_report.specs.Usage.{usage_line}
 use Rattle.rt_report.specs.Words.{served_name}
 
 abbrev task : List ℕ → ℕ → ℕ → NamedTask
@@ -25,7 +27,7 @@ task name period work = record { name = name; task = plain_task period period wo
 abbrev part : List ℕ → Parent → ℕ → Option ℕ → List NamedTask → PartView
 part name parent period budget tasks = record { name = name; parent = parent; sched = Rm; period = period; budget = budget; extra = false; tasks = tasks }
 
--- on a core cpu0 an inner part mid with the leaves video and ctl, and a leaf net whose budget is given
+-- on a core cpu0 an inner part mid with the leaves video and ctl, and a leaf net with a budget
 abbrev tree : SystemView
 tree = record {
   cores = record { name = codes "cpu0"; sched = Edf; supply = None } ∷ [];
@@ -65,20 +67,31 @@ nothing_is_served_past_the_end : served_name tree (Part 0) 2 ≡ []
 nothing_is_served_past_the_end = refl
 
 faults_in_their_words :
-    ((fault_text (System NotToml) 1 ≡ codes "fault=NotToml file=1\n")
-    × (fault_text (System (MissingKey Top)) 1 ≡ codes "fault=MissingKey at=top file=1\n")
-    × (fault_text (System (UnknownKey (at_core 0))) 1 ≡ codes "fault=UnknownKey at=core 1 file=1\n")
-    × (fault_text (System (Mixed (at_part 1))) 2 ≡ codes "fault=Mixed at=part 2 file=2\n")
-    × (fault_text (System (OutOfRange (at_task 0 8))) 1 ≡ codes "fault=OutOfRange at=part 1 task 9 file=1\n"))
+    ((fault_text None (System NotToml) 1 ≡ codes "fault=NotToml file=1\n")
+    × (fault_text None (System (MissingKey Top)) 1 ≡ codes "fault=MissingKey at=top file=1\n")
+    × (fault_text None (System (UnknownKey (at_core 0))) 1 ≡ codes "fault=UnknownKey at=core 1 file=1\n")
+    × (fault_text None (System (Mixed (at_part 1))) 2 ≡ codes "fault=Mixed at=part 2 file=2\n")
+    × (fault_text None (System (OutOfRange (at_task 0 8))) 1 ≡ codes "fault=OutOfRange at=part 1 task 9 file=1\n"))
 unfolding digits
 faults_in_their_words = (refl, refl, refl, refl, refl)
 
 the_other_words_of_faults :
-    ((fault_text (System (WrongKind Top)) 1 ≡ codes "fault=WrongKind at=top file=1\n")
-    × (fault_text (System (BadName (at_part 0))) 1 ≡ codes "fault=BadName at=part 1 file=1\n")
-    × (fault_text (System (NameTaken (at_part 1))) 1 ≡ codes "fault=NameTaken at=part 2 file=1\n")
-    × (fault_text (System (NoSuchParent (at_part 0))) 1 ≡ codes "fault=NoSuchParent at=part 1 file=1\n")
-    × (fault_text (System (Empty (at_part 0))) 1 ≡ codes "fault=Empty at=part 1 file=1\n")
-    × (fault_text (System (TooMany Top)) 1 ≡ codes "fault=TooMany at=top file=1\n"))
+    ((fault_text None (System (WrongKind Top)) 1 ≡ codes "fault=WrongKind at=top file=1\n")
+    × (fault_text None (System (BadName (at_part 0))) 1 ≡ codes "fault=BadName at=part 1 file=1\n")
+    × (fault_text None (System (NameTaken (at_part 1))) 1 ≡ codes "fault=NameTaken at=part 2 file=1\n")
+    × (fault_text None (System (NoSuchParent (at_part 0))) 1 ≡ codes "fault=NoSuchParent at=part 1 file=1\n")
+    × (fault_text None (System (Empty (at_part 0))) 1 ≡ codes "fault=Empty at=part 1 file=1\n")
+    × (fault_text None (System (TooMany Top)) 1 ≡ codes "fault=TooMany at=top file=1\n"))
 unfolding digits
 the_other_words_of_faults = (refl, refl, refl, refl, refl, refl)
+
+files_that_are_not_read :
+    ((absent_text 1 ≡ codes "absent file=1\n")
+    × (absent_text 2 ≡ codes "absent file=2\n")
+    × (too_long_text 1 ≡ codes "toolong file=1\n")
+    × (too_long_text 2 ≡ codes "toolong file=2\n"))
+unfolding digits
+files_that_are_not_read = (refl, refl, refl, refl)
+
+the_usage : usage_line ≡ codes "usage: rtadmit admit FILE | certify FILE | check FILE CERT | simulate FILE RELEASES PATTERN SLOTS | rtds FILE WORKLOAD SLOTS | audit FILE TRACE | bulk N\n"
+the_usage = refl

@@ -1,12 +1,12 @@
--- The text of an admission: the verdict, then each part in file order, and below a computed leaf what defeats the next
--- smaller budget.
+-- The text of an admission: the verdict, then each part in file order, and below a computed leaf
+-- what defeats the next smaller budget.
 use Rattle.std.specs.Prelude.{◌≡◌, ℕ, zero, suc, ◌&&◌, Bool, if◌then◌else◌, List, [], ◌∷◌, ◌++◌, length, drop, slice_index, slice_get, codes, Option, Some, None, is_none}
 use Rattle.std.specs.Fmt.{decimal}
 use Rattle.slot_model.specs.declared.miss.Miss.{Miss}
 use Rattle.slot_model.specs.Release.{push_if}
 use Rattle.tree_model.specs.View.{PartView, SystemView}
 use Rattle.tree_model.specs.System.{is_leaf, part_at}
-use Rattle.rt_report.specs.Words.{task_name}
+use Rattle.rt_report.specs.Words.{joined, task_name}
 use Rattle.rt_report.specs.declared.replay.Replay.{Replay}
 use Rattle.rt_report.specs.Replay.{IsReplay}
 
@@ -20,7 +20,10 @@ origin_word (Some given) = codes " given\n"
 
 -- `part NAME period=P budget=B given`, or `computed`
 abbrev pub part_line : PartView → ℕ → List ℕ
-part_line part budget = codes "part " ++ (part.name ++ (codes " period=" ++ (decimal part.period ++ (codes " budget=" ++ (decimal budget ++ origin_word part.budget)))))
+part_line part budget = joined (
+    codes "part " ∷ part.name
+    ∷ codes " period=" ∷ decimal part.period
+    ∷ codes " budget=" ∷ decimal budget ∷ origin_word part.budget ∷ [])
 
 -- the first task that is short, and `-` under edf
 abbrev pub short_task : PartView → Option ℕ → List ℕ
@@ -30,13 +33,22 @@ short_task part (Some i) = task_name part i
 -- the first miss of the replay, or `skipped`
 abbrev pub miss_words : PartView → Option Miss → List ℕ
 miss_words part None = codes "skipped\n"
-miss_words part (Some miss) =
-    task_name part miss.task ++ (codes " release=" ++ (decimal miss.release ++ (codes " deadline=" ++ (decimal miss.deadline ++ (codes " got=" ++ (decimal miss.got ++ (codes " of=" ++ (decimal miss.work ++ codes "\n"))))))))
+miss_words part (Some miss) = joined (
+    task_name part miss.task
+    ∷ codes " release=" ∷ decimal miss.release
+    ∷ codes " deadline=" ∷ decimal miss.deadline
+    ∷ codes " got=" ∷ decimal miss.got
+    ∷ codes " of=" ∷ decimal miss.work ∷ codes "\n" ∷ [])
 
 -- `witness NAME budget=B start=S span=T task=TASK replay=..`
 abbrev pub witness_line : PartView → Replay → List ℕ
-witness_line part replay =
-    codes "witness " ++ (part.name ++ (codes " budget=" ++ (decimal replay.witness.budget ++ (codes " start=" ++ (decimal replay.witness.start ++ (codes " span=" ++ (decimal replay.witness.span ++ (codes " task=" ++ (short_task part replay.witness.task ++ (codes " replay=" ++ miss_words part replay.miss))))))))))
+witness_line part replay = joined (
+    codes "witness " ∷ part.name
+    ∷ codes " budget=" ∷ decimal replay.witness.budget
+    ∷ codes " start=" ∷ decimal replay.witness.start
+    ∷ codes " span=" ∷ decimal replay.witness.span
+    ∷ codes " task=" ∷ short_task part replay.witness.task
+    ∷ codes " replay=" ∷ miss_words part replay.miss ∷ [])
 
 abbrev pub first_witness : PartView → List Replay → List ℕ
 first_witness part [] = []
@@ -47,7 +59,10 @@ abbrev pub part_lines : List PartView → List ℕ → List Replay → List ℕ
 part_lines [] budgets replays = []
 part_lines (part ∷ parts) [] replays = []
 part_lines (part ∷ parts) (budget ∷ budgets) replays =
-    part_line part budget ++ (if is_computed_leaf part then (first_witness part replays ++ part_lines parts budgets (drop 1 replays)) else part_lines parts budgets replays)
+    part_line part budget ++ (
+      if is_computed_leaf part
+      then (first_witness part replays ++ part_lines parts budgets (drop 1 replays))
+      else part_lines parts budgets replays)
 
 abbrev pub admit_text : SystemView → List ℕ → List Replay → List ℕ
 admit_text sys budgets replays = codes "verdict=yes\n" ++ part_lines sys.parts budgets replays
@@ -63,4 +78,5 @@ computed_leaves sys = leaves_among sys (length sys.parts)
 -- one replay a computed leaf, in file order
 pub record AreReplays (sys : SystemView) (budgets : List ℕ) (replays : List Replay) : Type 0 where
   pub one_each : length replays ≡ length (computed_leaves sys)
-  pub each : (k : ℕ) (replay : Replay) → slice_get replays k ≡ Some replay → IsReplay sys budgets (slice_index (computed_leaves sys) k) replay
+  pub each : (k : ℕ) (replay : Replay) → slice_get replays k ≡ Some replay
+      → IsReplay sys budgets (slice_index (computed_leaves sys) k) replay

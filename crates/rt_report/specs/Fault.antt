@@ -1,10 +1,12 @@
 -- The text of a file's fault. Places count from 1.
-use Rattle.std.specs.Prelude.{◌≢◌, ℕ, ◌+◌, List, [], ◌++◌, codes}
+use Rattle.std.specs.Prelude.{◌≢◌, ℕ, ◌+◌, List, [], ◌∷◌, ◌++◌, codes, Option}
 use Rattle.std.specs.Fmt.{decimal}
 use Rattle.system_file.specs.declared.fault.Spot.{Spot}
 use Rattle.system_file.specs.declared.fault.Spot.TheVariants.{Top, Core, Part, Task}
 use Rattle.system_file.specs.declared.fault.SystemFault.{SystemFault}
 use Rattle.system_file.specs.declared.fault.SystemFault.TheVariants.{NotToml, MissingKey, WrongKind, UnknownKey, BadName, NameTaken, OutOfRange, NoSuchParent, Mixed, Empty, TooMany, NoMemory}
+use Rattle.tree_model.specs.View.{SystemView}
+use Rattle.rt_report.specs.Words.{joined}
 use Rattle.rt_report.specs.declared.fault.FileFault.{FileFault}
 use Rattle.rt_report.specs.declared.fault.FileFault.TheVariants.{System}
 
@@ -16,10 +18,14 @@ spot_words (Task q i) = codes "part " ++ (decimal (q + 1) ++ (codes " task " ++ 
 
 -- `fault=WORD at=SPOT file=K`
 abbrev pub spot_line : List ℕ → Spot → ℕ → List ℕ
-spot_line word spot file = codes "fault=" ++ (word ++ (codes " at=" ++ (spot_words spot ++ (codes " file=" ++ (decimal file ++ codes "\n")))))
+spot_line word spot file = joined (
+    codes "fault=" ∷ word
+    ∷ codes " at=" ∷ spot_words spot
+    ∷ codes " file=" ∷ decimal file ∷ codes "\n" ∷ [])
 
 abbrev pub system_fault_text : SystemFault → ℕ → List ℕ
-system_fault_text NotToml file = codes "fault=NotToml file=" ++ (decimal file ++ codes "\n")
+system_fault_text NotToml file = joined (
+    codes "fault=NotToml file=" ∷ decimal file ∷ codes "\n" ∷ [])
 system_fault_text (MissingKey spot) file = spot_line (codes "MissingKey") spot file
 system_fault_text (WrongKind spot) file = spot_line (codes "WrongKind") spot file
 system_fault_text (UnknownKey spot) file = spot_line (codes "UnknownKey") spot file
@@ -32,9 +38,10 @@ system_fault_text (Empty spot) file = spot_line (codes "Empty") spot file
 system_fault_text (TooMany spot) file = spot_line (codes "TooMany") spot file
 system_fault_text NoMemory file = []
 
-abbrev pub fault_text : FileFault → ℕ → List ℕ
-fault_text (System fault) file = system_fault_text fault file
+-- the line of a fault, over the system where one was read
+abbrev pub fault_text : Option SystemView → FileFault → ℕ → List ℕ
+fault_text sys (System fault) file = system_fault_text fault file
 
--- a fault of the file itself: memory did not run out
-abbrev pub IsFault : FileFault → Type 0
-IsFault (System fault) = fault ≢ NoMemory
+-- a fault of the file itself, which can be told: memory did not run out
+abbrev pub IsFault : Option SystemView → FileFault → Type 0
+IsFault sys (System fault) = fault ≢ NoMemory

@@ -1,5 +1,5 @@
 -- The text of a refusal, for every command.
-use Rattle.std.specs.Prelude.{ℕ, List, [], ◌++◌, codes}
+use Rattle.std.specs.Prelude.{ℕ, List, [], ◌∷◌, ◌++◌, codes}
 use Rattle.std.specs.Fmt.{decimal}
 use Rattle.slot_model.specs.declared.sched.Short.{Short}
 use Rattle.slot_model.specs.declared.sched.Short.TheVariants.{At, Task}
@@ -8,7 +8,7 @@ use Rattle.tree_model.specs.declared.plan.Refusal.{Refusal}
 use Rattle.tree_model.specs.declared.plan.Refusal.TheVariants.{Overfull, Wide, NoMemory}
 use Rattle.tree_model.specs.View.{SystemView}
 use Rattle.tree_model.specs.Tree.{IsNode}
-use Rattle.rt_report.specs.Words.{node_words, served_name}
+use Rattle.rt_report.specs.Words.{joined, node_words, served_name}
 
 -- the window in which too much can be asked for, or what is not served in time
 abbrev pub short_words : SystemView → Place → Short → List ℕ
@@ -16,8 +16,11 @@ short_words sys node (At t) = codes " at=" ++ decimal t
 short_words sys node (Task i) = codes " task=" ++ served_name sys node i
 
 abbrev pub refusal_text : SystemView → Refusal → List ℕ
-refusal_text sys (Overfull node short) = codes "verdict=no\noverfull " ++ (node_words sys node ++ (short_words sys node short ++ codes "\n"))
-refusal_text sys (Wide node) = codes "verdict=wide\nwide " ++ (node_words sys node ++ codes "\n")
+refusal_text sys (Overfull node short) = joined (
+    codes "verdict=no\noverfull " ∷ node_words sys node
+    ∷ short_words sys node short ∷ codes "\n" ∷ [])
+refusal_text sys (Wide node) = joined (
+    codes "verdict=wide\nwide " ∷ node_words sys node ∷ codes "\n" ∷ [])
 refusal_text sys NoMemory = []
 
 -- a refusal of a node of the system

@@ -16,20 +16,26 @@ use Rattle.tree_model.specs.Tree.{budget_at}
 use Rattle.rt_report.specs.declared.replay.Replay.{Replay}
 
 -- the first miss of the first run of the defeat's release over its supply
-pub record ShowsMiss (sched : Sched) (tasks : List SporadicTask) (period : ℕ) (defeat : Defeat) (miss : Miss) : Type 0 where
+pub record ShowsMiss
+    (sched : Sched) (tasks : List SporadicTask) (period : ℕ) (defeat : Defeat) (miss : Miss)
+  : Type 0 where
   pub slots : List Bool
   pub run : List (Option ℕ)
   pub worst : WorstList (worst_slot period defeat.budget) defeat.start defeat.span slots
-  pub first_run : FirstRun guest (before_of sched tasks) tasks (synchronous tasks defeat.start defeat.span) slots run
+  pub first_run : FirstRun guest (before_of sched tasks) tasks
+      (synchronous tasks defeat.start defeat.span) slots run
   pub first_miss : IsFirstMiss tasks (synchronous tasks defeat.start defeat.span) run (Some miss)
 
 -- a miss is there exactly where the window ends within 1,000,000 slots
 abbrev pub IsReplayed : Sched → List SporadicTask → ℕ → Defeat → Option Miss → Type 0
 IsReplayed sched tasks period defeat None = 1000000 < defeat.start + defeat.span
-IsReplayed sched tasks period defeat (Some miss) = (defeat.start + defeat.span ≤ 1000000) × ShowsMiss sched tasks period defeat miss
+IsReplayed sched tasks period defeat (Some miss) =
+    (defeat.start + defeat.span ≤ 1000000) × ShowsMiss sched tasks period defeat miss
 
 -- the replay of part q, a leaf with a computed budget
 pub record IsReplay (sys : SystemView) (budgets : List ℕ) (q : ℕ) (replay : Replay) : Type 0 where
   pub of_part : replay.part ≡ q
-  pub defeat : IsDefeat (part_at sys q).sched (own_tasks (part_at sys q)) (part_at sys q).period (budget_at budgets q) replay.witness
-  pub replayed : IsReplayed (part_at sys q).sched (own_tasks (part_at sys q)) (part_at sys q).period replay.witness replay.miss
+  pub defeat : IsDefeat (part_at sys q).sched (own_tasks (part_at sys q)) (part_at sys q).period
+      (budget_at budgets q) replay.witness
+  pub replayed : IsReplayed (part_at sys q).sched (own_tasks (part_at sys q))
+      (part_at sys q).period replay.witness replay.miss

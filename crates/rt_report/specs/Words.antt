@@ -1,4 +1,4 @@
--- Names of nodes and of what a node serves, as the texts write them.
+-- Names of nodes and of what a node serves, as the texts write them, and pieces of a text.
 use Rattle.slot_model.specs.Task.{default_task}
 use Rattle.std.specs.Prelude.{ℕ, zero, suc, List, [], ◌∷◌, ◌++◌, length, slice_index_or, codes}
 use Rattle.slot_model.specs.Release.{push_if}
@@ -7,6 +7,12 @@ use Rattle.tree_model.specs.declared.place.Place.TheVariants.{Core, Part}
 use Rattle.tree_model.specs.View.{NamedTask, PartView, SystemView}
 use Rattle.tree_model.specs.System.{core_at, part_at}
 use Rattle.tree_model.specs.Tree.{is_child}
+
+-- the pieces of a text, one after another
+abbrev pub joined : List (List ℕ) → List ℕ
+joined [] = []
+joined (piece ∷ []) = piece
+joined (piece ∷ next ∷ later) = piece ++ joined (next ∷ later)
 
 -- the name of a task of a leaf; nothing past the end
 abbrev pub task_name : PartView → ℕ → List ℕ
@@ -20,7 +26,8 @@ node_words sys (Part q) = codes "part " ++ (part_at sys q).name
 -- the names of a node's children among the first n parts, in file order
 abbrev pub names_among : SystemView → Place → ℕ → List (List ℕ)
 names_among sys node zero = []
-names_among sys node (suc n) = push_if (names_among sys node n) (is_child sys node n) (part_at sys n).name
+names_among sys node (suc n) =
+    push_if (names_among sys node n) (is_child sys node n) (part_at sys n).name
 
 abbrev pub child_names : SystemView → Place → List (List ℕ)
 child_names sys node = names_among sys node (length sys.parts)
@@ -28,7 +35,8 @@ child_names sys node = names_among sys node (length sys.parts)
 abbrev pub child_name : SystemView → Place → ℕ → List ℕ
 child_name sys node i = slice_index_or (child_names sys node) i []
 
--- the name of what a node serves, at a place among a leaf's tasks, else among the children; nothing past the end
+-- the name of what a node serves, at a place among a leaf's tasks, else among the children;
+-- nothing past the end
 abbrev pub name_in_part : SystemView → ℕ → List NamedTask → ℕ → List ℕ
 name_in_part sys q [] i = child_name sys (Part q) i
 name_in_part sys q (t ∷ tasks) i = task_name (part_at sys q) i

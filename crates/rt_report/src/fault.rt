@@ -1,8 +1,9 @@
-ghost use Rattle.std.specs.Prelude.{◌≡◌, ◌≢◌, ◌++◌, IfOk, OnOk, string_bytes};
+ghost use Rattle.std.specs.Prelude.{◌≡◌, ◌≢◌, ◌++◌, IfOk, OnOk, option_copied, string_bytes};
 ghost use Rattle.rt_report.specs.Fault.{fault_text, system_fault_text, spot_words, spot_line, IsFault};
 
 use std::alloc::{AllocError, Global};
 use system_file::{Spot, SystemFault};
+use tree_model::System;
 
 /// The fault of a file that a command reads.
 #[derive(Clone, Copy, Debug, PartialEq, Eq)]
@@ -10,10 +11,16 @@ pub enum FileFault {
     System(SystemFault),
 }
 
-/// The line of a fault of the file word `file`, counted from 1.
-pub fn fault_text(alloc: Global, f: &FileFault, file: u32) -> Result<Vec<u8>, AllocError>
-    requires { IsFault f.now }
-    ensures { IfOk result (λ text. text.items ≡ fault_text f.now file) }
+/// The line of a fault of the file word `file`, counted from 1. `sys` has the names of nodes that a
+/// fault tells.
+pub fn fault_text(
+    alloc: Global,
+    sys: Option<&System>,
+    f: &FileFault,
+    file: u32,
+) -> Result<Vec<u8>, AllocError>
+    requires { IsFault (option_copied sys) f.now }
+    ensures { IfOk result (λ text. text.items ≡ fault_text (option_copied sys.entry) f.now file) }
 {
     match *f {
         FileFault::System(fault) => system_text(alloc, fault, file),

@@ -6,8 +6,12 @@ mod fault;
 mod names;
 mod refusal;
 mod replay;
+mod unread;
+mod usage;
 
 pub use admit::{admit_text, is_computed_leaf};
 pub use fault::{FileFault, fault_text};
 pub use refusal::refusal_text;
 pub use replay::Replay;
+pub use unread::{absent_text, too_long_text};
+pub use usage::usage_text;

@@ -6,7 +6,8 @@ ghost use Rattle.tree_model.specs.Tree.{IsNode};
 
 use tree_model::{Part, Place, System};
 
-/// The name of what a node serves, at a place among its tasks or its children; nothing past the end.
+/// The name of what a node serves, at a place among its tasks or its children; nothing past the
+/// end.
 pub fn served(sys: &System, node: Place, i: u32) -> &str
     requires { IsNode sys.now node }
     ensures { result.now ≡ served_name sys.now node i }

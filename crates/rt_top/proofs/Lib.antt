@@ -1,5 +1,9 @@
-mod Answering
+mod AtFile
+mod OneAdmission
+mod OneAnswer
+mod Statuses
+mod Steps
+mod Admitting
+mod Reporting
 mod ReplayLeaf
 mod ReplayList
-mod OneAnswer
-mod Examples

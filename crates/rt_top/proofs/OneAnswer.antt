@@ -1,84 +1,19 @@
--- To the words over told files there is one answer.
-use Rattle.std.proofs.Common.{◌≡◌, ◌⊎◌, ℕ, List, length, Option, Some, None, Result, Ok, Err, refl, sym, ◌∙◌, ap, subst, inl, inr, arith}
-use Rattle.std.proofs.lemmas.Bool.{cases_lt}
-use Rattle.tree_model.specs.declared.plan.Refusal.{Refusal}
-use Rattle.tree_model.specs.declared.plan.Refusal.TheVariants.{Overfull, Wide as TooWide, NoMemory as NoRefusal}
-use Rattle.tree_model.specs.View.{SystemView}
-use Rattle.tree_model.specs.System.{IsSystem}
-use Rattle.tree_model.specs.Admission.{FirstRefusal}
-use Rattle.tree_model.proofs.Unique.{one_admission, one_refusal, never_both}
-use Rattle.system_file.specs.declared.fault.SystemFault.{SystemFault}
-use Rattle.system_file.specs.SystemFile.{system_of}
-use Rattle.system_file.proofs.Laws.{read_is_spelled}
-use Rattle.rt_report.specs.declared.replay.Replay.{Replay}
-use Rattle.rt_report.specs.Admit.{admit_text, AreReplays}
-use Rattle.rt_report.specs.Refusal.{refusal_text}
-use Rattle.rt_report.proofs.OneReplay.{one_list_of_replays}
-use Rattle.outside.specs.Files.{Files, file_named}
-use Rattle.rt_top.specs.declared.status.Status.{Status}
-use Rattle.rt_top.specs.declared.status.Status.TheVariants.{Yes, No, Usage, BadFile, Wide, Absent, TooLong, ReadFault, WriteFault, NoMemory}
-use Rattle.rt_top.specs.Words.{file_to_admit}
-use Rattle.rt_top.specs.Answer.{file_limit, IsAdmission, AdmitsSystem, AdmitsSpelled, AnswersFile, AnswersForm, HasOneAnswer}
+-- To a command over told files there is one answer.
+use Rattle.std.proofs.Common.{◌≡◌, ℕ, List, Option, Some, None, sym, ◌∙◌, subst}
+use Rattle.outside.specs.Files.{Files}
+use Rattle.rt_top.specs.Command.{Command, admit}
+use Rattle.rt_top.specs.Answer.{Contents, IsOne}
+use Rattle.rt_top.specs.Report.{JobAnswers, Answers, HasOneAnswer}
+use Rattle.rt_top.proofs.OneAdmission.{one_admit}
 
--- a first refusal, with the status that it has
-status_of : Refusal → Status
-status_of (Overfull node short) = No
-status_of (TooWide node) = Wide
-status_of NoRefusal = NoMemory
+one_of_job : (command : Command) (contents : Contents) → IsOne (JobAnswers command contents)
+one_of_job (admit file) contents = one_admit contents
 
-record IsRefused (sys : SystemView) (status : Status) (text : List ℕ) : Type 0 where
-  refusal : Refusal
-  first : FirstRefusal sys refusal
-  status_is : status ≡ status_of refusal
-  told : text ≡ refusal_text sys refusal
+one_of_words : (command : Option Command) (contents : Contents) → IsOne (Answers command contents)
+one_of_words None contents = λ s t x y p q. (p.0 ∙ sym q.0, p.1 ∙ sym q.1)
+one_of_words (Some command) contents = one_of_job command contents
 
--- a system is admitted or refused
-yes_or_refused : (sys : SystemView) (status : Status) (text : List ℕ) → AdmitsSystem sys status text → ((status ≡ Yes) × IsAdmission sys text) ⊎ IsRefused sys status text
-unfolding status_of
-yes_or_refused sys Yes text h = inl (refl, h)
-yes_or_refused sys No text h = inr (record { refusal = Overfull h.node h.short; first = h.first; status_is = refl; told = h.told })
-yes_or_refused sys Wide text h = inr (record { refusal = TooWide h.node; first = h.first; status_is = refl; told = h.told })
-yes_or_refused sys Usage text h = absurd h
-yes_or_refused sys BadFile text h = absurd h
-yes_or_refused sys Absent text h = absurd h
-yes_or_refused sys TooLong text h = absurd h
-yes_or_refused sys ReadFault text h = absurd h
-yes_or_refused sys WriteFault text h = absurd h
-yes_or_refused sys NoMemory text h = absurd h
-
--- one text tells an admission
-one_yes : (sys : SystemView) → IsSystem sys → (x y : List ℕ) → IsAdmission sys x → IsAdmission sys y → x ≡ y
-one_yes sys is x y a b =
-    let same : a.budgets ≡ b.budgets = one_admission sys is a.budgets b.budgets a.admitted b.admitted in
-    let replays : a.replays ≡ b.replays = one_list_of_replays sys a.budgets a.replays b.replays a.replayed (subst (λ (bs : List ℕ). AreReplays sys bs b.replays) (sym same) b.replayed) in
-    a.told ∙ ap (λ (bs : List ℕ). admit_text sys bs a.replays) same ∙ ap (λ (rs : List Replay). admit_text sys b.budgets rs) replays ∙ sym b.told
-
-one_verdict : (sys : SystemView) → IsSystem sys → (s t : Status) (x y : List ℕ) → AdmitsSystem sys s x → AdmitsSystem sys t y → (s ≡ t) × (x ≡ y)
-one_verdict sys is s t x y p q = elim (yes_or_refused sys s x p) [
-  | inl a ↦ elim (yes_or_refused sys t y q) [
-    | inl b ↦ (a.0 ∙ sym b.0, one_yes sys is x y a.1 b.1)
-    | inr b ↦ absurd (never_both sys is a.1.budgets b.refusal a.1.admitted b.first)
-  ]
-  | inr a ↦ elim (yes_or_refused sys t y q) [
-    | inl b ↦ absurd (never_both sys is b.1.budgets a.refusal b.1.admitted a.first)
-    | inr b ↦ (let same : a.refusal ≡ b.refusal = one_refusal sys is a.refusal b.refusal a.first b.first in (a.status_is ∙ ap status_of same ∙ sym b.status_is, a.told ∙ ap (λ (r : Refusal). refusal_text sys r) same ∙ sym b.told))
-  ]
-]
-
-one_spelled : (bytes : List ℕ) (spelled : Result SystemView SystemFault) → system_of bytes ≡ spelled → (s t : Status) (x y : List ℕ) → AdmitsSpelled spelled s x → AdmitsSpelled spelled t y → (s ≡ t) × (x ≡ y)
-one_spelled bytes (Ok sys) is s t x y p q = one_verdict sys (read_is_spelled bytes sys is).system s t x y p q
-one_spelled bytes (Err fault) is s t x y p q = (p.0 ∙ sym q.0, p.1 ∙ sym q.1)
-
-one_of_file : (file : Option (List ℕ)) (s t : Status) (x y : List ℕ) → AnswersFile file s x → AnswersFile file t y → (s ≡ t) × (x ≡ y)
-one_of_file None s t x y p q = (p.0 ∙ sym q.0, p.1 ∙ sym q.1)
-one_of_file (Some bytes) s t x y p q = elim (cases_lt file_limit (length bytes)) [
-  | inl long ↦ (let a = p.too_long long in let b = q.too_long long in (a.0 ∙ sym b.0, a.1 ∙ sym b.1))
-  | inr short ↦ one_spelled bytes (system_of bytes) refl s t x y (p.judged (omega (arith, short))) (q.judged (omega (arith, short)))
-]
-
-one_of_form : (name : Option (List ℕ)) (files : Files) (s t : Status) (x y : List ℕ) → AnswersForm name (Some files) s x → AnswersForm name (Some files) t y → (s ≡ t) × (x ≡ y)
-one_of_form None files s t x y p q = (p.0 ∙ sym q.0, p.1 ∙ sym q.1)
-one_of_form (Some name) files s t x y p q = one_of_file (file_named name files) s t x y p q
-
-pub one_answer : (words : List (List ℕ)) (files : Files) → HasOneAnswer words files
-one_answer words files = λ s t x y p q. one_of_form (file_to_admit words) files s t x y p.form q.form
+pub one_answer : (command : Option Command) (files : Files) → HasOneAnswer command files
+one_answer command files = λ s t x y a b.
+    let same : b.contents ≡ a.contents = b.held ∙ sym a.held in
+    one_of_words command a.contents s t x y a.answers (subst (λ (c : Contents). Answers command c t y) same b.answers)

@@ -1,5 +1,7 @@
-pub mod Words
+pub mod Command
 pub mod Answer
+pub mod Admit
+pub mod Report
 pub mod Causes
-pub mod Headline
 pub mod Statuses
+pub mod Steps

@@ -1,40 +1,39 @@
-ghost use Rattle.std.specs.Prelude.{◌≡◌, ◌≤◌, ◌≢◌, IfOk, length};
-ghost use Rattle.system_file.specs.SystemFile.{system_of};
+ghost use Rattle.std.specs.Prelude.{Some, IfOk};
 ghost use Rattle.tree_model.specs.Admission.{FirstRefusal};
 ghost use Rattle.compose_tree.specs.Truth.{RefusalHolds};
-ghost use Rattle.rt_top.specs.Answer.{AdmitsSystem, AdmitsSpelled};
-ghost use Rattle.rt_top.specs.Headline.{KeepsDeadlines, IsTrulyOverfull};
+ghost use Rattle.rt_top.specs.Command.{admit};
+ghost use Rattle.rt_top.specs.Admit.{AdmitsSystem, MeansOfSystem};
+ghost use Rattle.rt_top.specs.Report.{IsAnswer};
+ghost use Rattle.rt_top.specs.Steps.{counts_of, ending_of, IfAnswered, Explains};
 
 use crate::Status;
-use crate::answer::Answer;
+use crate::answer::{Answer, Ending};
+use crate::file::read_system_file;
 use crate::replays::replay_all;
 use compose_tree::compose;
-use rt_report::{FileFault, admit_text, fault_text, refusal_text};
+use outside::Store;
+use rt_report::{admit_text, refusal_text};
 use std::alloc::{AllocError, Global};
-use system_file::{SystemFault, read_system};
 use tree_model::{Refusal, System};
 
-/// The answer of `admit` to the bytes of its file.
-pub fn admit(alloc: Global, bytes: &[u8]) -> Result<Answer, AllocError>
-    requires { length bytes.now ≤ 67108864 }
-    ensures answer { IfOk result (λ a. AdmitsSpelled (system_of bytes.now) a.status a.text.items) }
-    ensures sound { IfOk result (λ a. a.status ≡ Status.Yes → IfOk (system_of bytes.now) (λ sys. KeepsDeadlines sys a.text.items)) }
-    ensures true_no { IfOk result (λ a. a.status ≡ Status.No → IfOk (system_of bytes.now) (λ sys. IsTrulyOverfull sys a.text.items)) }
+#[tactic(auto, using(crate::proofs::Admitting::judged_explained, crate::proofs::Admitting::refused_stop))]
+/// `admit FILE`: whether the system of the file is admitted, with its budgets and what defeats the
+/// next smaller ones.
+pub fn admit<S: Store>(alloc: Global, store: &mut S, file: &str) -> Result<Answer, Ending>
+    ensures answer {
+        IfAnswered (ending_of result) (λ a.
+          IsAnswer (Some (admit file.now)) (S.files store.old) a.status a.text.items) }
+    ensures explained {
+        let counts = counts_of S.faults S.absences S.taken in
+        Explains (ending_of result) (counts store.old) (counts store.new) }
 {
-    match read_system(alloc, bytes) {
-        Ok(sys) => judge(alloc, &sys),
-        Err(SystemFault::NoMemory) => Err(AllocError),
-        Err(fault) => Ok(Answer {
-            status: Status::BadFile,
-            text: fault_text(alloc, &FileFault::System(fault), 1)?,
-        }),
-    }
+    let sys = read_system_file(alloc, store, file)?;
+    Ok(judge(alloc, &sys)?)
 }
 
 fn judge(alloc: Global, sys: &System) -> Result<Answer, AllocError>
     ensures answer { IfOk result (λ a. AdmitsSystem sys.now a.status a.text.items) }
-    ensures sound { IfOk result (λ a. a.status ≡ Status.Yes → KeepsDeadlines sys.now a.text.items) }
-    ensures true_no { IfOk result (λ a. a.status ≡ Status.No → IsTrulyOverfull sys.now a.text.items) }
+    ensures means { IfOk result (λ a. MeansOfSystem sys.now a.status a.text.items) }
 {
     match compose(alloc, sys) {
         Ok(plan) => {
@@ -53,8 +52,7 @@ fn refuse(alloc: Global, sys: &System, refusal: Refusal) -> Result<Answer, Alloc
     requires first { FirstRefusal sys.now refusal }
     requires holds { RefusalHolds sys.now refusal }
     ensures answer { IfOk result (λ a. AdmitsSystem sys.now a.status a.text.items) }
-    ensures sound { IfOk result (λ a. a.status ≢ Status.Yes) }
-    ensures true_no { IfOk result (λ a. a.status ≡ Status.No → IsTrulyOverfull sys.now a.text.items) }
+    ensures means { IfOk result (λ a. MeansOfSystem sys.now a.status a.text.items) }
 {
     let text = refusal_text(alloc, sys, &refusal)?;
     match refusal {

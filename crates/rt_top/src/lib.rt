@@ -3,6 +3,8 @@
 
 mod admit;
 mod answer;
+mod command;
+mod file;
 #[cfg(test)]
 mod jitter_tests;
 mod replays;
@@ -10,7 +12,6 @@ mod status;
 #[cfg(test)]
 mod tests;
 mod top;
-mod words;
 
 pub use status::Status;
 pub use top::run;

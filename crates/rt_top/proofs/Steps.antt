@@ -1,0 +1,79 @@
+-- From a file that is refused to what is answered.
+use Rattle.std.proofs.Common.{◌≡◌, ◌≢◌, ℕ, ◌+◌, ◌<◌, ◌≤◌, zero, suc, List, [], ◌∷◌, length, Option, Some, None, refl, sym, subst, arith}
+use Rattle.std.specs.Prelude.{IsSomeAnd, IfOk, OnOk, IfErr, Result, Ok, Err}
+use Rattle.tree_model.specs.View.{SystemView}
+use Rattle.system_file.specs.declared.fault.SystemFault.{SystemFault}
+use Rattle.system_file.specs.SystemFile.{system_of}
+use Rattle.rt_report.specs.declared.fault.FileFault.TheVariants.{System}
+use Rattle.rt_report.specs.Fault.{fault_text}
+use Rattle.rt_report.specs.Unread.{absent_text, too_long_text}
+use Rattle.outside.specs.Files.{Files, Told, file_named}
+use Rattle.rt_top.specs.declared.status.Status.{Status}
+use Rattle.rt_top.specs.declared.status.Status.TheVariants.{BadFile, Absent, TooLong}
+use Rattle.rt_top.specs.Answer.{file_limit, Saying, AtContent, OnSystem}
+use Rattle.rt_top.specs.declared.answer.Ending.{Ending}
+use Rattle.rt_top.specs.declared.answer.Ending.TheVariants.{Answered, Unread, NoMemory as NoRoom}
+use Rattle.rt_top.specs.Steps.{Counts, IsQuiet, Explains, ExplainsAnswer, IfAnswered, IsSpelled, StopsAt}
+use Rattle.rt_top.proofs.AtFile.{more_at}
+
+-- where the files are told, one fact of the named file gives another
+told_more : (files : Option Files) (name : List ℕ) (P Q : Option (List ℕ) → Type 0) → ((file : Option (List ℕ)) → P file → Q file) → Told files name P → Told files name Q
+told_more None name P Q more told = tt
+told_more (Some files) name P Q more told = more _ told
+
+-- a list of more than n entries
+longer_list : (n : ℕ) → (bytes : List ℕ) × (n < length bytes)
+longer_list zero = (0 ∷ [], omega arith)
+longer_list (suc n) = (let shorter = longer_list n in (0 ∷ shorter.0, omega (arith, shorter.1)))
+
+pub stops_absent : (k : ℕ) (files : Option Files) (name : List ℕ) (text : List ℕ) (Says : Saying) → text ≡ absent_text k → Told files name (λ file. file ≡ None) → StopsAt k files name Says Absent text
+stops_absent k files name text Says is told = record { content = None; held = told; answers = (refl, is) }
+
+long_content : (k : ℕ) (bytes text : List ℕ) (Says : Saying) → text ≡ too_long_text k → file_limit < length bytes → AtContent k (Some bytes) Says TooLong text
+long_content k bytes text Says is long = record { too_long = λ l. (refl, is); said = λ l. absurd (omega (arith, long)) }
+
+long_of_told : (k : ℕ) (files : Files) (name text : List ℕ) (Says : Saying) → text ≡ too_long_text k → (file : Option (List ℕ)) → file_named name files ≡ file → IsSomeAnd file (λ bytes. file_limit < length bytes) → StopsAt k (Some files) name Says TooLong text
+long_of_told k files name text Says is None e long = absurd long
+long_of_told k files name text Says is (Some bytes) e long = record { content = Some bytes; held = e; answers = long_content k bytes text Says is long }
+
+pub stops_long : (k : ℕ) (files : Option Files) (name : List ℕ) (text : List ℕ) (Says : Saying) → text ≡ too_long_text k → Told files name (λ file. IsSomeAnd file (λ bytes. file_limit < length bytes)) → StopsAt k files name Says TooLong text
+stops_long k None name text Says is told = (let long = longer_list file_limit in record { content = Some long.0; held = tt; answers = long_content k long.0 text Says is long.1 })
+stops_long k (Some files) name text Says is told = long_of_told k files name text Says is (file_named name files) refl told
+
+-- where nothing more is said of the bytes, anything may be
+pub stops_more : (k : ℕ) (files : Option Files) (name : List ℕ) (status : Status) (text : List ℕ) (Q : Saying) → StopsAt k files name (λ _ _ _. ⊥) status text → StopsAt k files name Q status text
+stops_more k files name status text Q h = record { content = h.content; held = h.held; answers = more_at k (λ _ _ _. ⊥) Q status text (λ bytes none. absurd none) h.content h.answers }
+
+-- a system that was spelled, or was not
+pub system_spelled : (files : Option Files) (name bytes : List ℕ) (result : Result SystemView Ending) → Told files name (λ file. file ≡ Some bytes) → length bytes ≤ file_limit → IfOk result (λ sys. system_of bytes ≡ Ok sys) → IfOk result (λ sys. IsSpelled files name sys)
+system_spelled files name bytes (Ok sys) held short spelled = record { bytes = bytes; held = held; short = short; spelled = spelled }
+system_spelled files name bytes (Err stop) held short spelled = tt
+
+stop_at_system : (files : Option Files) (name bytes : List ℕ) (stop : Ending) → Told files name (λ file. file ≡ Some bytes) → length bytes ≤ file_limit → IfAnswered stop (λ a. OnSystem (system_of bytes) (λ _ _ _. ⊥) a.status a.text.items) →
+    IfAnswered stop (λ a. StopsAt 1 files name (λ b. OnSystem (system_of b) (λ _ _ _. ⊥)) a.status a.text.items)
+stop_at_system files name bytes (Answered a) held short bad = record { content = Some bytes; held = held; answers = record { too_long = λ l. absurd (omega (arith, short)); said = λ l. bad } }
+stop_at_system files name bytes Unread held short bad = tt
+stop_at_system files name bytes NoRoom held short bad = tt
+
+pub system_refused : (files : Option Files) (name bytes : List ℕ) (result : Result SystemView Ending) → Told files name (λ file. file ≡ Some bytes) → length bytes ≤ file_limit → IfErr result (λ stop. IfAnswered stop (λ a. OnSystem (system_of bytes) (λ _ _ _. ⊥) a.status a.text.items)) →
+    IfErr result (λ stop. IfAnswered stop (λ a. StopsAt 1 files name (λ b. OnSystem (system_of b) (λ _ _ _. ⊥)) a.status a.text.items))
+system_refused files name bytes (Ok sys) held short bad = tt
+system_refused files name bytes (Err stop) held short bad = stop_at_system files name bytes stop held short bad
+
+pub quiet_ok : (result : Result SystemView Ending) (P : Type 0) → P → OnOk result P
+quiet_ok (Ok sys) P p = p
+quiet_ok (Err stop) P p = tt
+
+bad_status : (spelled : Result SystemView SystemFault) (status : Status) (text : List ℕ) → OnSystem spelled (λ _ _ _. ⊥) status text → status ≡ BadFile
+bad_status (Ok sys) status text none = absurd none
+bad_status (Err fault) status text bad = bad.0
+
+bad_explained : (bytes : List ℕ) (stop : Ending) (before after : Counts) → IsQuiet before after → IfAnswered stop (λ a. OnSystem (system_of bytes) (λ _ _ _. ⊥) a.status a.text.items) → stop ≢ Unread → Explains stop before after
+bad_explained bytes (Answered a) before after quiet bad read = subst (λ (s : Status). ExplainsAnswer s before after) (sym (bad_status (system_of bytes) a.status a.text.items bad)) quiet
+bad_explained bytes Unread before after quiet bad read = absurd (read refl)
+bad_explained bytes NoRoom before after quiet bad read = tt
+
+pub system_explained : (bytes : List ℕ) (result : Result SystemView Ending) (before after : Counts) → IsQuiet before after → IfErr result (λ stop. IfAnswered stop (λ a. OnSystem (system_of bytes) (λ _ _ _. ⊥) a.status a.text.items)) → IfErr result (λ stop. stop ≢ Unread) →
+    IfErr result (λ stop. Explains stop before after)
+system_explained bytes (Ok sys) before after quiet bad read = tt
+system_explained bytes (Err stop) before after quiet bad read = bad_explained bytes stop before after quiet bad read

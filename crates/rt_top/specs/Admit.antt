@@ -1,0 +1,79 @@
+-- `admit FILE`: what it answers, and what its yes and no mean to who ships hardware on them.
+use Rattle.std.specs.Prelude.{◌≡◌, ℕ, List, IsOk, ⊤}
+use Rattle.slot_model.specs.declared.sched.Short.{Short}
+use Rattle.tree_model.specs.declared.place.Place.{Place}
+use Rattle.tree_model.specs.declared.plan.Refusal.TheVariants.{Overfull, Wide as TooWide}
+use Rattle.tree_model.specs.View.{SystemView}
+use Rattle.tree_model.specs.Tree.{NoLoss}
+use Rattle.tree_model.specs.Admission.{Admitted, FirstRefusal}
+use Rattle.compose_tree.specs.Truth.{IsTight, RefusalHolds}
+use Rattle.system_file.specs.SystemFile.{system_of}
+use Rattle.rt_report.specs.declared.replay.Replay.{Replay}
+use Rattle.rt_report.specs.Admit.{admit_text, AreReplays}
+use Rattle.rt_report.specs.Refusal.{refusal_text}
+use Rattle.rt_top.specs.declared.status.Status.{Status}
+use Rattle.rt_top.specs.declared.status.Status.TheVariants.{Yes, No, Usage, BadFile, Wide, Absent, TooLong, ReadFault, WriteFault, NoMemory}
+use Rattle.rt_top.specs.Answer.{Contents, AtFile, OnSystem, IfSystem, IsReadable}
+
+-- yes: budgets admit the system, and the text tells them, with the replay of each computed leaf
+pub record IsAdmission (sys : SystemView) (text : List ℕ) : Type 0 where
+  pub budgets : List ℕ
+  pub admitted : Admitted sys budgets
+  pub replays : List Replay
+  pub replayed : AreReplays sys budgets replays
+  pub told : text ≡ admit_text sys budgets replays
+
+-- no, and wide: the text tells the first refusal
+pub record IsOverfull (sys : SystemView) (text : List ℕ) : Type 0 where
+  pub node : Place
+  pub short : Short
+  pub first : FirstRefusal sys (Overfull node short)
+  pub told : text ≡ refusal_text sys (Overfull node short)
+
+pub record IsTooWide (sys : SystemView) (text : List ℕ) : Type 0 where
+  pub node : Place
+  pub first : FirstRefusal sys (TooWide node)
+  pub told : text ≡ refusal_text sys (TooWide node)
+
+-- the answer to a system
+abbrev pub AdmitsSystem : SystemView → Status → List ℕ → Type 0
+AdmitsSystem sys Yes text = IsAdmission sys text
+AdmitsSystem sys No text = IsOverfull sys text
+AdmitsSystem sys Wide text = IsTooWide sys text
+AdmitsSystem sys _ text = ⊥
+
+-- the answer to a file
+abbrev pub Admits : Contents → Status → List ℕ → Type 0
+Admits contents = AtFile 1 contents (λ bytes. OnSystem (system_of bytes) AdmitsSystem)
+
+-- yes means: the budgets that the text tells admit the system, no job is lost on any level in any
+-- permitted run, and every whole budget below a computed leaf budget must miss
+pub record KeepsDeadlines (sys : SystemView) (text : List ℕ) : Type 0 where
+  pub budgets : List ℕ
+  pub replays : List Replay
+  pub told : text ≡ admit_text sys budgets replays
+  pub admitted : Admitted sys budgets
+  pub no_loss : NoLoss sys budgets
+  pub tight : IsTight sys budgets
+
+-- no means: the refusal that the text tells is the first, and it is true of every supply and every
+-- release
+pub record IsTrulyOverfull (sys : SystemView) (text : List ℕ) : Type 0 where
+  pub node : Place
+  pub short : Short
+  pub told : text ≡ refusal_text sys (Overfull node short)
+  pub first : FirstRefusal sys (Overfull node short)
+  pub holds : RefusalHolds sys (Overfull node short)
+
+-- what an answer to a system means; of a wide one nothing is claimed
+abbrev pub MeansOfSystem : SystemView → Status → List ℕ → Type 0
+MeansOfSystem sys Yes text = KeepsDeadlines sys text
+MeansOfSystem sys No text = IsTrulyOverfull sys text
+MeansOfSystem sys _ text = ⊤
+
+abbrev pub AdmitMeans : Contents → Status → List ℕ → Type 0
+AdmitMeans contents status text = IfSystem contents (λ sys. MeansOfSystem sys status text)
+
+-- the file is there, short enough, and spells a system
+abbrev pub CanAdmit : Contents → Type 0
+CanAdmit contents = IsReadable 1 contents (λ bytes. IsOk (system_of bytes))

@@ -1,0 +1,22 @@
+-- The commands, and the words that spell them.
+use Rattle.std.specs.Prelude.{ℕ, List, [], ◌∷◌, Option, Some, None, option_map, codes, bytes_eq, if◌then◌else◌}
+
+-- one form of words each: the names of its files, in the order of the words, and its numbers
+pub data Command : Type 0 where
+  admit : (file : List ℕ) → Command
+
+-- the names of a command's files, in the order of its words
+abbrev pub file_names : Command → List (List ℕ)
+file_names (admit file) = file ∷ []
+
+-- the only word, and none where there are fewer or more
+abbrev pub one_word : List (List ℕ) → Option (List ℕ)
+one_word (word ∷ []) = Some word
+one_word _ = None
+
+-- the command that the words spell: its own word, and then its files and numbers
+abbrev pub command_of : List (List ℕ) → Option Command
+command_of [] = None
+command_of (word ∷ rest) =
+    if bytes_eq word (codes "admit") then option_map admit (one_word rest)
+    else None

@@ -1,0 +1,73 @@
+-- What the private steps of a command promise each other.
+use Rattle.std.specs.Prelude.{◌≡◌, ℕ, ◌≤◌, List, length, Option, Some, None, Result, Ok, Err, ⊤}
+use Rattle.outside.specs.Counts.{Rose, RoseBeyond}
+use Rattle.outside.specs.Files.{Files, Told}
+use Rattle.tree_model.specs.View.{SystemView}
+use Rattle.system_file.specs.SystemFile.{system_of}
+use Rattle.rt_top.specs.declared.status.Status.{Status}
+use Rattle.rt_top.specs.declared.status.Status.TheVariants.{Yes, No, Usage, BadFile, Wide, Absent, TooLong, ReadFault, WriteFault, NoMemory}
+use Rattle.rt_top.specs.declared.answer.Answer.{Answer}
+use Rattle.rt_top.specs.declared.answer.Ending.{Ending}
+use Rattle.rt_top.specs.declared.answer.Ending.TheVariants.{Answered, Unread, NoMemory as NoRoom}
+use Rattle.rt_top.specs.declared.command.Command.{Command as Parsed}
+use Rattle.rt_top.specs.declared.command.Command.TheVariants.{Admit}
+use Rattle.rt_top.specs.Command.{Command, admit}
+use Rattle.rt_top.specs.Answer.{Saying, AtContent, file_limit}
+
+-- the command that was parsed
+abbrev pub command_told : Parsed → Command
+command_told (Admit file) = admit file.now
+
+-- what is said of the answer, where a command ends with one
+abbrev pub IfAnswered : Ending → (Answer → Type 0) → Type 0
+IfAnswered (Answered answer) P = P answer
+IfAnswered Unread P = ⊤
+IfAnswered NoRoom P = ⊤
+
+-- how a command ends that came to its answer, or ended before
+abbrev pub ending_of : Result Answer Ending → Ending
+ending_of (Ok answer) = Answered answer
+ending_of (Err ending) = ending
+
+-- a store's counts
+pub record Counts : Type 0 where
+  pub faults : ℕ
+  pub absences : ℕ
+  pub taken : ℕ
+
+abbrev pub counts_of : {A : Type 0} (faults absences taken : A → ℕ) → A → Counts
+counts_of faults absences taken store =
+    record { faults = faults store; absences = absences store; taken = taken store }
+
+-- no call failed, and no name was not there
+pub record IsQuiet (before after : Counts) : Type 0 where
+  pub faults : after.faults ≡ before.faults
+  pub absences : after.absences ≡ before.absences
+  pub taken : before.taken ≤ after.taken
+
+-- how the counts explain an answer
+abbrev pub ExplainsAnswer : Status → Counts → Counts → Type 0
+ExplainsAnswer Absent before after = Rose before.absences after.absences
+ExplainsAnswer TooLong before after =
+    IsQuiet before after × RoseBeyond file_limit before.taken after.taken
+ExplainsAnswer _ before after = IsQuiet before after
+
+-- how the counts explain that a command ended so
+abbrev pub Explains : Ending → Counts → Counts → Type 0
+Explains (Answered answer) before after = ExplainsAnswer answer.status before after
+Explains Unread before after = Rose before.faults after.faults
+Explains NoRoom before after = ⊤
+
+-- the system that the file of that name spells
+pub record IsSpelled (files : Option Files) (name : List ℕ) (sys : SystemView) : Type 0 where
+  pub bytes : List ℕ
+  pub held : Told files name (λ file. file ≡ Some bytes)
+  pub short : length bytes ≤ file_limit
+  pub spelled : system_of bytes ≡ Ok sys
+
+-- the answer to file k that is absent or too long, or else of which this is said
+pub record StopsAt (k : ℕ) (files : Option Files) (name : List ℕ) (Says : Saying)
+    (status : Status) (text : List ℕ) : Type 0 where
+  pub content : Option (List ℕ)
+  pub held : Told files name (λ told. told ≡ content)
+  pub answers : AtContent k content Says status text

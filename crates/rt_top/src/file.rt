@@ -1,0 +1,95 @@
+ghost use Rattle.std.specs.Prelude.{◌≡◌, ◌≢◌, ◌≤◌, ℕ, List, length, Some, Ok, IfOk, IfErr, OnOk};
+ghost use Rattle.outside.specs.Files.{Told};
+ghost use Rattle.system_file.specs.SystemFile.{system_of};
+ghost use Rattle.rt_top.specs.Answer.{file_limit, OnSystem};
+ghost use Rattle.rt_top.specs.Steps.{counts_of, IfAnswered, IsQuiet, Explains, StopsAt, IsSpelled};
+
+use crate::Status;
+use crate::answer::{Answer, Ending};
+use outside::{ReadFault, Store, read_all};
+use rt_report::{FileFault, absent_text, fault_text, too_long_text};
+use std::alloc::Global;
+use system_file::{SystemFault, read_system};
+use tree_model::System;
+
+/// The most bytes of a file.
+const MOST_BYTES: usize = 67_108_864;
+
+/// The bytes of the file of that name, which is the file word `number`, counted from 1. It stops
+/// where the file is absent or too long.
+#[tactic(auto, using(crate::proofs::Steps::stops_long))]
+pub fn read_file<S: Store>(
+    alloc: Global,
+    store: &mut S,
+    name: &str,
+    number: u32,
+) -> Result<Vec<u8>, Ending>
+    ensures bytes {
+        IfOk result (λ bytes. Told (S.files store.old) name.now (λ file. file ≡ Some bytes.items)) }
+    ensures short { IfOk result (λ bytes. length bytes.items ≤ file_limit) }
+    ensures refused {
+        IfErr result (λ stop. IfAnswered stop (λ a.
+          StopsAt number (S.files store.old) name.now (λ _ _ _. ⊥) a.status a.text.items)) }
+    ensures quiet {
+        let counts = counts_of S.faults S.absences S.taken in
+        OnOk result (IsQuiet (counts store.old) (counts store.new)) }
+    ensures explained {
+        let counts = counts_of S.faults S.absences S.taken in
+        IfErr result (λ stop. Explains stop (counts store.old) (counts store.new)) }
+{
+    match read_all(alloc, store, name, MOST_BYTES) {
+        Ok(bytes) => Ok(bytes),
+        Err(ReadFault::Absent) => Err(Ending::Answered(Answer {
+            status: Status::Absent,
+            text: absent_text(alloc, number)?,
+        })),
+        Err(ReadFault::TooLong) => Err(Ending::Answered(Answer {
+            status: Status::TooLong,
+            text: too_long_text(alloc, number)?,
+        })),
+        Err(ReadFault::Failed) => Err(Ending::Unread),
+        Err(ReadFault::NoMemory) => Err(Ending::NoMemory),
+    }
+}
+
+/// The system that the file of that name spells, which is the first file word. It stops where the
+/// file is absent, too long or refused.
+pub fn read_system_file<S: Store>(
+    alloc: Global,
+    store: &mut S,
+    name: &str,
+) -> Result<System, Ending>
+    ensures spelled {
+        IfOk result (λ sys. IsSpelled (S.files store.old) name.now sys) }
+    ensures refused {
+        IfErr result (λ stop. IfAnswered stop (λ a.
+          StopsAt 1 (S.files store.old) name.now
+            (λ bytes. OnSystem (system_of bytes) (λ _ _ _. ⊥)) a.status a.text.items)) }
+    ensures quiet {
+        let counts = counts_of S.faults S.absences S.taken in
+        OnOk result (IsQuiet (counts store.old) (counts store.new)) }
+    ensures explained {
+        let counts = counts_of S.faults S.absences S.taken in
+        IfErr result (λ stop. Explains stop (counts store.old) (counts store.new)) }
+{
+    let bytes = read_file(alloc, store, name, 1)?;
+    spelled_system(alloc, &bytes)
+}
+
+// The system that the bytes of the first file word spell. It stops where they are refused.
+fn spelled_system(alloc: Global, bytes: &[u8]) -> Result<System, Ending>
+    ensures spelled { IfOk result (λ sys. system_of bytes.now ≡ Ok sys) }
+    ensures refused {
+        IfErr result (λ stop. IfAnswered stop (λ a.
+          OnSystem (system_of bytes.now) (λ _ _ _. ⊥) a.status a.text.items)) }
+    ensures read { IfErr result (λ stop. stop ≢ Ending.Unread) }
+{
+    match read_system(alloc, bytes) {
+        Ok(sys) => Ok(sys),
+        Err(SystemFault::NoMemory) => Err(Ending::NoMemory),
+        Err(fault) => Err(Ending::Answered(Answer {
+            status: Status::BadFile,
+            text: fault_text(alloc, None, &FileFault::System(fault), 1)?,
+        })),
+    }
+}
