@@ -1,12 +1,12 @@
 -- Where no point up to a common multiple of all periods and the supply's cycle, and one cycle more, is short, none is.
-use Rattle.std.proofs.Common.{◌≡◌, ℕ, zero, suc, ◌+◌, ◌*◌, ◌-◌, ◌/◌, ◌<◌, ◌≤◌, leb, List, length, sym, ◌∙◌, ap, arith, inl, inr, le-leb}
-use Rattle.std.proofs.lemmas.Bool.{cases_lt, cond-true, cond-false, lt-leb}
-use Rattle.std.proofs.Math.Nat.{add-mul-div_right, div-eq_of_lt}
+use Rattle.std.proofs.Common.{◌≡◌, ℕ, zero, suc, ◌+◌, ◌*◌, ◌-◌, ◌/◌, ◌<◌, ◌≤◌, List, length, ◌∙◌, ap, arith, inl, inr}
+use Rattle.std.proofs.lemmas.Bool.{cases_lt}
+use Rattle.std.proofs.Math.Nat.{add-mul-div_right}
 use Rattle.slot_model.specs.Slots.{sum_below}
 use Rattle.slot_model.specs.Task.{AreConstrained, IsConstrained, default_task, room_of, task_at, SporadicTask}
 use Rattle.slot_model.specs.Bound.{demand_of, dbf}
 use Rattle.edf_demand.specs.Cyclic.{RisesByCycle}
-use Rattle.slot_model.proofs.Sums.{sum_below-same, sum_below-add, sum_below-none}
+use Rattle.slot_model.proofs.Sums.{sum_below-same, sum_below-add}
 use Rattle.slot_model.proofs.Windows.{sum_by-places}
 use Rattle.slot_model.proofs.Demand.{demand_closed, dbf_start}
 

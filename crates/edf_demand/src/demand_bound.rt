@@ -1,8 +1,9 @@
-ghost use Rattle.std.specs.Prelude.{◌≡◌, ℕ, ◌+◌, ◌^◌, ◌≤◌, List, MatchOption, IfSome};
+ghost use Rattle.std.specs.Prelude.{◌≡◌, ℕ, ◌+◌, ◌-◌, ◌^◌, ◌≤◌, List, MatchOption, IfSome};
 ghost use Rattle.slot_model.specs.Bound.{demand_of, dbf};
 ghost use Rattle.slot_model.specs.Release.{LegalRelease, work_within};
 ghost use Rattle.slot_model.specs.Task.{sporadic_task, sporadic_tasks};
 ghost use Rattle.slot_model.specs.declared.job.Job.{Job};
+ghost use Rattle.edf_demand.specs.Jobs.{jobs_due};
 
 use slot_model::Task;
 
@@ -13,30 +14,61 @@ pub fn demand(tasks: &[Task], t: u128) -> Option<u128>
     ensures bounds { IfSome result (λ d. (jobs : List Job) (from : ℕ) → LegalRelease (sporadic_tasks tasks.now) jobs → work_within (sporadic_tasks tasks.now) jobs from (from + t) ≤ d) }
 {
     let mut total: u128 = 0;
+    let mut due = Due::new(1, 1, t);
     for task in tasks {
-        total = total.checked_add(demand_of_task(task, t))?;
+        due = due.of_task(task, t);
+        total = total.checked_add(demand_of_task(task, &due, t))?;
     }
     Some(total)
 }
 
-/// At most `t`, since a task's work and jitter fit its deadline and its deadline its period.
-fn demand_of_task(task: &Task, t: u128) -> u128
-    ensures { result ≡ demand_of (sporadic_task task.now) t }
-{
-    if t <= u64::MAX as u128 {
-        return demand_of_short(task, t as u64) as u128;
-    }
-    let room = (task.deadline - task.jitter) as u128;
-    ((t - room) / task.period as u128 + 1) * task.work as u128
+/// How many jobs of a period and a room fall due in `t` slots.
+#[derive(Clone, Copy)]
+struct Due {
+    period: u64,
+    room: u64,
+    jobs: u128,
 }
 
-/// The same in 64 bits, where a division is several times as fast.
-fn demand_of_short(task: &Task, t: u64) -> u64
+impl Due {
+    fn new(period: u64, room: u64, t: u128) -> Due
+        requires some_period { 1 ≤ period }
+        requires some_room { 1 ≤ room }
+        ensures period { result.period ≡ period }
+        ensures room { result.room ≡ room }
+        ensures jobs { result.jobs ≡ jobs_due period room t }
+    {
+        let jobs = if t < room as u128 {
+            0
+        } else if t <= u64::MAX as u128 {
+            ((t as u64 - room) / period) as u128 + 1
+        } else {
+            (t - room as u128) / period as u128 + 1
+        };
+        Due { period, room, jobs }
+    }
+
+    /// The same of a task; tasks of one period and room that stand in a row share a division.
+    fn of_task(self, task: &Task, t: u128) -> Due
+        requires { self.jobs ≡ jobs_due self.period self.room t }
+        ensures period { result.period ≡ task.now.period }
+        ensures room { result.room ≡ task.now.deadline - task.now.jitter }
+        ensures jobs { result.jobs ≡ jobs_due result.period result.room t }
+    {
+        let room = task.deadline - task.jitter;
+        if self.period == task.period && self.room == room {
+            return self;
+        }
+        Due::new(task.period, room, t)
+    }
+}
+
+/// At most `t`, since a task's work and jitter fit its deadline and its deadline its period.
+fn demand_of_task(task: &Task, due: &Due, t: u128) -> u128
+    requires period { due.now.period ≡ task.now.period }
+    requires room { due.now.room ≡ task.now.deadline - task.now.jitter }
+    requires jobs { due.now.jobs ≡ jobs_due due.now.period due.now.room t }
     ensures { result ≡ demand_of (sporadic_task task.now) t }
 {
-    let room = task.deadline - task.jitter;
-    if t < room {
-        return 0;
-    }
-    ((t - room) / task.period + 1) * task.work
+    due.jobs * task.work as u128
 }
