@@ -4,3 +4,4 @@ pub mod Tree
 pub mod Admission
 pub mod CertificateView
 pub mod TreeRunView
+pub mod Plans
