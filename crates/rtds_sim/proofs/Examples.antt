@@ -17,7 +17,7 @@ use Rattle.rtds_sim.specs.Printed.{gathered, printed_below, printed}
 use Rattle.rtds_sim.proofs.Runs.{better, choice, chosen, is_run}
 
 abbrev server : ℕ → ℕ → Bool → PartView
-server letter budget extra = record { name = letter ∷ []; parent = on_core 0; sched = Edf; period = 10; budget = Some budget; extra = extra; tasks = record { name = 116 ∷ []; task = record { period = 100; deadline = 100; work = budget } } ∷ [] }
+server letter budget extra = record { name = letter ∷ []; parent = on_core 0; sched = Edf; period = 10; budget = Some budget; extra = extra; tasks = record { name = 116 ∷ []; task = record { period = 100; deadline = 100; work = budget; jitter = 0 } } ∷ [] }
 
 abbrev core : CoreView
 core = record { name = 99 ∷ []; sched = Edf; supply = None }

@@ -1,23 +1,23 @@
 -- RTDS gives VCPUs that can always run their budgets: what they have on level 0 is a permitted run of their servers under
 -- earliest deadline first.
-use Rattle.std.proofs.Common.{◌≡◌, ◌⊎◌, ℕ, zero, suc, min, ◌+◌, ◌*◌, ◌-◌, ◌/◌, ◌%◌, ◌<◌, ◌≤◌, Bool, true, false, cond, if◌then◌else◌, not, ltb, leb, nat_lt, ◌&&◌, ◌||◌, List, length, map, get_or, Option, Some, None, refl, sym, ◌∙◌, ap, arith, subst, inl, inr, eq-eqb, le-leb, leb-true, lt-ltb, le-ltb, ltb-true, zero-add}
+use Rattle.std.proofs.Common.{◌≡◌, ◌⊎◌, ℕ, zero, suc, min, ◌+◌, ◌*◌, ◌-◌, ◌/◌, ◌%◌, ◌<◌, ◌≤◌, Bool, true, false, cond, if◌then◌else◌, not, ltb, leb, nat_lt, ◌&&◌, ◌||◌, List, length, map, get_or, Option, Some, None, refl, sym, ◌∙◌, ap, arith, subst, inl, inr, eq-eqb, le-leb, leb-true, lt-ltb, le-ltb, ltb-true, zero-add, add-zero}
 use Rattle.std.specs.List.{range_with_len}
 use Rattle.std.proofs.Math.Nat.{mul-mod_left, div-eq_of_lt}
 use Rattle.std.proofs.lemmas.Nat.{div-mul-add, le-div}
-use Rattle.std.proofs.lemmas.Bool.{cases_eq, cases_lt, cases_Bool, cases_order, both_ways, and_from, and_parts, cond-true, cond-false}
+use Rattle.std.proofs.lemmas.Bool.{cases_eq, cases_lt, cases_Bool, cases_order, both_ways, or_right, and_from, and_parts, cond-true, cond-false}
 use Rattle.std.proofs.lemmas.List.FromFn.{length-map-range_with_len, get_or-map-range_with_len}
 use Rattle.slot_model.specs.declared.job.Job.{Job}
 use Rattle.slot_model.specs.Slots.{count_below}
 use Rattle.slot_model.specs.Task.{SporadicTask, AreConstrained, IsConstrained, task_at, job_at, deadline_of}
 use Rattle.slot_model.specs.Order.{edf_before}
 use Rattle.slot_model.specs.Run.{held, holds, service, server, Pending, PermittedRun}
-use Rattle.slot_model.specs.Release.{release_of, synchronous, LegalRelease}
+use Rattle.slot_model.specs.Release.{releases_now, release_of, synchronous, LegalRelease}
 use Rattle.slot_model.specs.Bound.{dbf}
 use Rattle.slot_model.proofs.Sums.{sum_below-zero, sum_below-suc, sum_below-same}
 use Rattle.slot_model.proofs.Runs.{search_below, holds-is}
 use Rattle.slot_model.proofs.FirstRuns.{none_some, same_some}
 use Rattle.slot_model.proofs.FullSupply.{full_laws}
-use Rattle.slot_model.proofs.Synchronous.{legal_synchronous, synchronous_when, synchronous_whole}
+use Rattle.slot_model.proofs.Synchronous.{legal_synchronous, synchronous_whole}
 use Rattle.slot_model.proofs.ChildSupply.{In, has_release}
 use Rattle.edf_test.proofs.Level.{edf_keeps}
 use Rattle.tree_model.specs.declared.place.Place.TheVariants.{Core}
@@ -31,6 +31,7 @@ use Rattle.tree_model.specs.Plans.{IsPlan}
 use Rattle.release_file.specs.Workload.{last_row, starts, is_by, is_started, is_started_at, is_blocked_at, start_of, slot_of}
 use Rattle.rtds_sim.specs.Rtds.{period_number, period_from, deadline_at, used, level_at, can_run, is_eligible, CoreRun}
 use Rattle.rtds_sim.specs.Giving.{slots_got, IsStartedOn, AlwaysRunnable, ServersFit, GivesBudgets}
+use Rattle.rtds_sim.proofs.Periodic.{periodic_release}
 use Rattle.rtds_sim.proofs.Order.{first_by_level, first_by_deadline}
 use Rattle.rtds_sim.proofs.Rows.{FoundRow, some_found, some_row}
 use Rattle.rtds_sim.proofs.Runs.{eligible_runs}
@@ -174,6 +175,9 @@ module _ (sys : SystemView) (budgets : List ℕ) (plan : IsPlan sys budgets) (ro
   work_is : (v : ℕ) → Serves v → (task_at tasks (place v)).work ≡ budget v
   work_is v s = ap (λ (t : SporadicTask). t.work) (task_is v s)
 
+  jitter_is : (v : ℕ) → Serves v → (task_at tasks (place v)).jitter ≡ 0
+  jitter_is v s = ap (λ (t : SporadicTask). t.jitter) (task_is v s)
+
   some_budget : (v : ℕ) → Serves v → 1 ≤ budget v
   some_budget v s = plan.some_budget v s.is_part
 
@@ -185,7 +189,7 @@ module _ (sys : SystemView) (budgets : List ℕ) (plan : IsPlan sys budgets) (ro
       let h : Server k = server_of k l in
       subst (λ (z : ℕ). IsConstrained (task_at tasks z)) h.stands (record {
         works = omega (arith, work_is h.vcpu h.starts_on, some_budget h.vcpu h.starts_on);
-        in_deadline = omega (arith, work_is h.vcpu h.starts_on, deadline_is h.vcpu h.starts_on, plan.in_period h.vcpu h.starts_on.is_part);
+        in_deadline = omega (arith, work_is h.vcpu h.starts_on, jitter_is h.vcpu h.starts_on, deadline_is h.vcpu h.starts_on, plan.in_period h.vcpu h.starts_on.is_part);
         in_period = omega (arith, deadline_is h.vcpu h.starts_on, period_is h.vcpu h.starts_on);
       })
 
@@ -235,8 +239,8 @@ module _ (sys : SystemView) (budgets : List ℕ) (plan : IsPlan sys budgets) (ro
   has_left : (v x : ℕ) → Serves v → had v x < budget v → is_eligible sys budgets rows c run v x ≡ true
   has_left v x s l = and_from (can_run sys rows c v x) (nat_lt (had v x) (budget v) || (part_at sys v).extra) (serves_runs v x s) (ap (λ (b : Bool). b || (part_at sys v).extra) (lt-ltb (had v x) (budget v) l))
 
-  multiple_of : (v r k : ℕ) → Serves v → r ≡ k * period v → r % (task_at tasks (place v)).period ≡ 0
-  multiple_of v r k s e = subst (λ (p : ℕ). r % p ≡ 0) (sym (period_is v s)) (ap (λ (z : ℕ). z % period v) e ∙ mul-mod_left k (period v))
+  multiple_of : (v r k : ℕ) → Serves v → r ≡ k * period v → releases_now (task_at tasks (place v)) r ≡ true
+  multiple_of v r k s e = subst (λ (t : SporadicTask). releases_now t r ≡ true) (sym (task_is v s)) (or_right _ _ (eq-eqb _ _ (ap (λ (z : ℕ). z % period v) (add-zero r ∙ e) ∙ mul-mod_left k (period v))))
 
   -- the job of VCPU v's period at x
   job_here : (v x : ℕ) → Serves v → x < n → Names jobs (place v) (from v x) (find_job jobs (place v) (from v x))
@@ -328,19 +332,20 @@ module _ (sys : SystemView) (budgets : List ℕ) (plan : IsPlan sys budgets) (ro
   job_of : (j : ℕ) → j < length jobs → JobOf j
   job_of j l =
       let s : Server (job_at jobs j).task = server_of (job_at jobs j).task (legal.named j l) in
-      let w = synchronous_when tasks 0 n j l in
+      let none : (task_at tasks (job_at jobs j).task).jitter ≡ 0 = subst (λ (k : ℕ). (task_at tasks k).jitter ≡ 0) s.stands (jitter_is s.vcpu s.starts_on) in
+      let w = periodic_release tasks n j l none in
       let e : (task_at tasks (job_at jobs j).task).period ≡ period s.vcpu = subst (λ (k : ℕ). (task_at tasks k).period ≡ period s.vcpu) s.stands (period_is s.vcpu s.starts_on) in
       record {
         vcpu = s.vcpu;
         stands = s.stands;
-        of = record { starts_on = s.starts_on; times = w.0; at_period = w.1 ∙ (zero-add _ ∙ ap (λ (p : ℕ). w.0 * p) e); names = record { within = l; task_is = sym s.stands; release_is = refl } };
+        of = record { starts_on = s.starts_on; times = w.0; at_period = w.1 ∙ ap (λ (p : ℕ). w.0 * p) e; names = record { within = l; task_is = sym s.stands; release_is = refl } };
       }
 
   job_work : (v r j : ℕ) → Of v r j → (job_at jobs j).work ≡ budget v
   job_work v r j o = synchronous_whole tasks 0 n j o.names.within ∙ (ap (λ (k : ℕ). (task_at tasks k).work) o.names.task_is ∙ work_is v o.starts_on)
 
   job_deadline : (v r j : ℕ) → Of v r j → deadline_of tasks (job_at jobs j) ≡ r + period v
-  job_deadline v r j o = omega (arith, o.names.release_is, ap (λ (k : ℕ). (task_at tasks k).deadline) o.names.task_is, deadline_is v o.starts_on)
+  job_deadline v r j o = omega (arith, o.names.release_is, ap (λ (k : ℕ). (task_at tasks k).deadline) o.names.task_is, deadline_is v o.starts_on, ap (λ (k : ℕ). (task_at tasks k).jitter) o.names.task_is, jitter_is v o.starts_on, legal.in_jitter j o.names.within)
 
   -- a pending job's VCPU is in its period with budget left
   record Left (x : ℕ) (j : ℕ) : Type 0 where

@@ -152,11 +152,11 @@ module _ (sys : SystemView) (x : ℕ) (in_limit : moment_of_slot x ≤ LAST_MOME
       ])
 
 -- the core of a VCPU
-record OnCore (sys : SystemView) (v : ℕ) : Type 0 where
-  is_core : core_of (part_at sys v).parent < length sys.cores
-  child : is_child sys (Core (core_of (part_at sys v).parent)) v ≡ true
+pub record OnCore (sys : SystemView) (v : ℕ) : Type 0 where
+  pub is_core : core_of (part_at sys v).parent < length sys.cores
+  pub child : is_child sys (Core (core_of (part_at sys v).parent)) v ≡ true
 
-vcpu_core : (sys : SystemView) → IsSystem sys → (v : ℕ) → is_vcpu sys v ≡ true → OnCore sys v
+pub vcpu_core : (sys : SystemView) → IsSystem sys → (v : ℕ) → is_vcpu sys v ≡ true → OnCore sys v
 vcpu_core sys is v h =
     let p = and_parts (nat_lt v (length sys.parts)) (is_core (part_at sys v).parent) h in
     record { is_core = core_in sys is v (ltb-true v (length sys.parts) p.0); child = go (part_at sys v).parent p.1 }
@@ -472,6 +472,12 @@ module _ (sys : SystemView) (system : IsSystem sys) (rows : List Row) (workload 
         let s : (k : ℕ) × AreBefore rows k x = split_at x in
         subst (λ (xs : List Event). After sys xs (moment_of_slot (suc x)) (started_after rows j) (blocked_after rows j) (Before (suc x))) (sym (printed_below-suc sys rows runs x))
         (slot_more x s.0 j l s.1 taken (printed_below sys rows runs x) (below x s.0 (omega arith) s.1))
+
+    -- and the VCPU of a slot has the core behind what is told at the slots up to it
+    pub holder_below : (x c : ℕ) → x < n → c < length sys.cores → holder (printed_below sys rows runs (suc x)) (length (printed_below sys rows runs (suc x))) c ≡ held (run_at runs c) x
+    holder_below x c l p =
+        let s : (k : ℕ) × AreBefore rows k (suc x) = split_at (suc x) in
+        (below (suc x) s.0 (omega arith) s.1).held_is c p
 
     -- the events of a run keep the rules
     pub printed_keeps : Kept sys (printed sys rows runs n)

@@ -2,12 +2,13 @@ ghost use Rattle.std.specs.Prelude.{◌≡◌, ℕ, ◌≤◌, ◌<◌, ◌&&◌
 ghost use Rattle.tree_model.specs.System.{IsSystem};
 ghost use Rattle.tree_model.specs.Tree.{run_at};
 ghost use Rattle.trace_file.specs.Rules.{Kept};
+ghost use Rattle.trace_file.specs.Periods.{Satisfied};
 ghost use Rattle.tree_model.specs.Plans.{IsPlan};
 ghost use Rattle.release_file.specs.Workload.{IsWorkload};
 ghost use Rattle.rtds_sim.specs.Rtds.{is_full, is_edf, RtdsRun};
 ghost use Rattle.rtds_sim.specs.Printed.{printed, IsRtdsTrace};
 ghost use Rattle.rtds_sim.specs.Fault.{AllRtds, IsFirstOther, IsRtdsFault};
-ghost use Rattle.rtds_sim.specs.Giving.{AlwaysRunnable, ServersFit, GivesBudgets, NeverOver};
+ghost use Rattle.rtds_sim.specs.Giving.{AlwaysRunnable, ServersFit, AlwaysServed, GivesBudgets, NeverOver, NoneOver};
 
 use crate::host::{Host, print_rows};
 use crate::moment::moment_of_slot;
@@ -33,16 +34,29 @@ pub fn run_rtds(
     requires some { 1 ≤ slots }
     requires short { slots ≤ 1000000 }
     ensures trace { IfOk result (λ trace. IsRtdsTrace sys.now plan.now wakes.now slots trace) }
-    ensures only { IfOk result (λ trace. (runs : List (List (Option ℕ))) → RtdsRun sys.now plan.now wakes.now slots runs → trace ≡ printed sys.now wakes.now runs slots) }
+    ensures only { IfOk result (λ trace. (runs : List (List (Option ℕ))) →
+        RtdsRun sys.now plan.now wakes.now slots runs →
+        trace ≡ printed sys.now wakes.now runs slots) }
     ensures kept { IfOk result (λ trace. Kept sys.now trace) }
     ensures rtds { IfOk result (λ trace. AllRtds sys.now (length sys.now.cores)) }
     ensures fault { IfErr result (IsRtdsFault sys.now) }
 
-    // On a core whose servers pass the test, VCPUs that can always run have their budgets in each period.
-    ensures gives { (runs : List (List (Option ℕ))) (c : ℕ) → RtdsRun sys.now plan.now wakes.now slots runs → c < length sys.now.cores → AlwaysRunnable sys.now wakes.now c → ServersFit sys.now plan.now c → GivesBudgets sys.now plan.now wakes.now slots c (run_at runs c) }
+    // On a core whose servers pass the test, VCPUs that can always run have their budgets in each
+    // period.
+    ensures gives { (runs : List (List (Option ℕ))) (c : ℕ) →
+        RtdsRun sys.now plan.now wakes.now slots runs → c < length sys.now.cores →
+        AlwaysRunnable sys.now wakes.now c → ServersFit sys.now plan.now c →
+        GivesBudgets sys.now plan.now wakes.now slots c (run_at runs c) }
+
+    // So no period in the trace is short or over, where that holds of each core.
+    ensures satisfied { IfOk result (λ trace.
+        AlwaysServed sys.now plan.now wakes.now → Satisfied sys.now plan.now trace) }
 
     // Over any workload no VCPU without extra time has more than its budget in a period.
-    ensures never_over { (runs : List (List (Option ℕ))) (c : ℕ) → RtdsRun sys.now plan.now wakes.now slots runs → c < length sys.now.cores → NeverOver sys.now plan.now wakes.now (run_at runs c) }
+    ensures never_over { (runs : List (List (Option ℕ))) (c : ℕ) →
+        RtdsRun sys.now plan.now wakes.now slots runs → c < length sys.now.cores →
+        NeverOver sys.now plan.now wakes.now (run_at runs c) }
+    ensures none_over { IfOk result (λ trace. NoneOver sys.now plan.now trace) }
 {
     if let Some(core) = other_core(sys) {
         return Err(RtdsFault::NotRtds(core));
