@@ -62,7 +62,7 @@ unfolding last_row sum_below
 extra_level = refl
 
 with_extra_printed : printed (host true) both_start (with_extra ∷ []) 10
-    ≡ event 0 (Starts 0) ∷ event 0 (Starts 1) ∷ event 0 (Run 0) ∷ event 3 (Run 1) ∷ event 7 (Run 0) ∷ event 10 End ∷ []
+    ≡ event 0 (Starts 0) ∷ event 0 (Starts 1) ∷ event 0 (Run 0) ∷ event 3000 (Run 1) ∷ event 7000 (Run 0) ∷ event 10000 End ∷ []
 unfolding printed_below gathered last_row
 with_extra_printed = refl
 
@@ -75,7 +75,7 @@ unfolding chosen choice better last_row sum_below
 without_extra_chosen = refl
 
 without_extra_printed : printed (host false) both_start (without_extra ∷ []) 12
-    ≡ event 0 (Starts 0) ∷ event 0 (Starts 1) ∷ event 0 (Run 0) ∷ event 3 (Run 1) ∷ event 7 Stop ∷ event 10 (Run 0) ∷ event 12 End ∷ []
+    ≡ event 0 (Starts 0) ∷ event 0 (Starts 1) ∷ event 0 (Run 0) ∷ event 3000 (Run 1) ∷ event 7000 Stop ∷ event 10000 (Run 0) ∷ event 12000 End ∷ []
 unfolding printed_below gathered last_row
 without_extra_printed = refl
 
@@ -92,11 +92,11 @@ unfolding chosen choice better last_row sum_below
 blocked_chosen = refl
 
 blocked_printed : printed (host false) one_blocks (blocked_run ∷ []) 12
-    ≡ event 1 (Starts 0) ∷ event 1 (Run 0) ∷ event 2 Stop ∷ event 2 (Starts 1) ∷ event 2 (Blocks 0) ∷ event 2 (Run 1) ∷ event 4 (Wakes 0) ∷ event 4 (Run 0) ∷ event 6 (Run 1) ∷ event 8 Stop ∷ event 11 (Run 0) ∷ event 12 End ∷ []
+    ≡ event 1000 (Starts 0) ∷ event 1000 (Run 0) ∷ event 2000 Stop ∷ event 2000 (Starts 1) ∷ event 2000 (Blocks 0) ∷ event 2000 (Run 1) ∷ event 4000 (Wakes 0) ∷ event 4000 (Run 0) ∷ event 6000 (Run 1) ∷ event 8000 Stop ∷ event 11000 (Run 0) ∷ event 12000 End ∷ []
 unfolding printed_below gathered last_row
 blocked_printed = refl
 
 -- rows past the end are not printed, and a row at the end is none of them
-rows_past_the_end : printed (host false) one_blocks ((None ∷ []) ∷ []) 1 ≡ event 1 End ∷ []
+rows_past_the_end : printed (host false) one_blocks ((None ∷ []) ∷ []) 1 ≡ event 1000 End ∷ []
 unfolding printed_below gathered last_row
 rows_past_the_end = refl
