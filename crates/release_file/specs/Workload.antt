@@ -16,7 +16,8 @@ row_at rows i = slice_index_or rows i (record { at = 0; vcpu = 0; what = Start }
 -- the last of the first n rows that passes a test
 unfoldable pub last_row : (Wake → Bool) → List Wake → ℕ → Option Wake
 last_row passes rows zero = None
-last_row passes rows (suc n) = if passes (row_at rows n) then Some (row_at rows n) else last_row passes rows n
+last_row passes rows (suc n) =
+    if passes (row_at rows n) then Some (row_at rows n) else last_row passes rows n
 
 -- a row is one of VCPU v; one of its start; one at or before slot x
 abbrev pub is_of : ℕ → Wake → Bool
@@ -52,8 +53,8 @@ started_after rows n v = is_some (last_row (starts v) rows n)
 abbrev pub blocked_after : List Wake → ℕ → ℕ → Bool
 blocked_after rows n v = blocks (last_row (is_of v) rows n)
 
--- at slot x: VCPU v is started when a row at or before x starts it, and blocked when the last of its rows at or before x is
--- a block
+-- at slot x: VCPU v is started when a row at or before x starts it, and blocked when the last of
+-- its rows at or before x is a block
 abbrev pub is_started_at : List Wake → ℕ → ℕ → Bool
 is_started_at rows v x = is_some (last_row (λ row. is_by x row && starts v row) rows (length rows))
 
@@ -67,8 +68,8 @@ is_started rows v = is_some (last_row (starts v) rows (length rows))
 abbrev pub start_of : List Wake → ℕ → ℕ
 start_of rows v = slot_of (last_row (starts v) rows (length rows))
 
--- what may follow on the last row of a VCPU: a start comes first and only there, a wake while it is blocked, a block while
--- it is not
+-- what may follow on the last row of a VCPU: a start comes first and only there, a wake while it is
+-- blocked, a block while it is not
 abbrev pub may_follow : Option Wake → WakeKind → Bool
 may_follow None Start = true
 may_follow None _ = false
@@ -76,11 +77,13 @@ may_follow (Some last) Start = false
 may_follow (Some last) ToWake = is_block last.what
 may_follow (Some last) Block = not (is_block last.what)
 
--- the rows of a workload file: in order and in the limit, each of a VCPU, at most one of a VCPU at a slot, and each such
--- that it may follow on the VCPU's last
+-- the rows of a workload file: in order and in the limit, each of a VCPU, at most one of a VCPU at
+-- a slot, and each such that it may follow on the VCPU's last
 pub record IsWorkload (sys : SystemView) (rows : List Wake) : Type 0 where
   pub in_limit : (i : ℕ) → i < length rows → (row_at rows i).at ≤ LIMIT
   pub in_order : (i : ℕ) → i + 1 < length rows → (row_at rows i).at ≤ (row_at rows (i + 1)).at
   pub known : (i : ℕ) → i < length rows → is_vcpu sys (row_at rows i).vcpu ≡ true
-  pub one_a_slot : (i j : ℕ) → i < j → j < length rows → (row_at rows i).vcpu ≡ (row_at rows j).vcpu → (row_at rows i).at ≢ (row_at rows j).at
-  pub in_turn : (i : ℕ) → i < length rows → may_follow (last_row (is_of (row_at rows i).vcpu) rows i) (row_at rows i).what ≡ true
+  pub one_a_slot : (i j : ℕ) → i < j → j < length rows →
+      (row_at rows i).vcpu ≡ (row_at rows j).vcpu → (row_at rows i).at ≢ (row_at rows j).at
+  pub in_turn : (i : ℕ) → i < length rows →
+      may_follow (last_row (is_of (row_at rows i).vcpu) rows i) (row_at rows i).what ≡ true

@@ -15,11 +15,11 @@ use Rattle.tree_model.specs.Plans.{IsPlan}
 use Rattle.release_file.specs.Workload.{is_started_at, is_blocked_at}
 use Rattle.rtds_sim.specs.Rtds.{can_run, RtdsRun}
 use Rattle.rtds_sim.specs.Printed.{gathered, on_at, on_core_at, switch_to, holder_before, is_blocked_one, holder_left, stop_at, row_event_at, switch_at, printed_at, printed_below}
-use Rattle.rtds_sim.specs.Accounts.{holder_at, gives_up, stop_of, switch_of, IsChoice, AreAccounts, AreBefore, HasRoom}
+use Rattle.rtds_sim.specs.Accounts.{left_at, holder_at, gives_up, stop_of, switch_of, IsChoice, AreAccounts, AreBefore, HasRoom}
 use Rattle.rtds_sim.proofs.Runs.{entry_unique, eligible_runs}
 use Rattle.rtds_sim.proofs.Gathered.{gathered-none, gathered-same}
 use Rattle.rtds_sim.proofs.Taking.{row_none}
-use Rattle.rtds_sim.proofs.Stopping.{left_at}
+
 use Rattle.rtds_sim.proofs.Entering.{blocked_by, choice_entry}
 use Rattle.rtds_sim.proofs.Steady.{IsNext, taken_at, alike}
 

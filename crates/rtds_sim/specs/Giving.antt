@@ -30,21 +30,28 @@ ServersFit sys budgets c = DemandFits (server_tasks sys budgets (Core c)) (λ t.
 abbrev pub slots_got : (ℕ → Bool) → ℕ → ℕ → ℕ → ℕ
 slots_got runs period f k = count_between runs (begins period f k) (begins period f (suc k))
 
--- on each core the servers pass, and each VCPU that the workload starts starts at 0 and never blocks
+-- on each core the servers pass, and each VCPU that the workload starts starts at 0 and never
+-- blocks
 pub record AlwaysServed (sys : SystemView) (budgets : List ℕ) (rows : List Wake) : Type 0 where
   pub runnable : (c : ℕ) → c < length sys.cores → AlwaysRunnable sys rows c
   pub fit : (c : ℕ) → c < length sys.cores → ServersFit sys budgets c
 
--- each VCPU that is started has its core at no fewer than its budget of slots in each of its periods that end within n slots
+-- each VCPU that is started has its core at no fewer than its budget of slots in each of its
+-- periods that end within n slots
 abbrev pub GivesBudgets : SystemView → List ℕ → List Wake → ℕ → ℕ → List (Option ℕ) → Type 0
 GivesBudgets sys budgets rows n c run =
-    (v k : ℕ) → IsStartedOn sys rows c v → begins (part_at sys v).period (start_of rows v) (suc k) ≤ n →
-    budget_at budgets v ≤ slots_got (λ x. holds (held run x) v) (part_at sys v).period (start_of rows v) k
+    (v k : ℕ) → IsStartedOn sys rows c v →
+        begins (part_at sys v).period (start_of rows v) (suc k) ≤ n →
+    budget_at budgets v ≤ slots_got (λ x. holds (held run x) v) (part_at sys v).period
+        (start_of rows v) k
 
--- and over any workload no VCPU without extra time has its core at more than its budget of slots in a period
+-- and over any workload no VCPU without extra time has its core at more than its budget of slots in
+-- a period
 abbrev pub NeverOver : SystemView → List ℕ → List Wake → List (Option ℕ) → Type 0
 NeverOver sys budgets rows run =
-    (v k : ℕ) → v < length sys.parts → (part_at sys v).extra ≡ false → slots_got (λ x. holds (held run x) v) (part_at sys v).period (start_of rows v) k ≤ budget_at budgets v
+    (v k : ℕ) → v < length sys.parts → (part_at sys v).extra ≡ false →
+        slots_got (λ x. holds (held run x) v) (part_at sys v).period
+        (start_of rows v) k ≤ budget_at budgets v
 
 -- no period in a trace is over
 abbrev pub NoneOver : SystemView → List ℕ → List Event → Type 0

@@ -39,7 +39,12 @@ what_of ToWake v = Wake v
 what_of ToBlock v = Block v
 
 abbrev pub event_of : SystemView → Row → Event
-event_of sys row = record { at = moment_of_slot row.at; core = core_of (part_at sys row.vcpu).parent; what = what_of row.what row.vcpu }
+event_of sys row =
+    record {
+      at = moment_of_slot row.at;
+      core = core_of (part_at sys row.vcpu).parent;
+      what = what_of row.what row.vcpu;
+    }
 
 -- an event on core c at slot x
 abbrev pub on_at : ℕ → ℕ → What → Event
@@ -56,18 +61,21 @@ is_blocked_one rows x (Some v) = is_blocked_at rows v x
 
 -- the VCPU that still has the core, once those that block at x gave it up
 abbrev pub holder_left : List Row → List (Option ℕ) → ℕ → Option ℕ
-holder_left rows run x = if is_blocked_one rows x (holder_before run x) then None else holder_before run x
+holder_left rows run x =
+    if is_blocked_one rows x (holder_before run x) then None else holder_before run x
 
 -- first, core c stops where its VCPU blocks at x
 abbrev pub stop_at : List Row → List (List (Option ℕ)) → ℕ → ℕ → Option Event
-stop_at rows runs x c = if is_blocked_one rows x (holder_before (run_at runs c) x) then Some (on_at c x Stop) else None
+stop_at rows runs x c =
+    if is_blocked_one rows x (holder_before (run_at runs c) x) then Some (on_at c x Stop) else None
 
 -- then come the rows at x
 abbrev pub row_event_at : SystemView → List Row → ℕ → ℕ → Option Event
-row_event_at sys rows x i = if (row_at rows i).at == x then Some (event_of sys (row_at rows i)) else None
+row_event_at sys rows x i =
+    if (row_at rows i).at == x then Some (event_of sys (row_at rows i)) else None
 
--- and then a run of the VCPU of slot x, where it is not the one that has the core, or a stop, where the slot is idle and one
--- has the core
+-- and then a run of the VCPU of slot x, where it is not the one that has the core, or a stop, where
+-- the slot is idle and one has the core
 abbrev pub switch_to : Option ℕ → Option ℕ → Option What
 switch_to None None = None
 switch_to (Some u) None = Some Stop
@@ -78,11 +86,15 @@ on_core_at c x None = None
 on_core_at c x (Some what) = Some (on_at c x what)
 
 abbrev pub switch_at : List Row → List (List (Option ℕ)) → ℕ → ℕ → Option Event
-switch_at rows runs x c = on_core_at c x (switch_to (holder_left rows (run_at runs c) x) (held (run_at runs c) x))
+switch_at rows runs x c =
+    on_core_at c x (switch_to (holder_left rows (run_at runs c) x) (held (run_at runs c) x))
 
 -- the events at slot x
 abbrev pub printed_at : SystemView → List Row → List (List (Option ℕ)) → ℕ → List Event
-printed_at sys rows runs x = gathered (stop_at rows runs x) (length sys.cores) ++ (gathered (row_event_at sys rows x) (length rows) ++ gathered (switch_at rows runs x) (length sys.cores))
+printed_at sys rows runs x =
+    gathered (stop_at rows runs x) (length sys.cores)
+    ++ (gathered (row_event_at sys rows x) (length rows)
+    ++ gathered (switch_at rows runs x) (length sys.cores))
 
 -- the events at the slots below n
 unfoldable pub printed_below : SystemView → List Row → List (List (Option ℕ)) → ℕ → List Event
@@ -95,4 +107,6 @@ printed sys rows runs n = printed_below sys rows runs n ++ on_at 0 n End ∷ []
 
 -- the trace of the RTDS run
 abbrev pub IsRtdsTrace : SystemView → List ℕ → List Row → ℕ → List Event → Type 0
-IsRtdsTrace sys budgets rows n events = (runs : List (List (Option ℕ))) × RtdsRun sys budgets rows n runs × (events ≡ printed sys rows runs n)
+IsRtdsTrace sys budgets rows n events =
+    (runs : List (List (Option ℕ))) × RtdsRun sys budgets rows n runs ×
+    (events ≡ printed sys rows runs n)

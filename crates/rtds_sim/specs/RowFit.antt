@@ -15,4 +15,5 @@ pub record IsRowFit (sys : SystemView) (rows : List Wake) (i : ℕ) : Type 0 whe
   pub in_order : (j : ℕ) → j + 1 ≡ i → (row_at rows j).at ≤ (row_at rows i).at
   pub known : is_vcpu sys (row_at rows i).vcpu ≡ true
   pub one_a_slot : NoneAt rows i (row_at rows i).vcpu (row_at rows i).at
-  pub in_turn : may_follow (last_row (is_of (row_at rows i).vcpu) rows i) (row_at rows i).what ≡ true
+  pub in_turn : may_follow (last_row (is_of (row_at rows i).vcpu) rows i) (row_at rows i).what
+      ≡ true

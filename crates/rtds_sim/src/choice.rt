@@ -82,7 +82,9 @@ fn better(best: Option<Rank>, next: Option<Rank>) -> Option<Rank>
 pub fn choose(sys: &System, plan: &Plan, accounts: &[Account], core: u32) -> Option<u32>
     requires plan { IsPlan sys.now plan.now }
     requires room { length sys.now.parts ≤ length accounts.now }
-    requires ends { (v : ℕ) → v < length sys.now.parts → (account_at accounts.now v).from + (part_at sys.now v).period < 2 ^ 64 }
+    requires ends {
+        (v : ℕ) → v < length sys.now.parts
+          → (account_at accounts.now v).from + (part_at sys.now v).period < 2 ^ 64 }
     ensures { IsChoice sys.now plan.now accounts.now core result }
 {
     let mut best = None;
