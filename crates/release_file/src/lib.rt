@@ -1,0 +1,6 @@
+//! The files of releases and of workloads.
+#![tactic(auto)]
+
+mod workload;
+
+pub use workload::{Wake, WakeKind};

@@ -1,0 +1,135 @@
+use Rattle.std.proofs.Common.{◌≡◌, ℕ, suc, ◌-◌, ◌<◌, ◌++◌, List, [], ◌∷◌, length, sym, ◌∙◌, ap, arith, subst}
+use Rattle.slot_model.specs.Run.{holds}
+use Rattle.tree_model.specs.Tree.{budget_at}
+use Rattle.tree_model.specs.System.{part_at}
+use Rattle.trace_file.specs.declared.event.Event.{Event}
+use Rattle.trace_file.specs.declared.event.What.TheVariants.{End}
+use Rattle.rtds_sim.specs.declared.account.Account.{Account}
+use Rattle.release_file.specs.Workload.{row_at}
+use Rattle.rtds_sim.specs.Rtds.{RtdsRun}
+use Rattle.rtds_sim.specs.Printed.{printed_below, gathered, core_of}
+use Rattle.rtds_sim.specs.Accounts.{account_at, holder_at, left_of, gone_on, switch_of, IsChoice}
+use Rattle.rtds_sim.proofs.Runs.{rtds_run, rtds_run-is}
+use Rattle.rtds_sim.proofs.Steady.{IsNext}
+use Rattle.rtds_sim.proofs.Visits.{next_is, visited}
+use Rattle.rtds_sim.proofs.Standing.{Visit, standing_start, standing_next, visit_rows, ends_fit, few_fit, next_later, ordered}
+use Rattle.rtds_sim.proofs.simulate.simulated.Goals as goal
+
+pub loop-host-init : goal.loop-host-init
+loop-host-init c =
+    let made = c.new-host.ensures in
+    record {
+      stands = standing_start c.args.sys.now c.args.wakes.now (rtds_run c.args.sys.now c.args.plan.now c.args.wakes.now c.args.slots) c.new-host.result c.new-events.result.items made.time made.taken made.room made.accounts made.holders c.new-events.ensures.items;
+      in_slots = omega (arith, made.time);
+    }
+
+pub switch_all-requires-clause-ends : goal.switch_all-requires-clause-ends
+switch_all-requires-clause-ends c =
+    let sys = c.args.sys.now in
+    let rows = c.args.wakes.now in
+    let runs = rtds_run sys c.args.plan.now rows c.args.slots in
+    let took = c.take_rows.ensures in
+    let visit : Visit sys rows runs c.take_rows.new.self c.loop-host.events.items = visit_rows sys c.new-host.ensures.system rows c.requires.workload runs c.loop-host.host c.take_rows.new.self c.loop-host.events.items c.loop-host.invariant.stands took.time took.holders took.all_vcpus took.in_rows took.later took.now took.no_more took.accounts in
+    ends_fit sys c.new-host.ensures.system rows runs c.take_rows.new.self.time c.take_rows.new.self.taken c.take_rows.new.self.accounts c.stop_blocked.new.self.accounts (omega (arith, took.time, c.loop-host.invariant.in_slots, c.requires.short)) visit.are c.stop_blocked.ensures.accounts
+
+pub next_slot-next-requires-clause-ends : goal.next_slot-next-requires-clause-ends
+next_slot-next-requires-clause-ends c =
+    let sys = c.args.sys.now in
+    let rows = c.args.wakes.now in
+    let runs = rtds_run sys c.args.plan.now rows c.args.slots in
+    let took = c.take_rows.ensures in
+    let visit : Visit sys rows runs c.take_rows.new.self c.loop-host.events.items = visit_rows sys c.new-host.ensures.system rows c.requires.workload runs c.loop-host.host c.take_rows.new.self c.loop-host.events.items c.loop-host.invariant.stands took.time took.holders took.all_vcpus took.in_rows took.later took.now took.no_more took.accounts in
+    let same : c.switch_all.new.self.accounts ≡ c.take_rows.new.self.accounts = c.switch_all.ensures.accounts ∙ c.stop_blocked.ensures.accounts in
+    ends_fit sys c.new-host.ensures.system rows runs c.take_rows.new.self.time c.take_rows.new.self.taken c.take_rows.new.self.accounts c.switch_all.new.self.accounts (omega (arith, took.time, c.loop-host.invariant.in_slots, c.requires.short)) visit.are same
+
+pub go_on-requires-clause-ends : goal.go_on-requires-clause-ends
+go_on-requires-clause-ends c =
+    let sys = c.args.sys.now in
+    let rows = c.args.wakes.now in
+    let runs = rtds_run sys c.args.plan.now rows c.args.slots in
+    let took = c.take_rows.ensures in
+    let visit : Visit sys rows runs c.take_rows.new.self c.loop-host.events.items = visit_rows sys c.new-host.ensures.system rows c.requires.workload runs c.loop-host.host c.take_rows.new.self c.loop-host.events.items c.loop-host.invariant.stands took.time took.holders took.all_vcpus took.in_rows took.later took.now took.no_more took.accounts in
+    let same : c.switch_all.new.self.accounts ≡ c.take_rows.new.self.accounts = c.switch_all.ensures.accounts ∙ c.stop_blocked.ensures.accounts in
+    ends_fit sys c.new-host.ensures.system rows runs c.take_rows.new.self.time c.take_rows.new.self.taken c.take_rows.new.self.accounts c.switch_all.new.self.accounts (omega (arith, took.time, c.loop-host.invariant.in_slots, c.requires.short)) visit.are same
+
+pub go_on-requires-clause-few : goal.go_on-requires-clause-few
+go_on-requires-clause-few c =
+    let sys = c.args.sys.now in
+    let rows = c.args.wakes.now in
+    let runs = rtds_run sys c.args.plan.now rows c.args.slots in
+    let took = c.take_rows.ensures in
+    let visit : Visit sys rows runs c.take_rows.new.self c.loop-host.events.items = visit_rows sys c.new-host.ensures.system rows c.requires.workload runs c.loop-host.host c.take_rows.new.self c.loop-host.events.items c.loop-host.invariant.stands took.time took.holders took.all_vcpus took.in_rows took.later took.now took.no_more took.accounts in
+    let same : c.switch_all.new.self.accounts ≡ c.take_rows.new.self.accounts = c.switch_all.ensures.accounts ∙ c.stop_blocked.ensures.accounts in
+    few_fit sys rows runs c.take_rows.new.self.time c.take_rows.new.self.taken c.next_slot-next.result c.take_rows.new.self.accounts c.switch_all.new.self.accounts (omega (arith, took.time, c.loop-host.invariant.in_slots, c.requires.short)) (omega (arith, c.next_slot-next.ensures.in_slots, c.requires.short)) visit.are same
+
+pub go_on-requires-clause-later : goal.go_on-requires-clause-later
+go_on-requires-clause-later c =
+    let sys = c.args.sys.now in
+    let rows = c.args.wakes.now in
+    let runs = rtds_run sys c.args.plan.now rows c.args.slots in
+    let took = c.take_rows.ensures in
+    let visit : Visit sys rows runs c.take_rows.new.self c.loop-host.events.items = visit_rows sys c.new-host.ensures.system rows c.requires.workload runs c.loop-host.host c.take_rows.new.self c.loop-host.events.items c.loop-host.invariant.stands took.time took.holders took.all_vcpus took.in_rows took.later took.now took.no_more took.accounts in
+    let same : c.switch_all.new.self.accounts ≡ c.take_rows.new.self.accounts = c.switch_all.ensures.accounts ∙ c.stop_blocked.ensures.accounts in
+    let later : c.take_rows.new.self.time < c.next_slot-next.result = next_later sys rows runs c.take_rows.new.self c.loop-host.events.items visit c.switch_all.new.self c.args.slots c.next_slot-next.result (c.switch_all.ensures.time ∙ c.stop_blocked.ensures.time) (c.switch_all.ensures.taken ∙ c.stop_blocked.ensures.taken) same (omega (arith, took.time, c.loop-host-test.true)) c.next_slot-next.ensures.later in
+    omega (arith, later, c.switch_all.ensures.time, c.stop_blocked.ensures.time)
+
+pub loop-host-smaller : goal.loop-host-smaller
+loop-host-smaller c =
+    let sys = c.args.sys.now in
+    let rows = c.args.wakes.now in
+    let runs = rtds_run sys c.args.plan.now rows c.args.slots in
+    let took = c.take_rows.ensures in
+    let visit : Visit sys rows runs c.take_rows.new.self c.loop-host.events.items = visit_rows sys c.new-host.ensures.system rows c.requires.workload runs c.loop-host.host c.take_rows.new.self c.loop-host.events.items c.loop-host.invariant.stands took.time took.holders took.all_vcpus took.in_rows took.later took.now took.no_more took.accounts in
+    let same : c.switch_all.new.self.accounts ≡ c.take_rows.new.self.accounts = c.switch_all.ensures.accounts ∙ c.stop_blocked.ensures.accounts in
+    let later : c.take_rows.new.self.time < c.next_slot-next.result = next_later sys rows runs c.take_rows.new.self c.loop-host.events.items visit c.switch_all.new.self c.args.slots c.next_slot-next.result (c.switch_all.ensures.time ∙ c.stop_blocked.ensures.time) (c.switch_all.ensures.taken ∙ c.stop_blocked.ensures.taken) same (omega (arith, took.time, c.loop-host-test.true)) c.next_slot-next.ensures.later in
+    omega (arith, later, took.time, c.go_on.ensures.time, c.next_slot-next.ensures.in_slots, c.loop-host-test.true)
+
+pub loop-host-preserved : goal.loop-host-preserved
+loop-host-preserved c =
+    let sys = c.args.sys.now in
+    let rows = c.args.wakes.now in
+    let runs = rtds_run sys c.args.plan.now rows c.args.slots in
+    let took = c.take_rows.ensures in
+    let visit : Visit sys rows runs c.take_rows.new.self c.loop-host.events.items = visit_rows sys c.new-host.ensures.system rows c.requires.workload runs c.loop-host.host c.take_rows.new.self c.loop-host.events.items c.loop-host.invariant.stands took.time took.holders took.all_vcpus took.in_rows took.later took.now took.no_more took.accounts in
+    let same : c.switch_all.new.self.accounts ≡ c.take_rows.new.self.accounts = c.switch_all.ensures.accounts ∙ c.stop_blocked.ensures.accounts in
+    let later : c.take_rows.new.self.time < c.next_slot-next.result = next_later sys rows runs c.take_rows.new.self c.loop-host.events.items visit c.switch_all.new.self c.args.slots c.next_slot-next.result (c.switch_all.ensures.time ∙ c.stop_blocked.ensures.time) (c.switch_all.ensures.taken ∙ c.stop_blocked.ensures.taken) same (omega (arith, took.time, c.loop-host-test.true)) c.next_slot-next.ensures.later in
+    let is : RtdsRun sys c.args.plan.now rows c.args.slots runs = rtds_run-is sys c.args.plan.now rows c.args.slots in
+    let took_host = c.take_rows.new.self in
+    let x : ℕ = took_host.time in
+    let time : c.switch_all.new.self.time ≡ x = c.switch_all.ensures.time ∙ c.stop_blocked.ensures.time in
+    let taken : c.switch_all.new.self.taken ≡ took_host.taken = c.switch_all.ensures.taken ∙ c.stop_blocked.ensures.taken in
+    let within : x < c.args.slots = omega (arith, took.time, c.loop-host-test.true) in
+    let chosen = λ (d : ℕ) (l : d < length sys.cores). subst (λ (xs : List Account). IsChoice sys c.args.plan.now xs d (holder_at c.switch_all.new.self.holders d)) c.stop_blocked.ensures.accounts (c.in_ok-switch_all.ensures.chosen d l) in
+    let rows_told = c.in_ok-print_rows.ensures x
+    (λ i l. omega (arith, took.time, c.loop-host.invariant.stands.before.past i l))
+    (λ i a b. took.now i a (omega (arith, b, c.stop_blocked.ensures.taken)) ∙ sym took.time)
+    (λ i a b. omega (arith, visit.taken.to_come i (omega (arith, a, c.stop_blocked.ensures.taken)) b)) in
+    let told : c.switch_all.new.events.items ≡ printed_below sys rows runs (suc x) =
+    visited sys c.args.plan.now rows c.args.slots runs is took_host within visit.taken visit.are visit.room visit.holders_are c.stop_blocked.new.self.holders c.switch_all.new.self.holders c.loop-host.events.items c.stop_blocked.new.events.items c.print_rows.new.events.items c.switch_all.new.events.items visit.events_are
+    (λ d l. c.in_ok-stop_blocked.ensures.left d l) chosen c.in_ok-stop_blocked.ensures.events rows_told
+    (c.in_ok-switch_all.ensures.events ∙ ap (λ (y : ℕ). c.print_rows.new.events.items ++ gathered (switch_of c.stop_blocked.new.self.holders c.switch_all.new.self.holders y) (length sys.cores)) c.stop_blocked.ensures.time) in
+    let next : IsNext sys c.args.plan.now rows runs x took_host.taken took_host.accounts c.switch_all.new.self.holders c.next_slot-next.result = record {
+      taken = visit.taken;
+      are = visit.are;
+      holders_are = λ d l. next_is sys c.args.plan.now rows c.args.slots runs is took_host within visit.taken visit.are visit.room visit.holders_are d l (holder_at c.switch_all.new.self.holders d) (chosen d l);
+      later = later;
+      rows_later = λ i a b. omega (arith, ordered sys rows c.requires.workload took_host.taken i a b, c.next_slot-next.ensures.row (omega (arith, taken)), ap (λ (z : ℕ). (row_at rows z).at) taken);
+      in_period = λ v l on. omega (arith, c.next_slot-next.ensures.period v l (ap (λ (xs : List Account). (account_at xs v).started) same ∙ on), ap (λ (xs : List Account). (account_at xs v).from) same);
+      in_budget = λ d v l e. omega (arith, c.next_slot-next.ensures.budget d v l e, time, ap (λ (xs : List Account). left_of (account_at xs v) (budget_at c.args.plan.now v)) same);
+    } in
+    record {
+      stands = standing_next sys c.new-host.ensures.system c.args.plan.now c.requires.plan rows c.args.slots runs is x took_host.taken took_host.accounts c.switch_all.new.self.holders c.next_slot-next.result next c.next_slot-next.ensures.in_slots
+          c.go_on.new.self c.switch_all.new.events.items c.go_on.ensures.time (c.go_on.ensures.taken ∙ taken) c.go_on.ensures.holders c.go_on.ensures.room
+          (λ v l. c.go_on.ensures.accounts v l ∙ (ap (λ (xs : List Account). gone_on (account_at xs v) (holds (holder_at c.switch_all.new.self.holders (core_of (part_at sys v).parent)) v) (c.next_slot-next.result - c.switch_all.new.self.time) (part_at sys v).period c.next_slot-next.result) same
+          ∙ ap (λ (y : ℕ). gone_on (account_at took_host.accounts v) (holds (holder_at c.switch_all.new.self.holders (core_of (part_at sys v).parent)) v) (c.next_slot-next.result - y) (part_at sys v).period c.next_slot-next.result) time))
+          told;
+      in_slots = omega (arith, c.go_on.ensures.time, c.next_slot-next.ensures.in_slots);
+    }
+
+pub returns-clause-trace : goal.returns-clause-trace
+returns-clause-trace c =
+    let sys = c.args.sys.now in
+    let rows = c.args.wakes.now in
+    let runs = rtds_run sys c.args.plan.now rows c.args.slots in
+    let end : c.loop-host.host.time ≡ c.args.slots = omega (arith, c.loop-host.invariant.in_slots, c.loop-host-test.false) in
+    (runs, rtds_run-is sys c.args.plan.now rows c.args.slots, c.in_ok-push.ensures.items ∙ (ap (λ (es : List Event). es ++ record { at = c.moment_of_slot.result; core = 0; what = End } ∷ []) (c.loop-host.invariant.stands.events_are ∙ ap (printed_below sys rows runs) end) ∙ ap (λ (m : ℕ). printed_below sys rows runs c.args.slots ++ record { at = m; core = 0; what = End } ∷ []) c.moment_of_slot.ensures))

@@ -1,0 +1,6 @@
+pub mod RowFit
+pub mod Rtds
+pub mod Printed
+pub mod Giving
+pub mod Accounts
+pub mod Fault

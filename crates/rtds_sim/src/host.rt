@@ -1,0 +1,449 @@
+ghost use Rattle.std.specs.Prelude.{◌≡◌, ℕ, ◌≤◌, ◌<◌, ◌+◌, ◌++◌, ◌^◌, Some, length, OnOk};
+ghost use Rattle.slot_model.specs.declared.task.TheConstants.{LIMIT};
+ghost use Rattle.tree_model.specs.System.{part_at};
+ghost use Rattle.release_file.specs.Workload.{row_at};
+ghost use Rattle.rtds_sim.specs.Printed.{core_of, event_of, switch_to, gathered, push_some, row_event_at};
+
+use crate::account::Account;
+use crate::choice::{account_of, budget_of, choose};
+use crate::moment::moment_of_slot;
+use release_file::{Wake, WakeKind};
+use std::alloc::AllocError;
+use trace_file::{Event, What};
+use tree_model::{MAX_CORES, MAX_PARTS, Parent, Plan, System};
+
+/// What the VCPUs and cores have come to.
+#[derive(Drop)]
+pub struct Host {
+    /// The next slot.
+    pub time: u64,
+    /// How many rows of the workload have been taken.
+    pub taken: usize,
+    pub accounts: [Account; MAX_PARTS],
+    /// For each core the VCPU that has it.
+    pub holders: [Option<u32>; MAX_CORES],
+}
+
+/// The core on which a part stands.
+fn core_of(sys: &System, v: u32) -> u32
+    requires { v < length sys.now.parts }
+    ensures is { result ≡ core_of (part_at sys.now v).parent }
+    ensures within { result < length sys.now.cores }
+{
+    match sys.parts()[v as usize].parent() {
+        Parent::Core(c) => c,
+        Parent::Part(_) => 0,
+    }
+}
+
+/// The event of a row.
+fn event_of(sys: &System, row: Wake) -> Event
+    requires is_part { row.vcpu < length sys.now.parts }
+    requires in_limit { row.at ≤ LIMIT }
+    ensures { result ≡ event_of sys.now row }
+{
+    Event {
+        at: moment_of_slot(row.at),
+        core: core_of(sys, row.vcpu),
+        what: match row.what {
+            WakeKind::Start => What::Start(row.vcpu),
+            WakeKind::Wake => What::Wake(row.vcpu),
+            WakeKind::Block => What::Block(row.vcpu),
+        },
+    }
+}
+
+/// What is to be told where a core goes from one VCPU to another, if anything.
+fn switch_to(holder: Option<u32>, next: Option<u32>) -> Option<What>
+    ensures { result ≡ switch_to holder next }
+{
+    match (holder, next) {
+        (None, None) => None,
+        (Some(_), None) => Some(What::Stop),
+        (None, Some(v)) => Some(What::Run(v)),
+        (Some(u), Some(v)) if u == v => None,
+        (Some(_), Some(v)) => Some(What::Run(v)),
+    }
+}
+
+/// Row `i` of a workload.
+fn row_at(rows: &[Wake], i: usize) -> Wake
+    requires { i < length rows.now }
+    ensures { result ≡ row_at rows.now i }
+{
+    rows[i]
+}
+
+impl Host {
+    ghost use Rattle.std.specs.Prelude.{◌≡◌, ◌≢◌, ℕ, ◌≤◌, ◌<◌, ◌+◌, ◌-◌, ◌++◌, ◌^◌, true, List, Option, Some, None, length, slice_set, if◌then◌else◌, OnOk};
+    ghost use Rattle.slot_model.specs.Run.{holds};
+    ghost use Rattle.slot_model.specs.declared.task.TheConstants.{LIMIT};
+    ghost use Rattle.tree_model.specs.View.{SystemView};
+    ghost use Rattle.tree_model.specs.System.{part_at};
+    ghost use Rattle.tree_model.specs.Tree.{budget_at};
+    ghost use Rattle.tree_model.specs.Plans.{IsPlan};
+    ghost use Rattle.release_file.specs.Workload.{row_at, IsWorkload};
+    ghost use Rattle.rtds_sim.specs.Printed.{core_of, gathered, on_core_at, switch_to};
+    ghost use Rattle.tree_model.specs.System.{IsSystem};
+    ghost use Rattle.rtds_sim.specs.Accounts.{no_account, account_at, holder_at, row_taken, gone_on, left_of, left_at, gives_up, stop_of, switch_of, IsChoice, AreAccounts, AreBefore, HasRoom};
+
+    /// Before the first slot.
+    pub fn new(sys: &System) -> Host
+        ensures system { IsSystem sys.now }
+        ensures time { result.time ≡ 0 }
+        ensures taken { result.taken ≡ 0 }
+        ensures room { HasRoom sys.now result }
+        ensures accounts { (v : ℕ) → account_at result.accounts v ≡ no_account }
+        ensures holders { (c : ℕ) → holder_at result.holders c ≡ None }
+    {
+        prove!(sys.parts().len() <= MAX_PARTS);
+        prove!(sys.cores().len() <= MAX_CORES);
+        Host {
+            time: 0,
+            taken: 0,
+            accounts: [Account::new(); MAX_PARTS],
+            holders: [None; MAX_CORES],
+        }
+    }
+
+    /// Takes one row.
+    fn take(&mut self, row: Wake)
+        requires is_part { row.vcpu < length self.old.accounts }
+        requires more { self.old.taken + 1 < 2 ^ 64 }
+        ensures accounts {
+            self.new.accounts
+              ≡ slice_set self.old.accounts row.vcpu
+              (row_taken row.what row.at (account_at self.old.accounts row.vcpu)) }
+        ensures taken { self.new.taken ≡ self.old.taken + 1 }
+        ensures time { self.new.time ≡ self.old.time }
+        ensures holders { self.new.holders ≡ self.old.holders }
+    {
+        let v = row.vcpu;
+        self.accounts[v as usize] = account_of(&self.accounts, v).taking(row);
+        self.taken += 1;
+    }
+
+    /// Takes the rows at the next slot.
+    pub fn take_rows(&mut self, rows: &[Wake])
+        requires in_rows { self.old.taken ≤ length rows.now }
+        requires known {
+            (i : ℕ) → i < length rows.now → (row_at rows.now i).vcpu < length self.old.accounts }
+        ensures in_rows { self.new.taken ≤ length rows.now }
+        ensures later { self.old.taken ≤ self.new.taken }
+        ensures now {
+            (i : ℕ) → self.old.taken ≤ i → i < self.new.taken
+              → (row_at rows.now i).at ≡ self.old.time }
+        ensures no_more {
+            self.new.taken < length rows.now → (row_at rows.now self.new.taken).at ≢ self.old.time }
+        ensures accounts {
+            (sys : SystemView) (runs : List (List (Option ℕ))) → IsWorkload sys rows.now
+              → AreBefore rows.now self.old.taken self.old.time
+              → ((v : ℕ) → v < length sys.parts → 1 ≤ (part_at sys v).period)
+              → AreAccounts sys rows.now runs self.old.time self.old.taken self.old.accounts
+              → AreAccounts sys rows.now runs self.old.time self.new.taken self.new.accounts }
+        ensures all_vcpus { length self.new.accounts ≡ length self.old.accounts }
+        ensures time { self.new.time ≡ self.old.time }
+        ensures holders { self.new.holders ≡ self.old.holders }
+    {
+        while self.taken < rows.len() && row_at(rows, self.taken).at == self.time {
+            self.take(row_at(rows, self.taken));
+        }
+    }
+
+    /// Whether the VCPU that has core `core` is blocked.
+    fn gives_up(&self, core: usize) -> bool
+        requires is_core { core < length self.now.holders }
+        requires is_part {
+            (v : ℕ) → holder_at self.now.holders core ≡ Some v → v < length self.now.accounts }
+        ensures { result ≡ gives_up self.now.accounts (holder_at self.now.holders core) }
+    {
+        match self.holders[core] {
+            Some(v) => account_of(&self.accounts, v).blocked,
+            None => false,
+        }
+    }
+
+    /// The VCPU that still has core `core`, if its VCPU gives it up where it blocks.
+    fn holder_left(&self, core: usize) -> Option<u32>
+        requires is_core { core < length self.now.holders }
+        requires is_part {
+            (v : ℕ) → holder_at self.now.holders core ≡ Some v → v < length self.now.accounts }
+        ensures {
+            result ≡ left_at self.now.accounts self.now.holders core }
+    {
+        if self.gives_up(core) {
+            return None;
+        }
+        self.holders[core]
+    }
+
+    /// What is told where the VCPU of core `core` blocks.
+    fn stop_event(&self, core: usize) -> Option<Event>
+        requires is_core { core < length self.now.holders }
+        requires few { core < 64 }
+        requires is_part {
+            (v : ℕ) → holder_at self.now.holders core ≡ Some v → v < length self.now.accounts }
+        requires in_limit { self.now.time ≤ LIMIT }
+        ensures { result ≡ stop_of self.now core }
+    {
+        if self.gives_up(core) {
+            return Some(Event {
+                at: moment_of_slot(self.time),
+                core: core as u32,
+                what: What::Stop,
+            });
+        }
+        None
+    }
+
+    /// What is told where core `core` goes to `next`.
+    fn switch_event(&self, core: usize, next: Option<u32>) -> Option<Event>
+        requires is_core { core < length self.now.holders }
+        requires few { core < 64 }
+        requires in_limit { self.now.time ≤ LIMIT }
+        ensures {
+            result
+              ≡ on_core_at core self.now.time (switch_to (holder_at self.now.holders core) next) }
+    {
+        match switch_to(self.holders[core], next) {
+            Some(what) => Some(Event {
+                at: moment_of_slot(self.time),
+                core: core as u32,
+                what,
+            }),
+            None => None,
+        }
+    }
+
+    /// Stops the cores whose VCPUs block.
+    pub fn stop_blocked(&mut self, sys: &System, events: &mut Vec<Event>) -> Result<(), AllocError>
+        requires room { HasRoom sys.now self.old }
+        requires in_limit { self.old.time ≤ LIMIT }
+        ensures events {
+            OnOk result
+              (events.new.items ≡ events.old.items
+              ++ gathered (stop_of self.old) (length sys.now.cores)) }
+        ensures left {
+            OnOk result
+              ((c : ℕ) → c < length sys.now.cores →
+              holder_at self.new.holders c ≡ left_at self.old.accounts self.old.holders c) }
+        ensures room { OnOk result (HasRoom sys.now self.new) }
+        ensures accounts { self.new.accounts ≡ self.old.accounts }
+        ensures taken { self.new.taken ≡ self.old.taken }
+        ensures time { self.new.time ≡ self.old.time }
+    {
+        for c in 0..sys.cores().len() {
+            push_some(events, self.stop_event(c))?;
+            self.holders[c] = self.holder_left(c);
+        }
+        Ok(())
+    }
+
+    /// Gives each core to the VCPU of the next slot.
+    pub fn switch_all(
+        &mut self,
+        sys: &System,
+        plan: &Plan,
+        events: &mut Vec<Event>,
+    ) -> Result<(), AllocError>
+        requires plan { IsPlan sys.now plan.now }
+        requires room { HasRoom sys.now self.old }
+        requires ends {
+            (v : ℕ) → v < length sys.now.parts
+              → (account_at self.old.accounts v).from + (part_at sys.now v).period < 2 ^ 64 }
+        requires in_limit { self.old.time ≤ LIMIT }
+        ensures events {
+            OnOk result
+              (events.new.items ≡ events.old.items
+              ++ gathered (switch_of self.old.holders self.new.holders self.old.time)
+              (length sys.now.cores)) }
+        ensures chosen {
+            OnOk result
+              ((c : ℕ) → c < length sys.now.cores
+              → IsChoice sys.now plan.now self.old.accounts c (holder_at self.new.holders c)) }
+        ensures all_cores { OnOk result (length self.new.holders ≡ length self.old.holders) }
+        ensures accounts { self.new.accounts ≡ self.old.accounts }
+        ensures taken { self.new.taken ≡ self.old.taken }
+        ensures time { self.new.time ≡ self.old.time }
+    {
+        for c in 0..sys.cores().len() {
+            let next = choose(sys, plan, &self.accounts, c as u32);
+            push_some(events, self.switch_event(c, next))?;
+            self.holders[c] = next;
+        }
+        Ok(())
+    }
+
+    /// The slot at which something may change next: a row comes, a period ends, or a VCPU has had
+    /// its budget once more.
+    pub fn next_slot(&self, sys: &System, plan: &Plan, rows: &[Wake], slots: u64) -> u64
+        requires plan { IsPlan sys.now plan.now }
+        requires room { HasRoom sys.now self.now }
+        requires ends {
+            (v : ℕ) → v < length sys.now.parts
+              → (account_at self.now.accounts v).from + (part_at sys.now v).period < 2 ^ 64 }
+        requires in_limit { self.now.time ≤ LIMIT }
+        ensures in_slots { result ≤ slots }
+        ensures row {
+            self.now.taken < length rows.now → result ≤ (row_at rows.now self.now.taken).at }
+        ensures period {
+            (v : ℕ) → v < length sys.now.parts → (account_at self.now.accounts v).started ≡ true
+              → result ≤ (account_at self.now.accounts v).from + (part_at sys.now v).period }
+        ensures budget {
+            (c v : ℕ) → c < length sys.now.cores → holder_at self.now.holders c ≡ Some v
+              → result ≤ self.now.time + left_of (account_at self.now.accounts v)
+              (budget_at plan.now v) }
+        ensures later {
+            self.now.time < slots →
+              (self.now.taken < length rows.now
+              → self.now.time < (row_at rows.now self.now.taken).at) →
+              ((v : ℕ) → v < length sys.now.parts → (account_at self.now.accounts v).started ≡ true
+              → self.now.time < (account_at self.now.accounts v).from + (part_at sys.now v).period)
+              → self.now.time < result }
+    {
+        let mut next = self.next_row(rows, slots);
+        for v in 0..sys.parts().len() {
+            next = next.min(self.end_of(sys, v as u32, slots));
+        }
+        for c in 0..sys.cores().len() {
+            next = next.min(self.budget_end(sys, plan, c, slots));
+        }
+        next
+    }
+
+    /// The slot of the next row, and `slots` where there is none before.
+    fn next_row(&self, rows: &[Wake], slots: u64) -> u64
+        ensures in_slots { result ≤ slots }
+        ensures row {
+            self.now.taken < length rows.now → result ≤ (row_at rows.now self.now.taken).at }
+        ensures later {
+            self.now.time < slots →
+              (self.now.taken < length rows.now
+              → self.now.time < (row_at rows.now self.now.taken).at)
+              → self.now.time < result }
+    {
+        if self.taken < rows.len() {
+            return row_at(rows, self.taken).at.min(slots);
+        }
+        slots
+    }
+
+    /// The end of the period of VCPU `v`, and `slots` where it is not started.
+    fn end_of(&self, sys: &System, v: u32, slots: u64) -> u64
+        requires is_part { v < length sys.now.parts }
+        requires room { HasRoom sys.now self.now }
+        requires end { (account_at self.now.accounts v).from + (part_at sys.now v).period < 2 ^ 64 }
+        ensures period {
+            (account_at self.now.accounts v).started ≡ true
+              → result ≡ (account_at self.now.accounts v).from + (part_at sys.now v).period }
+        ensures later {
+            self.now.time < slots →
+              ((account_at self.now.accounts v).started ≡ true
+              → self.now.time < (account_at self.now.accounts v).from + (part_at sys.now v).period)
+              → self.now.time < result }
+    {
+        let account = account_of(&self.accounts, v);
+        if account.started {
+            return account.from + sys.parts()[v as usize].period();
+        }
+        slots
+    }
+
+    /// The slot at which the VCPU of core `core` has had its budget once more, and `slots` where
+    /// none has the core.
+    fn budget_end(&self, sys: &System, plan: &Plan, core: usize, slots: u64) -> u64
+        requires plan { IsPlan sys.now plan.now }
+        requires room { HasRoom sys.now self.now }
+        requires is_core { core < length sys.now.cores }
+        requires in_limit { self.now.time ≤ LIMIT }
+        requires system { IsSystem sys.now }
+        ensures budget {
+            (v : ℕ) → holder_at self.now.holders core ≡ Some v
+              → result
+              ≡ self.now.time + left_of (account_at self.now.accounts v) (budget_at plan.now v) }
+        ensures later { self.now.time < slots → self.now.time < result }
+    {
+        match self.holders[core] {
+            Some(v) => self.time + account_of(&self.accounts, v).left(budget_of(plan, v)),
+            None => slots,
+        }
+    }
+
+    /// Goes on to a later slot, before which nothing changes.
+    pub fn go_on(&mut self, sys: &System, to: u64)
+        requires room { HasRoom sys.now self.old }
+        requires later { self.old.time ≤ to }
+        requires ends {
+            (v : ℕ) → v < length sys.now.parts
+              → (account_at self.old.accounts v).from + (part_at sys.now v).period < 2 ^ 64 }
+        requires few {
+            (v : ℕ) → v < length sys.now.parts
+              → (account_at self.old.accounts v).used + to < 2 ^ 64 }
+        ensures accounts {
+            (v : ℕ) → v < length sys.now.parts
+              → account_at self.new.accounts v
+              ≡ gone_on (account_at self.old.accounts v)
+              (holds (holder_at self.old.holders (core_of (part_at sys.now v).parent)) v)
+              (to - self.old.time) (part_at sys.now v).period to }
+        ensures time { self.new.time ≡ to }
+        ensures room { HasRoom sys.now self.new }
+        ensures holders { self.new.holders ≡ self.old.holders }
+        ensures taken { self.new.taken ≡ self.old.taken }
+    {
+        let slots = to - self.time;
+        for v in 0..sys.parts().len() {
+            let has_core = self.has_core(sys, v as u32);
+            let period = sys.parts()[v].period();
+            self.accounts[v] = account_of(&self.accounts, v as u32).advanced(
+                has_core, slots, period, to,
+            );
+        }
+        self.time = to;
+    }
+
+    /// Whether VCPU `v` has its core.
+    fn has_core(&self, sys: &System, v: u32) -> bool
+        requires is_part { v < length sys.now.parts }
+        requires room { HasRoom sys.now self.now }
+        ensures {
+            result ≡ holds (holder_at self.now.holders (core_of (part_at sys.now v).parent)) v }
+    {
+        self.holders[core_of(sys, v) as usize] == Some(v)
+    }
+}
+
+/// Adds an event, if there is one.
+fn push_some(events: &mut Vec<Event>, event: Option<Event>) -> Result<(), AllocError>
+    ensures { OnOk result (events.new.items ≡ push_some events.old.items event) }
+{
+    if let Some(event) = event {
+        events.push(event)?;
+    }
+    Ok(())
+}
+
+/// Adds the events of some rows, which are those at one slot.
+pub fn print_rows(
+    sys: &System,
+    rows: &[Wake],
+    from: usize,
+    until: usize,
+    events: &mut Vec<Event>,
+) -> Result<(), AllocError>
+    requires in_rows { until ≤ length rows.now }
+    requires in_turn { from ≤ until }
+    requires known {
+        (i : ℕ) → i < length rows.now → (row_at rows.now i).vcpu < length sys.now.parts }
+    requires in_limit { (i : ℕ) → i < length rows.now → (row_at rows.now i).at ≤ LIMIT }
+    ensures {
+        (x : ℕ) → ((i : ℕ) → i < from → (row_at rows.now i).at < x) →
+        ((i : ℕ) → from ≤ i → i < until → (row_at rows.now i).at ≡ x) →
+        ((i : ℕ) → until ≤ i → i < length rows.now → x < (row_at rows.now i).at) →
+        OnOk result (events.new.items
+            ≡ events.old.items ++ gathered (row_event_at sys.now rows.now x) (length rows.now)) }
+{
+    for i in from..until {
+        events.push(event_of(sys, row_at(rows, i)))?;
+    }
+    Ok(())
+}

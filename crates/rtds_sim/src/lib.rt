@@ -1,0 +1,16 @@
+//! The RTDS scheduler: deferrable servers with extra time under earliest deadline first, each core
+//! by itself, and the trace that a workload gives.
+#![tactic(auto)]
+
+mod account;
+mod choice;
+mod fault;
+mod host;
+mod moment;
+mod simulate;
+
+pub use fault::RtdsFault;
+pub use simulate::run_rtds;
+
+#[cfg(test)]
+mod tests;

@@ -1,0 +1,122 @@
+ghost use Rattle.std.specs.Prelude.{◌≡◌, ℕ, ◌≤◌, ◌<◌, ◌&&◌, List, Option, length, IfOk, IfErr, MatchOption};
+ghost use Rattle.tree_model.specs.System.{IsSystem};
+ghost use Rattle.tree_model.specs.Tree.{run_at};
+ghost use Rattle.trace_file.specs.Rules.{Kept};
+ghost use Rattle.trace_file.specs.Periods.{Satisfied};
+ghost use Rattle.tree_model.specs.Plans.{IsPlan};
+ghost use Rattle.release_file.specs.Workload.{IsWorkload};
+ghost use Rattle.rtds_sim.specs.Rtds.{is_full, is_edf, RtdsRun};
+ghost use Rattle.rtds_sim.specs.Printed.{printed, IsRtdsTrace};
+ghost use Rattle.rtds_sim.specs.Fault.{AllRtds, IsFirstOther, IsRtdsFault};
+ghost use Rattle.rtds_sim.specs.Giving.{AlwaysRunnable, ServersFit, AlwaysServed, GivesBudgets, NeverOver, NoneOver};
+
+use crate::host::{Host, print_rows};
+use crate::moment::moment_of_slot;
+use crate::RtdsFault;
+use release_file::Wake;
+use slot_model::Sched;
+use std::alloc::{AllocError, Global};
+use trace_file::{Event, Trace, What};
+use tree_model::{Core, Plan, System};
+
+/// The trace of a workload under RTDS over some slots. The run goes from one change to the next: a
+/// row, the end of a period, and the end of a budget. Only full cores under earliest deadline first
+/// are taken.
+pub fn run_rtds(
+    alloc: Global,
+    sys: &System,
+    plan: &Plan,
+    wakes: &[Wake],
+    slots: u64,
+) -> Result<Trace, RtdsFault>
+    requires plan { IsPlan sys.now plan.now }
+    requires workload { IsWorkload sys.now wakes.now }
+    requires some { 1 ≤ slots }
+    requires short { slots ≤ 1000000 }
+    ensures trace { IfOk result (λ trace. IsRtdsTrace sys.now plan.now wakes.now slots trace) }
+    ensures only { IfOk result (λ trace. (runs : List (List (Option ℕ))) →
+        RtdsRun sys.now plan.now wakes.now slots runs →
+        trace ≡ printed sys.now wakes.now runs slots) }
+    ensures kept { IfOk result (λ trace. Kept sys.now trace) }
+    ensures rtds { IfOk result (λ trace. AllRtds sys.now (length sys.now.cores)) }
+    ensures fault { IfErr result (IsRtdsFault sys.now) }
+
+    // On a core whose servers pass the test, VCPUs that can always run have their budgets in each
+    // period.
+    ensures gives { (runs : List (List (Option ℕ))) (c : ℕ) →
+        RtdsRun sys.now plan.now wakes.now slots runs → c < length sys.now.cores →
+        AlwaysRunnable sys.now wakes.now c → ServersFit sys.now plan.now c →
+        GivesBudgets sys.now plan.now wakes.now slots c (run_at runs c) }
+
+    // So no period in the trace is short or over, where that holds of each core.
+    ensures satisfied { IfOk result (λ trace.
+        AlwaysServed sys.now plan.now wakes.now → Satisfied sys.now plan.now trace) }
+
+    // Over any workload no VCPU without extra time has more than its budget in a period.
+    ensures never_over { (runs : List (List (Option ℕ))) (c : ℕ) →
+        RtdsRun sys.now plan.now wakes.now slots runs → c < length sys.now.cores →
+        NeverOver sys.now plan.now wakes.now (run_at runs c) }
+    ensures none_over { IfOk result (λ trace. NoneOver sys.now plan.now trace) }
+{
+    if let Some(core) = other_core(sys) {
+        return Err(RtdsFault::NotRtds(core));
+    }
+    match simulated(alloc, sys, plan, wakes, slots) {
+        Ok(events) => Ok(Trace { events }),
+        Err(_) => Err(RtdsFault::NoMemory),
+    }
+}
+
+/// The first core that is not full or not under earliest deadline first.
+fn other_core(sys: &System) -> Option<u32>
+    ensures { MatchOption result (AllRtds sys.now (length sys.now.cores)) (IsFirstOther sys.now) }
+{
+    let cores = sys.cores();
+    for c in 0..cores.len() {
+        if !is_rtds(&cores[c]) {
+            return Some(c as u32);
+        }
+    }
+    None
+}
+
+/// Whether a core is full and under earliest deadline first.
+fn is_rtds(core: &Core) -> bool
+    ensures { result ≡ (is_full core.now.supply && is_edf core.now.sched) }
+{
+    core.supply.is_none() && core.sched == Sched::Edf
+}
+
+/// The events of a workload over some slots.
+fn simulated(
+    alloc: Global,
+    sys: &System,
+    plan: &Plan,
+    wakes: &[Wake],
+    slots: u64,
+) -> Result<Vec<Event>, AllocError>
+    requires plan { IsPlan sys.now plan.now }
+    requires workload { IsWorkload sys.now wakes.now }
+    requires short { slots ≤ 1000000 }
+    ensures trace {
+        IfOk result (λ events. IsRtdsTrace sys.now plan.now wakes.now slots events.items) }
+    ensures system { IsSystem sys.now }
+{
+    let mut events = Vec::new(alloc);
+    let mut host = Host::new(sys);
+    while host.time < slots {
+        let first = host.taken;
+        host.take_rows(wakes);
+        host.stop_blocked(sys, &mut events)?;
+        print_rows(sys, wakes, first, host.taken, &mut events)?;
+        host.switch_all(sys, plan, &mut events)?;
+        let next = host.next_slot(sys, plan, wakes, slots);
+        host.go_on(sys, next);
+    }
+    events.push(Event {
+        at: moment_of_slot(slots),
+        core: 0,
+        what: What::End,
+    })?;
+    Ok(events)
+}
