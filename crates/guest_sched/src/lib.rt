@@ -5,6 +5,7 @@
 
 mod choice;
 mod keep;
+mod level;
 mod patterns;
 mod places;
 mod ready;
@@ -13,6 +14,7 @@ mod schedule;
 mod spans;
 mod windows;
 
+pub use level::{guest_by, servers_by};
 pub use patterns::{windows_of, worst_windows};
 pub use schedule::{run_level, run_over, written};
 pub use spans::{Span, Window, run_spans, server_spans};
