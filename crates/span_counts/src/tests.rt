@@ -1,0 +1,58 @@
+ghost use Rattle.std.specs.Prelude.{◌≡◌, IfOk};
+ghost use Rattle.guest_sched.specs.Spans.{AreSpans};
+
+use crate::{Counts, count_level, first_miss, misses};
+use guest_sched::{Window, run_spans};
+use slot_model::{Edf, Job, Miss, Task, is_legal};
+use std::test::Fail;
+
+const OUT: &str = "out of range";
+
+fn job(release: u64) -> Job {
+    Job {
+        task: 0,
+        release,
+        work: 3,
+        early: 0,
+    }
+}
+
+/// One task of 3 in 10 slots. The first job gets 1 slot of its 3 by slot 10, the second all of its
+/// slots, and the deadline moment of the third is past the run.
+#[test]
+fn a_miss_and_what_else_is_counted(rt: HostRuntime) -> Result<(), Fail> {
+    let alloc = rt.alloc();
+    let tasks = [Task::new(10, 10, 3).ok_or(OUT)?];
+    let jobs = [job(0), job(10), job(21)];
+    let given = [
+        Window {
+            from: 4,
+            until: 5,
+        },
+        Window {
+            from: 10,
+            until: 20,
+        },
+    ];
+    if !is_legal(&tasks, &jobs) {
+        return Ok(());
+    }
+    let spans = run_spans(alloc, &tasks, &jobs, &Edf, &given, 22)?;
+    let miss = Miss {
+        task: 0,
+        release: 0,
+        deadline: 10,
+        got: 1,
+        work: 3,
+    };
+    let counts = Counts {
+        given: 11,
+        released: 3,
+        missed: 1,
+        first: Some(miss),
+    };
+    assert_eq!(rt; misses(alloc, &jobs, &tasks, &spans)?, 1);
+    assert_eq!(rt; first_miss(alloc, &jobs, &tasks, &spans)?, Some(miss));
+    assert_eq!(rt; count_level(alloc, &tasks, &jobs, &given, &spans, 22)?, counts);
+    Ok(())
+}
