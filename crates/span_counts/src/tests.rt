@@ -1,9 +1,13 @@
-ghost use Rattle.std.specs.Prelude.{◌≡◌, IfOk};
-ghost use Rattle.guest_sched.specs.Spans.{AreSpans};
+ghost use Rattle.std.specs.Prelude.{◌≡◌, ◌^◌, ◌<◌, length, IfOk};
+ghost use Rattle.slot_model.specs.Miss.{HoldsReleased};
+ghost use Rattle.slot_model.specs.Release.{LegalRelease};
+ghost use Rattle.slot_model.specs.Task.{sporadic_tasks};
+ghost use Rattle.guest_sched.specs.Spans.{AreWindows, AreSpans, run_of};
 
 use crate::{Counts, count_level, first_miss, misses};
-use guest_sched::{Window, run_spans};
+use guest_sched::{Span, Window, run_spans};
 use slot_model::{Edf, Job, Miss, Task, is_legal};
+use std::alloc::{AllocError, Global};
 use std::test::Fail;
 
 const OUT: &str = "out of range";
@@ -15,6 +19,23 @@ fn job(release: u64) -> Job {
         work: 3,
         early: 0,
     }
+}
+
+/// The schedule over 22 slots.
+fn spans_of(
+    alloc: Global,
+    tasks: &[Task],
+    jobs: &[Job],
+    given: &[Window],
+) -> Result<Vec<Span>, AllocError>
+    requires legal { LegalRelease (sporadic_tasks tasks.now) jobs.now }
+    requires few { length jobs.now < 2 ^ 32 }
+    requires windows { AreWindows given.now 22 }
+    ensures spans { IfOk result (λ spans. AreSpans spans.items 22) }
+    ensures long { IfOk result (λ spans. length (run_of spans.items) ≡ 22) }
+    ensures released { IfOk result (λ spans. HoldsReleased jobs.now (run_of spans.items)) }
+{
+    run_spans(alloc, tasks, jobs, &Edf, given, 22)
 }
 
 /// One task of 3 in 10 slots. The first job gets 1 slot of its 3 by slot 10, the second all of its
@@ -37,7 +58,7 @@ fn a_miss_and_what_else_is_counted(rt: HostRuntime) -> Result<(), Fail> {
     if !is_legal(&tasks, &jobs) {
         return Ok(());
     }
-    let spans = run_spans(alloc, &tasks, &jobs, &Edf, &given, 22)?;
+    let spans = spans_of(alloc, &tasks, &jobs, &given)?;
     let miss = Miss {
         task: 0,
         release: 0,
