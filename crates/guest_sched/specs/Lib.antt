@@ -5,3 +5,4 @@ pub mod Keep
 pub mod Spans
 pub mod Stretch
 pub mod Ready
+pub mod MoreWindows

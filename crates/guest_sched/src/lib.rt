@@ -3,18 +3,22 @@
 //! moment. The order of the jobs is any `Order`, the supply any `Supply`.
 #![tactic(auto)]
 
-mod releases;
 mod choice;
 mod keep;
+mod level;
+mod patterns;
 mod places;
 mod ready;
+mod releases;
 mod schedule;
 mod spans;
 mod windows;
 
-pub use schedule::{run_level, run_over, windows_of, written};
+pub use level::{guest_by, servers_by};
+pub use patterns::{windows_of, worst_windows};
+pub use schedule::{run_level, run_over, written};
 pub use spans::{Span, Window, run_spans, server_spans};
-pub use windows::are_windows;
+pub use windows::{add_window, are_windows};
 
 #[cfg(test)]
 mod tests;

@@ -1,5 +1,8 @@
-use crate::{Span, Window, are_windows, run_level, run_over, run_spans, server_spans};
-use slot_model::{Edf, Job, Task, is_legal};
+use crate::{
+    Span, Window, are_windows, guest_by, run_level, run_over, run_spans, server_spans, servers_by,
+    worst_windows,
+};
+use slot_model::{Edf, Job, Sched, Task, is_legal};
 use std::alloc::{AllocError, Global};
 use std::fmt::Write;
 use std::test::Fail;
@@ -191,5 +194,74 @@ fn servers_give_way_at_their_deadline(rt: HostRuntime) -> Result<(), Fail> {
     assert_eq!(rt; told(alloc, &server)?.as_str(), "0:0 1:- 3:1 5:0 9:- ");
     let none = spans_of(alloc, true, &tasks, &jobs, &[], 0)?;
     assert_eq!(rt; none.len(), 0);
+    Ok(())
+}
+
+/// The same spans at a guest and at a level of servers.
+fn told_of_both(
+    alloc: Global,
+    jobs: &[(u32, u64, u64)],
+    windows: &[(u64, u64)],
+    slots: u64,
+) -> Result<String, AllocError> {
+    let tasks = tasks_of(alloc, &[(50, 7), (75, 9)])?;
+    let jobs = jobs_of(alloc, jobs)?;
+    let given = windows_of(alloc, windows)?;
+    let guest = spans_of(alloc, false, &tasks, &jobs, &given, slots)?;
+    let server = spans_of(alloc, true, &tasks, &jobs, &given, slots)?;
+    let text = told(alloc, &guest)?;
+    if text != told(alloc, &server)? {
+        return Ok(String::new(alloc));
+    }
+    Ok(text)
+}
+
+#[test]
+fn spans_over_a_few_and_over_very_many_slots(rt: HostRuntime) -> Result<(), Fail> {
+    let alloc = rt.alloc();
+    let short = told_of_both(alloc, &[(0, 0, 7), (1, 0, 9)], &[(0, 20)], 20)?;
+    assert_eq!(rt; short.as_str(), "0:0 7:1 16:- ");
+    let later = 500_000_000_000;
+    let end = 1_000_000_000_000;
+    let jobs = [(0, 0, 7), (1, 0, 9), (0, later, 7)];
+    let long = told_of_both(alloc, &jobs, &[(10, end)], end)?;
+    assert_eq!(rt;
+        long.as_str(),
+        "0:- 10:0 17:1 26:- 500000000000:2 500000000007:- "
+    );
+    let no_windows = told_of_both(alloc, &[(0, 0, 7)], &[], 5)?;
+    assert_eq!(rt; no_windows.as_str(), "0:- ");
+    let no_jobs = told_of_both(alloc, &[], &[(1, 2), (2, 5)], 5)?;
+    assert_eq!(rt; no_jobs.as_str(), "0:- ");
+    Ok(())
+}
+
+#[test]
+fn windows_of_the_worst_pattern(rt: HostRuntime) -> Result<(), Fail> {
+    let supply = Periodic::new(10, 3).ok_or("out of range")?;
+    let windows = worst_windows(rt.alloc(), &supply, 28)?;
+    let wanted = windows_of(rt.alloc(), &[(0, 3), (17, 20), (27, 28)])?;
+    assert_eq!(rt; windows.as_slice(), wanted.as_slice());
+    let whole = Periodic::new(10, 10).ok_or("out of range")?;
+    let one = worst_windows(rt.alloc(), &whole, u64::MAX)?;
+    assert_eq!(rt; one.as_slice(), windows_of(rt.alloc(), &[(0, u64::MAX)])?.as_slice());
+    Ok(())
+}
+
+#[test]
+fn levels_by_their_scheduler(rt: HostRuntime) -> Result<(), Fail> {
+    let alloc = rt.alloc();
+    let tasks = tasks_of(alloc, &[(9, 5), (4, 3)])?;
+    let jobs = jobs_of(alloc, &[(0, 0, 5), (1, 1, 3)])?;
+    let given = windows_of(alloc, &[(0, 12)])?;
+    if !is_legal(&tasks, &jobs) || jobs.len() > 1000 || !are_windows(&given, 12) {
+        return Ok(());
+    }
+    for (sched, text) in [(Sched::Rm, "0:0 1:1 4:0 8:- "), (Sched::Listed, "0:0 5:1 8:- ")] {
+        let guest = guest_by(alloc, sched, &tasks, &jobs, &given, 12)?;
+        assert_eq!(rt; told(alloc, &guest)?.as_str(), text);
+    }
+    let server = servers_by(alloc, Sched::Listed, &tasks, &jobs, &given, 12)?;
+    assert_eq!(rt; told(alloc, &server)?.as_str(), "0:0 5:- ");
     Ok(())
 }

@@ -9,11 +9,15 @@ use Rattle.slot_model.specs.Task.{SporadicTask}
 use Rattle.slot_model.specs.Supply.{Follows, worst_slot}
 use Rattle.slot_model.specs.Order.{before_of}
 use Rattle.slot_model.specs.Release.{synchronous}
-use Rattle.slot_model.specs.Run.{guest, FirstRun, PermittedRun}
+use Rattle.slot_model.specs.Run.{guest, FirstRun}
 use Rattle.slot_model.specs.Bound.{sbf, IsLeastBudget, IsSmall, Passes}
 use Rattle.slot_model.specs.Miss.{HoldsReleased, IsFirstMiss, MissesFromStart, WorstList}
 use Rattle.slot_model.proofs.MissedJobs.{permitted_holds_released}
-use Rattle.slot_model.proofs.WorstLists.{worst_list, worst_list-is}
+use Rattle.slot_model.proofs.FirstRuns.{first_permitted}
+use Rattle.guest_sched.specs.declared.spans.Span.{Span}
+use Rattle.guest_sched.specs.declared.spans.Window.{Window}
+use Rattle.guest_sched.specs.Spans.{run_of, slots_of}
+use Rattle.guest_sched.proofs.Given.{slots-long}
 use Rattle.miss_witness.specs.declared.defeat.Defeat.{Defeat}
 use Rattle.tree_model.specs.View.{PartView, SystemView}
 use Rattle.tree_model.specs.System.{IsSystem, own_tasks, part_at}
@@ -50,50 +54,48 @@ leaf_least sys budgets h q l computed =
     go None e stands = stands
     go (Some given) e stands = absurd (cc)
 
--- a run of the defeat's jobs over its worst pattern
+-- the first run of the defeat's jobs over its worst pattern
 pub record RunsDefeat (sched : Sched) (tasks : List SporadicTask) (period : ℕ) (defeat : Defeat) (jobs : List Job) (run : List (Option ℕ)) : Type 0 where
   pub jobs_are : jobs ≡ synchronous tasks defeat.start defeat.span
-  pub first : (given : List Bool) → Follows (worst_slot period defeat.budget) given → length given ≡ defeat.start + defeat.span → FirstRun guest (before_of sched tasks) tasks jobs given run
-  pub permitted : (given : List Bool) → Follows (worst_slot period defeat.budget) given → length given ≡ defeat.start + defeat.span → PermittedRun guest (before_of sched tasks) tasks jobs given run
+  pub slots : List Bool
+  pub worst : WorstList (worst_slot period defeat.budget) defeat.start defeat.span slots
+  pub first : FirstRun guest (before_of sched tasks) tasks jobs slots run
 
--- the same lists under other names
-pub runs_same : (sched : Sched) (tasks : List SporadicTask) (period : ℕ) (defeat : Defeat) (end : ℕ) → end ≡ defeat.start + defeat.span → (jobs jobs' : List Job) (run run' : List (Option ℕ)) → jobs ≡ synchronous tasks defeat.start defeat.span → jobs' ≡ jobs → run' ≡ run
-    → ((given : List Bool) → Follows (worst_slot period defeat.budget) given → length given ≡ end → FirstRun guest (before_of sched tasks) tasks jobs given run)
-    → ((given : List Bool) → Follows (worst_slot period defeat.budget) given → length given ≡ end → PermittedRun guest (before_of sched tasks) tasks jobs given run)
-    → RunsDefeat sched tasks period defeat jobs' run'
-runs_same sched tasks period defeat end e jobs jobs' run run' exact same_jobs same_run first permitted =
-    subst (λ (z : List (Option ℕ)). RunsDefeat sched tasks period defeat jobs' z) (sym same_run) (subst (λ (z : List Job). RunsDefeat sched tasks period defeat z run) (sym same_jobs) (record { jobs_are = exact; first = λ given f l. first given f (l ∙ sym e); permitted = λ given f l. permitted given f (l ∙ sym e) }))
-
-worst : (period : ℕ) (defeat : Defeat) → WorstList (worst_slot period defeat.budget) defeat.start defeat.span (worst_list (worst_slot period defeat.budget) (defeat.start + defeat.span))
-worst period defeat = worst_list-is (worst_slot period defeat.budget) defeat.start defeat.span
+-- as the code makes it: the windows of the pattern, and the spans of the run over them
+pub runs_over : (sched : Sched) (tasks : List SporadicTask) (period : ℕ) (defeat : Defeat) (end : ℕ) → end ≡ defeat.start + defeat.span → (made jobs read : List Job) (drawn windows : List Window) (told spans : List Span)
+    → made ≡ synchronous tasks defeat.start defeat.span → jobs ≡ made → read ≡ made → windows ≡ drawn → spans ≡ told
+    → Follows (worst_slot period defeat.budget) (slots_of drawn end) → FirstRun guest (before_of sched tasks) tasks jobs (slots_of windows end) (run_of told)
+    → RunsDefeat sched tasks period defeat read (run_of spans)
+runs_over sched tasks period defeat end e made jobs read drawn windows told spans exact j r w s follows first = record {
+  jobs_are = r ∙ exact;
+  slots = slots_of drawn end;
+  worst = record { follows = follows; long = slots-long drawn end ∙ e };
+  first = subst (λ (z : List Job). FirstRun guest (before_of sched tasks) tasks z (slots_of drawn end) (run_of spans)) (j ∙ sym r)
+      (subst (λ (z : List Window). FirstRun guest (before_of sched tasks) tasks jobs (slots_of z end) (run_of spans)) w
+      (subst (λ (z : List Span). FirstRun guest (before_of sched tasks) tasks jobs (slots_of windows end) (run_of z)) (sym s) first));
+}
 
 pub run_holds_released : (sched : Sched) (tasks : List SporadicTask) (period : ℕ) (defeat : Defeat) (jobs : List Job) (run : List (Option ℕ)) → RunsDefeat sched tasks period defeat jobs run → HoldsReleased jobs run
-run_holds_released sched tasks period defeat jobs run h =
-    let w = worst period defeat in
-    permitted_holds_released guest (before_of sched tasks) tasks jobs (worst_list (worst_slot period defeat.budget) (defeat.start + defeat.span)) run (h.permitted _ w.follows w.long)
+run_holds_released sched tasks period defeat jobs run h = permitted_holds_released guest (before_of sched tasks) tasks jobs h.slots run (first_permitted guest (before_of sched tasks) tasks jobs h.slots run h.first)
 
 -- its first miss is there
 pub run_is_replay : (sched : Sched) (tasks : List SporadicTask) (period : ℕ) (defeat : Defeat) → defeat.start + defeat.span ≤ 1000000
     → ((slots : List Bool) → WorstList (worst_slot period defeat.budget) defeat.start defeat.span slots → MissesFromStart (worst_slot period defeat.budget) defeat.start defeat.span (before_of sched tasks) tasks slots)
     → (jobs : List Job) (run : List (Option ℕ)) → RunsDefeat sched tasks period defeat jobs run → (miss : Option Miss) → IsFirstMiss tasks jobs run miss → IsReplayed sched tasks period defeat miss
 run_is_replay sched tasks period defeat reach misses jobs run h None none =
-    let w = worst period defeat in
-    let W : List Job = synchronous tasks defeat.start defeat.span in
-    let permitted : PermittedRun guest (before_of sched tasks) tasks W (worst_list (worst_slot period defeat.budget) (defeat.start + defeat.span)) run = subst (λ (z : List Job). PermittedRun guest (before_of sched tasks) tasks z (worst_list (worst_slot period defeat.budget) (defeat.start + defeat.span)) run) h.jobs_are (h.permitted _ w.follows w.long) in
-    let missed = (misses _ w).misses run permitted in
+    let first : FirstRun guest (before_of sched tasks) tasks (synchronous tasks defeat.start defeat.span) h.slots run = subst (λ (z : List Job). FirstRun guest (before_of sched tasks) tasks z h.slots run) h.jobs_are h.first in
+    let missed = (misses h.slots h.worst).misses run (first_permitted guest (before_of sched tasks) tasks (synchronous tasks defeat.start defeat.span) h.slots run first) in
     absurd (subst (λ (z : List Job). IsFirstMiss tasks z run None) h.jobs_are none missed.0 missed.1)
-run_is_replay sched tasks period defeat reach misses jobs run h (Some miss) first =
-    let w = worst period defeat in
-    let slots : List Bool = worst_list (worst_slot period defeat.budget) (defeat.start + defeat.span) in (
-      reach,
-      record {
-        slots = slots;
-        run = run;
-        worst = w;
-        first_run = subst (λ (z : List Job). FirstRun guest (before_of sched tasks) tasks z slots run) h.jobs_are (h.first slots w.follows w.long);
-        first_miss = subst (λ (z : List Job). IsFirstMiss tasks z run (Some miss)) h.jobs_are first;
-      },
-    )
+run_is_replay sched tasks period defeat reach misses jobs run h (Some miss) first = (
+  reach,
+  record {
+    slots = h.slots;
+    run = run;
+    worst = h.worst;
+    first_run = subst (λ (z : List Job). FirstRun guest (before_of sched tasks) tasks z h.slots run) h.jobs_are h.first;
+    first_miss = subst (λ (z : List Job). IsFirstMiss tasks z run (Some miss)) h.jobs_are first;
+  },
+)
 
 -- what the code reads of a leaf
 pub record LeafRead (sys : SystemView) (budgets : List ℕ) (q : ℕ) (sched : Sched) (tasks : List SporadicTask) (period least : ℕ) : Type 0 where

@@ -1,9 +1,7 @@
 ghost use Rattle.std.specs.Prelude.{◌≡◌, ◌+◌, ◌<◌, ◌≤◌, true, Bool, List, length, IfOk, MatchOption};
 ghost use Rattle.slot_model.specs.declared.task.TheConstants.{LIMIT};
 ghost use Rattle.slot_model.specs.Task.{sporadic_tasks};
-ghost use Rattle.slot_model.specs.Supply.{Follows, worst_slot};
-ghost use Rattle.slot_model.specs.Release.{LegalRelease};
-ghost use Rattle.slot_model.specs.Run.{guest, FirstRun, PermittedRun};
+ghost use Rattle.slot_model.specs.Supply.{worst_slot};
 ghost use Rattle.slot_model.specs.Bound.{IsLeastBudget, IsSmall};
 ghost use Rattle.slot_model.specs.Order.{before_of};
 ghost use Rattle.slot_model.specs.Miss.{MissesFromStart, WorstList};
@@ -13,11 +11,11 @@ ghost use Rattle.tree_model.specs.Admission.{Admitted};
 ghost use Rattle.rt_report.specs.Admit.{AreReplays, is_computed_leaf};
 ghost use Rattle.rt_report.specs.Replay.{IsReplay, IsReplayed};
 
-use fp_request::Fixed;
-use guest_sched::run_level;
+use guest_sched::{guest_by, worst_windows};
 use miss_witness::{Defeat, witness, witness_jobs};
 use rt_report::{Replay, is_computed_leaf};
-use slot_model::{Edf, Job, Miss, Sched, Task, first_miss};
+use slot_model::{Miss, Sched, Task};
+use span_counts::first_miss;
 use std::alloc::{AllocError, Global};
 use supply_bound::Periodic;
 use tree_model::{MAX_TASKS, Part, Place, Plan, System, tasks_of};
@@ -110,9 +108,10 @@ fn seen_miss(
         period,
         budget: defeat.budget,
     };
+    let windows = worst_windows(alloc, &supply, slots)?;
     let jobs = witness_jobs(alloc, tasks, defeat)?;
-    let run = run_guest(alloc, sched, tasks, &jobs, &supply, slots)?;
-    Ok(first_miss(&jobs, tasks, &run))
+    let spans = guest_by(alloc, sched, tasks, &jobs, &windows, slots)?;
+    first_miss(alloc, &jobs, tasks, &spans)
 }
 
 /// Where the window of a defeat ends, and None exactly where that is past 1,000,000 slots.
@@ -124,25 +123,4 @@ fn window_end(defeat: &Defeat) -> Option<u64>
         return None;
     }
     Some(end as u64)
-}
-
-/// The schedule of a guest over the worst pattern of its supply.
-fn run_guest(
-    alloc: Global,
-    sched: Sched,
-    tasks: &[Task],
-    jobs: &[Job],
-    supply: &Periodic,
-    slots: u64,
-) -> Result<Vec<Option<u32>>, AllocError>
-    requires legal { LegalRelease (sporadic_tasks tasks.now) jobs.now }
-    requires short { slots ≤ 1000000 }
-    requires few { length jobs.now ≤ 256000000 }
-    ensures first { IfOk result (λ run. (given : List Bool) → Follows (worst_slot supply.now.period supply.now.budget) given → length given ≡ slots → FirstRun guest (before_of sched (sporadic_tasks tasks.now)) (sporadic_tasks tasks.now) jobs.now given run.items) }
-    ensures permitted { IfOk result (λ run. (given : List Bool) → Follows (worst_slot supply.now.period supply.now.budget) given → length given ≡ slots → PermittedRun guest (before_of sched (sporadic_tasks tasks.now)) (sporadic_tasks tasks.now) jobs.now given run.items) }
-{
-    match Fixed::new(sched) {
-        Some(order) => run_level(alloc, tasks, jobs, &order, supply, slots),
-        None => run_level(alloc, tasks, jobs, &Edf, supply, slots),
-    }
 }

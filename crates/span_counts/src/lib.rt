@@ -5,3 +5,6 @@
 mod counts;
 
 pub use counts::{Counts, count_level, first_miss, misses};
+
+#[cfg(test)]
+mod tests;

@@ -1,18 +1,29 @@
-use Rattle.std.proofs.Common.{sym, ◌∙◌, arith}
+use Rattle.std.proofs.Common.{◌≡◌, List, length, arith, sym, ◌∙◌, subst}
+use Rattle.std.proofs.lemmas.Result.{IfOk-weaker}
 use Rattle.slot_model.specs.Task.{sporadic_tasks}
-use Rattle.rt_top.proofs.ReplayLeaf.{RunsDefeat, run_holds_released, run_is_replay, runs_same}
+use Rattle.guest_sched.specs.declared.spans.Span.{Span}
+use Rattle.guest_sched.specs.Spans.{run_of, AreSpans}
+use Rattle.guest_sched.proofs.Given.{slots-long}
+use Rattle.rt_top.proofs.ReplayLeaf.{RunsDefeat, run_holds_released, run_is_replay, runs_over}
 use Rattle.rt_top.proofs.replays.seen_miss.Goals as goal
 
 pub first_miss-requires-clause-released : goal.first_miss-requires-clause-released
 first_miss-requires-clause-released c =
-    let runs : RunsDefeat c.args.sched (sporadic_tasks c.args.tasks.now) c.args.period c.args.defeat.now c.deref-2.result.now c.deref-3.result.now =
-    runs_same c.args.sched (sporadic_tasks c.args.tasks.now) c.args.period c.args.defeat.now c.in-Some.slots c.in-Some.ensures.0 c.deref.result.now c.deref-2.result.now c.in_ok-run.run'.items c.deref-3.result.now
-    (c.deref.ensures.value ∙ c.in_ok-jobs.ensures.exact) (c.deref-2.ensures.value ∙ sym c.deref.ensures.value) c.deref-3.ensures.value c.in_ok-run.ensures.first c.in_ok-run.ensures.permitted in
-    run_holds_released c.args.sched (sporadic_tasks c.args.tasks.now) c.args.period c.args.defeat.now c.deref-2.result.now c.deref-3.result.now runs
+    let T = sporadic_tasks c.args.tasks.now in
+    let runs : RunsDefeat c.args.sched T c.args.period c.args.defeat.now c.deref-3.result.now (run_of c.deref-4.result.now) =
+    runs_over c.args.sched T c.args.period c.args.defeat.now c.in-Some.slots c.in-Some.ensures.0 c.in_ok-jobs.jobs.items c.deref.result.now c.deref-3.result.now c.in_ok-windows.windows.items c.deref-2.result.now c.in_ok-spans.spans.items c.deref-4.result.now
+    c.in_ok-jobs.ensures.exact c.deref.ensures.value c.deref-3.ensures.value c.deref-2.ensures.value c.deref-4.ensures.value c.in_ok-windows.ensures.follows c.in_ok-spans.ensures.first in
+    run_holds_released c.args.sched T c.args.period c.args.defeat.now c.deref-3.result.now (run_of c.deref-4.result.now) runs
+
+pub first_miss-requires-clause-spans : goal.first_miss-requires-clause-spans
+first_miss-requires-clause-spans c =
+    let long : length (run_of c.in_ok-spans.spans.items) ≡ c.in-Some.slots = c.in_ok-spans.ensures.first.long ∙ slots-long c.deref-2.result.now c.in-Some.slots in
+    subst (λ (z : List Span). AreSpans z (length (run_of z))) (sym c.deref-4.ensures.value) (subst (AreSpans c.in_ok-spans.spans.items) (sym long) c.in_ok-spans.ensures.spans)
 
 pub returns : goal.returns
 returns c =
-    let runs : RunsDefeat c.args.sched (sporadic_tasks c.args.tasks.now) c.args.period c.args.defeat.now c.deref-2.result.now c.deref-3.result.now =
-    runs_same c.args.sched (sporadic_tasks c.args.tasks.now) c.args.period c.args.defeat.now c.in-Some.slots c.in-Some.ensures.0 c.deref.result.now c.deref-2.result.now c.in_ok-run.run'.items c.deref-3.result.now
-    (c.deref.ensures.value ∙ c.in_ok-jobs.ensures.exact) (c.deref-2.ensures.value ∙ sym c.deref.ensures.value) c.deref-3.ensures.value c.in_ok-run.ensures.first c.in_ok-run.ensures.permitted in
-    run_is_replay c.args.sched (sporadic_tasks c.args.tasks.now) c.args.period c.args.defeat.now (omega (arith, c.in-Some.ensures.0, c.in-Some.ensures.1)) c.requires.misses c.deref-2.result.now c.deref-3.result.now runs c.first_miss.result c.first_miss.ensures
+    let T = sporadic_tasks c.args.tasks.now in
+    let runs : RunsDefeat c.args.sched T c.args.period c.args.defeat.now c.deref-3.result.now (run_of c.deref-4.result.now) =
+    runs_over c.args.sched T c.args.period c.args.defeat.now c.in-Some.slots c.in-Some.ensures.0 c.in_ok-jobs.jobs.items c.deref.result.now c.deref-3.result.now c.in_ok-windows.windows.items c.deref-2.result.now c.in_ok-spans.spans.items c.deref-4.result.now
+    c.in_ok-jobs.ensures.exact c.deref.ensures.value c.deref-3.ensures.value c.deref-2.ensures.value c.deref-4.ensures.value c.in_ok-windows.ensures.follows c.in_ok-spans.ensures.first in
+    IfOk-weaker c.first_miss.result _ _ (λ miss first. run_is_replay c.args.sched T c.args.period c.args.defeat.now (omega (arith, c.in-Some.ensures.0, c.in-Some.ensures.1)) c.requires.misses c.deref-3.result.now (run_of c.deref-4.result.now) runs miss first) c.first_miss.ensures

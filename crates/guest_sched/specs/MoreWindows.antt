@@ -1,0 +1,14 @@
+-- Windows as they are made, one after the other.
+use Rattle.std.specs.Prelude.{◌≡◌, ℕ, ◌+◌, ◌<◌, ◌≤◌, true, List, length}
+use Rattle.guest_sched.specs.declared.spans.Window.{Window}
+use Rattle.guest_sched.specs.Spans.{is_given, window_at, AreWindows}
+
+-- the last window ends here
+abbrev pub EndsAt : List Window → ℕ → Type 0
+EndsAt windows x = (i : ℕ) × (i + 1 ≡ length windows) × ((window_at windows i).until ≡ x)
+
+-- windows with the slots from `from` on below `until` too
+pub record AddsWindow (old : List Window) (from until : ℕ) (new : List Window) : Type 0 where
+  pub windows : AreWindows new until
+  pub before : (x : ℕ) → x < from → is_given new x ≡ is_given old x
+  pub after : (x : ℕ) → from ≤ x → x < until → is_given new x ≡ true

@@ -1,0 +1,45 @@
+ghost use Rattle.std.specs.Prelude.{◌≡◌, ℕ, ◌^◌, ◌<◌, List, Option, length, IfOk};
+ghost use Rattle.slot_model.specs.Task.{sporadic_tasks};
+ghost use Rattle.slot_model.specs.Release.{LegalRelease, synchronous};
+ghost use Rattle.slot_model.specs.Run.{server, FirstRun, PermittedRun};
+
+use guest_sched::{server_spans, windows_of, written};
+use release_pattern::synchronous_jobs;
+use slot_model::{Job, Order, Task};
+use std::alloc::{AllocError, Global};
+
+/// The jobs of servers in `slots` slots: of each task one of full work at every multiple of its
+/// period. They stand by release, and of one moment by place.
+pub fn server_jobs(alloc: Global, tasks: &[Task], slots: u64) -> Result<Vec<Job>, AllocError>
+    requires few { length (synchronous (sporadic_tasks tasks.now) 0 slots) < 2 ^ 32 }
+    ensures exact { IfOk result (λ jobs. jobs.items ≡ synchronous (sporadic_tasks tasks.now) 0 slots) }
+    ensures legal { IfOk result (λ jobs. LegalRelease (sporadic_tasks tasks.now) jobs.items) }
+    ensures few { IfOk result (λ jobs. length jobs.items < 2 ^ 32) }
+{
+    synchronous_jobs(alloc, tasks, 0, slots)
+}
+
+/// The schedule of a level of servers over a list of slots, true where the level has the slot: at
+/// each the place of the job that has it. A job is given up at its deadline moment. Where several
+/// jobs may have the slot, that is the first in the list.
+pub fn run_servers<O: Order>(
+    alloc: Global,
+    tasks: &[Task],
+    jobs: &[Job],
+    order: &O,
+    given: &[bool],
+) -> Result<Vec<Option<u32>>, AllocError>
+    requires legal { LegalRelease (sporadic_tasks tasks.now) jobs.now }
+    requires few { length jobs.now < 2 ^ 32 }
+    ensures first { let T = sporadic_tasks tasks.now in let goes = O.goes order.now T in
+        IfOk result (λ run. FirstRun server goes T jobs.now given.now run.items) }
+    ensures permitted { let T = sporadic_tasks tasks.now in let goes = O.goes order.now T in
+        IfOk result (λ run. PermittedRun server goes T jobs.now given.now run.items) }
+    ensures only { let T = sporadic_tasks tasks.now in let goes = O.goes order.now T in
+        IfOk result (λ run. (other : List (Option ℕ)) →
+            FirstRun server goes T jobs.now given.now other → other ≡ run.items) }
+{
+    let windows = windows_of(alloc, given)?;
+    let spans = server_spans(alloc, tasks, jobs, order, &windows, given.len() as u64)?;
+    written(alloc, &spans)
+}

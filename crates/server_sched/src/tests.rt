@@ -1,0 +1,36 @@
+use crate::{run_servers, server_jobs};
+use slot_model::{Edf, Job, Task, is_legal};
+use std::test::Fail;
+
+const OUT: &str = "out of range";
+
+/// Two servers of 3 in 4 and of 4 in 6 slots ask for more than there is: the second is given up at
+/// slot 6 and the first at slot 8, each a slot short.
+#[test]
+fn servers_release_once_a_period(rt: HostRuntime) -> Result<(), Fail> {
+    let tasks = [Task::new(4, 4, 3).ok_or(OUT)?, Task::new(6, 6, 4).ok_or(OUT)?];
+    let jobs = server_jobs(rt.alloc(), &tasks, 9)?;
+    let wanted = [(0, 0, 3), (1, 0, 4), (0, 4, 3), (1, 6, 4), (0, 8, 3)];
+    assert_eq!(rt; jobs.len(), wanted.len());
+    for (job, (task, release, work)) in jobs.iter().zip(wanted) {
+        assert_eq!(rt;
+            *job,
+            Job {
+                task,
+                release,
+                work,
+                early: 0
+            }
+        );
+    }
+    if !is_legal(&tasks, &jobs) || jobs.len() > 1000 {
+        return Ok(());
+    }
+    let run = run_servers(rt.alloc(), &tasks, &jobs, &Edf, &[true; 9])?;
+    let held = [0, 0, 0, 1, 1, 1, 2, 2, 3];
+    assert_eq!(rt; run.len(), held.len());
+    for (entry, place) in run.iter().zip(held) {
+        assert_eq!(rt; *entry, Some(place));
+    }
+    Ok(())
+}
