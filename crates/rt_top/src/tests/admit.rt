@@ -83,7 +83,12 @@ fn one_leaf_is_judged(rt: HostRuntime) -> Result<(), Fail> {
             "verdict=wide\nwide part leaf\n",
         ),
         (
-            [LEAF, "sched = \"edf\"\nperiod = 1000000\nbudget = 1000000\n", WIDE].as_slice(),
+            [
+                LEAF,
+                "sched = \"edf\"\nperiod = 1000000\nbudget = 1000000\n",
+                WIDE,
+            ]
+            .as_slice(),
             Status::Wide,
             "verdict=wide\nwide part leaf\n",
         ),
@@ -133,11 +138,7 @@ fn one_leaf_is_judged(rt: HostRuntime) -> Result<(), Fail> {
 fn trees_are_judged(rt: HostRuntime) -> Result<(), Fail> {
     let alloc = rt.alloc();
     for (pieces, want, answer) in [
-        (
-            [CORE].as_slice(),
-            Status::Yes,
-            "verdict=yes\n",
-        ),
+        ([CORE].as_slice(), Status::Yes, "verdict=yes\n"),
         (
             [PAIR_HEAD, "budget = 10\n", PAIR_REST].as_slice(),
             Status::Yes,
@@ -168,11 +169,7 @@ fn trees_are_judged(rt: HostRuntime) -> Result<(), Fail> {
             Status::No,
             "verdict=no\noverfull core cpu0 at=50\n",
         ),
-        (
-            [HOST].as_slice(),
-            Status::Yes,
-            HOST_ANSWER,
-        ),
+        ([HOST].as_slice(), Status::Yes, HOST_ANSWER),
     ] {
         let text = joined(alloc, pieces)?;
         let (status, written) = admit(alloc, text.as_str())?;
