@@ -24,7 +24,8 @@ pub fn read_file<S: Store>(
     name: &str,
     number: u32,
 ) -> Result<Vec<u8>, Ending>
-    ensures bytes { IfOk result (λ bytes. Told (S.files store.old) name.now (λ file. file ≡ Some bytes.items)) }
+    ensures bytes { IfOk result
+        (λ bytes. Told (S.files store.old) name.now (λ file. file ≡ Some bytes.items)) }
     ensures short { IfOk result (λ bytes. length bytes.items ≤ file_limit) }
     ensures refused { IfErr result (λ stop. IfAnswered stop (λ a.
         StopsAt number (S.files store.old) name.now (λ _ _ _. ⊥) a.status a.text.items)) }

@@ -32,8 +32,10 @@ pub fn run<S: Store, K: Sink>(alloc: Global, words: &[String], store: &mut S, ou
     ensures quiet_faults { IsOfQuietStore result → S.faults store.new ≡ S.faults store.old }
     ensures quiet_absences { IsOfQuietStore result → S.absences store.new ≡ S.absences store.old }
     ensures absent { result ≡ Status.Absent → Rose (S.absences store.old) (S.absences store.new) }
-    ensures read_fault { result ≡ Status.ReadFault → Rose (S.faults store.old) (S.faults store.new) }
-    ensures too_long { result ≡ Status.TooLong → RoseBeyond 67108864 (S.taken store.old) (S.taken store.new) }
+    ensures read_fault { result ≡ Status.ReadFault
+        → Rose (S.faults store.old) (S.faults store.new) }
+    ensures too_long { result ≡ Status.TooLong
+        → RoseBeyond 67108864 (S.taken store.old) (S.taken store.new) }
     ensures write_fault { result ≡ Status.WriteFault → Rose (K.faults out.old) (K.faults out.new) }
     // files that can be judged, over a store and a sink that do not fail, get their verdict
     ensures complete { IsJudgeable (command_of (map string_bytes words.now)) (S.files store.old)

@@ -1,6 +1,6 @@
 // What `admit` answers to worked systems.
 use super::rows::*;
-use super::{admit, joined};
+use super::{answer_to, joined};
 use crate::Status;
 use std::test::Fail;
 
@@ -127,7 +127,7 @@ fn one_leaf_is_judged(rt: HostRuntime) -> Result<(), Fail> {
         ),
     ] {
         let text = joined(alloc, pieces)?;
-        let (status, written) = admit(alloc, text.as_str())?;
+        let (status, written) = answer_to(alloc, text.as_str())?;
         assert_eq!(rt; status, want, "{text}");
         assert_eq!(rt; written.as_slice(), answer.as_bytes(), "{text}");
     }
@@ -172,7 +172,7 @@ fn trees_are_judged(rt: HostRuntime) -> Result<(), Fail> {
         ([HOST].as_slice(), Status::Yes, HOST_ANSWER),
     ] {
         let text = joined(alloc, pieces)?;
-        let (status, written) = admit(alloc, text.as_str())?;
+        let (status, written) = answer_to(alloc, text.as_str())?;
         assert_eq!(rt; status, want, "{text}");
         assert_eq!(rt; written.as_slice(), answer.as_bytes(), "{text}");
     }
