@@ -50,7 +50,7 @@ rest_of files (Some i) at = Some (drop at (bytes_at files i))
 -- a read gives a byte at least, and the place of reading is inside the current file
 pub record StoreIsSound
     (bite : ℕ) (files : List (List ℕ × Vec ℕ Global)) (current : Option ℕ) (at : ℕ)
-  : Type 0 where
+    : Type 0 where
   pub bites : 1 ≤ bite
   pub in_files : ForSome current (λ i. i < length files)
   pub in_file : ForSome current (λ i. at ≤ length (bytes_at files i))

@@ -35,8 +35,8 @@ impl<R: Files> Model for DiskStore<R> {
 impl<R: Files> DiskStore<R> {
     /// A store of the files that `rt` reaches.
     pub fn new(rt: R) -> DiskStore<R>
-        ensures {
-            result ≡ record { is_open = false; rest = None; faults = 0; absences = 0; taken = 0 } }
+        ensures { result
+            ≡ record { is_open = false; rest = None; faults = 0; absences = 0; taken = 0 } }
     {
         DiskStore {
             rt,
@@ -66,8 +66,8 @@ impl<R: Files> DiskStore<R> {
 fn fault_of(kind: ErrorKind) -> StoreFault
     ensures not_found { kind ≡ ErrorKind.NotFound → result ≡ StoreFault.Missing }
     ensures no_memory { kind ≡ ErrorKind.OutOfMemory → result ≡ StoreFault.NoMemory }
-    ensures any_other {
-        kind ≢ ErrorKind.NotFound → kind ≢ ErrorKind.OutOfMemory → result ≡ StoreFault.Failed }
+    ensures any_other { kind ≢ ErrorKind.NotFound → kind ≢ ErrorKind.OutOfMemory
+        → result ≡ StoreFault.Failed }
 {
     match kind {
         ErrorKind::NotFound => StoreFault::Missing,

@@ -32,7 +32,7 @@ impl Model for MemorySink {
     } };
 
     ghost invariant = { λ s. (1 ≤ s.bite) × (s.room ≤ vec_capacity s.bytes)
-      × (vec_len s.bytes ≤ s.room) };
+        × (vec_len s.bytes ≤ s.room) };
 }
 
 impl MemorySink {
@@ -46,9 +46,14 @@ impl MemorySink {
         fails: Vec<u64>,
     ) -> Result<MemorySink, AllocError>
         requires { 1 ≤ bite }
-        ensures {
-            IfOk result (λ sink. sink ≡ record {
-              bytes = []; room = room; bite = bite; fails = fails.items; calls = 0; faults = 0 }) }
+        ensures { IfOk result (λ sink. sink ≡ record {
+          bytes = [];
+          room = room;
+          bite = bite;
+          fails = fails.items;
+          calls = 0;
+          faults = 0;
+        }) }
     {
         Ok(MemorySink {
             bytes: Vec::with_capacity(alloc, room)?,
@@ -74,21 +79,19 @@ impl Sink for MemorySink {
     ghost faults = { λ s. s.faults };
 
     fn write(&mut self, piece: &[u8]) -> Result<usize, SinkFault>
-        ensures fails {
-            IsErr result ↔ (Contains self.old.fails self.old.calls
-              ⊎ ((0 < length piece.now) × (self.old.room ≤ length self.old.bytes))) }
-        ensures count {
-            IfOk result (λ n. n ≡ min (min (length piece.now) self.old.bite)
-              (self.old.room - length self.old.bytes)) }
+        ensures fails { IsErr result ↔ (Contains self.old.fails self.old.calls
+            ⊎ ((0 < length piece.now) × (self.old.room ≤ length self.old.bytes))) }
+        ensures count { IfOk result (λ n. n ≡ min (min (length piece.now) self.old.bite)
+            (self.old.room - length self.old.bytes)) }
         ensures some { IfOk result (λ n. 0 < length piece.now → 0 < n) }
-        ensures taken {
-            IfOk result (λ n. self.new ≡ record self.old {
-              bytes = self.old.bytes ++ take n piece.now;
-              calls = raised self.old.calls 1 }) }
-        ensures failed {
-            OnErr result (self.new ≡ record self.old {
-              calls = raised self.old.calls 1;
-              faults = raised self.old.faults 1 }) }
+        ensures taken { IfOk result (λ n. self.new ≡ record self.old {
+          bytes = self.old.bytes ++ take n piece.now;
+          calls = raised self.old.calls 1;
+        }) }
+        ensures failed { OnErr result (self.new ≡ record self.old {
+          calls = raised self.old.calls 1;
+          faults = raised self.old.faults 1;
+        }) }
         ensures faults_last { self.old.faults ≤ self.new.faults }
     {
         let failing = self.fails.contains(&self.calls);

@@ -69,10 +69,9 @@ impl MemoryStore {
 }
 
 fn place_of(files: &[(Name, Vec<u8>)], name: &str) -> Option<usize>
-    ensures {
-        let found = file_named name.now (named_files files.now) in
+    ensures { let found = file_named name.now (named_files files.now) in
         MatchOption result (found ≡ None)
-          (λ i. (i < length files.now) × (found ≡ Some (bytes_at files.now i))) }
+        (λ i. (i < length files.now) × (found ≡ Some (bytes_at files.now i))) }
 {
     for (i, file) in files.iter().enumerate() {
         if name == file.0.as_str() {
@@ -115,23 +114,23 @@ impl Store for MemoryStore {
     fn open_file(&mut self, name: &str) -> Result<(), StoreFault>
         ensures fails { IsErrOf result StoreFault.Failed ↔ Contains self.old.fails self.old.calls }
         ensures there { OnOk result (file_named name.now self.old.files ≢ None) }
-        ensures not_there {
-            IsErrOf result StoreFault.Missing → file_named name.now self.old.files ≡ None }
+        ensures not_there { IsErrOf result StoreFault.Missing
+            → file_named name.now self.old.files ≡ None }
         ensures never_memory { IsErrOf result StoreFault.NoMemory → ⊥ }
-        ensures opened {
-            OnOk result (self.new ≡ record self.old {
-              calls = raised self.old.calls 1;
-              rest = file_named name.now self.old.files }) }
-        ensures failed {
-            IsErrOf result StoreFault.Failed → self.new ≡ record self.old {
-              calls = raised self.old.calls 1;
-              rest = None;
-              faults = raised self.old.faults 1 } }
-        ensures missing {
-            IsErrOf result StoreFault.Missing → self.new ≡ record self.old {
-              calls = raised self.old.calls 1;
-              rest = None;
-              absences = raised self.old.absences 1 } }
+        ensures opened { OnOk result (self.new ≡ record self.old {
+          calls = raised self.old.calls 1;
+          rest = file_named name.now self.old.files;
+        }) }
+        ensures failed { IsErrOf result StoreFault.Failed → self.new ≡ record self.old {
+          calls = raised self.old.calls 1;
+          rest = None;
+          faults = raised self.old.faults 1;
+        } }
+        ensures missing { IsErrOf result StoreFault.Missing → self.new ≡ record self.old {
+          calls = raised self.old.calls 1;
+          rest = None;
+          absences = raised self.old.absences 1;
+        } }
         ensures faults_last { self.old.faults ≤ self.new.faults }
         ensures absences_last { self.old.absences ≤ self.new.absences }
     {
@@ -158,21 +157,20 @@ impl Store for MemoryStore {
     fn read(&mut self, buf: &mut [u8]) -> Result<usize, StoreFault>
         requires { is_some self.old.rest ≡ true }
         ensures fails { IsErr result ↔ Contains self.old.fails self.old.calls }
-        ensures count {
-            IfOk result (λ n. IfSome self.old.rest (λ left.
-              n ≡ min (min (length left) (length buf.new)) self.old.bite)) }
-        ensures front {
-            IfOk result (λ n. IfSome self.old.rest (λ left. take n buf.new ≡ take n left)) }
-        ensures given {
-            IfOk result (λ n. self.new ≡ record self.old {
-              calls = raised self.old.calls 1;
-              rest = option_map (λ left. drop n left) self.old.rest;
-              taken = raised self.old.taken n }) }
-        ensures failed {
-            OnErr result (self.new ≡ record self.old {
-              calls = raised self.old.calls 1;
-              rest = None;
-              faults = raised self.old.faults 1 }) }
+        ensures count { IfOk result (λ n. IfSome self.old.rest (λ left.
+            n ≡ min (min (length left) (length buf.new)) self.old.bite)) }
+        ensures front { IfOk result
+            (λ n. IfSome self.old.rest (λ left. take n buf.new ≡ take n left)) }
+        ensures given { IfOk result (λ n. self.new ≡ record self.old {
+          calls = raised self.old.calls 1;
+          rest = option_map (λ left. drop n left) self.old.rest;
+          taken = raised self.old.taken n;
+        }) }
+        ensures failed { OnErr result (self.new ≡ record self.old {
+          calls = raised self.old.calls 1;
+          rest = None;
+          faults = raised self.old.faults 1;
+        }) }
         ensures end { IfOk result (λ n. n ≡ 0 → 0 < length buf.new → self.new.rest ≡ Some []) }
         ensures never_missing { IsErrOf result StoreFault.Missing → ⊥ }
         ensures never_memory { IsErrOf result StoreFault.NoMemory → ⊥ }

@@ -63,32 +63,30 @@ pub fn read_all<S: Store>(
     requires { limit ≤ 67108864 }
     ensures short { IfOk result (λ bytes. vec_len bytes ≤ limit) }
     // where the files are told, the bytes are those of the file
-    ensures whole {
-        IfOk result (λ bytes. Told (S.files store.old) name.now (λ file. file ≡ Some bytes.items)) }
-    ensures absent {
-        IsErrOf result ReadFault.Absent → Rose (S.absences store.old) (S.absences store.new) }
-    ensures not_there {
-        IsErrOf result ReadFault.Absent → Told (S.files store.old) name.now (λ file. file ≡ None) }
-    ensures failed {
-        IsErrOf result ReadFault.Failed → Rose (S.faults store.old) (S.faults store.new) }
-    ensures too_long {
-        IsErrOf result ReadFault.TooLong
-          → RoseBeyond limit (S.taken store.old) (S.taken store.new) }
+    ensures whole { IfOk result
+        (λ bytes. Told (S.files store.old) name.now (λ file. file ≡ Some bytes.items)) }
+    ensures absent { IsErrOf result ReadFault.Absent
+        → Rose (S.absences store.old) (S.absences store.new) }
+    ensures not_there { IsErrOf result ReadFault.Absent
+        → Told (S.files store.old) name.now (λ file. file ≡ None) }
+    ensures failed { IsErrOf result ReadFault.Failed
+        → Rose (S.faults store.old) (S.faults store.new) }
+    ensures too_long { IsErrOf result ReadFault.TooLong
+        → RoseBeyond limit (S.taken store.old) (S.taken store.new) }
     // where the files are told, the file is there and is longer than the limit
-    ensures longer {
-        IsErrOf result ReadFault.TooLong
-          → Told (S.files store.old) name.now
-            (λ file. IsSomeAnd file (λ bytes. limit < length bytes)) }
+    ensures longer { IsErrOf result ReadFault.TooLong
+        → Told (S.files store.old) name.now
+        (λ file. IsSomeAnd file (λ bytes. limit < length bytes)) }
     ensures ok_faults { OnOk result (S.faults store.new ≡ S.faults store.old) }
     ensures ok_absences { OnOk result (S.absences store.new ≡ S.absences store.old) }
-    ensures long_faults {
-        IsErrOf result ReadFault.TooLong → S.faults store.new ≡ S.faults store.old }
-    ensures long_absences {
-        IsErrOf result ReadFault.TooLong → S.absences store.new ≡ S.absences store.old }
-    ensures memory_faults {
-        IsErrOf result ReadFault.NoMemory → S.faults store.new ≡ S.faults store.old }
-    ensures memory_absences {
-        IsErrOf result ReadFault.NoMemory → S.absences store.new ≡ S.absences store.old }
+    ensures long_faults { IsErrOf result ReadFault.TooLong
+        → S.faults store.new ≡ S.faults store.old }
+    ensures long_absences { IsErrOf result ReadFault.TooLong
+        → S.absences store.new ≡ S.absences store.old }
+    ensures memory_faults { IsErrOf result ReadFault.NoMemory
+        → S.faults store.new ≡ S.faults store.old }
+    ensures memory_absences { IsErrOf result ReadFault.NoMemory
+        → S.absences store.new ≡ S.absences store.old }
     ensures files { S.files store.new ≡ S.files store.old }
     // not a byte past the first behind the limit is read
     ensures no_more { S.taken store.new ≤ S.taken store.old + limit + 1 }

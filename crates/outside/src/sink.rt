@@ -23,8 +23,8 @@ pub trait Sink {
         ensures told { is_some (written self.new) ≡ is_some (written self.old) }
         ensures count { IfOk result (λ n. n ≤ length piece.now) }
         ensures some { IfOk result (λ n. 0 < length piece.now → 0 < n) }
-        ensures front {
-            IfOk result (λ n. Appends (written self.old) (written self.new) (take n piece.now)) }
+        ensures front { IfOk result
+            (λ n. Appends (written self.old) (written self.new) (take n piece.now)) }
         ensures nothing { OnErr result (written self.new ≡ written self.old) }
         ensures quiet { OnOk result (faults self.new ≡ faults self.old) }
         ensures failed { OnErr result (Rose (faults self.old) (faults self.new)) }

@@ -42,8 +42,8 @@ impl<W: Write> Sink for StdoutSink<W> {
     fn write(&mut self, piece: &[u8]) -> Result<usize, SinkFault>
         ensures count { IfOk result (λ n. n ≤ length piece.now) }
         ensures some { IfOk result (λ n. 0 < length piece.now → 0 < n) }
-        ensures front {
-            IfOk result (λ n. Appends self.old.contents self.new.contents (take n piece.now)) }
+        ensures front { IfOk result
+            (λ n. Appends self.old.contents self.new.contents (take n piece.now)) }
         ensures quiet { OnOk result (self.new.faults ≡ self.old.faults) }
         ensures failed { OnErr result (self.new.faults ≡ raised self.old.faults 1) }
         ensures faults_last { self.old.faults ≤ self.new.faults }
@@ -62,8 +62,8 @@ impl<W: Write> Sink for StdoutSink<W> {
 // that is not empty.
 fn write_front<W: Write>(out: &mut W, piece: &[u8]) -> Option<usize>
     ensures count { IfSome result (λ n. (n ≤ length piece.now) × (0 < length piece.now → 0 < n)) }
-    ensures front {
-        IfSome result (λ n. Appends (W.contents out.old) (W.contents out.new) (take n piece.now)) }
+    ensures front { IfSome result
+        (λ n. Appends (W.contents out.old) (W.contents out.new) (take n piece.now)) }
 {
     let count = out.write(piece).ok()?;
     if count == 0 && !piece.is_empty() {

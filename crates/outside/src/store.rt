@@ -40,23 +40,22 @@ pub trait Store {
         ensures files { files self.new ≡ files self.old }
         ensures current { is_open self.new ≡ is_ok result }
         // where the files are told, so is the rest: it is the whole file
-        ensures whole {
-            OnOk result (Told (files self.old) name.now (λ file. rest self.new ≡ file)) }
+        ensures whole { OnOk result
+            (Told (files self.old) name.now (λ file. rest self.new ≡ file)) }
         ensures there { OnOk result (Told (files self.old) name.now (λ file. file ≢ None)) }
-        ensures not_there {
-            IsErrOf result StoreFault.Missing
-              → Told (files self.old) name.now (λ file. file ≡ None) }
+        ensures not_there { IsErrOf result StoreFault.Missing
+            → Told (files self.old) name.now (λ file. file ≡ None) }
         ensures taken { taken self.new ≡ taken self.old }
         ensures ok_faults { OnOk result (faults self.new ≡ faults self.old) }
         ensures ok_absences { OnOk result (absences self.new ≡ absences self.old) }
-        ensures memory_faults {
-            IsErrOf result StoreFault.NoMemory → faults self.new ≡ faults self.old }
-        ensures memory_absences {
-            IsErrOf result StoreFault.NoMemory → absences self.new ≡ absences self.old }
-        ensures failed {
-            IsErrOf result StoreFault.Failed → Rose (faults self.old) (faults self.new) }
-        ensures missing {
-            IsErrOf result StoreFault.Missing → Rose (absences self.old) (absences self.new) }
+        ensures memory_faults { IsErrOf result StoreFault.NoMemory
+            → faults self.new ≡ faults self.old }
+        ensures memory_absences { IsErrOf result StoreFault.NoMemory
+            → absences self.new ≡ absences self.old }
+        ensures failed { IsErrOf result StoreFault.Failed
+            → Rose (faults self.old) (faults self.new) }
+        ensures missing { IsErrOf result StoreFault.Missing
+            → Rose (absences self.old) (absences self.new) }
         ensures faults_last { faults self.old ≤ faults self.new }
         ensures absences_last { absences self.old ≤ absences self.new };
 
@@ -68,16 +67,16 @@ pub trait Store {
         ensures current { is_open self.new ≡ is_ok result }
         ensures count { IfOk result (λ n. n ≤ length buf.new) }
         // where the rest is told, it loses exactly these bytes
-        ensures front {
-            IfOk result (λ n. Consumes (rest self.old) (rest self.new) (take n buf.new)) }
+        ensures front { IfOk result
+            (λ n. Consumes (rest self.old) (rest self.new) (take n buf.new)) }
         ensures end { IfOk result (λ n. n ≡ 0 → 0 < length buf.new → IsAtEnd (rest self.new)) }
         ensures taken { IfOk result (λ n. taken self.new ≡ raised (taken self.old) n) }
         ensures not_taken { OnErr result (taken self.new ≡ taken self.old) }
         ensures taken_last { taken self.old ≤ taken self.new }
         ensures ok_faults { OnOk result (faults self.new ≡ faults self.old) }
         ensures ok_absences { OnOk result (absences self.new ≡ absences self.old) }
-        ensures failed {
-            IsErrOf result StoreFault.Failed → Rose (faults self.old) (faults self.new) }
+        ensures failed { IsErrOf result StoreFault.Failed
+            → Rose (faults self.old) (faults self.new) }
         ensures never_missing { IsErrOf result StoreFault.Missing → ⊥ }
         ensures never_memory { IsErrOf result StoreFault.NoMemory → ⊥ }
         ensures faults_last { faults self.old ≤ faults self.new }

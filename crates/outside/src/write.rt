@@ -17,8 +17,8 @@ pub fn write_all<K: Sink>(sink: &mut K, bytes: &[u8]) -> Result<(), WriteFault>
     ensures told { is_some (K.written sink.new) ≡ is_some (K.written sink.old) }
     ensures whole { OnOk result (Appends (K.written sink.old) (K.written sink.new) bytes.now) }
     ensures quiet { OnOk result (K.faults sink.new ≡ K.faults sink.old) }
-    ensures front {
-        OnErr result (AppendsProperPrefix (K.written sink.old) (K.written sink.new) bytes.now) }
+    ensures front { OnErr result
+        (AppendsProperPrefix (K.written sink.old) (K.written sink.new) bytes.now) }
     ensures failed { OnErr result (Rose (K.faults sink.old) (K.faults sink.new)) }
     ensures faults_last { K.faults sink.old ≤ K.faults sink.new }
 {

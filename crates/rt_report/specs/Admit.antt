@@ -60,9 +60,9 @@ part_lines [] budgets replays = []
 part_lines (part ∷ parts) [] replays = []
 part_lines (part ∷ parts) (budget ∷ budgets) replays =
     part_line part budget ++ (
-      if is_computed_leaf part
-      then (first_witness part replays ++ part_lines parts budgets (drop 1 replays))
-      else part_lines parts budgets replays)
+    if is_computed_leaf part
+    then (first_witness part replays ++ part_lines parts budgets (drop 1 replays))
+    else part_lines parts budgets replays)
 
 abbrev pub admit_text : SystemView → List ℕ → List Replay → List ℕ
 admit_text sys budgets replays = codes "verdict=yes\n" ++ part_lines sys.parts budgets replays

@@ -18,7 +18,7 @@ use Rattle.rt_report.specs.declared.replay.Replay.{Replay}
 -- the first miss of the first run of the defeat's release over its supply
 pub record ShowsMiss
     (sched : Sched) (tasks : List SporadicTask) (period : ℕ) (defeat : Defeat) (miss : Miss)
-  : Type 0 where
+    : Type 0 where
   pub slots : List Bool
   pub run : List (Option ℕ)
   pub worst : WorstList (worst_slot period defeat.budget) defeat.start defeat.span slots

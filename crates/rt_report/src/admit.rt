@@ -37,8 +37,8 @@ pub fn is_computed_leaf(part: &Part) -> bool
 }
 
 fn push_part(text: &mut String, part: &Part, budget: u64) -> Result<(), AllocError>
-    ensures {
-        OnOk result (string_bytes text.new ≡ string_bytes text.old ++ part_line part.now budget) }
+    ensures { OnOk result
+        (string_bytes text.new ≡ string_bytes text.old ++ part_line part.now budget) }
 {
     let name = part.name().as_str();
     let period = part.period();
@@ -57,9 +57,8 @@ fn push_first<'a>(
     part: &Part,
     replays: &'a [Replay],
 ) -> Result<&'a [Replay], AllocError>
-    ensures line {
-        OnOk result (
-          string_bytes text.new ≡ string_bytes text.old ++ first_witness part.now replays.now) }
+    ensures line { OnOk result (
+        string_bytes text.new ≡ string_bytes text.old ++ first_witness part.now replays.now) }
     ensures later { IfOk result (λ later. later.now ≡ drop 1 replays.now) }
 {
     match replays.split_first() {
@@ -72,9 +71,8 @@ fn push_first<'a>(
 }
 
 fn push_witness(text: &mut String, part: &Part, replay: &Replay) -> Result<(), AllocError>
-    ensures {
-        OnOk result (
-          string_bytes text.new ≡ string_bytes text.old ++ witness_line part.now replay.now) }
+    ensures { OnOk result (
+        string_bytes text.new ≡ string_bytes text.old ++ witness_line part.now replay.now) }
 {
     let name = part.name().as_str();
     let witness = replay.witness;
@@ -98,8 +96,8 @@ fn short_task(part: &Part, task: Option<u32>) -> &str
 }
 
 fn push_miss(text: &mut String, part: &Part, miss: Option<Miss>) -> Result<(), AllocError>
-    ensures {
-        OnOk result (string_bytes text.new ≡ string_bytes text.old ++ miss_words part.now miss) }
+    ensures { OnOk result
+        (string_bytes text.new ≡ string_bytes text.old ++ miss_words part.now miss) }
 {
     match miss {
         Some(miss) => write!(

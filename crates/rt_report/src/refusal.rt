@@ -34,8 +34,8 @@ pub fn refusal_text(alloc: Global, sys: &System, r: &Refusal) -> Result<Vec<u8>,
 
 fn push_node(text: &mut String, sys: &System, node: Place) -> Result<(), AllocError>
     requires { IsNode sys.now node }
-    ensures {
-        OnOk result (string_bytes text.new ≡ string_bytes text.old ++ node_words sys.now node) }
+    ensures { OnOk result
+        (string_bytes text.new ≡ string_bytes text.old ++ node_words sys.now node) }
 {
     match node {
         Place::Core(c) => {
@@ -51,9 +51,8 @@ fn push_node(text: &mut String, sys: &System, node: Place) -> Result<(), AllocEr
 
 fn push_short(text: &mut String, sys: &System, node: Place, short: Short) -> Result<(), AllocError>
     requires { IsNode sys.now node }
-    ensures {
-        OnOk result (
-          string_bytes text.new ≡ string_bytes text.old ++ short_words sys.now node short) }
+    ensures { OnOk result (
+        string_bytes text.new ≡ string_bytes text.old ++ short_words sys.now node short) }
 {
     match short {
         Short::At(t) => write!(text, " at={t}"),

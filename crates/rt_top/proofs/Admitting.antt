@@ -1,15 +1,15 @@
 -- From what was read and judged to the answer of `admit`.
-use Rattle.std.proofs.Common.{◌≡◌, ℕ, ◌<◌, ◌≤◌, List, [], ◌∷◌, length, Option, Some, None, refl, sym, ap, subst, inl, inr, arith}
+use Rattle.std.proofs.Common.{◌≡◌, ℕ, ◌≤◌, List, [], ◌∷◌, length, Option, Some, None, sym, ap, subst, inl, inr, arith}
 use Rattle.std.proofs.lemmas.Bool.{cases_lt, false≢true}
 use Rattle.std.specs.Prelude.{IsOk, IfOk, Result, Ok, Err}
 use Rattle.tree_model.specs.View.{SystemView}
 use Rattle.system_file.specs.declared.fault.SystemFault.{SystemFault}
 use Rattle.system_file.specs.SystemFile.{system_of}
-use Rattle.outside.specs.Files.{Files, Told, file_named}
+use Rattle.outside.specs.Files.{Files, Told}
 use Rattle.rt_top.specs.declared.status.Status.{Status}
 use Rattle.rt_top.specs.declared.status.Status.TheVariants.{Yes, No, Usage, BadFile, Wide, Absent, TooLong, ReadFault, WriteFault, NoMemory}
 use Rattle.rt_top.specs.Command.{admit}
-use Rattle.rt_top.specs.Answer.{Contents, file_at, file_limit, AtContent, OnSystem, IfSystem}
+use Rattle.rt_top.specs.Answer.{Contents, file_at, file_limit, AtContent, OnSystem}
 use Rattle.rt_top.specs.Admit.{AdmitsSystem, Admits, AdmitMeans, MeansOfSystem, CanAdmit}
 use Rattle.rt_top.specs.Report.{AreContents, IsAnswer}
 use Rattle.rt_top.specs.Causes.{IsVerdict}

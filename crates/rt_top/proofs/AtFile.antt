@@ -1,5 +1,6 @@
--- What is said at a file of a command: when it says more, which statuses it has, and that it is one.
-use Rattle.std.proofs.Common.{◌≡◌, ℕ, ◌<◌, ◌≤◌, List, length, Option, Some, None, Result, Ok, Err, refl, sym, ◌∙◌, subst, inl, inr, arith}
+-- What is said at a file of a command: when it says more, which statuses it has, and that it is
+-- one.
+use Rattle.std.proofs.Common.{◌≡◌, ℕ, List, length, Option, Some, None, Result, Ok, Err, refl, sym, ◌∙◌, subst, inl, inr, arith}
 use Rattle.std.proofs.lemmas.Bool.{cases_lt}
 use Rattle.tree_model.specs.View.{SystemView}
 use Rattle.tree_model.specs.System.{IsSystem}

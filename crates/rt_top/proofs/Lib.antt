@@ -7,3 +7,4 @@ mod Admitting
 mod Reporting
 mod ReplayLeaf
 mod ReplayList
+mod Examples

@@ -1,5 +1,5 @@
 -- To a command over told files there is one answer.
-use Rattle.std.proofs.Common.{◌≡◌, ℕ, List, Option, Some, None, sym, ◌∙◌, subst}
+use Rattle.std.proofs.Common.{◌≡◌, Option, Some, None, sym, ◌∙◌, subst}
 use Rattle.outside.specs.Files.{Files}
 use Rattle.rt_top.specs.Command.{Command, admit}
 use Rattle.rt_top.specs.Answer.{Contents, IsOne}

@@ -1,18 +1,18 @@
 -- From an answer to what is reported.
-use Rattle.std.proofs.Common.{◌≡◌, ◌≢◌, ◌⊎◌, ℕ, ◌<◌, ◌≤◌, List, [], map, Option, Some, None, inl, inr, arith, refl, subst, sym, ◌∙◌}
+use Rattle.std.proofs.Common.{◌≡◌, ◌≢◌, ◌⊎◌, ℕ, List, [], Option, Some, None, inl, inr, arith, refl, subst, sym, ◌∙◌}
 use Rattle.std.specs.Prelude.{⊤, option_map}
 use Rattle.rt_top.specs.declared.command.Command.{Command as Parsed}
 use Rattle.rt_top.specs.Steps.{command_told}
 use Rattle.std.specs.Io.KnownBytes.{Appends}
-use Rattle.outside.specs.Files.{Files, file_named}
+use Rattle.outside.specs.Files.{Files}
 use Rattle.outside.specs.Counts.{Rose}
 use Rattle.outside.specs.Written.{AppendsProperPrefix}
 use Rattle.rt_report.specs.Usage.{usage_line}
 use Rattle.rt_top.specs.declared.status.Status.{Status}
 use Rattle.rt_top.specs.declared.status.Status.TheVariants.{Yes, No, Usage, BadFile, Wide, Absent, TooLong, ReadFault, WriteFault, NoMemory}
-use Rattle.rt_top.specs.Command.{Command, admit, file_names}
+use Rattle.rt_top.specs.Command.{Command, admit}
 use Rattle.rt_top.specs.Answer.{Contents}
-use Rattle.rt_top.specs.Report.{JobAnswers, Answers, Means, AreContents, IsAnswer, Reported}
+use Rattle.rt_top.specs.Report.{JobAnswers, Answers, AreContents, IsAnswer, Reported}
 use Rattle.rt_top.specs.Causes.{CanJudge, IsJudgeable, IsVerdict, Stays}
 use Rattle.rt_top.proofs.Statuses.{IsOfJob, HasText}
 use Rattle.rt_top.proofs.Admitting.{admit_status, admit_verdict}

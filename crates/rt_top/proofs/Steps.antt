@@ -1,11 +1,9 @@
 -- From a file that is refused to what is answered.
-use Rattle.std.proofs.Common.{◌≡◌, ◌≢◌, ℕ, ◌+◌, ◌<◌, ◌≤◌, zero, suc, List, [], ◌∷◌, length, Option, Some, None, refl, sym, subst, arith}
+use Rattle.std.proofs.Common.{◌≡◌, ◌≢◌, ℕ, ◌<◌, ◌≤◌, zero, suc, List, [], ◌∷◌, length, Option, Some, None, refl, sym, subst, arith}
 use Rattle.std.specs.Prelude.{IsSomeAnd, IfOk, OnOk, IfErr, Result, Ok, Err}
 use Rattle.tree_model.specs.View.{SystemView}
 use Rattle.system_file.specs.declared.fault.SystemFault.{SystemFault}
 use Rattle.system_file.specs.SystemFile.{system_of}
-use Rattle.rt_report.specs.declared.fault.FileFault.TheVariants.{System}
-use Rattle.rt_report.specs.Fault.{fault_text}
 use Rattle.rt_report.specs.Unread.{absent_text, too_long_text}
 use Rattle.outside.specs.Files.{Files, Told, file_named}
 use Rattle.rt_top.specs.declared.status.Status.{Status}

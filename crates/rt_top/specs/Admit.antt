@@ -12,7 +12,7 @@ use Rattle.rt_report.specs.declared.replay.Replay.{Replay}
 use Rattle.rt_report.specs.Admit.{admit_text, AreReplays}
 use Rattle.rt_report.specs.Refusal.{refusal_text}
 use Rattle.rt_top.specs.declared.status.Status.{Status}
-use Rattle.rt_top.specs.declared.status.Status.TheVariants.{Yes, No, Usage, BadFile, Wide, Absent, TooLong, ReadFault, WriteFault, NoMemory}
+use Rattle.rt_top.specs.declared.status.Status.TheVariants.{Yes, No, Wide}
 use Rattle.rt_top.specs.Answer.{Contents, AtFile, OnSystem, IfSystem, IsReadable}
 
 -- yes: budgets admit the system, and the text tells them, with the replay of each computed leaf

@@ -1,5 +1,5 @@
 -- What is answered where a command comes to a file: a status and a text.
-use Rattle.std.specs.Prelude.{◌≡◌, ℕ, ◌-◌, ◌<◌, ◌≤◌, List, length, slice_index_or, Option, Some, None, Result, Ok, Err, IfSome, IfOk, ⊤}
+use Rattle.std.specs.Prelude.{◌≡◌, ℕ, ◌-◌, ◌<◌, ◌≤◌, List, length, slice_index_or, Option, Some, None, Result, Ok, Err, IfSome, IfOk}
 use Rattle.tree_model.specs.View.{SystemView}
 use Rattle.system_file.specs.declared.fault.SystemFault.{SystemFault}
 use Rattle.system_file.specs.SystemFile.{system_of}
@@ -7,7 +7,7 @@ use Rattle.rt_report.specs.declared.fault.FileFault.TheVariants.{System}
 use Rattle.rt_report.specs.Fault.{fault_text}
 use Rattle.rt_report.specs.Unread.{absent_text, too_long_text}
 use Rattle.rt_top.specs.declared.status.Status.{Status}
-use Rattle.rt_top.specs.declared.status.Status.TheVariants.{Yes, No, Usage, BadFile, Wide, Absent, TooLong, ReadFault, WriteFault, NoMemory}
+use Rattle.rt_top.specs.declared.status.Status.TheVariants.{BadFile, Absent, TooLong}
 
 -- the most bytes of a file
 abbrev pub file_limit : ℕ
@@ -32,7 +32,7 @@ Saying = List ℕ → Status → List ℕ → Type 0
 
 -- file k has these bytes: they are too many, or this is said of them
 pub record AtBytes (k : ℕ) (bytes : List ℕ) (Says : Saying) (status : Status) (text : List ℕ)
-  : Type 0 where
+    : Type 0 where
   pub too_long : file_limit < length bytes → (status ≡ TooLong) × (text ≡ too_long_text k)
   pub said : length bytes ≤ file_limit → Says bytes status text
 
@@ -46,7 +46,7 @@ AtFile k contents Says status text = AtContent k (file_at k contents) Says statu
 
 -- the first file is refused, or this is said of the system that it spells
 abbrev pub OnSystem
-  : Result SystemView SystemFault → (SystemView → Status → List ℕ → Type 0)
+    : Result SystemView SystemFault → (SystemView → Status → List ℕ → Type 0)
     → Status → List ℕ → Type 0
 OnSystem (Ok sys) Says status text = Says sys status text
 OnSystem (Err fault) Says status text =

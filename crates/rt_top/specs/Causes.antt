@@ -1,11 +1,10 @@
 -- Why a command stops, as a store counts it, and when a verdict comes.
-use Rattle.std.specs.Prelude.{◌≡◌, ℕ, ◌-◌, ◌^◌, ◌<◌, ◌≤◌, List, map, Option, Some, ⊤}
-use Rattle.outside.specs.Counts.{Rose, RoseBeyond}
+use Rattle.std.specs.Prelude.{◌≡◌, ℕ, ◌-◌, ◌^◌, ◌<◌, map, Option, Some, ⊤}
 use Rattle.outside.specs.Files.{Files, file_named}
 use Rattle.rt_top.specs.declared.status.Status.{Status}
-use Rattle.rt_top.specs.declared.status.Status.TheVariants.{Yes, No, Wide, Absent, TooLong, ReadFault, WriteFault, NoMemory}
+use Rattle.rt_top.specs.declared.status.Status.TheVariants.{Yes, No, Wide, Absent, ReadFault, WriteFault, NoMemory}
 use Rattle.rt_top.specs.Command.{Command, admit, file_names}
-use Rattle.rt_top.specs.Answer.{Contents, file_limit}
+use Rattle.rt_top.specs.Answer.{Contents}
 use Rattle.rt_top.specs.Admit.{CanAdmit}
 
 -- an answer that neither a failed call nor a name that is not there explains

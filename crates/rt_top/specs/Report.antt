@@ -6,7 +6,7 @@ use Rattle.outside.specs.Files.{Files, file_named}
 use Rattle.outside.specs.Written.{AppendsProperPrefix}
 use Rattle.rt_report.specs.Usage.{usage_line}
 use Rattle.rt_top.specs.declared.status.Status.{Status}
-use Rattle.rt_top.specs.declared.status.Status.TheVariants.{Yes, No, Usage, BadFile, Wide, Absent, TooLong, ReadFault, WriteFault, NoMemory}
+use Rattle.rt_top.specs.declared.status.Status.TheVariants.{Usage, ReadFault, WriteFault, NoMemory}
 use Rattle.rt_top.specs.Command.{Command, admit, file_names}
 use Rattle.rt_top.specs.Answer.{Contents, IsOne}
 use Rattle.rt_top.specs.Admit.{Admits, AdmitMeans}
@@ -53,7 +53,7 @@ pub record IsWritten (command : Option Command) (files : Option Files) (status :
 
 -- an answer, of whose text a proper front is written
 pub record IsCut (command : Option Command) (files : Option Files) (old new : Option (List ℕ))
-  : Type 0 where
+    : Type 0 where
   pub status : Status
   pub text : List ℕ
   pub answer : IsAnswer command files status text
@@ -62,7 +62,7 @@ pub record IsCut (command : Option Command) (files : Option Files) (old new : Op
 -- the answer is written whole; writing it failed; or, after a failed read or without memory,
 -- nothing is written
 abbrev pub Reported
-  : Option Command → Option Files → Status → Option (List ℕ) → Option (List ℕ) → Type 0
+    : Option Command → Option Files → Status → Option (List ℕ) → Option (List ℕ) → Type 0
 Reported command files WriteFault old new = IsCut command files old new
 Reported command files ReadFault old new = new ≡ old
 Reported command files NoMemory old new = new ≡ old

@@ -1,11 +1,11 @@
 -- What the private steps of a command promise each other.
-use Rattle.std.specs.Prelude.{◌≡◌, ℕ, ◌≤◌, List, length, Option, Some, None, Result, Ok, Err, ⊤}
+use Rattle.std.specs.Prelude.{◌≡◌, ℕ, ◌≤◌, List, length, Option, Some, Result, Ok, Err, ⊤}
 use Rattle.outside.specs.Counts.{Rose, RoseBeyond}
 use Rattle.outside.specs.Files.{Files, Told}
 use Rattle.tree_model.specs.View.{SystemView}
 use Rattle.system_file.specs.SystemFile.{system_of}
 use Rattle.rt_top.specs.declared.status.Status.{Status}
-use Rattle.rt_top.specs.declared.status.Status.TheVariants.{Yes, No, Usage, BadFile, Wide, Absent, TooLong, ReadFault, WriteFault, NoMemory}
+use Rattle.rt_top.specs.declared.status.Status.TheVariants.{Absent, TooLong}
 use Rattle.rt_top.specs.declared.answer.Answer.{Answer}
 use Rattle.rt_top.specs.declared.answer.Ending.{Ending}
 use Rattle.rt_top.specs.declared.answer.Ending.TheVariants.{Answered, Unread, NoMemory as NoRoom}

@@ -20,11 +20,9 @@ use tree_model::{Refusal, System};
 /// `admit FILE`: whether the system of the file is admitted, with its budgets and what defeats the
 /// next smaller ones.
 pub fn admit<S: Store>(alloc: Global, store: &mut S, file: &str) -> Result<Answer, Ending>
-    ensures answer {
-        IfAnswered (ending_of result) (λ a.
-          IsAnswer (Some (admit file.now)) (S.files store.old) a.status a.text.items) }
-    ensures explained {
-        let counts = counts_of S.faults S.absences S.taken in
+    ensures answer { IfAnswered (ending_of result) (λ a.
+        IsAnswer (Some (admit file.now)) (S.files store.old) a.status a.text.items) }
+    ensures explained { let counts = counts_of S.faults S.absences S.taken in
         Explains (ending_of result) (counts store.old) (counts store.new) }
 {
     let sys = read_system_file(alloc, store, file)?;

@@ -12,8 +12,7 @@ pub enum Command<'a> {
 
 /// The command that the words spell: its own word, and then its files.
 pub fn parse(words: &[String]) -> Option<Command<'_>>
-    ensures {
-        option_map command_told result ≡ command_of (map string_bytes words.now) }
+    ensures { option_map command_told result ≡ command_of (map string_bytes words.now) }
 {
     let (word, rest) = words.split_first()?;
     if word.as_str() == "admit" {

@@ -24,17 +24,14 @@ pub fn read_file<S: Store>(
     name: &str,
     number: u32,
 ) -> Result<Vec<u8>, Ending>
-    ensures bytes {
-        IfOk result (λ bytes. Told (S.files store.old) name.now (λ file. file ≡ Some bytes.items)) }
+    ensures bytes { IfOk result
+        (λ bytes. Told (S.files store.old) name.now (λ file. file ≡ Some bytes.items)) }
     ensures short { IfOk result (λ bytes. length bytes.items ≤ file_limit) }
-    ensures refused {
-        IfErr result (λ stop. IfAnswered stop (λ a.
-          StopsAt number (S.files store.old) name.now (λ _ _ _. ⊥) a.status a.text.items)) }
-    ensures quiet {
-        let counts = counts_of S.faults S.absences S.taken in
+    ensures refused { IfErr result (λ stop. IfAnswered stop (λ a.
+        StopsAt number (S.files store.old) name.now (λ _ _ _. ⊥) a.status a.text.items)) }
+    ensures quiet { let counts = counts_of S.faults S.absences S.taken in
         OnOk result (IsQuiet (counts store.old) (counts store.new)) }
-    ensures explained {
-        let counts = counts_of S.faults S.absences S.taken in
+    ensures explained { let counts = counts_of S.faults S.absences S.taken in
         IfErr result (λ stop. Explains stop (counts store.old) (counts store.new)) }
 {
     match read_all(alloc, store, name, MOST_BYTES) {
@@ -59,17 +56,13 @@ pub fn read_system_file<S: Store>(
     store: &mut S,
     name: &str,
 ) -> Result<System, Ending>
-    ensures spelled {
-        IfOk result (λ sys. IsSpelled (S.files store.old) name.now sys) }
-    ensures refused {
-        IfErr result (λ stop. IfAnswered stop (λ a.
-          StopsAt 1 (S.files store.old) name.now
-            (λ bytes. OnSystem (system_of bytes) (λ _ _ _. ⊥)) a.status a.text.items)) }
-    ensures quiet {
-        let counts = counts_of S.faults S.absences S.taken in
+    ensures spelled { IfOk result (λ sys. IsSpelled (S.files store.old) name.now sys) }
+    ensures refused { IfErr result (λ stop. IfAnswered stop (λ a.
+        StopsAt 1 (S.files store.old) name.now
+        (λ bytes. OnSystem (system_of bytes) (λ _ _ _. ⊥)) a.status a.text.items)) }
+    ensures quiet { let counts = counts_of S.faults S.absences S.taken in
         OnOk result (IsQuiet (counts store.old) (counts store.new)) }
-    ensures explained {
-        let counts = counts_of S.faults S.absences S.taken in
+    ensures explained { let counts = counts_of S.faults S.absences S.taken in
         IfErr result (λ stop. Explains stop (counts store.old) (counts store.new)) }
 {
     let bytes = read_file(alloc, store, name, 1)?;
@@ -79,9 +72,8 @@ pub fn read_system_file<S: Store>(
 // The system that the bytes of the first file word spell. It stops where they are refused.
 fn spelled_system(alloc: Global, bytes: &[u8]) -> Result<System, Ending>
     ensures spelled { IfOk result (λ sys. system_of bytes.now ≡ Ok sys) }
-    ensures refused {
-        IfErr result (λ stop. IfAnswered stop (λ a.
-          OnSystem (system_of bytes.now) (λ _ _ _. ⊥) a.status a.text.items)) }
+    ensures refused { IfErr result (λ stop. IfAnswered stop (λ a.
+        OnSystem (system_of bytes.now) (λ _ _ _. ⊥) a.status a.text.items)) }
     ensures read { IfErr result (λ stop. stop ≢ Ending.Unread) }
 {
     match read_system(alloc, bytes) {

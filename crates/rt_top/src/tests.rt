@@ -57,7 +57,7 @@ fn admitted(alloc: Global, store: MemoryStore) -> Result<(Status, Vec<u8>), Fail
 }
 
 // The same of a file with this text.
-fn admit(alloc: Global, text: &str) -> Result<(Status, Vec<u8>), Fail> {
+fn answer_to(alloc: Global, text: &str) -> Result<(Status, Vec<u8>), Fail> {
     admitted(alloc, one_file(alloc, text, 4096, Vec::new(alloc))?)
 }
 

@@ -17,16 +17,14 @@ use outside::{Sink, Store, write_all};
 use rt_report::usage_text;
 use std::alloc::Global;
 
-/// Answers the words: reads the files that they name, writes the whole text of the answer to `out`,
-/// and gives its status. Nothing is written before the text is complete.
+/// Answers the words: reads the files that they name, writes the whole text of the answer to
+/// `out`, and gives its status. Nothing is written before the text is complete.
 pub fn run<S: Store, K: Sink>(alloc: Global, words: &[String], store: &mut S, out: &mut K) -> Status
-    // the status and the text are the answer over what the files hold, they mean what a yes and a no
-    // mean, and the text is written, or a proper front of it, or nothing
-    ensures reported {
-        let command = command_of (map string_bytes words.now) in
+    // for this command over these files, the status and the text are the answer, they mean what its
+    // yes and no mean, and the text is written, or a proper front of it, or nothing
+    ensures reported { let command = command_of (map string_bytes words.now) in
         Reported command (S.files store.old) result (K.written out.old) (K.written out.new) }
-    ensures usage {
-        result ≡ Status.Usage → command_of (map string_bytes words.now) ≡ None }
+    ensures usage { result ≡ Status.Usage → command_of (map string_bytes words.now) ≡ None }
     // over told files no other status and no other text would answer
     ensures only { (files : Files) → HasOneAnswer (command_of (map string_bytes words.now)) files }
 
@@ -34,17 +32,16 @@ pub fn run<S: Store, K: Sink>(alloc: Global, words: &[String], store: &mut S, ou
     ensures quiet_faults { IsOfQuietStore result → S.faults store.new ≡ S.faults store.old }
     ensures quiet_absences { IsOfQuietStore result → S.absences store.new ≡ S.absences store.old }
     ensures absent { result ≡ Status.Absent → Rose (S.absences store.old) (S.absences store.new) }
-    ensures read_fault { result ≡ Status.ReadFault → Rose (S.faults store.old) (S.faults store.new) }
-    ensures too_long {
-        result ≡ Status.TooLong → RoseBeyond 67108864 (S.taken store.old) (S.taken store.new) }
-    ensures write_fault {
-        result ≡ Status.WriteFault → Rose (K.faults out.old) (K.faults out.new) }
+    ensures read_fault { result ≡ Status.ReadFault
+        → Rose (S.faults store.old) (S.faults store.new) }
+    ensures too_long { result ≡ Status.TooLong
+        → RoseBeyond 67108864 (S.taken store.old) (S.taken store.new) }
+    ensures write_fault { result ≡ Status.WriteFault → Rose (K.faults out.old) (K.faults out.new) }
     // files that can be judged, over a store and a sink that do not fail, get their verdict
-    ensures complete {
-        IsJudgeable (command_of (map string_bytes words.now)) (S.files store.old)
-          → Stays (S.faults store.old) (S.faults store.new)
-          → Stays (K.faults out.old) (K.faults out.new)
-          → IsVerdict result }
+    ensures complete { IsJudgeable (command_of (map string_bytes words.now)) (S.files store.old)
+        → Stays (S.faults store.old) (S.faults store.new)
+        → Stays (K.faults out.old) (K.faults out.new)
+        → IsVerdict result }
 {
     match answer(alloc, parse(words), store) {
         Ending::Answered(answer) => finish(out, answer.status, &answer.text),
@@ -54,16 +51,10 @@ pub fn run<S: Store, K: Sink>(alloc: Global, words: &[String], store: &mut S, ou
 }
 
 // The answer to a command, or to words that spell none.
-fn answer<S: Store>(
-    alloc: Global,
-    command: Option<Command<'_>>,
-    store: &mut S,
-) -> Ending
-    ensures answer {
-        IfAnswered result (λ a. IsAnswer (option_map command_told command.entry)
-          (S.files store.old) a.status a.text.items) }
-    ensures explained {
-        let counts = counts_of S.faults S.absences S.taken in
+fn answer<S: Store>(alloc: Global, command: Option<Command<'_>>, store: &mut S) -> Ending
+    ensures answer { IfAnswered result (λ a. IsAnswer (option_map command_told command.entry)
+        (S.files store.old) a.status a.text.items) }
+    ensures explained { let counts = counts_of S.faults S.absences S.taken in
         Explains result (counts store.old) (counts store.new) }
 {
     match command {
@@ -87,15 +78,12 @@ fn usage(alloc: Global) -> Result<Answer, Ending>
 // Writes the whole text of an answer and gives its status.
 fn finish<K: Sink>(out: &mut K, status: Status, text: &[u8]) -> Status
     ensures which { (result ≡ status) ⊎ (result ≡ Status.WriteFault) }
-    ensures whole {
-        status ≢ Status.WriteFault → result ≡ status
-          → Appends (K.written out.old) (K.written out.new) text.now }
-    ensures front {
-        status ≢ Status.WriteFault → result ≡ Status.WriteFault
-          → AppendsProperPrefix (K.written out.old) (K.written out.new) text.now }
-    ensures failed {
-        status ≢ Status.WriteFault → result ≡ Status.WriteFault
-          → Rose (K.faults out.old) (K.faults out.new) }
+    ensures whole { status ≢ Status.WriteFault → result ≡ status
+        → Appends (K.written out.old) (K.written out.new) text.now }
+    ensures front { status ≢ Status.WriteFault → result ≡ Status.WriteFault
+        → AppendsProperPrefix (K.written out.old) (K.written out.new) text.now }
+    ensures failed { status ≢ Status.WriteFault → result ≡ Status.WriteFault
+        → Rose (K.faults out.old) (K.faults out.new) }
 {
     match write_all(out, text) {
         Ok(()) => status,

@@ -1,4 +1,5 @@
-//! The program: passes its words to `run` over real files and standard output, and ends with the status.
+//! The program: passes its words to `run` over real files and standard output, and ends with the
+//! status.
 #![tactic(auto)]
 
 use outside::{DiskStore, StdoutSink};

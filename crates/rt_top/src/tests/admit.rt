@@ -1,6 +1,6 @@
 // What `admit` answers to worked systems.
 use super::rows::*;
-use super::{admit, joined};
+use super::{answer_to, joined};
 use crate::Status;
 use std::test::Fail;
 
@@ -83,7 +83,12 @@ fn one_leaf_is_judged(rt: HostRuntime) -> Result<(), Fail> {
             "verdict=wide\nwide part leaf\n",
         ),
         (
-            [LEAF, "sched = \"edf\"\nperiod = 1000000\nbudget = 1000000\n", WIDE].as_slice(),
+            [
+                LEAF,
+                "sched = \"edf\"\nperiod = 1000000\nbudget = 1000000\n",
+                WIDE,
+            ]
+            .as_slice(),
             Status::Wide,
             "verdict=wide\nwide part leaf\n",
         ),
@@ -122,7 +127,7 @@ fn one_leaf_is_judged(rt: HostRuntime) -> Result<(), Fail> {
         ),
     ] {
         let text = joined(alloc, pieces)?;
-        let (status, written) = admit(alloc, text.as_str())?;
+        let (status, written) = answer_to(alloc, text.as_str())?;
         assert_eq!(rt; status, want, "{text}");
         assert_eq!(rt; written.as_slice(), answer.as_bytes(), "{text}");
     }
@@ -133,11 +138,7 @@ fn one_leaf_is_judged(rt: HostRuntime) -> Result<(), Fail> {
 fn trees_are_judged(rt: HostRuntime) -> Result<(), Fail> {
     let alloc = rt.alloc();
     for (pieces, want, answer) in [
-        (
-            [CORE].as_slice(),
-            Status::Yes,
-            "verdict=yes\n",
-        ),
+        ([CORE].as_slice(), Status::Yes, "verdict=yes\n"),
         (
             [PAIR_HEAD, "budget = 10\n", PAIR_REST].as_slice(),
             Status::Yes,
@@ -168,14 +169,10 @@ fn trees_are_judged(rt: HostRuntime) -> Result<(), Fail> {
             Status::No,
             "verdict=no\noverfull core cpu0 at=50\n",
         ),
-        (
-            [HOST].as_slice(),
-            Status::Yes,
-            HOST_ANSWER,
-        ),
+        ([HOST].as_slice(), Status::Yes, HOST_ANSWER),
     ] {
         let text = joined(alloc, pieces)?;
-        let (status, written) = admit(alloc, text.as_str())?;
+        let (status, written) = answer_to(alloc, text.as_str())?;
         assert_eq!(rt; status, want, "{text}");
         assert_eq!(rt; written.as_slice(), answer.as_bytes(), "{text}");
     }

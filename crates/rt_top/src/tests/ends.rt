@@ -1,6 +1,6 @@
 // What comes where the words have no form, a file can't be read, or an output can't be written.
 use super::rows::*;
-use super::{admitted, answered, file_of, one_file, joined};
+use super::{admitted, answered, file_of, joined, one_file};
 use crate::Status;
 use std::test::Fail;
 

@@ -21,8 +21,7 @@ pub const WIDE: &str =
      [[part.task]]\nname = \"d\"\nperiod = 999999999\nwork = 1\n[[part.task]]\nname = \"e\"\n\
      period = 1000000000\nwork = 1\n";
 
-pub const TWO_TASKS_ANSWER: &str =
-    "verdict=yes\npart leaf period=10 budget=3 computed\n\
+pub const TWO_TASKS_ANSWER: &str = "verdict=yes\npart leaf period=10 budget=3 computed\n\
      witness leaf budget=2 start=2 span=75 task=- replay=t2 release=2 deadline=77 got=5 of=9\n";
 
 /// A core alone.
@@ -36,8 +35,7 @@ pub const PAIR_HEAD: &str =
      work = 5\n\n[[part]]\nname = \"B\"\nparent = \"cpu0\"\nsched = \"edf\"\nperiod = 20\n";
 
 /// What stands behind its budget.
-pub const PAIR_REST: &str =
-    "[[part.task]]\nname = \"b\"\nperiod = 100\nwork = 10\n";
+pub const PAIR_REST: &str = "[[part.task]]\nname = \"b\"\nperiod = 100\nwork = 10\n";
 
 /// A core with a supply of its own, a middle server and two guests, up to the core's budget.
 pub const TREE_HEAD: &str =
@@ -52,8 +50,7 @@ pub const TREE_REST: &str =
      work = 90\n\n[[part]]\nname = \"ctl\"\nparent = \"mid\"\nsched = \"edf\"\nperiod = 200\n\
      [[part.task]]\nname = \"c1\"\nperiod = 400\nwork = 40\n";
 
-pub const TREE_ANSWER: &str =
-    "verdict=yes\npart mid period=50 budget=30 computed\n\
+pub const TREE_ANSWER: &str = "verdict=yes\npart mid period=50 budget=30 computed\n\
      part video period=100 budget=28 computed\n\
      witness video budget=27 start=27 span=1500 task=- replay=v1 release=1027 deadline=1527 \
      got=58 of=70\npart ctl period=200 budget=40 computed\n\
@@ -78,8 +75,7 @@ pub const HOST: &str =
      parent = \"cpu1\"\nsched = \"edf\"\nperiod = 100000\n[[part.task]]\nname = \"job\"\n\
      period = 800000\nwork = 140000\n";
 
-pub const HOST_ANSWER: &str =
-    "verdict=yes\npart audio period=5000 budget=600 computed\n\
+pub const HOST_ANSWER: &str = "verdict=yes\npart audio period=5000 budget=600 computed\n\
      witness audio budget=599 start=599 span=20000 task=- replay=frame release=599 \
      deadline=20599 got=1797 of=1800\npart video period=10000 budget=2858 computed\n\
      witness video budget=2857 start=2857 span=80000 task=show replay=show release=2857 \

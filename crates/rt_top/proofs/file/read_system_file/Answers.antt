@@ -1,4 +1,4 @@
-use Rattle.std.proofs.Common.{◌≡◌, ◌≤◌, ℕ, List, length, Option, Some, sym, subst}
+use Rattle.std.proofs.Common.{◌≡◌, ◌≤◌, ℕ, List, length, Some, sym, subst}
 use Rattle.outside.specs.Files.{Told}
 use Rattle.rt_top.specs.Answer.{file_limit}
 use Rattle.rt_top.proofs.Steps.{system_spelled, system_refused, system_explained, quiet_ok}

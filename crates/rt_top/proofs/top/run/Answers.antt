@@ -1,6 +1,5 @@
-use Rattle.std.proofs.Common.{◌≡◌, ℕ, List, map, Option, string_bytes, sym, subst}
-use Rattle.rt_top.specs.Command.{Command, command_of}
-use Rattle.rt_top.specs.Report.{IsAnswer}
+use Rattle.std.proofs.Common.{map, string_bytes}
+use Rattle.rt_top.specs.Command.{command_of}
 use Rattle.rt_top.proofs.OneAnswer.{one_answer}
 use Rattle.rt_top.proofs.Reporting.{answer_of_parsed, finished_report, finished_usage, finished_verdict, stays_not_rose}
 use Rattle.rt_top.proofs.top.run.Goals as goal
