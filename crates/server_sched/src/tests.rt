@@ -18,7 +18,10 @@ fn jobs_of(alloc: Global, tasks: &[Task]) -> Result<Vec<Job>, AllocError>
 /// slot 6 and the first at slot 8, each a slot short.
 #[test]
 fn servers_release_once_a_period(rt: HostRuntime) -> Result<(), Fail> {
-    let tasks = [Task::new(4, 4, 3).ok_or(OUT)?, Task::new(6, 6, 4).ok_or(OUT)?];
+    let tasks = [
+        Task::new(4, 4, 3).ok_or(OUT)?,
+        Task::new(6, 6, 4).ok_or(OUT)?,
+    ];
     let jobs = jobs_of(rt.alloc(), &tasks)?;
     let wanted = [(0, 0, 3), (1, 0, 4), (0, 4, 3), (1, 6, 4), (0, 8, 3)];
     assert_eq!(rt; jobs.len(), wanted.len());
