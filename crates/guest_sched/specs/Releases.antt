@@ -13,7 +13,11 @@ release_at releases i = slice_index_or releases i (record { release = 0; place =
 -- the releases of all jobs, each once, by release
 pub record AreReleases (jobs : List Job) (releases : List Release) : Type 0 where
   pub in_jobs : (i : ℕ) → i < length releases → (release_at releases i).place < length jobs
-  pub of_job : (i : ℕ) → i < length releases → (release_at releases i).release ≡ (job_at jobs (release_at releases i).place).release
-  pub every : (j : ℕ) → j < length jobs → (i : ℕ) × (i < length releases) × ((release_at releases i).place ≡ j)
-  pub once : (i k : ℕ) → i < length releases → k < length releases → (release_at releases i).place ≡ (release_at releases k).place → i ≡ k
-  pub in_order : (i k : ℕ) → i ≤ k → k < length releases → (release_at releases i).release ≤ (release_at releases k).release
+  pub of_job : (i : ℕ) → i < length releases →
+      (release_at releases i).release ≡ (job_at jobs (release_at releases i).place).release
+  pub every : (j : ℕ) → j < length jobs → (i : ℕ) × (i < length releases) ×
+      ((release_at releases i).place ≡ j)
+  pub once : (i k : ℕ) → i < length releases → k < length releases →
+      (release_at releases i).place ≡ (release_at releases k).place → i ≡ k
+  pub in_order : (i k : ℕ) → i ≤ k → k < length releases →
+      (release_at releases i).release ≤ (release_at releases k).release

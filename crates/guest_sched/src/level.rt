@@ -24,7 +24,8 @@ pub fn guest_by(
     requires windows { AreWindows given.now slots }
     ensures spans { IfOk result (λ spans. AreSpans spans.items slots) }
     ensures first { let T = sporadic_tasks tasks.now in let before = before_of sched T in
-        IfOk result (λ spans. FirstRun guest before T jobs.now (slots_of given.now slots) (run_of spans.items)) }
+        IfOk result (λ spans. FirstRun guest before T jobs.now (slots_of given.now slots)
+        (run_of spans.items)) }
 {
     match Fixed::new(sched) {
         Some(order) => run_spans(alloc, tasks, jobs, &order, given, slots),
@@ -46,7 +47,8 @@ pub fn servers_by(
     requires windows { AreWindows given.now slots }
     ensures spans { IfOk result (λ spans. AreSpans spans.items slots) }
     ensures first { let T = sporadic_tasks tasks.now in let before = before_of sched T in
-        IfOk result (λ spans. FirstRun server before T jobs.now (slots_of given.now slots) (run_of spans.items)) }
+        IfOk result (λ spans. FirstRun server before T jobs.now (slots_of given.now slots)
+        (run_of spans.items)) }
 {
     match Fixed::new(sched) {
         Some(order) => server_spans(alloc, tasks, jobs, &order, given, slots),

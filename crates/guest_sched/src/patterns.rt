@@ -29,7 +29,8 @@ pub fn pattern_windows<F: Supply>(
     slots: u64,
 ) -> Result<Vec<Window>, AllocError>
     ensures windows { IfOk result (λ windows. AreWindows windows.items slots) }
-    ensures follows { IfOk result (λ windows. Follows (F.pattern supply.now) (slots_of windows.items slots)) }
+    ensures follows { IfOk result (λ windows. Follows (F.pattern supply.now)
+        (slots_of windows.items slots)) }
 {
     let mut windows = Vec::new(alloc);
     for x in 0..slots {
@@ -41,8 +42,8 @@ pub fn pattern_windows<F: Supply>(
 }
 
 /// The windows of the first `slots` places of the worst pattern of a periodic resource: its first
-/// budget as early and each later one as late as can be. It costs time for each period, and none for
-/// a slot.
+/// budget as early and each later one as late as can be. It costs time for each period, and none
+/// for a slot.
 pub fn worst_windows(
     alloc: Global,
     supply: &Periodic,

@@ -5,10 +5,10 @@ ghost use Rattle.guest_sched.specs.Keep.{level_of, AreEnds};
 ghost use Rattle.guest_sched.specs.Places.{StandsIn};
 ghost use Rattle.guest_sched.specs.Ready.{IsReady, HaveCome, AreToCome, IsServed, IsBest, StaysBest, StaysFirst, AllEndAfter, IsSteady, left_after};
 
-use crate::releases::{Release, releases};
 use crate::choice::first_unbeaten;
 use crate::keep::{Keep, end_moment};
 use crate::places::{insert_place, remove_place};
+use crate::releases::{Release, releases};
 use crate::spans::Span;
 use crate::windows::Stretch;
 use slot_model::{Job, Order, Task};
@@ -41,13 +41,15 @@ impl Ready {
         requires few { length jobs.now < 2 ^ 32 }
         requires works { All (λ j. 1 ≤ j.work) jobs.now }
         requires named { All (λ a. a.task < length tasks.now) jobs.now }
-        requires in_jitter { All (λ a. a.early ≤ (task_at (sporadic_tasks tasks.now) a.task).jitter) jobs.now }
+        requires in_jitter { let T = sporadic_tasks tasks.now in
+            All (λ a. a.early ≤ (task_at T a.task).jitter) jobs.now }
         ensures state { IfOk result (λ r. IsReady r) }
         ensures releases { IfOk result (λ r. AreReleases jobs.now r.releases.items) }
         ensures time { IfOk result (λ r. r.time ≡ 0) }
         ensures none_come { IfOk result (λ r. r.released ≡ 0) }
         ensures left { IfOk result (λ r. r.left.items ≡ map (λ j. j.work) jobs.now) }
-        ensures ends { IfOk result (λ r. AreEnds (level_of keep) (sporadic_tasks tasks.now) jobs.now r.ends.items) }
+        ensures ends { let T = sporadic_tasks tasks.now in
+            IfOk result (λ r. AreEnds (level_of keep) T jobs.now r.ends.items) }
         ensures best { IfOk result (λ r. r.best ≡ None) }
     {
         Ok(Ready {
@@ -79,15 +81,18 @@ impl Ready {
         requires come { HaveCome self.old self.old.time }
         requires all_jobs { length self.old.left.items ≡ length jobs.now }
         requires named { All (λ a. a.task < length tasks.now) jobs.now }
-        requires in_jitter { All (λ a. a.early ≤ (task_at (sporadic_tasks tasks.now) a.task).jitter) jobs.now }
-        requires best { IsBest (O.goes order.now (sporadic_tasks tasks.now)) jobs.now self.old.ready.items self.old.best }
+        requires in_jitter { let T = sporadic_tasks tasks.now in
+            All (λ a. a.early ≤ (task_at T a.task).jitter) jobs.now }
+        requires best { let before = O.goes order.now (sporadic_tasks tasks.now) in
+            IsBest before jobs.now self.old.ready.items self.old.best }
         requires in_time { self.old.time < 2 ^ 64 - 1 }
         ensures state { OnOk result (IsReady self.new) }
         ensures come { OnOk result (HaveCome self.new self.old.time) }
         ensures to_come { OnOk result (AreToCome self.new self.old.time) }
         ensures none_over { OnOk result (self.new.time < self.new.soonest) }
         ensures time { self.new.time ≡ self.old.time }
-        ensures best { OnOk result (IsBest (O.goes order.now (sporadic_tasks tasks.now)) jobs.now self.new.ready.items self.new.best) }
+        ensures best { let before = O.goes order.now (sporadic_tasks tasks.now) in
+            OnOk result (IsBest before jobs.now self.new.ready.items self.new.best) }
         ensures releases { self.new.releases ≡ self.old.releases }
         ensures left { self.new.left ≡ self.old.left }
         ensures ends { self.new.ends ≡ self.old.ends }
@@ -100,7 +105,8 @@ impl Ready {
     }
 
     fn is_next_due(&self) -> bool
-        ensures { IsTrue result ↔ ((self.now.released < length self.now.releases.items) × ((release_at self.now.releases.items self.now.released).release ≤ self.now.time)) }
+        ensures { IsTrue result ↔ ((self.now.released < length self.now.releases.items) ×
+            ((release_at self.now.releases.items self.now.released).release ≤ self.now.time)) }
     {
         self.released < self.releases.len() && self.releases[self.released].release <= self.time
     }
@@ -115,12 +121,15 @@ impl Ready {
         requires some { self.old.released < length self.old.releases.items }
         requires all_jobs { length self.old.left.items ≡ length jobs.now }
         requires named { All (λ a. a.task < length tasks.now) jobs.now }
-        requires in_jitter { All (λ a. a.early ≤ (task_at (sporadic_tasks tasks.now) a.task).jitter) jobs.now }
-        requires best { IsBest (O.goes order.now (sporadic_tasks tasks.now)) jobs.now self.old.ready.items self.old.best }
+        requires in_jitter { let T = sporadic_tasks tasks.now in
+            All (λ a. a.early ≤ (task_at T a.task).jitter) jobs.now }
+        requires best { let before = O.goes order.now (sporadic_tasks tasks.now) in
+            IsBest before jobs.now self.old.ready.items self.old.best }
         ensures state { OnOk result (IsReady self.new) }
         ensures time { self.new.time ≡ self.old.time }
         ensures one_more { OnOk result (self.new.released ≡ self.old.released + 1) }
-        ensures best { OnOk result (IsBest (O.goes order.now (sporadic_tasks tasks.now)) jobs.now self.new.ready.items self.new.best) }
+        ensures best { let before = O.goes order.now (sporadic_tasks tasks.now) in
+            OnOk result (IsBest before jobs.now self.new.ready.items self.new.best) }
         ensures releases { self.new.releases ≡ self.old.releases }
         ensures left { self.new.left ≡ self.old.left }
         ensures ends { self.new.ends ≡ self.old.ends }
@@ -173,19 +182,25 @@ impl Ready {
         requires none_over { self.old.time < self.old.soonest }
         requires all_jobs { length self.old.left.items ≡ length jobs.now }
         requires named { All (λ a. a.task < length tasks.now) jobs.now }
-        requires in_jitter { All (λ a. a.early ≤ (task_at (sporadic_tasks tasks.now) a.task).jitter) jobs.now }
-        requires best { IsBest (O.goes order.now (sporadic_tasks tasks.now)) jobs.now self.old.ready.items self.old.best }
+        requires in_jitter { let T = sporadic_tasks tasks.now in
+            All (λ a. a.early ≤ (task_at T a.task).jitter) jobs.now }
+        requires best { let before = O.goes order.now (sporadic_tasks tasks.now) in
+            IsBest before jobs.now self.old.ready.items self.old.best }
         requires some { self.old.time < stretch.now.until }
         ensures from { result.from ≡ self.old.time }
         ensures some { self.old.time < result.until }
         ensures time { self.new.time ≡ result.until }
         ensures in_stretch { result.until ≤ stretch.now.until }
-        ensures served { IsServed (O.goes order.now (sporadic_tasks tasks.now)) jobs.now self.old.ready.items stretch.now.given result.job }
+        ensures served { let before = O.goes order.now (sporadic_tasks tasks.now) in
+            IsServed before jobs.now self.old.ready.items stretch.now.given result.job }
         ensures steady { IsTrue stretch.now.given → IsSteady self.old result.until }
-        ensures enough { IfSome result.job (λ j. result.until - self.old.time ≤ slice_index self.old.left.items j) }
-        ensures left { self.new.left.items ≡ left_after self.old.left.items result.job (result.until - self.old.time) }
+        ensures enough { IfSome result.job (λ j.
+            result.until - self.old.time ≤ slice_index self.old.left.items j) }
+        ensures left { self.new.left.items ≡ left_after self.old.left.items result.job
+            (result.until - self.old.time) }
         ensures state { IsReady self.new }
-        ensures best { IsBest (O.goes order.now (sporadic_tasks tasks.now)) jobs.now self.new.ready.items self.new.best }
+        ensures best { let before = O.goes order.now (sporadic_tasks tasks.now) in
+            IsBest before jobs.now self.new.ready.items self.new.best }
         ensures releases { self.new.releases ≡ self.old.releases }
         ensures released { self.new.released ≡ self.old.released }
         ensures ends { self.new.ends ≡ self.old.ends }
@@ -221,7 +236,8 @@ impl Ready {
     fn steady_until(&self, until: u64) -> u64
         ensures at_most { result ≤ until }
         ensures steady { IsSteady self.now result }
-        ensures later { (x : ℕ) → x < until → x < self.now.soonest → AreToCome self.now x → x < result }
+        ensures later { (x : ℕ) → x < until → x < self.now.soonest → AreToCome self.now x →
+            x < result }
     {
         let until = until.min(self.soonest);
         if self.released < self.releases.len() {
@@ -235,10 +251,14 @@ impl Ready {
     fn choose<O: Order>(&mut self, order: &O, tasks: &[Task], jobs: &[Job]) -> Option<u32>
         requires in_jobs { All (λ p. p < length jobs.now) self.old.ready.items }
         requires named { All (λ a. a.task < length tasks.now) jobs.now }
-        requires in_jitter { All (λ a. a.early ≤ (task_at (sporadic_tasks tasks.now) a.task).jitter) jobs.now }
-        requires best { IsBest (O.goes order.now (sporadic_tasks tasks.now)) jobs.now self.old.ready.items self.old.best }
-        ensures served { IsServed (O.goes order.now (sporadic_tasks tasks.now)) jobs.now self.old.ready.items true result }
-        ensures best { IsBest (O.goes order.now (sporadic_tasks tasks.now)) jobs.now self.new.ready.items self.new.best }
+        requires in_jitter { let T = sporadic_tasks tasks.now in
+            All (λ a. a.early ≤ (task_at T a.task).jitter) jobs.now }
+        requires best { let before = O.goes order.now (sporadic_tasks tasks.now) in
+            IsBest before jobs.now self.old.ready.items self.old.best }
+        ensures served { let before = O.goes order.now (sporadic_tasks tasks.now) in
+            IsServed before jobs.now self.old.ready.items true result }
+        ensures best { let before = O.goes order.now (sporadic_tasks tasks.now) in
+            IsBest before jobs.now self.new.ready.items self.new.best }
         ensures rest { self.new ≡ record self.old { best = self.new.best } }
     {
         if self.best.is_some() {
@@ -259,7 +279,8 @@ impl Ready {
         ensures in_time { result.until ≤ until }
         ensures job { result.job ≡ Some place }
         ensures enough { result.until - self.old.time ≤ slice_index self.old.left.items place }
-        ensures left { self.new.left.items ≡ left_after self.old.left.items (Some place) (result.until - self.old.time) }
+        ensures left { self.new.left.items ≡ left_after self.old.left.items (Some place)
+            (result.until - self.old.time) }
         ensures state { IsReady self.new }
         ensures best { StaysBest self.old self.new }
         ensures releases { self.new.releases ≡ self.old.releases }
@@ -286,8 +307,10 @@ impl Ready {
 /// The moments from which each job is kept no more.
 fn ends(alloc: Global, keep: Keep, tasks: &[Task], jobs: &[Job]) -> Result<Vec<u64>, AllocError>
     requires named { All (λ a. a.task < length tasks.now) jobs.now }
-    requires in_jitter { All (λ a. a.early ≤ (task_at (sporadic_tasks tasks.now) a.task).jitter) jobs.now }
-    ensures { IfOk result (λ v. AreEnds (level_of keep) (sporadic_tasks tasks.now) jobs.now v.items) }
+    requires in_jitter { let T = sporadic_tasks tasks.now in
+        All (λ a. a.early ≤ (task_at T a.task).jitter) jobs.now }
+    ensures { let T = sporadic_tasks tasks.now in
+        IfOk result (λ v. AreEnds (level_of keep) T jobs.now v.items) }
 {
     let mut ends = Vec::with_capacity(alloc, jobs.len())?;
     for job in jobs {
@@ -301,8 +324,10 @@ fn stays_first<O: Order>(order: &O, tasks: &[Task], jobs: &[Job], best: u32, pla
     requires best_in { best < length jobs.now }
     requires place_in { place < length jobs.now }
     requires named { All (λ a. a.task < length tasks.now) jobs.now }
-    requires in_jitter { All (λ a. a.early ≤ (task_at (sporadic_tasks tasks.now) a.task).jitter) jobs.now }
-    ensures { IsTrue result → StaysFirst (O.goes order.now (sporadic_tasks tasks.now)) jobs.now best place }
+    requires in_jitter { let T = sporadic_tasks tasks.now in
+        All (λ a. a.early ≤ (task_at T a.task).jitter) jobs.now }
+    ensures { let before = O.goes order.now (sporadic_tasks tasks.now) in
+        IsTrue result → StaysFirst before jobs.now best place }
 {
     let old = &jobs[best as usize];
     let new = &jobs[place as usize];
@@ -312,7 +337,8 @@ fn stays_first<O: Order>(order: &O, tasks: &[Task], jobs: &[Job], best: u32, pla
 /// The place of a ready job that ends by `now`.
 fn find_ended(ends: &[u64], ready: &[u32], now: u64) -> Option<u32>
     requires { All (λ p. p < length ends.now) ready.now }
-    ensures { MatchOption result (AllEndAfter ends.now ready.now now) (λ p. StandsIn ready.now p × (slice_index ends.now p ≤ now)) }
+    ensures { MatchOption result (AllEndAfter ends.now ready.now now) (λ p. StandsIn ready.now p ×
+        (slice_index ends.now p ≤ now)) }
 {
     for place in ready {
         if ends[*place as usize] <= now {
@@ -325,7 +351,8 @@ fn find_ended(ends: &[u64], ready: &[u32], now: u64) -> Option<u32>
 /// The least end of a ready job, or the last moment of all.
 fn soonest_end(ends: &[u64], ready: &[u32]) -> u64
     requires { All (λ p. p < length ends.now) ready.now }
-    ensures least { (k : ℕ) → k < length ready.now → result ≤ slice_index ends.now (slice_index ready.now k) }
+    ensures least { (k : ℕ) → k < length ready.now →
+        result ≤ slice_index ends.now (slice_index ready.now k) }
     ensures after { (x : ℕ) → x < 2 ^ 64 - 1 → AllEndAfter ends.now ready.now x → x < result }
 {
     let mut soonest = u64::MAX;
@@ -339,8 +366,10 @@ fn soonest_end(ends: &[u64], ready: &[u32]) -> u64
 fn first_place<O: Order>(order: &O, tasks: &[Task], jobs: &[Job], ready: &[u32]) -> Option<u32>
     requires in_jobs { All (λ p. p < length jobs.now) ready.now }
     requires named { All (λ a. a.task < length tasks.now) jobs.now }
-    requires in_jitter { All (λ a. a.early ≤ (task_at (sporadic_tasks tasks.now) a.task).jitter) jobs.now }
-    ensures { IsServed (O.goes order.now (sporadic_tasks tasks.now)) jobs.now ready.now true result }
+    requires in_jitter { let T = sporadic_tasks tasks.now in
+        All (λ a. a.early ≤ (task_at T a.task).jitter) jobs.now }
+    ensures { let before = O.goes order.now (sporadic_tasks tasks.now) in
+        IsServed before jobs.now ready.now true result }
 {
     let at = first_unbeaten(order, tasks, jobs, ready)?;
     Some(ready[at])

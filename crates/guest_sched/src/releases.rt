@@ -25,7 +25,8 @@ pub fn releases(alloc: Global, jobs: &[Job]) -> Result<Vec<Release>, AllocError>
 fn listed(alloc: Global, jobs: &[Job]) -> Result<Vec<Release>, AllocError>
     requires few { length jobs.now < 2 ^ 32 }
     ensures long { IfOk result (λ v. length v.items ≡ length jobs.now) }
-    ensures each { IfOk result (λ v. (j : ℕ) → j < length jobs.now → release_at v.items j ≡ release_of jobs.now j) }
+    ensures each { IfOk result (λ v. (j : ℕ) → j < length jobs.now →
+        release_at v.items j ≡ release_of jobs.now j) }
 {
     let mut releases = Vec::with_capacity(alloc, jobs.len())?;
     for (place, job) in jobs.iter().enumerate() {

@@ -244,7 +244,10 @@ fn windows_of_the_worst_pattern(rt: HostRuntime) -> Result<(), Fail> {
     assert_eq!(rt; windows.as_slice(), wanted.as_slice());
     let whole = Periodic::new(10, 10).ok_or("out of range")?;
     let one = worst_windows(rt.alloc(), &whole, u64::MAX)?;
-    assert_eq!(rt; one.as_slice(), windows_of(rt.alloc(), &[(0, u64::MAX)])?.as_slice());
+    assert_eq!(rt;
+        one.as_slice(),
+        windows_of(rt.alloc(), &[(0, u64::MAX)])?.as_slice()
+    );
     Ok(())
 }
 
@@ -257,7 +260,10 @@ fn levels_by_their_scheduler(rt: HostRuntime) -> Result<(), Fail> {
     if !is_legal(&tasks, &jobs) || jobs.len() > 1000 || !are_windows(&given, 12) {
         return Ok(());
     }
-    for (sched, text) in [(Sched::Rm, "0:0 1:1 4:0 8:- "), (Sched::Listed, "0:0 5:1 8:- ")] {
+    for (sched, text) in [
+        (Sched::Rm, "0:0 1:1 4:0 8:- "),
+        (Sched::Listed, "0:0 5:1 8:- "),
+    ] {
         let guest = guest_by(alloc, sched, &tasks, &jobs, &given, 12)?;
         assert_eq!(rt; told(alloc, &guest)?.as_str(), text);
     }

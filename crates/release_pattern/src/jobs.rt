@@ -6,9 +6,9 @@ ghost use Rattle.release_pattern.specs.Jobs.{task_releases};
 use slot_model::{Job, Task};
 use std::alloc::{AllocError, Global};
 
-/// The synchronous release: every task releases at `start`, with its whole jitter behind it, and then
-/// as its jobs arrive, once a period, within `span` slots, always with full work. The jobs stand by
-/// release, and of one moment by place. It costs time for each job, and none for a slot.
+/// The synchronous release: every task releases at `start`, with its whole jitter behind it, and
+/// then as its jobs arrive, once a period, within `span` slots, always with full work. The jobs
+/// stand by release, and of one moment by place. It costs time for each job, and none for a slot.
 pub fn synchronous_jobs(
     alloc: Global,
     tasks: &[Task],
@@ -17,7 +17,8 @@ pub fn synchronous_jobs(
 ) -> Result<Vec<Job>, AllocError>
     requires few { length (synchronous (sporadic_tasks tasks.now) start span) < 2 ^ 32 }
     requires in_time { start + span < 2 ^ 64 }
-    ensures exact { IfOk result (λ jobs. jobs.items ≡ synchronous (sporadic_tasks tasks.now) start span) }
+    ensures exact { let T = sporadic_tasks tasks.now in
+        IfOk result (λ jobs. jobs.items ≡ synchronous T start span) }
     ensures legal { IfOk result (λ jobs. LegalRelease (sporadic_tasks tasks.now) jobs.items) }
     ensures few { IfOk result (λ jobs. length jobs.items < 2 ^ 32) }
 {

@@ -1,4 +1,5 @@
-//! The releases that ask for the most: every task releases at one moment, and then as its jobs arrive.
+//! The releases that ask for the most: every task releases at one moment, and then as its jobs
+//! arrive.
 #![tactic(auto)]
 
 mod jobs;

@@ -12,7 +12,8 @@ use std::alloc::{AllocError, Global};
 /// period. They stand by release, and of one moment by place.
 pub fn server_jobs(alloc: Global, tasks: &[Task], slots: u64) -> Result<Vec<Job>, AllocError>
     requires few { length (synchronous (sporadic_tasks tasks.now) 0 slots) < 2 ^ 32 }
-    ensures exact { IfOk result (λ jobs. jobs.items ≡ synchronous (sporadic_tasks tasks.now) 0 slots) }
+    ensures exact { let T = sporadic_tasks tasks.now in
+        IfOk result (λ jobs. jobs.items ≡ synchronous T 0 slots) }
     ensures legal { IfOk result (λ jobs. LegalRelease (sporadic_tasks tasks.now) jobs.items) }
     ensures few { IfOk result (λ jobs. length jobs.items < 2 ^ 32) }
 {
@@ -37,7 +38,7 @@ pub fn run_servers<O: Order>(
         IfOk result (λ run. PermittedRun server goes T jobs.now given.now run.items) }
     ensures only { let T = sporadic_tasks tasks.now in let goes = O.goes order.now T in
         IfOk result (λ run. (other : List (Option ℕ)) →
-            FirstRun server goes T jobs.now given.now other → other ≡ run.items) }
+        FirstRun server goes T jobs.now given.now other → other ≡ run.items) }
 {
     let windows = windows_of(alloc, given)?;
     let spans = server_spans(alloc, tasks, jobs, order, &windows, given.len() as u64)?;

@@ -1,4 +1,5 @@
--- What is counted of a level's run: the slots that it is given, the jobs that are released, those that miss, the first miss.
+-- What is counted of a level's run: the slots that it is given, the jobs that are released, those
+-- that miss, the first miss.
 use Rattle.std.specs.Prelude.{◌≡◌, ◌↔◌, ℕ, ◌<◌, nat_lt, min, Bool, List, length, slice_index_or, Option}
 use Rattle.slot_model.specs.declared.job.Job.{Job}
 use Rattle.slot_model.specs.Slots.{count_below, slots_between}
@@ -12,11 +13,14 @@ abbrev pub is_early : List Job → ℕ → ℕ → Bool
 is_early jobs n j = nat_lt (job_at jobs j).release n
 
 -- the slots that each job gets before its deadline moment, as far as the run goes
-pub record AreServices (tasks : List SporadicTask) (jobs : List Job) (run : List (Option ℕ)) (got : List ℕ) : Type 0 where
+pub record AreServices (tasks : List SporadicTask) (jobs : List Job) (run : List (Option ℕ))
+    (got : List ℕ) : Type 0 where
   pub long : length got ≡ length jobs
-  pub each : (j : ℕ) → j < length jobs → slice_index_or got j 0 ≡ service run j (min (deadline_of tasks (job_at jobs j)) (length run))
+  pub each : (j : ℕ) → j < length jobs → slice_index_or got j 0 ≡ service run j (min
+      (deadline_of tasks (job_at jobs j)) (length run))
 
-pub record AreCounts (tasks : List SporadicTask) (jobs : List Job) (slots : List Bool) (run : List (Option ℕ)) (counts : Counts) : Type 0 where
+pub record AreCounts (tasks : List SporadicTask) (jobs : List Job) (slots : List Bool)
+    (run : List (Option ℕ)) (counts : Counts) : Type 0 where
   pub given : counts.given ≡ slots_between slots 0 (length slots)
   pub released : counts.released ≡ count_below (is_early jobs (length slots)) (length jobs)
   pub missed : counts.missed ≡ count_below (is_missed tasks jobs run) (length jobs)

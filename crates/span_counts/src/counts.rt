@@ -35,7 +35,9 @@ pub fn count_level(
     requires windows { AreWindows given.now slots }
     requires spans { AreSpans spans.now slots }
     requires long { length (run_of spans.now) ≡ slots }
-    ensures { IfOk result (λ counts. AreCounts (sporadic_tasks tasks.now) jobs.now (slots_of given.now slots) (run_of spans.now) counts) }
+    ensures { let T = sporadic_tasks tasks.now in
+        IfOk result (λ counts. AreCounts T jobs.now (slots_of given.now slots)
+        (run_of spans.now) counts) }
 {
     let got = services(alloc, tasks, jobs, spans)?;
     Ok(Counts {
@@ -46,8 +48,8 @@ pub fn count_level(
     })
 }
 
-/// The number of jobs that miss in a run of spans: their deadline moment is within the run, and they
-/// got fewer slots than their work before it.
+/// The number of jobs that miss in a run of spans: their deadline moment is within the run, and
+/// they got fewer slots than their work before it.
 pub fn misses(
     alloc: Global,
     jobs: &[Job],
@@ -89,7 +91,8 @@ pub fn first_miss(
 /// The number of slots of windows.
 fn slots_given(windows: &[Window]) -> u64
     requires { AreWindows windows.now (2 ^ 64 - 1) }
-    ensures { (n : ℕ) → AreWindows windows.now n → result ≡ slots_between (slots_of windows.now n) 0 n }
+    ensures { (n : ℕ) → AreWindows windows.now n →
+        result ≡ slots_between (slots_of windows.now n) 0 n }
 {
     let mut given = 0;
     for window in windows {
@@ -122,7 +125,8 @@ fn services(
     requires in_jitter { AreInJitter (sporadic_tasks tasks.now) jobs.now }
     requires released { HoldsReleased jobs.now (run_of spans.now) }
     requires spans { AreSpans spans.now (length (run_of spans.now)) }
-    ensures { IfOk result (λ got. AreServices (sporadic_tasks tasks.now) jobs.now (run_of spans.now) got.items) }
+    ensures { let T = sporadic_tasks tasks.now in
+        IfOk result (λ got. AreServices T jobs.now (run_of spans.now) got.items) }
 {
     let mut got = vec![in alloc; 0; jobs.len()]?;
     for span in spans {
@@ -158,8 +162,10 @@ fn count_missed(tasks: &[Task], jobs: &[Job], spans: &[Span], got: &[u64]) -> u6
     requires in_jitter { AreInJitter (sporadic_tasks tasks.now) jobs.now }
     requires spans { AreSpans spans.now (length (run_of spans.now)) }
     requires got { AreServices (sporadic_tasks tasks.now) jobs.now (run_of spans.now) got.now }
-    ensures number { result ≡ count_below (is_missed (sporadic_tasks tasks.now) jobs.now (run_of spans.now)) (length jobs.now) }
-    ensures none { (result ≡ 0) ↔ NoneMissed (sporadic_tasks tasks.now) jobs.now (run_of spans.now) }
+    ensures number { let T = sporadic_tasks tasks.now in
+        result ≡ count_below (is_missed T jobs.now (run_of spans.now)) (length jobs.now) }
+    ensures none { let T = sporadic_tasks tasks.now in
+        (result ≡ 0) ↔ NoneMissed T jobs.now (run_of spans.now) }
 {
     let mut missed = 0;
     for place in 0..jobs.len() {
@@ -189,7 +195,8 @@ fn first_missed(tasks: &[Task], jobs: &[Job], spans: &[Span], got: &[u64]) -> Op
 
 // The miss that is there already stays where the moments are equal.
 fn earlier(first: Option<Miss>, miss: Miss) -> Miss
-    ensures { MatchOption first (result ≡ miss) (λ old. (old.deadline ≤ miss.deadline → result ≡ old) × (miss.deadline < old.deadline → result ≡ miss)) }
+    ensures { MatchOption first (result ≡ miss) (λ old. (old.deadline ≤ miss.deadline →
+        result ≡ old) × (miss.deadline < old.deadline → result ≡ miss)) }
 {
     match first {
         Some(old) if old.deadline <= miss.deadline => old,
@@ -210,7 +217,9 @@ fn find_miss(
     requires spans { AreSpans spans.now (length (run_of spans.now)) }
     requires got { AreServices (sporadic_tasks tasks.now) jobs.now (run_of spans.now) got.now }
     requires is_job { place < length jobs.now }
-    ensures { MatchOption result (is_missed (sporadic_tasks tasks.now) jobs.now (run_of spans.now) place ≡ false) (λ miss. (is_missed (sporadic_tasks tasks.now) jobs.now (run_of spans.now) place ≡ true) × (miss ≡ miss_of (sporadic_tasks tasks.now) jobs.now (run_of spans.now) place)) }
+    ensures { let T = sporadic_tasks tasks.now in let run = run_of spans.now in
+        MatchOption result (is_missed T jobs.now run place ≡ false) (λ miss.
+        (is_missed T jobs.now run place ≡ true) × (miss ≡ miss_of T jobs.now run place)) }
 {
     let job = jobs[place];
     let moment = deadline_moment(tasks, &job);

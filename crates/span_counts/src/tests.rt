@@ -46,10 +46,7 @@ fn a_miss_and_what_else_is_counted(rt: HostRuntime) -> Result<(), Fail> {
     let tasks = [Task::new(10, 10, 3).ok_or(OUT)?];
     let jobs = [job(0), job(10), job(21)];
     let given = [
-        Window {
-            from: 4,
-            until: 5,
-        },
+        Window { from: 4, until: 5 },
         Window {
             from: 10,
             until: 20,
@@ -74,6 +71,9 @@ fn a_miss_and_what_else_is_counted(rt: HostRuntime) -> Result<(), Fail> {
     };
     assert_eq!(rt; misses(alloc, &jobs, &tasks, &spans)?, 1);
     assert_eq!(rt; first_miss(alloc, &jobs, &tasks, &spans)?, Some(miss));
-    assert_eq!(rt; count_level(alloc, &tasks, &jobs, &given, &spans, 22)?, counts);
+    assert_eq!(rt;
+        count_level(alloc, &tasks, &jobs, &given, &spans, 22)?,
+        counts
+    );
     Ok(())
 }
