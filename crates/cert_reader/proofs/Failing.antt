@@ -1,4 +1,5 @@
--- The flaw of a node under its own scheduler, tasks and supply; and a certificate with a flaw proves nothing.
+-- The flaw of a node under its own scheduler, tasks and supply; and a certificate with a flaw
+-- proves nothing.
 use Rattle.std.proofs.Common.{◌≡◌, ◌≢◌, ℕ, ◌<◌, Bool, List, length, get_or, Option, sym, ◌∙◌, ap, subst, refl, inl, inr, rules, ◌↔◌, Result, Ok, Err, IsOk, IfOk, IfErr}
 use Rattle.std.proofs.lemmas.List.{get_or_default}
 use Rattle.slot_model.specs.declared.sched.Sched.{Sched}

@@ -45,7 +45,10 @@ node_value node =
     (member (codes "witness") (witness_value node.witness) no_members)))))))))
 
 abbrev pub certificate_value : List NodeView → Data
-certificate_value nodes = object (member (codes "format") (number_value 1) (member (codes "nodes") (array (items_from node_value nodes)) no_members))
+certificate_value nodes =
+    object
+    (member (codes "format") (number_value 1)
+    (member (codes "nodes") (array (items_from node_value nodes)) no_members))
 
 -- its text: JSON without spaces, and a newline
 unfoldable pub certificate_text : List NodeView → List ℕ

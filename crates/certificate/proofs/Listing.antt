@@ -4,7 +4,8 @@ use Rattle.std.proofs.lemmas.Bool.{cases_lt, cases_eq}
 use Rattle.std.proofs.lemmas.List.{drop_all}
 use Rattle.certificate.specs.Text.{behind, listed}
 
--- the first of all is written, and of the rest so many: what is left makes the whole, and all that was read is good
+-- the first of all is written, and of the rest so many: what is left makes the whole, and all that
+-- was read is good
 pub record ListedTo {A : Type 0} (text : A → List ℕ) (Good : A → Type 0) (d : A) (before now : List ℕ) (all rest : List A) (n : ℕ) : Type 0 where
   pub first : A
   pub all_is : all ≡ first ∷ rest

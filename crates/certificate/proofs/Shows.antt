@@ -1,4 +1,5 @@
--- What is listed in a certificate shows what it is to show, so that the certificate proves the system.
+-- What is listed in a certificate shows what it is to show, so that the certificate proves the
+-- system.
 use Rattle.std.proofs.Common.{◌≡◌, ◌≢◌, ℕ, ◌-◌, ◌<◌, ◌≤◌, Bool, true, false, List, [], length, Option, Some, refl, ap, subst, arith}
 use Rattle.slot_model.specs.declared.sched.Sched.{Sched}
 use Rattle.slot_model.specs.declared.sched.Sched.TheVariants.{Edf, Rm, Dm, Listed}

@@ -23,7 +23,8 @@ pub record IsBackwardCover
 
 -- one hit a task, each the least
 pub record AreLeastHits
-    (above : ℕ → ℕ → Bool) (tasks : List SporadicTask) (bound : ℕ → ℕ) (hits : List ℕ) : Type 0 where
+    (above : ℕ → ℕ → Bool) (tasks : List SporadicTask) (bound : ℕ → ℕ) (hits : List ℕ)
+        : Type 0 where
   pub one_each : length hits ≡ length tasks
   pub each : (i : ℕ) → i < length tasks → IsHit above tasks bound i (slice_index hits i)
   pub least : (i u : ℕ) → i < length tasks → u < slice_index hits i →

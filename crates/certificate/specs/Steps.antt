@@ -12,7 +12,8 @@ abbrev pub IsMadeAt : SystemView → List ℕ → Place → NodeView → Type 0
 IsMadeAt sys budgets place node = (node.place ≡ place) × IsMade sys budgets node
 
 -- the first n nodes, parts with these budgets
-pub record AreMade (sys : SystemView) (budgets : List ℕ) (nodes : List NodeView) (n : ℕ) : Type 0 where
+pub record AreMade (sys : SystemView) (budgets : List ℕ) (nodes : List NodeView) (n : ℕ)
+    : Type 0 where
   pub long : length nodes ≡ n
   pub each : (k : ℕ) → k < n →
       IsMadeAt sys budgets (nth_place (length sys.parts) k) (node_at nodes k)

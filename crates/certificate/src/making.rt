@@ -17,8 +17,10 @@ use std::alloc::{AllocError, Global};
 use supply_bound::{Full, Periodic};
 use tree_model::{Certificate, Core, MAX_PARTS, Node, Part, Place, Refusal, System, tasks_of};
 
-/// The certificate of a system that is admitted, or the first refusal. Under earliest deadline first
-/// a node's points are those of the walk backwards from its horizon, under a fixed rank its hits are
+/// The certificate of a system that is admitted, or the first refusal. Under earliest deadline
+/// first
+/// a node's points are those of the walk backwards from its horizon, under a fixed rank its hits
+/// are
 /// the least. The witness of a computed budget is what is short first at one slot less.
 pub fn certify(alloc: Global, sys: &System) -> Result<Certificate, Refusal>
     ensures made { IfOk result (λ c. IsCertificate sys.now c) }
@@ -168,8 +170,12 @@ fn core_lists(
 ) -> Result<(Vec<u128>, Vec<u64>), AllocError>
     requires few { length tasks.now < 2 ^ 32 }
     requires supply { IsCoreSupply core.now.supply }
-    requires small { IsSmall core.now.sched (sporadic_tasks tasks.now) (core_cycle core.now.supply) }
-    requires passes { Passes core.now.sched (sporadic_tasks tasks.now) (core_bound core.now.supply) }
+    requires small {
+        IsSmall core.now.sched (sporadic_tasks tasks.now) (core_cycle core.now.supply)
+    }
+    requires passes {
+        Passes core.now.sched (sporadic_tasks tasks.now) (core_bound core.now.supply)
+    }
     ensures {
         let T = sporadic_tasks tasks.now in
         let supply = core.now.supply in

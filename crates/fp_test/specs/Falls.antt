@@ -1,4 +1,5 @@
--- The falls of a task that has no hit: windows at which the supply falls short of what is requested.
+-- The falls of a task that has no hit: windows at which the supply falls short of what is
+-- requested.
 use Rattle.std.specs.Prelude.{◌≡◌, ℕ, ◌+◌, ◌-◌, ◌<◌, ◌≤◌, Bool, List, length, slice_index}
 use Rattle.std.specs.List.Sorted.{IsStrictlyIncreasing}
 use Rattle.slot_model.specs.Task.{SporadicTask, room_of, task_at}
@@ -8,7 +9,8 @@ use Rattle.slot_model.specs.Points.{IsChain}
 -- The least window that gives what is requested at `from`; the first past what the deadline leaves
 -- past the jitter where that is sooner, or no window gives it.
 pub record IsNextFall
-    (above : ℕ → ℕ → Bool) (tasks : List SporadicTask) (bound : ℕ → ℕ) (i from to : ℕ) : Type 0 where
+    (above : ℕ → ℕ → Bool) (tasks : List SporadicTask) (bound : ℕ → ℕ) (i from to : ℕ)
+        : Type 0 where
   pub within : to ≤ room_of (task_at tasks i) + 1
   pub below : (t : ℕ) → t < to → bound t < rbf above tasks i from
   pub gives : to ≤ room_of (task_at tasks i) → rbf above tasks i from ≤ bound to

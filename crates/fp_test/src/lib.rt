@@ -1,5 +1,6 @@
 //! The exact test of one task under a fixed priority, over any supply: its least hit, within which
-//! each of its jobs is done, or none, where the worst pattern of the supply makes a job late; and the
+//! each of its jobs is done, or none, where the worst pattern of the supply makes a job late; and
+//! the
 //! windows that show that there is none.
 #![tactic(auto)]
 
