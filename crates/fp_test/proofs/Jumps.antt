@@ -13,7 +13,7 @@ bound-le laws zero = omega (arith, laws.none_at_zero)
 bound-le laws (suc t) = omega (arith, laws.rises_by_one t, bound-le laws t)
 
 -- a bound that rises by at most one a slot skips no number
-skips_none : {bound : ℕ → ℕ} {amount cycle : ℕ} {pattern : ℕ → Bool} {start : ℕ} {Conforms : List Bool → Type 0} → SupplyLaws bound amount cycle pattern start Conforms → (x t : ℕ) → x ≤ bound t → (w : ℕ) × (w ≤ t) × (bound w ≡ x)
+pub skips_none : {bound : ℕ → ℕ} {amount cycle : ℕ} {pattern : ℕ → Bool} {start : ℕ} {Conforms : List Bool → Type 0} → SupplyLaws bound amount cycle pattern start Conforms → (x t : ℕ) → x ≤ bound t → (w : ℕ) × (w ≤ t) × (bound w ≡ x)
 skips_none laws x zero l = (0, omega arith, omega (arith, laws.none_at_zero))
 skips_none {bound} laws x (suc t) l = elim (cases_lt (bound t) x) [
   | inl m ↦ (suc t, omega arith, omega (arith, laws.rises_by_one t))
@@ -21,7 +21,7 @@ skips_none {bound} laws x (suc t) l = elim (cases_lt (bound t) x) [
 ]
 
 -- so where no smaller window has the bound x, all smaller windows have less
-below_reach : {bound : ℕ → ℕ} {amount cycle : ℕ} {pattern : ℕ → Bool} {start : ℕ} {Conforms : List Bool → Type 0} → SupplyLaws bound amount cycle pattern start Conforms → (x t : ℕ) → ((u : ℕ) → u < t → bound u ≡ x → ⊥) → (u : ℕ) → u < t → bound u < x
+pub below_reach : {bound : ℕ → ℕ} {amount cycle : ℕ} {pattern : ℕ → Bool} {start : ℕ} {Conforms : List Bool → Type 0} → SupplyLaws bound amount cycle pattern start Conforms → (x t : ℕ) → ((u : ℕ) → u < t → bound u ≡ x → ⊥) → (u : ℕ) → u < t → bound u < x
 below_reach {bound} laws x t first u l = elim (cases_lt (bound u) x) [
   | inl m ↦ m
   | inr m ↦ let r : (w : ℕ) × (w ≤ u) × (bound w ≡ x) = skips_none laws x u m in absurd (first r.0 (omega arith) r.2)

@@ -1,9 +1,13 @@
 //! The exact test of one task under a fixed priority, over any supply: its least hit, within which
-//! each of its jobs is done, or none, where the worst pattern of the supply makes a job late.
+//! each of its jobs is done, or none, where the worst pattern of the supply makes a job late; and
+//! the
+//! windows that show that there is none.
 #![tactic(auto)]
 
+mod fall;
 mod least;
 #[cfg(test)]
 mod tests;
 
+pub use fall::falls;
 pub use least::hit;

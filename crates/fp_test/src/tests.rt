@@ -1,4 +1,4 @@
-use crate::hit;
+use crate::{falls, hit};
 use slot_model::{Sched, Task};
 use std::test::Fail;
 use supply_bound::{Full, Periodic};
@@ -69,6 +69,37 @@ fn hits_of_equal_tasks(rt: HostRuntime) -> Result<(), Fail> {
         assert_eq!(rt; hit(sched, &tasks, 0, &Full), Some(4));
         assert_eq!(rt; hit(sched, &tasks, 1, &Full), Some(8));
         assert_eq!(rt; hit(sched, &tasks, 2, &Full), None);
+    }
+    Ok(())
+}
+
+#[test]
+fn falls_of_a_task_without_a_hit(rt: HostRuntime) -> Result<(), Fail> {
+    let tasks = [
+        Task::new(50, 50, 7).ok_or(OUT)?,
+        Task::new(75, 75, 9).ok_or(OUT)?,
+    ];
+    let three = Periodic::new(10, 3).ok_or(OUT)?;
+    match hit(Sched::Rm, &tasks, 1, &three) {
+        None => {
+            let falls = falls(rt.alloc(), Sched::Rm, &tasks, 1, &three)?;
+            assert_eq!(rt; falls.as_slice(), &[1, 65, 76][..]);
+        }
+        Some(t) => panic!(rt; "a hit at {t}"),
+    }
+    Ok(())
+}
+
+#[test]
+fn falls_leave_room_for_the_jitter(rt: HostRuntime) -> Result<(), Fail> {
+    let four = Periodic::new(10, 4).ok_or(OUT)?;
+    let past_it = [Task::with_jitter(50, 30, 7, 6).ok_or(OUT)?];
+    match hit(Sched::Rm, &past_it, 0, &four) {
+        None => {
+            let falls = falls(rt.alloc(), Sched::Rm, &past_it, 0, &four)?;
+            assert_eq!(rt; falls.as_slice(), &[1, 25][..]);
+        }
+        Some(t) => panic!(rt; "a hit at {t}"),
     }
     Ok(())
 }

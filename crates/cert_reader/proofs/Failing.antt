@@ -1,0 +1,105 @@
+-- The flaw of a node under its own scheduler, tasks and supply; and a certificate with a flaw
+-- proves nothing.
+use Rattle.std.proofs.Common.{◌≡◌, ◌≢◌, ℕ, ◌<◌, Bool, List, length, get_or, Option, sym, ◌∙◌, ap, subst, refl, inl, inr, rules, ◌↔◌, Result, Ok, Err, IsOk, IfOk, IfErr}
+use Rattle.std.proofs.lemmas.List.{get_or_default}
+use Rattle.slot_model.specs.declared.sched.Sched.{Sched}
+use Rattle.slot_model.specs.declared.sched.Sched.TheVariants.{Edf, Rm, Dm, Listed}
+use Rattle.slot_model.specs.Task.{SporadicTask}
+use Rattle.slot_model.specs.Order.{ranks_above}
+use Rattle.slot_model.specs.Bound.{sbf}
+use Rattle.tree_model.specs.declared.pinned_core.Core.{Core as CoreView}
+use Rattle.tree_model.specs.declared.place.Place.{Place}
+use Rattle.tree_model.specs.declared.place.Place.TheVariants.{Core, Part}
+use Rattle.tree_model.specs.CertificateView.{NodeView}
+use Rattle.tree_model.specs.View.{PartView, SystemView}
+use Rattle.tree_model.specs.System.{no_core, core_at, part_at}
+use Rattle.tree_model.specs.Tree.{core_bound, core_cycle, budget_at, node_tasks, node_sched, node_bound, node_cycle}
+use Rattle.cert_reader.specs.declared.flaw.Flaw.{Flaw}
+use Rattle.cert_reader.specs.declared.flaw.Flaw.TheVariants.{Nodes, Budget, Cover, Hit, Least, Wide}
+use Rattle.cert_reader.specs.Proves.{node_at, AreNodes, AreHits, ShowsPass, IsShown, NodeProves, Proves, budgets_of}
+use Rattle.cert_reader.specs.Steps.{HaveBudgets, AreProved}
+use Rattle.cert_reader.specs.Flaws.{FirstNode, NodeFlaw, NodeFails, HitFails, FirstFalseClaim, FirstFlaw}
+use Rattle.cert_reader.proofs.Shown.{shown_small}
+
+-- a flaw at a place
+fails_at : (sys : SystemView) (budgets : List ℕ) (node : NodeView) (place : Place) → node.place ≡ place → (flaw : Flaw)
+    → NodeFlaw (node_sched sys place) (node_tasks sys budgets place) (node_bound sys budgets place) (node_cycle sys place) node flaw → NodeFails sys budgets flaw node
+fails_at sys budgets node place same flaw h = subst (λ (p : Place). NodeFlaw (node_sched sys p) (node_tasks sys budgets p) (node_bound sys budgets p) (node_cycle sys p) node flaw) (sym same) h
+
+pub part_fails : (sys : SystemView) (budgets : List ℕ) (node : NodeView) (q : ℕ) → node.place ≡ Part q → (part : PartView) → part ≡ part_at sys q → (tasks : List SporadicTask) → tasks ≡ node_tasks sys budgets node.place
+    → (sched : Sched) → sched ≡ part.sched → (period : ℕ) → period ≡ part.period → (flaw : Flaw) → NodeFlaw sched tasks (sbf period (budget_at budgets q)) period node flaw → NodeFails sys budgets flaw node
+part_fails sys budgets node q place part here tasks same sched is_sched period is_period flaw h =
+    fails_at sys budgets node (Part q) place flaw
+    (subst (λ (ts : List SporadicTask). NodeFlaw (part_at sys q).sched ts (sbf (part_at sys q).period (budget_at budgets q)) (part_at sys q).period node flaw) (same ∙ ap (node_tasks sys budgets) place)
+    (subst (λ (p : PartView). NodeFlaw p.sched tasks (sbf p.period (budget_at budgets q)) p.period node flaw) here
+    (subst (λ (p : ℕ). NodeFlaw part.sched tasks (sbf p (budget_at budgets q)) p node flaw) is_period
+    (subst (λ (s : Sched). NodeFlaw s tasks (sbf period (budget_at budgets q)) period node flaw) is_sched h))))
+
+pub core_fails : (sys : SystemView) (budgets : List ℕ) (node : NodeView) (c : ℕ) → node.place ≡ Core c → (core : CoreView) → core ≡ core_at sys c → (tasks : List SporadicTask) → tasks ≡ node_tasks sys budgets node.place
+    → (supply : Option (ℕ × ℕ)) → core.supply ≡ supply → (flaw : Flaw) → NodeFlaw core.sched tasks (core_bound supply) (core_cycle supply) node flaw → NodeFails sys budgets flaw node
+core_fails sys budgets node c place core here tasks same supply is_supply flaw h =
+    fails_at sys budgets node (Core c) place flaw
+    (subst (λ (ts : List SporadicTask). NodeFlaw (core_at sys c).sched ts (core_bound (core_at sys c).supply) (core_cycle (core_at sys c).supply) node flaw) (same ∙ ap (node_tasks sys budgets) place)
+    (subst (λ (k : CoreView). NodeFlaw k.sched tasks (core_bound k.supply) (core_cycle k.supply) node flaw) here
+    (subst (λ (s : Option (ℕ × ℕ)). NodeFlaw core.sched tasks (core_bound s) (core_cycle s) node flaw) (sym is_supply) h)))
+
+-- a node with a flaw does not show what it claims
+pub hits_of : (sched : Sched) → sched ≢ Edf → (tasks : List SporadicTask) (bound : ℕ → ℕ) (cycle : ℕ) (node : NodeView) → ShowsPass sched tasks bound cycle node → AreHits (ranks_above sched tasks) tasks bound node
+hits_of Edf fixed tasks bound cycle node shows = absurd (fixed refl)
+hits_of Rm fixed tasks bound cycle node shows = shows
+hits_of Dm fixed tasks bound cycle node shows = shows
+hits_of Listed fixed tasks bound cycle node shows = shows
+
+pub no_bad_hit : (above : ℕ → ℕ → Bool) (tasks : List SporadicTask) (bound : ℕ → ℕ) (node : NodeView) (i : ℕ) → HitFails above tasks bound node i → AreHits above tasks bound node → ⊥
+no_bad_hit above tasks bound node i fails hits = elim fails [ inl lists ↦ lists.1 hits.lists | inr first ↦ first.bad (hits.each i first.is_task) ]
+
+pub no_flaw : (sched : Sched) (tasks : List SporadicTask) (bound : ℕ → ℕ) (cycle : ℕ) (node : NodeView) (flaw : Flaw) → NodeFlaw sched tasks bound cycle node flaw → IsShown sched tasks bound cycle node → ⊥
+no_flaw sched tasks bound cycle node (Wide place) h shown = h.1 (shown_small sched tasks bound cycle node shown.passes)
+no_flaw sched tasks bound cycle node (Cover place) h shown = let shows : ShowsPass Edf tasks bound cycle node = subst (λ (s : Sched). ShowsPass s tasks bound cycle node) h.1 shown.passes in h.3 shows.1
+no_flaw sched tasks bound cycle node (Hit place i) h shown = no_bad_hit (ranks_above sched tasks) tasks bound node i h.2 (hits_of sched h.1 tasks bound cycle node shown.passes)
+no_flaw sched tasks bound cycle node (Least place) h shown = h.2 shown.least
+no_flaw sched tasks bound cycle node Nodes h shown = h
+no_flaw sched tasks bound cycle node (Budget place) h shown = h
+
+-- so a certificate with a flaw does not prove the system
+no_claim : (sys : SystemView) (nodes : List NodeView) (flaw : Flaw) → FirstFalseClaim sys nodes flaw → Proves sys nodes → ⊥
+no_claim sys nodes flaw h proves =
+    let node : NodeView = node_at nodes h.node.k in
+    no_flaw (node_sched sys node.place) (node_tasks sys (budgets_of sys nodes) node.place) (node_bound sys (budgets_of sys nodes) node.place) (node_cycle sys node.place) node flaw h.node.bad (proves.each h.node.k h.node.is_node)
+
+pub flaw_not_proves : (sys : SystemView) (nodes : List NodeView) (flaw : Flaw) → FirstFlaw sys nodes flaw → Proves sys nodes → ⊥
+flaw_not_proves sys nodes Nodes h proves = h proves.are_nodes
+flaw_not_proves sys nodes (Budget place) h proves = h.node.bad.1 (proves.budgets h.node.k h.node.is_node)
+flaw_not_proves sys nodes (Cover place) h proves = no_claim sys nodes (Cover place) h proves
+flaw_not_proves sys nodes (Hit place i) h proves = no_claim sys nodes (Hit place i) h proves
+flaw_not_proves sys nodes (Least place) h proves = no_claim sys nodes (Least place) h proves
+flaw_not_proves sys nodes (Wide place) h proves = no_claim sys nodes (Wide place) h proves
+
+-- the flaw of a node's claims is the first flaw of the certificate
+pub first_flaw : (sys : SystemView) (nodes : List NodeView) (flaw : Flaw) → FirstFalseClaim sys nodes flaw → FirstFlaw sys nodes flaw
+first_flaw sys nodes Nodes h = absurd h.node.bad
+first_flaw sys nodes (Budget place) h = absurd h.node.bad
+first_flaw sys nodes (Cover place) h = h
+first_flaw sys nodes (Hit place i) h = h
+first_flaw sys nodes (Least place) h = h
+first_flaw sys nodes (Wide place) h = h
+
+-- the core that a node names
+pub core_here : (sys : SystemView) (cores : List CoreView) (c : ℕ) (core : CoreView) → cores ≡ sys.cores → c < length cores → core ≡ get_or cores c core → core ≡ core_at sys c
+core_here sys cores c core same h is = is ∙ (get_or_default cores c core no_core h ∙ ap (λ (cs : List CoreView). get_or cs c no_core) same)
+
+-- what a check of all nodes answers, with the budgets as they were written
+pub all_proved : (sys : SystemView) (nodes now : List NodeView) → nodes ≡ now → AreNodes sys nodes → HaveBudgets sys nodes (length nodes) → (budgets : List ℕ) → budgets ≡ budgets_of sys nodes → AreProved sys budgets nodes (length nodes) → Proves sys now
+all_proved sys nodes now same are has budgets is each =
+    subst (λ (ns : List NodeView). Proves sys ns) same (record { are_nodes = are; budgets = has; each = subst (λ (bs : List ℕ). AreProved sys bs nodes (length nodes)) is each })
+
+pub one_fails : (sys : SystemView) (nodes now : List NodeView) → nodes ≡ now → AreNodes sys nodes → HaveBudgets sys nodes (length nodes) → (budgets : List ℕ) → budgets ≡ budgets_of sys nodes
+    → (flaw : Flaw) → FirstNode nodes (NodeProves sys budgets) (NodeFails sys budgets flaw) → FirstFlaw sys now flaw
+one_fails sys nodes now same are has budgets is flaw h =
+    subst (λ (ns : List NodeView). FirstFlaw sys ns flaw) same
+    (first_flaw sys nodes flaw (record { are_nodes = are; budgets = has; node = subst (λ (bs : List ℕ). FirstNode nodes (NodeProves sys bs) (NodeFails sys bs flaw)) is h }))
+
+-- an answer is Ok exactly where the certificate proves the system
+pub exactly : (sys : SystemView) (nodes : List NodeView) (answer : Result (Unit {0}) Flaw) → IfOk answer (λ _. Proves sys nodes) → IfErr answer (λ flaw. FirstFlaw sys nodes flaw) → IsOk answer ↔ Proves sys nodes
+exactly sys nodes (Ok u) proves flaw = (λ ok. proves, λ h. search rules)
+exactly sys nodes (Err e) proves flaw = (λ ok. absurd (search rules), λ h. absurd (flaw_not_proves sys nodes e flaw h))

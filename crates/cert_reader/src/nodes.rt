@@ -1,0 +1,166 @@
+ghost use Rattle.std.specs.Prelude.{◌≡◌, ◌↔◌, ◌^◌, ◌<◌, ◌≤◌, IsTrue, IsOk, IfOk, IfErr, map, take, length};
+ghost use Rattle.tree_model.specs.Tree.{IsNode};
+ghost use Rattle.tree_model.specs.Admission.{Admitted};
+ghost use Rattle.cert_reader.specs.Proves.{nth_place, AreNodes, IsBudget, HasBudget, budgets_of, NodeProves, Proves};
+ghost use Rattle.cert_reader.specs.Flaws.{FirstNode, NodeFails, FirstFlaw};
+ghost use Rattle.cert_reader.specs.Steps.{BudgetsFit, HaveBudgets, AreProved};
+ghost use Rattle.cert_reader.specs.declared.flaw.Flaw.{Flaw as AnyFlaw};
+
+use crate::Flaw;
+use crate::claims::check_claims;
+use slot_model::Task;
+use supply_bound::{Full, Periodic};
+use tree_model::{Certificate, MAX_PARTS, Node, Place, System, tasks_of};
+
+/// Whether the certificate proves that the system is admitted under its budgets, or its first flaw.
+/// It trusts nothing that the certificate says, and takes no memory.
+pub fn verify(sys: &System, c: &Certificate) -> Result<(), Flaw>
+    ensures exact { IsOk result ↔ Proves sys.now c.now }
+    ensures flaw { IfErr result (λ flaw. FirstFlaw sys.now c.now flaw) }
+    ensures only { (flaw : AnyFlaw) → FirstFlaw sys.now c.now flaw → result ≡ Err flaw }
+    ensures admitted { IfOk result (λ _. Admitted sys.now (budgets_of sys.now c.now)) }
+{
+    let nodes = c.nodes.as_slice();
+    if !are_nodes(sys, nodes) {
+        return Err(Flaw::Nodes);
+    }
+    check_budgets(sys, nodes)?;
+    let count = sys.parts().len();
+    let mut budgets = [0; MAX_PARTS];
+    write_budgets(&nodes[..count], &mut budgets);
+    check_nodes(sys, &budgets[..count], nodes)
+}
+
+fn are_nodes(sys: &System, nodes: &[Node]) -> bool
+    ensures { IsTrue result ↔ AreNodes sys.now nodes.now }
+{
+    let parts = sys.parts().len();
+    if nodes.len() != parts + sys.cores().len() {
+        return false;
+    }
+    for (k, node) in nodes.iter().enumerate() {
+        if node.place != place_at(parts, k) {
+            return false;
+        }
+    }
+    true
+}
+
+/// The place of node `k`, after so many parts.
+fn place_at(parts: usize, k: usize) -> Place
+    requires { k < 2 ^ 32 }
+    ensures { result ≡ nth_place parts k }
+{
+    if k < parts {
+        Place::Part(k as u32)
+    } else {
+        Place::Core((k - parts) as u32)
+    }
+}
+
+/// Whether each node has its budget, or the first that has not.
+fn check_budgets(sys: &System, nodes: &[Node]) -> Result<(), Flaw>
+    requires { AreNodes sys.now nodes.now }
+    ensures have { IfOk result (λ _. HaveBudgets sys.now nodes.now (length nodes.now)) }
+    ensures flaw { IfErr result (λ flaw. FirstFlaw sys.now nodes.now flaw) }
+{
+    for node in nodes {
+        if !has_budget(sys, node) {
+            return Err(Flaw::Budget(node.place));
+        }
+    }
+    Ok(())
+}
+
+fn has_budget(sys: &System, node: &Node) -> bool
+    requires { IsNode sys.now node.now.place }
+    ensures { IsTrue result ↔ HasBudget sys.now node.now }
+{
+    match node.place {
+        Place::Part(q) => {
+            let part = &sys.parts()[q as usize];
+            node.period == part.period() && is_budget(part.budget(), node)
+        }
+        Place::Core(c) => {
+            let (period, budget) = sys.cores()[c as usize].supply.unwrap_or((1, 1));
+            node.period == period && is_budget(Some(budget), node)
+        }
+    }
+}
+
+fn is_budget(given: Option<u64>, node: &Node) -> bool
+    ensures { IsTrue result ↔ IsBudget given node.now }
+{
+    match given {
+        Some(given) => !node.computed && node.budget == given,
+        None => node.computed && 1 <= node.budget && node.budget <= node.period,
+    }
+}
+
+fn write_budgets(nodes: &[Node], into: &mut [u64])
+    requires { length nodes.now ≤ length into.old }
+    ensures { take (length nodes.now) into.new ≡ map (λ node. node.budget) nodes.now }
+{
+    for (q, node) in nodes.iter().enumerate() {
+        into[q] = node.budget;
+    }
+}
+
+/// Checks what each node claims under these budgets, in order.
+fn check_nodes(sys: &System, budgets: &[u64], nodes: &[Node]) -> Result<(), Flaw>
+    requires are_nodes { AreNodes sys.now nodes.now }
+    requires have { HaveBudgets sys.now nodes.now (length nodes.now) }
+    requires one_each { length budgets.now ≡ length sys.now.parts }
+    requires fit { BudgetsFit sys.now budgets.now }
+    ensures proved { IfOk result (λ _. AreProved sys.now budgets.now nodes.now (length nodes.now)) }
+    ensures flaw {
+        IfErr result
+        (λ flaw.
+        FirstNode nodes.now (NodeProves sys.now budgets.now) (NodeFails sys.now budgets.now flaw))
+    }
+{
+    let filler = Task {
+        period: 1,
+        deadline: 1,
+        work: 1,
+        jitter: 0,
+    };
+    let mut room = [filler; MAX_PARTS];
+    for node in nodes {
+        check_node(sys, budgets, node, &mut room)?;
+    }
+    Ok(())
+}
+
+/// Checks what one node claims. `room` is for its tasks.
+fn check_node(sys: &System, budgets: &[u64], node: &Node, room: &mut [Task]) -> Result<(), Flaw>
+    requires is_node { IsNode sys.now node.now.place }
+    requires has { HasBudget sys.now node.now }
+    requires one_each { length budgets.now ≡ length sys.now.parts }
+    requires fit { BudgetsFit sys.now budgets.now }
+    requires room { 512 ≤ length room.old }
+    ensures proved { IfOk result (λ _. NodeProves sys.now budgets.now node.now) }
+    ensures flaw { IfErr result (λ flaw. NodeFails sys.now budgets.now flaw node.now) }
+{
+    let count = tasks_of(sys, budgets, node.place, room).unwrap();
+    let tasks = &room[..count];
+    match node.place {
+        Place::Part(q) => {
+            let part = &sys.parts()[q as usize];
+            let supply = Periodic {
+                period: part.period(),
+                budget: budgets[q as usize],
+            };
+            check_claims(part.sched(), tasks, &supply, node)
+        }
+        Place::Core(c) => {
+            let core = &sys.cores()[c as usize];
+            match core.supply {
+                None => check_claims(core.sched, tasks, &Full, node),
+                Some((period, budget)) => {
+                    check_claims(core.sched, tasks, &Periodic { period, budget }, node)
+                }
+            }
+        }
+    }
+}

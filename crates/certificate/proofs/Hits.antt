@@ -1,0 +1,40 @@
+-- The least hits of the first tasks.
+use Rattle.std.proofs.Common.{◌≡◌, ℕ, ◌+◌, ◌<◌, ◌≤◌, Bool, true, List, [], ◌∷◌, ◌++◌, length, get_or, Option, Some, None, is_some, MatchOption, sym, subst, refl, arith, inl, inr}
+use Rattle.std.proofs.lemmas.Bool.{cases_lt}
+use Rattle.std.proofs.lemmas.List.{get_or_append_left, get_or_push, length_push}
+use Rattle.slot_model.specs.Task.{SporadicTask}
+use Rattle.slot_model.specs.Bound.{IsHit, IsShortTask, AllHit}
+use Rattle.certificate.specs.Made.{AreLeastHits}
+
+abbrev pub IsLeastHit : (ℕ → ℕ → Bool) → List SporadicTask → (ℕ → ℕ) → ℕ → ℕ → Type 0
+IsLeastHit above tasks bound i t = IsHit above tasks bound i t × ((u : ℕ) → u < t → IsHit above tasks bound i u → ⊥)
+
+pub record HitsTo (above : ℕ → ℕ → Bool) (tasks : List SporadicTask) (bound : ℕ → ℕ) (hits : List ℕ) (n : ℕ) : Type 0 where
+  pub long : length hits ≡ n
+  pub each : (i : ℕ) → i < n → IsLeastHit above tasks bound i (get_or hits i 0)
+
+-- a task that has a hit is not short
+pub has_hit : (above : ℕ → ℕ → Bool) (tasks : List SporadicTask) (bound : ℕ → ℕ) (i : ℕ) (answer : Option ℕ) → AllHit above tasks bound → i < length tasks → MatchOption answer (IsShortTask above tasks bound i) (IsLeastHit above tasks bound i) → is_some answer ≡ true
+has_hit above tasks bound i (Some t) all l exact = refl
+has_hit above tasks bound i None all l exact = let hit = all i l in absurd (omega (arith, hit.1.enough, exact hit.0 hit.1.some_slots hit.1.in_deadline))
+
+-- the hit that an answer is
+pub least_of : (above : ℕ → ℕ → Bool) (tasks : List SporadicTask) (bound : ℕ → ℕ) (i : ℕ) (answer : Option ℕ) (t : ℕ) → answer ≡ Some t → MatchOption answer (IsShortTask above tasks bound i) (IsLeastHit above tasks bound i) → IsLeastHit above tasks bound i t
+least_of above tasks bound i answer t is exact = subst (λ (o : Option ℕ). MatchOption o (IsShortTask above tasks bound i) (IsLeastHit above tasks bound i)) is exact
+
+pub hits_none : (above : ℕ → ℕ → Bool) (tasks : List SporadicTask) (bound : ℕ → ℕ) → HitsTo above tasks bound [] 0
+hits_none above tasks bound = record { long = refl; each = λ i l. absurd (omega arith) }
+
+pub hits_more : (above : ℕ → ℕ → Bool) (tasks : List SporadicTask) (bound : ℕ → ℕ) (hits : List ℕ) (n t : ℕ) → HitsTo above tasks bound hits n → IsLeastHit above tasks bound n t → HitsTo above tasks bound (hits ++ t ∷ []) (n + 1)
+hits_more above tasks bound hits n t before least = record {
+  long = omega (arith, length_push hits t, before.long);
+  each = λ i l. elim (cases_lt i n) [
+    | inl sooner ↦ subst (λ (x : ℕ). IsLeastHit above tasks bound i x) (sym (get_or_append_left hits (t ∷ []) 0 i (omega (arith, before.long)))) (before.each i sooner)
+    | inr last ↦
+        let same : i ≡ n = omega arith in
+        subst (λ (j : ℕ). IsLeastHit above tasks bound j (get_or (hits ++ t ∷ []) j 0)) (sym same) (subst (λ (x : ℕ). IsLeastHit above tasks bound n x) (sym (get_or_push hits t 0 n (omega (arith, before.long)))) least)
+  ];
+}
+
+pub hits_all : (above : ℕ → ℕ → Bool) (tasks : List SporadicTask) (bound : ℕ → ℕ) (hits : List ℕ) (n : ℕ) → n ≡ length tasks → HitsTo above tasks bound hits n → AreLeastHits above tasks bound hits
+hits_all above tasks bound hits n e to = record { one_each = omega (arith, to.long, e); each = λ i l. (to.each i (omega (arith, e))).0; least = λ i u l m hit. (to.each i (omega (arith, e))).1 u m hit }

@@ -1,0 +1,5 @@
+pub mod Shows
+pub mod Nodes
+pub mod Hits
+pub mod Listing
+pub mod Texts

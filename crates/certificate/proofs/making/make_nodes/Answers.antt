@@ -1,0 +1,16 @@
+use Rattle.std.proofs.Common.{ℕ, List, ◌+◌, length, subst, sym, ap, arith}
+use Rattle.tree_model.specs.CertificateView.{NodeView}
+use Rattle.tree_model.specs.View.{PartView}
+use Rattle.certificate.specs.Steps.{AreMade}
+use Rattle.certificate.proofs.Nodes.{part_more, core_more}
+use Rattle.certificate.proofs.making.make_nodes.Goals as goal
+
+pub loop-q-preserved : goal.loop-q-preserved
+loop-q-preserved c =
+    subst (λ (nodes : List NodeView). AreMade c.args.sys.now c.args.budgets.now nodes (c.loop-q.q + 1)) (sym c.in_ok-push.ensures.items)
+    (part_more c.args.sys.now c.args.budgets.now c.loop-q.nodes.items c.loop-q.q c.in_ok-part_node.field-0 c.loop-q.invariant (omega (arith, ap (λ (ps : List PartView). length ps) c.parts-parts.ensures.parts)) c.in_ok-part_node.ensures.made c.in_ok-part_node.ensures.budget)
+
+pub loop-c-preserved : goal.loop-c-preserved
+loop-c-preserved c =
+    subst (λ (nodes : List NodeView). AreMade c.args.sys.now c.args.budgets.now nodes (length c.args.sys.now.parts + (c.loop-c.c + 1))) (sym c.in_ok-push-2.ensures.items)
+    (core_more c.args.sys.now c.args.budgets.now c.loop-c.nodes.items c.loop-c.c c.in_ok-core_node.field-0 c.loop-c.invariant c.in_ok-core_node.ensures)

@@ -1,0 +1,66 @@
+ghost use Rattle.std.specs.Prelude.{◌≡◌, ◌≢◌, ◌<◌, length, IfOk};
+ghost use Rattle.slot_model.specs.Task.{sporadic_tasks};
+ghost use Rattle.slot_model.specs.Order.{ranks_above};
+ghost use Rattle.slot_model.specs.Bound.{IsShortTask};
+ghost use Rattle.slot_model.specs.Points.{IsChain};
+ghost use Rattle.fp_test.specs.Falls.{IsNextFall, AreFalls, ChainsShow};
+
+use fp_request::request;
+use slot_model::{Sched, Task};
+use std::alloc::{AllocError, Global};
+use supply_bound::Supply;
+
+/// Windows, in slots, that show that task `i` has no hit: from 1 on, each is the least whose supply
+/// bound is the request bound at the one before, and the last is the first past what the deadline
+/// leaves past the jitter. Only memory can be wanting.
+pub fn falls<S: Supply>(
+    alloc: Global,
+    sched: Sched,
+    tasks: &[Task],
+    i: u32,
+    s: &S,
+) -> Result<Vec<u64>, AllocError>
+    requires fixed { sched ≢ Sched.Edf }
+    requires i_named { i < length tasks.now }
+    requires no_hit { let T = sporadic_tasks tasks.now in
+        IsShortTask (ranks_above sched T) T (S.bound s.now) i }
+    ensures falls { let T = sporadic_tasks tasks.now in
+        IfOk result (λ v. AreFalls (ranks_above sched T) T (S.bound s.now) i v.items) }
+    ensures chain { let T = sporadic_tasks tasks.now in
+        IfOk result (λ v. IsChain (ranks_above sched T) T (S.bound s.now) i v.items) }
+    // what a chain says: no window within the deadline is a hit
+    ensures shows { let T = sporadic_tasks tasks.now in
+        ChainsShow (ranks_above sched T) T (S.bound s.now) i }
+{
+    let task = tasks[i as usize];
+    let end = task.deadline - task.jitter + 1;
+    let mut falls = Vec::new(alloc);
+    let mut last = 1;
+    falls.push(last)?;
+    while last < end {
+        last = next_fall(sched, tasks, i, s, last);
+        falls.push(last)?;
+    }
+    Ok(falls)
+}
+
+/// The fall after a window.
+fn next_fall<S: Supply>(sched: Sched, tasks: &[Task], i: u32, s: &S, from: u64) -> u64
+    requires fixed { sched ≢ Sched.Edf }
+    requires i_named { i < length tasks.now }
+    ensures { let T = sporadic_tasks tasks.now in
+        IsNextFall (ranks_above sched T) T (S.bound s.now) i from result }
+{
+    let task = tasks[i as usize];
+    let room = task.deadline - task.jitter;
+    let Some(asked) = request(sched, tasks, i, from as u128) else {
+        return room + 1;
+    };
+    let Some(t) = s.reach(asked) else {
+        return room + 1;
+    };
+    if t > room as u128 {
+        return room + 1;
+    }
+    t as u64
+}
