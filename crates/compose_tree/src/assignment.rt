@@ -1,5 +1,6 @@
 ghost use Rattle.std.specs.Prelude.{◌≡◌, ◌≢◌, ℕ, suc, ◌<◌, ◌≤◌, List, length, slice_set, IfOk, IfErr, MatchResult};
 ghost use Rattle.tree_model.specs.Admission.{AssignedFrom, Assigned, Admitted, FirstUnassigned};
+ghost use Rattle.tree_model.specs.Plans.{IsPlan};
 
 use crate::budgets::rooms;
 use crate::nodes::untested_budget;
@@ -16,6 +17,7 @@ pub fn assign(alloc: Global, sys: &System) -> Result<Plan, Refusal>
     // where budgets are assigned to the system, they are the plan
     ensures complete { (budgets : List ℕ) → Assigned sys.now budgets →
         MatchResult result (λ plan. plan ≡ budgets) (λ r. r ≡ Refusal.NoMemory) }
+    ensures in_period { IfOk result (λ plan. IsPlan sys.now plan) }
     // so a plan of `compose`
     ensures as_composed { (budgets : List ℕ) → Admitted sys.now budgets →
         MatchResult result (λ plan. plan ≡ budgets) (λ r. r ≡ Refusal.NoMemory) }

@@ -2,6 +2,7 @@ ghost use Rattle.std.specs.Prelude.{◌≡◌, ◌≢◌, ℕ, suc, ◌<◌, ◌
 ghost use Rattle.tree_model.specs.System.{IsSystem};
 ghost use Rattle.tree_model.specs.Tree.{NoLoss};
 ghost use Rattle.tree_model.specs.Admission.{NodePasses, AssignedFrom, Assigned, Admitted, FirstRefusal};
+ghost use Rattle.tree_model.specs.Plans.{IsPlan};
 ghost use Rattle.compose_tree.specs.Steps.{PartsPassFrom, CoresPassTo};
 ghost use Rattle.compose_tree.specs.Truth.{IsTight, RefusalHolds};
 
@@ -19,6 +20,7 @@ pub fn compose(alloc: Global, sys: &System) -> Result<Plan, Refusal>
     // where budgets admit the system, they are the plan
     ensures complete { (budgets : List ℕ) → Admitted sys.now budgets →
         MatchResult result (λ plan. plan ≡ budgets) (λ r. r ≡ Refusal.NoMemory) }
+    ensures in_period { IfOk result (λ plan. IsPlan sys.now plan) }
     // what a plan and a refusal say of every supply and every release
     ensures no_loss { IfOk result (λ plan. NoLoss sys.now plan) }
     ensures tight { IfOk result (λ plan. IsTight sys.now plan) }

@@ -1,4 +1,5 @@
--- Where no point up to a common multiple of all periods and the supply's cycle, and one cycle more, is short, none is.
+-- Where no point up to a common multiple of all periods and the supply's cycle, and one cycle more,
+-- is short, none is.
 use Rattle.std.proofs.Common.{◌≡◌, ℕ, zero, suc, ◌+◌, ◌*◌, ◌-◌, ◌/◌, ◌<◌, ◌≤◌, List, length, ◌∙◌, ap, arith, inl, inr}
 use Rattle.std.proofs.lemmas.Bool.{cases_lt}
 use Rattle.std.proofs.Math.Nat.{add-mul-div_right}

@@ -10,8 +10,12 @@ use slot_model::Task;
 /// The demand bound function: the most work that jobs of the tasks ask for, if they are released
 /// and due in one window of `t` slots. None exactly where it is 2^128 slots or more.
 pub fn demand(tasks: &[Task], t: u128) -> Option<u128>
-    ensures exact { MatchOption result (2 ^ 128 ≤ dbf (sporadic_tasks tasks.now) t) (λ d. d ≡ dbf (sporadic_tasks tasks.now) t) }
-    ensures bounds { IfSome result (λ d. (jobs : List Job) (from : ℕ) → LegalRelease (sporadic_tasks tasks.now) jobs → work_within (sporadic_tasks tasks.now) jobs from (from + t) ≤ d) }
+    ensures exact { MatchOption result
+        (2 ^ 128 ≤ dbf (sporadic_tasks tasks.now) t)
+        (λ d. d ≡ dbf (sporadic_tasks tasks.now) t) }
+    ensures bounds { IfSome result (λ d. (jobs : List Job) (from : ℕ) →
+        LegalRelease (sporadic_tasks tasks.now) jobs →
+        work_within (sporadic_tasks tasks.now) jobs from (from + t) ≤ d) }
 {
     let mut total: u128 = 0;
     let mut due = Due::new(1, 1, t);

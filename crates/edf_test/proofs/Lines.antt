@@ -1,4 +1,4 @@
--- Lines above the demand bound and below a supply's bound, in 2^60 parts of a slot, and where they cross.
+-- Lines above the demand bound and below a supply's bound, and where they cross.
 use Rattle.std.proofs.Common.{◌≡◌, ◌^◌, ℕ, suc, ◌+◌, ◌*◌, ◌-◌, ◌/◌, ◌%◌, ◌<◌, ◌≤◌, List, [], ◌∷◌, ◌++◌, sym, ◌∙◌, ap, arith, subst, inl, inr, mul-le-mul_left, mul-le-mul_right, div-mul-le_self, sum_by}
 use Rattle.std.proofs.Math.Nat.{le_of_mul-le-mul_right}
 use Rattle.std.proofs.lemmas.Nat.{mul-le}
@@ -19,7 +19,7 @@ use Rattle.edf_test.proofs.Tasks.{dbf-push}
 abbrev pub IsAbove : List SporadicTask → ℕ → ℕ → Type 0
 IsAbove tasks slope offset = (t : ℕ) → dbf tasks t * 2 ^ 60 ≤ slope * t + offset
 
--- a task's demand is below its rate times the window, and the part of the period that is past its deadline
+-- a task's demand is below its rate times the window and the part of the period past its room
 demand_below : (b : SporadicTask) → IsConstrained b → (rate t : ℕ) → b.work * 2 ^ 60 ≤ rate * b.period → demand_of b t * 2 ^ 60 ≤ rate * t + rate * (b.period - room_of b)
 demand_below b f rate t l =
     let q : ℕ = (t + (b.period - room_of b)) / b.period in
@@ -37,7 +37,8 @@ above_more tasks task slope offset rate above l t = omega (arith, above t, deman
 into_cycles : (t cycle : ℕ) → 1 ≤ cycle → cycle ≤ t → (n : ℕ) × (r : ℕ) × (r < cycle) × (t ≡ (cycle + r) + n * cycle)
 into_cycles t cycle l m = ((t - cycle) / cycle, (t - cycle) % cycle, omega arith, omega arith)
 
--- in one cycle past the first: flat for as long as can be, and then a slot after the other; a slot counts as `one`
+-- in one cycle past the first: flat for as long as can be, and then a slot after the other;
+-- a slot counts as `one`
 in_one : (bound : ℕ → ℕ) (amount cycle one slope offset r : ℕ) → RisesByCycle bound amount cycle → ((t : ℕ) → bound t ≤ bound (suc t)) → ((t : ℕ) → bound (suc t) ≤ suc (bound t)) → amount ≤ cycle → slope ≤ one
     → slope * (2 * cycle - amount) ≤ bound cycle * one + offset → r < cycle → slope * (cycle + r) ≤ bound (cycle + r) * one + offset
 in_one bound amount cycle one slope offset r by rises slow in_cycle at_most_one latest lr = elim (cases_lt cycle (r + amount)) [

@@ -1,4 +1,5 @@
--- A demand whose rate is at most the supply's, and that begins less than a slot behind it, never catches up.
+-- A demand whose rate is at most the supply's, and that begins less than a slot behind it, never
+-- catches up.
 use Rattle.std.proofs.Common.{◌≡◌, ℕ, zero, suc, ◌+◌, ◌*◌, ◌-◌, ◌/◌, ◌%◌, ◌^◌, ◌<◌, ◌≤◌, List, [], ◌∷◌, length, ◌∙◌, ap, arith, inl, inr, mul-le-mul_left, mul-le-mul_right, div-mul-le_self}
 use Rattle.std.specs.Int.{◌∣◌}
 use Rattle.std.specs.List.{All}

@@ -79,8 +79,8 @@ fn supply_line<S: Supply>(s: &S) -> Line
     ensures below { (t : ℕ) → S.cycle_of s.now ≤ t →
         result.slope * t ≤ S.bound s.now t * 2 ^ 60 + result.offset }
     ensures slope { result.slope ≡ given_rate (S.amount s.now) (S.cycle_of s.now) }
-    ensures offset { let behind = given_behind (S.bound s.now) (S.amount s.now) (S.cycle_of s.now) in
-        result.offset ≡ behind }
+    ensures offset { let far = given_behind (S.bound s.now) (S.amount s.now) (S.cycle_of s.now) in
+        result.offset ≡ far }
     ensures small { result.offset ≤ 2 ^ 125 }
 {
     let cycle = s.cycle() as u128;

@@ -1,4 +1,5 @@
--- A larger budget of the same period gives no fewer slots, so that passing is kept upward and missing downward.
+-- A larger budget of the same period gives no fewer slots, so that passing is kept upward and
+-- missing downward.
 use Rattle.std.proofs.Common.{ℕ, ◌≤◌, Bool, List, arith, inl, inr}
 use Rattle.slot_model.specs.declared.job.Job.{Job}
 use Rattle.slot_model.specs.declared.sched.Sched.{Sched}

@@ -15,11 +15,13 @@ use Rattle.slot_model.specs.Miss.{NoJobLost, MustMiss}
 -- nothing is short, or what is short first, or the horizon is too long to be walked
 abbrev pub IsTested : Sched → List SporadicTask → (ℕ → ℕ) → ℕ → Tested → Type 0
 IsTested sched tasks bound cycle AllPasses = IsSmall sched tasks cycle × Passes sched tasks bound
-IsTested sched tasks bound cycle (FirstShort short) = IsSmall sched tasks cycle × IsShortfall sched tasks bound short
+IsTested sched tasks bound cycle (FirstShort short) =
+    IsSmall sched tasks cycle × IsShortfall sched tasks bound short
 IsTested sched tasks bound cycle TestWide = IsSmall sched tasks cycle → ⊥
 
 -- what the answer says of every run: no job is lost, or some release must miss
-abbrev pub Foretells : (List Bool → Type 0) → (Job → Job → Bool) → List SporadicTask → Tested → Type 0
+abbrev pub Foretells : (List Bool → Type 0) → (Job → Job → Bool) → List SporadicTask → Tested
+    → Type 0
 Foretells Conforms before tasks AllPasses = NoJobLost Conforms before tasks
 Foretells Conforms before tasks (FirstShort short) = MustMiss Conforms before tasks
 Foretells Conforms before tasks TestWide = Unit {0}
@@ -29,14 +31,21 @@ abbrev pub IsHorizonOf : Sched → List SporadicTask → ℕ → Option ℕ → 
 IsHorizonOf sched tasks cycle None = sched ≢ Edf
 IsHorizonOf sched tasks cycle (Some h) = (sched ≡ Edf) × IsHorizon tasks cycle h
 
--- the least budget that passes, or what is short with the whole period, or the horizon is too long to be walked
+-- the least budget that passes, or what is short with the whole period, or the horizon is too long
+-- to be walked
 abbrev pub IsLeast : Sched → List SporadicTask → ℕ → Least → Type 0
-IsLeast sched tasks period (Budget budget) = IsSmall sched tasks period × IsLeastBudget sched tasks period budget
-IsLeast sched tasks period (Over short) = IsSmall sched tasks period × IsShortfall sched tasks (sbf period period) short
+IsLeast sched tasks period (Budget budget) =
+    IsSmall sched tasks period × IsLeastBudget sched tasks period budget
+IsLeast sched tasks period (Over short) =
+    IsSmall sched tasks period × IsShortfall sched tasks (sbf period period) short
 IsLeast sched tasks period Wide = IsSmall sched tasks period → ⊥
 
--- the budgets up to the period: with a smaller one some release must miss, and from the least one on no job is lost
+-- the budgets up to the period: with a smaller one some release must miss, and from the least one
+-- on no job is lost
 abbrev pub Separates : (Job → Job → Bool) → List SporadicTask → ℕ → Least → Type 0
-Separates before tasks period (Budget least) = (budget : ℕ) → budget ≤ period → (budget < least → MustMiss (GivesBudget period budget) before tasks) × (least ≤ budget → NoJobLost (GivesBudget period budget) before tasks)
-Separates before tasks period (Over short) = (budget : ℕ) → budget ≤ period → MustMiss (GivesBudget period budget) before tasks
+Separates before tasks period (Budget least) = (budget : ℕ) → budget ≤ period →
+    (budget < least → MustMiss (GivesBudget period budget) before tasks)
+    × (least ≤ budget → NoJobLost (GivesBudget period budget) before tasks)
+Separates before tasks period (Over short) = (budget : ℕ) → budget ≤ period →
+    MustMiss (GivesBudget period budget) before tasks
 Separates before tasks period Wide = Unit {0}

@@ -19,7 +19,8 @@ pub fn least_budget(sched: Sched, tasks: &[Task], period: u64) -> Least
     requires some_period { 1 ≤ period }
     requires in_limit { period ≤ LIMIT }
     ensures exact { IsLeast sched (sporadic_tasks tasks.now) period result }
-    ensures separates { let T = sporadic_tasks tasks.now in Separates (before_of sched T) T period result }
+    ensures separates { let T = sporadic_tasks tasks.now in
+        Separates (before_of sched T) T period result }
 {
     match sched {
         Sched::Edf => least_of_windows(tasks, period),
@@ -98,7 +99,8 @@ fn first_enough(sched: Sched, tasks: &[Task], period: u64, h: Option<u128>, low:
     requires horizon { IsHorizonOf sched (sporadic_tasks tasks.now) period h }
     requires passes { Passes sched (sporadic_tasks tasks.now) (sbf period period) }
     requires in_period { low ≤ period }
-    requires below { (b : ℕ) → b < low → Passes sched (sporadic_tasks tasks.now) (sbf period b) → ⊥ }
+    requires below { let T = sporadic_tasks tasks.now in
+        (b : ℕ) → b < low → Passes sched T (sbf period b) → ⊥ }
     ensures { IsLeastBudget sched (sporadic_tasks tasks.now) period result }
 {
     let mut low = low;

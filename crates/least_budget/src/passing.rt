@@ -14,8 +14,10 @@ use supply_bound::Supply;
 /// earliest deadline first, the first task of the list under a fixed rank.
 pub fn test<S: Supply>(sched: Sched, tasks: &[Task], s: &S) -> Tested
     requires { length tasks.now < 2 ^ 32 }
-    ensures exact { IsTested sched (sporadic_tasks tasks.now) (S.bound s.now) (S.cycle_of s.now) result }
-    ensures foretells { let T = sporadic_tasks tasks.now in Foretells (S.conforms s.now) (before_of sched T) T result }
+    ensures exact { IsTested sched (sporadic_tasks tasks.now) (S.bound s.now)
+        (S.cycle_of s.now) result }
+    ensures foretells { let T = sporadic_tasks tasks.now in
+        Foretells (S.conforms s.now) (before_of sched T) T result }
 {
     match sched {
         Sched::Edf => test_windows(tasks, s),
@@ -24,7 +26,8 @@ pub fn test<S: Supply>(sched: Sched, tasks: &[Task], s: &S) -> Tested
 }
 
 fn test_windows<S: Supply>(tasks: &[Task], s: &S) -> Tested
-    ensures { IsTested Sched.Edf (sporadic_tasks tasks.now) (S.bound s.now) (S.cycle_of s.now) result }
+    ensures { let T = sporadic_tasks tasks.now in
+        IsTested Sched.Edf T (S.bound s.now) (S.cycle_of s.now) result }
 {
     let Some(h) = horizon(tasks, s.cycle()) else {
         return Tested::Wide;

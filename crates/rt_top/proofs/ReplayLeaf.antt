@@ -21,25 +21,14 @@ use Rattle.guest_sched.proofs.Given.{slots-long}
 use Rattle.miss_witness.specs.declared.defeat.Defeat.{Defeat}
 use Rattle.tree_model.specs.View.{PartView, SystemView}
 use Rattle.tree_model.specs.System.{IsSystem, own_tasks, part_at}
-use Rattle.tree_model.specs.Tree.{ChildBudgetsFit, budget_at, node_tasks}
-use Rattle.tree_model.specs.declared.place.Place.{Place}
+use Rattle.tree_model.specs.Tree.{budget_at, node_tasks}
 use Rattle.tree_model.specs.declared.place.Place.TheVariants.{Part}
-use Rattle.tree_model.specs.Admission.{Admitted, BudgetStands, SettledFrom}
-use Rattle.tree_model.proofs.InRange.{settled_in_period}
+use Rattle.tree_model.specs.Admission.{Admitted, BudgetStands}
+use Rattle.tree_model.proofs.InRange.{admitted_in_period}
 use Rattle.tree_model.proofs.NodeTasks.{leaf_tasks}
 use Rattle.rt_report.specs.Admit.{is_computed_leaf}
 use Rattle.rt_report.specs.Replay.{IsReplay, IsReplayed}
 use Rattle.miss_witness.specs.Defeat.{IsDefeat}
-
-settled : (sys : SystemView) (budgets : List ℕ) → Admitted sys budgets → SettledFrom sys budgets 0
-settled sys budgets h = record { one_each = h.assigned.one_each; stands = λ q g l. h.assigned.stands q l; passes = λ q g l. h.parts q l }
-
--- the budgets of an admission are 1 to their periods
-pub admitted_in_period : (sys : SystemView) → IsSystem sys → (budgets : List ℕ) → Admitted sys budgets → (q : ℕ) → q < length sys.parts → (1 ≤ budget_at budgets q) × (budget_at budgets q ≤ (part_at sys q).period)
-admitted_in_period sys is budgets h q l = settled_in_period sys is budgets 0 (settled sys budgets h) q (omega arith) l
-
-pub admitted_children : (sys : SystemView) → IsSystem sys → (budgets : List ℕ) → Admitted sys budgets → (node : Place) → ChildBudgetsFit sys budgets node
-admitted_children sys is budgets h node q l child = admitted_in_period sys is budgets h q l
 
 -- a computed leaf has the least budget of its own tasks
 abbrev pub LeastOf : PartView → ℕ → Type 0
@@ -48,7 +37,7 @@ LeastOf part budget = IsSmall part.sched (own_tasks part) part.period × IsLeast
 pub leaf_least : (sys : SystemView) (budgets : List ℕ) → Admitted sys budgets → (q : ℕ) → q < length sys.parts → is_computed_leaf (part_at sys q) ≡ true → LeastOf (part_at sys q) (budget_at budgets q)
 leaf_least sys budgets h q l computed =
     let kinds = and_parts _ _ computed in
-    subst (λ (tasks : List SporadicTask). IsSmall (part_at sys q).sched tasks (part_at sys q).period × IsLeastBudget (part_at sys q).sched tasks (part_at sys q).period (budget_at budgets q)) (leaf_tasks sys budgets q kinds.1) (go (part_at sys q).budget kinds.0 (h.assigned.stands q l))
+    subst (λ (tasks : List SporadicTask). IsSmall (part_at sys q).sched tasks (part_at sys q).period × IsLeastBudget (part_at sys q).sched tasks (part_at sys q).period (budget_at budgets q)) (leaf_tasks sys budgets q kinds.1) (go (part_at sys q).budget kinds.0 (h.assigned.stands q (omega arith) l))
   where
     go : (given : Option ℕ) → is_none given ≡ true → BudgetStands sys budgets q given → IsSmall (part_at sys q).sched (node_tasks sys budgets (Part q)) (part_at sys q).period × IsLeastBudget (part_at sys q).sched (node_tasks sys budgets (Part q)) (part_at sys q).period (budget_at budgets q)
     go None e stands = stands

@@ -8,6 +8,8 @@ mod file;
 #[cfg(test)]
 mod jitter_tests;
 mod replays;
+#[cfg(test)]
+mod spans_tests;
 mod status;
 #[cfg(test)]
 mod tests;

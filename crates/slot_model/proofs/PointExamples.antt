@@ -86,7 +86,8 @@ five_points_cover = record { some_point = omega arith; some_slots = omega arith;
     steps (suc (suc (suc zero))) l = omega arith
     steps (suc (suc (suc (suc j)))) l = absurd (omega arith)
 
--- up to 95 three points are a cover, and with 5 slots of jitter at the first task they are none: its second job is due by 95
+-- up to 95 three points are a cover, and with 5 slots of jitter at the first task they are none:
+-- its second job is due by 95
 abbrev three_points : List ℕ
 three_points = 35 ∷ 65 ∷ 96 ∷ []
 

@@ -1,5 +1,6 @@
 use Rattle.std.proofs.Common.{◌∙◌}
 use Rattle.std.proofs.lemmas.Result.{err_from_is_err_and}
+use Rattle.tree_model.proofs.InRange.{assigned_is_plan}
 use Rattle.tree_model.proofs.Unique.{one_assignment}
 use Rattle.compose_tree.proofs.Settling.{assigned_back, not_unassigned}
 use Rattle.compose_tree.proofs.assignment.assign.Goals as goal
@@ -9,6 +10,9 @@ returns-clause-plan c = assigned_back c.args.sys.now c.in_ok-budgets.budgets.len
 
 pub returns-clause-complete : goal.returns-clause-complete
 returns-clause-complete c = λ budgets assigned. one_assignment c.args.sys.now c.rooms.ensures.system _ budgets (returns-clause-plan c) assigned
+
+pub returns-clause-in_period : goal.returns-clause-in_period
+returns-clause-in_period c = assigned_is_plan c.args.sys.now c.rooms.ensures.system _ (returns-clause-plan c)
 
 pub returns-clause-as_composed : goal.returns-clause-as_composed
 returns-clause-as_composed c = λ budgets admitted. one_assignment c.args.sys.now c.rooms.ensures.system _ budgets (returns-clause-plan c) admitted.assigned

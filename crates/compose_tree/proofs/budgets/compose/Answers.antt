@@ -2,6 +2,7 @@ use Rattle.std.proofs.Common.{◌≡◌, ℕ, List, ◌++◌, length, take, drop
 use Rattle.std.proofs.lemmas.Result.{err_from_is_err_and}
 use Rattle.tree_model.specs.View.{SystemView}
 use Rattle.tree_model.specs.Admission.{Assigned, Admitted}
+use Rattle.tree_model.proofs.InRange.{assigned_is_plan}
 use Rattle.tree_model.proofs.Unique.{one_admission}
 use Rattle.compose_tree.specs.Steps.{PartsPassFrom, CoresPassTo}
 use Rattle.compose_tree.proofs.Sound.{admitted_no_loss, admitted_tight}
@@ -20,6 +21,9 @@ returns-clause-plan c =
 
 pub returns-clause-complete : goal.returns-clause-complete
 returns-clause-complete c = λ budgets admitted. one_admission c.args.sys.now c.rooms.ensures.system _ budgets (returns-clause-plan c) admitted
+
+pub returns-clause-in_period : goal.returns-clause-in_period
+returns-clause-in_period c = assigned_is_plan c.args.sys.now c.rooms.ensures.system _ (returns-clause-plan c).assigned
 
 pub returns-clause-no_loss : goal.returns-clause-no_loss
 returns-clause-no_loss c = admitted_no_loss c.args.sys.now c.rooms.ensures.system _ (returns-clause-plan c)

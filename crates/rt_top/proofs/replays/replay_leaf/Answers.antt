@@ -8,7 +8,8 @@ use Rattle.tree_model.specs.Tree.{node_tasks}
 use Rattle.tree_model.specs.declared.place.Place.TheVariants.{Part}
 use Rattle.tree_model.specs.View.{PartView}
 use Rattle.tree_model.proofs.NodeTasks.{part_here}
-use Rattle.rt_top.proofs.ReplayLeaf.{LeafRead, admitted_in_period, leaf_tasks_read, none_smaller, read_least, read_replay}
+use Rattle.tree_model.proofs.InRange.{admitted_in_period}
+use Rattle.rt_top.proofs.ReplayLeaf.{LeafRead, leaf_tasks_read, none_smaller, read_least, read_replay}
 use Rattle.rt_top.proofs.replays.replay_leaf.Goals as goal
 
 pub witness-witness-requires-clause-some_budget : goal.witness-witness-requires-clause-some_budget
