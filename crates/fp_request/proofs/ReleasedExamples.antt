@@ -1,4 +1,5 @@
--- Worked examples of released work and of its bound, by hand. A wrong definition breaks one of them.
+-- Worked examples of released work and of its bound, by hand. A wrong definition breaks one of
+-- them.
 use Rattle.std.proofs.Common.{◌≡◌, ℕ, zero, suc, ◌+◌, ◌<◌, ◌≤◌, true, List, [], ◌∷◌, refl, arith}
 use Rattle.slot_model.specs.declared.job.Job.{Job}
 use Rattle.slot_model.specs.Slots.{sum_below}
@@ -44,6 +45,7 @@ one_job_is_legal = legal_where_apart two_tasks late_job fits (λ i l j k m n. ab
     fits zero l = refl
     fits (suc j) l = absurd (omega arith)
 
--- whatever bounds the requests of 5 slots bounds this job by the request of the last task, which is 3
+-- whatever bounds the requests of 5 slots bounds this job by the request of the last task, which is
+-- 3
 the_last_task_is_bounded_in_any_window : RequestsBound two_tasks 5 → work_released late_job 1 40 45 ≤ 3
 the_last_task_is_bounded_in_any_window bounds = bounds late_job one_job_is_legal 1 40 (omega arith)

@@ -1,4 +1,5 @@
--- The ranks of tasks are strict total orders of their places, and every way to choose keeps the laws of an order of jobs.
+-- The ranks of tasks are strict total orders of their places, and every way to choose keeps the
+-- laws of an order of jobs.
 use Rattle.std.proofs.Common.{◌≡◌, ◌≢◌, ◌⊎◌, ℕ, ◌+◌, ◌<◌, Bool, true, false, ltb, List, sym, ◌∙◌, arith, subst, inl, inr, lt-ltb, le-ltb, ltb-true, eq-eqb, eqb-true}
 use Rattle.std.proofs.lemmas.Bool.{cases_lt, cases_order, or_left, or_right, and_from, and_parts, or_cases, false_from_ne_true, both_ways}
 use Rattle.slot_model.specs.Task.{SporadicTask, task_at}

@@ -24,8 +24,8 @@ pub fn request(sched: Sched, tasks: &[Task], i: u32, t: u128) -> Option<u128>
     Some(sum)
 }
 
-/// The work that one task's jobs ask for if they are released in `t` slots, and so arrive in as many
-/// and the task's jitter.
+/// The work that one task's jobs ask for if they are released in `t` slots, and so arrive in as
+/// many and the task's jitter.
 fn request_of_task(task: &Task, t: u128) -> Option<u128>
     ensures { MatchOption result (2 ^ 128 ≤ request_of (sporadic_task task.now) t) (λ r. r ≡ request_of (sporadic_task task.now) t) }
 {

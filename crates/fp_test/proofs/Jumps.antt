@@ -1,4 +1,5 @@
--- What the jumps of the test pass over: from an amount of work to the least window whose bound is that amount.
+-- What the jumps of the test pass over: from an amount of work to the least window whose bound is
+-- that amount.
 use Rattle.std.proofs.Common.{◌≡◌, ℕ, zero, suc, ◌<◌, ◌≤◌, Bool, List, length, Some, arith, inl, inr}
 use Rattle.std.proofs.lemmas.Bool.{cases_lt}
 use Rattle.slot_model.specs.Supply.{SupplyLaws}
@@ -39,7 +40,8 @@ passed_first above tasks fits bound i asked li e = record {
   below = λ u lu l. omega (arith, rbf-rises above tasks fits i 1 u lu);
 }
 
--- the least window with the bound `asked` that asks for more passes all windows whose bound is below that
+-- the least window with the bound `asked` that asks for more passes all windows whose bound is
+-- below that
 pub passed_more : (above : ℕ → ℕ → Bool) (tasks : List SporadicTask) → AreConstrained tasks
     → {bound : ℕ → ℕ} {amount cycle : ℕ} {pattern : ℕ → Bool} {start : ℕ} {Conforms : List Bool → Type 0} → SupplyLaws bound amount cycle pattern start Conforms
     → (i asked t more : ℕ) → Passed above tasks bound i asked → IsReach bound asked (Some t) → more ≡ rbf above tasks i t → asked < more → Passed above tasks bound i more
@@ -60,13 +62,15 @@ passed_hit above tasks {bound} laws i asked t passed reach d l = (
   λ u lu h. omega (arith, h.enough, passed.below u h.some_slots (below_reach laws asked t reach.1 u lu)),
 )
 
--- where the least window with the bound `asked` is past the deadline, or past 2^128, there is no hit
+-- where the least window with the bound `asked` is past the deadline, or past 2^128, there is no
+-- hit
 pub passed_late : (above : ℕ → ℕ → Bool) (tasks : List SporadicTask)
     → {bound : ℕ → ℕ} {amount cycle : ℕ} {pattern : ℕ → Bool} {start : ℕ} {Conforms : List Bool → Type 0} → SupplyLaws bound amount cycle pattern start Conforms
     → (i asked t : ℕ) → Passed above tasks bound i asked → ((u : ℕ) → u < t → bound u ≡ asked → ⊥) → room_of (task_at tasks i) < t → IsShortTask above tasks bound i
 passed_late above tasks laws i asked t passed first d u lu lt = passed.below u lu (below_reach laws asked t first u (omega arith))
 
--- where a window asks for more than any number of slots up to the deadline, there is no hit from it on
+-- where a window asks for more than any number of slots up to the deadline, there is no hit from it
+-- on
 pub passed_wide : (above : ℕ → ℕ → Bool) (tasks : List SporadicTask) → AreConstrained tasks
     → {bound : ℕ → ℕ} {amount cycle : ℕ} {pattern : ℕ → Bool} {start : ℕ} {Conforms : List Bool → Type 0} → SupplyLaws bound amount cycle pattern start Conforms
     → (i t : ℕ) → ((u : ℕ) → 1 ≤ u → u < t → bound u < rbf above tasks i u) → room_of (task_at tasks i) < rbf above tasks i t → IsShortTask above tasks bound i

@@ -55,7 +55,8 @@ pub only_list : (pattern : ℕ → Bool) (n : ℕ) (windows : List Window) (give
 only_list pattern n windows given made follows long =
     ext_get_or false (slots_of windows n) given (slots-long windows n ∙ sym long) (λ i l. made i l ∙ sym (follows i (omega (arith, slots-long windows n))))
 
--- the worst pattern of a periodic resource, where the budget is some of the period: the first budget
+-- the worst pattern of a periodic resource, where the budget is some of the period: the first
+-- budget
 pub before_budget : (period budget x : ℕ) → x < budget → worst_slot period budget x ≡ true
 before_budget period budget x l = or_left (nat_lt x budget) (nat_le period x && nat_le (period - budget) (x % period)) (lt-ltb x budget l)
 

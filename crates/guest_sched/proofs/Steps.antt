@@ -126,7 +126,8 @@ kept_start level before tasks jobs slots state start by h none full ends = recor
   ends = ends;
 }
 
--- a state when the jobs have come that are released by its moment, and those are given up that end by it
+-- a state when the jobs have come that are released by its moment, and those are given up that end
+-- by it
 pub record IsCurrent (state : Ready) : Type 0 where
   pub is_state : IsReady state
   pub come : HaveCome state state.time
@@ -189,7 +190,8 @@ span_more level before tasks jobs windows n run state stretch span after f by en
     span_run level before tasks jobs (slots_of windows n) stretch.given span.job (span.until - state.time) state.time run f (steady_span level before tasks jobs windows n run state stretch span after by ends lacks long now are same v given)
     (served_entry level before tasks jobs run state.time state.ready.items are stretch.given span.job v.served)
 
--- after one span more: `came` is the state when the jobs have come, and `after` the state when one is served
+-- after one span more: `came` is the state when the jobs have come, and `after` the state when one
+-- is served
 pub kept_more : (level : Level) (before : Job → Job → Bool) (tasks : List SporadicTask) (jobs : List Job) (windows : List Window) (n : ℕ) (run more : List (Option ℕ)) (state came after : Ready) (stretch : Stretch) (span : Span) → Kept level before tasks jobs (slots_of windows n) run state
     → IsCurrent came → came.time ≡ state.time → came.releases.items ≡ state.releases.items → came.left.items ≡ state.left.items → came.ends.items ≡ state.ends.items
     → IsStretch windows state.time n stretch → Serves before jobs came stretch span after → more ≡ run ++ entries_of span → Kept level before tasks jobs (slots_of windows n) more after

@@ -1,4 +1,5 @@
--- What is short over a lawful supply defeats it: the synchronous release over the worst pattern misses.
+-- What is short over a lawful supply defeats it: the synchronous release over the worst pattern
+-- misses.
 use Rattle.std.proofs.Common.{◌≡◌, ℕ, ◌<◌, ◌≤◌, Bool, List, length, Some, sym, subst}
 use Rattle.slot_model.specs.declared.sched.Sched.{Sched}
 use Rattle.slot_model.specs.declared.sched.Sched.TheVariants.{Edf, Rm, Dm, Listed}
@@ -34,7 +35,8 @@ pub budget_defeated : (sched : Sched) (tasks : List SporadicTask) → AreConstra
 budget_defeated sched tasks fits period budget l m short span e h =
     subst (λ (z : ℕ). (slots : List Bool) → WorstList (worst_slot period budget) budget z slots → GivesBudget period budget slots × MissesFromStart (worst_slot period budget) budget z (before_of sched tasks) tasks slots) e (shortfall_defeats sched tasks fits (periodic_laws period budget l m) short h)
 
--- a task that is short first is one of the tasks, and its window is what its deadline leaves past its jitter
+-- a task that is short first is one of the tasks, and its window is what its deadline leaves past
+-- its jitter
 pub short_task_inside : (sched : Sched) (tasks : List SporadicTask) (bound : ℕ → ℕ) (i : ℕ) → IsShortfall sched tasks bound (Task i) → i < length tasks
 short_task_inside Edf tasks bound i h = absurd h
 short_task_inside Rm tasks bound i h = h.is_task

@@ -1,4 +1,5 @@
--- There is one defeat of the budget below the least: a part left out of the definition would let two stand.
+-- There is one defeat of the budget below the least: a part left out of the definition would let
+-- two stand.
 use Rattle.std.proofs.Common.{◌≡◌, ℕ, Bool, List, Option, Some, None, refl, sym, ◌∙◌, ap, arith, subst}
 use Rattle.slot_model.specs.declared.sched.Sched.{Sched}
 use Rattle.slot_model.specs.declared.sched.Sched.TheVariants.{Edf, Rm, Dm, Listed}

@@ -7,7 +7,8 @@ use Rattle.slot_model.specs.Order.{ranks_above}
 use Rattle.slot_model.specs.Bound.{sbf, IsFirstShortPoint, IsFirstShortTask}
 use Rattle.miss_witness.specs.declared.defeat.Defeat.{Defeat}
 
--- the window that is short: up to the least short point under edf, else what the deadline of the first task without a hit leaves past its jitter
+-- the window that is short: up to the least short point under edf, else what the deadline of the
+-- first task without a hit leaves past its jitter
 abbrev pub IsShortTaskWindow : (ℕ → ℕ → Bool) → List SporadicTask → (ℕ → ℕ) → ℕ → Option ℕ → Type 0
 IsShortTaskWindow above tasks bound span None = ⊥
 IsShortTaskWindow above tasks bound span (Some i) = IsFirstShortTask above tasks bound i × (span ≡ room_of (task_at tasks i))
@@ -19,7 +20,8 @@ IsShortWindow Rm tasks bound span task = IsShortTaskWindow (ranks_above Rm tasks
 IsShortWindow Dm tasks bound span task = IsShortTaskWindow (ranks_above Dm tasks) tasks bound span task
 IsShortWindow Listed tasks bound span task = IsShortTaskWindow (ranks_above Listed tasks) tasks bound span task
 
--- the defeat of the budget one below the least, whose worst pattern starts where its first budget is spent
+-- the defeat of the budget one below the least, whose worst pattern starts where its first budget
+-- is spent
 pub record IsDefeat (sched : Sched) (tasks : List SporadicTask) (period least : ℕ) (defeat : Defeat) : Type 0 where
   pub next_smaller : defeat.budget + 1 ≡ least
   pub at_start : defeat.start ≡ defeat.budget

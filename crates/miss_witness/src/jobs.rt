@@ -7,9 +7,9 @@ use release_pattern::synchronous_jobs;
 use slot_model::{Job, Task};
 use std::alloc::{AllocError, Global};
 
-/// The jobs of a defeat: every task releases at its start, with its whole jitter behind it, and then
-/// as its jobs arrive, once a period, within its span, always with full work. They stand by release,
-/// and of one moment by place.
+/// The jobs of a defeat: every task releases at its start, with its whole jitter behind it, and
+/// then as its jobs arrive, once a period, within its span, always with full work. They stand by
+/// release, and of one moment by place.
 pub fn witness_jobs(alloc: Global, tasks: &[Task], w: &Defeat) -> Result<Vec<Job>, AllocError>
     requires in_reach { w.now.start + w.now.span ≤ 1000000 }
     requires few { length tasks.now ≤ 256 }

@@ -23,7 +23,8 @@ pub fn witness(sched: Sched, tasks: &[Task], period: u64, least: u64) -> Defeat
     requires falls_short { Passes sched (sporadic_tasks tasks.now) (sbf period (least - 1)) → ⊥ }
     ensures defeat { IsDefeat sched (sporadic_tasks tasks.now) period least result }
 
-    // Over the worst pattern the synchronous release misses in every permitted run, whatever its length.
+    // Over the worst pattern the synchronous release misses in every permitted run, whatever its
+    // length.
     ensures misses { let T = sporadic_tasks tasks.now in let pattern = worst_slot period result.budget in
         (slots : List Bool) → WorstList pattern result.start result.span slots → GivesBudget period result.budget slots × MissesFromStart pattern result.start result.span (before_of sched T) T slots }
     ensures must_miss { let T = sporadic_tasks tasks.now in

@@ -1,4 +1,5 @@
--- The synchronous release task by task: what the code adds, and that they are the synchronous release in another order.
+-- The synchronous release task by task: what the code adds, and that they are the synchronous
+-- release in another order.
 use Rattle.std.proofs.Common.{◌≡◌, ◌||◌, ℕ, zero, suc, min, ◌+◌, ◌-◌, ◌*◌, ◌/◌, ◌%◌, ◌<◌, ◌≤◌, Bool, true, false, cond, eqb, List, [], ◌∷◌, ◌++◌, length, get_or, refl, sym, ◌∙◌, ap, arith, subst, eq-eqb, inl, inr, add-one}
 use Rattle.std.specs.List.{All, sum_by}
 use Rattle.std.proofs.Math.Nat.{mul-mod_left}
@@ -105,8 +106,9 @@ unfolding releases_by_task
 by_task-whole tasks start span zero = All-nil (IsWhole tasks start)
 by_task-whole tasks start span (suc n) = All-append (IsWhole tasks start) (releases_by_task tasks start span n) (task_releases tasks start n span) (by_task-whole tasks start span n) (task_whole tasks start n span)
 
--- what the loop that adds a task's jobs keeps: the next job is released `after` slots after the start, and arrived `early` slots before,
--- and where the loop has gone past the span, the last release before it is within the span
+-- what the loop that adds a task's jobs keeps: the next job is released `after` slots after the
+-- start, and arrived `early` slots before, and where the loop has gone past the span, the last
+-- release before it is within the span
 pub record Added (tasks : List SporadicTask) (start i after early span : ℕ) (old jobs : List Job) : Type 0 where
   pub next_due : releases_now (task_at tasks i) after ≡ true
   pub is_early : early ≡ early_at after (task_at tasks i).jitter

@@ -1,5 +1,5 @@
-//! Runs from event to event beside a plain program that goes slot by slot, over systems that a small
-//! generator makes.
+//! Runs from event to event beside a plain program that goes slot by slot, over systems that a
+//! small generator makes.
 
 use guest_sched::{Span, run_spans, server_spans, windows_of};
 use slot_model::{Edf, Job, Task, is_legal};

@@ -27,7 +27,8 @@ child_core sys c v h = go (part_at sys v).parent h
     go (on_core d) e = eqb-true d c e
     go (on_part q) e = cc
 
--- the last row among those at or before x is the last of the first k, where those are the rows at or before x
+-- the last row among those at or before x is the last of the first k, where those are the rows at
+-- or before x
 by_prefix : (p : Row → Bool) (rows : List Row) (x n : ℕ) → ((i : ℕ) → i < n → (row_at rows i).at ≤ x) → last_row (λ r. is_by x r && p r) rows n ≡ last_row p rows n
 by_prefix p rows x zero h = last_row-zero (λ r. is_by x r && p r) rows ∙ sym (last_row-zero p rows)
 by_prefix p rows x (suc n) h =

@@ -79,8 +79,8 @@ without_extra_printed : printed (host false) both_start (without_extra ∷ []) 1
 unfolding printed_below gathered last_row
 without_extra_printed = refl
 
--- A starts at 1 and blocks at 2, so its core stops and B, which starts there, gets it. A wakes at 4 with two slots left and
--- the earlier deadline.
+-- A starts at 1 and blocks at 2, so its core stops and B, which starts there, gets it. A wakes at 4
+-- with two slots left and the earlier deadline.
 abbrev one_blocks : List Wake
 one_blocks = row 1 0 Start ∷ row 2 1 Start ∷ row 2 0 Block ∷ row 4 0 ToWake ∷ []
 

@@ -1,5 +1,5 @@
--- RTDS gives VCPUs that can always run their budgets: what they have on level 0 is a permitted run of their servers under
--- earliest deadline first.
+-- RTDS gives VCPUs that can always run their budgets: what they have on level 0 is a permitted run
+-- of their servers under earliest deadline first.
 use Rattle.std.proofs.Common.{◌≡◌, ◌⊎◌, ℕ, zero, suc, min, ◌+◌, ◌*◌, ◌-◌, ◌/◌, ◌%◌, ◌<◌, ◌≤◌, Bool, true, false, cond, if◌then◌else◌, not, ltb, leb, nat_lt, ◌&&◌, ◌||◌, List, length, map, get_or, Option, Some, None, refl, sym, ◌∙◌, ap, arith, subst, inl, inr, eq-eqb, le-leb, leb-true, lt-ltb, le-ltb, ltb-true, zero-add, add-zero}
 use Rattle.std.specs.List.{range_with_len}
 use Rattle.std.proofs.Math.Nat.{mul-mod_left, div-eq_of_lt}

@@ -1,4 +1,5 @@
--- The state of a simulation before a slot: its accounts, its holders and its events are those of the run so far.
+-- The state of a simulation before a slot: its accounts, its holders and its events are those of
+-- the run so far.
 use Rattle.std.proofs.Common.{◌≡◌, ◌≢◌, ℕ, zero, suc, ◌+◌, ◌-◌, ◌^◌, ◌<◌, ◌≤◌, true, List, [], length, Option, None, refl, sym, ◌∙◌, ap, arith, subst, inl, inr}
 use Rattle.std.specs.Prelude.{is_some}
 use Rattle.std.proofs.lemmas.Bool.{cases_lt, false≢true}

@@ -75,7 +75,8 @@ core_in sys is v l = go (part_at sys v).parent (is.parents v l)
     go (on_core c) s = s
     go (on_part q) s = omega (arith, is.some_core)
 
--- what is known at slot x, whose rows are taken and whose cores have their VCPUs, and of a later slot
+-- what is known at slot x, whose rows are taken and whose cores have their VCPUs, and of a later
+-- slot
 pub record IsNext (sys : SystemView) (budgets : List ℕ) (rows : List Row) (runs : List (List (Option ℕ))) (x k : ℕ) (accounts : List Account) (holders : List (Option ℕ)) (to : ℕ) : Type 0 where
   pub taken : AreBefore rows k (suc x)
   pub are : AreAccounts sys rows runs x k accounts
@@ -200,7 +201,8 @@ module _ (sys : SystemView) (system : IsSystem sys) (budgets : List ℕ) (plan :
     pub alike : to ≤ n → (z : ℕ) → x ≤ z → z < to → held run z ≡ held run x
     alike fits z a b = alike_to fits (to - x) (omega (arith, next.later)) z a (omega (arith, next.later))
 
-  -- the account of a VCPU at the next slot, by whether its period ends there and whether it has its core
+  -- the account of a VCPU at the next slot, by whether its period ends there and whether it has its
+  -- core
   ended_account : (v : ℕ) → v < length sys.parts → (r : List (Option ℕ)) (a : Account) → IsAccount sys rows r v x k a → a.started ≡ true → to ≡ a.from + (part_at sys v).period → IsAccount sys rows r v to k (record a { from = to; used = 0 })
   ended_account v l r a h on end =
       let p : IsInPeriod sys rows r v x a = h.in_period on in

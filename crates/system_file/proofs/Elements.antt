@@ -1,4 +1,5 @@
--- Lists that are seen through a map: the names of a set, and the arrays and the tables of a document.
+-- Lists that are seen through a map: the names of a set, and the arrays and the tables of a
+-- document.
 use Rattle.std.proofs.lemmas.List.{map-append, length-map}
 use Rattle.std.proofs.Common.{◌≡◌, ℕ, ◌+◌, Bool, false, not, cond, ◌||◌, ◌++◌, List, [], ◌∷◌, map, length, String, Global, string_bytes, refl, ap, Bor}
 use Rattle.std.specs.Prelude.{position, bytes_eq}

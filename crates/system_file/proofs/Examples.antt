@@ -1,4 +1,5 @@
--- Files and documents worked out by the checker: good ones, and refused ones with the fault that counts first.
+-- Files and documents worked out by the checker: good ones, and refused ones with the fault that
+-- counts first.
 use Rattle.slot_model.specs.Task.{plain_task}
 use Rattle.std.specs.Prelude.{◌≡◌, codes, [], ◌∷◌, List, ℕ, ℤ, pos, negsuc, Ok, Err, Some, None, false, refl}
 use Rattle.slot_model.specs.declared.sched.Sched.TheVariants.{Edf, Rm}

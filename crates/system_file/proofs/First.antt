@@ -1,4 +1,5 @@
--- The first fault of a list that is put together from several, and names that are looked for among elements.
+-- The first fault of a list that is put together from several, and names that are looked for among
+-- elements.
 use Rattle.std.proofs.lemmas.List.{map-append}
 use Rattle.std.proofs.Common.{◌≡◌, ℕ, ◌+◌, ◌<◌, ◌||◌, List, [], ◌∷◌, ◌++◌, map, length, take, drop, Some, refl, sym, ap, ◌∙◌, codes, drop-cons, get_or, add-one}
 use Rattle.std.specs.Prelude.{bytes_eq}

@@ -1,4 +1,5 @@
--- Names of printed elements: where one of different names is found, and that a new one is not taken.
+-- Names of printed elements: where one of different names is found, and that a new one is not
+-- taken.
 use Rattle.std.proofs.Common.{◌≡◌, ℕ, ◌+◌, ◌<◌, true, false, List, [], ◌∷◌, ◌++◌, map, length, get_or, take, Some, None, codes, refl, sym, ap, ◌∙◌, arith, inl, inr, subst}
 use Rattle.std.specs.Prelude.{position, bytes_eq}
 use Rattle.std.specs.List.{list_any}

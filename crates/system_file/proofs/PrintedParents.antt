@@ -1,4 +1,5 @@
--- Printed cores have no fault and are spelled back, and the parent of a printed part is found by its name.
+-- Printed cores have no fault and are spelled back, and the parent of a printed part is found by
+-- its name.
 use Rattle.std.proofs.Common.{◌≡◌, ℕ, ◌<◌, true, false, List, [], ◌∷◌, ◌++◌, map, length, get_or, Some, None, sym, ap, ◌∙◌, arith, subst}
 use Rattle.std.specs.Prelude.{position, bytes_eq}
 use Rattle.std.proofs.lemmas.List.{length-map, map-append, get_or-map, length-append, get_or_append_left}

@@ -153,7 +153,8 @@ faultless_is_system top h =
     (few_there Top 512 (get (codes "part") top) (none_right (required Top core_array_faults (get (codes "core") top)) _ arrays))
     no_empty
 
--- What comes after the faults of the top table, over the format and the elements of the two arrays as a reader has them.
+-- What comes after the faults of the top table, over the format and the elements of the two arrays
+-- as a reader has them.
 module _ (top : Data) (format : Format) (cs ps : List Data) (in_top : top_faults top ≡ []) (format_is : format ≡ format_of top) (cores_are : cs ≡ cores_of top) (parts_are : ps ≡ parts_of top) (no_core : in_order core_faults [] cs ≡ []) where
   core_none : in_order core_faults [] (cores_of top) ≡ []
   core_none = ap (in_order core_faults []) (sym cores_are) ∙ no_core
