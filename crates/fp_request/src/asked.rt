@@ -12,7 +12,11 @@ use slot_model::{Sched, Task};
 pub fn request(sched: Sched, tasks: &[Task], i: u32, t: u128) -> Option<u128>
     requires fixed { sched ≢ Sched.Edf }
     requires i_named { i < length tasks.now }
-    ensures exact { MatchOption result (2 ^ 128 ≤ rbf (ranks_above sched (sporadic_tasks tasks.now)) (sporadic_tasks tasks.now) i t) (λ r. r ≡ rbf (ranks_above sched (sporadic_tasks tasks.now)) (sporadic_tasks tasks.now) i t) }
+    ensures exact { MatchOption result
+        (2 ^ 128 ≤
+        rbf (ranks_above sched (sporadic_tasks tasks.now)) (sporadic_tasks tasks.now) i t)
+        (λ r. r ≡
+        rbf (ranks_above sched (sporadic_tasks tasks.now)) (sporadic_tasks tasks.now) i t) }
     ensures bounds { RequestsBound (sporadic_tasks tasks.now) t }
 {
     let mut sum = tasks[i as usize].work as u128;
@@ -27,7 +31,8 @@ pub fn request(sched: Sched, tasks: &[Task], i: u32, t: u128) -> Option<u128>
 /// The work that one task's jobs ask for if they are released in `t` slots, and so arrive in as
 /// many and the task's jitter.
 fn request_of_task(task: &Task, t: u128) -> Option<u128>
-    ensures { MatchOption result (2 ^ 128 ≤ request_of (sporadic_task task.now) t) (λ r. r ≡ request_of (sporadic_task task.now) t) }
+    ensures { MatchOption result (2 ^ 128 ≤ request_of (sporadic_task task.now) t)
+        (λ r. r ≡ request_of (sporadic_task task.now) t) }
 {
     arrivals(t, task.period, task.jitter).checked_mul(task.work as u128)
 }

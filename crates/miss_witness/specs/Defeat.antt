@@ -11,18 +11,23 @@ use Rattle.miss_witness.specs.declared.defeat.Defeat.{Defeat}
 -- first task without a hit leaves past its jitter
 abbrev pub IsShortTaskWindow : (ℕ → ℕ → Bool) → List SporadicTask → (ℕ → ℕ) → ℕ → Option ℕ → Type 0
 IsShortTaskWindow above tasks bound span None = ⊥
-IsShortTaskWindow above tasks bound span (Some i) = IsFirstShortTask above tasks bound i × (span ≡ room_of (task_at tasks i))
+IsShortTaskWindow above tasks bound span (Some i) =
+    IsFirstShortTask above tasks bound i × (span ≡ room_of (task_at tasks i))
 
 abbrev pub IsShortWindow : Sched → List SporadicTask → (ℕ → ℕ) → ℕ → Option ℕ → Type 0
 IsShortWindow Edf tasks bound span None = IsFirstShortPoint tasks bound span
 IsShortWindow Edf tasks bound span (Some i) = ⊥
-IsShortWindow Rm tasks bound span task = IsShortTaskWindow (ranks_above Rm tasks) tasks bound span task
-IsShortWindow Dm tasks bound span task = IsShortTaskWindow (ranks_above Dm tasks) tasks bound span task
-IsShortWindow Listed tasks bound span task = IsShortTaskWindow (ranks_above Listed tasks) tasks bound span task
+IsShortWindow Rm tasks bound span task =
+    IsShortTaskWindow (ranks_above Rm tasks) tasks bound span task
+IsShortWindow Dm tasks bound span task =
+    IsShortTaskWindow (ranks_above Dm tasks) tasks bound span task
+IsShortWindow Listed tasks bound span task =
+    IsShortTaskWindow (ranks_above Listed tasks) tasks bound span task
 
 -- the defeat of the budget one below the least, whose worst pattern starts where its first budget
 -- is spent
-pub record IsDefeat (sched : Sched) (tasks : List SporadicTask) (period least : ℕ) (defeat : Defeat) : Type 0 where
+pub record IsDefeat (sched : Sched) (tasks : List SporadicTask) (period least : ℕ)
+    (defeat : Defeat) : Type 0 where
   pub next_smaller : defeat.budget + 1 ≡ least
   pub at_start : defeat.start ≡ defeat.budget
   pub short : IsShortWindow sched tasks (sbf period defeat.budget) defeat.span defeat.task

@@ -25,8 +25,11 @@ pub fn witness(sched: Sched, tasks: &[Task], period: u64, least: u64) -> Defeat
 
     // Over the worst pattern the synchronous release misses in every permitted run, whatever its
     // length.
-    ensures misses { let T = sporadic_tasks tasks.now in let pattern = worst_slot period result.budget in
-        (slots : List Bool) → WorstList pattern result.start result.span slots → GivesBudget period result.budget slots × MissesFromStart pattern result.start result.span (before_of sched T) T slots }
+    ensures misses { let T = sporadic_tasks tasks.now in
+        let pattern = worst_slot period result.budget in
+        (slots : List Bool) → WorstList pattern result.start result.span slots →
+        GivesBudget period result.budget slots ×
+        MissesFromStart pattern result.start result.span (before_of sched T) T slots }
     ensures must_miss { let T = sporadic_tasks tasks.now in
         (budget : ℕ) → budget < least → MustMiss (GivesBudget period budget) (before_of sched T) T }
 {
