@@ -13,7 +13,7 @@ use Rattle.tree_model.specs.CertificateView.{NodeView}
 use Rattle.tree_model.specs.View.{PartView, SystemView}
 use Rattle.tree_model.specs.System.{IsSystem, core_at, part_at}
 use Rattle.tree_model.specs.Tree.{core_bound, core_cycle, budget_at, node_tasks, node_sched, given_budget, core_budget, node_cycle, node_bound}
-use Rattle.tree_model.specs.Admission.{Admitted, Assigned, BudgetStands}
+use Rattle.tree_model.specs.Admission.{NodePasses, Admitted, BudgetStands}
 use Rattle.tree_model.proofs.InRange.{admitted_in_period}
 use Rattle.cert_reader.specs.Proves.{no_node, node_at, nth_place, AreNodes, HasBudget, IsBudget, budgets_of}
 use Rattle.cert_reader.proofs.Admits.{budget_here, one_budget_each}
@@ -165,3 +165,18 @@ none_of o given b e same = sym (flip (is_some o) b e) ∙ (other o ∙ ap (λ (x
     other : (x : Option ℕ) → not (is_some x) ≡ is_none x
     other None = refl
     other (Some n) = refl
+
+-- the test of a node, as it is read
+pub core_test : (sys : SystemView) (budgets : List ℕ) (c : ℕ) → NodePasses sys budgets (Core c) → (core : CoreView) → core ≡ core_at sys c → (tasks : List SporadicTask) → tasks ≡ node_tasks sys budgets (Core c)
+    → IsSmall core.sched tasks (core_cycle core.supply) × Passes core.sched tasks (core_bound core.supply)
+core_test sys budgets c passes core here tasks same =
+    subst (λ (k : CoreView). IsSmall k.sched tasks (core_cycle k.supply) × Passes k.sched tasks (core_bound k.supply)) (sym here)
+    (subst (λ (ts : List SporadicTask). IsSmall (core_at sys c).sched ts (core_cycle (core_at sys c).supply) × Passes (core_at sys c).sched ts (core_bound (core_at sys c).supply)) (sym same) passes)
+
+pub part_test : (sys : SystemView) (budgets : List ℕ) (q : ℕ) → NodePasses sys budgets (Part q) → (part : PartView) → part ≡ part_at sys q → (tasks : List SporadicTask) → tasks ≡ node_tasks sys budgets (Part q)
+    → (sched : Sched) → sched ≡ part.sched → (period : ℕ) → period ≡ part.period → IsSmall sched tasks period × Passes sched tasks (sbf period (budget_at budgets q))
+part_test sys budgets q passes part here tasks same sched is_sched period is_period =
+    subst (λ (s : Sched). IsSmall s tasks period × Passes s tasks (sbf period (budget_at budgets q))) (sym is_sched)
+    (subst (λ (z : ℕ). IsSmall part.sched tasks z × Passes part.sched tasks (sbf z (budget_at budgets q))) (sym is_period)
+    (subst (λ (p : PartView). IsSmall p.sched tasks p.period × Passes p.sched tasks (sbf p.period (budget_at budgets q))) (sym here)
+    (subst (λ (ts : List SporadicTask). IsSmall (part_at sys q).sched ts (part_at sys q).period × Passes (part_at sys q).sched ts (sbf (part_at sys q).period (budget_at budgets q))) (sym same) passes)))
