@@ -38,6 +38,24 @@ fn spans_of(
     run_spans(alloc, tasks, jobs, &Edf, given, 22)
 }
 
+/// The misses, the first miss and the counts of that schedule.
+fn counted(
+    alloc: Global,
+    tasks: &[Task],
+    jobs: &[Job],
+    given: &[Window],
+) -> Result<(u64, Option<Miss>, Counts), AllocError>
+    requires legal { LegalRelease (sporadic_tasks tasks.now) jobs.now }
+    requires few { length jobs.now < 2 ^ 32 }
+    requires windows { AreWindows given.now 22 }
+{
+    let spans = spans_of(alloc, tasks, jobs, given)?;
+    let missed = misses(alloc, jobs, tasks, &spans)?;
+    let first = first_miss(alloc, jobs, tasks, &spans)?;
+    let counts = count_level(alloc, tasks, jobs, given, &spans, 22)?;
+    Ok((missed, first, counts))
+}
+
 /// One task of 3 in 10 slots. The first job gets 1 slot of its 3 by slot 10, the second all of its
 /// slots, and the deadline moment of the third is past the run.
 #[test]
@@ -55,7 +73,6 @@ fn a_miss_and_what_else_is_counted(rt: HostRuntime) -> Result<(), Fail> {
     if !is_legal(&tasks, &jobs) {
         return Ok(());
     }
-    let spans = spans_of(alloc, &tasks, &jobs, &given)?;
     let miss = Miss {
         task: 0,
         release: 0,
@@ -69,11 +86,9 @@ fn a_miss_and_what_else_is_counted(rt: HostRuntime) -> Result<(), Fail> {
         missed: 1,
         first: Some(miss),
     };
-    assert_eq!(rt; misses(alloc, &jobs, &tasks, &spans)?, 1);
-    assert_eq!(rt; first_miss(alloc, &jobs, &tasks, &spans)?, Some(miss));
-    assert_eq!(rt;
-        count_level(alloc, &tasks, &jobs, &given, &spans, 22)?,
-        counts
-    );
+    let (missed, first, counted) = counted(alloc, &tasks, &jobs, &given)?;
+    assert_eq!(rt; missed, 1);
+    assert_eq!(rt; first, Some(miss));
+    assert_eq!(rt; counted, counts);
     Ok(())
 }
