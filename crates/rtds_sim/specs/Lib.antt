@@ -3,4 +3,5 @@ pub mod Rtds
 pub mod Printed
 pub mod Giving
 pub mod Accounts
+pub mod Members
 pub mod Fault

@@ -2,10 +2,12 @@ ghost use Rattle.std.specs.Prelude.{◌≡◌, ℕ, ◌≤◌, ◌<◌, ◌+◌,
 ghost use Rattle.tree_model.specs.System.{part_at};
 ghost use Rattle.tree_model.specs.Tree.{budget_at};
 ghost use Rattle.tree_model.specs.Plans.{IsPlan};
+ghost use Rattle.rtds_sim.specs.Members.{AreMembersFrom};
 ghost use Rattle.rtds_sim.specs.Accounts.{account_at, rank_of, ranks_before, better_rank, IsChoice};
 
 use crate::account::Account;
-use tree_model::{Place, Plan, System};
+use crate::members::Members;
+use tree_model::{MAX_PARTS, Place, Plan, System};
 
 /// Which of two VCPUs goes first: the one of the lower level, then of the earlier deadline, then
 /// the first in the file.
@@ -79,7 +81,15 @@ fn better(best: Option<Rank>, next: Option<Rank>) -> Option<Rank>
 }
 
 /// The VCPU to which core `core` goes.
-pub fn choose(sys: &System, plan: &Plan, accounts: &[Account], core: u32) -> Option<u32>
+pub fn choose(
+    sys: &System,
+    plan: &Plan,
+    accounts: &[Account],
+    members: &Members,
+    core: u32,
+) -> Option<u32>
+    requires members { AreMembersFrom sys.now 0 members.now }
+    requires is_core { core < length sys.now.cores }
     requires plan { IsPlan sys.now plan.now }
     requires room { length sys.now.parts ≤ length accounts.now }
     requires ends {
@@ -87,9 +97,13 @@ pub fn choose(sys: &System, plan: &Plan, accounts: &[Account], core: u32) -> Opt
           → (account_at accounts.now v).from + (part_at sys.now v).period < 2 ^ 64 }
     ensures { IsChoice sys.now plan.now accounts.now core result }
 {
+    prove!(sys.parts().len() <= MAX_PARTS);
+    let end = sys.parts().len() as u32;
     let mut best = None;
-    for v in 0..sys.parts().len() {
-        best = better(best, rank_on(sys, plan, accounts, core, v as u32));
+    let mut v = members.first[core as usize];
+    while v < end {
+        best = better(best, rank_on(sys, plan, accounts, core, v));
+        v = members.next[v as usize];
     }
     match best {
         Some(rank) => Some(rank.vcpu),

@@ -6,6 +6,7 @@ ghost use Rattle.rtds_sim.specs.Printed.{core_of, event_of, switch_to, gathered,
 
 use crate::account::Account;
 use crate::choice::{account_of, budget_of, choose};
+use crate::members::Members;
 use crate::moment::moment_of_slot;
 use release_file::{Wake, WakeKind};
 use std::alloc::AllocError;
@@ -85,6 +86,7 @@ impl Host {
     ghost use Rattle.release_file.specs.Workload.{row_at, IsWorkload};
     ghost use Rattle.rtds_sim.specs.Printed.{core_of, gathered, on_core_at, switch_to};
     ghost use Rattle.tree_model.specs.System.{IsSystem};
+    ghost use Rattle.rtds_sim.specs.Members.{AreMembersFrom};
     ghost use Rattle.rtds_sim.specs.Accounts.{no_account, account_at, holder_at, row_taken, gone_on, left_of, left_at, gives_up, stop_of, switch_of, IsChoice, AreAccounts, AreBefore, HasRoom};
 
     /// Before the first slot.
@@ -244,8 +246,10 @@ impl Host {
         &mut self,
         sys: &System,
         plan: &Plan,
+        members: &Members,
         events: &mut Vec<Event>,
     ) -> Result<(), AllocError>
+        requires members { AreMembersFrom sys.now 0 members.now }
         requires plan { IsPlan sys.now plan.now }
         requires room { HasRoom sys.now self.old }
         requires ends {
@@ -267,7 +271,7 @@ impl Host {
         ensures time { self.new.time ≡ self.old.time }
     {
         for c in 0..sys.cores().len() {
-            let next = choose(sys, plan, &self.accounts, c as u32);
+            let next = choose(sys, plan, &self.accounts, members, c as u32);
             push_some(events, self.switch_event(c, next))?;
             self.holders[c] = next;
         }

@@ -11,6 +11,7 @@ ghost use Rattle.rtds_sim.specs.Fault.{AllRtds, IsFirstOther, IsRtdsFault};
 ghost use Rattle.rtds_sim.specs.Giving.{AlwaysRunnable, ServersFit, AlwaysServed, GivesBudgets, NeverOver, NoneOver};
 
 use crate::host::{Host, print_rows};
+use crate::members::Members;
 use crate::moment::moment_of_slot;
 use crate::RtdsFault;
 use release_file::Wake;
@@ -104,12 +105,13 @@ fn simulated(
 {
     let mut events = Vec::new(alloc);
     let mut host = Host::new(sys);
+    let members = Members::new(sys);
     while host.time < slots {
         let first = host.taken;
         host.take_rows(wakes);
         host.stop_blocked(sys, &mut events)?;
         print_rows(sys, wakes, first, host.taken, &mut events)?;
-        host.switch_all(sys, plan, &mut events)?;
+        host.switch_all(sys, plan, &members, &mut events)?;
         let next = host.next_slot(sys, plan, wakes, slots);
         host.go_on(sys, next);
     }
