@@ -77,11 +77,11 @@ same_print c (t ∷ ts) h =
     let sep : List ℕ = cond (c && begins t) (44 ∷ []) [] in
     ap (lex between) (append_assoc sep (token_text t ++ rest) (10 ∷ []) ∙ ap (λ l. sep ++ l) (append_assoc (token_text t) rest (10 ∷ [])))
     ∙ separator_same (c && begins t) (token_text t ++ (rest ++ 10 ∷ [])) (token_text t ++ rest)
-      (token_same t (rest ++ 10 ∷ []) rest h.0 (record {
-        lexes = same_print (ends t) ts h.1;
-        left = λ e. ends_before rest (ap (λ b. ends_word (print_from b ts)) e ∙ value_ends ts);
-        right = λ e. ap (λ b. ends_word (print_from b ts)) e ∙ value_ends ts;
-      }))
+    (token_same t (rest ++ 10 ∷ []) rest h.0 (record {
+      lexes = same_print (ends t) ts h.1;
+      left = λ e. ends_before rest (ap (λ b. ends_word (print_from b ts)) e ∙ value_ends ts);
+      right = λ e. ap (λ b. ends_word (print_from b ts)) e ∙ value_ends ts;
+    }))
 
 -- the round trip of tokens, with a newline behind them
 pub tokens_newline : (ts : List Token) → ArePrintable ts → tokens (print ts ++ 10 ∷ []) ≡ ts

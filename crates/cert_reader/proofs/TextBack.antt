@@ -144,7 +144,7 @@ nodes_back nodes r =
 text_reads : (d : Data) (deep : ℕ) → Back d deep → deep ≤ max_depth → read (compact_text d ++ 10 ∷ []) ≡ Some d
 text_reads d deep b l =
     let same : tokens (compact_text d ++ 10 ∷ []) ≡ tree.json_tokens (outline d) =
-        ap (λ (s : List ℕ). tokens (s ++ 10 ∷ [])) (sym (print-outline d)) ∙ tokens_newline (tree.json_tokens (outline d)) (ArePrintable-json_tokens (outline d) b.numbers) in
+    ap (λ (s : List ℕ). tokens (s ++ 10 ∷ [])) (sym (print-outline d)) ∙ tokens_newline (tree.json_tokens (outline d)) (ArePrintable-json_tokens (outline d) b.numbers) in
     ap (λ ts. option_and_then of_json (option_and_then (λ p. json.if_last p.0 p.1) (json.value max_depth ts))) (same ∙ sym (append-nil (tree.json_tokens (outline d))))
     ∙ (ap (λ o. option_and_then of_json (option_and_then (λ p. json.if_last p.0 p.1) o)) (value-json_tokens (outline d) max_depth [] (omega (arith, b.depth, l))) ∙ b.reads)
 

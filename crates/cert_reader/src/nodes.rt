@@ -113,11 +113,9 @@ fn check_nodes(sys: &System, budgets: &[u64], nodes: &[Node]) -> Result<(), Flaw
     requires one_each { length budgets.now ≡ length sys.now.parts }
     requires fit { BudgetsFit sys.now budgets.now }
     ensures proved { IfOk result (λ _. AreProved sys.now budgets.now nodes.now (length nodes.now)) }
-    ensures flaw {
-        IfErr result
+    ensures flaw { IfErr result
         (λ flaw.
-        FirstNode nodes.now (NodeProves sys.now budgets.now) (NodeFails sys.now budgets.now flaw))
-    }
+        FirstNode nodes.now (NodeProves sys.now budgets.now) (NodeFails sys.now budgets.now flaw)) }
 {
     let filler = Task {
         period: 1,

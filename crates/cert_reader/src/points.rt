@@ -38,10 +38,8 @@ fn asks_nothing(tasks: &[Task], t: u128) -> bool
 
 /// Whether a point covers all windows up to the next.
 fn covers<S: Supply>(tasks: &[Task], s: &S, from: u128, to: u128) -> bool
-    ensures {
-        IsTrue result ↔
-        ((from < to) × (dbf (sporadic_tasks tasks.now) (to - 1) ≤ S.bound s.now from))
-    }
+    ensures { IsTrue result ↔
+        ((from < to) × (dbf (sporadic_tasks tasks.now) (to - 1) ≤ S.bound s.now from)) }
 {
     if to <= from {
         return false;
@@ -57,10 +55,8 @@ fn covers<S: Supply>(tasks: &[Task], s: &S, from: u128, to: u128) -> bool
 pub fn is_chain<S: Supply>(sched: Sched, tasks: &[Task], i: u32, s: &S, falls: &[u64]) -> bool
     requires fixed { sched ≢ Sched.Edf }
     requires i_named { i < length tasks.now }
-    ensures {
-        let T = sporadic_tasks tasks.now in
-        IsTrue result ↔ IsChain (ranks_above sched T) T (S.bound s.now) i falls.now
-    }
+    ensures { let T = sporadic_tasks tasks.now in
+        IsTrue result ↔ IsChain (ranks_above sched T) T (S.bound s.now) i falls.now }
 {
     let task = tasks[i as usize];
     let end = task.deadline - task.jitter + 1;
@@ -80,11 +76,9 @@ pub fn is_chain<S: Supply>(sched: Sched, tasks: &[Task], i: u32, s: &S, falls: &
 fn falls_short<S: Supply>(sched: Sched, tasks: &[Task], i: u32, s: &S, from: u64, to: u64) -> bool
     requires fixed { sched ≢ Sched.Edf }
     requires i_named { i < length tasks.now }
-    ensures {
-        let T = sporadic_tasks tasks.now in
+    ensures { let T = sporadic_tasks tasks.now in
         IsTrue result ↔
-        ((from < to) × (S.bound s.now (to - 1) < rbf (ranks_above sched T) T i from))
-    }
+        ((from < to) × (S.bound s.now (to - 1) < rbf (ranks_above sched T) T i from)) }
 {
     if to <= from {
         return false;
@@ -101,10 +95,8 @@ fn falls_short<S: Supply>(sched: Sched, tasks: &[Task], i: u32, s: &S, from: u64
 pub fn is_hit<S: Supply>(sched: Sched, tasks: &[Task], i: u32, s: &S, t: u64) -> bool
     requires fixed { sched ≢ Sched.Edf }
     requires i_named { i < length tasks.now }
-    ensures {
-        let T = sporadic_tasks tasks.now in
-        IsTrue result ↔ IsHit (ranks_above sched T) T (S.bound s.now) i t
-    }
+    ensures { let T = sporadic_tasks tasks.now in
+        IsTrue result ↔ IsHit (ranks_above sched T) T (S.bound s.now) i t }
 {
     let task = tasks[i as usize];
     if t < 1 || t > task.deadline - task.jitter {

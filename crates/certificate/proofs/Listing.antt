@@ -32,7 +32,7 @@ pub listed_more : {A : Type 0} (text : A → List ℕ) (Good : A → Type 0) (d 
     → ListedTo text Good d before (now ++ 44 ∷ text x) all rest (n + 1)
 listed_more text Good d before now all rest n x l is good to =
     let step : behind text (drop n rest) ≡ 44 ∷ (text x ++ behind text (drop (n + 1) rest)) =
-        ap (behind text) (drop-cons rest n d l) ∙ (ap (λ y. 44 ∷ (text y ++ behind text (drop (suc n) rest))) (sym is) ∙ ap (λ k. 44 ∷ (text x ++ behind text (drop k rest))) (sym (add-one n))) in
+    ap (behind text) (drop-cons rest n d l) ∙ (ap (λ y. 44 ∷ (text y ++ behind text (drop (suc n) rest))) (sym is) ∙ ap (λ k. 44 ∷ (text x ++ behind text (drop k rest))) (sym (add-one n))) in
     record {
       first = to.first;
       all_is = to.all_is;

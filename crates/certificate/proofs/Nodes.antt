@@ -128,12 +128,12 @@ pub part_node_made : (sys : SystemView) → IsSystem sys → (budgets : List ℕ
 part_node_made sys is budgets admitted q h part here tasks same sched is_sched period is_period computed is_computed points hits witness falls pass least =
     let bound : PartView → ℕ → ℕ = λ (p : PartView). sbf p.period (budget_at budgets q) in
     let own : ListsPass part.sched tasks (bound part) part.period points hits =
-        subst (λ (z : ℕ). ListsPass part.sched tasks (sbf z (budget_at budgets q)) z points hits) is_period (subst (λ (s : Sched). ListsPass s tasks (sbf period (budget_at budgets q)) period points hits) is_sched pass) in
+    subst (λ (z : ℕ). ListsPass part.sched tasks (sbf z (budget_at budgets q)) z points hits) is_period (subst (λ (s : Sched). ListsPass s tasks (sbf period (budget_at budgets q)) period points hits) is_sched pass) in
     let there : ListsPass (part_at sys q).sched (node_tasks sys budgets (Part q)) (bound (part_at sys q)) (part_at sys q).period points hits =
-        subst (λ (ts : List SporadicTask). ListsPass (part_at sys q).sched ts (bound (part_at sys q)) (part_at sys q).period points hits) same (subst (λ (p : PartView). ListsPass p.sched tasks (bound p) p.period points hits) here own) in
+    subst (λ (ts : List SporadicTask). ListsPass (part_at sys q).sched ts (bound (part_at sys q)) (part_at sys q).period points hits) same (subst (λ (p : PartView). ListsPass p.sched tasks (bound p) p.period points hits) here own) in
     let shown : ListsLeast (is_none part.budget) (part_at sys q).sched (node_tasks sys budgets (Part q)) part.period (budget_at budgets q) witness falls =
-        subst (λ (ts : List SporadicTask). ListsLeast (is_none part.budget) (part_at sys q).sched ts part.period (budget_at budgets q) witness falls) same
-        (subst (λ (s : Sched). ListsLeast (is_none part.budget) s tasks part.period (budget_at budgets q) witness falls) (ap (λ (p : PartView). p.sched) here) least) in
+    subst (λ (ts : List SporadicTask). ListsLeast (is_none part.budget) (part_at sys q).sched ts part.period (budget_at budgets q) witness falls) same
+    (subst (λ (s : Sched). ListsLeast (is_none part.budget) s tasks part.period (budget_at budgets q) witness falls) (ap (λ (p : PartView). p.sched) here) least) in
     part_made sys is budgets admitted q h (record { place = Part q; period = period; budget = budget_at budgets q; computed = computed; points = points; hits = hits; witness = witness; falls = falls }) refl (is_period ∙ ap (λ (p : PartView). p.period) here) refl
     (is_computed ∙ ap (λ (p : PartView). is_none p.budget) here) there
     (subst (λ (b : Bool). ListsLeast b (part_at sys q).sched (node_tasks sys budgets (Part q)) period (budget_at budgets q) witness falls) (sym is_computed)

@@ -92,7 +92,7 @@ node_same node r =
     let e3 : members_text true m3 ≡ codes ",\"falls\":[" ++ t3 = ap (λ (s : List ℕ). codes ",\"falls\":" ++ s) (numbers_then node.falls (members_text true m4) ∙ ap (λ (s : List ℕ). 91 ∷ (listed decimal node.falls ++ 93 ∷ s)) e4) in
     let m2 : Members = member (codes "computed") (boolean node.computed) m3 in
     let e2 : members_text true m2 ≡ codes ",\"computed\":" ++ (flag_text node.computed ++ (codes ",\"falls\":[" ++ t3)) =
-        ap (λ (t : List ℕ). codes ",\"computed\":" ++ (t ++ members_text true m3)) (flag_same node.computed) ∙ ap (λ (s : List ℕ). codes ",\"computed\":" ++ (flag_text node.computed ++ s)) e3 in
+    ap (λ (t : List ℕ). codes ",\"computed\":" ++ (t ++ members_text true m3)) (flag_same node.computed) ∙ ap (λ (s : List ℕ). codes ",\"computed\":" ++ (flag_text node.computed ++ s)) e3 in
     ap (λ (s : List ℕ). codes "{\"budget\":" ++ (decimal node.budget ++ s)) e2
 
 pub certificate_same : (nodes : List NodeView) → AreInRange nodes → certificate_text nodes ≡ codes "{\"format\":1,\"nodes\":[" ++ (listed node_text nodes ++ codes "]}\n")
@@ -100,6 +100,6 @@ unfolding escape_byte certificate_text
 certificate_same nodes r =
     let list : compact_text (array (items_from node_value nodes)) ++ 125 ∷ [] ≡ 91 ∷ (listed node_text nodes ++ 93 ∷ 125 ∷ []) = list_then node_value node_text nodes no_node (125 ∷ []) (λ k l. node_same (node_at nodes k) (r k l)) in
     let whole : compact_text (certificate_value nodes) ≡ codes "{\"format\":1,\"nodes\":[" ++ (listed node_text nodes ++ 93 ∷ 125 ∷ []) =
-        ap (λ (ds : List ℕ). codes "{\"format\":" ++ (ds ++ (codes ",\"nodes\":" ++ (compact_text (array (items_from node_value nodes)) ++ 125 ∷ [])))) (decimal_digit 1 (omega arith))
-        ∙ ap (λ (s : List ℕ). codes "{\"format\":1,\"nodes\":" ++ s) list in
+    ap (λ (ds : List ℕ). codes "{\"format\":" ++ (ds ++ (codes ",\"nodes\":" ++ (compact_text (array (items_from node_value nodes)) ++ 125 ∷ [])))) (decimal_digit 1 (omega arith))
+    ∙ ap (λ (s : List ℕ). codes "{\"format\":1,\"nodes\":" ++ s) list in
     ap (λ (s : List ℕ). s ++ 10 ∷ []) whole ∙ ap (λ (s : List ℕ). codes "{\"format\":1,\"nodes\":[" ++ s) (append_assoc (listed node_text nodes) (93 ∷ 125 ∷ []) (10 ∷ []))

@@ -24,7 +24,7 @@ pub record IsBackwardCover
 -- one hit a task, each the least
 pub record AreLeastHits
     (above : ℕ → ℕ → Bool) (tasks : List SporadicTask) (bound : ℕ → ℕ) (hits : List ℕ)
-        : Type 0 where
+    : Type 0 where
   pub one_each : length hits ≡ length tasks
   pub each : (i : ℕ) → i < length tasks → IsHit above tasks bound i (slice_index hits i)
   pub least : (i u : ℕ) → i < length tasks → u < slice_index hits i →
@@ -80,11 +80,11 @@ pub record IsMade (sys : SystemView) (budgets : List ℕ) (node : NodeView) : Ty
   pub pass :
       let place = node.place in
       ListsPass (node_sched sys place) (node_tasks sys budgets place)
-        (node_bound sys budgets place) (node_cycle sys place) node.points node.hits
+      (node_bound sys budgets place) (node_cycle sys place) node.points node.hits
   pub least :
       let place = node.place in
       ListsLeast node.computed (node_sched sys place) (node_tasks sys budgets place)
-        node.period node.budget node.witness node.falls
+      node.period node.budget node.witness node.falls
 
 -- the certificate of a system
 pub record IsCertificate (sys : SystemView) (nodes : List NodeView) : Type 0 where

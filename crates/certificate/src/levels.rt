@@ -23,11 +23,9 @@ pub fn pass_lists<S: Supply>(
     requires few { length tasks.now < 2 ^ 32 }
     requires small { IsSmall sched (sporadic_tasks tasks.now) (S.cycle_of s.now) }
     requires passes { Passes sched (sporadic_tasks tasks.now) (S.bound s.now) }
-    ensures {
-        let T = sporadic_tasks tasks.now in
+    ensures { let T = sporadic_tasks tasks.now in
         IfOk result (λ lists.
-            ListsPass sched T (S.bound s.now) (S.cycle_of s.now) lists.0.items lists.1.items)
-    }
+        ListsPass sched T (S.bound s.now) (S.cycle_of s.now) lists.0.items lists.1.items) }
 {
     match sched {
         Sched::Edf => Ok((points_of(alloc, tasks, s)?, Vec::new(alloc))),
@@ -36,17 +34,11 @@ pub fn pass_lists<S: Supply>(
 }
 
 /// The windows that cover all windows up to the horizon.
-fn points_of<S: Supply>(
-    alloc: Global,
-    tasks: &[Task],
-    s: &S,
-) -> Result<Vec<u128>, AllocError>
+fn points_of<S: Supply>(alloc: Global, tasks: &[Task], s: &S) -> Result<Vec<u128>, AllocError>
     requires small { IsSmall Sched.Edf (sporadic_tasks tasks.now) (S.cycle_of s.now) }
     requires fits { DemandFits (sporadic_tasks tasks.now) (S.bound s.now) }
-    ensures {
-        let T = sporadic_tasks tasks.now in
-        IfOk result (λ points. IsBackwardCover T (S.bound s.now) (S.cycle_of s.now) points.items)
-    }
+    ensures { let T = sporadic_tasks tasks.now in
+        IfOk result (λ points. IsBackwardCover T (S.bound s.now) (S.cycle_of s.now) points.items) }
 {
     let h = horizon(tasks, s.cycle()).unwrap();
     let points = cover(alloc, tasks, s, h)?;
@@ -62,13 +54,9 @@ fn hits_of<S: Supply>(
 ) -> Result<Vec<u64>, AllocError>
     requires fixed { sched ≢ Sched.Edf }
     requires few { length tasks.now < 2 ^ 32 }
-    requires all_hit {
-        let T = sporadic_tasks tasks.now in AllHit (ranks_above sched T) T (S.bound s.now)
-    }
-    ensures {
-        let T = sporadic_tasks tasks.now in
-        IfOk result (λ hits. AreLeastHits (ranks_above sched T) T (S.bound s.now) hits.items)
-    }
+    requires all_hit { let T = sporadic_tasks tasks.now in AllHit (ranks_above sched T) T (S.bound s.now) }
+    ensures { let T = sporadic_tasks tasks.now in
+        IfOk result (λ hits. AreLeastHits (ranks_above sched T) T (S.bound s.now) hits.items) }
 {
     let mut hits = Vec::with_capacity(alloc, tasks.len())?;
     for i in 0..tasks.len() as u32 {
@@ -91,11 +79,9 @@ pub fn short_lists(
     requires in_limit { period ≤ LIMIT }
     requires small { IsSmall sched (sporadic_tasks tasks.now) period }
     requires falls_short { Passes sched (sporadic_tasks tasks.now) (sbf period (least - 1)) → ⊥ }
-    ensures {
-        let bound = sbf period (least - 1) in
+    ensures { let bound = sbf period (least - 1) in
         IfOk result (λ lists.
-            ListsShort sched (sporadic_tasks tasks.now) bound lists.0 lists.1.items)
-    }
+        ListsShort sched (sporadic_tasks tasks.now) bound lists.0 lists.1.items) }
 {
     let defeat = witness(sched, tasks, period, least);
     match defeat.task {

@@ -28,10 +28,8 @@ pub fn certify(alloc: Global, sys: &System) -> Result<Certificate, Refusal>
     ensures admitted { IfOk result (λ c. Admitted sys.now (budgets_of sys.now c)) }
     ensures refusal { IfErr result (λ r. r ≢ Refusal.NoMemory → FirstRefusal sys.now r) }
     // where budgets admit the system, they are the certificate's
-    ensures complete {
-        (budgets : List ℕ) → Admitted sys.now budgets →
-        MatchResult result (λ c. budgets_of sys.now c ≡ budgets) (λ r. r ≡ Refusal.NoMemory)
-    }
+    ensures complete { (budgets : List ℕ) → Admitted sys.now budgets →
+        MatchResult result (λ c. budgets_of sys.now c ≡ budgets) (λ r. r ≡ Refusal.NoMemory) }
     // what a certificate and a refusal say of every supply and every release
     ensures no_loss { IfOk result (λ c. NoLoss sys.now (budgets_of sys.now c)) }
     ensures tight { IfOk result (λ c. IsTight sys.now (budgets_of sys.now c)) }
@@ -47,10 +45,8 @@ pub fn certify(alloc: Global, sys: &System) -> Result<Certificate, Refusal>
 /// The nodes under these budgets: all parts and then all cores, in file order.
 fn make_nodes(alloc: Global, sys: &System, budgets: &[u64]) -> Result<Vec<Node>, AllocError>
     requires { Admitted sys.now budgets.now }
-    ensures {
-        let count = length sys.now.parts + length sys.now.cores in
-        IfOk result (λ nodes. AreMade sys.now budgets.now nodes.items count)
-    }
+    ensures { let count = length sys.now.parts + length sys.now.cores in
+        IfOk result (λ nodes. AreMade sys.now budgets.now nodes.items count) }
 {
     let filler = Task {
         period: 1,
@@ -115,16 +111,12 @@ fn least_lists(
     requires some_budget { 1 ≤ budget }
     requires in_period { budget ≤ part.now.period }
     requires small { IsSmall part.now.sched (sporadic_tasks tasks.now) part.now.period }
-    requires least {
-        part.now.budget ≡ None →
-        Passes part.now.sched (sporadic_tasks tasks.now) (sbf part.now.period (budget - 1)) → ⊥
-    }
-    ensures {
-        let T = sporadic_tasks tasks.now in
+    requires least { part.now.budget ≡ None →
+        Passes part.now.sched (sporadic_tasks tasks.now) (sbf part.now.period (budget - 1)) → ⊥ }
+    ensures { let T = sporadic_tasks tasks.now in
         IfOk result (λ lists.
-            ListsLeast (is_none part.now.budget) part.now.sched T part.now.period budget
-              lists.0 lists.1.items)
-    }
+        ListsLeast (is_none part.now.budget) part.now.sched T part.now.period budget
+        lists.0 lists.1.items) }
 {
     if part.budget().is_some() {
         return Ok((None, Vec::new(alloc)));
@@ -170,22 +162,21 @@ fn core_lists(
 ) -> Result<(Vec<u128>, Vec<u64>), AllocError>
     requires few { length tasks.now < 2 ^ 32 }
     requires supply { IsCoreSupply core.now.supply }
-    requires small {
-        IsSmall core.now.sched (sporadic_tasks tasks.now) (core_cycle core.now.supply)
-    }
-    requires passes {
-        Passes core.now.sched (sporadic_tasks tasks.now) (core_bound core.now.supply)
-    }
-    ensures {
-        let T = sporadic_tasks tasks.now in
+    requires small { IsSmall core.now.sched (sporadic_tasks tasks.now) (core_cycle core.now.supply) }
+    requires passes { Passes core.now.sched (sporadic_tasks tasks.now) (core_bound core.now.supply) }
+    ensures { let T = sporadic_tasks tasks.now in
         let supply = core.now.supply in
         IfOk result (λ lists.
-            ListsPass core.now.sched T (core_bound supply) (core_cycle supply)
-              lists.0.items lists.1.items)
-    }
+        ListsPass core.now.sched T (core_bound supply) (core_cycle supply)
+        lists.0.items lists.1.items) }
 {
     match core.supply {
         None => pass_lists(alloc, core.sched, tasks, &Full),
-        Some((period, budget)) => pass_lists(alloc, core.sched, tasks, &Periodic { period, budget }),
+        Some((period, budget)) => pass_lists(
+            alloc,
+            core.sched,
+            tasks,
+            &Periodic { period, budget },
+        ),
     }
 }

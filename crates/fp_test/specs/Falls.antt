@@ -10,7 +10,7 @@ use Rattle.slot_model.specs.Points.{IsChain}
 -- past the jitter where that is sooner, or no window gives it.
 pub record IsNextFall
     (above : ℕ → ℕ → Bool) (tasks : List SporadicTask) (bound : ℕ → ℕ) (i from to : ℕ)
-        : Type 0 where
+    : Type 0 where
   pub within : to ≤ room_of (task_at tasks i) + 1
   pub below : (t : ℕ) → t < to → bound t < rbf above tasks i from
   pub gives : to ≤ room_of (task_at tasks i) → rbf above tasks i from ≤ bound to

@@ -86,7 +86,11 @@ fn push_jobs(
 
 /// Whether job `place` is pending at slot `x`, where it got so many slots before.
 fn is_pending(level: &Level, got: &[u64], is_server: bool, place: usize, x: u64) -> bool {
-    match (level.jobs.get(place), level.moments.get(place), got.get(place)) {
+    match (
+        level.jobs.get(place),
+        level.moments.get(place),
+        got.get(place),
+    ) {
         (Some(job), Some(moment), Some(got)) => {
             job.release <= x && *got < job.work && !(is_server && *moment <= x)
         }

@@ -47,14 +47,14 @@ scaled q p f zero same = omega (arith, between_none q (f * 1000) 0 (omega arith)
 scaled q p f (suc e) same = elim (cases_lt e f) [
   | inl l ↦ omega (arith, between_none q (f * 1000) (suc e * 1000) (omega arith), between_none p f (suc e) (omega arith))
   | inr l ↦ omega (
-      arith,
-      scaled q p f e (λ m k. same m (omega arith)),
-      between_alike_to q (p e) (f * 1000) (e * 1000) (suc e * 1000) (omega arith) (omega arith) (λ m a b. same m b ∙ ap p (let d : m / 1000 ≡ e = omega arith in d)),
-      between_alike_to p (p e) f e (suc e) l (omega arith) (λ x a b. ap p (let d : x ≡ e = omega arith in d)),
-      ap (λ (z : ℕ). cond {A = ℕ} (p e) z 0) (let d : suc e * 1000 - e * 1000 ≡ 1000 = omega arith in d),
-      ap (λ (z : ℕ). cond {A = ℕ} (p e) z 0) (let d : suc e - e ≡ 1 = omega arith in d),
-      scaled_cond (p e),
-    )
+    arith,
+    scaled q p f e (λ m k. same m (omega arith)),
+    between_alike_to q (p e) (f * 1000) (e * 1000) (suc e * 1000) (omega arith) (omega arith) (λ m a b. same m b ∙ ap p (let d : m / 1000 ≡ e = omega arith in d)),
+    between_alike_to p (p e) f e (suc e) l (omega arith) (λ x a b. ap p (let d : x ≡ e = omega arith in d)),
+    ap (λ (z : ℕ). cond {A = ℕ} (p e) z 0) (let d : suc e * 1000 - e * 1000 ≡ 1000 = omega arith in d),
+    ap (λ (z : ℕ). cond {A = ℕ} (p e) z 0) (let d : suc e - e ≡ 1 = omega arith in d),
+    scaled_cond (p e),
+  )
 ]
 
 -- where a period begins

@@ -1,6 +1,5 @@
 use Rattle.std.proofs.Common.{◌<◌, ◌^◌, decimal}
 use Rattle.std.specs.Prelude.{string_bytes}
-
 use Rattle.certificate.proofs.Listing.{ListedTo}
 use Rattle.certificate.proofs.text.write_numbers.Given as goal
 
