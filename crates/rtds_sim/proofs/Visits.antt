@@ -19,7 +19,6 @@ use Rattle.rtds_sim.specs.Accounts.{left_at, holder_at, gives_up, stop_of, switc
 use Rattle.rtds_sim.proofs.Runs.{entry_unique, eligible_runs}
 use Rattle.rtds_sim.proofs.Gathered.{gathered-none, gathered-same}
 use Rattle.rtds_sim.proofs.Taking.{row_none}
-
 use Rattle.rtds_sim.proofs.Entering.{blocked_by, choice_entry}
 use Rattle.rtds_sim.proofs.Steady.{IsNext, taken_at, alike}
 

@@ -41,17 +41,17 @@ pub record AlwaysServed (sys : SystemView) (budgets : List ℕ) (rows : List Wak
 abbrev pub GivesBudgets : SystemView → List ℕ → List Wake → ℕ → ℕ → List (Option ℕ) → Type 0
 GivesBudgets sys budgets rows n c run =
     (v k : ℕ) → IsStartedOn sys rows c v →
-        begins (part_at sys v).period (start_of rows v) (suc k) ≤ n →
+    begins (part_at sys v).period (start_of rows v) (suc k) ≤ n →
     budget_at budgets v ≤ slots_got (λ x. holds (held run x) v) (part_at sys v).period
-        (start_of rows v) k
+    (start_of rows v) k
 
 -- and over any workload no VCPU without extra time has its core at more than its budget of slots in
 -- a period
 abbrev pub NeverOver : SystemView → List ℕ → List Wake → List (Option ℕ) → Type 0
 NeverOver sys budgets rows run =
     (v k : ℕ) → v < length sys.parts → (part_at sys v).extra ≡ false →
-        slots_got (λ x. holds (held run x) v) (part_at sys v).period
-        (start_of rows v) k ≤ budget_at budgets v
+    slots_got (λ x. holds (held run x) v) (part_at sys v).period
+    (start_of rows v) k ≤ budget_at budgets v
 
 -- no period in a trace is over
 abbrev pub NoneOver : SystemView → List ℕ → List Event → Type 0

@@ -65,13 +65,13 @@ is_eligible sys budgets rows c run v x =
 abbrev pub goes_first : ℕ → ℕ → ℕ → ℕ → ℕ → ℕ → Bool
 goes_first level deadline place level' deadline' place' =
     nat_lt level level' ||
-        (level == level' &&
-        (nat_lt deadline deadline' || (deadline == deadline' && nat_lt place place')))
+    (level == level' &&
+    (nat_lt deadline deadline' || (deadline == deadline' && nat_lt place place')))
 
 abbrev pub goes_before : SystemView → List ℕ → List Wake → List (Option ℕ) → ℕ → ℕ → ℕ → Bool
 goes_before sys budgets rows run x u v =
     goes_first (level_at sys budgets rows run u x) (deadline_at sys rows u x) u
-        (level_at sys budgets rows run v x) (deadline_at sys rows v x) v
+    (level_at sys budgets rows run v x) (deadline_at sys rows v x) v
 
 -- what slot x of core c holds: the eligible VCPU before which no eligible one goes, and none where
 -- none is eligible

@@ -92,9 +92,8 @@ pub fn choose(
     requires is_core { core < length sys.now.cores }
     requires plan { IsPlan sys.now plan.now }
     requires room { length sys.now.parts ≤ length accounts.now }
-    requires ends {
-        (v : ℕ) → v < length sys.now.parts
-          → (account_at accounts.now v).from + (part_at sys.now v).period < 2 ^ 64 }
+    requires ends { (v : ℕ) → v < length sys.now.parts
+        → (account_at accounts.now v).from + (part_at sys.now v).period < 2 ^ 64 }
     ensures { IsChoice sys.now plan.now accounts.now core result }
 {
     prove!(sys.parts().len() <= MAX_PARTS);

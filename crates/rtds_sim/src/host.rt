@@ -112,10 +112,9 @@ impl Host {
     fn take(&mut self, row: Wake)
         requires is_part { row.vcpu < length self.old.accounts }
         requires more { self.old.taken + 1 < 2 ^ 64 }
-        ensures accounts {
-            self.new.accounts
-              ≡ slice_set self.old.accounts row.vcpu
-              (row_taken row.what row.at (account_at self.old.accounts row.vcpu)) }
+        ensures accounts { self.new.accounts
+            ≡ slice_set self.old.accounts row.vcpu
+            (row_taken row.what row.at (account_at self.old.accounts row.vcpu)) }
         ensures taken { self.new.taken ≡ self.old.taken + 1 }
         ensures time { self.new.time ≡ self.old.time }
         ensures holders { self.new.holders ≡ self.old.holders }
@@ -128,21 +127,20 @@ impl Host {
     /// Takes the rows at the next slot.
     pub fn take_rows(&mut self, rows: &[Wake])
         requires in_rows { self.old.taken ≤ length rows.now }
-        requires known {
-            (i : ℕ) → i < length rows.now → (row_at rows.now i).vcpu < length self.old.accounts }
+        requires known { (i : ℕ) → i < length rows.now
+            → (row_at rows.now i).vcpu < length self.old.accounts }
         ensures in_rows { self.new.taken ≤ length rows.now }
         ensures later { self.old.taken ≤ self.new.taken }
-        ensures now {
-            (i : ℕ) → self.old.taken ≤ i → i < self.new.taken
-              → (row_at rows.now i).at ≡ self.old.time }
-        ensures no_more {
-            self.new.taken < length rows.now → (row_at rows.now self.new.taken).at ≢ self.old.time }
-        ensures accounts {
-            (sys : SystemView) (runs : List (List (Option ℕ))) → IsWorkload sys rows.now
-              → AreBefore rows.now self.old.taken self.old.time
-              → ((v : ℕ) → v < length sys.parts → 1 ≤ (part_at sys v).period)
-              → AreAccounts sys rows.now runs self.old.time self.old.taken self.old.accounts
-              → AreAccounts sys rows.now runs self.old.time self.new.taken self.new.accounts }
+        ensures now { (i : ℕ) → self.old.taken ≤ i → i < self.new.taken
+            → (row_at rows.now i).at ≡ self.old.time }
+        ensures no_more { self.new.taken < length rows.now
+            → (row_at rows.now self.new.taken).at ≢ self.old.time }
+        ensures accounts { (sys : SystemView) (runs : List (List (Option ℕ)))
+            → IsWorkload sys rows.now
+            → AreBefore rows.now self.old.taken self.old.time
+            → ((v : ℕ) → v < length sys.parts → 1 ≤ (part_at sys v).period)
+            → AreAccounts sys rows.now runs self.old.time self.old.taken self.old.accounts
+            → AreAccounts sys rows.now runs self.old.time self.new.taken self.new.accounts }
         ensures all_vcpus { length self.new.accounts ≡ length self.old.accounts }
         ensures time { self.new.time ≡ self.old.time }
         ensures holders { self.new.holders ≡ self.old.holders }
@@ -155,8 +153,8 @@ impl Host {
     /// Whether the VCPU that has core `core` is blocked.
     fn gives_up(&self, core: usize) -> bool
         requires is_core { core < length self.now.holders }
-        requires is_part {
-            (v : ℕ) → holder_at self.now.holders core ≡ Some v → v < length self.now.accounts }
+        requires is_part { (v : ℕ) → holder_at self.now.holders core ≡ Some v
+            → v < length self.now.accounts }
         ensures { result ≡ gives_up self.now.accounts (holder_at self.now.holders core) }
     {
         match self.holders[core] {
@@ -168,10 +166,9 @@ impl Host {
     /// The VCPU that still has core `core`, if its VCPU gives it up where it blocks.
     fn holder_left(&self, core: usize) -> Option<u32>
         requires is_core { core < length self.now.holders }
-        requires is_part {
-            (v : ℕ) → holder_at self.now.holders core ≡ Some v → v < length self.now.accounts }
-        ensures {
-            result ≡ left_at self.now.accounts self.now.holders core }
+        requires is_part { (v : ℕ) → holder_at self.now.holders core ≡ Some v
+            → v < length self.now.accounts }
+        ensures { result ≡ left_at self.now.accounts self.now.holders core }
     {
         if self.gives_up(core) {
             return None;
@@ -183,8 +180,8 @@ impl Host {
     fn stop_event(&self, core: usize) -> Option<Event>
         requires is_core { core < length self.now.holders }
         requires few { core < 64 }
-        requires is_part {
-            (v : ℕ) → holder_at self.now.holders core ≡ Some v → v < length self.now.accounts }
+        requires is_part { (v : ℕ) → holder_at self.now.holders core ≡ Some v
+            → v < length self.now.accounts }
         requires in_limit { self.now.time ≤ LIMIT }
         ensures { result ≡ stop_of self.now core }
     {
@@ -203,9 +200,8 @@ impl Host {
         requires is_core { core < length self.now.holders }
         requires few { core < 64 }
         requires in_limit { self.now.time ≤ LIMIT }
-        ensures {
-            result
-              ≡ on_core_at core self.now.time (switch_to (holder_at self.now.holders core) next) }
+        ensures { result
+            ≡ on_core_at core self.now.time (switch_to (holder_at self.now.holders core) next) }
     {
         match switch_to(self.holders[core], next) {
             Some(what) => Some(Event {
@@ -221,14 +217,12 @@ impl Host {
     pub fn stop_blocked(&mut self, sys: &System, events: &mut Vec<Event>) -> Result<(), AllocError>
         requires room { HasRoom sys.now self.old }
         requires in_limit { self.old.time ≤ LIMIT }
-        ensures events {
-            OnOk result
-              (events.new.items ≡ events.old.items
-              ++ gathered (stop_of self.old) (length sys.now.cores)) }
-        ensures left {
-            OnOk result
-              ((c : ℕ) → c < length sys.now.cores →
-              holder_at self.new.holders c ≡ left_at self.old.accounts self.old.holders c) }
+        ensures events { OnOk result
+            (events.new.items ≡ events.old.items
+            ++ gathered (stop_of self.old) (length sys.now.cores)) }
+        ensures left { OnOk result
+            ((c : ℕ) → c < length sys.now.cores →
+            holder_at self.new.holders c ≡ left_at self.old.accounts self.old.holders c) }
         ensures room { OnOk result (HasRoom sys.now self.new) }
         ensures accounts { self.new.accounts ≡ self.old.accounts }
         ensures taken { self.new.taken ≡ self.old.taken }
@@ -252,19 +246,16 @@ impl Host {
         requires members { AreMembersFrom sys.now 0 members.now }
         requires plan { IsPlan sys.now plan.now }
         requires room { HasRoom sys.now self.old }
-        requires ends {
-            (v : ℕ) → v < length sys.now.parts
-              → (account_at self.old.accounts v).from + (part_at sys.now v).period < 2 ^ 64 }
+        requires ends { (v : ℕ) → v < length sys.now.parts
+            → (account_at self.old.accounts v).from + (part_at sys.now v).period < 2 ^ 64 }
         requires in_limit { self.old.time ≤ LIMIT }
-        ensures events {
-            OnOk result
-              (events.new.items ≡ events.old.items
-              ++ gathered (switch_of self.old.holders self.new.holders self.old.time)
-              (length sys.now.cores)) }
-        ensures chosen {
-            OnOk result
-              ((c : ℕ) → c < length sys.now.cores
-              → IsChoice sys.now plan.now self.old.accounts c (holder_at self.new.holders c)) }
+        ensures events { OnOk result
+            (events.new.items ≡ events.old.items
+            ++ gathered (switch_of self.old.holders self.new.holders self.old.time)
+            (length sys.now.cores)) }
+        ensures chosen { OnOk result
+            ((c : ℕ) → c < length sys.now.cores
+            → IsChoice sys.now plan.now self.old.accounts c (holder_at self.new.holders c)) }
         ensures all_cores { OnOk result (length self.new.holders ≡ length self.old.holders) }
         ensures accounts { self.new.accounts ≡ self.old.accounts }
         ensures taken { self.new.taken ≡ self.old.taken }
@@ -283,27 +274,25 @@ impl Host {
     pub fn next_slot(&self, sys: &System, plan: &Plan, rows: &[Wake], slots: u64) -> u64
         requires plan { IsPlan sys.now plan.now }
         requires room { HasRoom sys.now self.now }
-        requires ends {
-            (v : ℕ) → v < length sys.now.parts
-              → (account_at self.now.accounts v).from + (part_at sys.now v).period < 2 ^ 64 }
+        requires ends { (v : ℕ) → v < length sys.now.parts
+            → (account_at self.now.accounts v).from + (part_at sys.now v).period < 2 ^ 64 }
         requires in_limit { self.now.time ≤ LIMIT }
         ensures in_slots { result ≤ slots }
-        ensures row {
-            self.now.taken < length rows.now → result ≤ (row_at rows.now self.now.taken).at }
-        ensures period {
-            (v : ℕ) → v < length sys.now.parts → (account_at self.now.accounts v).started ≡ true
-              → result ≤ (account_at self.now.accounts v).from + (part_at sys.now v).period }
-        ensures budget {
-            (c v : ℕ) → c < length sys.now.cores → holder_at self.now.holders c ≡ Some v
-              → result ≤ self.now.time + left_of (account_at self.now.accounts v)
-              (budget_at plan.now v) }
-        ensures later {
-            self.now.time < slots →
-              (self.now.taken < length rows.now
-              → self.now.time < (row_at rows.now self.now.taken).at) →
-              ((v : ℕ) → v < length sys.now.parts → (account_at self.now.accounts v).started ≡ true
-              → self.now.time < (account_at self.now.accounts v).from + (part_at sys.now v).period)
-              → self.now.time < result }
+        ensures row { self.now.taken < length rows.now
+            → result ≤ (row_at rows.now self.now.taken).at }
+        ensures period { (v : ℕ) → v < length sys.now.parts
+            → (account_at self.now.accounts v).started ≡ true
+            → result ≤ (account_at self.now.accounts v).from + (part_at sys.now v).period }
+        ensures budget { (c v : ℕ) → c < length sys.now.cores
+            → holder_at self.now.holders c ≡ Some v
+            → result ≤ self.now.time + left_of (account_at self.now.accounts v)
+            (budget_at plan.now v) }
+        ensures later { self.now.time < slots →
+            (self.now.taken < length rows.now
+            → self.now.time < (row_at rows.now self.now.taken).at) →
+            ((v : ℕ) → v < length sys.now.parts → (account_at self.now.accounts v).started ≡ true
+            → self.now.time < (account_at self.now.accounts v).from + (part_at sys.now v).period)
+            → self.now.time < result }
     {
         let mut next = self.next_row(rows, slots);
         for v in 0..sys.parts().len() {
@@ -318,13 +307,12 @@ impl Host {
     /// The slot of the next row, and `slots` where there is none before.
     fn next_row(&self, rows: &[Wake], slots: u64) -> u64
         ensures in_slots { result ≤ slots }
-        ensures row {
-            self.now.taken < length rows.now → result ≤ (row_at rows.now self.now.taken).at }
-        ensures later {
-            self.now.time < slots →
-              (self.now.taken < length rows.now
-              → self.now.time < (row_at rows.now self.now.taken).at)
-              → self.now.time < result }
+        ensures row { self.now.taken < length rows.now
+            → result ≤ (row_at rows.now self.now.taken).at }
+        ensures later { self.now.time < slots →
+            (self.now.taken < length rows.now
+            → self.now.time < (row_at rows.now self.now.taken).at)
+            → self.now.time < result }
     {
         if self.taken < rows.len() {
             return row_at(rows, self.taken).at.min(slots);
@@ -337,14 +325,12 @@ impl Host {
         requires is_part { v < length sys.now.parts }
         requires room { HasRoom sys.now self.now }
         requires end { (account_at self.now.accounts v).from + (part_at sys.now v).period < 2 ^ 64 }
-        ensures period {
-            (account_at self.now.accounts v).started ≡ true
-              → result ≡ (account_at self.now.accounts v).from + (part_at sys.now v).period }
-        ensures later {
-            self.now.time < slots →
-              ((account_at self.now.accounts v).started ≡ true
-              → self.now.time < (account_at self.now.accounts v).from + (part_at sys.now v).period)
-              → self.now.time < result }
+        ensures period { (account_at self.now.accounts v).started ≡ true
+            → result ≡ (account_at self.now.accounts v).from + (part_at sys.now v).period }
+        ensures later { self.now.time < slots →
+            ((account_at self.now.accounts v).started ≡ true
+            → self.now.time < (account_at self.now.accounts v).from + (part_at sys.now v).period)
+            → self.now.time < result }
     {
         let account = account_of(&self.accounts, v);
         if account.started {
@@ -361,10 +347,9 @@ impl Host {
         requires is_core { core < length sys.now.cores }
         requires in_limit { self.now.time ≤ LIMIT }
         requires system { IsSystem sys.now }
-        ensures budget {
-            (v : ℕ) → holder_at self.now.holders core ≡ Some v
-              → result
-              ≡ self.now.time + left_of (account_at self.now.accounts v) (budget_at plan.now v) }
+        ensures budget { (v : ℕ) → holder_at self.now.holders core ≡ Some v
+            → result
+            ≡ self.now.time + left_of (account_at self.now.accounts v) (budget_at plan.now v) }
         ensures later { self.now.time < slots → self.now.time < result }
     {
         match self.holders[core] {
@@ -377,18 +362,15 @@ impl Host {
     pub fn go_on(&mut self, sys: &System, to: u64)
         requires room { HasRoom sys.now self.old }
         requires later { self.old.time ≤ to }
-        requires ends {
-            (v : ℕ) → v < length sys.now.parts
-              → (account_at self.old.accounts v).from + (part_at sys.now v).period < 2 ^ 64 }
-        requires few {
-            (v : ℕ) → v < length sys.now.parts
-              → (account_at self.old.accounts v).used + to < 2 ^ 64 }
-        ensures accounts {
-            (v : ℕ) → v < length sys.now.parts
-              → account_at self.new.accounts v
-              ≡ gone_on (account_at self.old.accounts v)
-              (holds (holder_at self.old.holders (core_of (part_at sys.now v).parent)) v)
-              (to - self.old.time) (part_at sys.now v).period to }
+        requires ends { (v : ℕ) → v < length sys.now.parts
+            → (account_at self.old.accounts v).from + (part_at sys.now v).period < 2 ^ 64 }
+        requires few { (v : ℕ) → v < length sys.now.parts
+            → (account_at self.old.accounts v).used + to < 2 ^ 64 }
+        ensures accounts { (v : ℕ) → v < length sys.now.parts
+            → account_at self.new.accounts v
+            ≡ gone_on (account_at self.old.accounts v)
+            (holds (holder_at self.old.holders (core_of (part_at sys.now v).parent)) v)
+            (to - self.old.time) (part_at sys.now v).period to }
         ensures time { self.new.time ≡ to }
         ensures room { HasRoom sys.now self.new }
         ensures holders { self.new.holders ≡ self.old.holders }
@@ -409,8 +391,8 @@ impl Host {
     fn has_core(&self, sys: &System, v: u32) -> bool
         requires is_part { v < length sys.now.parts }
         requires room { HasRoom sys.now self.now }
-        ensures {
-            result ≡ holds (holder_at self.now.holders (core_of (part_at sys.now v).parent)) v }
+        ensures { result
+            ≡ holds (holder_at self.now.holders (core_of (part_at sys.now v).parent)) v }
     {
         self.holders[core_of(sys, v) as usize] == Some(v)
     }
@@ -436,15 +418,14 @@ pub fn print_rows(
 ) -> Result<(), AllocError>
     requires in_rows { until ≤ length rows.now }
     requires in_turn { from ≤ until }
-    requires known {
-        (i : ℕ) → i < length rows.now → (row_at rows.now i).vcpu < length sys.now.parts }
+    requires known { (i : ℕ) → i < length rows.now
+        → (row_at rows.now i).vcpu < length sys.now.parts }
     requires in_limit { (i : ℕ) → i < length rows.now → (row_at rows.now i).at ≤ LIMIT }
-    ensures {
-        (x : ℕ) → ((i : ℕ) → i < from → (row_at rows.now i).at < x) →
+    ensures { (x : ℕ) → ((i : ℕ) → i < from → (row_at rows.now i).at < x) →
         ((i : ℕ) → from ≤ i → i < until → (row_at rows.now i).at ≡ x) →
         ((i : ℕ) → until ≤ i → i < length rows.now → x < (row_at rows.now i).at) →
         OnOk result (events.new.items
-            ≡ events.old.items ++ gathered (row_event_at sys.now rows.now x) (length rows.now)) }
+        ≡ events.old.items ++ gathered (row_event_at sys.now rows.now x) (length rows.now)) }
 {
     for i in from..until {
         events.push(event_of(sys, row_at(rows, i)))?;

@@ -10,10 +10,10 @@ ghost use Rattle.rtds_sim.specs.Printed.{printed, IsRtdsTrace};
 ghost use Rattle.rtds_sim.specs.Fault.{AllRtds, IsFirstOther, IsRtdsFault};
 ghost use Rattle.rtds_sim.specs.Giving.{AlwaysRunnable, ServersFit, AlwaysServed, GivesBudgets, NeverOver, NoneOver};
 
+use crate::RtdsFault;
 use crate::host::{Host, print_rows};
 use crate::members::Members;
 use crate::moment::moment_of_slot;
-use crate::RtdsFault;
 use release_file::Wake;
 use slot_model::Sched;
 use std::alloc::{AllocError, Global};
@@ -99,8 +99,8 @@ fn simulated(
     requires plan { IsPlan sys.now plan.now }
     requires workload { IsWorkload sys.now wakes.now }
     requires short { slots ≤ 1000000 }
-    ensures trace {
-        IfOk result (λ events. IsRtdsTrace sys.now plan.now wakes.now slots events.items) }
+    ensures trace { IfOk result
+        (λ events. IsRtdsTrace sys.now plan.now wakes.now slots events.items) }
     ensures system { IsSystem sys.now }
 {
     let mut events = Vec::new(alloc);
