@@ -1,13 +1,12 @@
--- What the trace of a run says at each moment is what the run holds at the slot of the moment, so
--- what the run gives the VCPUs in slots the trace gives them in nanoseconds.
-use Rattle.std.proofs.Common.{◌≡◌, ◌⊎◌, ℕ, zero, suc, min, ◌+◌, ◌-◌, ◌*◌, ◌/◌, ◌<◌, ◌≤◌, Bool, true, false, cond, leb, ltb, ◌&&◌, List, [], ◌∷◌, ◌++◌, length, Option, Some, None, refl, sym, ◌∙◌, ap, arith, subst, inl, inr, append_assoc, leb-true, eqb-true}
+-- What the trace of a run says at each moment is what the run holds at the slot of the moment, so what the run gives the VCPUs in
+-- slots the trace gives them in nanoseconds.
+use Rattle.std.proofs.Common.{◌≡◌, ℕ, zero, suc, min, ◌+◌, ◌-◌, ◌*◌, ◌/◌, ◌<◌, ◌≤◌, Bool, true, false, cond, leb, ◌&&◌, List, [], ◌∷◌, ◌++◌, length, Option, Some, None, refl, sym, ◌∙◌, ap, arith, subst, inl, inr, append_assoc, leb-true, eqb-true}
 use Rattle.std.proofs.lemmas.Bool.{cases_Bool, cases_lt, and_from, and_parts, false≢true}
 use Rattle.std.proofs.lemmas.Option.{none-some, same_Some}
 use Rattle.std.proofs.lemmas.List.{get_or_append_left, get_or-append_right, get_or_push, length_push, length-append}
 use Rattle.slot_model.specs.declared.task.TheConstants.{LIMIT}
 use Rattle.slot_model.specs.Run.{held, holds}
 use Rattle.slot_model.proofs.Runs.{count_below-mono}
-use Rattle.slot_model.proofs.Sums.{sum_below-same}
 use Rattle.tree_model.specs.declared.place.Parent.TheVariants.{Core as on_core}
 use Rattle.tree_model.specs.declared.place.Parent.{Parent}
 use Rattle.tree_model.specs.View.{SystemView}
@@ -15,10 +14,9 @@ use Rattle.tree_model.specs.System.{part_at, IsSystem}
 use Rattle.tree_model.specs.Plans.{IsPlan}
 use Rattle.tree_model.specs.Tree.{budget_at, run_at}
 use Rattle.trace_file.specs.declared.event.Event.{Event}
-use Rattle.trace_file.specs.declared.event.What.{What}
 use Rattle.trace_file.specs.declared.event.What.TheVariants.{End}
-use Rattle.trace_file.specs.Events.{event_at, last_among, last_by, starts as starts_event, switches, runner_of, holder, has_core_at, moment_of, start_of as trace_start, end_of}
-use Rattle.trace_file.specs.Periods.{begins, count_between, period_of, running, is_clear, IsShort, IsOver, IsBroken, Satisfied}
+use Rattle.trace_file.specs.Events.{event_at, last_among, last_by, starts as starts_event, switches, runner_of, has_core_at, moment_of, start_of as trace_start, end_of}
+use Rattle.trace_file.specs.Periods.{begins, count_between, period_of, running, Satisfied}
 use Rattle.trace_file.proofs.Among.{last_among-zero, last_among-suc}
 use Rattle.trace_file.proofs.Prefix.{last_same}
 use Rattle.trace_file.proofs.Moments.{last_by_now, child_parent}
@@ -29,11 +27,11 @@ use Rattle.release_file.specs.declared.workload.WakeKind.TheVariants.{Start as T
 use Rattle.release_file.specs.Workload.{row_at, is_of, is_start, starts, is_started, start_of, IsWorkload}
 use Rattle.rtds_sim.specs.Rtds.{RtdsRun}
 use Rattle.rtds_sim.specs.Printed.{moment_of_slot, core_of, what_of, event_of, on_at, printed_below, printed}
-use Rattle.rtds_sim.specs.Giving.{slots_got, AlwaysServed, GivesBudgets, NeverOver, NoneOver}
+use Rattle.rtds_sim.specs.Giving.{slots_got, AlwaysServed, NoneOver}
 use Rattle.rtds_sim.proofs.Rows.{some_row}
 use Rattle.rtds_sim.proofs.Taking.{start_is}
 use Rattle.rtds_sim.proofs.Keeping.{OnCore, vcpu_core, holder_below}
-use Rattle.rtds_sim.proofs.Told.{AllOf, all_one, all_append, Holds, told_below, Behind, behind}
+use Rattle.rtds_sim.proofs.Told.{AllOf, all_one, all_append, told_below, Behind, behind}
 use Rattle.rtds_sim.proofs.Giving.{gives_budgets}
 use Rattle.rtds_sim.proofs.Over.{never_over}
 

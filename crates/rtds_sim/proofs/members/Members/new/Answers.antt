@@ -1,7 +1,6 @@
-use Rattle.std.proofs.Common.{◌≡◌, ℕ, suc, ◌-◌, ◌+◌, ◌<◌, List, length, replicate, sym, refl, ◌∙◌, ap, arith, subst}
+use Rattle.std.proofs.Common.{◌≡◌, ℕ, ◌-◌, List, length, replicate, ◌∙◌, ap, arith}
 use Rattle.std.proofs.lemmas.List.{get_or-replicate, length-replicate}
 use Rattle.tree_model.specs.View.{PartView}
-use Rattle.rtds_sim.specs.Members.{AreMembersFrom}
 use Rattle.rtds_sim.proofs.Membership.{put_none}
 use Rattle.rtds_sim.proofs.members.Members.new.Goals as goal
 
