@@ -127,13 +127,16 @@ impl Host {
     /// Takes the rows at the next slot.
     pub fn take_rows(&mut self, rows: &[Wake])
         requires in_rows { self.old.taken ≤ length rows.now }
-        requires known { (i : ℕ) → i < length rows.now → (row_at rows.now i).vcpu < length self.old.accounts }
+        requires known { (i : ℕ) → i < length rows.now
+            → (row_at rows.now i).vcpu < length self.old.accounts }
         ensures in_rows { self.new.taken ≤ length rows.now }
         ensures later { self.old.taken ≤ self.new.taken }
         ensures now { (i : ℕ) → self.old.taken ≤ i → i < self.new.taken
             → (row_at rows.now i).at ≡ self.old.time }
-        ensures no_more { self.new.taken < length rows.now → (row_at rows.now self.new.taken).at ≢ self.old.time }
-        ensures accounts { (sys : SystemView) (runs : List (List (Option ℕ))) → IsWorkload sys rows.now
+        ensures no_more { self.new.taken < length rows.now
+            → (row_at rows.now self.new.taken).at ≢ self.old.time }
+        ensures accounts { (sys : SystemView) (runs : List (List (Option ℕ)))
+            → IsWorkload sys rows.now
             → AreBefore rows.now self.old.taken self.old.time
             → ((v : ℕ) → v < length sys.parts → 1 ≤ (part_at sys v).period)
             → AreAccounts sys rows.now runs self.old.time self.old.taken self.old.accounts
@@ -150,7 +153,8 @@ impl Host {
     /// Whether the VCPU that has core `core` is blocked.
     fn gives_up(&self, core: usize) -> bool
         requires is_core { core < length self.now.holders }
-        requires is_part { (v : ℕ) → holder_at self.now.holders core ≡ Some v → v < length self.now.accounts }
+        requires is_part { (v : ℕ) → holder_at self.now.holders core ≡ Some v
+            → v < length self.now.accounts }
         ensures { result ≡ gives_up self.now.accounts (holder_at self.now.holders core) }
     {
         match self.holders[core] {
@@ -162,7 +166,8 @@ impl Host {
     /// The VCPU that still has core `core`, if its VCPU gives it up where it blocks.
     fn holder_left(&self, core: usize) -> Option<u32>
         requires is_core { core < length self.now.holders }
-        requires is_part { (v : ℕ) → holder_at self.now.holders core ≡ Some v → v < length self.now.accounts }
+        requires is_part { (v : ℕ) → holder_at self.now.holders core ≡ Some v
+            → v < length self.now.accounts }
         ensures { result ≡ left_at self.now.accounts self.now.holders core }
     {
         if self.gives_up(core) {
@@ -175,7 +180,8 @@ impl Host {
     fn stop_event(&self, core: usize) -> Option<Event>
         requires is_core { core < length self.now.holders }
         requires few { core < 64 }
-        requires is_part { (v : ℕ) → holder_at self.now.holders core ≡ Some v → v < length self.now.accounts }
+        requires is_part { (v : ℕ) → holder_at self.now.holders core ≡ Some v
+            → v < length self.now.accounts }
         requires in_limit { self.now.time ≤ LIMIT }
         ensures { result ≡ stop_of self.now core }
     {
@@ -272,10 +278,13 @@ impl Host {
             → (account_at self.now.accounts v).from + (part_at sys.now v).period < 2 ^ 64 }
         requires in_limit { self.now.time ≤ LIMIT }
         ensures in_slots { result ≤ slots }
-        ensures row { self.now.taken < length rows.now → result ≤ (row_at rows.now self.now.taken).at }
-        ensures period { (v : ℕ) → v < length sys.now.parts → (account_at self.now.accounts v).started ≡ true
+        ensures row { self.now.taken < length rows.now
+            → result ≤ (row_at rows.now self.now.taken).at }
+        ensures period { (v : ℕ) → v < length sys.now.parts
+            → (account_at self.now.accounts v).started ≡ true
             → result ≤ (account_at self.now.accounts v).from + (part_at sys.now v).period }
-        ensures budget { (c v : ℕ) → c < length sys.now.cores → holder_at self.now.holders c ≡ Some v
+        ensures budget { (c v : ℕ) → c < length sys.now.cores
+            → holder_at self.now.holders c ≡ Some v
             → result ≤ self.now.time + left_of (account_at self.now.accounts v)
             (budget_at plan.now v) }
         ensures later { self.now.time < slots →
@@ -298,7 +307,8 @@ impl Host {
     /// The slot of the next row, and `slots` where there is none before.
     fn next_row(&self, rows: &[Wake], slots: u64) -> u64
         ensures in_slots { result ≤ slots }
-        ensures row { self.now.taken < length rows.now → result ≤ (row_at rows.now self.now.taken).at }
+        ensures row { self.now.taken < length rows.now
+            → result ≤ (row_at rows.now self.now.taken).at }
         ensures later { self.now.time < slots →
             (self.now.taken < length rows.now
             → self.now.time < (row_at rows.now self.now.taken).at)
@@ -381,7 +391,8 @@ impl Host {
     fn has_core(&self, sys: &System, v: u32) -> bool
         requires is_part { v < length sys.now.parts }
         requires room { HasRoom sys.now self.now }
-        ensures { result ≡ holds (holder_at self.now.holders (core_of (part_at sys.now v).parent)) v }
+        ensures { result ≡
+            holds (holder_at self.now.holders (core_of (part_at sys.now v).parent)) v }
     {
         self.holders[core_of(sys, v) as usize] == Some(v)
     }
@@ -407,7 +418,8 @@ pub fn print_rows(
 ) -> Result<(), AllocError>
     requires in_rows { until ≤ length rows.now }
     requires in_turn { from ≤ until }
-    requires known { (i : ℕ) → i < length rows.now → (row_at rows.now i).vcpu < length sys.now.parts }
+    requires known { (i : ℕ) → i < length rows.now
+        → (row_at rows.now i).vcpu < length sys.now.parts }
     requires in_limit { (i : ℕ) → i < length rows.now → (row_at rows.now i).at ≤ LIMIT }
     ensures { (x : ℕ) → ((i : ℕ) → i < from → (row_at rows.now i).at < x) →
         ((i : ℕ) → from ≤ i → i < until → (row_at rows.now i).at ≡ x) →

@@ -99,7 +99,8 @@ fn simulated(
     requires plan { IsPlan sys.now plan.now }
     requires workload { IsWorkload sys.now wakes.now }
     requires short { slots ≤ 1000000 }
-    ensures trace { IfOk result (λ events. IsRtdsTrace sys.now plan.now wakes.now slots events.items) }
+    ensures trace { IfOk result
+        (λ events. IsRtdsTrace sys.now plan.now wakes.now slots events.items) }
     ensures system { IsSystem sys.now }
 {
     let mut events = Vec::new(alloc);
