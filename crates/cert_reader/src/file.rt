@@ -32,7 +32,8 @@ fn value_of_text(alloc: Global, bytes: &[u8]) -> Result<Value, CertFault>
 /// are `NotJson`. `NoMemory` may come in place of any answer.
 pub fn read_certificate(alloc: Global, bytes: &[u8]) -> Result<Certificate, CertFault>
     ensures spelled { IfOk result (λ c. certificate_of bytes.now ≡ Ok c) }
-    ensures fault { IfErr result (λ fault. fault ≢ NoMemory → certificate_of bytes.now ≡ Err fault) }
+    ensures fault { IfErr result (λ fault. fault ≢ NoMemory →
+        certificate_of bytes.now ≡ Err fault) }
     // what the text of a certificate spells
     ensures back { (nodes : List NodeView) → TextSpells nodes }
 {

@@ -54,7 +54,8 @@ fn hits_of<S: Supply>(
 ) -> Result<Vec<u64>, AllocError>
     requires fixed { sched ≢ Sched.Edf }
     requires few { length tasks.now < 2 ^ 32 }
-    requires all_hit { let T = sporadic_tasks tasks.now in AllHit (ranks_above sched T) T (S.bound s.now) }
+    requires all_hit { let T = sporadic_tasks tasks.now in
+        AllHit (ranks_above sched T) T (S.bound s.now) }
     ensures { let T = sporadic_tasks tasks.now in
         IfOk result (λ hits. AreLeastHits (ranks_above sched T) T (S.bound s.now) hits.items) }
 {

@@ -162,8 +162,10 @@ fn core_lists(
 ) -> Result<(Vec<u128>, Vec<u64>), AllocError>
     requires few { length tasks.now < 2 ^ 32 }
     requires supply { IsCoreSupply core.now.supply }
-    requires small { IsSmall core.now.sched (sporadic_tasks tasks.now) (core_cycle core.now.supply) }
-    requires passes { Passes core.now.sched (sporadic_tasks tasks.now) (core_bound core.now.supply) }
+    requires small { IsSmall core.now.sched (sporadic_tasks tasks.now)
+        (core_cycle core.now.supply) }
+    requires passes { Passes core.now.sched (sporadic_tasks tasks.now)
+        (core_bound core.now.supply) }
     ensures { let T = sporadic_tasks tasks.now in
         let supply = core.now.supply in
         IfOk result (λ lists.

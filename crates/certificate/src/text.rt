@@ -10,7 +10,8 @@ use tree_model::{Certificate, Node, Place};
 pub fn print_certificate(alloc: Global, c: &Certificate) -> Result<Vec<u8>, AllocError>
     ensures text { IfOk result (λ text. text.items ≡ certificate_text c.now) }
     // it is read as the certificate
-    ensures spells { IfOk result (λ text. length c.now ≤ 576 → certificate_of text.items ≡ Ok c.now) }
+    ensures spells { IfOk result
+        (λ text. length c.now ≤ 576 → certificate_of text.items ≡ Ok c.now) }
 {
     let mut text = String::from_str(alloc, "{\"format\":1,\"nodes\":[")?;
     write_nodes(&mut text, &c.nodes)?;
@@ -19,7 +20,8 @@ pub fn print_certificate(alloc: Global, c: &Certificate) -> Result<Vec<u8>, Allo
 }
 
 fn write_nodes(text: &mut String, nodes: &[Node]) -> Result<(), AllocError>
-    ensures text { OnOk result (string_bytes text.new ≡ string_bytes text.old ++ listed node_text nodes.now) }
+    ensures text { OnOk result
+        (string_bytes text.new ≡ string_bytes text.old ++ listed node_text nodes.now) }
     ensures in_range { OnOk result (AreInRange nodes.now) }
 {
     let Some((first, rest)) = nodes.split_first() else {
@@ -34,7 +36,8 @@ fn write_nodes(text: &mut String, nodes: &[Node]) -> Result<(), AllocError>
 }
 
 fn write_node(text: &mut String, node: &Node) -> Result<(), AllocError>
-    ensures text { OnOk result (string_bytes text.new ≡ string_bytes text.old ++ node_text node.now) }
+    ensures text { OnOk result
+        (string_bytes text.new ≡ string_bytes text.old ++ node_text node.now) }
     ensures in_range { OnOk result (IsInRange node.now) }
 {
     let (budget, period) = (node.budget, node.period);
@@ -63,7 +66,8 @@ fn flag(flag: bool) -> &'static str
 
 /// The kind of a node, its period and its place, which stand one after another.
 fn write_place(text: &mut String, place: Place, period: u64) -> Result<(), AllocError>
-    ensures text { OnOk result (string_bytes text.new ≡ string_bytes text.old ++ place_text place period) }
+    ensures text { OnOk result
+        (string_bytes text.new ≡ string_bytes text.old ++ place_text place period) }
     ensures in_range { place_number place < 2 ^ 32 }
 {
     match place {
@@ -73,7 +77,8 @@ fn write_place(text: &mut String, place: Place, period: u64) -> Result<(), Alloc
 }
 
 fn write_numbers(text: &mut String, numbers: &[u64]) -> Result<(), AllocError>
-    ensures text { OnOk result (string_bytes text.new ≡ string_bytes text.old ++ listed decimal numbers.now) }
+    ensures text { OnOk result
+        (string_bytes text.new ≡ string_bytes text.old ++ listed decimal numbers.now) }
     ensures in_range { OnOk result (AreBelow (2 ^ 64) numbers.now) }
 {
     let Some((first, rest)) = numbers.split_first() else {
@@ -102,7 +107,8 @@ fn write_points(text: &mut String, points: &[u128]) -> Result<(), AllocError>
 }
 
 fn write_witness(text: &mut String, witness: Option<u128>) -> Result<(), AllocError>
-    ensures text { OnOk result (string_bytes text.new ≡ string_bytes text.old ++ witness_text witness) }
+    ensures text { OnOk result
+        (string_bytes text.new ≡ string_bytes text.old ++ witness_text witness) }
     ensures in_range { IsBelow (2 ^ 128) witness }
 {
     match witness {

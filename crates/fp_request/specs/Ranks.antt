@@ -18,7 +18,11 @@ keyed key i j (inr h) = or_right _ _ (and_from _ _ (eq-eqb _ _ h.0) (lt-ltb _ _ 
 -- and the test as that order
 keys : (key : ℕ → ℕ) (i j : ℕ) → ranks_by key i j ≡ true →
     (key i < key j) ⊎ ((key i ≡ key j) × (i < j))
-keys key i j h = elim (or_cases _ _ h) [ inl l ↦ inl (ltb-true _ _ l) | inr b ↦ inr (eqb-true _ _ (and_parts _ _ b).0, ltb-true _ _ (and_parts _ _ b).1) ]
+keys key i j h =
+    elim (or_cases _ _ h) [
+      | inl l ↦ inl (ltb-true _ _ l)
+      | inr b ↦ inr (eqb-true _ _ (and_parts _ _ b).0, ltb-true _ _ (and_parts _ _ b).1)
+    ]
 
 key_turn : (x y z i j k : ℕ) → (x < y) ⊎ ((x ≡ y) × (i < j)) → (y < z) ⊎ ((y ≡ z) × (j < k)) →
     (x < z) ⊎ ((x ≡ z) × (i < k))
@@ -26,7 +30,14 @@ key_turn x y z i j k h g = grind arith
 
 key_either : (x y i j : ℕ) → i ≢ j →
     ((x < y) ⊎ ((x ≡ y) × (i < j))) ⊎ ((y < x) ⊎ ((y ≡ x) × (j < i)))
-key_either x y i j ne = elim (cases_order x y) [ inr w ↦ elim w [ inl l ↦ inl (inl l) | inr l ↦ inr (inl l) ] | inl e ↦ elim (cases_lt i j) [ inl l ↦ inl (inr (e, l)) | inr l ↦ inr (inr (sym e, omega arith)) ] ]
+key_either x y i j ne =
+    elim (cases_order x y) [
+      | inr w ↦ elim w [ inl l ↦ inl (inl l) | inr l ↦ inr (inl l) ]
+      | inl e ↦ elim (cases_lt i j) [
+        | inl l ↦ inl (inr (e, l))
+        | inr l ↦ inr (inr (sym e, omega arith))
+      ]
+    ]
 
 key_self : (x i : ℕ) → (x < x) ⊎ ((x ≡ x) × (i < i)) → ⊥
 key_self x i (inl l) = omega arith
@@ -63,8 +74,10 @@ goes : (above : ℕ → ℕ → Bool) (a b : Job) → fixed_before above a b ≡
     (above a.task b.task ≡ true) ⊎
     ((a.task ≡ b.task) × (a.release + b.early < b.release + a.early))
 goes above a b h =
-    elim (or_cases _ _ h)
-    [ inl u ↦ inl u | inr v ↦ inr (eqb-true _ _ (and_parts _ _ v).0, ltb-true _ _ (and_parts _ _ v).1) ]
+    elim (or_cases _ _ h) [
+      | inl u ↦ inl u
+      | inr v ↦ inr (eqb-true _ _ (and_parts _ _ v).0, ltb-true _ _ (and_parts _ _ v).1)
+    ]
 
 -- and back
 comes : (above : ℕ → ℕ → Bool) (a b : Job) →

@@ -35,7 +35,9 @@ pub record IsState (releases : List Release) (n : ℕ) (left ends ready : List �
   pub ascending : IsAscending ready
 
 abbrev pub IsReady : Ready → Type 0
-IsReady state = IsState state.releases.items state.released state.left.items state.ends.items state.ready.items state.soonest state.time
+IsReady state =
+    IsState state.releases.items state.released state.left.items state.ends.items
+    state.ready.items state.soonest state.time
 
 -- the jobs that have come are released by x
 abbrev pub HaveCome : Ready → ℕ → Type 0

@@ -98,8 +98,12 @@ fn seen_miss(
     requires some_period { 1 ≤ period }
     requires in_limit { period ≤ LIMIT }
     requires in_period { defeat.now.budget ≤ period }
-    requires misses { (slots : List Bool) → WorstList (worst_slot period defeat.now.budget) defeat.now.start defeat.now.span slots → MissesFromStart (worst_slot period defeat.now.budget) defeat.now.start defeat.now.span (before_of sched (sporadic_tasks tasks.now)) (sporadic_tasks tasks.now) slots }
-    ensures { IfOk result (λ miss. IsReplayed sched (sporadic_tasks tasks.now) period defeat.now miss) }
+    requires misses { (slots : List Bool) →
+        WorstList (worst_slot period defeat.now.budget) defeat.now.start defeat.now.span slots →
+        MissesFromStart (worst_slot period defeat.now.budget) defeat.now.start defeat.now.span
+        (before_of sched (sporadic_tasks tasks.now)) (sporadic_tasks tasks.now) slots }
+    ensures { IfOk result
+        (λ miss. IsReplayed sched (sporadic_tasks tasks.now) period defeat.now miss) }
 {
     let Some(slots) = window_end(defeat) else {
         return Ok(None);
@@ -116,7 +120,8 @@ fn seen_miss(
 
 /// Where the window of a defeat ends, and None exactly where that is past 1,000,000 slots.
 fn window_end(defeat: &Defeat) -> Option<u64>
-    ensures { MatchOption result (1000000 < defeat.now.start + defeat.now.span) (λ end. (end ≡ defeat.now.start + defeat.now.span) × (end ≤ 1000000)) }
+    ensures { MatchOption result (1000000 < defeat.now.start + defeat.now.span)
+        (λ end. (end ≡ defeat.now.start + defeat.now.span) × (end ≤ 1000000)) }
 {
     let end = defeat.span.checked_add(defeat.start as u128)?;
     if end > MOST_SLOTS as u128 {
