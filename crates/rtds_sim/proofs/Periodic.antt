@@ -1,4 +1,5 @@
--- Each job of the synchronous release of tasks without jitter comes at a multiple of its task's period.
+-- Each job of the synchronous release of tasks without jitter comes at a multiple of its task's
+-- period.
 use Rattle.std.proofs.Common.{◌≡◌, ℕ, zero, suc, ◌+◌, ◌*◌, ◌<◌, Bool, true, false, List, [], ◌∷◌, length, refl, sym, arith, subst, inl, inr}
 use Rattle.std.proofs.lemmas.Bool.{cases_lt}
 use Rattle.std.proofs.lemmas.List.{get_or_append_left, get_or_push, length_push}

@@ -1,5 +1,5 @@
--- What the trace of a run says at each moment is what the run holds at the slot of the moment, so what the run gives the VCPUs in
--- slots the trace gives them in nanoseconds.
+-- What the trace of a run says at each moment is what the run holds at the slot of the moment, so
+-- what the run gives the VCPUs in slots the trace gives them in nanoseconds.
 use Rattle.std.proofs.Common.{◌≡◌, ℕ, zero, suc, min, ◌+◌, ◌-◌, ◌*◌, ◌/◌, ◌<◌, ◌≤◌, Bool, true, false, cond, leb, ◌&&◌, List, [], ◌∷◌, ◌++◌, length, Option, Some, None, refl, sym, ◌∙◌, ap, arith, subst, inl, inr, append_assoc, leb-true, eqb-true}
 use Rattle.std.proofs.lemmas.Bool.{cases_Bool, cases_lt, and_from, and_parts, false≢true}
 use Rattle.std.proofs.lemmas.Option.{none-some, same_Some}
