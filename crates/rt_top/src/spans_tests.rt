@@ -1,6 +1,8 @@
 //! Runs from event to event beside a plain program that goes slot by slot, over systems that a
 //! small generator makes.
 
+ghost use Rattle.std.specs.Prelude.{◌<◌, ◌≤◌};
+
 use guest_sched::{Span, run_spans, server_spans, windows_of};
 use slot_model::{Edf, Job, Task, is_legal};
 use std::alloc::{AllocError, Global};
@@ -13,15 +15,15 @@ struct Generator {
 }
 
 impl Generator {
-    /// A number below `bound`, and 0 where that is 0.
-    fn below(&mut self, bound: u64) -> u64 {
+    /// A number below `bound`.
+    fn below(&mut self, bound: u64) -> u64
+        requires { 1 ≤ bound }
+        ensures { result < bound }
+    {
         self.state = self
             .state
             .wrapping_mul(6_364_136_223_846_793_005)
             .wrapping_add(1_442_695_040_888_963_407);
-        if bound == 0 {
-            return 0;
-        }
         (self.state >> 33) % bound
     }
 }
@@ -116,7 +118,7 @@ fn chosen(level: &Level, got: &[u64], is_server: bool, x: u64) -> Option<u32> {
         if is_pending(level, got, is_server, place, x)
             && !is_beaten(level, got, is_server, place, x)
         {
-            return Some(place as u32);
+            return u32::try_from(place).ok();
         }
     }
     None
