@@ -6,9 +6,12 @@ use Rattle.slot_model.specs.declared.sched.Sched.{Sched}
 use Rattle.slot_model.specs.declared.sched.Sched.TheVariants.{Edf, Rm, Dm, Listed}
 use Rattle.slot_model.specs.Task.{SporadicTask}
 use Rattle.slot_model.specs.Order.{ranks_above}
-use Rattle.slot_model.specs.Bound.{sbf, AllHit, Passes, IsLeastBudget}
+use Rattle.slot_model.specs.Bound.{IsShortTask, sbf, AllHit, Passes}
 use Rattle.slot_model.proofs.Budgets.{sbf-more}
-use Rattle.least_budget.specs.Answers.{HasHit, IsLeastOfTask}
+use Rattle.least_budget.specs.Answers.{HasHit, IsLeast, IsLeastOfTask}
+use Rattle.least_budget.specs.declared.answers.Least.TheVariants.{Budget, Over}
+use Rattle.slot_model.specs.declared.sched.Short.TheVariants.{Task}
+use Rattle.least_budget.proofs.Testing.{fixed_small, fixed_short}
 
 -- passing under a fixed rank is a hit of each task
 pub hits_of : (sched : Sched) → sched ≢ Edf → (tasks : List SporadicTask) (bound : ℕ → ℕ) → Passes sched tasks bound → AllHit (ranks_above sched tasks) tasks bound
@@ -46,8 +49,12 @@ one_more sched fixed tasks period n budget more l m e h = record {
   ];
 }
 
-pub all_enough : (sched : Sched) → sched ≢ Edf → (tasks : List SporadicTask) (period n budget : ℕ) → n ≡ length tasks → IsEnoughTo sched tasks period n budget → IsLeastBudget sched tasks period budget
-all_enough sched fixed tasks period n budget same e = record { in_period = e.in_period; passes = passes_of sched fixed tasks (sbf period budget) (λ k l. e.hits k (omega arith)); least = e.below }
+-- so all tasks pass with it, or the next is the first that is short even with the whole period
+pub all_enough : (sched : Sched) → sched ≢ Edf → (tasks : List SporadicTask) (period n budget : ℕ) → n ≡ length tasks → IsEnoughTo sched tasks period n budget → IsLeast sched tasks period (Budget budget)
+all_enough sched fixed tasks period n budget same e = (fixed_small sched fixed tasks period, record { in_period = e.in_period; passes = passes_of sched fixed tasks (sbf period budget) (λ k l. e.hits k (omega arith)); least = e.below })
+
+pub first_over : (sched : Sched) → sched ≢ Edf → (tasks : List SporadicTask) (period i budget : ℕ) → 1 ≤ period → i < length tasks → IsEnoughTo sched tasks period i budget → IsShortTask (ranks_above sched tasks) tasks (sbf period period) i → IsLeast sched tasks period (Over (Task i))
+first_over sched fixed tasks period i budget l m e short = fixed_short sched fixed tasks (sbf period period) period i (record { is_task = m; short = short; before = λ k lk. larger_hit (ranks_above sched tasks) tasks period budget period k l e.in_period (omega arith) (e.hits k lk) })
 
 -- task i has a hit with `high`, and with nothing from `from` on below `low`
 pub record IsHitBetween (above : ℕ → ℕ → Bool) (tasks : List SporadicTask) (period i from low high : ℕ) : Type 0 where

@@ -1,46 +1,53 @@
-ghost use Rattle.std.specs.Prelude.{◌≡◌, ◌≢◌, ◌↔◌, ◌^◌, ◌<◌, ◌≤◌, length, IsTrue};
+ghost use Rattle.std.specs.Prelude.{◌≢◌, ◌↔◌, ◌^◌, ◌<◌, ◌≤◌, length, IsTrue, MatchOption};
 ghost use Rattle.slot_model.specs.declared.task.TheConstants.{LIMIT};
 ghost use Rattle.slot_model.specs.Task.{sporadic_tasks};
 ghost use Rattle.slot_model.specs.Order.{ranks_above};
-ghost use Rattle.slot_model.specs.Bound.{sbf, Passes, IsLeastBudget};
-ghost use Rattle.least_budget.specs.Answers.{HasHit, IsLeastOfTask};
+ghost use Rattle.slot_model.specs.Bound.{sbf, IsShortTask};
+ghost use Rattle.least_budget.specs.Answers.{HasHit, IsLeast, IsLeastOfTask};
 
+use crate::Least;
 use fp_test::hit;
-use slot_model::{Sched, Task};
+use slot_model::{Sched, Short, Task};
 use supply_bound::Periodic;
 
-/// The least budget of a period under a fixed rank, where the whole period is enough: the greatest
-/// of the least budgets of the tasks.
-pub fn least_of_all(sched: Sched, tasks: &[Task], period: u64) -> u64
+/// The least budget of a period under a fixed rank: the greatest of the least budgets of the tasks.
+pub fn least_of_tasks(sched: Sched, tasks: &[Task], period: u64) -> Least
     requires fixed { sched ≢ Sched.Edf }
     requires few { length tasks.now < 2 ^ 32 }
     requires some_period { 1 ≤ period }
     requires in_limit { period ≤ LIMIT }
-    requires passes { Passes sched (sporadic_tasks tasks.now) (sbf period period) }
-    ensures { IsLeastBudget sched (sporadic_tasks tasks.now) period result }
+    ensures { IsLeast sched (sporadic_tasks tasks.now) period result }
 {
     let mut budget = 0;
     for i in 0..tasks.len() as u32 {
-        budget = least_of_one(sched, tasks, i, period, budget);
+        match least_of_one(sched, tasks, i, period, budget) {
+            Some(enough) => budget = enough,
+            None => return Least::Over(Short::Task(i)),
+        }
     }
-    budget
+    Least::Budget(budget)
 }
 
-/// The least budget from `from` on with which task `i` has a hit. Most tasks have one at `from`.
-fn least_of_one(sched: Sched, tasks: &[Task], i: u32, period: u64, from: u64) -> u64
+/// The least budget from `from` on with which task `i` has a hit, and None exactly where the whole
+/// period is not enough. Most tasks have a hit at `from`.
+fn least_of_one(sched: Sched, tasks: &[Task], i: u32, period: u64, from: u64) -> Option<u64>
     requires fixed { sched ≢ Sched.Edf }
     requires i_named { i < length tasks.now }
     requires some_period { 1 ≤ period }
     requires in_limit { period ≤ LIMIT }
     requires in_period { from ≤ period }
-    requires enough { let T = sporadic_tasks tasks.now in
-        HasHit (ranks_above sched T) T (sbf period period) i }
-    ensures { let T = sporadic_tasks tasks.now in
-        IsLeastOfTask (ranks_above sched T) T period i from result }
+    ensures { let T = sporadic_tasks tasks.now in let above = ranks_above sched T in
+        MatchOption result (IsShortTask above T (sbf period period) i)
+        (λ budget. IsLeastOfTask above T period i from budget) }
 {
     if has_hit(sched, tasks, i, period, from) {
-        return from;
+        return Some(from);
     }
+    let whole = Periodic {
+        period,
+        budget: period,
+    };
+    hit(sched, tasks, i, &whole)?;
     let mut low = from;
     let mut high = period;
     while low < high {
@@ -51,7 +58,7 @@ fn least_of_one(sched: Sched, tasks: &[Task], i: u32, period: u64, from: u64) ->
             low = middle + 1;
         }
     }
-    high
+    Some(high)
 }
 
 fn has_hit(sched: Sched, tasks: &[Task], i: u32, period: u64, budget: u64) -> bool

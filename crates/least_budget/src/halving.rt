@@ -1,13 +1,12 @@
-ghost use Rattle.std.specs.Prelude.{◌≡◌, ◌≢◌, ◌↔◌, ℕ, ◌*◌, ◌/◌, ◌^◌, ◌<◌, ◌≤◌, ◌⊎◌, length, IsTrue};
+ghost use Rattle.std.specs.Prelude.{◌≡◌, ◌↔◌, ℕ, ◌*◌, ◌/◌, ◌^◌, ◌<◌, ◌≤◌, ◌⊎◌, length, IsTrue};
 ghost use Rattle.slot_model.specs.declared.task.TheConstants.{LIMIT};
 ghost use Rattle.slot_model.specs.Task.{sporadic_tasks};
 ghost use Rattle.slot_model.specs.Bound.{sbf, dbf, Passes, IsHorizon, IsLeastBudget};
 ghost use Rattle.slot_model.specs.Order.{before_of};
 ghost use Rattle.least_budget.specs.Answers.{IsLeast, Separates};
 
-use crate::by_task::least_of_all;
-use crate::passing::test_tasks;
-use crate::{Least, Tested};
+use crate::Least;
+use crate::by_task::least_of_tasks;
 use edf_demand::{demand, horizon};
 use edf_test::{first_short, passes};
 use slot_model::{Sched, Short, Task};
@@ -48,24 +47,6 @@ fn least_of_windows(tasks: &[Task], period: u64) -> Least
     }
     let low = least_by_rate(tasks, period, h);
     Least::Budget(first_enough(tasks, period, h, low))
-}
-
-fn least_of_tasks(sched: Sched, tasks: &[Task], period: u64) -> Least
-    requires fixed { sched ≢ Sched.Edf }
-    requires few { length tasks.now < 2 ^ 32 }
-    requires some_period { 1 ≤ period }
-    requires in_limit { period ≤ LIMIT }
-    ensures { IsLeast sched (sporadic_tasks tasks.now) period result }
-{
-    let whole = Periodic {
-        period,
-        budget: period,
-    };
-    match test_tasks(sched, tasks, &whole) {
-        Tested::Passes => Least::Budget(least_of_all(sched, tasks, period)),
-        Tested::Short(short) => Least::Over(short),
-        Tested::Wide => Least::Wide,
-    }
 }
 
 /// The least budget, up to the period, whose whole cycles give what is asked for in the windows of
