@@ -46,7 +46,21 @@ fn request_within(task: &Task, t: u64) -> u64
     requires { t ≤ LIMIT }
     ensures { result ≡ request_of (sporadic_task task.now) t }
 {
-    (t + task.jitter + (task.period - 1)) / task.period * task.work
+    arrivals_within(t, task.period, task.jitter) * task.work
+}
+
+/// How many jobs a period apart arrive in `t + jitter` slots, which most often is one.
+fn arrivals_within(t: u64, period: u64, jitter: u64) -> u64
+    requires short { t ≤ LIMIT }
+    requires jitter { jitter < period }
+    requires in_limit { period ≤ LIMIT }
+    ensures { result ≡ (t + jitter + (period - 1)) / period }
+{
+    let span = t + jitter;
+    if span <= period {
+        return span.min(1);
+    }
+    (span + (period - 1)) / period
 }
 
 /// How many jobs a period apart arrive in `t + jitter` slots, a number that may pass 2^128.
