@@ -1,4 +1,4 @@
-ghost use Rattle.std.specs.Prelude.{◌≡◌, ℕ, ◌+◌, ◌-◌, ◌^◌, ◌≤◌, List, MatchOption, IfSome};
+ghost use Rattle.std.specs.Prelude.{◌≡◌, ℕ, ◌+◌, ◌-◌, ◌^◌, ◌≤◌, List, MatchOption};
 ghost use Rattle.slot_model.specs.Bound.{demand_of, dbf};
 ghost use Rattle.slot_model.specs.Release.{LegalRelease, work_within};
 ghost use Rattle.slot_model.specs.Task.{sporadic_task, sporadic_tasks};
@@ -13,17 +13,29 @@ pub fn demand(tasks: &[Task], t: u128) -> Option<u128>
     ensures exact { MatchOption result
         (2 ^ 128 ≤ dbf (sporadic_tasks tasks.now) t)
         (λ d. d ≡ dbf (sporadic_tasks tasks.now) t) }
-    ensures bounds { IfSome result (λ d. (jobs : List Job) (from : ℕ) →
+    ensures bounds { (jobs : List Job) (from : ℕ) →
         LegalRelease (sporadic_tasks tasks.now) jobs →
-        work_within (sporadic_tasks tasks.now) jobs from (from + t) ≤ d) }
+        work_within (sporadic_tasks tasks.now) jobs from (from + t)
+        ≤ dbf (sporadic_tasks tasks.now) t }
+{
+    if t <= u64::MAX as u128 {
+        Some(demand_within(tasks, t as u64))
+    } else {
+        demand_past(tasks, t)
+    }
+}
+
+/// The same in 64 bits, but for the sum: a task's demand is at most `t`.
+fn demand_within(tasks: &[Task], t: u64) -> u128
+    ensures { result ≡ dbf (sporadic_tasks tasks.now) t }
 {
     let mut total: u128 = 0;
     let mut due = Due::new(1, 1, t);
     for task in tasks {
         due = due.of_task(task, t);
-        total = total.checked_add(demand_of_task(task, &due, t))?;
+        total += demand_of_task(task, &due, t) as u128;
     }
-    Some(total)
+    total
 }
 
 /// How many jobs of a period and a room fall due in `t` slots.
@@ -31,29 +43,23 @@ pub fn demand(tasks: &[Task], t: u128) -> Option<u128>
 struct Due {
     period: u64,
     room: u64,
-    jobs: u128,
+    jobs: u64,
 }
 
 impl Due {
-    fn new(period: u64, room: u64, t: u128) -> Due
+    fn new(period: u64, room: u64, t: u64) -> Due
         requires some_period { 1 ≤ period }
         requires some_room { 1 ≤ room }
         ensures period { result.period ≡ period }
         ensures room { result.room ≡ room }
         ensures jobs { result.jobs ≡ jobs_due period room t }
     {
-        let jobs = if t < room as u128 {
-            0
-        } else if t <= u64::MAX as u128 {
-            ((t as u64 - room) / period) as u128 + 1
-        } else {
-            (t - room as u128) / period as u128 + 1
-        };
+        let jobs = if t < room { 0 } else { (t - room) / period + 1 };
         Due { period, room, jobs }
     }
 
     /// The same of a task; tasks of one period and room that stand in a row share a division.
-    fn of_task(self, task: &Task, t: u128) -> Due
+    fn of_task(self, task: &Task, t: u64) -> Due
         requires { self.jobs ≡ jobs_due self.period self.room t }
         ensures period { result.period ≡ task.now.period }
         ensures room { result.room ≡ task.now.deadline - task.now.jitter }
@@ -68,11 +74,35 @@ impl Due {
 }
 
 /// At most `t`, since a task's work and jitter fit its deadline and its deadline its period.
-fn demand_of_task(task: &Task, due: &Due, t: u128) -> u128
+fn demand_of_task(task: &Task, due: &Due, t: u64) -> u64
     requires period { due.now.period ≡ task.now.period }
     requires room { due.now.room ≡ task.now.deadline - task.now.jitter }
     requires jobs { due.now.jobs ≡ jobs_due due.now.period due.now.room t }
+    ensures exact { result ≡ demand_of (sporadic_task task.now) t }
+    ensures at_most { result ≤ t }
+{
+    due.jobs * task.work
+}
+
+/// The same for windows that pass 64 bits.
+fn demand_past(tasks: &[Task], t: u128) -> Option<u128>
+    ensures { MatchOption result
+        (2 ^ 128 ≤ dbf (sporadic_tasks tasks.now) t)
+        (λ d. d ≡ dbf (sporadic_tasks tasks.now) t) }
+{
+    let mut total: u128 = 0;
+    for task in tasks {
+        total = total.checked_add(demand_of_one(task, t))?;
+    }
+    Some(total)
+}
+
+fn demand_of_one(task: &Task, t: u128) -> u128
     ensures { result ≡ demand_of (sporadic_task task.now) t }
 {
-    due.jobs * task.work as u128
+    let room = (task.deadline - task.jitter) as u128;
+    if t < room {
+        return 0;
+    }
+    ((t - room) / task.period as u128 + 1) * task.work as u128
 }

@@ -1,5 +1,5 @@
 -- The work that a task's legal releases ask for in a window of t slots.
-use Rattle.std.proofs.Common.{◌≡◌, ℕ, ◌+◌, ◌*◌, ◌-◌, ◌/◌, ◌<◌, ◌≤◌, Bool, true, false, cond, eqb, leb, ltb, ◌&&◌, List, length, refl, sym, ◌∙◌, ap, arith, subst, inl, inr, ne_eqb, eqb-true, leb-true, ltb-true}
+use Rattle.std.proofs.Common.{◌≡◌, ℕ, ◌+◌, ◌*◌, ◌-◌, ◌/◌, ◌<◌, ◌≤◌, Bool, true, false, cond, eqb, leb, ltb, ◌&&◌, List, length, refl, ◌∙◌, ap, arith, subst, inl, inr, ne_eqb, eqb-true, leb-true, ltb-true}
 use Rattle.std.proofs.lemmas.Bool.{cases_eq, and_parts}
 use Rattle.slot_model.specs.Slots.{sum_below}
 use Rattle.slot_model.specs.Release.{LegalRelease}

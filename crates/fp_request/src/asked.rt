@@ -1,11 +1,12 @@
 ghost use Rattle.std.specs.Prelude.{◌≡◌, ◌≢◌, ◌+◌, ◌-◌, ◌/◌, ◌<◌, ◌≤◌, ◌^◌, length, MatchOption};
+ghost use Rattle.slot_model.specs.declared.task.TheConstants.{LIMIT};
 ghost use Rattle.slot_model.specs.Task.{sporadic_task, sporadic_tasks};
 ghost use Rattle.slot_model.specs.Order.{ranks_above};
 ghost use Rattle.slot_model.specs.Bound.{request_of, rbf};
 ghost use Rattle.fp_request.specs.Released.{RequestsBound};
 
 use crate::rank::ranks;
-use slot_model::{Sched, Task};
+use slot_model::{LIMIT, Sched, Task};
 
 /// The request bound of task `i` for `t` slots: its own work, and what the tasks that rank above it
 /// ask for if they are released there. None exactly where it passes 2^128 - 1.
@@ -34,7 +35,32 @@ fn request_of_task(task: &Task, t: u128) -> Option<u128>
     ensures { MatchOption result (2 ^ 128 ≤ request_of (sporadic_task task.now) t)
         (λ r. r ≡ request_of (sporadic_task task.now) t) }
 {
+    if t <= LIMIT as u128 {
+        return Some(request_within(task, t as u64) as u128);
+    }
     arrivals(t, task.period, task.jitter).checked_mul(task.work as u128)
+}
+
+/// The same for a window no longer than a period may be, in 64 bits: a division of 128 is slow.
+fn request_within(task: &Task, t: u64) -> u64
+    requires { t ≤ LIMIT }
+    ensures { result ≡ request_of (sporadic_task task.now) t }
+{
+    arrivals_within(t, task.period, task.jitter) * task.work
+}
+
+/// How many jobs a period apart arrive in `t + jitter` slots, which most often is one.
+fn arrivals_within(t: u64, period: u64, jitter: u64) -> u64
+    requires short { t ≤ LIMIT }
+    requires jitter { jitter < period }
+    requires in_limit { period ≤ LIMIT }
+    ensures { result ≡ (t + jitter + (period - 1)) / period }
+{
+    let span = t + jitter;
+    if span <= period {
+        return span.min(1);
+    }
+    (span + (period - 1)) / period
 }
 
 /// How many jobs a period apart arrive in `t + jitter` slots, a number that may pass 2^128.

@@ -4,4 +4,5 @@ pub mod Budgets
 mod Testing
 mod Rate
 mod Between
+mod ByTask
 pub mod OneAnswer

@@ -1,7 +1,7 @@
 -- A level has one answer, and what two answers say of its runs never stands together. A part
 -- left out of a definition
 -- breaks one of these.
-use Rattle.std.proofs.Common.{◌≡◌, ℕ, suc, ◌≤◌, Bool, List, refl, ap, arith, Option}
+use Rattle.std.proofs.Common.{◌≡◌, ℕ, suc, ◌≤◌, Bool, List, refl, ap, arith}
 use Rattle.slot_model.specs.declared.job.Job.{Job}
 use Rattle.slot_model.specs.declared.sched.Sched.{Sched}
 use Rattle.slot_model.specs.declared.sched.Short.{Short}

@@ -7,14 +7,13 @@ use Rattle.slot_model.specs.declared.sched.Short.TheVariants.{Task}
 use Rattle.slot_model.specs.Task.{SporadicTask, AreConstrained}
 use Rattle.slot_model.specs.Supply.{SupplyLaws}
 use Rattle.slot_model.specs.Order.{before_of, ranks_above}
-use Rattle.slot_model.specs.Bound.{IsHit, IsShortTask, IsFirstShortTask, IsSmall, IsHorizon, DemandFits, dbf, Passes}
+use Rattle.slot_model.specs.Bound.{IsHit, IsShortTask, IsFirstShortTask, IsSmall, IsHorizon, DemandFits, dbf}
 use Rattle.least_budget.specs.declared.answers.Tested.{Tested}
 use Rattle.least_budget.specs.declared.answers.Tested.TheVariants.{Passes as AllPasses, Short as FirstShort, Wide as TestWide}
 use Rattle.least_budget.specs.Answers.{IsTested, Foretells}
 use Rattle.edf_demand.specs.Cyclic.{RisesByCycle}
 use Rattle.edf_demand.proofs.Horizons.{rises_of_laws}
 use Rattle.fp_test.proofs.Answer.{IsAnswer}
-use Rattle.slot_model.proofs.Budgets.{short_not_passes}
 use Rattle.least_budget.proofs.Level.{level_no_loss, short_misses}
 
 -- under a fixed rank
@@ -67,9 +66,3 @@ pub windows_pass : (tasks : List SporadicTask) {bound : ℕ → ℕ} {amount cyc
     → (h : ℕ) → IsHorizon tasks cycle h × (h ≤ 2 ^ 128 - 2) → ((b : ℕ → ℕ) (a : ℕ) → RisesByCycle b a cycle → ((t : ℕ) → 1 ≤ t → t ≤ h → dbf tasks t ≤ b t) → DemandFits tasks b)
     → ((t : ℕ) → 1 ≤ t → t ≤ h → dbf tasks t ≤ bound t) → IsTested Edf tasks bound cycle AllPasses
 windows_pass tasks {bound} {amount} {cycle} {pattern} {start} {Conforms} laws h horizon enough near = ((h, horizon.0, horizon.1), enough bound amount (rises_of_laws bound amount cycle pattern start Conforms laws) near)
-
--- an answer other than that all passes
-pub not_passing : (sched : Sched) (tasks : List SporadicTask) (bound : ℕ → ℕ) (cycle : ℕ) (answer : Tested) → (answer ≡ AllPasses → ⊥) → IsSmall sched tasks cycle → IsTested sched tasks bound cycle answer → Passes sched tasks bound → ⊥
-not_passing sched tasks bound cycle AllPasses none small h passes = none refl
-not_passing sched tasks bound cycle (FirstShort short) none small h passes = short_not_passes sched tasks bound short h.1 passes
-not_passing sched tasks bound cycle TestWide none small h passes = h small

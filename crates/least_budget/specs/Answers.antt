@@ -1,15 +1,14 @@
 -- What the test of a level and the search for its least budget answer.
-use Rattle.std.specs.Prelude.{◌≡◌, ◌≢◌, ℕ, ◌<◌, ◌≤◌, Bool, List, Option, Some, None}
+use Rattle.std.specs.Prelude.{ℕ, ◌<◌, ◌≤◌, Bool, List}
 use Rattle.slot_model.specs.declared.job.Job.{Job}
 use Rattle.slot_model.specs.declared.sched.Sched.{Sched}
-use Rattle.slot_model.specs.declared.sched.Sched.TheVariants.{Edf}
 use Rattle.least_budget.specs.declared.answers.Tested.{Tested}
 use Rattle.least_budget.specs.declared.answers.Tested.TheVariants.{Passes as AllPasses, Short as FirstShort, Wide as TestWide}
 use Rattle.least_budget.specs.declared.answers.Least.{Least}
 use Rattle.least_budget.specs.declared.answers.Least.TheVariants.{Budget, Over, Wide}
 use Rattle.slot_model.specs.Task.{SporadicTask}
 use Rattle.slot_model.specs.Supply.{GivesBudget}
-use Rattle.slot_model.specs.Bound.{sbf, Passes, IsShortfall, IsHorizon, IsSmall, IsLeastBudget}
+use Rattle.slot_model.specs.Bound.{sbf, IsHit, Passes, IsShortfall, IsSmall, IsLeastBudget}
 use Rattle.slot_model.specs.Miss.{NoJobLost, MustMiss}
 
 -- nothing is short, or what is short first, or the horizon is too long to be walked
@@ -26,10 +25,17 @@ Foretells Conforms before tasks AllPasses = NoJobLost Conforms before tasks
 Foretells Conforms before tasks (FirstShort short) = MustMiss Conforms before tasks
 Foretells Conforms before tasks TestWide = Unit {0}
 
--- what is tested up to: the horizon under earliest deadline first, and none under a fixed rank
-abbrev pub IsHorizonOf : Sched → List SporadicTask → ℕ → Option ℕ → Type 0
-IsHorizonOf sched tasks cycle None = sched ≢ Edf
-IsHorizonOf sched tasks cycle (Some h) = (sched ≡ Edf) × IsHorizon tasks cycle h
+-- under a fixed rank a task has a hit
+abbrev pub HasHit : (ℕ → ℕ → Bool) → List SporadicTask → (ℕ → ℕ) → ℕ → Type 0
+HasHit above tasks bound i = (t : ℕ) × IsHit above tasks bound i t
+
+-- the least budget of a period, from one on, with which task i has a hit
+pub record IsLeastOfTask (above : ℕ → ℕ → Bool) (tasks : List SporadicTask)
+    (period i from budget : ℕ) : Type 0 where
+  pub not_below : from ≤ budget
+  pub in_period : budget ≤ period
+  pub enough : HasHit above tasks (sbf period budget) i
+  pub least : (b : ℕ) → from ≤ b → b < budget → HasHit above tasks (sbf period b) i → ⊥
 
 -- the least budget that passes, or what is short with the whole period, or the horizon is too long
 -- to be walked

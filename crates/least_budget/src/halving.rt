@@ -1,12 +1,12 @@
-ghost use Rattle.std.specs.Prelude.{◌≡◌, ◌≢◌, ◌↔◌, ℕ, ◌*◌, ◌/◌, ◌^◌, ◌<◌, ◌≤◌, ◌⊎◌, length, IsTrue};
+ghost use Rattle.std.specs.Prelude.{◌≡◌, ◌↔◌, ℕ, ◌*◌, ◌/◌, ◌^◌, ◌<◌, ◌≤◌, ◌⊎◌, length, IsTrue};
 ghost use Rattle.slot_model.specs.declared.task.TheConstants.{LIMIT};
 ghost use Rattle.slot_model.specs.Task.{sporadic_tasks};
-ghost use Rattle.slot_model.specs.Bound.{sbf, dbf, Passes, IsLeastBudget};
+ghost use Rattle.slot_model.specs.Bound.{sbf, dbf, Passes, IsHorizon, IsLeastBudget};
 ghost use Rattle.slot_model.specs.Order.{before_of};
-ghost use Rattle.least_budget.specs.Answers.{IsHorizonOf, IsLeast, Separates};
+ghost use Rattle.least_budget.specs.Answers.{IsLeast, Separates};
 
-use crate::passing::test_tasks;
-use crate::{Least, Tested};
+use crate::Least;
+use crate::by_task::least_of_tasks;
 use edf_demand::{demand, horizon};
 use edf_test::{first_short, passes};
 use slot_model::{Sched, Short, Task};
@@ -46,25 +46,7 @@ fn least_of_windows(tasks: &[Task], period: u64) -> Least
         return Least::Over(Short::At(t));
     }
     let low = least_by_rate(tasks, period, h);
-    Least::Budget(first_enough(Sched::Edf, tasks, period, Some(h), low))
-}
-
-fn least_of_tasks(sched: Sched, tasks: &[Task], period: u64) -> Least
-    requires fixed { sched ≢ Sched.Edf }
-    requires few { length tasks.now < 2 ^ 32 }
-    requires some_period { 1 ≤ period }
-    requires in_limit { period ≤ LIMIT }
-    ensures { IsLeast sched (sporadic_tasks tasks.now) period result }
-{
-    let whole = Periodic {
-        period,
-        budget: period,
-    };
-    match test_tasks(sched, tasks, &whole) {
-        Tested::Passes => Least::Budget(first_enough(sched, tasks, period, None, 0)),
-        Tested::Short(short) => Least::Over(short),
-        Tested::Wide => Least::Wide,
-    }
+    Least::Budget(first_enough(tasks, period, h, low))
 }
 
 /// The least budget, up to the period, whose whole cycles give what is asked for in the windows of
@@ -90,24 +72,22 @@ fn least_by_rate(tasks: &[Task], period: u64, h: u128) -> u64
     }
 }
 
-/// By halving from `low` on: a larger budget passes where a smaller one does. `h` is the horizon
-/// under earliest deadline first, and none under a fixed rank.
-fn first_enough(sched: Sched, tasks: &[Task], period: u64, h: Option<u128>, low: u64) -> u64
-    requires few { length tasks.now < 2 ^ 32 }
+/// By halving from `low` on: a larger budget passes where a smaller one does. `h` is the horizon.
+fn first_enough(tasks: &[Task], period: u64, h: u128, low: u64) -> u64
     requires some_period { 1 ≤ period }
     requires in_limit { period ≤ LIMIT }
-    requires horizon { IsHorizonOf sched (sporadic_tasks tasks.now) period h }
-    requires passes { Passes sched (sporadic_tasks tasks.now) (sbf period period) }
+    requires horizon { IsHorizon (sporadic_tasks tasks.now) period h }
+    requires passes { Passes Sched.Edf (sporadic_tasks tasks.now) (sbf period period) }
     requires in_period { low ≤ period }
     requires below { let T = sporadic_tasks tasks.now in
-        (b : ℕ) → b < low → Passes sched T (sbf period b) → ⊥ }
-    ensures { IsLeastBudget sched (sporadic_tasks tasks.now) period result }
+        (b : ℕ) → b < low → Passes Sched.Edf T (sbf period b) → ⊥ }
+    ensures { IsLeastBudget Sched.Edf (sporadic_tasks tasks.now) period result }
 {
     let mut low = low;
     let mut high = period;
     while low < high {
         let middle = low + (high - low) / 2;
-        if is_enough(sched, tasks, period, h, middle) {
+        if is_enough(tasks, period, h, middle) {
             high = middle;
         } else {
             low = middle + 1;
@@ -116,17 +96,12 @@ fn first_enough(sched: Sched, tasks: &[Task], period: u64, h: Option<u128>, low:
     high
 }
 
-fn is_enough(sched: Sched, tasks: &[Task], period: u64, h: Option<u128>, budget: u64) -> bool
-    requires few { length tasks.now < 2 ^ 32 }
+fn is_enough(tasks: &[Task], period: u64, h: u128, budget: u64) -> bool
     requires some_period { 1 ≤ period }
     requires in_limit { period ≤ LIMIT }
     requires in_period { budget ≤ period }
-    requires horizon { IsHorizonOf sched (sporadic_tasks tasks.now) period h }
-    ensures { IsTrue result ↔ Passes sched (sporadic_tasks tasks.now) (sbf period budget) }
+    requires horizon { IsHorizon (sporadic_tasks tasks.now) period h }
+    ensures { IsTrue result ↔ Passes Sched.Edf (sporadic_tasks tasks.now) (sbf period budget) }
 {
-    let supply = Periodic { period, budget };
-    match h {
-        Some(h) => passes(tasks, &supply, h),
-        None => matches!(test_tasks(sched, tasks, &supply), Tested::Passes),
-    }
+    passes(tasks, &Periodic { period, budget }, h)
 }

@@ -3,6 +3,7 @@
 #![tactic(auto)]
 
 mod answers;
+mod by_task;
 mod halving;
 mod passing;
 #[cfg(test)]

@@ -39,7 +39,7 @@ fn test_windows<S: Supply>(tasks: &[Task], s: &S) -> Tested
 }
 
 /// The same under a fixed rank, which needs no horizon.
-pub fn test_tasks<S: Supply>(sched: Sched, tasks: &[Task], s: &S) -> Tested
+fn test_tasks<S: Supply>(sched: Sched, tasks: &[Task], s: &S) -> Tested
     requires fixed { sched ≢ Sched.Edf }
     requires few { length tasks.now < 2 ^ 32 }
     ensures { IsTested sched (sporadic_tasks tasks.now) (S.bound s.now) (S.cycle_of s.now) result }

@@ -1,6 +1,5 @@
-use Rattle.std.proofs.Common.{ℕ, ◌*◌, ◌/◌, ◌<◌, ◌≤◌, arith}
+use Rattle.std.proofs.Common.{ℕ, ◌/◌, ◌≤◌, arith}
 use Rattle.std.proofs.lemmas.Nat.{le-div}
-use Rattle.slot_model.specs.Bound.{dbf}
 use Rattle.slot_model.specs.Task.{sporadic_tasks}
 use Rattle.least_budget.proofs.Rate.{too_little, below_quotient}
 use Rattle.least_budget.proofs.halving.least_by_rate.Goals as goal

@@ -1,0 +1,74 @@
+ghost use Rattle.std.specs.Prelude.{◌≢◌, ◌↔◌, ◌^◌, ◌<◌, ◌≤◌, length, IsTrue, MatchOption};
+ghost use Rattle.slot_model.specs.declared.task.TheConstants.{LIMIT};
+ghost use Rattle.slot_model.specs.Task.{sporadic_tasks};
+ghost use Rattle.slot_model.specs.Order.{ranks_above};
+ghost use Rattle.slot_model.specs.Bound.{sbf, IsShortTask};
+ghost use Rattle.least_budget.specs.Answers.{HasHit, IsLeast, IsLeastOfTask};
+
+use crate::Least;
+use fp_test::hit;
+use slot_model::{Sched, Short, Task};
+use supply_bound::Periodic;
+
+/// The least budget of a period under a fixed rank: the greatest of the least budgets of the tasks.
+pub fn least_of_tasks(sched: Sched, tasks: &[Task], period: u64) -> Least
+    requires fixed { sched ≢ Sched.Edf }
+    requires few { length tasks.now < 2 ^ 32 }
+    requires some_period { 1 ≤ period }
+    requires in_limit { period ≤ LIMIT }
+    ensures { IsLeast sched (sporadic_tasks tasks.now) period result }
+{
+    let mut budget = 0;
+    for i in 0..tasks.len() as u32 {
+        match least_of_one(sched, tasks, i, period, budget) {
+            Some(enough) => budget = enough,
+            None => return Least::Over(Short::Task(i)),
+        }
+    }
+    Least::Budget(budget)
+}
+
+/// The least budget from `from` on with which task `i` has a hit, and None exactly where the whole
+/// period is not enough. Most tasks have a hit at `from`.
+fn least_of_one(sched: Sched, tasks: &[Task], i: u32, period: u64, from: u64) -> Option<u64>
+    requires fixed { sched ≢ Sched.Edf }
+    requires i_named { i < length tasks.now }
+    requires some_period { 1 ≤ period }
+    requires in_limit { period ≤ LIMIT }
+    requires in_period { from ≤ period }
+    ensures { let T = sporadic_tasks tasks.now in let above = ranks_above sched T in
+        MatchOption result (IsShortTask above T (sbf period period) i)
+        (λ budget. IsLeastOfTask above T period i from budget) }
+{
+    if has_hit(sched, tasks, i, period, from) {
+        return Some(from);
+    }
+    let whole = Periodic {
+        period,
+        budget: period,
+    };
+    hit(sched, tasks, i, &whole)?;
+    let mut low = from;
+    let mut high = period;
+    while low < high {
+        let middle = low + (high - low) / 2;
+        if has_hit(sched, tasks, i, period, middle) {
+            high = middle;
+        } else {
+            low = middle + 1;
+        }
+    }
+    Some(high)
+}
+
+fn has_hit(sched: Sched, tasks: &[Task], i: u32, period: u64, budget: u64) -> bool
+    requires fixed { sched ≢ Sched.Edf }
+    requires i_named { i < length tasks.now }
+    requires some_period { 1 ≤ period }
+    requires in_limit { period ≤ LIMIT }
+    requires in_period { budget ≤ period }
+    ensures { let T = sporadic_tasks tasks.now in
+        IsTrue result ↔ HasHit (ranks_above sched T) T (sbf period budget) i }
+{
+    hit(sched, tasks, i, &Periodic { period, budget }).is_some()
+}
