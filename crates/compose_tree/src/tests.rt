@@ -85,12 +85,12 @@ fn assert_plan(rt: &impl Abort, answer: Result<Plan, Refusal>, budgets: &[u64]) 
     }
 }
 
-/// Two leaves with given budgets, of 5 and of this many slots.
-fn two_leaves(rt: &impl Abort, alloc: Global, budget: u64) -> Result<Vec<Part>, AllocError> {
+/// Two leaves with these budgets, in slots.
+fn two_leaves(rt: &impl Abort, alloc: Global, budgets: [u64; 2]) -> Result<Vec<Part>, AllocError> {
     let mut first = part(rt, alloc, b"A", Parent::Core(0), 10, &[(40, 40, 5)])?;
-    first.budget = Some(5);
+    first.budget = Some(budgets[0]);
     let mut second = part(rt, alloc, b"B", Parent::Core(0), 20, &[(100, 100, 10)])?;
-    second.budget = Some(budget);
+    second.budget = Some(budgets[1]);
     let mut parts = Vec::new(alloc);
     parts.push(first)?;
     parts.push(second)?;
@@ -100,9 +100,9 @@ fn two_leaves(rt: &impl Abort, alloc: Global, budget: u64) -> Result<Vec<Part>, 
 #[test]
 fn given_budgets_stand_where_they_pass(rt: HostRuntime) -> Result<(), Fail> {
     let alloc = rt.alloc();
-    let parts = two_leaves(&rt, alloc, 10)?;
+    let parts = two_leaves(&rt, alloc, [5, 10])?;
     assert_plan(&rt, answer(&rt, alloc, None, parts)?, &[5, 10]);
-    let parts = two_leaves(&rt, alloc, 11)?;
+    let parts = two_leaves(&rt, alloc, [5, 11])?;
     assert_eq!(rt;
         answer(&rt, alloc, None, parts)?.err(),
         Some(Refusal::Overfull(Place::Core(0), Short::At(20)))
@@ -149,10 +149,9 @@ fn least_budgets_go_up_the_tree(rt: HostRuntime) -> Result<(), Fail> {
 #[test]
 fn assigned_budgets_are_not_tested(rt: HostRuntime) -> Result<(), Fail> {
     let alloc = rt.alloc();
-    let mut parts = two_leaves(&rt, alloc, 10)?;
-    parts[0].budget = Some(1);
+    let parts = two_leaves(&rt, alloc, [1, 10])?;
     assert_plan(&rt, assigned(&rt, alloc, None, parts)?, &[1, 10]);
-    let parts = two_leaves(&rt, alloc, 11)?;
+    let parts = two_leaves(&rt, alloc, [5, 11])?;
     assert_plan(&rt, assigned(&rt, alloc, None, parts)?, &[5, 11]);
     let parts = three_levels(&rt, alloc)?;
     assert_plan(
