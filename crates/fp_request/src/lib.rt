@@ -3,12 +3,12 @@
 //! All numbers are slots.
 #![tactic(auto)]
 
-mod asked;
+mod request_bound;
 mod fixed;
 mod rank;
 #[cfg(test)]
 mod tests;
 
-pub use asked::request;
+pub use request_bound::request;
 pub use fixed::Fixed;
 pub use rank::higher;

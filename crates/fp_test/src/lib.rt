@@ -5,9 +5,9 @@
 #![tactic(auto)]
 
 mod fall;
-mod least;
+mod hits;
 #[cfg(test)]
 mod tests;
 
 pub use fall::falls;
-pub use least::hit;
+pub use hits::hit;

@@ -5,10 +5,10 @@
 mod answers;
 mod by_task;
 mod halving;
-mod passing;
+mod level_test;
 #[cfg(test)]
 mod tests;
 
 pub use answers::{Least, Tested};
 pub use halving::least_budget;
-pub use passing::test;
+pub use level_test::test;

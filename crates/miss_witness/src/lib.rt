@@ -3,11 +3,11 @@
 
 mod defeat;
 mod jobs;
-mod smaller;
+mod witnesses;
 
 pub use defeat::Defeat;
 pub use jobs::witness_jobs;
-pub use smaller::witness;
+pub use witnesses::witness;
 
 #[cfg(test)]
 mod tests;

@@ -6,7 +6,7 @@ use Rattle.slot_model.specs.Order.{before_of}
 use Rattle.least_budget.specs.Answers.{Foretells}
 use Rattle.slot_model.proofs.Constrained.{are_constrained}
 use Rattle.least_budget.proofs.Testing.{tested_foretells}
-use Rattle.least_budget.proofs.passing.test.Goals as goal
+use Rattle.least_budget.proofs.level_test.test.Goals as goal
 
 pub returns-in-Edf-clause-foretells : goal.returns-in-Edf-clause-foretells
 returns-in-Edf-clause-foretells g c =

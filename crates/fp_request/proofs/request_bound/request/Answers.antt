@@ -7,8 +7,8 @@ use Rattle.slot_model.proofs.Sums.{sum_below-zero}
 use Rattle.slot_model.proofs.Constrained.{are_constrained}
 use Rattle.fp_request.proofs.Parts.{task_at-is, part_of, request_to-above, request_to-not_above, request_to-more, sporadic_tasks-length}
 use Rattle.fp_request.proofs.ReleasedWork.{requests_bound}
-use Rattle.fp_request.proofs.asked.request.Goals as goal
-use Rattle.fp_request.proofs.asked.request.Goals.{then-ranks+in_ok-request_of_task+in_ok-sum, else-ranks}
+use Rattle.fp_request.proofs.request_bound.request.Goals as goal
+use Rattle.fp_request.proofs.request_bound.request.Goals.{then-ranks+in_ok-request_of_task+in_ok-sum, else-ranks}
 
 -- the item that a loop has at a place asks for what the task there asks for
 item_request : (tasks : List Task) (k t : ℕ) (item : Task) → k < length tasks → item ≡ get_or tasks k item → request_of (task_at (sporadic_tasks tasks) k) t ≡ request_of (sporadic_task item) t

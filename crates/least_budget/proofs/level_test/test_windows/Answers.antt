@@ -3,7 +3,7 @@ use Rattle.slot_model.specs.Task.{sporadic_tasks}
 use Rattle.slot_model.specs.Bound.{IsHorizon, DemandFits, dbf}
 use Rattle.edf_demand.specs.Cyclic.{RisesByCycle}
 use Rattle.least_budget.proofs.Testing.{windows_pass}
-use Rattle.least_budget.proofs.passing.test_windows.Goals as goal
+use Rattle.least_budget.proofs.level_test.test_windows.Goals as goal
 
 pub returns-in-None : goal.returns-in-None
 returns-in-None g c =

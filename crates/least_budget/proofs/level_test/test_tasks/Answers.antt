@@ -3,7 +3,7 @@ use Rattle.slot_model.specs.Task.{sporadic_tasks}
 use Rattle.slot_model.specs.Order.{ranks_above}
 use Rattle.fp_request.proofs.Parts.{sporadic_tasks-length}
 use Rattle.least_budget.proofs.Testing.{fixed_passes, first_without_hit, one_more_hit}
-use Rattle.least_budget.proofs.passing.test_tasks.Goals as goal
+use Rattle.least_budget.proofs.level_test.test_tasks.Goals as goal
 
 pub returns-then-is_none : goal.returns-then-is_none
 returns-then-is_none g c = first_without_hit c.args.sched c.requires.fixed (sporadic_tasks c.args.tasks.now) (g.S.Supply.bound c.args.s.now) (g.S.Supply.cycle_of c.args.s.now) c.loop-i.i c.hit.result (omega (arith, sporadic_tasks-length c.args.tasks.now)) c.if-is_none.ensures c.hit.ensures.exact c.loop-i.invariant

@@ -7,7 +7,7 @@ use Rattle.slot_model.proofs.Constrained.{are_constrained}
 use Rattle.slot_model.proofs.LegalJobs.{task_at-read}
 use Rattle.fp_request.proofs.Parts.{sporadic_tasks-length}
 use Rattle.miss_witness.proofs.Defeats.{budget_defeated, short_task_inside, short_task_window}
-use Rattle.miss_witness.proofs.smaller.witness.Goals as goal
+use Rattle.miss_witness.proofs.witnesses.witness.Goals as goal
 
 pub returns-in-Short-At-clause-misses : goal.returns-in-Short-At-clause-misses
 returns-in-Short-At-clause-misses c =
