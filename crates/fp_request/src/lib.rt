@@ -3,12 +3,12 @@
 //! All numbers are slots.
 #![tactic(auto)]
 
-mod request_bound;
 mod fixed;
 mod rank;
+mod request_bound;
 #[cfg(test)]
 mod tests;
 
-pub use request_bound::request;
 pub use fixed::Fixed;
 pub use rank::higher;
+pub use request_bound::request;
