@@ -9,7 +9,7 @@ mod replay;
 mod unread;
 mod usage;
 
-pub use admit::{admit_text, is_computed_leaf};
+pub use admit::admit_text;
 pub use fault::{FileFault, fault_text};
 pub use refusal::refusal_text;
 pub use replay::Replay;
