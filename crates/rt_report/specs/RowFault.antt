@@ -1,4 +1,4 @@
--- The lines of faults that rows show: of releases and workloads, and of traces. The header is row 1.
+-- The lines of faults that rows show: of releases, workloads and traces. The header is row 1.
 use Rattle.std.specs.Prelude.{ℕ, List, [], ◌∷◌, codes}
 use Rattle.std.specs.Fmt.{decimal}
 use Rattle.release_file.specs.declared.fault.ReleaseFault.{ReleaseFault}
