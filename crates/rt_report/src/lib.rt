@@ -2,10 +2,13 @@
 #![tactic(auto)]
 
 mod admit;
+mod cert_fault;
 mod fault;
 mod names;
 mod refusal;
 mod replay;
+mod row_fault;
+mod system_fault;
 mod unread;
 mod usage;
 
