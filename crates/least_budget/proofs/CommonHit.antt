@@ -46,7 +46,7 @@ request_of_lowest above tasks ranks fits i low t li l a =
     omega (
       arith,
       sum_below-lt (part_of above tasks i t) (part_of above tasks low t) i (length tasks) (task_at tasks i).work (λ k m. part_within above tasks ranks i low t k a) li
-      (omega (arith, work_asked (task_at tasks i) (fits i li) t l, cond-false {A = ℕ} (above i i) (request_of (task_at tasks i) t) 0 (ranks.not_itself i), cond-true {A = ℕ} (above i low) (request_of (task_at tasks i) t) 0 a)),
+          (omega (arith, work_asked (task_at tasks i) (fits i li) t l, cond-false {A = ℕ} (above i i) (request_of (task_at tasks i) t) 0 (ranks.not_itself i), cond-true {A = ℕ} (above i low) (request_of (task_at tasks i) t) 0 a)),
     )
 
 pub common_of_lowest : (above : ℕ → ℕ → Bool) (tasks : List SporadicTask) → IsRank above → AreConstrained tasks → (bound : ℕ → ℕ) (low t : ℕ) → IsLowest above (length tasks) low → IsHit above tasks bound low t → IsCommon above tasks bound t
