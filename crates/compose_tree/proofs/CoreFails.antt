@@ -25,7 +25,8 @@ use Rattle.slot_model.specs.Bound.{shows_by}
 use Rattle.compose_tree.specs.Truth.{MissesBy, CoreMustMiss}
 use Rattle.compose_tree.proofs.CoreMisses.{core_edf, core_fixed}
 use Rattle.compose_tree.proofs.Heavier.{FallsShort, IsShortPlace}
-use Rattle.compose_tree.proofs.TreeExists.{listed, listed_long, listed_at, tree_exists}
+use Rattle.tree_model.proofs.FirstTrees.{listed, listed_long, listed_at}
+use Rattle.compose_tree.proofs.TreeExists.{tree_exists}
 
 -- a list of slots that are all given conforms to every supply of a core
 all_given : (n : ℕ) → IsFull (listed (λ x. true) n)
