@@ -50,7 +50,8 @@ fn waits_of(
     requires released { HoldsReleased jobs.now (run_of spans.now) }
     requires spans { AreSpans spans.now slots }
     requires long { length (run_of spans.now) ≡ slots }
-    ensures { IfOk result (λ waits. AreWaitsTo jobs.now (run_of spans.now) slots slots waits.items) }
+    ensures { IfOk result (λ waits.
+        AreWaitsTo jobs.now (run_of spans.now) slots slots waits.items) }
 {
     let mut waits = first_waits(alloc, jobs, slots)?;
     for span in spans {

@@ -94,12 +94,7 @@ fn a_miss_and_what_else_is_counted(rt: HostRuntime) -> Result<(), Fail> {
 }
 
 /// The number of pairs of a job and a slot at which it is pending in that schedule.
-fn pending(
-    alloc: Global,
-    tasks: &[Task],
-    jobs: &[Job],
-    given: &[Window],
-) -> Result<u64, AllocError>
+fn pending(alloc: Global, tasks: &[Task], jobs: &[Job], given: &[Window]) -> Result<u64, AllocError>
     requires legal { LegalRelease (sporadic_tasks tasks.now) jobs.now }
     requires few { length jobs.now < 2 ^ 32 }
     requires windows { AreWindows given.now 22 }
