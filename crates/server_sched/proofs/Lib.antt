@@ -1,0 +1,5 @@
+mod Sharing
+mod Nodes
+mod TreeNodes
+pub mod Lists
+pub mod Counted
