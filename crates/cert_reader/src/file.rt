@@ -31,7 +31,7 @@ fn value_of_text(alloc: Global, bytes: &[u8]) -> Result<Value, CertFault>
 /// The certificate that a file spells, or the first fault of its text. Bytes that are no JSON text
 /// are `NotJson`. `NoMemory` may come in place of any answer.
 pub fn read_certificate(alloc: Global, bytes: &[u8]) -> Result<Certificate, CertFault>
-    ensures spelled { IfOk result (λ c. certificate_of bytes.now ≡ Ok c) }
+    ensures spelled { IfOk result (λ c. certificate_of bytes.now ≡ Ok c.nodes) }
     ensures fault { IfErr result (λ fault. fault ≢ NoMemory →
         certificate_of bytes.now ≡ Err fault) }
     // what the text of a certificate spells

@@ -15,10 +15,10 @@ use tree_model::{Certificate, MAX_PARTS, Node, Place, System, tasks_of};
 /// Whether the certificate proves that the system is admitted under its budgets, or its first flaw.
 /// It trusts nothing that the certificate says, and takes no memory.
 pub fn verify(sys: &System, c: &Certificate) -> Result<(), Flaw>
-    ensures exact { IsOk result ↔ Proves sys.now c.now }
-    ensures flaw { IfErr result (λ flaw. FirstFlaw sys.now c.now flaw) }
-    ensures only { (flaw : AnyFlaw) → FirstFlaw sys.now c.now flaw → result ≡ Err flaw }
-    ensures admitted { IfOk result (λ _. Admitted sys.now (budgets_of sys.now c.now)) }
+    ensures exact { IsOk result ↔ Proves sys.now c.now.nodes }
+    ensures flaw { IfErr result (λ flaw. FirstFlaw sys.now c.now.nodes flaw) }
+    ensures only { (flaw : AnyFlaw) → FirstFlaw sys.now c.now.nodes flaw → result ≡ Err flaw }
+    ensures admitted { IfOk result (λ _. Admitted sys.now (budgets_of sys.now c.now.nodes)) }
 {
     let nodes = c.nodes.as_slice();
     if !are_nodes(sys, nodes) {

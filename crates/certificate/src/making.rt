@@ -23,16 +23,16 @@ use tree_model::{Certificate, Core, MAX_PARTS, Node, Part, Place, Refusal, Syste
 /// are
 /// the least. The witness of a computed budget is what is short first at one slot less.
 pub fn certify(alloc: Global, sys: &System) -> Result<Certificate, Refusal>
-    ensures made { IfOk result (λ c. IsCertificate sys.now c) }
-    ensures proves { IfOk result (λ c. Proves sys.now c) }
-    ensures admitted { IfOk result (λ c. Admitted sys.now (budgets_of sys.now c)) }
+    ensures made { IfOk result (λ c. IsCertificate sys.now c.nodes) }
+    ensures proves { IfOk result (λ c. Proves sys.now c.nodes) }
+    ensures admitted { IfOk result (λ c. Admitted sys.now (budgets_of sys.now c.nodes)) }
     ensures refusal { IfErr result (λ r. r ≢ Refusal.NoMemory → FirstRefusal sys.now r) }
     // where budgets admit the system, they are the certificate's
     ensures complete { (budgets : List ℕ) → Admitted sys.now budgets →
-        MatchResult result (λ c. budgets_of sys.now c ≡ budgets) (λ r. r ≡ Refusal.NoMemory) }
+        MatchResult result (λ c. budgets_of sys.now c.nodes ≡ budgets) (λ r. r ≡ Refusal.NoMemory) }
     // what a certificate and a refusal say of every supply and every release
-    ensures no_loss { IfOk result (λ c. NoLoss sys.now (budgets_of sys.now c)) }
-    ensures tight { IfOk result (λ c. IsTight sys.now (budgets_of sys.now c)) }
+    ensures no_loss { IfOk result (λ c. NoLoss sys.now (budgets_of sys.now c.nodes)) }
+    ensures tight { IfOk result (λ c. IsTight sys.now (budgets_of sys.now c.nodes)) }
     ensures holds { IfErr result (λ r. RefusalHolds sys.now r) }
 {
     let plan = compose(alloc, sys)?;

@@ -8,10 +8,10 @@ use tree_model::{Certificate, Node, Place};
 
 /// The text of a certificate: JSON without spaces, and a newline.
 pub fn print_certificate(alloc: Global, c: &Certificate) -> Result<Vec<u8>, AllocError>
-    ensures text { IfOk result (λ text. text.items ≡ certificate_text c.now) }
+    ensures text { IfOk result (λ text. text.items ≡ certificate_text c.now.nodes) }
     // it is read as the certificate
     ensures spells { IfOk result
-        (λ text. length c.now ≤ 576 → certificate_of text.items ≡ Ok c.now) }
+        (λ text. length c.now.nodes ≤ 576 → certificate_of text.items ≡ Ok c.now.nodes) }
 {
     let mut text = String::from_str(alloc, "{\"format\":1,\"nodes\":[")?;
     write_nodes(&mut text, &c.nodes)?;

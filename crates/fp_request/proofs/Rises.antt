@@ -1,12 +1,9 @@
 -- The request bound never falls.
-use Rattle.std.proofs.Common.{ℕ, ◌+◌, ◌-◌, ◌/◌, ◌≤◌, Bool, true, false, cond, List, length, arith, mul-le-mul_right, div-mul-le_self}
-use Rattle.std.proofs.lemmas.Nat.{le-div}
+use Rattle.std.proofs.Common.{ℕ, ◌+◌, ◌-◌, ◌≤◌, Bool, true, false, cond, List, length, arith, mul-le-mul_right}
 use Rattle.slot_model.specs.Task.{SporadicTask, AreConstrained, task_at}
 use Rattle.slot_model.specs.Bound.{request_of, rbf}
 use Rattle.slot_model.proofs.Sums.{sum_below-le}
-
-quotient_rises : (x y p : ℕ) → 1 ≤ p → x ≤ y → x / p ≤ y / p
-quotient_rises x y p l m = le-div (x / p) y p l (omega (arith, div-mul-le_self x p))
+use Rattle.slot_model.proofs.Demand.{quotient_rises}
 
 cond_rises : (v : Bool) (x y : ℕ) → x ≤ y → cond v x 0 ≤ cond v y 0
 cond_rises true x y l = l

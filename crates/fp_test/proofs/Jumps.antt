@@ -1,25 +1,21 @@
 -- What the jumps of the test pass over: from an amount of work to the least window whose bound is
 -- that amount.
-use Rattle.std.proofs.Common.{◌≡◌, ℕ, zero, suc, ◌<◌, ◌≤◌, Bool, List, length, Some, arith, inl, inr}
+use Rattle.std.proofs.Common.{◌≡◌, ℕ, ◌<◌, ◌≤◌, Bool, List, length, Some, arith, inl, inr}
 use Rattle.std.proofs.lemmas.Bool.{cases_lt}
 use Rattle.slot_model.specs.Supply.{SupplyLaws}
 use Rattle.slot_model.specs.Task.{SporadicTask, AreConstrained, room_of, task_at}
 use Rattle.slot_model.specs.Bound.{rbf, IsHit, IsShortTask}
+use Rattle.slot_model.proofs.Rising.{bound-le as least_rise, comes_to_each}
 use Rattle.supply_bound.specs.Reach.{IsReach}
 use Rattle.fp_request.proofs.Rises.{rbf-rises}
 
 -- no window has more slots than it is long
 pub bound-le : {bound : ℕ → ℕ} {amount cycle : ℕ} {pattern : ℕ → Bool} {start : ℕ} {Conforms : List Bool → Type 0} → SupplyLaws bound amount cycle pattern start Conforms → (t : ℕ) → bound t ≤ t
-bound-le laws zero = omega (arith, laws.none_at_zero)
-bound-le laws (suc t) = omega (arith, laws.rises_by_one t, bound-le laws t)
+bound-le {bound} laws t = least_rise bound laws.none_at_zero laws.rises_by_one t
 
 -- a bound that rises by at most one a slot skips no number
 pub skips_none : {bound : ℕ → ℕ} {amount cycle : ℕ} {pattern : ℕ → Bool} {start : ℕ} {Conforms : List Bool → Type 0} → SupplyLaws bound amount cycle pattern start Conforms → (x t : ℕ) → x ≤ bound t → (w : ℕ) × (w ≤ t) × (bound w ≡ x)
-skips_none laws x zero l = (0, omega arith, omega (arith, laws.none_at_zero))
-skips_none {bound} laws x (suc t) l = elim (cases_lt (bound t) x) [
-  | inl m ↦ (suc t, omega arith, omega (arith, laws.rises_by_one t))
-  | inr m ↦ let r : (w : ℕ) × (w ≤ t) × (bound w ≡ x) = skips_none laws x t m in (r.0, omega arith, r.2)
-]
+skips_none {bound} laws x t l = comes_to_each bound laws.none_at_zero laws.rises_by_one x t l
 
 -- so where no smaller window has the bound x, all smaller windows have less
 pub below_reach : {bound : ℕ → ℕ} {amount cycle : ℕ} {pattern : ℕ → Bool} {start : ℕ} {Conforms : List Bool → Type 0} → SupplyLaws bound amount cycle pattern start Conforms → (x t : ℕ) → ((u : ℕ) → u < t → bound u ≡ x → ⊥) → (u : ℕ) → u < t → bound u < x

@@ -1,27 +1,19 @@
 -- At least as many jobs as tasks, where there is a slot.
-use Rattle.std.proofs.Common.{◌≡◌, ℕ, zero, suc, ◌+◌, ◌*◌, ◌<◌, ◌≤◌, Bool, true, false, List, [], length, refl, arith}
-use Rattle.std.proofs.lemmas.List.{length_push}
+use Rattle.std.proofs.Common.{◌≡◌, ℕ, zero, suc, ◌+◌, ◌≤◌, List, [], length, arith}
+use Rattle.slot_model.proofs.Places.{length-push_if}
 use Rattle.slot_model.specs.Task.{SporadicTask, task_at}
-use Rattle.slot_model.specs.Release.{push_if, releases_now, release_of, releases_at, synchronous}
+use Rattle.slot_model.specs.Release.{releases_now, release_of, releases_at, synchronous}
 use Rattle.slot_model.specs.declared.job.Job.{Job}
-
-pushed_long : (jobs : List Job) (b : Bool) (job : Job) → b ≡ true → length (push_if jobs b job) ≡ length jobs + 1
-pushed_long jobs true job e = length_push jobs job
-pushed_long jobs false job e = cc
-
-no_fewer : (jobs : List Job) (b : Bool) (job : Job) → length jobs ≤ length (push_if jobs b job)
-no_fewer jobs true job = omega (arith, length_push jobs job)
-no_fewer jobs false job = omega arith
 
 at_first : (tasks : List SporadicTask) (start i : ℕ) (jobs : List Job) → length (releases_at tasks start 0 i jobs) ≡ length jobs + i
 unfolding releases_at
 at_first tasks start zero jobs = omega arith
-at_first tasks start (suc i) jobs = omega (arith, at_first tasks start i jobs, pushed_long (releases_at tasks start 0 i jobs) (releases_now (task_at tasks i) 0) (release_of tasks start 0 i) refl)
+at_first tasks start (suc i) jobs = omega (arith, at_first tasks start i jobs, length-push_if (releases_at tasks start 0 i jobs) (releases_now (task_at tasks i) 0) (release_of tasks start 0 i))
 
 later : (tasks : List SporadicTask) (start x i : ℕ) (jobs : List Job) → length jobs ≤ length (releases_at tasks start x i jobs)
 unfolding releases_at
 later tasks start x zero jobs = omega arith
-later tasks start x (suc i) jobs = omega (arith, later tasks start x i jobs, no_fewer (releases_at tasks start x i jobs) (releases_now (task_at tasks i) x) (release_of tasks start x i))
+later tasks start x (suc i) jobs = omega (arith, later tasks start x i jobs, length-push_if (releases_at tasks start x i jobs) (releases_now (task_at tasks i) x) (release_of tasks start x i))
 
 pub a_job_each : (tasks : List SporadicTask) (start n : ℕ) → 1 ≤ n → length tasks ≤ length (synchronous tasks start n)
 unfolding synchronous

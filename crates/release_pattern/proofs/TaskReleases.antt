@@ -1,13 +1,13 @@
 -- The synchronous release task by task: what the code adds, and that they are the synchronous
 -- release in another order.
-use Rattle.std.proofs.Common.{◌≡◌, ◌||◌, ℕ, zero, suc, min, ◌+◌, ◌-◌, ◌*◌, ◌/◌, ◌%◌, ◌<◌, ◌≤◌, Bool, true, false, cond, eqb, List, [], ◌∷◌, ◌++◌, length, get_or, refl, sym, ◌∙◌, ap, arith, subst, eq-eqb, inl, inr, add-one}
+use Rattle.std.proofs.Common.{◌≡◌, ◌||◌, ℕ, zero, suc, min, ◌+◌, ◌-◌, ◌*◌, ◌%◌, ◌<◌, ◌≤◌, Bool, true, false, cond, eqb, List, [], ◌∷◌, ◌++◌, length, get_or, refl, sym, ◌∙◌, ap, arith, subst, eq-eqb, add-one}
 use Rattle.std.specs.List.{All, sum_by}
 use Rattle.std.proofs.Math.Nat.{mul-mod_left}
 use Rattle.std.proofs.lemmas.Nat.{mod-mul-add}
 use Rattle.std.proofs.lemmas.Bool.{or_right, ne_eqb}
 use Rattle.std.proofs.lemmas.List.{append_assoc, append-nil, length-map}
 use Rattle.std.proofs.lemmas.List.Elements.{All-nil, All-push, All-append}
-use Rattle.std.proofs.lemmas.List.Sums.{sum_by-append, sum_by_push}
+use Rattle.std.proofs.lemmas.List.Sums.{sum_by-append}
 use Rattle.slot_model.specs.Slots.{sum_below}
 use Rattle.slot_model.specs.declared.task.Task.{Task}
 use Rattle.slot_model.specs.Task.{IsConstrained, SporadicTask, sporadic_task, sporadic_tasks, task_at}
@@ -16,6 +16,7 @@ use Rattle.slot_model.proofs.LegalJobs.{task_at-read}
 use Rattle.slot_model.specs.Release.{push_if, releases_now, release_of, synchronous}
 use Rattle.slot_model.specs.declared.job.Job.{Job}
 use Rattle.slot_model.proofs.Sums.{sum_below-zero, sum_below-suc}
+use Rattle.slot_model.proofs.Places.{sum_by-push_if}
 use Rattle.slot_model.proofs.Synchronous.{sum_synchronous, early_at, early_at-start, early_at-later, early_at-le, periods_at}
 use Rattle.release_pattern.specs.Jobs.{task_releases, releases_by_task}
 use Rattle.release_pattern.proofs.Bags.{SameBag}
@@ -57,15 +58,11 @@ next_release tasks start i m (suc r) e l =
     ∙ next_release tasks start i m r e (omega arith)
 
 -- a sum over them
-sum_if : (f : Job → ℕ) (jobs : List Job) (b : Bool) (job : Job) → sum_by f (push_if jobs b job) ≡ sum_by f jobs + cond b (f job) 0
-sum_if f jobs true job = sum_by_push f jobs job
-sum_if f jobs false job = omega arith
-
 sum_of_task : (f : Job → ℕ) (tasks : List SporadicTask) (start i x : ℕ) → sum_by f (task_releases tasks start i x) ≡ sum_below (λ y. cond (releases_now (task_at tasks i) y) (f (release_of tasks start y i)) 0) x
 unfolding task_releases
 sum_of_task f tasks start i zero = omega (arith, sum_below-zero (λ y. cond (releases_now (task_at tasks i) y) (f (release_of tasks start y i)) 0))
 sum_of_task f tasks start i (suc x) =
-    omega (arith, sum_of_task f tasks start i x, sum_if f (task_releases tasks start i x) (releases_now (task_at tasks i) x) (release_of tasks start x i), sum_below-suc (λ y. cond (releases_now (task_at tasks i) y) (f (release_of tasks start y i)) 0) x)
+    omega (arith, sum_of_task f tasks start i x, sum_by-push_if f (task_releases tasks start i x) (releases_now (task_at tasks i) x) (release_of tasks start x i), sum_below-suc (λ y. cond (releases_now (task_at tasks i) y) (f (release_of tasks start y i)) 0) x)
 
 sum_of_tasks : (f : Job → ℕ) (tasks : List SporadicTask) (start span n : ℕ) → sum_by f (releases_by_task tasks start span n) ≡ sum_below (λ k. sum_below (λ y. cond (releases_now (task_at tasks k) y) (f (release_of tasks start y k)) 0) span) n
 unfolding releases_by_task

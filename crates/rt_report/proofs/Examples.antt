@@ -12,9 +12,12 @@ use Rattle.tree_model.specs.declared.plan.Refusal.TheVariants.{Overfull, Wide}
 use Rattle.tree_model.specs.View.{NamedTask, PartView, SystemView}
 use Rattle.system_file.specs.declared.fault.Spot.TheVariants.{Top, Core as at_core, Part as at_part, Task as at_task}
 use Rattle.system_file.specs.declared.fault.SystemFault.TheVariants.{NotToml, MissingKey, WrongKind, UnknownKey, BadName, NameTaken, OutOfRange, NoSuchParent, Mixed, Empty, TooMany}
-use Rattle.rt_report.specs.declared.fault.FileFault.TheVariants.{System}
+use Rattle.release_file.specs.declared.fault.ReleaseFault.TheVariants.{BadHeader as NoReleases, BadRow as ReleaseBadRow, Unknown as ReleaseUnknown, OutOfRange as ReleaseOutOfRange, TooEarly, BadOrder}
+use Rattle.trace_file.specs.declared.fault.TraceFault.TheVariants.{BadHeader as NoTrace, BadRow, Unknown, OutOfRange as LateMoment, TimeFalls, WrongCore, NotStarted, StartedTwice, NotBlocked, NotRunnable, StillRunning, CoreIdle, AfterEnd, NoEnd}
+use Rattle.cert_reader.specs.declared.fault.CertFault.TheVariants.{NotJson, WrongShape, BadNumber, TooMany as TooManyNodes}
+use Rattle.rt_report.specs.declared.fault.FileFault.TheVariants.{System, Release, Trace, Cert, NotRtds}
 use Rattle.rt_report.specs.declared.replay.Replay.{Replay}
-use Rattle.rt_report.specs.Admit.{admit_text, computed_leaves}
+use Rattle.rt_report.specs.Admit.{admit_text}
 use Rattle.rt_report.specs.Refusal.{refusal_text}
 use Rattle.rt_report.specs.Fault.{fault_text}
 use Rattle.rt_report.specs.Unread.{absent_text, too_long_text}
@@ -84,6 +87,50 @@ the_other_words_of_faults :
     × (fault_text None (System (TooMany Top)) 1 ≡ codes "fault=TooMany at=top file=1\n"))
 unfolding digits
 the_other_words_of_faults = (refl, refl, refl, refl, refl, refl)
+
+faults_of_releases :
+    ((fault_text None (Release NoReleases) 2 ≡ codes "fault=BadHeader row=1 file=2\n")
+    × (fault_text None (Release (ReleaseBadRow 3)) 2 ≡ codes "fault=BadRow row=3 file=2\n")
+    × (fault_text None (Release (ReleaseUnknown 2)) 2 ≡ codes "fault=Unknown row=2 file=2\n")
+    × (fault_text None (Release (ReleaseOutOfRange 12)) 2 ≡ codes "fault=OutOfRange row=12 file=2\n")
+    × (fault_text None (Release (TooEarly 4)) 2 ≡ codes "fault=TooEarly row=4 file=2\n")
+    × (fault_text None (Release (BadOrder 2)) 2 ≡ codes "fault=BadOrder row=2 file=2\n"))
+unfolding digits
+faults_of_releases = (refl, refl, refl, refl, refl, refl)
+
+faults_of_traces :
+    ((fault_text None (Trace NoTrace) 2 ≡ codes "fault=BadHeader row=1 file=2\n")
+    × (fault_text None (Trace (BadRow 2)) 2 ≡ codes "fault=BadRow row=2 file=2\n")
+    × (fault_text None (Trace (Unknown 5)) 2 ≡ codes "fault=Unknown row=5 file=2\n")
+    × (fault_text None (Trace (LateMoment 2)) 2 ≡ codes "fault=OutOfRange row=2 file=2\n")
+    × (fault_text None (Trace (TimeFalls 3)) 2 ≡ codes "fault=TimeFalls row=3 file=2\n")
+    × (fault_text None (Trace (WrongCore 4)) 2 ≡ codes "fault=WrongCore row=4 file=2\n")
+    × (fault_text None (Trace (NotStarted 2)) 2 ≡ codes "fault=NotStarted row=2 file=2\n"))
+unfolding digits
+faults_of_traces = (refl, refl, refl, refl, refl, refl, refl)
+
+more_faults_of_traces :
+    ((fault_text None (Trace (StartedTwice 3)) 2 ≡ codes "fault=StartedTwice row=3 file=2\n")
+    × (fault_text None (Trace (NotBlocked 3)) 2 ≡ codes "fault=NotBlocked row=3 file=2\n")
+    × (fault_text None (Trace (NotRunnable 4)) 2 ≡ codes "fault=NotRunnable row=4 file=2\n")
+    × (fault_text None (Trace (StillRunning 4)) 2 ≡ codes "fault=StillRunning row=4 file=2\n")
+    × (fault_text None (Trace (CoreIdle 2)) 2 ≡ codes "fault=CoreIdle row=2 file=2\n")
+    × (fault_text None (Trace (AfterEnd 6)) 2 ≡ codes "fault=AfterEnd row=6 file=2\n")
+    × (fault_text None (Trace (NoEnd 3)) 2 ≡ codes "fault=NoEnd row=3 file=2\n"))
+unfolding digits
+more_faults_of_traces = (refl, refl, refl, refl, refl, refl, refl)
+
+faults_of_certificates :
+    ((fault_text None (Cert NotJson) 2 ≡ codes "fault=NotJson file=2\n")
+    × (fault_text None (Cert WrongShape) 2 ≡ codes "fault=WrongShape file=2\n")
+    × (fault_text None (Cert BadNumber) 2 ≡ codes "fault=BadNumber file=2\n")
+    × (fault_text None (Cert TooManyNodes) 2 ≡ codes "fault=TooMany file=2\n"))
+unfolding digits
+faults_of_certificates = (refl, refl, refl, refl)
+
+a_core_that_is_not_rtds : fault_text (Some tree) (NotRtds 0) 1 ≡ codes "fault=NotRtds core=cpu0 file=1\n"
+unfolding digits
+a_core_that_is_not_rtds = refl
 
 files_that_are_not_read :
     ((absent_text 1 ≡ codes "absent file=1\n")

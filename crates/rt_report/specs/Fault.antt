@@ -1,47 +1,44 @@
--- The text of a file's fault. Places count from 1.
-use Rattle.std.specs.Prelude.{◌≢◌, ℕ, ◌+◌, List, [], ◌∷◌, ◌++◌, codes, Option}
+-- The line of a fault of a file that a command reads.
+use Rattle.std.specs.Prelude.{◌≢◌, ℕ, ◌<◌, List, [], ◌∷◌, length, codes, Option, Some, None}
 use Rattle.std.specs.Fmt.{decimal}
-use Rattle.system_file.specs.declared.fault.Spot.{Spot}
-use Rattle.system_file.specs.declared.fault.Spot.TheVariants.{Top, Core, Part, Task}
-use Rattle.system_file.specs.declared.fault.SystemFault.{SystemFault}
-use Rattle.system_file.specs.declared.fault.SystemFault.TheVariants.{NotToml, MissingKey, WrongKind, UnknownKey, BadName, NameTaken, OutOfRange, NoSuchParent, Mixed, Empty, TooMany, NoMemory}
+use Rattle.system_file.specs.declared.fault.SystemFault.TheVariants.{NoMemory as SystemNoMemory}
+use Rattle.release_file.specs.declared.fault.ReleaseFault.TheVariants.{NoMemory as ReleaseNoMemory}
+use Rattle.trace_file.specs.declared.fault.TraceFault.TheVariants.{NoMemory as TraceNoMemory}
+use Rattle.cert_reader.specs.declared.fault.CertFault.TheVariants.{NoMemory as CertNoMemory}
 use Rattle.tree_model.specs.View.{SystemView}
+use Rattle.tree_model.specs.System.{core_at}
 use Rattle.rt_report.specs.Words.{joined}
+use Rattle.rt_report.specs.SystemFault.{system_fault_text}
+use Rattle.rt_report.specs.RowFault.{release_fault_text, trace_fault_text}
+use Rattle.rt_report.specs.CertFault.{cert_fault_text}
 use Rattle.rt_report.specs.declared.fault.FileFault.{FileFault}
-use Rattle.rt_report.specs.declared.fault.FileFault.TheVariants.{System}
+use Rattle.rt_report.specs.declared.fault.FileFault.TheVariants.{System, Release, Trace, Cert, NotRtds}
 
-abbrev pub spot_words : Spot → List ℕ
-spot_words Top = codes "top"
-spot_words (Core c) = codes "core " ++ decimal (c + 1)
-spot_words (Part q) = codes "part " ++ decimal (q + 1)
-spot_words (Task q i) = codes "part " ++ (decimal (q + 1) ++ (codes " task " ++ decimal (i + 1)))
-
--- `fault=WORD at=SPOT file=K`
-abbrev pub spot_line : List ℕ → Spot → ℕ → List ℕ
-spot_line word spot file = joined (
-    codes "fault=" ∷ word
-    ∷ codes " at=" ∷ spot_words spot
+-- `fault=NotRtds core=NAME file=K`, over the system that has the core
+abbrev pub not_rtds_text : Option SystemView → ℕ → ℕ → List ℕ
+not_rtds_text None c file = []
+not_rtds_text (Some sys) c file = joined (
+    codes "fault=NotRtds core=" ∷ (core_at sys c).name
     ∷ codes " file=" ∷ decimal file ∷ codes "\n" ∷ [])
-
-abbrev pub system_fault_text : SystemFault → ℕ → List ℕ
-system_fault_text NotToml file = joined (
-    codes "fault=NotToml file=" ∷ decimal file ∷ codes "\n" ∷ [])
-system_fault_text (MissingKey spot) file = spot_line (codes "MissingKey") spot file
-system_fault_text (WrongKind spot) file = spot_line (codes "WrongKind") spot file
-system_fault_text (UnknownKey spot) file = spot_line (codes "UnknownKey") spot file
-system_fault_text (BadName spot) file = spot_line (codes "BadName") spot file
-system_fault_text (NameTaken spot) file = spot_line (codes "NameTaken") spot file
-system_fault_text (OutOfRange spot) file = spot_line (codes "OutOfRange") spot file
-system_fault_text (NoSuchParent spot) file = spot_line (codes "NoSuchParent") spot file
-system_fault_text (Mixed spot) file = spot_line (codes "Mixed") spot file
-system_fault_text (Empty spot) file = spot_line (codes "Empty") spot file
-system_fault_text (TooMany spot) file = spot_line (codes "TooMany") spot file
-system_fault_text NoMemory file = []
 
 -- the line of a fault, over the system where one was read
 abbrev pub fault_text : Option SystemView → FileFault → ℕ → List ℕ
 fault_text sys (System fault) file = system_fault_text fault file
+fault_text sys (Release fault) file = release_fault_text fault file
+fault_text sys (Trace fault) file = trace_fault_text fault file
+fault_text sys (Cert fault) file = cert_fault_text fault file
+fault_text sys (NotRtds c) file = not_rtds_text sys c file
 
--- a fault of the file itself, which can be told: memory did not run out
+-- a system is given, and has this core
+abbrev pub HasCore : Option SystemView → ℕ → Type 0
+HasCore None c = ⊥
+HasCore (Some sys) c = c < length sys.cores
+
+-- a fault of the file itself, which can be told: memory did not run out, and a core that is told
+-- has its name in the system
 abbrev pub IsFault : Option SystemView → FileFault → Type 0
-IsFault sys (System fault) = fault ≢ NoMemory
+IsFault sys (System fault) = fault ≢ SystemNoMemory
+IsFault sys (Release fault) = fault ≢ ReleaseNoMemory
+IsFault sys (Trace fault) = fault ≢ TraceNoMemory
+IsFault sys (Cert fault) = fault ≢ CertNoMemory
+IsFault sys (NotRtds c) = HasCore sys c

@@ -2,6 +2,9 @@ pub mod Words
 pub mod Replay
 pub mod Admit
 pub mod Refusal
+pub mod SystemFault
+pub mod RowFault
+pub mod CertFault
 pub mod Fault
 pub mod Unread
 pub mod Usage

@@ -1,14 +1,26 @@
-ghost use Rattle.std.specs.Prelude.{◌≡◌, ◌≢◌, ◌++◌, IfOk, OnOk, option_copied, string_bytes};
-ghost use Rattle.rt_report.specs.Fault.{fault_text, system_fault_text, spot_words, spot_line, IsFault};
+ghost use Rattle.std.specs.Prelude.{◌≡◌, ◌<◌, length, IfOk, option_copied};
+ghost use Rattle.rt_report.specs.Fault.{fault_text, not_rtds_text, HasCore, IsFault};
 
+use crate::cert_fault::cert_text;
+use crate::row_fault::{release_text, trace_text};
+use crate::system_fault::system_text;
+use cert_reader::CertFault;
+use release_file::ReleaseFault;
 use std::alloc::{AllocError, Global};
-use system_file::{Spot, SystemFault};
+use system_file::SystemFault;
+use trace_file::TraceFault;
 use tree_model::System;
 
 /// The fault of a file that a command reads.
 #[derive(Clone, Copy, Debug, PartialEq, Eq)]
 pub enum FileFault {
     System(SystemFault),
+    /// Of a release file or of a workload.
+    Release(ReleaseFault),
+    Trace(TraceFault),
+    Cert(CertFault),
+    /// The core, by its place, is not full or not under earliest deadline first.
+    NotRtds(u32),
 }
 
 /// The line of a fault of the file word `file`, counted from 1. `sys` has the names of nodes that a
@@ -24,52 +36,28 @@ pub fn fault_text(
 {
     match *f {
         FileFault::System(fault) => system_text(alloc, fault, file),
+        FileFault::Release(fault) => release_text(alloc, fault, file),
+        FileFault::Trace(fault) => trace_text(alloc, fault, file),
+        FileFault::Cert(fault) => cert_text(alloc, fault, file),
+        FileFault::NotRtds(c) => not_rtds_text(alloc, sys, c, file),
     }
 }
 
-fn system_text(alloc: Global, fault: SystemFault, file: u32) -> Result<Vec<u8>, AllocError>
-    requires { fault ≢ SystemFault.NoMemory }
-    ensures { IfOk result (λ text. text.items ≡ system_fault_text fault file) }
+fn not_rtds_text(
+    alloc: Global,
+    sys: Option<&System>,
+    c: u32,
+    file: u32,
+) -> Result<Vec<u8>, AllocError>
+    requires { HasCore (option_copied sys) c }
+    ensures { IfOk result
+        (λ text. text.items ≡ not_rtds_text (option_copied sys.entry) c file) }
 {
-    let (word, spot) = match fault {
-        SystemFault::NotToml => return not_toml(alloc, file),
-        SystemFault::MissingKey(spot) => ("MissingKey", spot),
-        SystemFault::WrongKind(spot) => ("WrongKind", spot),
-        SystemFault::UnknownKey(spot) => ("UnknownKey", spot),
-        SystemFault::BadName(spot) => ("BadName", spot),
-        SystemFault::NameTaken(spot) => ("NameTaken", spot),
-        SystemFault::OutOfRange(spot) => ("OutOfRange", spot),
-        SystemFault::NoSuchParent(spot) => ("NoSuchParent", spot),
-        SystemFault::Mixed(spot) => ("Mixed", spot),
-        SystemFault::Empty(spot) => ("Empty", spot),
-        SystemFault::TooMany(spot) => ("TooMany", spot),
-        SystemFault::NoMemory => unreachable!(),
-    };
-    at_spot(alloc, word, spot, file)
-}
-
-fn not_toml(alloc: Global, file: u32) -> Result<Vec<u8>, AllocError>
-    ensures { IfOk result (λ text. text.items ≡ system_fault_text SystemFault.NotToml file) }
-{
-    Ok(format!(in alloc; "fault=NotToml file={file}\n")?.into_bytes())
-}
-
-fn at_spot(alloc: Global, word: &str, spot: Spot, file: u32) -> Result<Vec<u8>, AllocError>
-    ensures { IfOk result (λ text. text.items ≡ spot_line word.now spot file) }
-{
-    let mut text = format!(in alloc; "fault={word} at=")?;
-    push_spot(&mut text, spot)?;
-    write!(text, " file={file}\n")?;
-    Ok(text.into_bytes())
-}
-
-fn push_spot(text: &mut String, spot: Spot) -> Result<(), AllocError>
-    ensures { OnOk result (string_bytes text.new ≡ string_bytes text.old ++ spot_words spot) }
-{
-    match spot {
-        Spot::Top => text.push_str("top"),
-        Spot::Core(c) => write!(text, "core {}", c as u64 + 1),
-        Spot::Part(q) => write!(text, "part {}", q as u64 + 1),
-        Spot::Task(q, i) => write!(text, "part {} task {}", q as u64 + 1, i as u64 + 1),
+    match sys {
+        Some(sys) => {
+            let name = sys.cores()[c as usize].name.as_str();
+            Ok(format!(in alloc; "fault=NotRtds core={name} file={file}\n")?.into_bytes())
+        }
+        None => unreachable!(),
     }
 }

@@ -2,14 +2,17 @@
 #![tactic(auto)]
 
 mod admit;
+mod cert_fault;
 mod fault;
 mod names;
 mod refusal;
 mod replay;
+mod row_fault;
+mod system_fault;
 mod unread;
 mod usage;
 
-pub use admit::{admit_text, is_computed_leaf};
+pub use admit::admit_text;
 pub use fault::{FileFault, fault_text};
 pub use refusal::refusal_text;
 pub use replay::Replay;

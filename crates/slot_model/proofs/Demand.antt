@@ -18,7 +18,7 @@ demand_closed b f t = elim (cases_lt (t + b.jitter) b.deadline) [
       cond-true {A = ℕ} (leb b.deadline (t + b.jitter)) (((t + b.jitter - b.deadline) / b.period + 1) * b.work) 0 (le-leb _ _ l) ∙ sym (ap (λ (z : ℕ). z * b.work) q)
 ]
 
-quotient_rises : (x y p : ℕ) → 1 ≤ p → x ≤ y → x / p ≤ y / p
+pub quotient_rises : (x y p : ℕ) → 1 ≤ p → x ≤ y → x / p ≤ y / p
 quotient_rises x y p l m = le-div (x / p) y p l (omega (arith, div-mul-le_self x p))
 
 -- a task's demand never falls

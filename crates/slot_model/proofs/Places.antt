@@ -2,6 +2,8 @@
 use Rattle.std.proofs.Common.{◌≡◌, ℕ, zero, suc, ◌+◌, ◌<◌, Bool, true, false, cond, List, [], ◌∷◌, map, length, get_or, refl, sym, ◌∙◌, ap, arith, subst, inl, inr}
 use Rattle.std.proofs.lemmas.Bool.{cases_eq, false≢true}
 use Rattle.std.proofs.lemmas.List.{get_or_append_left, get_or_push, length_push, map-append}
+use Rattle.std.specs.List.{sum_by}
+use Rattle.std.proofs.lemmas.List.Sums.{sum_by_push}
 use Rattle.slot_model.specs.Slots.{count_below, push_if, places_where}
 use Rattle.slot_model.proofs.Sums.{sum_below-zero, sum_below-suc}
 
@@ -13,6 +15,10 @@ length-push_if xs false y = omega arith
 pub map-push_if : {X Y : Type 0} (f : X → Y) (xs : List X) (b : Bool) (y : X) → map f (push_if xs b y) ≡ push_if (map f xs) b (f y)
 map-push_if f xs true y = map-append f xs (y ∷ [])
 map-push_if f xs false y = refl
+
+pub sum_by-push_if : {X : Type 0} (f : X → ℕ) (xs : List X) (b : Bool) (y : X) → sum_by f (push_if xs b y) ≡ sum_by f xs + cond b (f y) 0
+sum_by-push_if f xs true y = sum_by_push f xs y
+sum_by-push_if f xs false y = omega arith
 
 pub push_if-kept : {X : Type 0} (xs : List X) (b : Bool) (y d : X) (i : ℕ) → i < length xs → get_or (push_if xs b y) i d ≡ get_or xs i d
 push_if-kept xs true y d i l = get_or_append_left xs (y ∷ []) d i l

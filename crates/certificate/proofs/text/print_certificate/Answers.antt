@@ -1,6 +1,6 @@
 use Rattle.std.proofs.Common.{◌≡◌, ℕ, Vec, Global, List, [], ◌++◌, codes, length, Ok, ◌≤◌, ◌∙◌, ap, sym, subst}
 use Rattle.std.specs.Prelude.{string_bytes}
-use Rattle.tree_model.specs.CertificateView.{NodeView}
+use Rattle.tree_model.specs.CertificateView.{NodeView, CertificateView}
 use Rattle.cert_reader.specs.CertificateFile.{certificate_of}
 use Rattle.cert_reader.specs.Printed.{certificate_text, AreInRange}
 use Rattle.cert_reader.proofs.TextBack.{text_spells}
@@ -20,9 +20,9 @@ returns-clause-text c =
     let middle : t1 ≡ t0 ++ listed node_text nodes = c.in_ok-write_nodes.ensures.text ∙ ap (λ (ns : List NodeView). t0 ++ listed node_text ns) c.deref.ensures.value in
     let both : t2 ≡ t0 ++ (listed node_text nodes ++ codes "]}\n") = then t0 t1 t2 (listed node_text nodes) (codes "]}\n") middle c.in_ok-push_str.ensures.bytes in
     let whole : t2 ≡ codes "{\"format\":1,\"nodes\":[" ++ (listed node_text nodes ++ codes "]}\n") = both ∙ ap (λ (s : List ℕ). s ++ (listed node_text nodes ++ codes "]}\n")) first in
-    subst (λ (now : List NodeView). c.into_bytes.result.items ≡ certificate_text now) c.c.view_is (ap (λ (v : Vec ℕ Global). v.items) c.into_bytes.ensures.value ∙ (whole ∙ sym (certificate_same nodes in_range)))
+    subst (λ (now : List NodeView). c.into_bytes.result.items ≡ certificate_text now) (ap (λ (v : CertificateView). v.nodes) c.c.view_is) (ap (λ (v : Vec ℕ Global). v.items) c.into_bytes.ensures.value ∙ (whole ∙ sym (certificate_same nodes in_range)))
 
 pub returns-clause-spells : goal.returns-clause-spells
 returns-clause-spells c = λ few.
-    let in_range : AreInRange c.args.c.now = subst AreInRange (c.deref.ensures.value ∙ c.c.view_is) c.in_ok-write_nodes.ensures.in_range in
-    ap certificate_of (returns-clause-text c) ∙ text_spells c.args.c.now in_range few
+    let in_range : AreInRange c.args.c.now.nodes = subst AreInRange (c.deref.ensures.value ∙ ap (λ (v : CertificateView). v.nodes) c.c.view_is) c.in_ok-write_nodes.ensures.in_range in
+    ap certificate_of (returns-clause-text c) ∙ text_spells c.args.c.now.nodes in_range few
