@@ -3,3 +3,5 @@ mod Nodes
 mod TreeNodes
 pub mod Lists
 pub mod Counted
+mod TestInputs
+mod Patterned

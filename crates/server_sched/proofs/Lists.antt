@@ -10,7 +10,8 @@ use Rattle.tree_model.specs.System.{IsSystem}
 use Rattle.tree_model.specs.Tree.{server_tasks}
 use Rattle.release_pattern.proofs.FewJobs.{synchronous-few}
 use Rattle.tree_model.proofs.Parents.{few_servers}
-use Rattle.server_sched.specs.TreeSpans.{jobs_at, supplies_of, AreWindowsOf, AreSupplies, AreFewJobs}
+use Rattle.tree_model.specs.Releases.{jobs_at}
+use Rattle.server_sched.specs.TreeSpans.{supplies_of, AreWindowsOf, AreSupplies, AreFewJobs}
 
 pub one_list : (n : ℕ) (given : List (List Bool)) (m : ℕ) (lists : List (List Window)) → AreWindowsOf n given m lists → (new : List Window) → AreWindows new n → slots_of new n ≡ get_or given m [] → AreWindowsOf n given (m + 1) (lists ++ new ∷ [])
 one_list n given m lists h new are same = record {

@@ -23,7 +23,8 @@ use Rattle.slot_model.specs.Task.{SporadicTask}
 use Rattle.server_sched.specs.NodeView.{NodeView, TreeView, counts_of}
 use Rattle.server_sched.specs.TreeCounts.{no_counts, counts_at, AreTreeCounts}
 use Rattle.server_sched.specs.Shares.{AreShare, share_at}
-use Rattle.server_sched.specs.TreeSpans.{jobs_at, given_at, no_node, node_at, runs_of, supplies_of, IsServerNode, IsPartNode, AreCoreNodes, ArePartNodes, GivesShares, CoresGive, IsThere, node_of, parent_of, HasShare, AreTreeSpans}
+use Rattle.tree_model.specs.Releases.{jobs_at}
+use Rattle.server_sched.specs.TreeSpans.{given_at, no_node, node_at, runs_of, supplies_of, IsServerNode, IsPartNode, AreCoreNodes, ArePartNodes, GivesShares, CoresGive, IsThere, node_of, parent_of, HasShare, AreTreeSpans}
 
 abbrev nothing : NodeView
 nothing = no_node

@@ -2,3 +2,4 @@ pub mod Shares
 pub mod NodeView
 pub mod TreeCounts
 pub mod TreeSpans
+pub mod Patterns

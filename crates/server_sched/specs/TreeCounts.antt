@@ -1,5 +1,6 @@
 -- What is counted of the runs of a tree, node by node.
-use Rattle.std.specs.Prelude.{◌≡◌, ℕ, ◌<◌, Bool, true, false, List, [], length, slice_index_or, All, Option, None}
+use Rattle.std.specs.Prelude.{◌≡◌, ℕ, ◌<◌, ◌==◌, ◌&&◌, Bool, true, false, List, [], length, slice_index_or, Option, None}
+use Rattle.std.specs.List.{list_all}
 use Rattle.slot_model.specs.declared.job.Job.{Job}
 use Rattle.slot_model.specs.Miss.{NoneMissed}
 use Rattle.span_counts.specs.declared.counts.Counts.{Counts}
@@ -50,7 +51,9 @@ pub record NoneMisses (sys : SystemView) (budgets : List ℕ) (n : ℕ) (jobs : 
   pub leaves : (q : ℕ) → q < length sys.parts → is_leaf_at sys q ≡ true →
       NoneMissed (own_tasks_at sys q) (slice_index_or jobs q []) (run_at part_runs q)
 
--- no node's counts have a miss
-pub record CountNoMiss (counts : CountsView) : Type 0 where
-  pub cores : All (λ (c : Counts). c.missed ≡ 0) counts.cores
-  pub parts : All (λ (c : Counts). c.missed ≡ 0) counts.parts
+-- whether none of these counts, and of no node, have a miss
+abbrev pub none_missed : List Counts → Bool
+none_missed counts = list_all (λ (c : Counts). c.missed == 0) counts
+
+abbrev pub no_node_misses : CountsView → Bool
+no_node_misses counts = none_missed counts.cores && none_missed counts.parts

@@ -1,7 +1,6 @@
 -- The first run of the tree as spans.
 use Rattle.std.specs.Prelude.{◌≡◌, ℕ, ◌^◌, ◌<◌, Bool, true, false, List, [], length, map, slice_index_or, Option, None}
 use Rattle.slot_model.specs.declared.job.Job.{Job}
-use Rattle.slot_model.specs.Release.{LegalRelease}
 use Rattle.guest_sched.specs.declared.spans.Window.{Window}
 use Rattle.guest_sched.specs.Spans.{AreWindows, AreSpans, slots_of, run_of}
 use Rattle.span_counts.specs.Counts.{AreCounts}
@@ -10,19 +9,10 @@ use Rattle.tree_model.specs.declared.place.Place.TheVariants.{Core, Part}
 use Rattle.tree_model.specs.View.{SystemView}
 use Rattle.tree_model.specs.System.{part_at, own_tasks_at, is_leaf_at}
 use Rattle.tree_model.specs.Tree.{IsNode, place_of, server_tasks, server_jobs, rank_among, supply_of}
+use Rattle.tree_model.specs.Releases.{jobs_at}
 use Rattle.tree_model.specs.FirstTree.{FirstServers, FirstLeaf, FirstTree}
 use Rattle.server_sched.specs.NodeView.{NodeView, TreeView}
 use Rattle.server_sched.specs.Shares.{AreShares}
-
-abbrev pub jobs_at : List (List Job) → ℕ → List Job
-jobs_at jobs q = slice_index_or jobs q []
-
--- one list of jobs a part: legal at a leaf, and empty at an inner part
-pub record AreReleases (sys : SystemView) (jobs : List (List Job)) : Type 0 where
-  pub one_each : length jobs ≡ length sys.parts
-  pub legal : (q : ℕ) → q < length sys.parts → is_leaf_at sys q ≡ true →
-      LegalRelease (own_tasks_at sys q) (jobs_at jobs q)
-  pub none : (q : ℕ) → q < length sys.parts → is_leaf_at sys q ≡ false → jobs_at jobs q ≡ []
 
 abbrev pub given_at : List (List Window) → ℕ → List Window
 given_at given c = slice_index_or given c []

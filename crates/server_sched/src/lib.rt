@@ -8,6 +8,7 @@ mod node;
 mod servers;
 mod shares;
 mod slots;
+mod supplies;
 mod tree;
 mod tree_counts;
 
@@ -15,6 +16,7 @@ pub use guest_sched::{Span, Window, server_spans};
 pub use node::{NodeSpans, TreeSpans};
 pub use servers::{run_servers, server_jobs};
 pub use slots::run_tree;
+pub use supplies::{Pattern, core_supplies};
 pub use tree::span_tree;
 pub use tree_counts::TreeCounts;
 

@@ -4,7 +4,8 @@ ghost use Rattle.tree_model.specs.Plans.{IsPlan};
 ghost use Rattle.tree_model.specs.System.{IsSystem};
 ghost use Rattle.tree_model.specs.Tree.{PermittedTree};
 ghost use Rattle.tree_model.specs.FirstTree.{FirstTree};
-ghost use Rattle.server_sched.specs.TreeSpans.{AreReleases, AreLists, AreWindowsOf, jobs_at, node_at, runs_of};
+ghost use Rattle.tree_model.specs.Releases.{AreReleases, jobs_at};
+ghost use Rattle.server_sched.specs.TreeSpans.{AreLists, AreWindowsOf, node_at, runs_of};
 
 use crate::node::NodeSpans;
 use crate::tree::span_tree;

@@ -6,10 +6,11 @@ ghost use Rattle.tree_model.specs.Plans.{IsPlan};
 ghost use Rattle.tree_model.specs.System.{IsSystem, own_tasks_at, is_leaf_at};
 ghost use Rattle.tree_model.specs.Tree.{IsNode, node_sched, node_tasks, server_tasks, server_jobs, rank_among, PermittedTree};
 ghost use Rattle.tree_model.specs.FirstTree.{FirstTree, OneFirstTree};
+ghost use Rattle.tree_model.specs.Releases.{AreReleases};
 ghost use Rattle.server_sched.specs.Shares.{share_at};
 ghost use Rattle.server_sched.specs.NodeView.{counts_of};
 ghost use Rattle.server_sched.specs.TreeCounts.{AreTreeCounts};
-ghost use Rattle.server_sched.specs.TreeSpans.{AreReleases, AreSupplies, AreFewJobs, runs_of, supplies_of, IsServerNode, IsLeafNode, IsPartNode, AreCoreNodes, ArePartNodes, CoresGive, HasShare, node_of, parent_of, AreTreeSpans};
+ghost use Rattle.server_sched.specs.TreeSpans.{AreSupplies, AreFewJobs, runs_of, supplies_of, IsServerNode, IsLeafNode, IsPartNode, AreCoreNodes, ArePartNodes, CoresGive, HasShare, node_of, parent_of, AreTreeSpans};
 
 use crate::node::{NodeSpans, TreeSpans};
 use crate::servers::server_jobs;

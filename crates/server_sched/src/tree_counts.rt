@@ -1,5 +1,5 @@
-ghost use Rattle.std.specs.Prelude.{◌≡◌, ◌↔◌, All, IsTrue};
-ghost use Rattle.server_sched.specs.TreeCounts.{CountNoMiss};
+ghost use Rattle.std.specs.Prelude.{◌≡◌};
+ghost use Rattle.server_sched.specs.TreeCounts.{none_missed, no_node_misses};
 
 use span_counts::Counts;
 use std::marker::Model;
@@ -36,19 +36,14 @@ impl TreeCounts {
 
     /// Whether no node has a miss.
     pub fn is_kept(&self) -> bool
-        ensures { IsTrue result ↔ CountNoMiss self.now }
+        ensures { result ≡ no_node_misses self.now }
     {
         none_missed(self.cores()) && none_missed(self.parts())
     }
 }
 
 fn none_missed(counts: &[Counts]) -> bool
-    ensures { IsTrue result ↔ All (λ c. c.missed ≡ 0) counts.now }
+    ensures { result ≡ none_missed counts.now }
 {
-    for node in counts {
-        if node.missed > 0 {
-            return false;
-        }
-    }
-    true
+    counts.iter().all(|node| node.missed == 0)
 }

@@ -2,7 +2,7 @@ ghost use Rattle.std.specs.Prelude.{◌≡◌, ◌∷◌, [], ◌≤◌, true, l
 ghost use Rattle.tree_model.specs.Plans.{IsPlan};
 ghost use Rattle.tree_model.specs.System.{IsSystem};
 
-use crate::{TreeSpans, run_tree, span_tree};
+use crate::{Pattern, TreeSpans, core_supplies, run_tree, span_tree};
 use guest_sched::Window;
 use slot_model::{Job, Miss, Name, Sched, Task};
 use span_counts::Counts;
@@ -41,13 +41,18 @@ fn part(
     })
 }
 
-/// These parts on one full core under earliest deadline first.
-fn system(rt: &impl Abort, alloc: Global, parts: Vec<Part>) -> Result<System, AllocError> {
+/// These parts on one core under earliest deadline first.
+fn system(
+    rt: &impl Abort,
+    alloc: Global,
+    supply: Option<(u64, u64)>,
+    parts: Vec<Part>,
+) -> Result<System, AllocError> {
     let mut cores = Vec::new(alloc);
     cores.push(Core {
         name: name(rt, alloc, b"cpu0")?,
         sched: Sched::Edf,
-        supply: None,
+        supply,
     })?;
     Ok(System::new(cores, parts).ok().expect(rt, "a system"))
 }
@@ -127,7 +132,7 @@ fn two_servers(rt: &impl Abort, alloc: Global) -> Result<System, AllocError> {
     let mut parts = Vec::new(alloc);
     parts.push(part(rt, alloc, b"A", Parent::Core(0), true)?)?;
     parts.push(part(rt, alloc, b"B", Parent::Core(0), true)?)?;
-    system(rt, alloc, parts)
+    system(rt, alloc, None, parts)
 }
 
 /// Two servers of 6 slots in 10 need 12: the second, of equal deadline, lacks two.
@@ -173,7 +178,7 @@ fn a_group_gives_to_its_children(rt: HostRuntime) -> Result<(), Fail> {
     parts.push(part(&rt, alloc, b"alone", Parent::Core(0), true)?)?;
     parts.push(part(&rt, alloc, b"web", Parent::Part(0), true)?)?;
     parts.push(part(&rt, alloc, b"db", Parent::Part(0), true)?)?;
-    let sys = system(&rt, alloc, parts)?;
+    let sys = system(&rt, alloc, None, parts)?;
     let budgets = Vec::from_array(alloc, [5, 3, 2, 2])?;
     let plan = Plan { budgets };
     let tree = idle_tree(alloc, &sys, &plan, 20)?.expect(&rt, "a plan");
@@ -201,6 +206,44 @@ fn a_group_gives_to_its_children(rt: HostRuntime) -> Result<(), Fail> {
         assert_eq!(rt; spans[i].job, *job);
     }
     Ok(())
+}
+
+/// A core of 4 slots in 10 has them at the begin or at the end of each period.
+#[test]
+fn a_core_has_its_slots_by_the_pattern(rt: HostRuntime) -> Result<(), Fail> {
+    let alloc = rt.alloc();
+    let mut parts = Vec::new(alloc);
+    parts.push(part(&rt, alloc, b"A", Parent::Core(0), true)?)?;
+    let sys = system(&rt, alloc, Some((10, 4)), parts)?;
+    let early = [(0, 4), (10, 14), (20, 24)];
+    let late = [(6, 10), (16, 20)];
+    let worst = [(0, 4), (16, 20)];
+    assert!(rt; has_windows(alloc, &sys, Pattern::Early, &early)?);
+    assert!(rt; has_windows(alloc, &sys, Pattern::Late, &late)?);
+    assert!(rt; has_windows(alloc, &sys, Pattern::Worst, &worst)?);
+    Ok(())
+}
+
+/// Whether the first core has these windows in 25 slots.
+fn has_windows(
+    alloc: Global,
+    sys: &System,
+    pattern: Pattern,
+    wanted: &[(u64, u64)],
+) -> Result<bool, AllocError> {
+    let given = core_supplies(alloc, sys, pattern, 25)?;
+    let Some(windows) = given.first() else {
+        return Ok(false);
+    };
+    if windows.len() != wanted.len() {
+        return Ok(false);
+    }
+    for (window, (from, until)) in windows.iter().zip(wanted) {
+        if window.from != *from || window.until != *until {
+            return Ok(false);
+        }
+    }
+    Ok(true)
 }
 
 fn idle(given: u64) -> Counts {
