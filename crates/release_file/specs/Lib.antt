@@ -1,1 +1,4 @@
 pub mod Workload
+pub mod WorkloadFile
+pub mod WakeSpelt
+pub mod WakesTaken

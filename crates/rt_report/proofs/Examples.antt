@@ -10,6 +10,7 @@ use Rattle.tree_model.specs.declared.place.Parent.TheVariants.{Core as on_core, 
 use Rattle.tree_model.specs.declared.place.Place.TheVariants.{Core, Part}
 use Rattle.tree_model.specs.declared.plan.Refusal.TheVariants.{Overfull, Wide}
 use Rattle.tree_model.specs.View.{NamedTask, PartView, SystemView}
+use Rattle.tree_model.specs.System.{computed_leaves}
 use Rattle.system_file.specs.declared.fault.Spot.TheVariants.{Top, Core as at_core, Part as at_part, Task as at_task}
 use Rattle.system_file.specs.declared.fault.SystemFault.TheVariants.{NotToml, MissingKey, WrongKind, UnknownKey, BadName, NameTaken, OutOfRange, NoSuchParent, Mixed, Empty, TooMany}
 use Rattle.release_file.specs.declared.fault.ReleaseFault.TheVariants.{BadHeader as NoReleases, BadRow as ReleaseBadRow, Unknown as ReleaseUnknown, OutOfRange as ReleaseOutOfRange, TooEarly, BadOrder}

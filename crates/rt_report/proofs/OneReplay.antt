@@ -44,7 +44,7 @@ same_replay p q d e m n part witness miss = rw (part, witness, miss) refl
 one_defeat : (sched : Sched) (tasks : List SporadicTask) (period least : ℕ) (a b : Defeat) → IsDefeat sched tasks period least a → IsDefeat sched tasks period least b → a ≡ b
 one_defeat sched tasks period least a b p q =
     let same = same_fields sched tasks period least a b p q in
-    same_defeat a.budget b.budget a.start b.start a.span b.span a.task b.task same.0 same.1 same.2.0 same.2.1
+    same_defeat a.budget b.budget a.start b.start a.span b.span a.task b.task same.0 same.1 same.2 same.3
 
 -- one list of slots
 one_list : (pattern : ℕ → Bool) (start span : ℕ) (xs ys : List Bool) → WorstList pattern start span xs → WorstList pattern start span ys → xs ≡ ys

@@ -1,9 +1,10 @@
--- The last row that passes a test.
-use Rattle.std.proofs.Common.{◌≡◌, ℕ, zero, suc, ◌<◌, Bool, true, false, cond, List, Option, Some, None, refl, sym, ◌∙◌, ap, arith, subst, inl, inr}
+-- The last row that passes a test, and the order of rows.
+use Rattle.std.proofs.Common.{◌≡◌, ℕ, zero, suc, ◌+◌, ◌-◌, ◌<◌, ◌≤◌, Bool, true, false, cond, List, length, Option, Some, None, refl, sym, ◌∙◌, ap, arith, subst, inl, inr}
 use Rattle.std.specs.Prelude.{is_some}
 use Rattle.std.proofs.lemmas.Bool.{cases_Bool, cases_eq, both_ways, false≢true}
 use Rattle.release_file.specs.declared.workload.Wake.{Wake}
-use Rattle.release_file.specs.Workload.{row_at, last_row}
+use Rattle.tree_model.specs.View.{SystemView}
+use Rattle.release_file.specs.Workload.{row_at, last_row, IsWorkload}
 
 pub last_row-zero : (p : Wake → Bool) (rows : List Wake) → last_row p rows 0 ≡ None
 unfolding last_row
@@ -63,3 +64,16 @@ some_found p rows n h = go (last_row p rows n) refl h
     go : (o : Option Wake) → last_row p rows n ≡ o → is_some o ≡ true → (row : Wake) × (last_row p rows n ≡ Some row) × FoundRow p rows n row
     go None e h = absurd (false≢true h)
     go (Some row) e h = (row, e, found_row p rows n row e)
+
+-- rows are in order
+pub in_order : (sys : SystemView) (rows : List Wake) → IsWorkload sys rows → (i m : ℕ) → i + m < length rows → (row_at rows i).at ≤ (row_at rows (i + m)).at
+in_order sys rows w i zero l = omega (arith, ap (λ (z : ℕ). (row_at rows z).at) (let e : i + 0 ≡ i = omega arith in e))
+in_order sys rows w i (suc m) l = omega (arith, in_order sys rows w i m (omega arith), w.in_order (i + m) (omega arith), ap (λ (z : ℕ). (row_at rows z).at) (let e : i + suc m ≡ i + m + 1 = omega arith in e))
+
+pub ordered : (sys : SystemView) (rows : List Wake) → IsWorkload sys rows → (i j : ℕ) → i ≤ j → j < length rows → (row_at rows i).at ≤ (row_at rows j).at
+ordered sys rows w i j l h = let e : i + (j - i) ≡ j = omega arith in omega (arith, in_order sys rows w i (j - i) (omega arith), ap (λ (z : ℕ). (row_at rows z).at) e)
+
+-- none is found where no row passes
+pub no_row : (p : Wake → Bool) (rows : List Wake) (n : ℕ) → ((i : ℕ) → i < n → p (row_at rows i) ≡ false) → last_row p rows n ≡ None
+no_row p rows zero h = last_row-zero p rows
+no_row p rows (suc n) h = last_row-no p rows n (h n (omega arith)) ∙ no_row p rows n (λ i l. h i (omega arith))

@@ -1,0 +1,5 @@
+pub mod Rows
+pub mod FieldCounts
+pub mod WakesMore
+pub mod WakesTaking
+pub mod OneWorkload
