@@ -3,6 +3,7 @@
 
 mod admit;
 mod cert_fault;
+mod check;
 mod fault;
 mod missed;
 mod names;
@@ -15,6 +16,7 @@ mod unread;
 mod usage;
 
 pub use admit::admit_text;
+pub use check::check_text;
 pub use fault::{FileFault, fault_text};
 pub use refusal::refusal_text;
 pub use replay::Replay;
