@@ -2,6 +2,7 @@ pub mod Words
 pub mod Replay
 pub mod Admit
 pub mod Refusal
+pub mod Audit
 pub mod SystemFault
 pub mod RowFault
 pub mod CertFault

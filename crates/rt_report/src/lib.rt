@@ -2,6 +2,7 @@
 #![tactic(auto)]
 
 mod admit;
+mod audit;
 mod cert_fault;
 mod fault;
 mod names;
@@ -13,6 +14,7 @@ mod unread;
 mod usage;
 
 pub use admit::{admit_text, is_computed_leaf};
+pub use audit::audit_text;
 pub use fault::{FileFault, fault_text};
 pub use refusal::refusal_text;
 pub use replay::Replay;
