@@ -1,6 +1,6 @@
 -- What the jumps of the test pass over: from an amount of work to the least window whose bound is
 -- that amount.
-use Rattle.std.proofs.Common.{◌≡◌, ℕ, zero, suc, ◌<◌, ◌≤◌, Bool, List, length, Some, arith, inl, inr}
+use Rattle.std.proofs.Common.{◌≡◌, ℕ, ◌<◌, ◌≤◌, Bool, List, length, Some, arith, inl, inr}
 use Rattle.std.proofs.lemmas.Bool.{cases_lt}
 use Rattle.slot_model.specs.Supply.{SupplyLaws}
 use Rattle.slot_model.specs.Task.{SporadicTask, AreConstrained, room_of, task_at}

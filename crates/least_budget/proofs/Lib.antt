@@ -5,4 +5,5 @@ mod Testing
 mod Rate
 mod Between
 mod ByTask
+mod CommonHit
 pub mod OneAnswer

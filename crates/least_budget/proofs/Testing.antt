@@ -1,19 +1,18 @@
 -- What the test answers.
-use borrow.Author.Count.{below_more}
-use Rattle.std.proofs.Common.{◌+◌, ◌-◌, ◌^◌, Option, Some, None, is_some, false, ◌≡◌, ◌≢◌, ℕ, ◌<◌, ◌≤◌, Bool, true, List, length, refl, arith}
+use Rattle.std.proofs.Common.{◌-◌, ◌^◌, ◌≡◌, ◌≢◌, ℕ, ◌<◌, ◌≤◌, Bool, List, length, refl, arith, inl, inr}
+use Rattle.std.proofs.lemmas.Bool.{cases_lt}
 use Rattle.slot_model.specs.declared.sched.Sched.{Sched}
 use Rattle.slot_model.specs.declared.sched.Sched.TheVariants.{Edf, Rm, Dm, Listed}
 use Rattle.slot_model.specs.declared.sched.Short.TheVariants.{Task}
 use Rattle.slot_model.specs.Task.{SporadicTask, AreConstrained}
 use Rattle.slot_model.specs.Supply.{SupplyLaws}
 use Rattle.slot_model.specs.Order.{before_of, ranks_above}
-use Rattle.slot_model.specs.Bound.{IsHit, IsShortTask, IsFirstShortTask, IsSmall, IsHorizon, DemandFits, dbf}
+use Rattle.slot_model.specs.Bound.{IsHit, IsShortTask, IsFirstShortTask, IsSmall, IsHorizon, DemandFits, dbf, rbf}
 use Rattle.least_budget.specs.declared.answers.Tested.{Tested}
 use Rattle.least_budget.specs.declared.answers.Tested.TheVariants.{Passes as AllPasses, Short as FirstShort, Wide as TestWide}
-use Rattle.least_budget.specs.Answers.{IsTested, Foretells}
+use Rattle.least_budget.specs.Answers.{IsTested, Foretells, HasHit}
 use Rattle.edf_demand.specs.Cyclic.{RisesByCycle}
 use Rattle.edf_demand.proofs.Horizons.{rises_of_laws}
-use Rattle.fp_test.proofs.Answer.{IsAnswer}
 use Rattle.least_budget.proofs.Level.{level_no_loss, short_misses}
 
 -- under a fixed rank
@@ -44,22 +43,16 @@ fixed_small Rm fixed tasks cycle = tt
 fixed_small Dm fixed tasks cycle = tt
 fixed_small Listed fixed tasks cycle = tt
 
--- what the answer of one task's test says
-no_hit : (above : ℕ → ℕ → Bool) (tasks : List SporadicTask) (bound : ℕ → ℕ) (i : ℕ) (answer : Option ℕ) → is_some answer ≡ false → IsAnswer above tasks bound i answer → IsShortTask above tasks bound i
-no_hit above tasks bound i None e h = h
-no_hit above tasks bound i (Some t) e h = absurd (cc)
+-- a task without a hit is short
+short_task : (above : ℕ → ℕ → Bool) (tasks : List SporadicTask) (bound : ℕ → ℕ) (i : ℕ) → (HasHit above tasks bound i → ⊥) → IsShortTask above tasks bound i
+short_task above tasks bound i none t l m = elim (cases_lt (bound t) (rbf above tasks i t)) [
+  | inl short ↦ short
+  | inr enough ↦ absurd (none (t, record { some_slots = l; in_deadline = m; enough = enough }))
+]
 
-some_hit : (above : ℕ → ℕ → Bool) (tasks : List SporadicTask) (bound : ℕ → ℕ) (i : ℕ) (answer : Option ℕ) → is_some answer ≡ true → IsAnswer above tasks bound i answer → (t : ℕ) × IsHit above tasks bound i t
-some_hit above tasks bound i None e h = absurd (cc)
-some_hit above tasks bound i (Some t) e h = (t, h.0)
-
-pub first_without_hit : (sched : Sched) → sched ≢ Edf → (tasks : List SporadicTask) (bound : ℕ → ℕ) (cycle i : ℕ) (answer : Option ℕ) → i < length tasks → is_some answer ≡ false → IsAnswer (ranks_above sched tasks) tasks bound i answer
-    → ((k : ℕ) → k < i → (t : ℕ) × IsHit (ranks_above sched tasks) tasks bound k t) → IsTested sched tasks bound cycle (FirstShort (Task i))
-first_without_hit sched fixed tasks bound cycle i answer l none h before = fixed_short sched fixed tasks bound cycle i (record { is_task = l; short = no_hit (ranks_above sched tasks) tasks bound i answer none h; before = before })
-
-pub one_more_hit : (above : ℕ → ℕ → Bool) (tasks : List SporadicTask) (bound : ℕ → ℕ) (i : ℕ) (answer : Option ℕ) → is_some answer ≡ true → IsAnswer above tasks bound i answer
-    → ((k : ℕ) → k < i → (t : ℕ) × IsHit above tasks bound k t) → (k : ℕ) → k < i + 1 → (t : ℕ) × IsHit above tasks bound k t
-one_more_hit above tasks bound i answer some h before = below_more (λ k. (t : ℕ) × IsHit above tasks bound k t) i before (some_hit above tasks bound i answer some h)
+pub first_without_hit : (sched : Sched) → sched ≢ Edf → (tasks : List SporadicTask) (bound : ℕ → ℕ) (cycle i : ℕ) → i < length tasks → (HasHit (ranks_above sched tasks) tasks bound i → ⊥)
+    → ((k : ℕ) → k < i → HasHit (ranks_above sched tasks) tasks bound k) → IsTested sched tasks bound cycle (FirstShort (Task i))
+first_without_hit sched fixed tasks bound cycle i l none before = fixed_short sched fixed tasks bound cycle i (record { is_task = l; short = short_task (ranks_above sched tasks) tasks bound i none; before = before })
 
 -- where no window up to the horizon is short
 pub windows_pass : (tasks : List SporadicTask) {bound : ℕ → ℕ} {amount cycle : ℕ} {pattern : ℕ → Bool} {start : ℕ} {Conforms : List Bool → Type 0} → SupplyLaws bound amount cycle pattern start Conforms

@@ -4,9 +4,9 @@ ghost use Rattle.slot_model.specs.Order.{before_of};
 ghost use Rattle.least_budget.specs.Answers.{IsTested, Foretells};
 
 use crate::Tested;
+use crate::lowest::{has_hit_within, hit_of_lowest};
 use edf_demand::horizon;
 use edf_test::first_short;
-use fp_test::hit;
 use slot_model::{Sched, Short, Task};
 use supply_bound::Supply;
 
@@ -44,8 +44,9 @@ fn test_tasks<S: Supply>(sched: Sched, tasks: &[Task], s: &S) -> Tested
     requires few { length tasks.now < 2 ^ 32 }
     ensures { IsTested sched (sporadic_tasks tasks.now) (S.bound s.now) (S.cycle_of s.now) result }
 {
+    let common = hit_of_lowest(sched, tasks, s);
     for i in 0..tasks.len() as u32 {
-        if hit(sched, tasks, i, s).is_none() {
+        if !has_hit_within(sched, tasks, i, s, common) {
             return Tested::Short(Short::Task(i));
         }
     }

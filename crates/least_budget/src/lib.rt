@@ -6,6 +6,7 @@ mod answers;
 mod by_task;
 mod halving;
 mod level_test;
+mod lowest;
 #[cfg(test)]
 mod tests;
 

@@ -1,3 +1,3 @@
 mod Counts
 mod Defeats
-mod OneDefeat
+pub mod OneDefeat

@@ -5,33 +5,24 @@ use Rattle.std.proofs.lemmas.Bool.{cases_order}
 use Rattle.std.proofs.lemmas.List.{ext_get_or}
 use Rattle.std.proofs.lemmas.Option.{slice_get-get_or}
 use Rattle.slot_model.specs.declared.sched.Sched.{Sched}
-use Rattle.slot_model.specs.declared.sched.Sched.TheVariants.{Edf, Rm, Dm, Listed}
-use Rattle.slot_model.specs.declared.sched.Short.{Short}
-use Rattle.slot_model.specs.declared.sched.Short.TheVariants.{At, Task}
 use Rattle.slot_model.specs.declared.miss.Miss.{Miss}
 use Rattle.slot_model.specs.declared.job.Job.{Job}
 use Rattle.slot_model.specs.Supply.{worst_slot}
-use Rattle.slot_model.specs.Task.{room_of, SporadicTask, task_at}
-use Rattle.slot_model.specs.Order.{before_of, ranks_above}
+use Rattle.slot_model.specs.Task.{SporadicTask}
+use Rattle.slot_model.specs.Order.{before_of}
 use Rattle.slot_model.specs.Release.{synchronous}
 use Rattle.slot_model.specs.Run.{guest, FirstRun}
-use Rattle.slot_model.specs.Bound.{sbf, IsFirstShortTask}
 use Rattle.slot_model.specs.Miss.{WorstList, IsFirstMiss, miss_of}
-use Rattle.slot_model.proofs.Budgets.{one_shortfall}
 use Rattle.slot_model.proofs.Unique.{run_unique}
 use Rattle.miss_witness.specs.declared.defeat.Defeat.{Defeat}
-use Rattle.miss_witness.specs.Defeat.{IsShortTaskWindow, IsShortWindow, IsDefeat}
+use Rattle.miss_witness.specs.Defeat.{IsDefeat}
+use Rattle.miss_witness.proofs.OneDefeat.{one_defeat as same_fields}
 use Rattle.tree_model.specs.View.{SystemView}
-use Rattle.tree_model.specs.System.{part_at, own_tasks}
+use Rattle.tree_model.specs.System.{part_at, own_tasks, computed_leaves}
 use Rattle.tree_model.specs.Tree.{budget_at}
 use Rattle.rt_report.specs.declared.replay.Replay.{Replay}
 use Rattle.rt_report.specs.Replay.{ShowsMiss, IsReplayed, IsReplay}
-use Rattle.rt_report.specs.Admit.{AreReplays, computed_leaves}
-
--- the number that a shortfall tells
-told : Short → ℕ
-told (At t) = t
-told (Task i) = i
+use Rattle.rt_report.specs.Admit.{AreReplays}
 
 abbrev defeat_of : ℕ → ℕ → ℕ → Option ℕ → Defeat
 defeat_of budget start span task = record { budget = budget; start = start; span = span; task = task }
@@ -41,23 +32,6 @@ replay_of part witness miss = record { part = part; witness = witness; miss = mi
 
 abbrev no_replay : Replay
 no_replay = replay_of 0 (defeat_of 0 0 0 None) None
-
--- one window is short first
-one_task_window : (above : ℕ → ℕ → Bool) (tasks : List SporadicTask) (bound : ℕ → ℕ) (s t : ℕ) (i k : Option ℕ) → ((a b : ℕ) → IsFirstShortTask above tasks bound a → IsFirstShortTask above tasks bound b → a ≡ b) → IsShortTaskWindow above tasks bound s i → IsShortTaskWindow above tasks bound t k → (s ≡ t) × (i ≡ k)
-one_task_window above tasks bound s t None k one p q = absurd p
-one_task_window above tasks bound s t (Some i) None one p q = absurd q
-one_task_window above tasks bound s t (Some i) (Some k) one p q =
-    let same = one i k p.0 q.0 in
-    (p.1 ∙ ap (λ (z : ℕ). room_of (task_at tasks z)) same ∙ sym q.1, ap Some same)
-
-one_window : (sched : Sched) (tasks : List SporadicTask) (bound : ℕ → ℕ) (s t : ℕ) (i k : Option ℕ) → IsShortWindow sched tasks bound s i → IsShortWindow sched tasks bound t k → (s ≡ t) × (i ≡ k)
-unfolding told
-one_window Edf tasks bound s t None None p q = (ap told (one_shortfall Edf tasks bound (At s) (At t) p q), refl)
-one_window Edf tasks bound s t None (Some k) p q = absurd q
-one_window Edf tasks bound s t (Some i) k p q = absurd p
-one_window Rm tasks bound s t i k p q = one_task_window (ranks_above Rm tasks) tasks bound s t i k (λ a b x y. ap told (one_shortfall Rm tasks bound (Task a) (Task b) x y)) p q
-one_window Dm tasks bound s t i k p q = one_task_window (ranks_above Dm tasks) tasks bound s t i k (λ a b x y. ap told (one_shortfall Dm tasks bound (Task a) (Task b) x y)) p q
-one_window Listed tasks bound s t i k p q = one_task_window (ranks_above Listed tasks) tasks bound s t i k (λ a b x y. ap told (one_shortfall Listed tasks bound (Task a) (Task b) x y)) p q
 
 -- records of the same fields
 same_defeat : (b c s t p q : ℕ) (i k : Option ℕ) → b ≡ c → s ≡ t → p ≡ q → i ≡ k → defeat_of b s p i ≡ defeat_of c t q k
@@ -69,10 +43,8 @@ same_replay p q d e m n part witness miss = rw (part, witness, miss) refl
 -- one defeat
 one_defeat : (sched : Sched) (tasks : List SporadicTask) (period least : ℕ) (a b : Defeat) → IsDefeat sched tasks period least a → IsDefeat sched tasks period least b → a ≡ b
 one_defeat sched tasks period least a b p q =
-    let budget : a.budget ≡ b.budget = omega (arith, p.next_smaller, q.next_smaller) in
-    let start : a.start ≡ b.start = p.at_start ∙ budget ∙ sym q.at_start in
-    let window = one_window sched tasks (sbf period a.budget) a.span b.span a.task b.task p.short (subst (λ (z : ℕ). IsShortWindow sched tasks (sbf period z) b.span b.task) (sym budget) q.short) in
-    same_defeat a.budget b.budget a.start b.start a.span b.span a.task b.task budget start window.0 window.1
+    let same = same_fields sched tasks period least a b p q in
+    same_defeat a.budget b.budget a.start b.start a.span b.span a.task b.task same.0 same.1 same.2 same.3
 
 -- one list of slots
 one_list : (pattern : ℕ → Bool) (start span : ℕ) (xs ys : List Bool) → WorstList pattern start span xs → WorstList pattern start span ys → xs ≡ ys

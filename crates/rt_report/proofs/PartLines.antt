@@ -3,8 +3,9 @@ use Rattle.std.proofs.Common.{◌≡◌, ℕ, ◌+◌, ◌<◌, List, ◌++◌, 
 use Rattle.std.specs.Prelude.{if◌then◌else◌}
 use Rattle.std.proofs.Math.Seq.{drop-cons}
 use Rattle.tree_model.specs.View.{PartView}
+use Rattle.tree_model.specs.System.{is_computed_leaf}
 use Rattle.rt_report.specs.declared.replay.Replay.{Replay}
-use Rattle.rt_report.specs.Admit.{part_line, part_lines, first_witness, is_computed_leaf}
+use Rattle.rt_report.specs.Admit.{part_line, part_lines, first_witness}
 
 pub part_lines-drop : (parts : List PartView) (budgets : List ℕ) (replays : List Replay) (q : ℕ) (part : PartView) (budget : ℕ) → q < length parts → q < length budgets → part ≡ get_or parts q part → budget ≡ get_or budgets q 0 →
     part_lines (drop q parts) (drop q budgets) replays ≡

@@ -1,18 +1,13 @@
 -- The text of an admission: the verdict, then each part in file order, and below a computed leaf
 -- what defeats the next smaller budget.
-use Rattle.std.specs.Prelude.{◌≡◌, ℕ, zero, suc, ◌&&◌, Bool, if◌then◌else◌, List, [], ◌∷◌, ◌++◌, length, drop, slice_index, slice_get, codes, Option, Some, None, is_none}
+use Rattle.std.specs.Prelude.{◌≡◌, ℕ, if◌then◌else◌, List, [], ◌∷◌, ◌++◌, length, drop, slice_index, slice_get, codes, Option, Some, None}
 use Rattle.std.specs.Fmt.{decimal}
 use Rattle.slot_model.specs.declared.miss.Miss.{Miss}
-use Rattle.slot_model.specs.Release.{push_if}
 use Rattle.tree_model.specs.View.{PartView, SystemView}
-use Rattle.tree_model.specs.System.{is_leaf, part_at}
+use Rattle.tree_model.specs.System.{is_computed_leaf, computed_leaves}
 use Rattle.rt_report.specs.Words.{joined, task_name}
 use Rattle.rt_report.specs.declared.replay.Replay.{Replay}
 use Rattle.rt_report.specs.Replay.{IsReplay}
-
--- a leaf whose budget the file does not give
-abbrev pub is_computed_leaf : PartView → Bool
-is_computed_leaf part = is_none part.budget && is_leaf part.tasks
 
 abbrev pub origin_word : Option ℕ → List ℕ
 origin_word None = codes " computed\n"
@@ -66,14 +61,6 @@ part_lines (part ∷ parts) (budget ∷ budgets) replays =
 
 abbrev pub admit_text : SystemView → List ℕ → List Replay → List ℕ
 admit_text sys budgets replays = codes "verdict=yes\n" ++ part_lines sys.parts budgets replays
-
--- the places of the computed leaves among the first n parts, in file order
-abbrev pub leaves_among : SystemView → ℕ → List ℕ
-leaves_among sys zero = []
-leaves_among sys (suc n) = push_if (leaves_among sys n) (is_computed_leaf (part_at sys n)) n
-
-abbrev pub computed_leaves : SystemView → List ℕ
-computed_leaves sys = leaves_among sys (length sys.parts)
 
 -- one replay a computed leaf, in file order
 pub record AreReplays (sys : SystemView) (budgets : List ℕ) (replays : List Replay) : Type 0 where

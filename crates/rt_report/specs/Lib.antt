@@ -3,6 +3,7 @@ pub mod Replay
 pub mod Admit
 pub mod Refusal
 pub mod Audit
+pub mod Check
 pub mod SystemFault
 pub mod RowFault
 pub mod CertFault

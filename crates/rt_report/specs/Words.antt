@@ -1,7 +1,7 @@
 -- Names of nodes and of what a node serves, as the texts write them, and pieces of a text.
 use Rattle.slot_model.specs.Task.{default_task}
-use Rattle.std.specs.Prelude.{ℕ, zero, suc, List, [], ◌∷◌, ◌++◌, length, slice_index_or, codes}
-use Rattle.slot_model.specs.Release.{push_if}
+use Rattle.std.specs.Prelude.{ℕ, List, [], ◌∷◌, ◌++◌, map, length, slice_index_or, codes}
+use Rattle.slot_model.specs.Slots.{places_where}
 use Rattle.tree_model.specs.declared.place.Place.{Place}
 use Rattle.tree_model.specs.declared.place.Place.TheVariants.{Core, Part}
 use Rattle.tree_model.specs.View.{NamedTask, PartView, SystemView}
@@ -25,9 +25,7 @@ node_words sys (Part q) = codes "part " ++ (part_at sys q).name
 
 -- the names of a node's children among the first n parts, in file order
 abbrev pub names_among : SystemView → Place → ℕ → List (List ℕ)
-names_among sys node zero = []
-names_among sys node (suc n) =
-    push_if (names_among sys node n) (is_child sys node n) (part_at sys n).name
+names_among sys node n = map (λ q. (part_at sys q).name) (places_where (is_child sys node) n)
 
 abbrev pub child_names : SystemView → Place → List (List ℕ)
 child_names sys node = names_among sys node (length sys.parts)

@@ -1,5 +1,5 @@
 ghost use Rattle.std.specs.Prelude.{◌≡◌, ◌++◌, IfOk, OnOk, string_bytes, codes, drop, length};
-ghost use Rattle.rt_report.specs.Admit.{admit_text, part_line, witness_line, miss_words, short_task, first_witness, is_computed_leaf};
+ghost use Rattle.rt_report.specs.Admit.{admit_text, part_line, witness_line, miss_words, short_task, first_witness};
 
 use crate::{Replay, names};
 use slot_model::Miss;
@@ -22,18 +22,11 @@ pub fn admit_text(
     let mut left = replays;
     for (q, part) in sys.parts().iter().enumerate() {
         push_part(&mut text, part, budgets[q])?;
-        if is_computed_leaf(part) {
+        if part.is_computed_leaf() {
             left = push_first(&mut text, part, left)?;
         }
     }
     Ok(text.into_bytes())
-}
-
-/// Whether the part has tasks and its budget is left open.
-pub fn is_computed_leaf(part: &Part) -> bool
-    ensures { result ≡ is_computed_leaf part.now }
-{
-    part.budget().is_none() && part.is_leaf()
 }
 
 fn push_part(text: &mut String, part: &Part, budget: u64) -> Result<(), AllocError>

@@ -4,6 +4,7 @@
 mod admit;
 mod audit;
 mod cert_fault;
+mod check;
 mod fault;
 mod names;
 mod refusal;
@@ -13,8 +14,9 @@ mod system_fault;
 mod unread;
 mod usage;
 
-pub use admit::{admit_text, is_computed_leaf};
+pub use admit::admit_text;
 pub use audit::audit_text;
+pub use check::check_text;
 pub use fault::{FileFault, fault_text};
 pub use refusal::refusal_text;
 pub use replay::Replay;

@@ -20,13 +20,12 @@ use Rattle.guest_sched.specs.Spans.{run_of, slots_of}
 use Rattle.guest_sched.proofs.Given.{slots-long}
 use Rattle.miss_witness.specs.declared.defeat.Defeat.{Defeat}
 use Rattle.tree_model.specs.View.{PartView, SystemView}
-use Rattle.tree_model.specs.System.{IsSystem, own_tasks, part_at}
+use Rattle.tree_model.specs.System.{is_computed_leaf, IsSystem, own_tasks, part_at}
 use Rattle.tree_model.specs.Tree.{budget_at, node_tasks}
 use Rattle.tree_model.specs.declared.place.Place.TheVariants.{Part}
 use Rattle.tree_model.specs.Admission.{Admitted, BudgetStands}
 use Rattle.tree_model.proofs.InRange.{admitted_in_period}
 use Rattle.tree_model.proofs.NodeTasks.{leaf_tasks}
-use Rattle.rt_report.specs.Admit.{is_computed_leaf}
 use Rattle.rt_report.specs.Replay.{IsReplay, IsReplayed}
 use Rattle.miss_witness.specs.Defeat.{IsDefeat}
 

@@ -3,11 +3,12 @@ use Rattle.std.proofs.Common.{◌≡◌, ◌⊎◌, ℕ, zero, suc, ◌+◌, Boo
 use Rattle.std.specs.Prelude.{slice_get, slice_index}
 use Rattle.std.proofs.lemmas.List.{get_or_append_left, get_or_push, length_push}
 use Rattle.std.proofs.lemmas.Option.{slice_get_within}
-use Rattle.slot_model.specs.Release.{push_if}
+use Rattle.slot_model.specs.Slots.{push_if, places_where}
+use Rattle.slot_model.proofs.Places.{places_where-suc}
 use Rattle.tree_model.specs.View.{SystemView}
-use Rattle.tree_model.specs.System.{part_at}
+use Rattle.tree_model.specs.System.{part_at, is_computed_leaf}
 use Rattle.rt_report.specs.declared.replay.Replay.{Replay}
-use Rattle.rt_report.specs.Admit.{AreReplays, is_computed_leaf, leaves_among}
+use Rattle.rt_report.specs.Admit.{AreReplays}
 use Rattle.rt_report.specs.Replay.{IsReplay}
 
 -- what is read of a list with one more at its end
@@ -17,7 +18,10 @@ read_pushed [] y z (suc k) e = absurd (cc)
 read_pushed (x ∷ xs) y z zero e = inl e
 read_pushed (x ∷ xs) y z (suc k) e = elim (read_pushed xs y z k e) [ inl old ↦ inl old | inr new ↦ inr (omega (arith, new.0), new.1) ]
 
--- one replay a computed leaf among the first n parts
+-- the computed leaves among the first n parts, and one replay each
+abbrev leaves_among : SystemView → ℕ → List ℕ
+leaves_among sys n = places_where (λ q. is_computed_leaf (part_at sys q)) n
+
 pub record ReplaysTo (sys : SystemView) (budgets : List ℕ) (n : ℕ) (replays : List Replay) : Type 0 where
   pub one_each : length replays ≡ length (leaves_among sys n)
   pub each : (k : ℕ) (replay : Replay) → slice_get replays k ≡ Some replay → IsReplay sys budgets (slice_index (leaves_among sys n) k) replay
@@ -26,7 +30,7 @@ pub no_replays : (sys : SystemView) (budgets : List ℕ) → ReplaysTo sys budge
 no_replays sys budgets = record { one_each = refl; each = λ k replay e. absurd (omega (arith, slice_get_within [] k replay e)) }
 
 more_leaves : (sys : SystemView) (n : ℕ) → leaves_among sys (n + 1) ≡ push_if (leaves_among sys n) (is_computed_leaf (part_at sys n)) n
-more_leaves sys n = ap (λ (z : ℕ). leaves_among sys z) (add-one n)
+more_leaves sys n = ap (λ (z : ℕ). leaves_among sys z) (add-one n) ∙ places_where-suc (λ q. is_computed_leaf (part_at sys q)) n
 
 pub one_more_leaf : (sys : SystemView) (n : ℕ) → is_computed_leaf (part_at sys n) ≡ true → leaves_among sys (n + 1) ≡ leaves_among sys n ++ n ∷ []
 one_more_leaf sys n e = more_leaves sys n ∙ ap (λ (b : Bool). push_if (leaves_among sys n) b n) e

@@ -6,14 +6,14 @@ ghost use Rattle.slot_model.specs.Bound.{IsLeastBudget, IsSmall};
 ghost use Rattle.slot_model.specs.Order.{before_of};
 ghost use Rattle.slot_model.specs.Miss.{MissesFromStart, WorstList};
 ghost use Rattle.miss_witness.specs.Defeat.{IsDefeat};
-ghost use Rattle.tree_model.specs.System.{part_at};
+ghost use Rattle.tree_model.specs.System.{part_at, is_computed_leaf};
 ghost use Rattle.tree_model.specs.Admission.{Admitted};
-ghost use Rattle.rt_report.specs.Admit.{AreReplays, is_computed_leaf};
+ghost use Rattle.rt_report.specs.Admit.{AreReplays};
 ghost use Rattle.rt_report.specs.Replay.{IsReplay, IsReplayed};
 
 use guest_sched::{guest_by, worst_windows};
 use miss_witness::{Defeat, witness, witness_jobs};
-use rt_report::{Replay, is_computed_leaf};
+use rt_report::Replay;
 use slot_model::{Miss, Sched, Task};
 use span_counts::first_miss;
 use std::alloc::{AllocError, Global};
@@ -51,7 +51,7 @@ fn replay_leaves(
 {
     let mut replays = Vec::new(alloc);
     for (q, part) in sys.parts().iter().enumerate() {
-        if is_computed_leaf(part) {
+        if part.is_computed_leaf() {
             replays.push(replay_leaf(alloc, sys, plan, q as u32, room)?)?;
         }
     }

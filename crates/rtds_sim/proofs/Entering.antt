@@ -16,7 +16,7 @@ use Rattle.release_file.specs.Workload.{row_at, last_row, is_by, is_of, starts, 
 use Rattle.rtds_sim.specs.Rtds.{used, level_at, deadline_at, can_run, is_eligible, goes_first, goes_before, RtdsEntry}
 use Rattle.rtds_sim.specs.Printed.{core_of}
 use Rattle.rtds_sim.specs.Accounts.{account_at, account_eligible, rank_of, ranks_before, IsBestTo, vcpu_of, IsChoice, IsInPeriod, IsAccount, AreAccounts, AreBefore}
-use Rattle.rtds_sim.proofs.Rows.{last_row-zero, last_row-yes, last_row-no}
+use Rattle.release_file.proofs.Rows.{last_row-zero, last_row-yes, last_row-no}
 use Rattle.rtds_sim.proofs.Choices.{no_rank, ranked, rank, rank_is}
 
 -- a part on core c

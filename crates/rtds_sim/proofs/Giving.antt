@@ -33,7 +33,7 @@ use Rattle.rtds_sim.specs.Rtds.{period_number, period_from, deadline_at, used, l
 use Rattle.rtds_sim.specs.Giving.{slots_got, IsStartedOn, AlwaysRunnable, ServersFit, GivesBudgets}
 use Rattle.rtds_sim.proofs.Periodic.{periodic_release}
 use Rattle.rtds_sim.proofs.Order.{first_by_level, first_by_deadline}
-use Rattle.rtds_sim.proofs.Rows.{FoundRow, some_found, some_row}
+use Rattle.release_file.proofs.Rows.{FoundRow, some_found, some_row}
 use Rattle.rtds_sim.proofs.Runs.{eligible_runs}
 use Rattle.rtds_sim.proofs.Places.{one_place, at_place, servers_where, servers-long, server_at_place, fewer_ask_less}
 

@@ -27,14 +27,14 @@ use Rattle.release_file.specs.Workload.{row_at, last_row, is_of, is_start, start
 use Rattle.rtds_sim.specs.Rtds.{can_run, RtdsRun}
 use Rattle.rtds_sim.specs.Printed.{moment_of_slot, push_some, gathered, core_of, what_of, event_of, on_at, on_core_at, switch_to, holder_before, is_blocked_one, holder_left, stop_at, row_event_at, switch_at, printed_at, printed_below, printed}
 use Rattle.rtds_sim.specs.Accounts.{AreBefore}
-use Rattle.rtds_sim.proofs.Rows.{last_row-zero, last_row-yes, last_row-no, row_step, some_row, some_found}
+use Rattle.release_file.proofs.Rows.{last_row-zero, last_row-yes, last_row-no, row_step, some_row, some_found}
 use Rattle.rtds_sim.proofs.Runs.{eligible_runs}
 use Rattle.rtds_sim.proofs.Gathered.{gathered-zero, gathered-suc, gathered-none, gathered-rest, push_behind}
 use Rattle.rtds_sim.proofs.Taking.{row_none, row_some}
 use Rattle.rtds_sim.proofs.Entering.{started_by, blocked_by}
 use Rattle.rtds_sim.proofs.Steady.{core_in}
 use Rattle.rtds_sim.proofs.Visits.{printed_below-zero, printed_below-suc}
-use Rattle.rtds_sim.proofs.Standing.{ordered}
+use Rattle.release_file.proofs.Rows.{ordered}
 use Rattle.rtds_sim.proofs.Pushing.{Keeps, After, after_same, after_more, after_end}
 
 -- the holders of the cores below c are the new ones

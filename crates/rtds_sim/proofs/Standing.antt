@@ -17,7 +17,7 @@ use Rattle.release_file.specs.Workload.{row_at, starts, is_of, blocks, IsWorkloa
 use Rattle.rtds_sim.specs.Rtds.{RtdsRun}
 use Rattle.rtds_sim.specs.Printed.{core_of, holder_before, printed_below}
 use Rattle.rtds_sim.specs.Accounts.{no_account, account_at, holder_at, gone_on, AreAccounts, AreBefore, HasRoom, IsAccount, run_of_part}
-use Rattle.rtds_sim.proofs.Rows.{last_row-zero}
+use Rattle.release_file.proofs.Rows.{last_row-zero, ordered}
 use Rattle.rtds_sim.proofs.Steady.{IsNext, alike, gone_accounts}
 use Rattle.rtds_sim.proofs.Visits.{printed_below-zero, printed_on, quiet}
 
@@ -46,14 +46,6 @@ standing_start sys rows runs host events t k room accounts holders none = record
   room = room;
   events_are = none ∙ (sym (printed_below-zero sys rows runs) ∙ sym (ap (printed_below sys rows runs) t));
 }
-
--- rows are in order
-pub in_order : (sys : SystemView) (rows : List Row) → IsWorkload sys rows → (i m : ℕ) → i + m < length rows → (row_at rows i).at ≤ (row_at rows (i + m)).at
-in_order sys rows w i zero l = omega (arith, ap (λ (z : ℕ). (row_at rows z).at) (let e : i + 0 ≡ i = omega arith in e))
-in_order sys rows w i (suc m) l = omega (arith, in_order sys rows w i m (omega arith), w.in_order (i + m) (omega arith), ap (λ (z : ℕ). (row_at rows z).at) (let e : i + suc m ≡ i + m + 1 = omega arith in e))
-
-pub ordered : (sys : SystemView) (rows : List Row) → IsWorkload sys rows → (i j : ℕ) → i ≤ j → j < length rows → (row_at rows i).at ≤ (row_at rows j).at
-ordered sys rows w i j l h = let e : i + (j - i) ≡ j = omega arith in omega (arith, in_order sys rows w i (j - i) (omega arith), ap (λ (z : ℕ). (row_at rows z).at) e)
 
 -- once the rows at a slot are taken
 pub taken_rows : (sys : SystemView) (rows : List Row) → IsWorkload sys rows → (x k j : ℕ) → AreBefore rows k x → k ≤ j → j ≤ length rows → ((i : ℕ) → k ≤ i → i < j → (row_at rows i).at ≡ x) → (j < length rows → (row_at rows j).at ≢ x) → AreBefore rows j (suc x)

@@ -17,7 +17,7 @@ use Rattle.release_file.specs.Workload.{row_at, last_row, is_of, is_start, start
 use Rattle.rtds_sim.specs.Rtds.{period_number, period_from}
 use Rattle.rtds_sim.specs.Printed.{event_of, row_event_at}
 use Rattle.rtds_sim.specs.Accounts.{account_at, no_account, row_taken, IsInPeriod, IsAccount, AreAccounts, run_of_part}
-use Rattle.rtds_sim.proofs.Rows.{last_row-yes, last_row-no, some_row}
+use Rattle.release_file.proofs.Rows.{last_row-yes, last_row-no, some_row}
 
 -- the event of a row at a slot
 pub row_none : (sys : SystemView) (rows : List Row) (x i : ℕ) → (row_at rows i).at ≢ x → row_event_at sys rows x i ≡ None

@@ -28,7 +28,7 @@ use Rattle.release_file.specs.Workload.{row_at, is_of, is_start, starts, is_star
 use Rattle.rtds_sim.specs.Rtds.{RtdsRun}
 use Rattle.rtds_sim.specs.Printed.{moment_of_slot, core_of, what_of, event_of, on_at, printed_below, printed}
 use Rattle.rtds_sim.specs.Giving.{slots_got, AlwaysServed, NoneOver}
-use Rattle.rtds_sim.proofs.Rows.{some_row}
+use Rattle.release_file.proofs.Rows.{some_row}
 use Rattle.rtds_sim.proofs.Taking.{start_is}
 use Rattle.rtds_sim.proofs.Keeping.{OnCore, vcpu_core, holder_below}
 use Rattle.rtds_sim.proofs.Told.{AllOf, all_one, all_append, told_below, Behind, behind}

@@ -3,8 +3,10 @@
 #![tactic(auto)]
 
 mod counts;
+mod pending;
 
 pub use counts::{Counts, count_level, first_miss, misses};
+pub use pending::count_pending;
 
 #[cfg(test)]
 mod tests;

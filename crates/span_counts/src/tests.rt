@@ -4,7 +4,7 @@ ghost use Rattle.slot_model.specs.Release.{LegalRelease};
 ghost use Rattle.slot_model.specs.Task.{sporadic_tasks};
 ghost use Rattle.guest_sched.specs.Spans.{AreWindows, AreSpans, run_of};
 
-use crate::{Counts, count_level, first_miss, misses};
+use crate::{Counts, count_level, count_pending, first_miss, misses};
 use guest_sched::{Span, Window, run_spans};
 use slot_model::{Edf, Job, Miss, Task, is_legal};
 use std::alloc::{AllocError, Global};
@@ -90,5 +90,36 @@ fn a_miss_and_what_else_is_counted(rt: HostRuntime) -> Result<(), Fail> {
     assert_eq!(rt; missed, 1);
     assert_eq!(rt; first, Some(miss));
     assert_eq!(rt; counted, counts);
+    Ok(())
+}
+
+/// The number of pairs of a job and a slot at which it is pending in that schedule.
+fn pending(alloc: Global, tasks: &[Task], jobs: &[Job], given: &[Window]) -> Result<u64, AllocError>
+    requires legal { LegalRelease (sporadic_tasks tasks.now) jobs.now }
+    requires few { length jobs.now < 2 ^ 32 }
+    requires windows { AreWindows given.now 22 }
+{
+    let spans = spans_of(alloc, tasks, jobs, given)?;
+    count_pending(alloc, jobs, &spans, 22)
+}
+
+/// The first job gets slots 4, 10 and 11, so it is pending from 0 to 12; the second gets 12 to 14,
+/// so it is pending from 10 to 15; the third gets nothing before the end.
+#[test]
+fn jobs_are_pending_until_they_have_their_work(rt: HostRuntime) -> Result<(), Fail> {
+    let alloc = rt.alloc();
+    let tasks = [Task::new(10, 10, 3).ok_or(OUT)?];
+    let jobs = [job(0), job(10), job(21)];
+    let given = [
+        Window { from: 4, until: 5 },
+        Window {
+            from: 10,
+            until: 20,
+        },
+    ];
+    if !is_legal(&tasks, &jobs) {
+        return Ok(());
+    }
+    assert_eq!(rt; pending(alloc, &tasks, &jobs, &given)?, 12 + 5 + 1);
     Ok(())
 }

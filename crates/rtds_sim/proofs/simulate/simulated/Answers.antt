@@ -12,7 +12,8 @@ use Rattle.rtds_sim.specs.Accounts.{account_at, holder_at, left_of, gone_on, swi
 use Rattle.rtds_sim.proofs.Runs.{rtds_run, rtds_run-is}
 use Rattle.rtds_sim.proofs.Steady.{IsNext}
 use Rattle.rtds_sim.proofs.Visits.{next_is, visited}
-use Rattle.rtds_sim.proofs.Standing.{Visit, standing_start, standing_next, visit_rows, ends_fit, few_fit, next_later, ordered}
+use Rattle.rtds_sim.proofs.Standing.{Visit, standing_start, standing_next, visit_rows, ends_fit, few_fit, next_later}
+use Rattle.release_file.proofs.Rows.{ordered}
 use Rattle.rtds_sim.proofs.simulate.simulated.Goals as goal
 
 pub loop-host-init : goal.loop-host-init

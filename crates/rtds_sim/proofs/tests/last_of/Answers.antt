@@ -1,7 +1,7 @@
 use Rattle.std.proofs.Common.{◌≡◌, ℕ, suc, ◌+◌, cond, Option, Some, sym, ◌∙◌, ap, arith}
 use Rattle.release_file.specs.declared.workload.Wake.{Wake}
 use Rattle.release_file.specs.Workload.{row_at, last_row, is_of}
-use Rattle.rtds_sim.proofs.Rows.{last_row-zero, row_step}
+use Rattle.release_file.proofs.Rows.{last_row-zero, row_step}
 use Rattle.rtds_sim.proofs.tests.last_of.Goals as goal
 
 pub loop-i-init : goal.loop-i-init

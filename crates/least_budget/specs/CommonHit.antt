@@ -1,0 +1,13 @@
+-- The task that all others rank above, and a window within which it has a hit.
+use Rattle.std.specs.Prelude.{◌≡◌, ◌≢◌, ℕ, ◌<◌, ◌≤◌, Bool, true, List, length}
+use Rattle.slot_model.specs.Task.{SporadicTask, task_at, room_of}
+use Rattle.slot_model.specs.Bound.{IsHit}
+
+-- all other places below n rank above this one
+abbrev pub IsLowest : (ℕ → ℕ → Bool) → ℕ → ℕ → Type 0
+IsLowest above n low = (k : ℕ) → k < n → k ≢ low → above k low ≡ true
+
+-- each task whose deadline leaves as many slots past its jitter has a hit there
+abbrev pub IsCommon : (ℕ → ℕ → Bool) → List SporadicTask → (ℕ → ℕ) → ℕ → Type 0
+IsCommon above tasks bound t = (i : ℕ) → i < length tasks →
+    t ≤ room_of (task_at tasks i) → IsHit above tasks bound i t

@@ -1,0 +1,66 @@
+ghost use Rattle.std.specs.Prelude.{◌≢◌, ◌↔◌, ◌^◌, ◌<◌, ◌≤◌, length, IsTrue, IfSome};
+ghost use Rattle.slot_model.specs.Task.{sporadic_tasks};
+ghost use Rattle.slot_model.specs.Order.{ranks_above};
+ghost use Rattle.least_budget.specs.Answers.{HasHit};
+ghost use Rattle.least_budget.specs.CommonHit.{IsLowest, IsCommon};
+
+use fp_request::higher;
+use fp_test::hit;
+use slot_model::{Sched, Task};
+use supply_bound::Supply;
+
+/// The least hit of the task that all others rank above: within it each task has a hit whose
+/// deadline leaves as much past its jitter. None where there is no task, or the lowest has no hit.
+pub fn hit_of_lowest<S: Supply>(sched: Sched, tasks: &[Task], s: &S) -> Option<u64>
+    requires fixed { sched ≢ Sched.Edf }
+    requires few { length tasks.now < 2 ^ 32 }
+    ensures { let T = sporadic_tasks tasks.now in
+        IfSome result (λ t. IsCommon (ranks_above sched T) T (S.bound s.now) t) }
+{
+    if tasks.is_empty() {
+        return None;
+    }
+    hit(sched, tasks, lowest(sched, tasks), s)
+}
+
+/// The place of the task that all others rank above.
+pub fn lowest(sched: Sched, tasks: &[Task]) -> u32
+    requires fixed { sched ≢ Sched.Edf }
+    requires few { length tasks.now < 2 ^ 32 }
+    requires some { 0 < length tasks.now }
+    ensures within { result < length tasks.now }
+    ensures lowest { IsLowest (ranks_above sched (sporadic_tasks tasks.now))
+        (length tasks.now) result }
+{
+    let mut low = 0;
+    for i in 1..tasks.len() as u32 {
+        if higher(sched, tasks, low, i) {
+            low = i;
+        }
+    }
+    low
+}
+
+/// Whether task `i` has a hit, where `common` is one of the lowest task.
+pub fn has_hit_within<S: Supply>(
+    sched: Sched,
+    tasks: &[Task],
+    i: u32,
+    s: &S,
+    common: Option<u64>,
+) -> bool
+    requires fixed { sched ≢ Sched.Edf }
+    requires i_named { i < length tasks.now }
+    requires common { let T = sporadic_tasks tasks.now in
+        IfSome common (λ t. IsCommon (ranks_above sched T) T (S.bound s.now) t) }
+    ensures { let T = sporadic_tasks tasks.now in
+        IsTrue result ↔ HasHit (ranks_above sched T) T (S.bound s.now) i }
+{
+    if let Some(t) = common {
+        let task = tasks[i as usize];
+        if t <= task.deadline - task.jitter {
+            return true;
+        }
+    }
+    hit(sched, tasks, i, s).is_some()
+}

@@ -1,0 +1,7 @@
+pub mod Rows
+pub mod FieldCounts
+pub mod WakesMore
+pub mod WakesTaking
+pub mod OneWorkload
+pub mod LeafMore
+pub mod ReleasesTaking

@@ -1,0 +1,20 @@
+use Rattle.std.proofs.Common.{◌∙◌, refl, ap, sym, subst, List}
+use Rattle.trace_file.specs.File.{core_names, part_names}
+use Rattle.trace_file.proofs.Distinct.{last_distinct}
+use Rattle.release_file.specs.declared.workload.Wake.{Wake}
+use Rattle.release_file.specs.WakesTaken.{IsBehind}
+use Rattle.release_file.proofs.WakesTaking.{none_behind}
+use Rattle.release_file.proofs.wake_rows.WakeRows.new.Goals as goal
+
+pub part_places-requires : goal.part_places-requires
+part_places-requires c = rw (c.parts.ensures.parts) (last_distinct (core_names c.args.sys.now.cores) (part_names c.args.sys.now.parts) c.parts.ensures.system.names)
+
+pub returns-clause-taken : goal.returns-clause-taken
+returns-clause-taken c =
+    record {
+      system = c.parts.ensures.system;
+      sys = refl;
+      parts = c.in-Ok.ensures ∙ ap part_names c.parts.ensures.parts;
+      wakes = c.new.ensures.items;
+      behind = none_behind _ 512 _ c.new.ensures.items refl refl refl;
+    }

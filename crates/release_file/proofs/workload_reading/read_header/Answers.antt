@@ -1,0 +1,18 @@
+use Rattle.std.proofs.Common.{◌∙◌, ◌∷◌, [], refl, sym, ap, inr, Some, None}
+use Rattle.std.proofs.lemmas.Bool.{cond-false}
+use Rattle.csv_rows.specs.Reading.{row_read}
+use Rattle.csv_rows.proofs.Advancing.{has_front}
+use Rattle.release_file.specs.WorkloadFile.{is_wake_header, wake_rows}
+use Rattle.release_file.proofs.workload_reading.read_header.Goals as goal
+
+pub returns-in-Ok-false-clause-fault : goal.returns-in-Ok-false-clause-fault
+returns-in-Ok-false-clause-fault c text has =
+    let none = rw c.in-Ok-false.field-0-test at (c.in-Ok-false.ensures text [] has) in
+    inr (refl, ap wake_rows none)
+
+pub returns-then-not-is_wake_header-clause-fault : goal.returns-then-not-is_wake_header-clause-fault
+returns-then-not-is_wake_header-clause-fault c text has =
+    let all = rw c.in-Ok-true.field-0-test at (c.in-Ok-true.ensures text [] has) in
+    let (more, front) = has_front text (row_read c.advance.new.self ∷ []) c.advance.new.self all in
+    let none = ap is_wake_header (sym c.row.ensures) ∙ (sym c.is_wake_header.ensures ∙ c.if-not-is_wake_header.true) in
+    inr (refl, ap wake_rows front ∙ cond-false (is_wake_header (row_read c.advance.new.self)) (Some more) None none)
