@@ -1,5 +1,5 @@
 """One run of a program: how it ended, how long it took, and the most memory that it had."""
-import os, subprocess, threading, time
+import os, resource, subprocess, threading, time
 from dataclasses import dataclass
 
 
@@ -12,11 +12,13 @@ class Ended:
     kibibytes: int
 
 
-def run(words, out, err=subprocess.DEVNULL, limit=600.0):
-    """Runs the words with their output to the file `out`, and stops them at the limit. The memory is at least that of
-    this process."""
+def run(words, out, err=subprocess.DEVNULL, limit=600.0, mebibytes=None):
+    """Runs the words with their output to the file `out`, with so much memory at most, and stops them at the limit. The
+    memory that is told is at least that of this process."""
     start = time.perf_counter()
     child = subprocess.Popen(words, stdin=subprocess.DEVNULL, stdout=out, stderr=err)
+    if mebibytes:
+        bound(child.pid, mebibytes << 20)
     stopped = []
     timer = threading.Timer(limit, lambda: (stopped.append(True), child.kill()))
     timer.start()
@@ -25,6 +27,14 @@ def run(words, out, err=subprocess.DEVNULL, limit=600.0):
     timer.cancel()
     child.returncode = os.waitstatus_to_exitcode(status)
     return Ended(None if stopped else child.returncode, seconds, used.ru_maxrss)
+
+
+def bound(pid, size):
+    """Bounds the memory of a process, if it is still there."""
+    try:
+        resource.prlimit(pid, resource.RLIMIT_AS, (size, size))
+    except ProcessLookupError:
+        pass
 
 
 def peak(words, limit=600.0):

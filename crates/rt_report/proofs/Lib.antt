@@ -1,4 +1,7 @@
 mod ChildNames
 mod PartLines
+mod CountsLines
 pub mod OneReplay
+pub mod OneCounts
 mod Examples
+mod SimulateExamples

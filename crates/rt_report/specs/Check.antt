@@ -1,7 +1,6 @@
 -- The text of a certificate's verdict: that it proves the system, or its first flaw.
 use Rattle.std.specs.Prelude.{ℕ, ◌+◌, List, [], ◌∷◌, ◌++◌, codes, Result, Ok, Err, ⊤}
 use Rattle.std.specs.Fmt.{decimal}
-use Rattle.tree_model.specs.declared.place.Place.{Place}
 use Rattle.tree_model.specs.View.{SystemView}
 use Rattle.tree_model.specs.Tree.{IsNode}
 use Rattle.cert_reader.specs.declared.flaw.Flaw.{Flaw}

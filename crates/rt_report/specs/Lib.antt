@@ -1,6 +1,8 @@
 pub mod Words
+pub mod Missed
 pub mod Replay
 pub mod Admit
+pub mod Simulate
 pub mod Refusal
 pub mod Audit
 pub mod Check
