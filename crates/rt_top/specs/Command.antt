@@ -1,14 +1,17 @@
 -- The commands, and the words that spell them.
 use Rattle.std.specs.Prelude.{ℕ, List, [], ◌∷◌, Option, Some, None, option_map, codes, bytes_eq, if◌then◌else◌}
+use Rattle.rt_top.specs.Slots.{slots_of}
 
 -- one form of words each: the names of its files, in the order of the words, and its numbers
 pub data Command : Type 0 where
   admit : (file : List ℕ) → Command
+  rtds : (file workload : List ℕ) (slots : ℕ) → Command
   audit : (file trace : List ℕ) → Command
 
 -- the names of a command's files, in the order of its words
 abbrev pub file_names : Command → List (List ℕ)
 file_names (admit file) = file ∷ []
+file_names (rtds file workload slots) = file ∷ workload ∷ []
 file_names (audit file trace) = file ∷ trace ∷ []
 
 -- the only word, and none where there are fewer or more
@@ -21,11 +24,22 @@ abbrev pub two_words : List (List ℕ) → Option (List ℕ × List ℕ)
 two_words (first ∷ second ∷ []) = Some (first, second)
 two_words _ = None
 
+-- two words and a number of slots
+abbrev pub with_slots : Option ℕ → List ℕ → List ℕ → Option (List ℕ × List ℕ × ℕ)
+with_slots None first second = None
+with_slots (Some slots) first second = Some (first, second, slots)
+
+abbrev pub two_and_slots : List (List ℕ) → Option (List ℕ × List ℕ × ℕ)
+two_and_slots (first ∷ second ∷ slots ∷ []) = with_slots (slots_of slots) first second
+two_and_slots _ = None
+
 -- the command that the words spell: its own word, and then its files and numbers
 abbrev pub command_of : List (List ℕ) → Option Command
 command_of [] = None
 command_of (word ∷ rest) =
     if bytes_eq word (codes "admit") then option_map admit (one_word rest)
+    else if bytes_eq word (codes "rtds")
+    then option_map (λ words. rtds words.0 words.1 words.2) (two_and_slots rest)
     else if bytes_eq word (codes "audit")
     then option_map (λ names. audit names.0 names.1) (two_words rest)
     else None

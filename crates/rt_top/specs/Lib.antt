@@ -1,9 +1,11 @@
+pub mod Slots
 pub mod Command
 pub mod Answer
 pub mod Attempt
 pub mod Budgets
 pub mod TwoFiles
 pub mod Admit
+pub mod Rtds
 pub mod Audit
 pub mod Report
 pub mod Causes

@@ -1,13 +1,22 @@
 ghost use Rattle.std.specs.Prelude.{◌≡◌, map, option_map, string_bytes};
 ghost use Rattle.std.specs.Option.{option_copied};
-ghost use Rattle.rt_top.specs.Command.{command_of, one_word, two_words};
+ghost use Rattle.rt_top.specs.Command.{command_of, one_word, two_words, two_and_slots};
+ghost use Rattle.rt_top.specs.Slots.{slots_of};
 ghost use Rattle.rt_top.specs.Steps.{command_told};
+
+use crate::slots::Slots;
+use csv_rows::{is_plain, number};
+
+/// The most slots of a run.
+const MOST_SLOTS: u64 = 1_000_000;
 
 /// A form of words, with the names of its files in the order of the words.
 #[derive(Clone, Copy)]
 pub enum Command<'a> {
     /// `admit FILE`
     Admit(&'a str),
+    /// `rtds FILE WORKLOAD SLOTS`
+    Rtds(&'a str, &'a str, Slots),
     /// `audit FILE TRACE`
     Audit(&'a str, &'a str),
 }
@@ -19,6 +28,9 @@ pub fn parse(words: &[String]) -> Option<Command<'_>>
     let (word, rest) = words.split_first()?;
     if word.as_str() == "admit" {
         Some(Command::Admit(one_word(rest)?))
+    } else if word.as_str() == "rtds" {
+        let (file, workload, slots) = two_and_slots(rest)?;
+        Some(Command::Rtds(file, workload, slots))
     } else if word.as_str() == "audit" {
         let (file, trace) = two_words(rest)?;
         Some(Command::Audit(file, trace))
@@ -44,4 +56,32 @@ fn two_words(words: &[String]) -> Option<(&str, &str)>
         [first, second] => Some((first.as_str(), second.as_str())),
         _ => None,
     }
+}
+
+fn two_and_slots(words: &[String]) -> Option<(&str, &str, Slots)>
+    ensures { option_map (λ words. (words.0.now, words.1.now, words.2.count)) result
+        ≡ two_and_slots (map string_bytes words.now) }
+{
+    match words {
+        [first, second, slots] => {
+            let slots = slots_of(slots.as_str())?;
+            Some((first.as_str(), second.as_str(), slots))
+        }
+        _ => None,
+    }
+}
+
+/// A number of slots: a plain decimal number from 1 to 1,000,000.
+pub fn slots_of(word: &str) -> Option<Slots>
+    ensures { option_map (λ slots. slots.count) result ≡ slots_of word.now }
+{
+    let digits = word.as_bytes();
+    if !is_plain(digits) {
+        return None;
+    }
+    let count = number(digits, MOST_SLOTS)?;
+    if count == 0 {
+        return None;
+    }
+    Some(Slots { count })
 }

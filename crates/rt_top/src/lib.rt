@@ -10,6 +10,8 @@ mod file;
 mod jitter_tests;
 mod refusing;
 mod replays;
+mod rtds;
+mod slots;
 #[cfg(test)]
 mod spans_tests;
 mod status;

@@ -13,6 +13,7 @@ use crate::Status;
 use crate::admit::admit;
 use crate::answer::{Answer, Ending, ended};
 use crate::audit::audit;
+use crate::rtds::rtds;
 use crate::command::{Command, parse};
 use outside::{Sink, Store, write_all};
 use rt_report::usage_text;
@@ -60,6 +61,9 @@ fn answer<S: Store>(alloc: Global, command: Option<Command<'_>>, store: &mut S) 
 {
     match command {
         Some(Command::Admit(file)) => ended(admit(alloc, store, file)),
+        Some(Command::Rtds(file, workload, slots)) => {
+            ended(rtds(alloc, store, file, workload, slots))
+        }
         Some(Command::Audit(file, trace)) => ended(audit(alloc, store, file, trace)),
         None => ended(usage(alloc)),
     }
