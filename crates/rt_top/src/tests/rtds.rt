@@ -2,11 +2,9 @@
 use super::rows::*;
 use super::{joined, two_files, words};
 use crate::{Status, run};
-use bulk_host::make_bulk;
 use outside::MemorySink;
-use std::alloc::Global;
+use std::alloc::{AllocError, Global};
 use std::test::Fail;
-use system_file::print_system;
 
 /// The header of a workload.
 const WAKES: &str = "at,vcpu,what\n";
@@ -15,10 +13,20 @@ const WAKES: &str = "at,vcpu,what\n";
 const BOTH: &str = "0,A,start\n0,B,start\n";
 
 /// The same system under another rule.
-const RANKED: &str = "format = 1\n[[core]]\nname = \"cpu0\"\nsched = \"rm\"\n[[part]]\nname = \"A\"\n\
+const RANKED: &str =
+    "format = 1\n[[core]]\nname = \"cpu0\"\nsched = \"rm\"\n[[part]]\nname = \"A\"\n\
      parent = \"cpu0\"\nsched = \"edf\"\nperiod = 10\nbudget = 3\n[[part.task]]\nname = \"a\"\n\
      period = 100\nwork = 3\n[[part]]\nname = \"B\"\nparent = \"cpu0\"\nsched = \"edf\"\n\
      period = 10\nbudget = 4\n[[part.task]]\nname = \"b\"\nperiod = 100\nwork = 4\n";
+
+/// What stands before and behind the numbers of three guests.
+const A_HEAD: &str = "[[part]]\nname = \"A\"\nparent = \"cpu0\"\nsched = \"edf\"\n";
+
+const B_HEAD: &str = "[[part]]\nname = \"B\"\nparent = \"cpu0\"\nsched = \"edf\"\n";
+
+const C_HEAD: &str = "[[part]]\nname = \"C\"\nparent = \"cpu0\"\nsched = \"edf\"\n";
+
+const TASK: &str = "[[part.task]]\nname = \"t\"\nperiod = 100\nwork = 1\n";
 
 // The status of these words over a system and a second file, and what was written, of which there
 // is room for a mebibyte.
@@ -67,8 +75,8 @@ fn workloads_are_run(rt: HostRuntime) -> Result<(), Fail> {
         ),
     ] {
         let workload = joined(alloc, rows)?;
-        let words = ["rtds", "sys", "trace", slots].as_slice();
-        let (status, written) = over(alloc, words, SHARED, workload.as_str())?;
+        let words = ["rtds", "sys", "trace", slots];
+        let (status, written) = over(alloc, words.as_slice(), SHARED, workload.as_str())?;
         assert_eq!(rt; status, want, "{workload}");
         assert_eq!(rt; written.as_slice(), answer.as_bytes(), "{workload}");
         let (_, judged) = over(alloc, &["audit", "sys", "trace"], SHARED, answer)?;
@@ -84,32 +92,45 @@ fn other_cores_and_words_are_refused(rt: HostRuntime) -> Result<(), Fail> {
     let words = ["rtds", "sys", "trace", "10"].as_slice();
     let (status, written) = over(alloc, words, RANKED, workload.as_str())?;
     assert_eq!(rt; status, Status::BadFile);
-    assert_eq!(rt; written.as_slice(), b"fault=NotRtds core=cpu0 file=1\n".as_slice());
+    assert_eq!(rt;
+        written.as_slice(),
+        b"fault=NotRtds core=cpu0 file=1\n".as_slice()
+    );
     for slots in ["0", "01", "1000001", "-1", "18446744073709551626", ""] {
-        let words = ["rtds", "sys", "trace", slots].as_slice();
-        let (status, _) = over(alloc, words, SHARED, workload.as_str())?;
+        let words = ["rtds", "sys", "trace", slots];
+        let (status, _) = over(alloc, words.as_slice(), SHARED, workload.as_str())?;
         assert_eq!(rt; status, Status::Usage, "{slots}");
     }
     Ok(())
 }
 
-// A hundred hosts that are admitted: what is made of each gives every guest its budget.
+// Three guests on one core, each with a period of its own, which ask for less than all slots.
+fn three_guests(alloc: Global, k: u64) -> Result<String, AllocError> {
+    let (a, b, c) = (6 + k % 5, 9 + k % 7, 5 + k % 4);
+    let extra = k % 2 == 0;
+    format!(in alloc;
+        "{CORE}{A_HEAD}period = {a}\nbudget = 2\n{TASK}{B_HEAD}period = {b}\nbudget = 3\n\
+         extra = {extra}\n{TASK}{C_HEAD}period = {c}\nbudget = 1\n{TASK}"
+    )
+}
+
 #[test]
-fn what_is_run_over_admitted_hosts_is_satisfied(rt: HostRuntime) -> Result<(), Fail> {
+fn what_is_run_over_admitted_systems_is_satisfied(rt: HostRuntime) -> Result<(), Fail> {
     let alloc = rt.alloc();
-    for guests in 1..=100 {
-        let host = make_bulk(alloc, guests)?;
-        let sys = String::from_utf8(print_system(alloc, &host)?).ok().ok_or("no text")?;
-        let mut workload = String::from_str(alloc, WAKES)?;
-        for part in host.parts() {
-            workload.push_str(format!(in alloc; "0,{},start\n", part.name().as_str())?.as_str())?;
-        }
-        let words = ["rtds", "sys", "trace", "4000"].as_slice();
-        let (status, written) = over(alloc, words, sys.as_str(), workload.as_str())?;
-        assert_eq!(rt; status, Status::Yes, "{guests}");
+    let workload = "at,vcpu,what\n0,A,start\n0,B,start\n0,C,start\n";
+    for k in 0..100 {
+        let sys = three_guests(alloc, k)?;
+        let words = ["rtds", "sys", "trace", "300"].as_slice();
+        let (status, written) = over(alloc, words, sys.as_str(), workload)?;
+        assert_eq!(rt; status, Status::Yes, "{k}");
         let trace = String::from_utf8(written).ok().ok_or("no text")?;
-        let (status, _) = over(alloc, &["audit", "sys", "trace"], sys.as_str(), trace.as_str())?;
-        assert_eq!(rt; status, Status::Yes, "{guests}");
+        for words in [
+            ["admit", "sys"].as_slice(),
+            ["audit", "sys", "trace"].as_slice(),
+        ] {
+            let (status, _) = over(alloc, words, sys.as_str(), trace.as_str())?;
+            assert_eq!(rt; status, Status::Yes, "{k}");
+        }
     }
     Ok(())
 }
