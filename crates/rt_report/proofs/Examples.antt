@@ -19,6 +19,7 @@ use Rattle.cert_reader.specs.declared.fault.CertFault.TheVariants.{NotJson, Wron
 use Rattle.rt_report.specs.declared.fault.FileFault.TheVariants.{System, Release, Trace, Cert, NotRtds}
 use Rattle.rt_report.specs.declared.replay.Replay.{Replay}
 use Rattle.rt_report.specs.Admit.{admit_text}
+use Rattle.rt_report.specs.Bulk.{bulk_text}
 use Rattle.rt_report.specs.Refusal.{refusal_text}
 use Rattle.rt_report.specs.Fault.{fault_text}
 use Rattle.rt_report.specs.Unread.{absent_text, too_long_text}
@@ -143,3 +144,8 @@ files_that_are_not_read = (refl, refl, refl, refl)
 
 the_usage : usage_line ≡ codes "usage: rtadmit admit FILE | certify FILE | check FILE CERT | simulate FILE RELEASES PATTERN SLOTS | rtds FILE WORKLOAD SLOTS | audit FILE TRACE | bulk N\n"
 the_usage = refl
+
+-- a generated host of one guest
+a_generated_host : bulk_text (record { guests = 1; cores = 1; budgets = 53; jobs = 15; missed = 0; pending = 130460 }) ≡ codes "verdict=yes\nguests=1 cores=1 budgets=53 jobs=15 missed=0 pending=130460\n"
+unfolding digits
+a_generated_host = refl

@@ -2,6 +2,7 @@
 #![tactic(auto)]
 
 mod admit;
+mod bulk;
 mod cert_fault;
 mod fault;
 mod names;
@@ -13,6 +14,7 @@ mod unread;
 mod usage;
 
 pub use admit::admit_text;
+pub use bulk::{BulkCounts, bulk_text};
 pub use fault::{FileFault, fault_text};
 pub use refusal::refusal_text;
 pub use replay::Replay;

@@ -1,0 +1,14 @@
+-- The text of a generated host: the verdict, and what is counted of it and of its run.
+use Rattle.std.specs.Prelude.{ℕ, List, [], ◌∷◌, ◌++◌, codes}
+use Rattle.std.specs.Fmt.{decimal}
+use Rattle.rt_report.specs.declared.bulk.BulkCounts.{BulkCounts}
+use Rattle.rt_report.specs.Words.{joined}
+
+abbrev pub bulk_text : BulkCounts → List ℕ
+bulk_text counts = joined (
+    codes "verdict=yes\nguests=" ∷ decimal counts.guests
+    ∷ codes " cores=" ∷ decimal counts.cores
+    ∷ codes " budgets=" ∷ decimal counts.budgets
+    ∷ codes " jobs=" ∷ decimal counts.jobs
+    ∷ codes " missed=" ∷ decimal counts.missed
+    ∷ codes " pending=" ∷ decimal counts.pending ∷ codes "\n" ∷ [])
