@@ -75,11 +75,6 @@ core_fits earlier d w new supply =
     (none_both _ _ (sched_fits spot (get (codes "sched") d) w.sched) (supply_fits spot (get (codes "supply_period") d) (get (codes "supply_budget") d) w.supply supply)))
 
 -- a place in the front is found in the front alone
-in_front : (a : Option ℕ) (n : ℕ) (o : Option ℕ) (r : ℕ) → joined a n o ≡ Some r → r < n → a ≡ Some r
-in_front (Some i) n o r h lt = h
-in_front None n None r h lt = cc
-in_front None n (Some j) r h lt = absurd (let e : n + j ≡ r = cc in omega arith)
-
 parent_before : (cores earlier later : List Data) (s : List ℕ) (p : Parent) → parent_named cores (earlier ++ later) s ≡ Some p → ((r : ℕ) → p ≡ on_part r → r < length earlier) → parent_named cores earlier s ≡ Some p
 parent_before cores earlier later s p h below = by (position (is_named s) cores) (position (is_named s) earlier) (position (is_named s) later) (ap (core_or_part (position (is_named s) cores)) (sym (position_append (is_named s) earlier later)) ∙ h)
   where

@@ -1,7 +1,6 @@
 ghost use Rattle.std.specs.Prelude.{◌≡◌, ◌≢◌, ℕ, ◌≤◌, ◌<◌, ◌+◌, List, [], ◌∷◌, ◌++◌, true, false, length, map, slice_index_or, Some, IfOk, IfErr, OnOk, MatchOption};
 ghost use Rattle.toml.specs.Data.{Data};
 ghost use Rattle.toml.specs.View.{view};
-ghost use Rattle.tree_model.specs.System.{is_leaf};
 ghost use Rattle.system_file.specs.declared.fault.SystemFault.TheVariants.{NoMemory};
 ghost use Rattle.system_file.specs.Document.{parent_named, spelled_part};
 ghost use Rattle.system_file.specs.Faults.{parent_faults, part_faults, in_order};
@@ -18,12 +17,6 @@ use slot_model::LIMIT;
 use std::alloc::{AllocError, Global};
 use toml::Value;
 use tree_model::{Parent, Part};
-
-fn has_tasks(part: &Part) -> bool
-    ensures { result ≡ is_leaf part.now.tasks }
-{
-    !part.tasks.is_empty()
-}
 
 /// The core or the earlier part without tasks that a text names.
 fn parent_of(
@@ -50,7 +43,7 @@ fn parent_of(
                 return Ok(Parent::Core(place as u32));
             }
             let part = place - cores;
-            if has_tasks(&earlier[part]) {
+            if earlier[part].is_leaf() {
                 return Err(SystemFault::Mixed(spot));
             }
             Ok(Parent::Part(part as u32))

@@ -16,24 +16,24 @@ returns-in-None-clause-fault c = λ cores before later known.
     let found = none_found _ _ _ (looked_up cores before later _ _ _ c.args.text.now None known (sym c.in-None.ensures.place)) in
     ap (λ o. first_of (is_parent_faults c.args.spot before o)) found
 
-pub returns-then-has_tasks-clause-fault : goal.returns-then-has_tasks-clause-fault
-returns-then-has_tasks-clause-fault c = λ cores before later known.
+pub returns-then-is_leaf-clause-fault : goal.returns-then-is_leaf-clause-fault
+returns-then-is_leaf-clause-fault c = λ cores before later known.
     let few = as_many known in
     let leaf = leaf_at cores (before ++ later) before (c.in-Some.place - c.args.cores) c.index-earlier-part.result (omega (arith, c.in-Some.ensures.within))
     (c.index-earlier-part.is ∙ ap (λ parts. get_or parts (c.in-Some.place - c.args.cores) c.index-earlier-part.result) known.spelled) in
     let found = part_found _ _ _ _ (λ k e. let lt = position_within (is_named c.args.text.now) cores k e in let counted = known.counted in omega arith)
     (looked_up cores before later _ _ _ c.args.text.now (Some c.in-Some.place) known (sym c.in-Some.ensures.place)) c.if-place-cores.false in
     ap (λ o. first_of (is_parent_faults c.args.spot before o)) found
-    ∙ ap (λ b. first_of (fault_if b (Mixed c.args.spot))) (sym leaf ∙ sym c.has_tasks.ensures ∙ c.if-has_tasks.true)
+    ∙ ap (λ b. first_of (fault_if b (Mixed c.args.spot))) (sym leaf ∙ sym c.is_leaf.ensures ∙ c.if-is_leaf.true)
 
-pub returns-else-has_tasks-clause-ok : goal.returns-else-has_tasks-clause-ok
-returns-else-has_tasks-clause-ok c = λ cores before later known.
+pub returns-else-is_leaf-clause-ok : goal.returns-else-is_leaf-clause-ok
+returns-else-is_leaf-clause-ok c = λ cores before later known.
     let few = as_many known in
     let leaf = leaf_at cores (before ++ later) before (c.in-Some.place - c.args.cores) c.index-earlier-part.result (omega (arith, c.in-Some.ensures.within))
     (c.index-earlier-part.is ∙ ap (λ parts. get_or parts (c.in-Some.place - c.args.cores) c.index-earlier-part.result) known.spelled) in
     let found = part_found _ _ _ _ (λ k e. let lt = position_within (is_named c.args.text.now) cores k e in let counted = known.counted in omega arith)
     (looked_up cores before later _ _ _ c.args.text.now (Some c.in-Some.place) known (sym c.in-Some.ensures.place)) c.if-place-cores.false in (
       ap (is_parent_faults c.args.spot before) found
-          ∙ ap (λ b. fault_if b (Mixed c.args.spot)) (sym leaf ∙ sym c.has_tasks.ensures ∙ c.if-has_tasks.false),
+          ∙ ap (λ b. fault_if b (Mixed c.args.spot)) (sym leaf ∙ sym c.is_leaf.ensures ∙ c.if-is_leaf.false),
       found,
     )
