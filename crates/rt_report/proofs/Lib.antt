@@ -1,4 +1,5 @@
 mod ChildNames
 mod PartLines
+mod CountsLines
 pub mod OneReplay
 mod Examples

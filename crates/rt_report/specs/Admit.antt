@@ -6,6 +6,7 @@ use Rattle.slot_model.specs.declared.miss.Miss.{Miss}
 use Rattle.tree_model.specs.View.{PartView, SystemView}
 use Rattle.tree_model.specs.System.{is_computed_leaf, computed_leaves}
 use Rattle.rt_report.specs.Words.{joined, task_name}
+use Rattle.rt_report.specs.Missed.{missed_words}
 use Rattle.rt_report.specs.declared.replay.Replay.{Replay}
 use Rattle.rt_report.specs.Replay.{IsReplay}
 
@@ -28,12 +29,7 @@ short_task part (Some i) = task_name part i
 -- the first miss of the replay, or `skipped`
 abbrev pub miss_words : PartView → Option Miss → List ℕ
 miss_words part None = codes "skipped\n"
-miss_words part (Some miss) = joined (
-    task_name part miss.task
-    ∷ codes " release=" ∷ decimal miss.release
-    ∷ codes " deadline=" ∷ decimal miss.deadline
-    ∷ codes " got=" ∷ decimal miss.got
-    ∷ codes " of=" ∷ decimal miss.work ∷ codes "\n" ∷ [])
+miss_words part (Some miss) = missed_words (task_name part miss.task) miss
 
 -- `witness NAME budget=B start=S span=T task=TASK replay=..`
 abbrev pub witness_line : PartView → Replay → List ℕ

@@ -1,6 +1,7 @@
 ghost use Rattle.std.specs.Prelude.{◌≡◌, ◌++◌, IfOk, OnOk, string_bytes, codes, drop, length};
 ghost use Rattle.rt_report.specs.Admit.{admit_text, part_line, witness_line, miss_words, short_task, first_witness};
 
+use crate::missed::push_missed;
 use crate::{Replay, names};
 use slot_model::Miss;
 use std::alloc::{AllocError, Global};
@@ -93,15 +94,7 @@ fn push_miss(text: &mut String, part: &Part, miss: Option<Miss>) -> Result<(), A
         (string_bytes text.new ≡ string_bytes text.old ++ miss_words part.now miss) }
 {
     match miss {
-        Some(miss) => write!(
-            text,
-            "{} release={} deadline={} got={} of={}\n",
-            names::task(part, miss.task),
-            miss.release,
-            miss.deadline,
-            miss.got,
-            miss.work
-        ),
+        Some(miss) => push_missed(text, names::task(part, miss.task), miss),
         None => text.push_str("skipped\n"),
     }
 }

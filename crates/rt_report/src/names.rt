@@ -1,10 +1,29 @@
-ghost use Rattle.std.specs.Prelude.{◌≡◌, ◌<◌, length};
+ghost use Rattle.std.specs.Prelude.{◌≡◌, ◌<◌, ◌++◌, length, codes, OnOk, string_bytes};
 ghost use Rattle.tree_model.specs.declared.place.Place.TheVariants.{Core, Part};
-ghost use Rattle.tree_model.specs.System.{part_at};
-ghost use Rattle.rt_report.specs.Words.{child_name, served_name, task_name};
+ghost use Rattle.tree_model.specs.System.{core_at, part_at};
+ghost use Rattle.rt_report.specs.Words.{child_name, node_words, served_name, task_name};
 ghost use Rattle.tree_model.specs.Tree.{IsNode};
 
+use std::alloc::AllocError;
 use tree_model::{Part, Place, System};
+
+/// Writes `core NAME` or `part NAME`.
+pub fn push_node(text: &mut String, sys: &System, node: Place) -> Result<(), AllocError>
+    requires { IsNode sys.now node }
+    ensures { OnOk result
+        (string_bytes text.new ≡ string_bytes text.old ++ node_words sys.now node) }
+{
+    match node {
+        Place::Core(c) => {
+            text.push_str("core ")?;
+            text.push_str(sys.cores()[c as usize].name.as_str())
+        }
+        Place::Part(q) => {
+            text.push_str("part ")?;
+            text.push_str(sys.parts()[q as usize].name().as_str())
+        }
+    }
+}
 
 /// The name of what a node serves, at a place among its tasks or its children; nothing past the
 /// end.

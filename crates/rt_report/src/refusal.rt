@@ -1,7 +1,5 @@
 ghost use Rattle.std.specs.Prelude.{◌≡◌, ◌≢◌, ◌++◌, IfOk, OnOk, string_bytes, codes};
-ghost use Rattle.tree_model.specs.System.{core_at, part_at};
 ghost use Rattle.tree_model.specs.Tree.{IsNode};
-ghost use Rattle.rt_report.specs.Words.{node_words};
 ghost use Rattle.rt_report.specs.Refusal.{short_words, refusal_text, IsRefusalOf};
 
 use crate::names;
@@ -18,35 +16,18 @@ pub fn refusal_text(alloc: Global, sys: &System, r: &Refusal) -> Result<Vec<u8>,
     match *r {
         Refusal::Overfull(node, short) => {
             text.push_str("verdict=no\noverfull ")?;
-            push_node(&mut text, sys, node)?;
+            names::push_node(&mut text, sys, node)?;
             push_short(&mut text, sys, node, short)?;
             text.push_str("\n")?;
         }
         Refusal::Wide(node) => {
             text.push_str("verdict=wide\nwide ")?;
-            push_node(&mut text, sys, node)?;
+            names::push_node(&mut text, sys, node)?;
             text.push_str("\n")?;
         }
         Refusal::NoMemory => unreachable!(),
     }
     Ok(text.into_bytes())
-}
-
-fn push_node(text: &mut String, sys: &System, node: Place) -> Result<(), AllocError>
-    requires { IsNode sys.now node }
-    ensures { OnOk result
-        (string_bytes text.new ≡ string_bytes text.old ++ node_words sys.now node) }
-{
-    match node {
-        Place::Core(c) => {
-            text.push_str("core ")?;
-            text.push_str(sys.cores()[c as usize].name.as_str())
-        }
-        Place::Part(q) => {
-            text.push_str("part ")?;
-            text.push_str(sys.parts()[q as usize].name().as_str())
-        }
-    }
 }
 
 fn push_short(text: &mut String, sys: &System, node: Place, short: Short) -> Result<(), AllocError>

@@ -1,0 +1,5 @@
+pub mod Shares
+pub mod NodeView
+pub mod TreeCounts
+pub mod TreeSpans
+pub mod Patterns

@@ -1,11 +1,26 @@
-//! The schedule of a level of servers: each server of a core or a part releases its budget once a
-//! period, and is given up at its deadline moment.
+//! The schedule of servers: a level of them, each of which releases its budget once a period and is
+//! given up at its deadline moment, and a whole tree, in which a core and an inner part run the
+//! servers of their children, a leaf runs its jobs, and a child's slots are those at which its
+//! parent's run holds one of its jobs.
 #![tactic(auto)]
 
+mod node;
 mod servers;
+mod shares;
+mod slots;
+mod supplies;
+mod tree;
+mod tree_counts;
 
 pub use guest_sched::{Span, Window, server_spans};
+pub use node::{NodeSpans, TreeSpans};
 pub use servers::{run_servers, server_jobs};
+pub use slots::run_tree;
+pub use supplies::{Pattern, core_supplies};
+pub use tree::span_tree;
+pub use tree_counts::TreeCounts;
 
 #[cfg(test)]
 mod tests;
+#[cfg(test)]
+mod tree_tests;

@@ -6,3 +6,4 @@ pub mod Admission
 pub mod CertificateView
 pub mod TreeRunView
 pub mod Plans
+pub mod Releases
