@@ -1,20 +1,21 @@
 -- The parts of a request bound, task by task.
-use Rattle.std.proofs.Common.{◌≡◌, ℕ, suc, ◌+◌, ◌<◌, ◌≤◌, Bool, true, false, cond, List, length, get_or, ap, arith}
+use Rattle.std.proofs.Common.{◌≡◌, ◌∙◌, sym, ℕ, suc, ◌+◌, ◌<◌, ◌≤◌, Bool, true, false, List, length, get_or, ap, arith}
 use Rattle.std.proofs.lemmas.Bool.{cond-true, cond-false}
 use Rattle.std.proofs.lemmas.List.{length-map, get_or-map}
 use Rattle.slot_model.specs.declared.task.Task.{Task}
 use Rattle.slot_model.specs.Slots.{sum_below}
 use Rattle.slot_model.specs.Task.{SporadicTask, task_at, sporadic_task, sporadic_tasks}
 use Rattle.slot_model.specs.Bound.{request_of, rbf}
+use Rattle.fp_request.specs.Parts.{part_of}
 use Rattle.slot_model.proofs.Sums.{sum_below-suc, sum_below-longer}
 
 -- the task at a place as its plain numbers
 pub task_at-is : (tasks : List Task) (i : ℕ) (d : Task) → i < length tasks → task_at (sporadic_tasks tasks) i ≡ sporadic_task (get_or tasks i d)
 task_at-is tasks i d l = get_or-map sporadic_task tasks i d _ l
 
--- what task k adds to the request bound of task i
-abbrev pub part_of : (ℕ → ℕ → Bool) → List SporadicTask → ℕ → ℕ → ℕ → ℕ
-part_of above tasks i t k = cond (above k i) (request_of (task_at tasks k) t) 0
+-- the item that a loop has at a place asks for what the task there asks for
+pub item_request : (tasks : List Task) (k t : ℕ) (item : Task) → k < length tasks → item ≡ get_or tasks k item → request_of (task_at (sporadic_tasks tasks) k) t ≡ request_of (sporadic_task item) t
+item_request tasks k t item l e = ap (λ (z : SporadicTask). request_of z t) (task_at-is tasks k item l ∙ ap sporadic_task (sym e))
 
 -- the request bound as far as the first n tasks make it
 abbrev pub request_to : (ℕ → ℕ → Bool) → List SporadicTask → ℕ → ℕ → ℕ → ℕ

@@ -3,6 +3,7 @@ ghost use Rattle.slot_model.specs.declared.task.TheConstants.{LIMIT};
 ghost use Rattle.slot_model.specs.Task.{sporadic_task, sporadic_tasks};
 ghost use Rattle.slot_model.specs.Order.{ranks_above};
 ghost use Rattle.slot_model.specs.Bound.{request_of, rbf};
+ghost use Rattle.fp_request.specs.Parts.{part_of};
 ghost use Rattle.fp_request.specs.Released.{RequestsBound};
 
 use crate::rank::ranks;
@@ -20,6 +21,53 @@ pub fn request(sched: Sched, tasks: &[Task], i: u32, t: u128) -> Option<u128>
         rbf (ranks_above sched (sporadic_tasks tasks.now)) (sporadic_tasks tasks.now) i t) }
     ensures bounds { RequestsBound (sporadic_tasks tasks.now) t }
 {
+    if t <= LIMIT as u128 {
+        Some(request_within(sched, tasks, i, t as u64))
+    } else {
+        request_past(sched, tasks, i, t)
+    }
+}
+
+/// The same for a window no longer than a period may be, in 64 bits but for the sum: a division of
+/// 128 is slow.
+fn request_within(sched: Sched, tasks: &[Task], i: u32, t: u64) -> u128
+    requires fixed { sched ≢ Sched.Edf }
+    requires i_named { i < length tasks.now }
+    requires short { t ≤ LIMIT }
+    ensures { let T = sporadic_tasks tasks.now in result ≡ rbf (ranks_above sched T) T i t }
+{
+    let mut total = tasks[i as usize].work as u128;
+    for k in 0..tasks.len() {
+        total += part_within(sched, tasks, i as usize, t, k) as u128;
+    }
+    total
+}
+
+/// What task `k` adds to the request bound of task `i`.
+fn part_within(sched: Sched, tasks: &[Task], i: usize, t: u64, k: usize) -> u64
+    requires fixed { sched ≢ Sched.Edf }
+    requires i_named { i < length tasks.now }
+    requires k_named { k < length tasks.now }
+    requires short { t ≤ LIMIT }
+    ensures exact { let T = sporadic_tasks tasks.now in
+        result ≡ part_of (ranks_above sched T) T i t k }
+    ensures fits { result < 2 ^ 64 }
+{
+    if ranks(sched, tasks, k, i) {
+        request_of_short(&tasks[k], t)
+    } else {
+        0
+    }
+}
+
+/// The same for a longer window.
+fn request_past(sched: Sched, tasks: &[Task], i: u32, t: u128) -> Option<u128>
+    requires fixed { sched ≢ Sched.Edf }
+    requires i_named { i < length tasks.now }
+    ensures { let T = sporadic_tasks tasks.now in
+        MatchOption result (2 ^ 128 ≤ rbf (ranks_above sched T) T i t)
+        (λ r. r ≡ rbf (ranks_above sched T) T i t) }
+{
     let mut sum = tasks[i as usize].work as u128;
     for (k, task) in tasks.iter().enumerate() {
         if ranks(sched, tasks, k, i as usize) {
@@ -35,14 +83,11 @@ fn request_of_task(task: &Task, t: u128) -> Option<u128>
     ensures { MatchOption result (2 ^ 128 ≤ request_of (sporadic_task task.now) t)
         (λ r. r ≡ request_of (sporadic_task task.now) t) }
 {
-    if t <= LIMIT as u128 {
-        return Some(request_within(task, t as u64) as u128);
-    }
     arrivals(t, task.period, task.jitter).checked_mul(task.work as u128)
 }
 
-/// The same for a window no longer than a period may be, in 64 bits: a division of 128 is slow.
-fn request_within(task: &Task, t: u64) -> u64
+/// The same for a window no longer than a period may be, in 64 bits.
+fn request_of_short(task: &Task, t: u64) -> u64
     requires { t ≤ LIMIT }
     ensures { result ≡ request_of (sporadic_task task.now) t }
 {

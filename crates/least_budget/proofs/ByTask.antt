@@ -36,8 +36,8 @@ pub record IsEnoughTo (sched : Sched) (tasks : List SporadicTask) (period n budg
   pub hits : (k : ℕ) → k < n → HasHit (ranks_above sched tasks) tasks (sbf period budget) k
   pub below : (b : ℕ) → b < budget → Passes sched tasks (sbf period b) → ⊥
 
-pub none_yet : (sched : Sched) (tasks : List SporadicTask) (period : ℕ) → IsEnoughTo sched tasks period 0 0
-none_yet sched tasks period = record { in_period = omega arith; hits = λ k l. absurd (omega arith); below = λ b l passes. omega arith }
+pub none_yet : (sched : Sched) (tasks : List SporadicTask) (period budget : ℕ) → budget ≤ period → ((b : ℕ) → b < budget → Passes sched tasks (sbf period b) → ⊥) → IsEnoughTo sched tasks period 0 budget
+none_yet sched tasks period budget l below = record { in_period = l; hits = λ k m. absurd (omega arith); below = below }
 
 pub one_more : (sched : Sched) → sched ≢ Edf → (tasks : List SporadicTask) (period n budget more : ℕ) → 1 ≤ period → n < length tasks → IsEnoughTo sched tasks period n budget → IsLeastOfTask (ranks_above sched tasks) tasks period n budget more → IsEnoughTo sched tasks period (n + 1) more
 one_more sched fixed tasks period n budget more l m e h = record {

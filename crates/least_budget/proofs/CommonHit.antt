@@ -6,7 +6,7 @@ use Rattle.slot_model.specs.Task.{SporadicTask, AreConstrained, IsConstrained, t
 use Rattle.slot_model.specs.Order.{IsRank}
 use Rattle.slot_model.specs.Bound.{request_of, rbf, IsHit}
 use Rattle.slot_model.proofs.Sums.{sum_below-lt}
-use Rattle.fp_request.proofs.Parts.{part_of}
+use Rattle.fp_request.specs.Parts.{part_of}
 use Rattle.fp_test.proofs.Answer.{IsAnswer}
 use Rattle.least_budget.specs.CommonHit.{IsLowest, IsCommon}
 

@@ -1,11 +1,12 @@
-ghost use Rattle.std.specs.Prelude.{◌≢◌, ◌↔◌, ◌^◌, ◌<◌, ◌≤◌, length, IsTrue, MatchOption};
+ghost use Rattle.std.specs.Prelude.{◌≢◌, ◌↔◌, ◌^◌, ◌<◌, ◌≤◌, ℕ, length, IsTrue, MatchOption};
 ghost use Rattle.slot_model.specs.declared.task.TheConstants.{LIMIT};
 ghost use Rattle.slot_model.specs.Task.{sporadic_tasks};
 ghost use Rattle.slot_model.specs.Order.{ranks_above};
-ghost use Rattle.slot_model.specs.Bound.{sbf, IsShortTask};
+ghost use Rattle.slot_model.specs.Bound.{sbf, IsShortTask, Passes};
 ghost use Rattle.least_budget.specs.Answers.{HasHit, IsLeast, IsLeastOfTask};
 
 use crate::Least;
+use crate::lowest::lowest;
 use fp_test::hit;
 use slot_model::{Sched, Short, Task};
 use supply_bound::Periodic;
@@ -18,7 +19,7 @@ pub fn least_of_tasks(sched: Sched, tasks: &[Task], period: u64) -> Least
     requires in_limit { period ≤ LIMIT }
     ensures { IsLeast sched (sporadic_tasks tasks.now) period result }
 {
-    let mut budget = 0;
+    let mut budget = least_of_lowest(sched, tasks, period);
     for i in 0..tasks.len() as u32 {
         match least_of_one(sched, tasks, i, period, budget) {
             Some(enough) => budget = enough,
@@ -26,6 +27,26 @@ pub fn least_of_tasks(sched: Sched, tasks: &[Task], period: u64) -> Least
         }
     }
     Least::Budget(budget)
+}
+
+/// The least budget of the lowest task, with which most often all tasks have hits; 0 where even the
+/// whole period is not enough for it.
+fn least_of_lowest(sched: Sched, tasks: &[Task], period: u64) -> u64
+    requires fixed { sched ≢ Sched.Edf }
+    requires few { length tasks.now < 2 ^ 32 }
+    requires some_period { 1 ≤ period }
+    requires in_limit { period ≤ LIMIT }
+    ensures in_period { result ≤ period }
+    ensures below { let T = sporadic_tasks tasks.now in
+        (b : ℕ) → b < result → Passes sched T (sbf period b) → ⊥ }
+{
+    if tasks.is_empty() {
+        return 0;
+    }
+    match least_of_one(sched, tasks, lowest(sched, tasks), period, 0) {
+        Some(budget) => budget,
+        None => 0,
+    }
 }
 
 /// The least budget from `from` on with which task `i` has a hit, and None exactly where the whole

@@ -24,7 +24,7 @@ pub fn hit_of_lowest<S: Supply>(sched: Sched, tasks: &[Task], s: &S) -> Option<u
 }
 
 /// The place of the task that all others rank above.
-fn lowest(sched: Sched, tasks: &[Task]) -> u32
+pub fn lowest(sched: Sched, tasks: &[Task]) -> u32
     requires fixed { sched ≢ Sched.Edf }
     requires few { length tasks.now < 2 ^ 32 }
     requires some { 0 < length tasks.now }

@@ -3,3 +3,5 @@ pub mod FieldCounts
 pub mod WakesMore
 pub mod WakesTaking
 pub mod OneWorkload
+pub mod LeafMore
+pub mod ReleasesTaking

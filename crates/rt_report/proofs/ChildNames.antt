@@ -1,5 +1,5 @@
 -- The names of a node's children, counted as they come.
-use Rattle.std.proofs.Common.{◌≡◌, ◌≢◌, ℕ, zero, suc, ◌+◌, ◌-◌, ◌<◌, add-one, Bool, true, false, cond, List, [], map, length, get_or, sym, ◌∙◌, ap, arith, subst, inl, inr}
+use Rattle.std.proofs.Common.{◌≡◌, ◌≢◌, ℕ, suc, ◌+◌, ◌-◌, ◌<◌, add-one, Bool, true, false, cond, [], length, get_or, sym, ◌∙◌, ap, arith}
 use Rattle.std.proofs.lemmas.List.{get_or-map, get_or_default, length-map}
 use Rattle.slot_model.specs.Slots.{count_below, places_where}
 use Rattle.slot_model.proofs.Sums.{sum_below-suc}

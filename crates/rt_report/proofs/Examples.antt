@@ -1,7 +1,7 @@
 -- Worked texts: each is spelled out by hand, and what defines it comes to just this.
 use Rattle.slot_model.specs.Task.{plain_task}
 use Rattle.std.proofs.Common.{◌≡◌, ℕ, false, List, [], ◌∷◌, Option, Some, None, refl}
-use Rattle.std.specs.Prelude.{codes}
+use Rattle.std.specs.Prelude.{codes, Ok, Err}
 use Rattle.std.specs.Fmt.{digits}
 use Rattle.slot_model.specs.declared.sched.Sched.TheVariants.{Edf, Rm}
 use Rattle.slot_model.specs.declared.sched.Short.TheVariants.{At, Task}
@@ -20,7 +20,9 @@ use Rattle.rt_report.specs.declared.fault.FileFault.TheVariants.{System, Release
 use Rattle.rt_report.specs.declared.replay.Replay.{Replay}
 use Rattle.rt_report.specs.Admit.{admit_text}
 use Rattle.rt_report.specs.Bulk.{bulk_text}
+use Rattle.cert_reader.specs.declared.flaw.Flaw.TheVariants.{Nodes, Budget, Cover, Hit, Least, Wide as TooWide}
 use Rattle.rt_report.specs.Refusal.{refusal_text}
+use Rattle.rt_report.specs.Check.{check_text}
 use Rattle.rt_report.specs.Fault.{fault_text}
 use Rattle.rt_report.specs.Unread.{absent_text, too_long_text}
 use Rattle.rt_report.specs.Usage.{usage_line}
@@ -64,6 +66,19 @@ an_inner_part_whose_server_is_late = refl
 
 a_leaf_that_is_wide : refusal_text tree (Wide (Part 3)) ≡ codes "verdict=wide\nwide part ctl\n"
 a_leaf_that_is_wide = refl
+
+a_certificate_that_proves : check_text tree (Ok tt) ≡ codes "verdict=yes\n"
+a_certificate_that_proves = refl
+
+flaws_in_their_words :
+    ((check_text tree (Err Nodes) ≡ codes "verdict=no\nflaw=Nodes\n")
+    × (check_text tree (Err (Budget (Core 0))) ≡ codes "verdict=no\nflaw=Budget core cpu0\n")
+    × (check_text tree (Err (Cover (Part 0))) ≡ codes "verdict=no\nflaw=Cover part mid\n")
+    × (check_text tree (Err (Hit (Part 1) 0)) ≡ codes "verdict=no\nflaw=Hit part net task=1\n")
+    × (check_text tree (Err (Least (Part 3))) ≡ codes "verdict=no\nflaw=Least part ctl\n")
+    × (check_text tree (Err (TooWide (Core 0))) ≡ codes "verdict=no\nflaw=Wide core cpu0\n"))
+unfolding digits
+flaws_in_their_words = (refl, refl, refl, refl, refl, refl)
 
 a_core_serves_its_own_children : served_name tree (Core 0) 1 ≡ codes "net"
 a_core_serves_its_own_children = refl

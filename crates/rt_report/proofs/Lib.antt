@@ -2,4 +2,6 @@ mod ChildNames
 mod PartLines
 mod CountsLines
 pub mod OneReplay
+pub mod OneCounts
 mod Examples
+mod SimulateExamples

@@ -53,7 +53,7 @@ one_list pattern start span xs ys p q =
     ext_get_or false xs ys same (λ x l. p.follows x l ∙ sym (q.follows x (omega (arith, same, l))))
 
 -- one first miss
-one_miss : (tasks : List SporadicTask) (jobs : List Job) (run : List (Option ℕ)) (a b : Miss) → IsFirstMiss tasks jobs run (Some a) → IsFirstMiss tasks jobs run (Some b) → a ≡ b
+pub one_miss : (tasks : List SporadicTask) (jobs : List Job) (run : List (Option ℕ)) (a b : Miss) → IsFirstMiss tasks jobs run (Some a) → IsFirstMiss tasks jobs run (Some b) → a ≡ b
 one_miss tasks jobs run a b (j, p, is) (k, q, has) = elim (cases_order j k) [
   | inl same ↦ is ∙ ap (λ (z : ℕ). miss_of tasks jobs run z) same ∙ sym has
   | inr w ↦ elim w [

@@ -5,6 +5,7 @@ pub mod Replay
 pub mod Admit
 pub mod Simulate
 pub mod Refusal
+pub mod Check
 pub mod SystemFault
 pub mod RowFault
 pub mod CertFault

@@ -14,7 +14,8 @@ use Rattle.rt_report.specs.Missed.{missed_words}
 -- `first TASK release=R deadline=D got=G of=W`
 abbrev pub first_line : SystemView → Place → Option Miss → List ℕ
 first_line sys node None = []
-first_line sys node (Some miss) = codes "first " ++ missed_words (served_name sys node miss.task) miss
+first_line sys node (Some miss) =
+    codes "first " ++ missed_words (served_name sys node miss.task) miss
 
 -- `core NAME given=G jobs=J missed=M`, or `part`, and the first miss below it
 abbrev pub counts_line : SystemView → Place → Counts → List ℕ

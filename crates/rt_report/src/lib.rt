@@ -4,6 +4,7 @@
 mod admit;
 mod bulk;
 mod cert_fault;
+mod check;
 mod fault;
 mod missed;
 mod names;
@@ -16,7 +17,8 @@ mod unread;
 mod usage;
 
 pub use admit::admit_text;
-pub use bulk::{BulkCounts, bulk_text};
+pub use bulk::bulk_text;
+pub use check::check_text;
 pub use fault::{FileFault, fault_text};
 pub use refusal::refusal_text;
 pub use replay::Replay;

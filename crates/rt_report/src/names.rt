@@ -1,13 +1,13 @@
-ghost use Rattle.std.specs.Prelude.{◌≡◌, ◌<◌, ◌++◌, length, codes, OnOk, string_bytes};
+ghost use Rattle.std.specs.Prelude.{◌≡◌, ◌++◌, ◌<◌, length, OnOk, string_bytes};
 ghost use Rattle.tree_model.specs.declared.place.Place.TheVariants.{Core, Part};
-ghost use Rattle.tree_model.specs.System.{core_at, part_at};
-ghost use Rattle.rt_report.specs.Words.{child_name, node_words, served_name, task_name};
+ghost use Rattle.tree_model.specs.System.{part_at};
+ghost use Rattle.rt_report.specs.Words.{node_words, child_name, served_name, task_name};
 ghost use Rattle.tree_model.specs.Tree.{IsNode};
 
 use std::alloc::AllocError;
 use tree_model::{Part, Place, System};
 
-/// Writes `core NAME` or `part NAME`.
+/// Writes the kind and the name of a node.
 pub fn push_node(text: &mut String, sys: &System, node: Place) -> Result<(), AllocError>
     requires { IsNode sys.now node }
     ensures { OnOk result

@@ -1,5 +1,5 @@
 -- The windows of a level's children, span by span.
-use Rattle.std.proofs.Common.{◌≡◌, ℕ, ◌<◌, ◌≤◌, Bool, false, List, [], length, get_or, set, replicate, Option, Some, None, sym, ◌∙◌, ap, arith, subst, inl, inr, eq-eqb, ne_eqb, length-set, get_or-set_same, get_or-set_other}
+use Rattle.std.proofs.Common.{◌≡◌, ℕ, ◌<◌, ◌≤◌, Bool, false, List, [], length, set, replicate, Option, Some, None, sym, ◌∙◌, ap, arith, subst, inl, inr, eq-eqb, ne_eqb, length-set, get_or-set_same, get_or-set_other}
 use Rattle.std.proofs.lemmas.Bool.{cases_eq}
 use Rattle.std.proofs.lemmas.List.{get_or-map, length-map, ext_get_or, get_or-replicate, length-replicate}
 use Rattle.slot_model.specs.declared.job.Job.{Job}

@@ -1,5 +1,5 @@
 -- Inputs of the tests: leaves without jobs, and cores that have every slot.
-use Rattle.std.proofs.Common.{ℕ, zero, suc, ◌<◌, ◌≤◌, List, [], ◌∷◌, length, replicate, sym, arith, subst}
+use Rattle.std.proofs.Common.{ℕ, ◌<◌, ◌≤◌, List, [], ◌∷◌, length, replicate, sym, arith, subst}
 use Rattle.std.proofs.lemmas.List.{get_or-replicate, length-replicate}
 use Rattle.slot_model.specs.declared.job.Job.{Job}
 use Rattle.slot_model.specs.Task.{SporadicTask}
@@ -8,7 +8,7 @@ use Rattle.guest_sched.specs.declared.spans.Window.{Window}
 use Rattle.guest_sched.specs.Spans.{AreWindows}
 use Rattle.guest_sched.proofs.Spelled.{whole_spelled}
 use Rattle.tree_model.specs.View.{SystemView}
-use Rattle.tree_model.specs.System.{IsSystem, part_at, own_tasks_at}
+use Rattle.tree_model.specs.System.{IsSystem, own_tasks_at}
 use Rattle.tree_model.specs.Releases.{AreReleases}
 use Rattle.server_sched.specs.TreeSpans.{AreSupplies, AreFewJobs}
 use Rattle.server_sched.proofs.Lists.{few_in_reach}

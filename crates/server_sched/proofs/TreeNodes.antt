@@ -11,7 +11,7 @@ use Rattle.tree_model.specs.declared.place.Parent.TheVariants.{Core as on_core, 
 use Rattle.tree_model.specs.declared.place.Place.{Place}
 use Rattle.tree_model.specs.declared.place.Place.TheVariants.{Core, Part}
 use Rattle.tree_model.specs.View.{SystemView}
-use Rattle.tree_model.specs.System.{IsSystem, Stands, part_at, own_tasks_at, is_leaf_at}
+use Rattle.tree_model.specs.System.{IsSystem, Stands, part_at, is_leaf_at}
 use Rattle.tree_model.specs.Tree.{place_of, server_tasks, server_jobs, run_at, supply_of, rank_among}
 use Rattle.tree_model.specs.Tree.{run_of as run_at_place}
 use Rattle.tree_model.specs.FirstTree.{FirstServers}

@@ -168,8 +168,8 @@ fn part_node(
 ) -> Result<NodeSpans, AllocError>
     requires is_part { q < length sys.now.parts }
     requires plan { IsPlan sys.now budgets.now }
-    requires few_servers {
-        length (server_jobs sys.now budgets.now (AnyPlace.Part q) slots) < 2 ^ 32 }
+    requires few_servers { let place = AnyPlace.Part q in
+        length (server_jobs sys.now budgets.now place slots) < 2 ^ 32 }
     requires legal { is_leaf_at sys.now q ≡ true →
         LegalRelease (own_tasks_at sys.now q) jobs.now }
     requires few_jobs { length jobs.now < 2 ^ 32 }

@@ -190,7 +190,10 @@ fn a_group_gives_to_its_children(rt: HostRuntime) -> Result<(), Fail> {
     };
     let counts = tree.counts(alloc)?;
     assert!(rt; counts.is_kept());
-    assert_eq!(rt; counts.parts(), [group, idle(6), idle(4), idle(4)].as_slice());
+    assert_eq!(rt;
+        counts.parts(),
+        [group, idle(6), idle(4), idle(4)].as_slice()
+    );
     // group has 0 to 5 and 10 to 15, of which its first two slots go to web and the next to db
     let shares = [
         (0, 2, Some(0)),

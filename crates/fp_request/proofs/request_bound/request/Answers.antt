@@ -1,54 +1,10 @@
-use Rattle.std.proofs.Common.{◌≡◌, ◌<◌, ◌≤◌, ◌^◌, ◌∙◌, ℕ, List, Option, Some, None, MatchOption, sym, ap, arith, length, get_or}
-use Rattle.slot_model.specs.declared.task.Task.{Task}
-use Rattle.slot_model.specs.Task.{SporadicTask, sporadic_task, sporadic_tasks, task_at}
-use Rattle.slot_model.specs.Order.{ranks_above}
-use Rattle.slot_model.specs.Bound.{request_of, rbf}
-use Rattle.slot_model.proofs.Sums.{sum_below-zero}
+use Rattle.slot_model.specs.Task.{sporadic_tasks}
 use Rattle.slot_model.proofs.Constrained.{are_constrained}
-use Rattle.fp_request.proofs.Parts.{task_at-is, part_of, request_to-above, request_to-not_above, request_to-more, sporadic_tasks-length}
 use Rattle.fp_request.proofs.ReleasedWork.{requests_bound}
 use Rattle.fp_request.proofs.request_bound.request.Goals as goal
-use Rattle.fp_request.proofs.request_bound.request.Goals.{then-ranks+in_ok-request_of_task+in_ok-sum, else-ranks}
 
--- the item that a loop has at a place asks for what the task there asks for
-item_request : (tasks : List Task) (k t : ℕ) (item : Task) → k < length tasks → item ≡ get_or tasks k item → request_of (task_at (sporadic_tasks tasks) k) t ≡ request_of (sporadic_task item) t
-item_request tasks k t item l e = ap (λ (z : SporadicTask). request_of z t) (task_at-is tasks k item l ∙ ap sporadic_task (sym e))
+pub returns-then-t-clause-bounds : goal.returns-then-t-clause-bounds
+returns-then-t-clause-bounds c = requests_bound (sporadic_tasks c.args.tasks.now) (are_constrained c.args.tasks.now) c.args.t
 
-none_is : (o : Option ℕ) (P : Type 0) (Q : ℕ → Type 0) → o ≡ None → P → MatchOption o P Q
-none_is None P Q e h = h
-none_is (Some x) P Q e h = absurd (cc)
-
-pub loop-k-init : goal.loop-k-init
-loop-k-init c = omega (arith, sum_below-zero (part_of (ranks_above c.args.sched (sporadic_tasks c.args.tasks.now)) (sporadic_tasks c.args.tasks.now) c.args.i c.args.t), ap (λ (z : SporadicTask). z.work) (task_at-is c.args.tasks.now c.args.i c.index-tasks-i.result c.requires.i_named))
-
-pub loop-k-preserved : goal.loop-k-preserved
-loop-k-preserved c =
-    let T : List SporadicTask = sporadic_tasks c.args.tasks.now in
-    let r : request_of (task_at T c.loop-k.k) c.args.t ≡ request_of (sporadic_task c.index-tasks-k.result) c.args.t = item_request c.args.tasks.now c.loop-k.k c.args.t c.index-tasks-k.result c.loop-k-test.true c.index-tasks-k.is in
-    elim c.if-ranks.branch [
-      | then-ranks+in_ok-request_of_task+in_ok-sum w ↦ omega (arith, r, w.sum-is, c.loop-k.invariant, w.in_ok-request_of_task.ensures, w.in_ok-sum.ensures, request_to-above (ranks_above c.args.sched T) T c.args.i c.args.t c.loop-k.k (sym c.ranks.ensures ∙ w.if-ranks.true))
-      | else-ranks w ↦ omega (arith, w.sum-is, c.loop-k.invariant, request_to-not_above (ranks_above c.args.sched T) T c.args.i c.args.t c.loop-k.k (sym c.ranks.ensures ∙ w.if-ranks.false))
-    ]
-
-pub returns-in_err-request_of_task-clause-exact : goal.returns-in_err-request_of_task-clause-exact
-returns-in_err-request_of_task-clause-exact c =
-    let T : List SporadicTask = sporadic_tasks c.args.tasks.now in
-    let r : request_of (task_at T c.loop-k.k) c.args.t ≡ request_of (sporadic_task c.index-tasks-k.result) c.args.t = item_request c.args.tasks.now c.loop-k.k c.args.t c.index-tasks-k.result c.loop-k-test.true c.index-tasks-k.is in
-    let h : 2 ^ 128 ≤ rbf (ranks_above c.args.sched T) T c.args.i c.args.t = request_to-more (ranks_above c.args.sched T) T c.args.i c.args.t c.loop-k.k (2 ^ 128) (sym c.ranks.ensures ∙ c.if-ranks.true) (omega (arith, sporadic_tasks-length c.args.tasks.now)) (omega (arith, r, c.in_err-request_of_task.ensures)) in
-    none_is _ _ _ c.from_residual.ensures h
-
-pub returns-in_err-sum-clause-exact : goal.returns-in_err-sum-clause-exact
-returns-in_err-sum-clause-exact c =
-    let T : List SporadicTask = sporadic_tasks c.args.tasks.now in
-    let r : request_of (task_at T c.loop-k.k) c.args.t ≡ request_of (sporadic_task c.index-tasks-k.result) c.args.t = item_request c.args.tasks.now c.loop-k.k c.args.t c.index-tasks-k.result c.loop-k-test.true c.index-tasks-k.is in
-    let h : 2 ^ 128 ≤ rbf (ranks_above c.args.sched T) T c.args.i c.args.t = request_to-more (ranks_above c.args.sched T) T c.args.i c.args.t c.loop-k.k (2 ^ 128) (sym c.ranks.ensures ∙ c.if-ranks.true) (omega (arith, sporadic_tasks-length c.args.tasks.now)) (omega (arith, r, c.loop-k.invariant, c.in_ok-request_of_task.ensures, c.in_err-sum.ensures)) in
-    none_is _ _ _ c.from_residual-in_err-sum.ensures h
-
-pub returns-in_err-request_of_task-clause-bounds : goal.returns-in_err-request_of_task-clause-bounds
-returns-in_err-request_of_task-clause-bounds c = requests_bound (sporadic_tasks c.args.tasks.now) (are_constrained c.args.tasks.now) c.args.t
-
-pub returns-in_err-sum-clause-bounds : goal.returns-in_err-sum-clause-bounds
-returns-in_err-sum-clause-bounds c = requests_bound (sporadic_tasks c.args.tasks.now) (are_constrained c.args.tasks.now) c.args.t
-
-pub returns-clause-bounds : goal.returns-clause-bounds
-returns-clause-bounds c = requests_bound (sporadic_tasks c.args.tasks.now) (are_constrained c.args.tasks.now) c.args.t
+pub returns-else-t-clause-bounds : goal.returns-else-t-clause-bounds
+returns-else-t-clause-bounds c = requests_bound (sporadic_tasks c.args.tasks.now) (are_constrained c.args.tasks.now) c.args.t

@@ -24,9 +24,9 @@ loop-ready-init g c =
     let made = c.in_ok-ready.ensures in
     let ready = c.in_ok-ready.ready in
     record {
-      kept = subst (λ (z : List Span). Kept (level_of c.args.keep) before T c.args.jobs.now (slots_of c.args.given.now c.args.slots) (run_of z) ready) (sym c.new-spans.ensures.items)
+      kept = subst (λ (z : List Span). Kept (level_of c.args.keep) before T c.args.jobs.now (slots_of c.args.given.now c.args.slots) (run_of z) ready) (sym c.in_ok-spans.ensures.items)
           (kept_start (level_of c.args.keep) before T c.args.jobs.now (slots_of c.args.given.now c.args.slots) ready made.time made.releases made.state made.none_come made.left made.ends);
-      spans = subst (λ (z : List Span). AreSpans z ready.time) (sym c.new-spans.ensures.items) (subst (AreSpans []) (sym made.time) no_spans);
+      spans = subst (λ (z : List Span). AreSpans z ready.time) (sym c.in_ok-spans.ensures.items) (subst (AreSpans []) (sym made.time) no_spans);
       best = λ j e. absurd (none_some ready.best j made.best e);
       in_list = omega arith;
       over = λ i l. absurd (omega arith);

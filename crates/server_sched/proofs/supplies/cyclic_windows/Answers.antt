@@ -1,4 +1,4 @@
-use Rattle.std.proofs.Common.{ℕ, arith}
+use Rattle.std.proofs.Common.{arith}
 use Rattle.server_sched.specs.Patterns.{cyclic_slot}
 use Rattle.guest_sched.proofs.Spelled.{spelled_follows}
 use Rattle.server_sched.proofs.Patterned.{one_period_more, all_cyclic}

@@ -7,7 +7,7 @@ use Rattle.guest_sched.specs.declared.spans.Span.{Span}
 use Rattle.guest_sched.specs.declared.spans.Window.{Window}
 use Rattle.guest_sched.specs.Spans.{slots_of, run_of}
 use Rattle.tree_model.specs.declared.place.Place.TheVariants.{Part}
-use Rattle.tree_model.specs.System.{part_at, own_tasks_at}
+use Rattle.tree_model.specs.System.{own_tasks_at}
 use Rattle.tree_model.specs.Tree.{node_tasks}
 use Rattle.tree_model.proofs.NodeTasks.{leaf_tasks}
 use Rattle.span_counts.specs.Counts.{AreCounts}

@@ -1,0 +1,11 @@
+use Rattle.std.proofs.Common.{◌≡◌, ◌+◌, ◌*◌, ◌^◌, ◌≤◌}
+use Rattle.slot_model.specs.Task.{sporadic_tasks}
+use Rattle.slot_model.specs.Order.{ranks_above}
+use Rattle.fp_request.proofs.Parts.{request_to}
+use Rattle.fp_request.proofs.request_bound.request_within.Given as goal
+
+abbrev pub invariant-loop-k : goal.invariant-loop-k
+invariant-loop-k l = record {
+  sum : l.total ≡ request_to (ranks_above l.sched (sporadic_tasks l.tasks)) (sporadic_tasks l.tasks) l.i l.t l.k;
+  small : l.total ≤ (l.k + 1) * 2 ^ 64;
+}
