@@ -1,5 +1,5 @@
 -- What is counted of a generated host, node by node, and how much it can be.
-use Rattle.std.proofs.Common.{◌≡◌, ℕ, zero, suc, ◌+◌, ◌*◌, ◌^◌, ◌<◌, ◌≤◌, Bool, true, false, cond, List, [], ◌∷◌, length, map, get_or, Option, Vec, Global, refl, sym, ◌∙◌, ap, arith, subst}
+use Rattle.std.proofs.Common.{◌≡◌, ℕ, zero, suc, ◌*◌, ◌^◌, ◌<◌, ◌≤◌, Bool, true, false, cond, List, [], ◌∷◌, length, map, get_or, Option, Vec, Global, refl, sym, ◌∙◌, ap, arith, subst}
 use Rattle.std.specs.Prelude.{sum, sum_by}
 use Rattle.std.proofs.lemmas.List.{get_or-map, get_or_default}
 use Rattle.std.proofs.lemmas.List.Sums.{sum_by-cons}
@@ -19,11 +19,11 @@ use Rattle.tree_model.specs.System.{own_tasks_at}
 use Rattle.tree_model.specs.Releases.{jobs_at}
 use Rattle.server_sched.specs.NodeView.{NodeView, TreeView}
 use Rattle.server_sched.specs.TreeSpans.{node_at, runs_of, AreFewJobs, AreTreeSpans}
-use Rattle.bulk_host.specs.Host.{guest_period, guest_budget, bulk_host, bulk_budgets}
+use Rattle.bulk_host.specs.Host.{guest_budget, bulk_host, bulk_budgets}
 use Rattle.bulk_host.proofs.CoreLoad.{budget_here}
 use Rattle.bulk_host.proofs.Systems.{cores-many, guests-many}
 use Rattle.bulk_run.specs.declared.counts.BulkCounts.{BulkCounts}
-use Rattle.bulk_run.specs.Summary.{bulk_slots, bulk_supplies, bulk_jobs, misses_in, core_misses, guest_misses, guest_pending, counts_in}
+use Rattle.bulk_run.specs.Summary.{bulk_slots, bulk_supplies, bulk_jobs, misses_in, core_misses, guest_misses, guest_pending}
 use Rattle.bulk_run.specs.Steps.{IsGuestRun, AreGuestRuns}
 use Rattle.bulk_run.proofs.HostRun.{leaf_here, few_here, jobs-many, run_here}
 

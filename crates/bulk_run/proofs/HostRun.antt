@@ -1,21 +1,19 @@
 -- The run of a generated host: its jobs are legal and few, and each guest's spans are as long as
 -- the run.
-use Rattle.std.proofs.Common.{◌≡◌, ℕ, zero, suc, ◌+◌, ◌*◌, ◌/◌, ◌^◌, ◌<◌, ◌≤◌, Bool, true, false, List, [], ◌∷◌, length, map, get_or, Option, Some, None, refl, sym, ◌∙◌, ap, arith, subst, lit<, lit≤}
+use Rattle.std.proofs.Common.{◌≡◌, ℕ, ◌*◌, ◌/◌, ◌<◌, ◌≤◌, Bool, true, false, List, [], length, get_or, Option, sym, ◌∙◌, ap, arith, subst, lit≤}
 use Rattle.std.proofs.lemmas.List.{length-map, get_or-map}
 use Rattle.std.proofs.lemmas.List.FromFn.{length-map-range_with_len}
 use Rattle.slot_model.specs.declared.job.Job.{Job}
-use Rattle.slot_model.specs.Task.{SporadicTask, AreConstrained, job_at}
+use Rattle.slot_model.specs.Task.{SporadicTask, AreConstrained}
 use Rattle.slot_model.specs.Release.{LegalRelease, synchronous}
-use Rattle.slot_model.specs.Run.{Level, Entry, FirstRun, held}
+use Rattle.slot_model.specs.Run.{Level, FirstRun}
 use Rattle.slot_model.specs.Miss.{HoldsReleased}
 use Rattle.slot_model.proofs.Synchronous.{legal_synchronous}
 use Rattle.release_pattern.proofs.FewJobs.{synchronous-few}
 use Rattle.guest_sched.specs.Spans.{run_of}
 use Rattle.tree_model.specs.declared.pinned_core.Core.{Core as CoreView}
-use Rattle.tree_model.specs.declared.place.Place.{Place}
-use Rattle.tree_model.specs.declared.place.Place.TheVariants.{Core, Part}
-use Rattle.tree_model.specs.View.{NamedTask, PartView, SystemView}
-use Rattle.tree_model.specs.System.{IsSystem, no_core, no_part, part_at, own_tasks, own_tasks_at, is_leaf, is_leaf_at}
+use Rattle.tree_model.specs.View.{PartView, SystemView}
+use Rattle.tree_model.specs.System.{no_core, no_part, part_at, own_tasks, own_tasks_at, is_leaf, is_leaf_at}
 use Rattle.tree_model.specs.Tree.{place_of, run_at, run_of as run_of_node}
 use Rattle.tree_model.specs.Releases.{jobs_at, AreReleases}
 use Rattle.tree_model.specs.FirstTree.{FirstTree}
@@ -26,7 +24,7 @@ use Rattle.server_sched.specs.declared.supplies.Pattern.TheVariants.{Early}
 use Rattle.server_sched.specs.Patterns.{pattern_slot, pattern_slots}
 use Rattle.server_sched.specs.TreeSpans.{node_at, runs_of, AreFewJobs, AreTreeSpans}
 use Rattle.server_sched.proofs.Lists.{few_in_reach}
-use Rattle.bulk_host.specs.Host.{guest_period, guest_tasks, guest_at, cores_for, bulk_host, bulk_budgets}
+use Rattle.bulk_host.specs.Host.{guest_period, cores_for, bulk_host, bulk_budgets}
 use Rattle.bulk_host.proofs.LeafBudgets.{tasks_of, constrained_of}
 use Rattle.bulk_host.proofs.Systems.{guest_here, cores-many, guests-many, host_is_system}
 use Rattle.bulk_host.proofs.Admitting.{host_is_admitted}

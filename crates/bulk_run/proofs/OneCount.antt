@@ -1,5 +1,5 @@
 -- A generated host has one list of counts.
-use Rattle.std.proofs.Common.{◌≡◌, ℕ, ◌≤◌, List, Bool, Option, sym, ◌∙◌, ap, subst}
+use Rattle.std.proofs.Common.{◌≡◌, ℕ, ◌≤◌, List, Option, sym, ◌∙◌, ap, subst}
 use Rattle.tree_model.specs.FirstTree.{FirstTree, OneFirstTree}
 use Rattle.tree_model.proofs.Unique.{one_admission}
 use Rattle.tree_model.proofs.FirstTrees.{AllStrict, one_first_tree}

@@ -6,8 +6,7 @@ use Rattle.slot_model.specs.Slots.{count_below, sum_below}
 use Rattle.slot_model.specs.Task.{SporadicTask}
 use Rattle.slot_model.specs.Miss.{is_missed}
 use Rattle.span_counts.specs.Pending.{pairs_pending}
-use Rattle.tree_model.specs.declared.place.Place.{Place}
-use Rattle.tree_model.specs.declared.place.Place.TheVariants.{Core, Part}
+use Rattle.tree_model.specs.declared.place.Place.TheVariants.{Core}
 use Rattle.tree_model.specs.System.{own_tasks_at}
 use Rattle.tree_model.specs.Tree.{server_tasks, server_jobs, run_at}
 use Rattle.tree_model.specs.FirstTree.{FirstTree}

@@ -4,3 +4,6 @@
 mod counts;
 
 pub use counts::{BulkCounts, bulk_counts};
+
+#[cfg(test)]
+mod tests;

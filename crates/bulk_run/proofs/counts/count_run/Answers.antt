@@ -1,5 +1,5 @@
-use Rattle.std.proofs.Common.{◌≡◌, ℕ, ◌+◌, List, Vec, Global, map, length, refl, sym, ◌∙◌, ap, arith, subst}
-use Rattle.std.specs.Prelude.{sum, sum_by, ◌<◌, ◌^◌}
+use Rattle.std.proofs.Common.{◌≡◌, ℕ, ◌+◌, List, Vec, Global, length, refl, sym, ◌∙◌, ap, arith, subst}
+use Rattle.std.specs.Prelude.{sum, sum_by}
 use Rattle.std.proofs.lemmas.List.{length-map}
 use Rattle.slot_model.specs.declared.job.Job.{Job}
 use Rattle.slot_model.specs.Slots.{sum_below}
@@ -24,13 +24,21 @@ number_of_jobs-number-requires c = omega (arith, jobs_in_all c.args.jobs.now, ap
 
 pub misses_of-at_cores-requires : goal.misses_of-at_cores-requires
 misses_of-at_cores-requires c =
-    omega (arith, ap (λ (ns : List NodeView). sum_by (λ (node : NodeView). node.counts.missed) ns) c.cores.ensures, cores_missed c.args.n (bulk_budgets c.args.n) c.args.tree.now c.requires.tree,
-    core_misses_bounded c.args.n (bulk_budgets c.args.n) c.requires.most (host_few c.args.n c.requires.some c.requires.most) (runs_of c.args.tree.now.cores))
+    omega (
+      arith,
+      ap (λ (ns : List NodeView). sum_by (λ (node : NodeView). node.counts.missed) ns) c.cores.ensures,
+      cores_missed c.args.n (bulk_budgets c.args.n) c.args.tree.now c.requires.tree,
+      core_misses_bounded c.args.n (bulk_budgets c.args.n) c.requires.most (host_few c.args.n c.requires.some c.requires.most) (runs_of c.args.tree.now.cores),
+    )
 
 pub misses_of-at_parts-requires : goal.misses_of-at_parts-requires
 misses_of-at_parts-requires c =
-    omega (arith, ap (λ (ns : List NodeView). sum_by (λ (node : NodeView). node.counts.missed) ns) c.parts.ensures, guests_missed c.args.n (bulk_budgets c.args.n) c.args.tree.now c.requires.tree,
-    guest_misses_bounded c.args.n c.requires.most (runs_of c.args.tree.now.parts))
+    omega (
+      arith,
+      ap (λ (ns : List NodeView). sum_by (λ (node : NodeView). node.counts.missed) ns) c.parts.ensures,
+      guests_missed c.args.n (bulk_budgets c.args.n) c.args.tree.now c.requires.tree,
+      guest_misses_bounded c.args.n c.requires.most (runs_of c.args.tree.now.parts),
+    )
 
 pub pending_of-requires-clause-few : goal.pending_of-requires-clause-few
 pending_of-requires-clause-few c = omega (arith, length-map c.args.jobs.now (λ (list : Vec Job Global). list.items), ap (λ (js : List (List Job)). length js) c.requires.jobs, jobs-many c.args.n, c.requires.most)
@@ -44,9 +52,19 @@ pub overflow_add-result : goal.overflow_add-result
 overflow_add-result c =
     let cores = core_misses_bounded c.args.n (bulk_budgets c.args.n) c.requires.most (host_few c.args.n c.requires.some c.requires.most) (runs_of c.args.tree.now.cores) in
     let parts = guest_misses_bounded c.args.n c.requires.most (runs_of c.args.tree.now.parts) in
-    record { fits = omega (arith, c.misses_of-at_cores.ensures, c.misses_of-at_parts.ensures, cores, parts,
-    ap (λ (ns : List NodeView). sum_by (λ (node : NodeView). node.counts.missed) ns) c.cores.ensures, cores_missed c.args.n (bulk_budgets c.args.n) c.args.tree.now c.requires.tree,
-    ap (λ (ns : List NodeView). sum_by (λ (node : NodeView). node.counts.missed) ns) c.parts.ensures, guests_missed c.args.n (bulk_budgets c.args.n) c.args.tree.now c.requires.tree) }
+    record {
+      fits = omega (
+        arith,
+        c.misses_of-at_cores.ensures,
+        c.misses_of-at_parts.ensures,
+        cores,
+        parts,
+        ap (λ (ns : List NodeView). sum_by (λ (node : NodeView). node.counts.missed) ns) c.cores.ensures,
+        cores_missed c.args.n (bulk_budgets c.args.n) c.args.tree.now c.requires.tree,
+        ap (λ (ns : List NodeView). sum_by (λ (node : NodeView). node.counts.missed) ns) c.parts.ensures,
+        guests_missed c.args.n (bulk_budgets c.args.n) c.args.tree.now c.requires.tree,
+      );
+    }
 
 pub returns : goal.returns
 returns c =

@@ -1,4 +1,4 @@
-use Rattle.std.proofs.Common.{◌≡◌, ℕ, ◌+◌, ◌*◌, ◌<◌, ◌≤◌, List, Vec, Global, map, length, sym, ◌∙◌, ap, arith, add-one}
+use Rattle.std.proofs.Common.{ℕ, List, Vec, Global, map, sym, ◌∙◌, ap, arith, add-one}
 use Rattle.std.proofs.lemmas.List.{length-map}
 use Rattle.slot_model.specs.declared.job.Job.{Job}
 use Rattle.slot_model.specs.Slots.{sum_below}
@@ -8,8 +8,7 @@ use Rattle.span_counts.specs.Pending.{pairs_pending}
 use Rattle.tree_model.specs.Releases.{jobs_at}
 use Rattle.server_sched.specs.NodeView.{NodeView}
 use Rattle.server_sched.specs.TreeSpans.{node_at}
-use Rattle.bulk_run.specs.Steps.{IsGuestRun}
-use Rattle.bulk_run.proofs.Counting.{AreFound, found, run_found, pending_found}
+use Rattle.bulk_run.proofs.Counting.{found, run_found, pending_found}
 use Rattle.bulk_run.proofs.counts.pending_of.Goals as goal
 
 abbrev pending_at : List (Vec Job Global) → List NodeView → ℕ → ℕ
