@@ -2,6 +2,7 @@
 #![tactic(auto)]
 
 mod admit;
+mod audit;
 mod bulk;
 mod cert_fault;
 mod check;
@@ -17,6 +18,7 @@ mod unread;
 mod usage;
 
 pub use admit::admit_text;
+pub use audit::audit_text;
 pub use bulk::bulk_text;
 pub use check::check_text;
 pub use fault::{FileFault, fault_text};
