@@ -4,8 +4,10 @@
 mod admit;
 mod answer;
 mod audit;
+mod bulk;
 mod command;
 mod file;
+mod guests;
 #[cfg(test)]
 mod jitter_tests;
 mod refusing;

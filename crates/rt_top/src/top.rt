@@ -13,6 +13,7 @@ use crate::Status;
 use crate::admit::admit;
 use crate::answer::{Answer, Ending, ended};
 use crate::audit::audit;
+use crate::bulk::bulk;
 use crate::command::{Command, parse};
 use outside::{Sink, Store, write_all};
 use rt_report::usage_text;
@@ -61,6 +62,7 @@ fn answer<S: Store>(alloc: Global, command: Option<Command<'_>>, store: &mut S) 
     match command {
         Some(Command::Admit(file)) => ended(admit(alloc, store, file)),
         Some(Command::Audit(file, trace)) => ended(audit(alloc, store, file, trace)),
+        Some(Command::Bulk(guests)) => ended(bulk(alloc, guests)),
         None => ended(usage(alloc)),
     }
 }
