@@ -31,6 +31,7 @@ use Rattle.rt_top.specs.Causes.{IsVerdict}
 use Rattle.rt_top.specs.Steps.{Counts, IsQuiet, ExplainsAnswer, IfAnswered, IsSpelled, StopsAt}
 use Rattle.rt_top.proofs.AtFile.{one_at, one_on, statuses_at, statuses_on}
 use Rattle.rt_top.proofs.Attempt.{IsDecided, one_attempt, statuses_attempt}
+use Rattle.rt_top.proofs.Budgets.{refused_status}
 use Rattle.rt_top.proofs.OneFile.{AnswersFile, stop_answer, system_answer, said_of_readable}
 use Rattle.rt_top.proofs.Statuses.{IsOfJob}
 use Rattle.rt_top.proofs.Admitting.{refusal_means as no_means}
@@ -53,11 +54,6 @@ pub one_certifies : (contents : Contents) → IsOne (Certifies contents)
 one_certifies contents = one_at 1 (λ bytes. OnSystem (system_of bytes) CertifiesSystem) (one_on CertifiesSystem one_certified) (file_at 1 contents)
 
 -- its statuses
-refused_status : (P : Status → Type 0) → P No → P Wide → (sys : SystemView) (r : Refusal) → FirstRefusal sys r → P (refusal_status r)
-refused_status P at_no at_wide sys (Overfull node short) first = at_no
-refused_status P at_no at_wide sys (TooWide node) first = at_wide
-refused_status P at_no at_wide sys NoRefusal first = absurd first
-
 certified_status : (P : Status → Type 0) → P Yes → P No → P Wide → (sys : SystemView) (status : Status) (text : List ℕ) → CertifiesSystem sys status text → P status
 certified_status P at_yes at_no at_wide sys status text h = statuses_attempt P (certifying sys) IsPrinted status text (refused_status P at_no at_wide sys) (λ nodes said. subst P (sym said.0) at_yes) h
 

@@ -26,7 +26,7 @@ pub fn certify<S: Store>(alloc: Global, store: &mut S, file: &str) -> Result<Ans
     Ok(judge(alloc, &sys)?)
 }
 
-#[tactic(auto, using(crate::proofs::Admitting::refusal_told, crate::proofs::Certifying::told_certifies, crate::proofs::Certifying::told_means))]
+#[tactic(auto, using(crate::proofs::Budgets::refusal_told, crate::proofs::Certifying::told_certifies, crate::proofs::Certifying::told_means))]
 fn judge(alloc: Global, sys: &System) -> Result<Answer, AllocError>
     requires { IsSystem sys.now }
     ensures answer { IfOk result (λ a. CertifiesSystem sys.now a.status a.text.items) }
