@@ -1,7 +1,6 @@
 -- From what was read and judged to the answer of `admit`.
-use Rattle.std.proofs.Common.{◌≡◌, ℕ, ◌≤◌, List, [], ◌∷◌, length, Option, Some, None, refl, sym, ap, subst, inl, inr, arith}
-use Rattle.std.proofs.lemmas.Bool.{cases_lt, false≢true}
-use Rattle.std.specs.Prelude.{IsOk, IfOk, Result, Ok, Err}
+use Rattle.std.proofs.Common.{◌≡◌, ℕ, ◌≤◌, List, length, Option, Some, refl, sym, subst}
+use Rattle.std.specs.Prelude.{Ok}
 use Rattle.tree_model.specs.View.{SystemView}
 use Rattle.tree_model.specs.declared.plan.Refusal.{Refusal}
 use Rattle.tree_model.specs.declared.plan.Refusal.TheVariants.{Overfull, Wide as TooWide, NoMemory as NoRefusal}
@@ -9,18 +8,16 @@ use Rattle.tree_model.specs.Admission.{FirstRefusal}
 use Rattle.compose_tree.specs.Truth.{RefusalHolds}
 use Rattle.rt_report.specs.Refusal.{refusal_text}
 use Rattle.rt_top.specs.Budgets.{composing, refusal_status}
-use Rattle.system_file.specs.declared.fault.SystemFault.{SystemFault}
 use Rattle.system_file.specs.SystemFile.{system_of}
 use Rattle.outside.specs.Files.{Files, Told}
 use Rattle.rt_top.specs.declared.status.Status.{Status}
-use Rattle.rt_top.specs.declared.status.Status.TheVariants.{Yes, No, Wide, TooLong}
+use Rattle.rt_top.specs.declared.status.Status.TheVariants.{Yes, No, Wide}
 use Rattle.rt_top.specs.Command.{admit}
-use Rattle.rt_top.specs.Answer.{Contents, file_at, file_limit, AtContent, OnSystem}
-use Rattle.rt_top.specs.Admit.{IsAdmission, AdmitsSystem, Admits, AdmitMeans, MeansOfSystem, CanAdmit}
-use Rattle.rt_top.specs.Report.{AreContents, IsAnswer}
+use Rattle.rt_top.specs.Answer.{Contents, file_at, file_limit, OnSystem}
+use Rattle.rt_top.specs.Admit.{IsAdmission, AdmitsSystem, Admits, MeansOfSystem, CanAdmit}
+use Rattle.rt_top.specs.Report.{IsAnswer}
 use Rattle.rt_top.specs.Causes.{IsVerdict}
 use Rattle.rt_top.specs.declared.answer.Ending.{Ending}
-use Rattle.rt_top.specs.declared.answer.Ending.TheVariants.{Answered, Unread, NoMemory as NoRoom}
 use Rattle.rt_top.specs.Steps.{Counts, IsQuiet, ExplainsAnswer, IfAnswered, StopsAt}
 use Rattle.rt_top.proofs.AtFile.{statuses_at, statuses_on}
 use Rattle.rt_top.proofs.OneFile.{AnswersFile, stop_answer, system_answer, said_of_readable}
