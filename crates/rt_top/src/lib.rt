@@ -5,6 +5,8 @@ mod admit;
 mod answer;
 mod audit;
 mod bulk;
+mod certify;
+mod check;
 mod command;
 mod file;
 mod guests;
