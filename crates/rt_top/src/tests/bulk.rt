@@ -37,18 +37,14 @@ fn a_generated_host_is_counted(rt: HostRuntime) -> Result<(), Fail> {
 #[test]
 fn a_number_of_guests_is_plain_and_in_range(rt: HostRuntime) -> Result<(), Fail> {
     let alloc = rt.alloc();
-    for word in [
-        "0",
-        "257",
-        "01",
-        "+1",
-        "",
-        "1 ",
-        "99999999999999999999",
-    ] {
+    for word in ["0", "257", "01", "+1", "", "1 ", "99999999999999999999"] {
         let (status, text) = answer(alloc, word)?;
         assert_eq!(rt; status, Status::Usage, "{word}");
-        assert_eq!(rt; text.as_slice(), rt_report::usage_text().as_bytes(), "{word}");
+        assert_eq!(rt;
+            text.as_slice(),
+            rt_report::usage_text().as_bytes(),
+            "{word}"
+        );
     }
     Ok(())
 }
