@@ -39,7 +39,7 @@ use Rattle.rt_top.specs.Command.{rtds}
 use Rattle.rt_top.specs.Answer.{Contents, IsOne}
 use Rattle.rt_top.specs.Attempt.{OnAttempt, IsGiven, IsRefused}
 use Rattle.rt_top.specs.Budgets.{assigning, OnAssigned}
-use Rattle.rt_top.specs.Rtds.{waking, running, IsTraceOf, IsPrinted, RunsBytes, Runs, IsServed, TellsRun, RunMeans, CanRun}
+use Rattle.rt_top.specs.Rtds.{waking, running, IsTraceOf, IsTraceText, RunsBytes, Runs, IsServed, TellsRun, RunMeans, CanRun}
 use Rattle.rt_top.specs.Report.{IsAnswer}
 use Rattle.rt_top.specs.Causes.{IsVerdict}
 use Rattle.rt_top.specs.Steps.{IfAnswered, AnswersTwo, IsJudged}
@@ -78,42 +78,42 @@ running_decided sys budgets wakes slots = record {
 }
 
 -- one answer
-one_printed : (sys : SystemView) (events : List Event) → IsOne (IsPrinted sys events)
+one_printed : (sys : SystemView) (events : List Event) → IsOne (IsTraceText sys events)
 one_printed sys events = λ s t x y p q. (p.status_is ∙ sym q.status_is, p.told ∙ sym q.told)
 
 one_of_bytes : (slots : ℕ) (sys : SystemView) → IsSystem sys → (bytes : List ℕ) → IsOne (RunsBytes slots sys bytes)
 one_of_bytes slots sys is bytes =
-    one_attempt (waking sys bytes) (λ wakes. OnAssigned sys (λ budgets. OnAttempt (running sys budgets wakes slots) (IsPrinted sys))) (waking_decided sys bytes)
-    (λ wakes spelled. one_attempt (assigning sys) (λ budgets. OnAttempt (running sys budgets wakes slots) (IsPrinted sys)) (assigning_decided sys is)
-    (λ budgets assigned. one_attempt (running sys budgets wakes slots) (IsPrinted sys) (running_decided sys budgets wakes slots) (λ events trace. one_printed sys events)))
+    one_attempt (waking sys bytes) (λ wakes. OnAssigned sys (λ budgets. OnAttempt (running sys budgets wakes slots) (IsTraceText sys))) (waking_decided sys bytes)
+    (λ wakes spelled. one_attempt (assigning sys) (λ budgets. OnAttempt (running sys budgets wakes slots) (IsTraceText sys)) (assigning_decided sys is)
+    (λ budgets assigned. one_attempt (running sys budgets wakes slots) (IsTraceText sys) (running_decided sys budgets wakes slots) (λ events trace. one_printed sys events)))
 
 pub one_runs : (slots : ℕ) (contents : Contents) → IsOne (Runs slots contents)
 one_runs slots contents = one_two (RunsBytes slots) (one_of_bytes slots) contents
 
 -- its statuses
-printed_status : (P : Status → Type 0) → P Yes → (sys : SystemView) (events : List Event) (status : Status) (text : List ℕ) → IsPrinted sys events status text → P status
+printed_status : (P : Status → Type 0) → P Yes → (sys : SystemView) (events : List Event) (status : Status) (text : List ℕ) → IsTraceText sys events status text → P status
 printed_status P at_yes sys events status text h = subst P (sym h.status_is) at_yes
 
 runs_judged : (slots : ℕ) (sys : SystemView) (bytes : List ℕ) (status : Status) (text : List ℕ) → RunsBytes slots sys bytes status text → IsJudged status
 runs_judged slots sys bytes status text h =
-    statuses_attempt IsJudged (waking sys bytes) (λ wakes. OnAssigned sys (λ budgets. OnAttempt (running sys budgets wakes slots) (IsPrinted sys))) status text (λ fault refuses. tt)
-    (λ wakes. statuses_attempt IsJudged (assigning sys) (λ budgets. OnAttempt (running sys budgets wakes slots) (IsPrinted sys)) status text (unassigned_status IsJudged tt tt sys)
-    (λ budgets. statuses_attempt IsJudged (running sys budgets wakes slots) (IsPrinted sys) status text (λ c other. tt) (λ events. printed_status IsJudged tt sys events status text))) h
+    statuses_attempt IsJudged (waking sys bytes) (λ wakes. OnAssigned sys (λ budgets. OnAttempt (running sys budgets wakes slots) (IsTraceText sys))) status text (λ fault refuses. tt)
+    (λ wakes. statuses_attempt IsJudged (assigning sys) (λ budgets. OnAttempt (running sys budgets wakes slots) (IsTraceText sys)) status text (unassigned_status IsJudged tt tt sys)
+    (λ budgets. statuses_attempt IsJudged (running sys budgets wakes slots) (IsTraceText sys) status text (λ c other. tt) (λ events. printed_status IsJudged tt sys events status text))) h
 
 pub run_status : (slots : ℕ) (contents : Contents) (status : Status) (text : List ℕ) → Runs slots contents status text → IsOfJob status
 run_status slots contents status text h = statuses_two IsOfJob tt tt tt contents (RunsBytes slots) status text (λ sys bytes said. job_of_judged status (runs_judged slots sys bytes status text said)) h
 
-run_of_all : (slots : ℕ) (sys : SystemView) (wakes : List Wake) (status : Status) (text : List ℕ) → AllRtds sys (length sys.cores) → OnAssigned sys (λ budgets. OnAttempt (running sys budgets wakes slots) (IsPrinted sys)) status text → IsVerdict status
+run_of_all : (slots : ℕ) (sys : SystemView) (wakes : List Wake) (status : Status) (text : List ℕ) → AllRtds sys (length sys.cores) → OnAssigned sys (λ budgets. OnAttempt (running sys budgets wakes slots) (IsTraceText sys)) status text → IsVerdict status
 run_of_all slots sys wakes status text all h =
-    statuses_attempt IsVerdict (assigning sys) (λ budgets. OnAttempt (running sys budgets wakes slots) (IsPrinted sys)) status text (unassigned_status IsVerdict tt tt sys)
-    (λ budgets. statuses_attempt IsVerdict (running sys budgets wakes slots) (IsPrinted sys) status text (λ c other. absurd (both_ways (is_rtds sys c) other.other (all c other.is_core))) (λ events. printed_status IsVerdict tt sys events status text)) h
+    statuses_attempt IsVerdict (assigning sys) (λ budgets. OnAttempt (running sys budgets wakes slots) (IsTraceText sys)) status text (unassigned_status IsVerdict tt tt sys)
+    (λ budgets. statuses_attempt IsVerdict (running sys budgets wakes slots) (IsTraceText sys) status text (λ c other. absurd (both_ways (is_rtds sys c) other.other (all c other.is_core))) (λ events. printed_status IsVerdict tt sys events status text)) h
 
 pub run_verdict : (slots : ℕ) (contents : Contents) (status : Status) (text : List ℕ) → CanRun contents → Runs slots contents status text → IsVerdict status
 run_verdict slots contents status text can h =
     let read = can.spelled.second in
     let said : RunsBytes slots can.sys read.bytes status text = said_of_two contents can.sys _ (RunsBytes slots) status text can.spelled h in
     run_of_all slots can.sys read.good.wakes status text read.good.all
-    (said_of_given (waking can.sys read.bytes) (λ wakes. OnAssigned can.sys (λ budgets. OnAttempt (running can.sys budgets wakes slots) (IsPrinted can.sys))) status text (waking_decided can.sys read.bytes) read.good.wakes read.good.spelled said)
+    (said_of_given (waking can.sys read.bytes) (λ wakes. OnAssigned can.sys (λ budgets. OnAttempt (running can.sys budgets wakes slots) (IsTraceText can.sys))) status text (waking_decided can.sys read.bytes) read.good.wakes read.good.spelled said)
 
 -- the servers of an admitted system pass on each core that is full and under earliest deadline
 -- first
@@ -133,7 +133,7 @@ served sys budgets wakes all h = record {
 }
 
 -- what it means
-tells_run : (sys : SystemView) → IsSystem sys → (budgets : List ℕ) → IsPlan sys budgets → (wakes : List Wake) → IsWorkload sys wakes → (slots : ℕ) → slots ≤ 1000000 → (events : List Event) (status : Status) (text : List ℕ) → IsTraceOf sys budgets wakes slots events → IsPrinted sys events status text → TellsRun sys budgets wakes slots text
+tells_run : (sys : SystemView) → IsSystem sys → (budgets : List ℕ) → IsPlan sys budgets → (wakes : List Wake) → IsWorkload sys wakes → (slots : ℕ) → slots ≤ 1000000 → (events : List Event) (status : Status) (text : List ℕ) → IsTraceOf sys budgets wakes slots events → IsTraceText sys events status text → TellsRun sys budgets wakes slots text
 tells_run sys is budgets plan wakes workload slots few events status text trace printed_is = record {
   events = events;
   trace = trace;
@@ -144,7 +144,7 @@ tells_run sys is budgets plan wakes workload slots few events status text trace 
   satisfied = λ h. subst (λ (es : List Event). Satisfied sys budgets es) (sym trace.trace.2) (satisfied sys is budgets plan wakes workload slots trace.trace.0 trace.trace.1 (omega (arith, few)) (served sys budgets wakes trace.all h));
 }
 
-printed_tells : (sys : SystemView) → IsSystem sys → (budgets : List ℕ) → IsPlan sys budgets → (wakes : List Wake) → IsWorkload sys wakes → (slots : ℕ) → slots ≤ 1000000 → (status : Status) (text : List ℕ) → OnAttempt (running sys budgets wakes slots) (IsPrinted sys) status text → status ≡ Yes → TellsRun sys budgets wakes slots text
+printed_tells : (sys : SystemView) → IsSystem sys → (budgets : List ℕ) → IsPlan sys budgets → (wakes : List Wake) → IsWorkload sys wakes → (slots : ℕ) → slots ≤ 1000000 → (status : Status) (text : List ℕ) → OnAttempt (running sys budgets wakes slots) (IsTraceText sys) status text → status ≡ Yes → TellsRun sys budgets wakes slots text
 printed_tells sys is budgets plan wakes workload slots few status text h told = elim h [
   | inl given ↦ tells_run sys is budgets plan wakes workload slots few given.value status text given.gives given.said
   | inr refused ↦ absurd (let e : Yes ≡ BadFile = sym told ∙ refused.status_is in cc)
@@ -155,8 +155,8 @@ run_means slots few contents status text h = λ sys budgets wakes of told.
     let read = of.spelled.second in
     let is : IsSystem sys = (read_is_spelled of.spelled.first.bytes sys of.spelled.first.good).system in
     let said : RunsBytes slots sys read.bytes status text = said_of_two contents sys _ (RunsBytes slots) status text of.spelled h in
-    let on : OnAssigned sys (λ b. OnAttempt (running sys b wakes slots) (IsPrinted sys)) status text = said_of_given (waking sys read.bytes) (λ w. OnAssigned sys (λ b. OnAttempt (running sys b w slots) (IsPrinted sys))) status text (waking_decided sys read.bytes) wakes read.good said in
-    let run : OnAttempt (running sys budgets wakes slots) (IsPrinted sys) status text = said_of_given (assigning sys) (λ b. OnAttempt (running sys b wakes slots) (IsPrinted sys)) status text (assigning_decided sys is) budgets of.assigned on in
+    let on : OnAssigned sys (λ b. OnAttempt (running sys b wakes slots) (IsTraceText sys)) status text = said_of_given (waking sys read.bytes) (λ w. OnAssigned sys (λ b. OnAttempt (running sys b w slots) (IsTraceText sys))) status text (waking_decided sys read.bytes) wakes read.good said in
+    let run : OnAttempt (running sys budgets wakes slots) (IsTraceText sys) status text = said_of_given (assigning sys) (λ b. OnAttempt (running sys b wakes slots) (IsTraceText sys)) status text (assigning_decided sys is) budgets of.assigned on in
     printed_tells sys is budgets (assigned_is_plan sys is budgets of.assigned) wakes (spelt_workload sys (records_of read.bytes) wakes read.good) slots few status text run told
 
 -- the answer over both files is that to the command

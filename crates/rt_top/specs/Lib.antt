@@ -1,3 +1,4 @@
+pub mod Guests
 pub mod Slots
 pub mod Command
 pub mod Answer
@@ -5,8 +6,11 @@ pub mod Attempt
 pub mod Budgets
 pub mod TwoFiles
 pub mod Admit
+pub mod Certify
+pub mod Check
 pub mod Rtds
 pub mod Audit
+pub mod Bulk
 pub mod Report
 pub mod Causes
 pub mod Statuses

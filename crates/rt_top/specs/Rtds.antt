@@ -51,7 +51,7 @@ running sys budgets wakes slots = record {
 }
 
 -- the text is that of the events, and is read back as them
-pub record IsPrinted (sys : SystemView) (events : List Event) (status : Status) (text : List ℕ)
+pub record IsTraceText (sys : SystemView) (events : List Event) (status : Status) (text : List ℕ)
     : Type 0 where
   pub status_is : status ≡ Yes
   pub told : text ≡ text_of (printed_rows sys events)
@@ -60,7 +60,7 @@ pub record IsPrinted (sys : SystemView) (events : List Event) (status : Status) 
 -- the answer to a system and the bytes of a workload, and to two files
 abbrev pub RunsBytes : ℕ → SystemView → List ℕ → Status → List ℕ → Type 0
 RunsBytes slots sys bytes = OnAttempt (waking sys bytes) (λ wakes.
-    OnAssigned sys (λ budgets. OnAttempt (running sys budgets wakes slots) (IsPrinted sys)))
+    OnAssigned sys (λ budgets. OnAttempt (running sys budgets wakes slots) (IsTraceText sys)))
 
 abbrev pub Runs : ℕ → Contents → Status → List ℕ → Type 0
 Runs slots contents = OnTwoFiles contents (RunsBytes slots)
