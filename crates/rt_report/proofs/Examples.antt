@@ -18,6 +18,8 @@ use Rattle.trace_file.specs.declared.fault.TraceFault.TheVariants.{BadHeader as 
 use Rattle.cert_reader.specs.declared.fault.CertFault.TheVariants.{NotJson, WrongShape, BadNumber, TooMany as TooManyNodes}
 use Rattle.rt_report.specs.declared.fault.FileFault.TheVariants.{System, Release, Trace, Cert, NotRtds}
 use Rattle.rt_report.specs.declared.replay.Replay.{Replay}
+use Rattle.auditor.specs.declared.finding.Finding.TheVariants.{Yes, Short, Over}
+use Rattle.rt_report.specs.Audit.{audit_text}
 use Rattle.rt_report.specs.Admit.{admit_text}
 use Rattle.cert_reader.specs.declared.flaw.Flaw.TheVariants.{Nodes, Budget, Cover, Hit, Least, Wide as TooWide}
 use Rattle.rt_report.specs.Refusal.{refusal_text}
@@ -147,6 +149,13 @@ faults_of_certificates = (refl, refl, refl, refl)
 a_core_that_is_not_rtds : fault_text (Some tree) (NotRtds 0) 1 ≡ codes "fault=NotRtds core=cpu0 file=1\n"
 unfolding digits
 a_core_that_is_not_rtds = refl
+
+what_an_audit_tells :
+    ((audit_text tree (30 ∷ 2 ∷ 28 ∷ 40 ∷ []) (Yes 12) ≡ codes "verdict=yes\nperiods=12\n")
+    × (audit_text tree (30 ∷ 2 ∷ 28 ∷ 40 ∷ []) (Short 1 4000 1999) ≡ codes "verdict=no\nshort net from_ns=4000 got_ns=1999 of_ns=2000\n")
+    × (audit_text tree (30 ∷ 2 ∷ 28 ∷ 40 ∷ []) (Over 0 0 30001) ≡ codes "verdict=no\nover mid from_ns=0 got_ns=30001 of_ns=30000\n"))
+unfolding digits
+what_an_audit_tells = (refl, refl, refl)
 
 files_that_are_not_read :
     ((absent_text 1 ≡ codes "absent file=1\n")

@@ -4,6 +4,7 @@ pub mod Replay
 pub mod Admit
 pub mod Simulate
 pub mod Refusal
+pub mod Audit
 pub mod Check
 pub mod SystemFault
 pub mod RowFault

@@ -2,6 +2,7 @@
 #![tactic(auto)]
 
 mod admit;
+mod audit;
 mod cert_fault;
 mod check;
 mod fault;
@@ -16,6 +17,7 @@ mod unread;
 mod usage;
 
 pub use admit::admit_text;
+pub use audit::audit_text;
 pub use check::check_text;
 pub use fault::{FileFault, fault_text};
 pub use refusal::refusal_text;

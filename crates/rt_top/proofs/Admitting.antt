@@ -1,8 +1,14 @@
 -- From what was read and judged to the answer of `admit`.
-use Rattle.std.proofs.Common.{◌≡◌, ℕ, ◌≤◌, List, [], ◌∷◌, length, Option, Some, None, sym, ap, subst, inl, inr, arith}
+use Rattle.std.proofs.Common.{◌≡◌, ℕ, ◌≤◌, List, [], ◌∷◌, length, Option, Some, None, refl, sym, ap, subst, inl, inr, arith}
 use Rattle.std.proofs.lemmas.Bool.{cases_lt, false≢true}
 use Rattle.std.specs.Prelude.{IsOk, IfOk, Result, Ok, Err}
 use Rattle.tree_model.specs.View.{SystemView}
+use Rattle.tree_model.specs.declared.plan.Refusal.{Refusal}
+use Rattle.tree_model.specs.declared.plan.Refusal.TheVariants.{Overfull, Wide as TooWide, NoMemory as NoRefusal}
+use Rattle.tree_model.specs.Admission.{FirstRefusal}
+use Rattle.compose_tree.specs.Truth.{RefusalHolds}
+use Rattle.rt_report.specs.Refusal.{refusal_text, IsRefusalOf}
+use Rattle.rt_top.specs.Budgets.{refusal_status}
 use Rattle.system_file.specs.declared.fault.SystemFault.{SystemFault}
 use Rattle.system_file.specs.SystemFile.{system_of}
 use Rattle.outside.specs.Files.{Files, Told}
@@ -16,7 +22,7 @@ use Rattle.rt_top.specs.Causes.{IsVerdict}
 use Rattle.rt_top.specs.declared.answer.Ending.{Ending}
 use Rattle.rt_top.specs.declared.answer.Ending.TheVariants.{Answered, Unread, NoMemory as NoRoom}
 use Rattle.rt_top.specs.Steps.{Counts, IsQuiet, ExplainsAnswer, IfAnswered, StopsAt}
-use Rattle.rt_top.proofs.AtFile.{more_at, statuses_at, statuses_on}
+use Rattle.rt_top.proofs.AtFile.{more_at, more_on, statuses_at, statuses_on}
 use Rattle.rt_top.proofs.Statuses.{IsOfJob}
 
 -- the contents of the one file
@@ -25,10 +31,6 @@ held_one None name content told = tt
 held_one (Some files) name content told = ap (λ (c : Option (List ℕ)). c ∷ []) (sym told)
 
 -- a file that is refused has an answer, which means nothing
-more_on : (spelled : Result SystemView SystemFault) (status : Status) (text : List ℕ) → OnSystem spelled (λ _ _ _. ⊥) status text → OnSystem spelled AdmitsSystem status text
-more_on (Ok sys) status text none = absurd none
-more_on (Err fault) status text h = h
-
 refused_means : (spelled : Result SystemView SystemFault) (status : Status) (text : List ℕ) → OnSystem spelled (λ _ _ _. ⊥) status text → IfOk spelled (λ sys. MeansOfSystem sys status text)
 refused_means (Ok sys) status text none = absurd none
 refused_means (Err fault) status text h = tt
@@ -48,7 +50,7 @@ pub refused_answer : (files : Option Files) (name : List ℕ) (status : Status) 
 refused_answer files name status text h = record {
   contents = h.content ∷ [];
   held = held_one files name h.content h.held;
-  answers = more_at 1 (λ bytes. OnSystem (system_of bytes) (λ _ _ _. ⊥)) (λ bytes. OnSystem (system_of bytes) AdmitsSystem) status text (λ bytes. more_on (system_of bytes) status text) h.content h.answers;
+  answers = more_at 1 (λ bytes. OnSystem (system_of bytes) (λ _ _ _. ⊥)) (λ bytes. OnSystem (system_of bytes) AdmitsSystem) status text (λ bytes. more_on AdmitsSystem (system_of bytes) status text) h.content h.answers;
   means = stop_means h.content status text h.answers;
 }
 
@@ -66,6 +68,28 @@ judged_answer files name bytes sys status text held short spelled answers means 
   answers = record { too_long = λ l. absurd (omega (arith, short)); said = λ l. subst (λ (r : Result SystemView SystemFault). OnSystem r AdmitsSystem status text) (sym spelled) answers };
   means = subst (λ (r : Result SystemView SystemFault). IfOk r (λ s. MeansOfSystem s status text)) (sym spelled) means;
 }
+
+-- a first refusal can be told, is the answer, and means what it is to mean
+pub refusal_told : (sys : SystemView) (r : Refusal) → FirstRefusal sys r → IsRefusalOf sys r
+refusal_told sys (Overfull node short) first = first.is_node
+refusal_told sys (TooWide node) first = first.is_node
+refusal_told sys NoRefusal first = absurd first
+
+refusal_admits : (sys : SystemView) (r : Refusal) → FirstRefusal sys r → AdmitsSystem sys (refusal_status r) (refusal_text sys r)
+refusal_admits sys (Overfull node short) first = record { node = node; short = short; first = first; told = refl }
+refusal_admits sys (TooWide node) first = record { node = node; first = first; told = refl }
+refusal_admits sys NoRefusal first = absurd first
+
+refusal_means : (sys : SystemView) (r : Refusal) → FirstRefusal sys r → RefusalHolds sys r → MeansOfSystem sys (refusal_status r) (refusal_text sys r)
+refusal_means sys (Overfull node short) first holds = record { node = node; short = short; told = refl; first = first; holds = holds }
+refusal_means sys (TooWide node) first holds = tt
+refusal_means sys NoRefusal first holds = absurd first
+
+pub told_admits : (sys : SystemView) (r : Refusal) (status : Status) (text : List ℕ) → FirstRefusal sys r → status ≡ refusal_status r → text ≡ refusal_text sys r → AdmitsSystem sys status text
+told_admits sys r status text first is told = subst (λ (s : Status). AdmitsSystem sys s text) (sym is) (subst (AdmitsSystem sys (refusal_status r)) (sym told) (refusal_admits sys r first))
+
+pub told_means : (sys : SystemView) (r : Refusal) (status : Status) (text : List ℕ) → FirstRefusal sys r → RefusalHolds sys r → status ≡ refusal_status r → text ≡ refusal_text sys r → MeansOfSystem sys status text
+told_means sys r status text first holds is told = subst (λ (s : Status). MeansOfSystem sys s text) (sym is) (subst (MeansOfSystem sys (refusal_status r)) (sym told) (refusal_means sys r first holds))
 
 -- its statuses
 verdict_of_system : (sys : SystemView) (status : Status) (text : List ℕ) → AdmitsSystem sys status text → IsVerdict status × IsOfJob status

@@ -16,6 +16,14 @@ pub more_at : (k : ℕ) (P Q : Saying) (status : Status) (text : List ℕ) → (
 more_at k P Q status text more None h = h
 more_at k P Q status text more (Some bytes) h = record { too_long = h.too_long; said = λ short. more bytes (h.said short) }
 
+-- of a system more can be said, and a file that is refused has an answer, whatever is said of one
+pub on_more : (P Q : SystemView → Status → List ℕ → Type 0) (status : Status) (text : List ℕ) → ((sys : SystemView) → P sys status text → Q sys status text) → (spelled : Result SystemView SystemFault) → OnSystem spelled P status text → OnSystem spelled Q status text
+on_more P Q status text more (Ok sys) h = more sys h
+on_more P Q status text more (Err fault) h = h
+
+pub more_on : (Says : SystemView → Status → List ℕ → Type 0) (spelled : Result SystemView SystemFault) (status : Status) (text : List ℕ) → OnSystem spelled (λ _ _ _. ⊥) status text → OnSystem spelled Says status text
+more_on Says spelled status text h = on_more (λ _ _ _. ⊥) Says status text (λ sys none. absurd none) spelled h
+
 -- which statuses come at a file, and at the system that it spells
 pub statuses_at : (P : Status → Type 0) → P Absent → P TooLong → (k : ℕ) (Says : Saying) (status : Status) (text : List ℕ) → ((bytes : List ℕ) → Says bytes status text → P status) → (content : Option (List ℕ)) → AtContent k content Says status text → P status
 statuses_at P absent long k Says status text said None h = subst P (sym h.0) absent

@@ -1,9 +1,13 @@
 mod AtFile
+mod Attempt
+mod Budgets
+mod TwoFiles
 mod OneAdmission
 mod OneAnswer
 mod Statuses
 mod Steps
 mod Admitting
+mod Auditing
 mod Reporting
 mod ReplayLeaf
 mod ReplayList

@@ -1,7 +1,7 @@
 -- To `admit` and a file there is one answer.
 use Rattle.std.proofs.Common.{◌≡◌, ◌⊎◌, ℕ, List, refl, sym, ◌∙◌, ap, subst, inl, inr}
 use Rattle.tree_model.specs.declared.plan.Refusal.{Refusal}
-use Rattle.tree_model.specs.declared.plan.Refusal.TheVariants.{Overfull, Wide as TooWide, NoMemory as NoRefusal}
+use Rattle.tree_model.specs.declared.plan.Refusal.TheVariants.{Overfull, Wide as TooWide}
 use Rattle.tree_model.specs.View.{SystemView}
 use Rattle.tree_model.specs.System.{IsSystem}
 use Rattle.tree_model.specs.Admission.{FirstRefusal}
@@ -14,24 +14,19 @@ use Rattle.rt_report.proofs.OneReplay.{one_list_of_replays}
 use Rattle.rt_top.specs.declared.status.Status.{Status}
 use Rattle.rt_top.specs.declared.status.Status.TheVariants.{Yes, No, Usage, BadFile, Wide, Absent, TooLong, ReadFault, WriteFault, NoMemory}
 use Rattle.rt_top.specs.Answer.{Contents, OnSystem, IsOne, file_at}
+use Rattle.rt_top.specs.Budgets.{refusal_status}
 use Rattle.rt_top.specs.Admit.{IsAdmission, AdmitsSystem, Admits}
 use Rattle.rt_top.proofs.AtFile.{one_at, one_on}
 
--- a first refusal, with the status that it has
-status_of : Refusal → Status
-status_of (Overfull node short) = No
-status_of (TooWide node) = Wide
-status_of NoRefusal = NoMemory
-
+-- a first refusal, with the status and the text that answer it
 record IsRefused (sys : SystemView) (status : Status) (text : List ℕ) : Type 0 where
   refusal : Refusal
   first : FirstRefusal sys refusal
-  status_is : status ≡ status_of refusal
+  status_is : status ≡ refusal_status refusal
   told : text ≡ refusal_text sys refusal
 
 -- a system is admitted or refused
 yes_or_refused : (sys : SystemView) (status : Status) (text : List ℕ) → AdmitsSystem sys status text → ((status ≡ Yes) × IsAdmission sys text) ⊎ IsRefused sys status text
-unfolding status_of
 yes_or_refused sys Yes text h = inl (refl, h)
 yes_or_refused sys No text h = inr (record { refusal = Overfull h.node h.short; first = h.first; status_is = refl; told = h.told })
 yes_or_refused sys Wide text h = inr (record { refusal = TooWide h.node; first = h.first; status_is = refl; told = h.told })
@@ -58,7 +53,7 @@ one_verdict sys is = λ s t x y p q. elim (yes_or_refused sys s x p) [
   ]
   | inr a ↦ elim (yes_or_refused sys t y q) [
     | inl b ↦ absurd (never_both sys is b.1.budgets a.refusal b.1.admitted a.first)
-    | inr b ↦ (let same : a.refusal ≡ b.refusal = one_refusal sys is a.refusal b.refusal a.first b.first in (a.status_is ∙ ap status_of same ∙ sym b.status_is, a.told ∙ ap (λ (r : Refusal). refusal_text sys r) same ∙ sym b.told))
+    | inr b ↦ (let same : a.refusal ≡ b.refusal = one_refusal sys is a.refusal b.refusal a.first b.first in (a.status_is ∙ ap refusal_status same ∙ sym b.status_is, a.told ∙ ap (λ (r : Refusal). refusal_text sys r) same ∙ sym b.told))
   ]
 ]
 

@@ -3,9 +3,10 @@ use Rattle.std.specs.Prelude.{◌≡◌, ℕ, ◌-◌, ◌^◌, ◌<◌, map, Op
 use Rattle.outside.specs.Files.{Files, file_named}
 use Rattle.rt_top.specs.declared.status.Status.{Status}
 use Rattle.rt_top.specs.declared.status.Status.TheVariants.{Yes, No, Wide, Absent, ReadFault, WriteFault, NoMemory}
-use Rattle.rt_top.specs.Command.{Command, admit, file_names}
+use Rattle.rt_top.specs.Command.{Command, admit, audit, file_names}
 use Rattle.rt_top.specs.Answer.{Contents}
 use Rattle.rt_top.specs.Admit.{CanAdmit}
+use Rattle.rt_top.specs.Audit.{CanAudit}
 
 -- an answer that neither a failed call nor a name that is not there explains
 abbrev pub IsOfQuietStore : Status → Type 0
@@ -18,6 +19,7 @@ IsOfQuietStore _ = ⊤
 -- a command that can be judged by what its files hold: they are there, short enough and well formed
 abbrev pub CanJudge : Command → Contents → Type 0
 CanJudge (admit file) contents = CanAdmit contents
+CanJudge (audit file trace) contents = CanAudit contents
 
 -- the words spell a command, and the files are told and let it be judged
 pub record IsJudgeable (command : Option Command) (files : Option Files) : Type 0 where

@@ -4,19 +4,28 @@ use Rattle.std.specs.Prelude.{ℕ, List, [], ◌∷◌, Option, Some, None, opti
 -- one form of words each: the names of its files, in the order of the words, and its numbers
 pub data Command : Type 0 where
   admit : (file : List ℕ) → Command
+  audit : (file trace : List ℕ) → Command
 
 -- the names of a command's files, in the order of its words
 abbrev pub file_names : Command → List (List ℕ)
 file_names (admit file) = file ∷ []
+file_names (audit file trace) = file ∷ trace ∷ []
 
 -- the only word, and none where there are fewer or more
 abbrev pub one_word : List (List ℕ) → Option (List ℕ)
 one_word (word ∷ []) = Some word
 one_word _ = None
 
+-- the only two words
+abbrev pub two_words : List (List ℕ) → Option (List ℕ × List ℕ)
+two_words (first ∷ second ∷ []) = Some (first, second)
+two_words _ = None
+
 -- the command that the words spell: its own word, and then its files and numbers
 abbrev pub command_of : List (List ℕ) → Option Command
 command_of [] = None
 command_of (word ∷ rest) =
     if bytes_eq word (codes "admit") then option_map admit (one_word rest)
+    else if bytes_eq word (codes "audit")
+    then option_map (λ names. audit names.0 names.1) (two_words rest)
     else None

@@ -1,6 +1,10 @@
 pub mod Command
 pub mod Answer
+pub mod Attempt
+pub mod Budgets
+pub mod TwoFiles
 pub mod Admit
+pub mod Audit
 pub mod Report
 pub mod Causes
 pub mod Statuses

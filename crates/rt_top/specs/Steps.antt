@@ -1,22 +1,24 @@
 -- What the private steps of a command promise each other.
-use Rattle.std.specs.Prelude.{◌≡◌, ℕ, ◌≤◌, List, length, Option, Some, Result, Ok, Err, ⊤}
+use Rattle.std.specs.Prelude.{◌≡◌, ℕ, ◌≤◌, List, [], ◌∷◌, length, Option, Some, Result, Ok, Err, ⊤}
 use Rattle.outside.specs.Counts.{Rose, RoseBeyond}
 use Rattle.outside.specs.Files.{Files, Told}
 use Rattle.tree_model.specs.View.{SystemView}
 use Rattle.system_file.specs.SystemFile.{system_of}
 use Rattle.rt_top.specs.declared.status.Status.{Status}
-use Rattle.rt_top.specs.declared.status.Status.TheVariants.{Absent, TooLong}
+use Rattle.rt_top.specs.declared.status.Status.TheVariants.{Yes, No, BadFile, Wide, Absent, TooLong}
 use Rattle.rt_top.specs.declared.answer.Answer.{Answer}
 use Rattle.rt_top.specs.declared.answer.Ending.{Ending}
 use Rattle.rt_top.specs.declared.answer.Ending.TheVariants.{Answered, Unread, NoMemory as NoRoom}
 use Rattle.rt_top.specs.declared.command.Command.{Command as Parsed}
-use Rattle.rt_top.specs.declared.command.Command.TheVariants.{Admit}
-use Rattle.rt_top.specs.Command.{Command, admit}
+use Rattle.rt_top.specs.declared.command.Command.TheVariants.{Admit, Audit}
+use Rattle.rt_top.specs.Command.{Command, admit, audit}
 use Rattle.rt_top.specs.Answer.{Saying, AtContent, file_limit}
+use Rattle.rt_top.specs.TwoFiles.{OnTwoFiles}
 
 -- the command that was parsed
 abbrev pub command_told : Parsed → Command
 command_told (Admit file) = admit file.now
+command_told (Audit file trace) = audit file.now trace.now
 
 -- what is said of the answer, where a command ends with one
 abbrev pub IfAnswered : Ending → (Answer → Type 0) → Type 0
@@ -71,3 +73,32 @@ pub record StopsAt (k : ℕ) (files : Option Files) (name : List ℕ) (Says : Sa
   pub content : Option (List ℕ)
   pub held : Told files name (λ told. told ≡ content)
   pub answers : AtContent k content Says status text
+
+-- the bytes of the file of that name, which is short enough
+pub record IsHeld (files : Option Files) (name bytes : List ℕ) : Type 0 where
+  pub held : Told files name (λ file. file ≡ Some bytes)
+  pub short : length bytes ≤ file_limit
+
+-- the answer over the files of two names, where this is said of the system of the first and of the
+-- bytes of the second
+pub record AnswersTwo (files : Option Files) (first second : List ℕ) (Says : SystemView → Saying)
+    (status : Status) (text : List ℕ) : Type 0 where
+  pub one : Option (List ℕ)
+  pub two : Option (List ℕ)
+  pub held_first : Told files first (λ file. file ≡ one)
+  pub held_second : Told files second (λ file. file ≡ two)
+  pub answers : OnTwoFiles (one ∷ two ∷ []) Says status text
+
+-- an answer to files that were read: no other status is said of what they hold
+abbrev pub IsJudged : Status → Type 0
+IsJudged Yes = ⊤
+IsJudged No = ⊤
+IsJudged BadFile = ⊤
+IsJudged Wide = ⊤
+IsJudged _ = ⊥
+
+-- how a command ends whose files were read
+abbrev pub EndsJudged : Ending → Type 0
+EndsJudged (Answered answer) = IsJudged answer.status
+EndsJudged Unread = ⊥
+EndsJudged NoRoom = ⊤

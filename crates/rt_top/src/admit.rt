@@ -1,6 +1,4 @@
 ghost use Rattle.std.specs.Prelude.{Some, IfOk};
-ghost use Rattle.tree_model.specs.Admission.{FirstRefusal};
-ghost use Rattle.compose_tree.specs.Truth.{RefusalHolds};
 ghost use Rattle.rt_top.specs.Command.{admit};
 ghost use Rattle.rt_top.specs.Admit.{AdmitsSystem, MeansOfSystem};
 ghost use Rattle.rt_top.specs.Report.{IsAnswer};
@@ -9,10 +7,11 @@ ghost use Rattle.rt_top.specs.Steps.{counts_of, ending_of, IfAnswered, Explains}
 use crate::Status;
 use crate::answer::{Answer, Ending};
 use crate::file::read_system_file;
+use crate::refusing::refuse;
 use crate::replays::replay_all;
 use compose_tree::compose;
 use outside::Store;
-use rt_report::{admit_text, refusal_text};
+use rt_report::admit_text;
 use std::alloc::{AllocError, Global};
 use tree_model::{Refusal, System};
 
@@ -29,6 +28,7 @@ pub fn admit<S: Store>(alloc: Global, store: &mut S, file: &str) -> Result<Answe
     Ok(judge(alloc, &sys)?)
 }
 
+#[tactic(auto, using(crate::proofs::Admitting::refusal_told, crate::proofs::Admitting::told_admits, crate::proofs::Admitting::told_means))]
 fn judge(alloc: Global, sys: &System) -> Result<Answer, AllocError>
     ensures answer { IfOk result (λ a. AdmitsSystem sys.now a.status a.text.items) }
     ensures means { IfOk result (λ a. MeansOfSystem sys.now a.status a.text.items) }
@@ -43,25 +43,5 @@ fn judge(alloc: Global, sys: &System) -> Result<Answer, AllocError>
         }
         Err(Refusal::NoMemory) => Err(AllocError),
         Err(refusal) => refuse(alloc, sys, refusal),
-    }
-}
-
-fn refuse(alloc: Global, sys: &System, refusal: Refusal) -> Result<Answer, AllocError>
-    requires first { FirstRefusal sys.now refusal }
-    requires holds { RefusalHolds sys.now refusal }
-    ensures answer { IfOk result (λ a. AdmitsSystem sys.now a.status a.text.items) }
-    ensures means { IfOk result (λ a. MeansOfSystem sys.now a.status a.text.items) }
-{
-    let text = refusal_text(alloc, sys, &refusal)?;
-    match refusal {
-        Refusal::Overfull(_, _) => Ok(Answer {
-            status: Status::No,
-            text,
-        }),
-        Refusal::Wide(_) => Ok(Answer {
-            status: Status::Wide,
-            text,
-        }),
-        Refusal::NoMemory => unreachable!(),
     }
 }

@@ -1,6 +1,6 @@
 ghost use Rattle.std.specs.Prelude.{◌≡◌, map, option_map, string_bytes};
 ghost use Rattle.std.specs.Option.{option_copied};
-ghost use Rattle.rt_top.specs.Command.{command_of, one_word};
+ghost use Rattle.rt_top.specs.Command.{command_of, one_word, two_words};
 ghost use Rattle.rt_top.specs.Steps.{command_told};
 
 /// A form of words, with the names of its files in the order of the words.
@@ -8,6 +8,8 @@ ghost use Rattle.rt_top.specs.Steps.{command_told};
 pub enum Command<'a> {
     /// `admit FILE`
     Admit(&'a str),
+    /// `audit FILE TRACE`
+    Audit(&'a str, &'a str),
 }
 
 /// The command that the words spell: its own word, and then its files.
@@ -17,6 +19,9 @@ pub fn parse(words: &[String]) -> Option<Command<'_>>
     let (word, rest) = words.split_first()?;
     if word.as_str() == "admit" {
         Some(Command::Admit(one_word(rest)?))
+    } else if word.as_str() == "audit" {
+        let (file, trace) = two_words(rest)?;
+        Some(Command::Audit(file, trace))
     } else {
         None
     }
@@ -27,6 +32,16 @@ fn one_word(words: &[String]) -> Option<&str>
 {
     match words {
         [word] => Some(word.as_str()),
+        _ => None,
+    }
+}
+
+fn two_words(words: &[String]) -> Option<(&str, &str)>
+    ensures { option_map (λ pair. (pair.0.now, pair.1.now)) result
+        ≡ two_words (map string_bytes words.now) }
+{
+    match words {
+        [first, second] => Some((first.as_str(), second.as_str())),
         _ => None,
     }
 }

@@ -1,6 +1,7 @@
-ghost use Rattle.std.specs.Prelude.{◌≡◌, ◌≢◌, ◌≤◌, ℕ, List, length, Some, Ok, IfOk, IfErr, OnOk};
+ghost use Rattle.std.specs.Prelude.{◌≡◌, ◌≢◌, ◌≤◌, ℕ, List, length, None, Some, Ok, IfOk, IfErr, OnOk};
 ghost use Rattle.outside.specs.Files.{Told};
 ghost use Rattle.system_file.specs.SystemFile.{system_of};
+ghost use Rattle.rt_report.specs.Fault.{fault_text, IsFault};
 ghost use Rattle.rt_top.specs.Answer.{file_limit, OnSystem};
 ghost use Rattle.rt_top.specs.Steps.{counts_of, IfAnswered, IsQuiet, Explains, StopsAt, IsSpelled};
 
@@ -8,7 +9,7 @@ use crate::Status;
 use crate::answer::{Answer, Ending};
 use outside::{ReadFault, Store, read_all};
 use rt_report::{FileFault, absent_text, fault_text, too_long_text};
-use std::alloc::Global;
+use std::alloc::{AllocError, Global};
 use system_file::{SystemFault, read_system};
 use tree_model::System;
 
@@ -29,6 +30,7 @@ pub fn read_file<S: Store>(
     ensures short { IfOk result (λ bytes. length bytes.items ≤ file_limit) }
     ensures refused { IfErr result (λ stop. IfAnswered stop (λ a.
         StopsAt number (S.files store.old) name.now (λ _ _ _. ⊥) a.status a.text.items)) }
+    ensures same_files { S.files store.new ≡ S.files store.old }
     ensures quiet { let counts = counts_of S.faults S.absences S.taken in
         OnOk result (IsQuiet (counts store.old) (counts store.new)) }
     ensures explained { let counts = counts_of S.faults S.absences S.taken in
@@ -60,6 +62,7 @@ pub fn read_system_file<S: Store>(
     ensures refused { IfErr result (λ stop. IfAnswered stop (λ a.
         StopsAt 1 (S.files store.old) name.now
         (λ bytes. OnSystem (system_of bytes) (λ _ _ _. ⊥)) a.status a.text.items)) }
+    ensures same_files { S.files store.new ≡ S.files store.old }
     ensures quiet { let counts = counts_of S.faults S.absences S.taken in
         OnOk result (IsQuiet (counts store.old) (counts store.new)) }
     ensures explained { let counts = counts_of S.faults S.absences S.taken in
@@ -79,9 +82,18 @@ fn spelled_system(alloc: Global, bytes: &[u8]) -> Result<System, Ending>
     match read_system(alloc, bytes) {
         Ok(sys) => Ok(sys),
         Err(SystemFault::NoMemory) => Err(Ending::NoMemory),
-        Err(fault) => Err(Ending::Answered(Answer {
-            status: Status::BadFile,
-            text: fault_text(alloc, None, &FileFault::System(fault), 1)?,
-        })),
+        Err(fault) => Err(Ending::Answered(bad_file(alloc, FileFault::System(fault), 1)?)),
     }
+}
+
+/// The answer to a fault of the file word `number`, counted from 1.
+pub fn bad_file(alloc: Global, fault: FileFault, number: u32) -> Result<Answer, AllocError>
+    requires { IsFault None fault }
+    ensures status { IfOk result (λ a. a.status ≡ Status.BadFile) }
+    ensures text { IfOk result (λ a. a.text.items ≡ fault_text None fault number) }
+{
+    Ok(Answer {
+        status: Status::BadFile,
+        text: fault_text(alloc, None, &fault, number)?,
+    })
 }

@@ -3,10 +3,12 @@
 
 mod admit;
 mod answer;
+mod audit;
 mod command;
 mod file;
 #[cfg(test)]
 mod jitter_tests;
+mod refusing;
 mod replays;
 #[cfg(test)]
 mod spans_tests;
@@ -14,6 +16,7 @@ mod status;
 #[cfg(test)]
 mod tests;
 mod top;
+mod two_files;
 
 pub use status::Status;
 pub use top::run;

@@ -1,6 +1,7 @@
 ghost use Rattle.std.specs.Prelude.{◌≤◌};
 
 mod admit;
+mod audit;
 mod ends;
 mod rows;
 
@@ -32,6 +33,16 @@ fn one_file(alloc: Global, text: &str, bite: usize, fails: Vec<u64>) -> Result<M
     requires { 1 ≤ bite }
 {
     file_of(alloc, text.as_bytes().to_vec(alloc)?, bite, fails)
+}
+
+// A store of the file `sys` with the first text and of `trace` with the second.
+fn two_files(alloc: Global, sys: &str, trace: &str, fails: Vec<u64>) -> Result<MemoryStore, Fail> {
+    let mut files = Vec::new(alloc);
+    let first = Name::new(alloc, b"sys")?.ok_or("no name")?;
+    files.push((first, sys.as_bytes().to_vec(alloc)?))?;
+    let second = Name::new(alloc, b"trace")?.ok_or("no name")?;
+    files.push((second, trace.as_bytes().to_vec(alloc)?))?;
+    Ok(MemoryStore::new(files, 4096, fails))
 }
 
 // The status of these words and what was written, at most `bite` bytes a write, where the writes of

@@ -12,6 +12,7 @@ ghost use Rattle.rt_top.specs.Steps.{command_told, counts_of, IfAnswered, Explai
 use crate::Status;
 use crate::admit::admit;
 use crate::answer::{Answer, Ending, ended};
+use crate::audit::audit;
 use crate::command::{Command, parse};
 use outside::{Sink, Store, write_all};
 use rt_report::usage_text;
@@ -59,6 +60,7 @@ fn answer<S: Store>(alloc: Global, command: Option<Command<'_>>, store: &mut S) 
 {
     match command {
         Some(Command::Admit(file)) => ended(admit(alloc, store, file)),
+        Some(Command::Audit(file, trace)) => ended(audit(alloc, store, file, trace)),
         None => ended(usage(alloc)),
     }
 }

@@ -1,6 +1,6 @@
 // What comes where the words have no form, a file can't be read, or an output can't be written.
 use super::rows::*;
-use super::{admitted, answered, file_of, joined, one_file};
+use super::{admitted, answered, file_of, joined, one_file, two_files};
 use crate::Status;
 use std::test::Fail;
 
@@ -18,6 +18,22 @@ fn words_and_names_that_lead_nowhere(rt: HostRuntime) -> Result<(), Fail> {
         (["admit", "sys", "sys"].as_slice(), Status::Usage, USAGE),
         (["certify", "sys"].as_slice(), Status::Usage, USAGE),
         (["Admit", "sys"].as_slice(), Status::Usage, USAGE),
+        (["audit", "sys"].as_slice(), Status::Usage, USAGE),
+        (
+            ["audit", "sys", "sys", "sys"].as_slice(),
+            Status::Usage,
+            USAGE,
+        ),
+        (
+            ["audit", "other", "other"].as_slice(),
+            Status::Absent,
+            "absent file=1\n",
+        ),
+        (
+            ["audit", "sys", "other"].as_slice(),
+            Status::Absent,
+            "absent file=2\n",
+        ),
     ] {
         let store = one_file(alloc, CORE, 4096, Vec::new(alloc))?;
         let (status, written) = answered(alloc, all, store, 4096, Vec::new(alloc))?;
@@ -48,6 +64,25 @@ fn each_failing_call_of_the_store_is_a_read_fault(rt: HostRuntime) -> Result<(),
                 "bite {bite}, call {k}"
             );
         }
+    }
+    Ok(())
+}
+
+#[test]
+fn each_failing_call_over_two_files_is_a_read_fault(rt: HostRuntime) -> Result<(), Fail> {
+    let alloc = rt.alloc();
+    // each file is opened, read, and read to its end
+    for k in 0..7 {
+        let store = two_files(alloc, SHARED, SHARED_TRACE, vec![in alloc; k]?)?;
+        let words = ["audit", "sys", "trace"].as_slice();
+        let (status, written) = answered(alloc, words, store, 4096, Vec::new(alloc))?;
+        let (want, answer) = if k < 6 {
+            (Status::ReadFault, "")
+        } else {
+            (Status::Yes, "verdict=yes\nperiods=2\n")
+        };
+        assert_eq!(rt; status, want, "call {k}");
+        assert_eq!(rt; written.as_slice(), answer.as_bytes(), "call {k}");
     }
     Ok(())
 }

@@ -95,6 +95,19 @@ pub const SIXES: &str =
      period = 100\nwork = 6\n[[part]]\nname = \"B\"\nparent = \"cpu0\"\nsched = \"edf\"\n\
      period = 10\nbudget = 6\n[[part.task]]\nname = \"b\"\nperiod = 100\nwork = 6\n";
 
+/// Two guests on one full core, of which the first may take what is left.
+pub const SHARED: &str =
+    "format = 1\n[[core]]\nname = \"cpu0\"\nsched = \"edf\"\n[[part]]\nname = \"A\"\n\
+     parent = \"cpu0\"\nsched = \"edf\"\nperiod = 10\nbudget = 3\nextra = true\n\
+     [[part.task]]\nname = \"a\"\nperiod = 100\nwork = 3\n[[part]]\nname = \"B\"\n\
+     parent = \"cpu0\"\nsched = \"edf\"\nperiod = 10\nbudget = 4\n[[part.task]]\n\
+     name = \"b\"\nperiod = 100\nwork = 4\n";
+
+/// What a period of ten slots gives them.
+pub const SHARED_TRACE: &str =
+    "at,core,what,vcpu\n0,cpu0,start,A\n0,cpu0,start,B\n0,cpu0,run,A\n3,cpu0,run,B\n\
+     7,cpu0,run,A\n10,,end,\n";
+
 pub const USAGE: &str =
     "usage: rtadmit admit FILE | certify FILE | check FILE CERT | simulate FILE RELEASES \
      PATTERN SLOTS | rtds FILE WORKLOAD SLOTS | audit FILE TRACE | bulk N\n";

@@ -11,6 +11,7 @@ returns g c =
     record {
       spelled = system_spelled (g.S.Store.files c.args.store.now) c.args.name.now c.deref.result.now c.spelled_system.result held short c.spelled_system.ensures.spelled;
       refused = system_refused (g.S.Store.files c.args.store.now) c.args.name.now c.deref.result.now c.spelled_system.result held short c.spelled_system.ensures.refused;
+      same_files = c.in_ok-bytes.ensures.same_files;
       quiet = quiet_ok c.spelled_system.result _ c.in_ok-bytes.ensures.quiet;
       explained = system_explained c.deref.result.now c.spelled_system.result _ _ c.in_ok-bytes.ensures.quiet c.spelled_system.ensures.refused c.spelled_system.ensures.read;
     }

@@ -1,0 +1,48 @@
+ghost use Rattle.std.specs.Prelude.{◌≡◌, IfOk, IfErr};
+ghost use Rattle.tree_model.specs.Admission.{Assigned};
+ghost use Rattle.tree_model.specs.Plans.{IsPlan};
+ghost use Rattle.rt_report.specs.Refusal.{refusal_text, IsRefusalOf};
+ghost use Rattle.rt_top.specs.Attempt.{IsRefused};
+ghost use Rattle.rt_top.specs.Budgets.{assigning, refusal_status};
+ghost use Rattle.rt_top.specs.Steps.{IfAnswered, EndsJudged};
+
+use crate::Status;
+use crate::answer::{Answer, Ending};
+use compose_tree::assign;
+use rt_report::refusal_text;
+use std::alloc::{AllocError, Global};
+use tree_model::{Plan, Refusal, System};
+
+/// The answer to a refusal of a node of the system.
+pub fn refuse(alloc: Global, sys: &System, refusal: Refusal) -> Result<Answer, AllocError>
+    requires { IsRefusalOf sys.now refusal }
+    ensures status { IfOk result (λ a. a.status ≡ refusal_status refusal) }
+    ensures text { IfOk result (λ a. a.text.items ≡ refusal_text sys.now refusal) }
+{
+    let status = match refusal {
+        Refusal::Overfull(_, _) => Status::No,
+        Refusal::Wide(_) => Status::Wide,
+        Refusal::NoMemory => unreachable!(),
+    };
+    Ok(Answer {
+        status,
+        text: refusal_text(alloc, sys, &refusal)?,
+    })
+}
+
+/// The budgets of all parts: the given ones, untested, and the least ones that pass. It stops at
+/// the first part that has none.
+#[tactic(auto, using(crate::proofs::Budgets::unassigned_told))]
+pub fn assigned(alloc: Global, sys: &System) -> Result<Plan, Ending>
+    ensures assigned { IfOk result (λ plan. Assigned sys.now plan) }
+    ensures plan { IfOk result (λ plan. IsPlan sys.now plan) }
+    ensures refused { IfErr result (λ stop. IfAnswered stop (λ a.
+        IsRefused (assigning sys.now) a.status a.text.items)) }
+    ensures judged { IfErr result (λ stop. EndsJudged stop) }
+{
+    match assign(alloc, sys) {
+        Ok(plan) => Ok(plan),
+        Err(Refusal::NoMemory) => Err(Ending::NoMemory),
+        Err(refusal) => Err(Ending::Answered(refuse(alloc, sys, refusal)?)),
+    }
+}
