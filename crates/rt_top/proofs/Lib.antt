@@ -8,6 +8,7 @@ mod Statuses
 mod Steps
 mod Admitting
 mod Auditing
+mod Simulating
 mod Reporting
 mod ReplayLeaf
 mod ReplayList

@@ -1,3 +1,4 @@
+pub mod SlotWords
 pub mod Command
 pub mod Answer
 pub mod Attempt
@@ -5,6 +6,7 @@ pub mod Budgets
 pub mod TwoFiles
 pub mod Admit
 pub mod Audit
+pub mod Simulate
 pub mod Report
 pub mod Causes
 pub mod Statuses

@@ -7,15 +7,18 @@ use Rattle.outside.specs.Written.{AppendsProperPrefix}
 use Rattle.rt_report.specs.Usage.{usage_line}
 use Rattle.rt_top.specs.declared.status.Status.{Status}
 use Rattle.rt_top.specs.declared.status.Status.TheVariants.{Usage, ReadFault, WriteFault, NoMemory}
-use Rattle.rt_top.specs.Command.{Command, admit, audit, file_names}
+use Rattle.rt_top.specs.Command.{Command, admit, audit, simulate, file_names}
 use Rattle.rt_top.specs.Answer.{Contents, IsOne}
 use Rattle.rt_top.specs.Admit.{Admits, AdmitMeans}
 use Rattle.rt_top.specs.Audit.{Audits, AuditMeans}
+use Rattle.rt_top.specs.Simulate.{Simulates, SimulateMeans}
 
 -- the answer to a command, whose files have these contents
 abbrev pub JobAnswers : Command → Contents → Status → List ℕ → Type 0
 JobAnswers (admit file) contents status text = Admits contents status text
 JobAnswers (audit file trace) contents status text = Audits contents status text
+JobAnswers (simulate file releases pattern slots) contents status text =
+    Simulates pattern slots contents status text
 
 -- the answer to words: the usage line where they spell no command
 abbrev pub Answers : Option Command → Contents → Status → List ℕ → Type 0
@@ -27,6 +30,8 @@ abbrev pub Means : Option Command → Contents → Status → List ℕ → Type 
 Means None contents status text = ⊤
 Means (Some (admit file)) contents status text = AdmitMeans contents status text
 Means (Some (audit file trace)) contents status text = AuditMeans contents status
+Means (Some (simulate file releases pattern slots)) contents status text =
+    SimulateMeans pattern slots contents status
 
 abbrev pub names_of : Option Command → List (List ℕ)
 names_of None = []

@@ -1,7 +1,11 @@
 ghost use Rattle.std.specs.Prelude.{◌≡◌, map, option_map, string_bytes};
 ghost use Rattle.std.specs.Option.{option_copied};
-ghost use Rattle.rt_top.specs.Command.{command_of, one_word, two_words};
+ghost use Rattle.rt_top.specs.Command.{command_of, one_word, simulate_of, two_words};
 ghost use Rattle.rt_top.specs.Steps.{command_told};
+
+use crate::slot_words::{pattern_of, slot_count};
+use crate::slots::Slots;
+use server_sched::Pattern;
 
 /// A form of words, with the names of its files in the order of the words.
 #[derive(Clone, Copy)]
@@ -10,6 +14,8 @@ pub enum Command<'a> {
     Admit(&'a str),
     /// `audit FILE TRACE`
     Audit(&'a str, &'a str),
+    /// `simulate FILE RELEASES PATTERN SLOTS`
+    Simulate(&'a str, &'a str, Pattern, Slots),
 }
 
 /// The command that the words spell: its own word, and then its files.
@@ -22,8 +28,29 @@ pub fn parse(words: &[String]) -> Option<Command<'_>>
     } else if word.as_str() == "audit" {
         let (file, trace) = two_words(rest)?;
         Some(Command::Audit(file, trace))
+    } else if word.as_str() == "simulate" {
+        simulate_of(rest)
     } else {
         None
+    }
+}
+
+/// The command whose own word is `simulate`.
+fn simulate_of(words: &[String]) -> Option<Command<'_>>
+    ensures { option_map command_told result ≡ simulate_of (map string_bytes words.now) }
+{
+    match words {
+        [file, releases, pattern, slots] => {
+            let pattern = pattern_of(pattern.as_str())?;
+            let slots = slot_count(slots.as_str())?;
+            Some(Command::Simulate(
+                file.as_str(),
+                releases.as_str(),
+                pattern,
+                slots,
+            ))
+        }
+        _ => None,
     }
 }
 

@@ -10,6 +10,9 @@ mod file;
 mod jitter_tests;
 mod refusing;
 mod replays;
+mod simulate;
+mod slot_words;
+mod slots;
 #[cfg(test)]
 mod spans_tests;
 mod status;

@@ -4,6 +4,7 @@ mod admit;
 mod audit;
 mod ends;
 mod rows;
+mod simulate;
 
 use crate::{Status, run};
 use outside::{MemorySink, MemoryStore};

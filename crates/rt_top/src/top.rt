@@ -14,6 +14,7 @@ use crate::admit::admit;
 use crate::answer::{Answer, Ending, ended};
 use crate::audit::audit;
 use crate::command::{Command, parse};
+use crate::simulate::simulate;
 use outside::{Sink, Store, write_all};
 use rt_report::usage_text;
 use std::alloc::Global;
@@ -61,6 +62,9 @@ fn answer<S: Store>(alloc: Global, command: Option<Command<'_>>, store: &mut S) 
     match command {
         Some(Command::Admit(file)) => ended(admit(alloc, store, file)),
         Some(Command::Audit(file, trace)) => ended(audit(alloc, store, file, trace)),
+        Some(Command::Simulate(file, releases, pattern, slots)) => {
+            ended(simulate(alloc, store, file, releases, pattern, slots))
+        }
         None => ended(usage(alloc)),
     }
 }
