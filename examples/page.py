@@ -1,16 +1,17 @@
-"""The commands of examples/README.md, what each is told to print, and the words that they give the program.
+"""The commands of examples/README.md and docs/guide.md, what each is told to print, and the words that they give the program.
 
 A command stands behind `    $ `, and what it prints in the lines below it, up to the first that is not set in. It stands
 at the top of the checkout and calls the program as `./rtadmit`."""
 import os, pathlib, re, shlex, subprocess, tempfile
 
 top = pathlib.Path(__file__).resolve().parent.parent
-page = top / "examples" / "README.md"
+pages = [top / "examples" / "README.md", top / "docs" / "guide.md"]
 
 
 def entries():
-    """Each command of the page with the text that is told of it."""
-    found = re.findall(r"^    \$ (.*)\n((?:    (?!\$ ).*\n)*)", page.read_text() + "\n", re.M)
+    """Each command of the pages with the text that is told of it."""
+    text = "\n\n".join(page.read_text() for page in pages) + "\n"
+    found = re.findall(r"^    \$ (.*)\n((?:    (?!\$ ).*\n)*)", text, re.M)
     return [(command, re.sub("^    ", "", told, flags=re.M)) for command, told in found]
 
 
@@ -28,7 +29,7 @@ exec "$PROGRAM" "$@"
 
 
 def words(program):
-    """The words of each call that the page makes, as bytes, each list once and in the order of the page."""
+    """The words of each call that the pages make, as bytes, each list once and in order."""
     with tempfile.TemporaryDirectory() as scratch:
         recorder = pathlib.Path(scratch) / "recorder"
         recorder.write_text(RECORDER)

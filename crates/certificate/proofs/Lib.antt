@@ -3,3 +3,4 @@ pub mod Nodes
 pub mod Hits
 pub mod Listing
 pub mod Texts
+pub mod OneCertificate

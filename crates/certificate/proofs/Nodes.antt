@@ -1,5 +1,5 @@
 -- Nodes that are made one after another, and what is known of one place.
-use Rattle.std.proofs.Common.{◌≡◌, ℕ, suc, ◌+◌, ◌-◌, ◌<◌, ◌≤◌, Bool, true, false, List, [], ◌∷◌, ◌++◌, length, map, take, get_or, Option, Some, None, is_some, not, sym, ◌∙◌, ap, subst, refl, arith, inl, inr, length-take}
+use Rattle.std.proofs.Common.{◌≡◌, ℕ, suc, ◌+◌, ◌-◌, ◌<◌, ◌≤◌, Bool, true, false, List, [], ◌∷◌, ◌++◌, length, get_or, Option, Some, None, is_some, not, sym, ◌∙◌, ap, subst, refl, arith, inl, inr}
 use Rattle.std.specs.Prelude.{nat_lt, is_none}
 use Rattle.std.proofs.lemmas.Bool.{cases_lt, cond-true, cond-false, lt-ltb, le-ltb}
 use Rattle.std.proofs.lemmas.List.{get_or_append_left, get_or_push, length_push}
@@ -15,7 +15,7 @@ use Rattle.tree_model.specs.System.{IsSystem, core_at, part_at}
 use Rattle.tree_model.specs.Tree.{core_bound, core_cycle, budget_at, node_tasks, node_sched, given_budget, core_budget, node_cycle, node_bound}
 use Rattle.tree_model.specs.Admission.{NodePasses, Admitted, BudgetStands}
 use Rattle.tree_model.proofs.InRange.{admitted_in_period}
-use Rattle.cert_reader.specs.Proves.{no_node, node_at, nth_place, AreNodes, HasBudget, IsBudget, budgets_of}
+use Rattle.cert_reader.specs.Proves.{no_node, node_at, nth_place, AreNodes, IsBudget, budgets_of}
 use Rattle.cert_reader.proofs.Admits.{budget_here, one_budget_each}
 use Rattle.certificate.specs.Made.{ListsPass, ListsLeast, IsMade, IsCertificate}
 use Rattle.certificate.specs.Steps.{IsMadeAt, AreMade}

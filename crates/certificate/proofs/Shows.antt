@@ -1,11 +1,11 @@
 -- What is listed in a certificate shows what it is to show, so that the certificate proves the
 -- system.
-use Rattle.std.proofs.Common.{◌≡◌, ◌≢◌, ℕ, ◌-◌, ◌<◌, ◌≤◌, Bool, true, false, List, [], length, Option, Some, refl, ap, subst, arith}
+use Rattle.std.proofs.Common.{◌≡◌, ◌≢◌, ℕ, ◌-◌, Bool, true, false, List, [], Option, Some, refl, subst, arith}
 use Rattle.slot_model.specs.declared.sched.Sched.{Sched}
 use Rattle.slot_model.specs.declared.sched.Sched.TheVariants.{Edf, Rm, Dm, Listed}
 use Rattle.slot_model.specs.Task.{SporadicTask}
 use Rattle.slot_model.specs.Order.{ranks_above}
-use Rattle.slot_model.specs.Bound.{AllHit, DemandFits, IsSmall, Passes, sbf}
+use Rattle.slot_model.specs.Bound.{AllHit, Passes, sbf}
 use Rattle.miss_witness.specs.declared.defeat.Defeat.{Defeat}
 use Rattle.miss_witness.specs.Defeat.{IsShortTaskWindow, IsShortWindow, IsDefeat}
 use Rattle.fp_test.specs.Falls.{AreFalls}

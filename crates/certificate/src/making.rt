@@ -18,10 +18,8 @@ use supply_bound::{Full, Periodic};
 use tree_model::{Certificate, Core, MAX_PARTS, Node, Part, Place, Refusal, System, tasks_of};
 
 /// The certificate of a system that is admitted, or the first refusal. Under earliest deadline
-/// first
-/// a node's points are those of the walk backwards from its horizon, under a fixed rank its hits
-/// are
-/// the least. The witness of a computed budget is what is short first at one slot less.
+/// first a node's points are those of the walk backwards from its horizon, under a fixed rank its
+/// hits are the least. The witness of a computed budget is what is short first at one slot less.
 pub fn certify(alloc: Global, sys: &System) -> Result<Certificate, Refusal>
     ensures made { IfOk result (λ c. IsCertificate sys.now c.nodes) }
     ensures proves { IfOk result (λ c. Proves sys.now c.nodes) }

@@ -1,4 +1,4 @@
-ghost use Rattle.std.specs.Prelude.{◌≡◌, ℕ, ◌+◌, ◌*◌, ◌^◌, ◌<◌, ◌≤◌, List, MatchOption};
+ghost use Rattle.std.specs.Prelude.{◌≡◌, ℕ, ◌+◌, ◌-◌, ◌^◌, ◌≤◌, List, MatchOption};
 ghost use Rattle.slot_model.specs.Bound.{demand_of, dbf};
 ghost use Rattle.slot_model.specs.Release.{LegalRelease, work_within};
 ghost use Rattle.slot_model.specs.Task.{sporadic_task, sporadic_tasks};
@@ -25,63 +25,63 @@ pub fn demand(tasks: &[Task], t: u128) -> Option<u128>
     }
 }
 
-/// The same with a division of 64 bits for each row of tasks that have one period and one room: a
-/// task's demand is at most `t`.
+/// The same in 64 bits, but for the sum: a task's demand is at most `t`.
 fn demand_within(tasks: &[Task], t: u64) -> u128
     ensures { result ≡ dbf (sporadic_tasks tasks.now) t }
 {
-    let mut before: u128 = 0;
-    let mut row = Row {
-        period: 1,
-        room: 1,
-        work: 0,
-    };
+    let mut total: u128 = 0;
+    let mut due = Due::new(1, 1, t);
     for task in tasks {
-        let room = task.deadline - task.jitter;
-        if row.period == task.period && row.room == room {
-            row.work += task.work as u128;
-        } else {
-            before += row.demand(t);
-            row = Row {
-                period: task.period,
-                room,
-                work: task.work as u128,
-            };
-        }
+        due = due.of_task(task, t);
+        total += demand_of_task(task, &due, t) as u128;
     }
-    before + row.demand(t)
-}
-
-/// Tasks of one period and room, and their work together.
-#[derive(Clone, Copy)]
-struct Row {
-    period: u64,
-    room: u64,
-    work: u128,
-}
-
-impl Row {
-    fn demand(&self, t: u64) -> u128
-        requires some_period { 1 ≤ self.now.period }
-        requires some_room { 1 ≤ self.now.room }
-        requires small { jobs_due self.now.period self.now.room t * self.now.work < 2 ^ 128 }
-        ensures { result ≡ jobs_due self.now.period self.now.room t * self.now.work }
-    {
-        count_due(self.period, self.room, t) as u128 * self.work
-    }
+    total
 }
 
 /// How many jobs of a period and a room fall due in `t` slots.
-fn count_due(period: u64, room: u64, t: u64) -> u64
-    requires some_period { 1 ≤ period }
-    requires some_room { 1 ≤ room }
-    ensures { result ≡ jobs_due period room t }
-{
-    if room <= t {
-        (t - room) / period + 1
-    } else {
-        0
+#[derive(Clone, Copy)]
+struct Due {
+    period: u64,
+    room: u64,
+    jobs: u64,
+}
+
+impl Due {
+    fn new(period: u64, room: u64, t: u64) -> Due
+        requires some_period { 1 ≤ period }
+        requires some_room { 1 ≤ room }
+        ensures period { result.period ≡ period }
+        ensures room { result.room ≡ room }
+        ensures jobs { result.jobs ≡ jobs_due period room t }
+    {
+        let jobs = if t < room { 0 } else { (t - room) / period + 1 };
+        Due { period, room, jobs }
     }
+
+    /// The same of a task; tasks of one period and room that stand in a row share a division.
+    fn of_task(self, task: &Task, t: u64) -> Due
+        requires { self.jobs ≡ jobs_due self.period self.room t }
+        ensures period { result.period ≡ task.now.period }
+        ensures room { result.room ≡ task.now.deadline - task.now.jitter }
+        ensures jobs { result.jobs ≡ jobs_due result.period result.room t }
+    {
+        let room = task.deadline - task.jitter;
+        if self.period == task.period && self.room == room {
+            return self;
+        }
+        Due::new(task.period, room, t)
+    }
+}
+
+/// At most `t`, since a task's work and jitter fit its deadline and its deadline its period.
+fn demand_of_task(task: &Task, due: &Due, t: u64) -> u64
+    requires period { due.now.period ≡ task.now.period }
+    requires room { due.now.room ≡ task.now.deadline - task.now.jitter }
+    requires jobs { due.now.jobs ≡ jobs_due due.now.period due.now.room t }
+    ensures exact { result ≡ demand_of (sporadic_task task.now) t }
+    ensures at_most { result ≤ t }
+{
+    due.jobs * task.work
 }
 
 /// The same for windows that pass 64 bits.

@@ -47,6 +47,7 @@ fn period_line(
 {
     let name = sys.parts()[vcpu as usize].name().as_str();
     let budget = plan.budgets()[vcpu as usize] * 1000;
-    Ok(format!(in alloc; "{word} {name} from_ns={from} got_ns={got} of_ns={budget}\n")?
-        .into_bytes())
+    Ok(format!(in alloc;
+        "{word} {name} from_ns={from} got_ns={got} of_ns={budget}\n"
+    )?.into_bytes())
 }

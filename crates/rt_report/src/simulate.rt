@@ -15,11 +15,7 @@ use tree_model::{Place, System};
 
 /// The text of a simulation: the verdict, then what is counted of each core and of each part, and
 /// below a node with a miss its first one.
-pub fn counts_text(
-    alloc: Global,
-    sys: &System,
-    counts: &TreeCounts,
-) -> Result<Vec<u8>, AllocError>
+pub fn counts_text(alloc: Global, sys: &System, counts: &TreeCounts) -> Result<Vec<u8>, AllocError>
     requires each_core { length counts.now.cores ≡ length sys.now.cores }
     requires each_part { length counts.now.parts ≡ length sys.now.parts }
     ensures { IfOk result (λ text. text.items ≡ simulate_text sys.now counts.now) }

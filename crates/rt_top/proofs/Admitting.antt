@@ -7,16 +7,16 @@ use Rattle.tree_model.specs.declared.plan.Refusal.{Refusal}
 use Rattle.tree_model.specs.declared.plan.Refusal.TheVariants.{Overfull, Wide as TooWide, NoMemory as NoRefusal}
 use Rattle.tree_model.specs.Admission.{FirstRefusal}
 use Rattle.compose_tree.specs.Truth.{RefusalHolds}
-use Rattle.rt_report.specs.Refusal.{refusal_text, IsRefusalOf}
-use Rattle.rt_top.specs.Budgets.{refusal_status}
+use Rattle.rt_report.specs.Refusal.{refusal_text}
+use Rattle.rt_top.specs.Budgets.{composing, refusal_status}
 use Rattle.system_file.specs.declared.fault.SystemFault.{SystemFault}
 use Rattle.system_file.specs.SystemFile.{system_of}
 use Rattle.outside.specs.Files.{Files, Told}
 use Rattle.rt_top.specs.declared.status.Status.{Status}
-use Rattle.rt_top.specs.declared.status.Status.TheVariants.{Yes, No, Usage, BadFile, Wide, Absent, TooLong, ReadFault, WriteFault, NoMemory}
+use Rattle.rt_top.specs.declared.status.Status.TheVariants.{Yes, No, Wide, TooLong}
 use Rattle.rt_top.specs.Command.{admit}
 use Rattle.rt_top.specs.Answer.{Contents, file_at, file_limit, AtContent, OnSystem}
-use Rattle.rt_top.specs.Admit.{AdmitsSystem, Admits, AdmitMeans, MeansOfSystem, CanAdmit}
+use Rattle.rt_top.specs.Admit.{IsAdmission, AdmitsSystem, Admits, AdmitMeans, MeansOfSystem, CanAdmit}
 use Rattle.rt_top.specs.Report.{AreContents, IsAnswer}
 use Rattle.rt_top.specs.Causes.{IsVerdict}
 use Rattle.rt_top.specs.declared.answer.Ending.{Ending}
@@ -24,6 +24,8 @@ use Rattle.rt_top.specs.declared.answer.Ending.TheVariants.{Answered, Unread, No
 use Rattle.rt_top.specs.Steps.{Counts, IsQuiet, ExplainsAnswer, IfAnswered, StopsAt}
 use Rattle.rt_top.proofs.AtFile.{more_at, more_on, statuses_at, statuses_on}
 use Rattle.rt_top.proofs.Statuses.{IsOfJob}
+use Rattle.rt_top.proofs.Attempt.{statuses_attempt}
+use Rattle.rt_top.proofs.Budgets.{refused_status}
 
 -- the contents of the one file
 held_one : (files : Option Files) (name : List ℕ) (content : Option (List ℕ)) → Told files name (λ told. told ≡ content) → AreContents (Some (admit name)) files (content ∷ [])
@@ -69,62 +71,30 @@ judged_answer files name bytes sys status text held short spelled answers means 
   means = subst (λ (r : Result SystemView SystemFault). IfOk r (λ s. MeansOfSystem s status text)) (sym spelled) means;
 }
 
--- a first refusal can be told, is the answer, and means what it is to mean
-pub refusal_told : (sys : SystemView) (r : Refusal) → FirstRefusal sys r → IsRefusalOf sys r
-refusal_told sys (Overfull node short) first = first.is_node
-refusal_told sys (TooWide node) first = first.is_node
-refusal_told sys NoRefusal first = absurd first
-
-refusal_admits : (sys : SystemView) (r : Refusal) → FirstRefusal sys r → AdmitsSystem sys (refusal_status r) (refusal_text sys r)
-refusal_admits sys (Overfull node short) first = record { node = node; short = short; first = first; told = refl }
-refusal_admits sys (TooWide node) first = record { node = node; first = first; told = refl }
-refusal_admits sys NoRefusal first = absurd first
-
+-- a first refusal means what it is to mean
 refusal_means : (sys : SystemView) (r : Refusal) → FirstRefusal sys r → RefusalHolds sys r → MeansOfSystem sys (refusal_status r) (refusal_text sys r)
 refusal_means sys (Overfull node short) first holds = record { node = node; short = short; told = refl; first = first; holds = holds }
 refusal_means sys (TooWide node) first holds = tt
 refusal_means sys NoRefusal first holds = absurd first
 
-pub told_admits : (sys : SystemView) (r : Refusal) (status : Status) (text : List ℕ) → FirstRefusal sys r → status ≡ refusal_status r → text ≡ refusal_text sys r → AdmitsSystem sys status text
-told_admits sys r status text first is told = subst (λ (s : Status). AdmitsSystem sys s text) (sym is) (subst (AdmitsSystem sys (refusal_status r)) (sym told) (refusal_admits sys r first))
-
 pub told_means : (sys : SystemView) (r : Refusal) (status : Status) (text : List ℕ) → FirstRefusal sys r → RefusalHolds sys r → status ≡ refusal_status r → text ≡ refusal_text sys r → MeansOfSystem sys status text
 told_means sys r status text first holds is told = subst (λ (s : Status). MeansOfSystem sys s text) (sym is) (subst (MeansOfSystem sys (refusal_status r)) (sym told) (refusal_means sys r first holds))
 
--- its statuses
-verdict_of_system : (sys : SystemView) (status : Status) (text : List ℕ) → AdmitsSystem sys status text → IsVerdict status × IsOfJob status
-verdict_of_system sys Yes text h = (tt, tt)
-verdict_of_system sys No text h = (tt, tt)
-verdict_of_system sys Wide text h = (tt, tt)
-verdict_of_system sys Usage text h = absurd h
-verdict_of_system sys BadFile text h = absurd h
-verdict_of_system sys Absent text h = absurd h
-verdict_of_system sys TooLong text h = absurd h
-verdict_of_system sys ReadFault text h = absurd h
-verdict_of_system sys WriteFault text h = absurd h
-verdict_of_system sys NoMemory text h = absurd h
+-- its statuses, and its counts
+status_of_system : (P : Status → Type 0) → P Yes → P No → P Wide → (sys : SystemView) (status : Status) (text : List ℕ) → AdmitsSystem sys status text → P status
+status_of_system P at_yes at_no at_wide sys status text h = statuses_attempt P (composing sys) (IsAdmission sys) status text (refused_status P at_no at_wide sys) (λ budgets admission. subst P (sym admission.is_yes) at_yes) h
 
 pub admit_status : (contents : Contents) (status : Status) (text : List ℕ) → Admits contents status text → IsOfJob status
 admit_status contents status text h =
     statuses_at IsOfJob tt tt 1 (λ bytes. OnSystem (system_of bytes) AdmitsSystem) status text
-    (λ bytes. statuses_on IsOfJob tt AdmitsSystem status text (λ sys said. (verdict_of_system sys status text said).1) (system_of bytes)) (file_at 1 contents) h
+    (λ bytes. statuses_on IsOfJob tt AdmitsSystem status text (λ sys. status_of_system IsOfJob tt tt tt sys status text) (system_of bytes)) (file_at 1 contents) h
 
--- its counts
 pub judged_explained : (sys : SystemView) (status : Status) (text : List ℕ) (before after : Counts) → AdmitsSystem sys status text → IsQuiet before after → ExplainsAnswer status before after
-judged_explained sys Yes text before after h quiet = quiet
-judged_explained sys No text before after h quiet = quiet
-judged_explained sys Wide text before after h quiet = quiet
-judged_explained sys Usage text before after h quiet = absurd h
-judged_explained sys BadFile text before after h quiet = absurd h
-judged_explained sys Absent text before after h quiet = absurd h
-judged_explained sys TooLong text before after h quiet = absurd h
-judged_explained sys ReadFault text before after h quiet = absurd h
-judged_explained sys WriteFault text before after h quiet = absurd h
-judged_explained sys NoMemory text before after h quiet = absurd h
+judged_explained sys status text before after h quiet = status_of_system (λ s. ExplainsAnswer s before after) quiet quiet quiet sys status text h
 
 -- a system that can be read gets a verdict
 verdict_of_spelled : (spelled : Result SystemView SystemFault) (status : Status) (text : List ℕ) → IsOk spelled → OnSystem spelled AdmitsSystem status text → IsVerdict status
-verdict_of_spelled (Ok sys) status text ok h = (verdict_of_system sys status text h).0
+verdict_of_spelled (Ok sys) status text ok h = status_of_system IsVerdict tt tt tt sys status text h
 verdict_of_spelled (Err fault) status text ok h = absurd (false≢true ok)
 
 pub admit_verdict : (contents : Contents) (status : Status) (text : List ℕ) → CanAdmit contents → Admits contents status text → IsVerdict status

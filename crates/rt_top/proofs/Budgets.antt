@@ -1,14 +1,15 @@
--- The step that assigns budgets: it gives one list of them or one refusal, of a node of the system.
+-- The steps that assign budgets and that admit a system: each gives one list of budgets or one
+-- refusal, of a node of the system.
 use Rattle.tree_model.specs.declared.plan.Refusal.{Refusal}
 use Rattle.tree_model.specs.declared.plan.Refusal.TheVariants.{Overfull, Wide as TooWide, NoMemory as NoRefusal}
 use Rattle.tree_model.specs.View.{SystemView}
 use Rattle.tree_model.specs.System.{IsSystem}
-use Rattle.tree_model.specs.Admission.{FirstUnassigned}
-use Rattle.tree_model.proofs.Unique.{one_assignment, never_assigned, one_unassigned}
+use Rattle.tree_model.specs.Admission.{FirstRefusal, FirstUnassigned}
+use Rattle.tree_model.proofs.Unique.{one_assignment, never_assigned, one_unassigned, one_admission, never_both, one_refusal}
 use Rattle.rt_report.specs.Refusal.{IsRefusalOf}
 use Rattle.rt_top.specs.declared.status.Status.{Status}
 use Rattle.rt_top.specs.declared.status.Status.TheVariants.{No, Wide}
-use Rattle.rt_top.specs.Budgets.{assigning, refusal_status}
+use Rattle.rt_top.specs.Budgets.{assigning, composing, refusal_status}
 use Rattle.rt_top.proofs.Attempt.{IsDecided}
 
 pub assigning_decided : (sys : SystemView) → IsSystem sys → IsDecided (assigning sys)
@@ -18,13 +19,31 @@ assigning_decided sys is = record {
   one_refusal = one_unassigned sys is;
 }
 
--- what refuses has the status no or wide, and can be told
-pub unassigned_status : (P : Status → Type 0) → P No → P Wide → (sys : SystemView) (r : Refusal) → FirstUnassigned sys r → P (refusal_status r)
-unassigned_status P at_no at_wide sys (Overfull node short) first = at_no
-unassigned_status P at_no at_wide sys (TooWide node) first = at_wide
-unassigned_status P at_no at_wide sys NoRefusal first = absurd first
+pub composing_decided : (sys : SystemView) → IsSystem sys → IsDecided (composing sys)
+composing_decided sys is = record {
+  one_value = one_admission sys is;
+  never_both = never_both sys is;
+  one_refusal = one_refusal sys is;
+}
 
+-- what refuses is a node, and has the status no or wide
 pub unassigned_told : (sys : SystemView) (r : Refusal) → FirstUnassigned sys r → IsRefusalOf sys r
 unassigned_told sys (Overfull node short) first = first.is_node
 unassigned_told sys (TooWide node) first = first.is_node
 unassigned_told sys NoRefusal first = absurd first
+
+pub refusal_told : (sys : SystemView) (r : Refusal) → FirstRefusal sys r → IsRefusalOf sys r
+refusal_told sys (Overfull node short) first = first.is_node
+refusal_told sys (TooWide node) first = first.is_node
+refusal_told sys NoRefusal first = absurd first
+
+status_told : (P : Status → Type 0) → P No → P Wide → (sys : SystemView) (r : Refusal) → IsRefusalOf sys r → P (refusal_status r)
+status_told P at_no at_wide sys (Overfull node short) told = at_no
+status_told P at_no at_wide sys (TooWide node) told = at_wide
+status_told P at_no at_wide sys NoRefusal told = absurd told
+
+pub unassigned_status : (P : Status → Type 0) → P No → P Wide → (sys : SystemView) (r : Refusal) → FirstUnassigned sys r → P (refusal_status r)
+unassigned_status P at_no at_wide sys r first = status_told P at_no at_wide sys r (unassigned_told sys r first)
+
+pub refused_status : (P : Status → Type 0) → P No → P Wide → (sys : SystemView) (r : Refusal) → FirstRefusal sys r → P (refusal_status r)
+refused_status P at_no at_wide sys r first = status_told P at_no at_wide sys r (refusal_told sys r first)

@@ -2,7 +2,7 @@
 use Rattle.std.specs.Prelude.{◌≡◌, ℕ, List, IsOk, ⊤}
 use Rattle.slot_model.specs.declared.sched.Short.{Short}
 use Rattle.tree_model.specs.declared.place.Place.{Place}
-use Rattle.tree_model.specs.declared.plan.Refusal.TheVariants.{Overfull, Wide as TooWide}
+use Rattle.tree_model.specs.declared.plan.Refusal.TheVariants.{Overfull}
 use Rattle.tree_model.specs.View.{SystemView}
 use Rattle.tree_model.specs.Tree.{NoLoss}
 use Rattle.tree_model.specs.Admission.{Admitted, FirstRefusal}
@@ -12,35 +12,21 @@ use Rattle.rt_report.specs.declared.replay.Replay.{Replay}
 use Rattle.rt_report.specs.Admit.{admit_text, AreReplays}
 use Rattle.rt_report.specs.Refusal.{refusal_text}
 use Rattle.rt_top.specs.declared.status.Status.{Status}
-use Rattle.rt_top.specs.declared.status.Status.TheVariants.{Yes, No, Wide}
+use Rattle.rt_top.specs.declared.status.Status.TheVariants.{Yes, No}
+use Rattle.rt_top.specs.Budgets.{OnAdmitted}
 use Rattle.rt_top.specs.Answer.{Contents, AtFile, OnSystem, IfSystem, IsReadable}
 
--- yes: budgets admit the system, and the text tells them, with the replay of each computed leaf
-pub record IsAdmission (sys : SystemView) (text : List ℕ) : Type 0 where
-  pub budgets : List ℕ
-  pub admitted : Admitted sys budgets
+-- yes: the text tells the budgets, with the replay of each computed leaf
+pub record IsAdmission (sys : SystemView) (budgets : List ℕ) (status : Status) (text : List ℕ)
+    : Type 0 where
+  pub is_yes : status ≡ Yes
   pub replays : List Replay
   pub replayed : AreReplays sys budgets replays
   pub told : text ≡ admit_text sys budgets replays
 
--- no, and wide: the text tells the first refusal
-pub record IsOverfull (sys : SystemView) (text : List ℕ) : Type 0 where
-  pub node : Place
-  pub short : Short
-  pub first : FirstRefusal sys (Overfull node short)
-  pub told : text ≡ refusal_text sys (Overfull node short)
-
-pub record IsTooWide (sys : SystemView) (text : List ℕ) : Type 0 where
-  pub node : Place
-  pub first : FirstRefusal sys (TooWide node)
-  pub told : text ≡ refusal_text sys (TooWide node)
-
--- the answer to a system
+-- the answer to a system: budgets admit it, or the first refusal is told, no or wide
 abbrev pub AdmitsSystem : SystemView → Status → List ℕ → Type 0
-AdmitsSystem sys Yes text = IsAdmission sys text
-AdmitsSystem sys No text = IsOverfull sys text
-AdmitsSystem sys Wide text = IsTooWide sys text
-AdmitsSystem sys _ text = ⊥
+AdmitsSystem sys = OnAdmitted sys (IsAdmission sys)
 
 -- the answer to a file
 abbrev pub Admits : Contents → Status → List ℕ → Type 0

@@ -28,7 +28,7 @@ pub fn admit<S: Store>(alloc: Global, store: &mut S, file: &str) -> Result<Answe
     Ok(judge(alloc, &sys)?)
 }
 
-#[tactic(auto, using(crate::proofs::Admitting::refusal_told, crate::proofs::Admitting::told_admits, crate::proofs::Admitting::told_means))]
+#[tactic(auto, using(crate::proofs::Budgets::refusal_told, crate::proofs::Admitting::told_means))]
 fn judge(alloc: Global, sys: &System) -> Result<Answer, AllocError>
     ensures answer { IfOk result (λ a. AdmitsSystem sys.now a.status a.text.items) }
     ensures means { IfOk result (λ a. MeansOfSystem sys.now a.status a.text.items) }

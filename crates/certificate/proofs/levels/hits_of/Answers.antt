@@ -1,9 +1,8 @@
-use Rattle.std.proofs.Common.{ℕ, ◌+◌, ◌<◌, ◌≤◌, Bool, List, length, get_or, Option, Some, None, is_some, subst, sym, arith}
-use Rattle.std.specs.Option.{IsSome}
+use Rattle.std.proofs.Common.{ℕ, ◌+◌, Bool, List, subst, sym, arith}
 use Rattle.slot_model.specs.Task.{SporadicTask, sporadic_tasks}
 use Rattle.slot_model.specs.Order.{ranks_above}
 use Rattle.fp_request.proofs.Parts.{sporadic_tasks-length}
-use Rattle.certificate.proofs.Hits.{IsLeastHit, HitsTo, has_hit, least_of, hits_more}
+use Rattle.certificate.proofs.Hits.{HitsTo, has_hit, least_of, hits_more}
 use Rattle.certificate.proofs.levels.hits_of.Goals as goal
 
 pub unwrap-requires : goal.unwrap-requires

@@ -1,4 +1,4 @@
-use Rattle.std.proofs.Common.{◌≡◌, ◌<◌, ℕ, List, Option, length, take, ap, arith, subst, IfSome}
+use Rattle.std.proofs.Common.{◌≡◌, ℕ, List, Option, length, take, ap, arith, subst, IfSome}
 use Rattle.slot_model.specs.Task.{SporadicTask, sporadic_tasks}
 use Rattle.tree_model.specs.declared.pinned_core.Core.{Core as CoreView}
 use Rattle.tree_model.specs.System.{core_at}

@@ -1,4 +1,4 @@
-use Rattle.std.proofs.Common.{ℕ, List, ◌+◌, length, subst, sym, ap, arith}
+use Rattle.std.proofs.Common.{List, ◌+◌, length, subst, sym, ap, arith}
 use Rattle.tree_model.specs.CertificateView.{NodeView}
 use Rattle.tree_model.specs.View.{PartView}
 use Rattle.certificate.specs.Steps.{AreMade}

@@ -1,4 +1,4 @@
-use Rattle.std.proofs.Common.{◌≡◌, ℕ, Vec, Global, List, [], ◌++◌, codes, length, Ok, ◌≤◌, ◌∙◌, ap, sym, subst}
+use Rattle.std.proofs.Common.{◌≡◌, ℕ, Vec, Global, List, ◌++◌, codes, ◌∙◌, ap, sym, subst}
 use Rattle.std.specs.Prelude.{string_bytes}
 use Rattle.tree_model.specs.CertificateView.{NodeView, CertificateView}
 use Rattle.cert_reader.specs.CertificateFile.{certificate_of}

@@ -1,4 +1,4 @@
-use Rattle.std.proofs.Common.{◌≡◌, ℕ, ◌+◌, ◌++◌, ◌<◌, ◌^◌, List, ◌∷◌, get_or, decimal, refl, subst, sym, ap, arith}
+use Rattle.std.proofs.Common.{◌≡◌, ℕ, ◌+◌, ◌<◌, ◌^◌, List, ◌∷◌, get_or, decimal, refl, subst, sym, ap, arith}
 use Rattle.std.specs.Prelude.{string_bytes}
 use Rattle.certificate.proofs.Listing.{ListedTo, next, listed_first, listed_more}
 use Rattle.certificate.proofs.text.write_numbers.Goals as goal

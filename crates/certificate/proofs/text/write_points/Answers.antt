@@ -1,4 +1,4 @@
-use Rattle.std.proofs.Common.{◌≡◌, ℕ, ◌+◌, ◌++◌, ◌<◌, ◌^◌, List, ◌∷◌, get_or, refl, subst, sym, ap, arith}
+use Rattle.std.proofs.Common.{◌≡◌, ℕ, ◌+◌, ◌<◌, ◌^◌, List, ◌∷◌, get_or, refl, subst, sym, ap, arith}
 use Rattle.std.specs.Prelude.{string_bytes}
 use Rattle.certificate.specs.Text.{quoted_number}
 use Rattle.certificate.proofs.Listing.{ListedTo, next, listed_first, listed_more}

@@ -1,0 +1,206 @@
+"""Tests of tools/record-deadline that need neither root nor a trace filesystem: its words, its refusals, and what it asks of
+the kernel's files, on pretended ones."""
+import argparse
+import contextlib
+import io
+import os
+import pathlib
+import signal
+import sys
+import tempfile
+import unittest
+from unittest import mock
+
+from load import load
+
+tool = load("record-deadline")
+make_folder = os.mkdir
+
+
+class Words(unittest.TestCase):
+    def test_threads(self):
+        self.assertEqual(tool.thread_of("calc@3=6000/20000"), tool.Thread("calc", 3, 6000, 20000, None))
+        self.assertEqual(tool.thread_of("log@0=4000/40000/2000"), tool.Thread("log", 0, 4000, 40000, 2000))
+
+    def test_wrong_threads(self):
+        for text in ("calc", "calc=1/2", "3@3=6/20", "calc@3=20/6", "calc@3=1/6", "calc@3=6/20/7", "calc@3=6/20/0", "c" * 16 + "@3=6/20"):
+            with self.assertRaises(argparse.ArgumentTypeError, msg=text):
+                tool.thread_of(text)
+
+    def test_lists_of_processors(self):
+        self.assertEqual(tool.cpus_of("0-2,5"), {0, 1, 2, 5})
+        self.assertEqual(tool.cpus_of(""), set())
+
+    def test_mounts(self):
+        mounts = "tracefs /a tracefs rw 0 0\ncgroup /b cgroup rw,cpu 0 0\ncgroup /c cgroup rw,cpuset 0 0\n"
+        self.assertEqual(tool.mounted(mounts, "tracefs"), "/a")
+        self.assertEqual(tool.mounted(mounts, "cgroup", "cpuset"), "/c")
+        self.assertIsNone(tool.mounted(mounts, "cgroup2"))
+
+
+class Kernel:
+    """Pretended files of the kernel's: folders get the files that the kernel would make, and each write is kept."""
+
+    def __init__(self, root, made, files):
+        self.root, self.made, self.writes = pathlib.Path(root), made, []
+        for name, text in files.items():
+            (self.root / name).write_text(text)
+
+    def mkdir(self, folder):
+        make_folder(folder)
+        for name, text in self.made.items():
+            pathlib.Path(folder, name).write_text(text)
+
+    def rmdir(self, folder):
+        for path in pathlib.Path(folder).iterdir():
+            path.unlink()
+        pathlib.Path(folder).rmdir()
+
+    def write(self, path, text):
+        self.writes.append((str(pathlib.Path(path).relative_to(self.root)), str(text)))
+        pathlib.Path(path).write_text(str(text))
+
+    @contextlib.contextmanager
+    def stands_in(self):
+        with mock.patch.object(tool.os, "mkdir", self.mkdir), mock.patch.object(tool, "remove", self.rmdir), \
+                mock.patch.object(tool, "write", self.write):
+            yield
+
+
+class Cpusets(unittest.TestCase):
+    def setUp(self):
+        scratch = tempfile.TemporaryDirectory()
+        self.addCleanup(scratch.cleanup)
+        self.root = scratch.name
+
+    def test_the_first_version_of_control_groups(self):
+        settings = {"cpuset.cpus": "0-3", "cpuset.mems": "0", "cpuset.cpu_exclusive": "0", "cpuset.sched_load_balance": "1"}
+        kernel = Kernel(self.root, {}, settings)
+        with kernel.stands_in(), contextlib.ExitStack() as stack:
+            tasks = tool.own_cores(stack, f"cgroup {self.root} cgroup rw,cpuset 0 0\n", [3])
+            self.assertEqual(tasks, {3: f"{self.root}/rtadmit_3/tasks"})
+            self.assertIn(("rtadmit_3/cpuset.cpus", "3"), kernel.writes)
+            self.assertIn(("rtadmit_rest/cpuset.cpus", "0,1,2"), kernel.writes)
+            self.assertEqual(kernel.writes[-1], ("cpuset.sched_load_balance", "0"))
+        self.assertEqual({path.name: path.read_text() for path in pathlib.Path(self.root).iterdir()}, settings)
+
+    def test_the_second_version_of_control_groups(self):
+        settings = {"cgroup.controllers": "cpuset cpu", "cgroup.subtree_control": "cpu"}
+        kernel = Kernel(self.root, {"cpuset.cpus.partition": "member"}, settings)
+        with kernel.stands_in(), contextlib.ExitStack() as stack:
+            tasks = tool.own_cores(stack, f"cgroup2 {self.root} cgroup2 rw 0 0\n", [3])
+            self.assertEqual(tasks, {3: f"{self.root}/rtadmit_3/cgroup.procs"})
+            self.assertEqual(kernel.writes, [
+                ("cgroup.subtree_control", "+cpuset"), ("rtadmit_3/cpuset.cpus", "3"), ("rtadmit_3/cpuset.cpus.partition", "root"),
+            ])
+        self.assertEqual(kernel.writes[-1], ("cgroup.subtree_control", "-cpuset"))
+        self.assertEqual(sorted(path.name for path in pathlib.Path(self.root).iterdir()), sorted(settings))
+
+    def test_a_partition_that_the_kernel_calls_invalid(self):
+        kernel = Kernel(self.root, {}, {"cgroup.controllers": "cpuset", "cgroup.subtree_control": "cpuset"})
+        told = {"root": "root invalid (Cpu list in cpuset.cpus not exclusive)"}
+        first = kernel.write
+        kernel.write = lambda path, text: first(path, told.get(text, text))
+        with kernel.stands_in(), self.assertRaises(tool.NotAllowed), contextlib.ExitStack() as stack:
+            tool.own_cores(stack, f"cgroup2 {self.root} cgroup2 rw 0 0\n", [3])
+        self.assertFalse(pathlib.Path(self.root, "rtadmit_3").exists())
+
+    def test_no_cpusets(self):
+        with self.assertRaises(tool.NotAllowed), contextlib.ExitStack() as stack:
+            tool.own_cores(stack, "proc /proc proc rw 0 0\n", [3])
+
+    def test_a_group_that_is_there(self):
+        os.mkdir(f"{self.root}/rtadmit_3")
+        with self.assertRaises(tool.NotAllowed), contextlib.ExitStack() as stack:
+            tool.make(stack, f"{self.root}/rtadmit_3")
+        self.assertTrue(os.path.isdir(f"{self.root}/rtadmit_3"))
+
+
+class Buffer(unittest.TestCase):
+    def setUp(self):
+        scratch = tempfile.TemporaryDirectory()
+        self.addCleanup(scratch.cleanup)
+        self.folder = pathlib.Path(scratch.name)
+
+    def test_events_that_were_lost(self):
+        os.makedirs(self.folder / "per_cpu/cpu0")
+        (self.folder / "trace").write_text("# tracer: nop\n")
+        stats = self.folder / "per_cpu/cpu0/stats"
+        stats.write_text("entries: 7\noverrun: 0\ncommit overrun: 0\ndropped events: 0\nread events: 7\n")
+        self.assertEqual(tool.whole(self.folder), "# tracer: nop\n")
+        for line in ("overrun: 1", "commit overrun: 1", "dropped events: 1"):
+            stats.write_text(f"entries: 7\n{line}\n")
+            with self.assertRaises(tool.NotAllowed, msg=line):
+                tool.whole(self.folder)
+
+    def test_the_events_that_are_chosen(self):
+        for event in ("sched_switch", "sched_wakeup", "sched_migrate_task"):
+            os.makedirs(self.folder / "events/sched" / event)
+        tool.choose_events(self.folder, [11, 12])
+        chosen = self.folder / "events/sched"
+        self.assertEqual((chosen / "sched_wakeup/filter").read_text(), "pid==11 || pid==12")
+        told = "prev_pid==11 || next_pid==11 || prev_pid==12 || next_pid==12"
+        self.assertEqual((chosen / "sched_switch/filter").read_text(), told)
+        self.assertEqual((chosen / "sched_switch/enable").read_text(), "1")
+
+
+class Ends(unittest.TestCase):
+    def run_tool(self, out, record):
+        """The status of a run where the recording is pretended, and what it wrote on standard error."""
+        err = io.StringIO()
+        old = {number: signal.getsignal(number) for number in tool.STOPS}
+        try:
+            with mock.patch.object(sys, "argv", ["record-deadline", str(out), "calc@3=6000/20000"]), \
+                    mock.patch.object(tool, "record", record), contextlib.redirect_stderr(err):
+                return tool.main(), err.getvalue()
+        finally:
+            for number, handler in old.items():
+                signal.signal(number, handler)
+
+    def test_what_each_end_answers(self):
+        def refuse(*_):
+            raise tool.NotAllowed("no tracefs")
+
+        def stop(threads, seconds, pause):
+            os.kill(os.getpid(), signal.SIGTERM)
+            pause.wait(10)
+
+        with tempfile.TemporaryDirectory() as scratch:
+            out = pathlib.Path(scratch, "recording")
+            self.assertEqual(self.run_tool(out, refuse), (3, "record-deadline: no tracefs\n"))
+            self.assertFalse(out.exists())
+            status, err = self.run_tool(out, stop)
+            self.assertEqual(status, 128 + signal.SIGTERM)
+            self.assertFalse(out.exists())
+            self.assertEqual(self.run_tool(out, lambda *_: "text\n"), (0, ""))
+            self.assertEqual(out.read_text(), "text\n")
+            self.assertEqual(self.run_tool(out / "below", lambda *_: "text\n")[0], 1)
+
+    def test_without_root(self):
+        """The real recording, by a user who may not: refused before anything is changed."""
+        with tempfile.TemporaryDirectory() as scratch:
+            reader, writer = os.pipe()
+            child = os.fork()
+            if child == 0:
+                try:
+                    os.dup2(writer, 2)
+                    if os.geteuid() == 0:
+                        os.setgroups([])
+                        os.setgid(65534)
+                        os.setuid(65534)
+                    sys.argv = ["record-deadline", f"{scratch}/recording", "calc@0=6000/20000", "--seconds=0.01"]
+                    sys.stderr = os.fdopen(2, "w", closefd=False)
+                    status = tool.main()
+                    sys.stderr.flush()
+                    os._exit(status)
+                finally:
+                    os._exit(99)
+            os.close(writer)
+            with os.fdopen(reader) as file:
+                told = file.read()
+            self.assertEqual(os.waitstatus_to_exitcode(os.waitpid(child, 0)[1]), 3, told)
+            self.assertTrue(told.startswith("record-deadline: "), told)
+
+
+if __name__ == "__main__":
+    unittest.main()
