@@ -43,12 +43,7 @@ fn simulate_of(words: &[String]) -> Option<Command<'_>>
         [file, releases, pattern, slots] => {
             let pattern = pattern_of(pattern.as_str())?;
             let slots = slot_count(slots.as_str())?;
-            Some(Command::Simulate(
-                file.as_str(),
-                releases.as_str(),
-                pattern,
-                slots,
-            ))
+            Some(Command::Simulate(file.as_str(), releases.as_str(), pattern, slots))
         }
         _ => None,
     }

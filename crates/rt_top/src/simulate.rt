@@ -110,9 +110,5 @@ fn simulated(
 fn kept_status(is_kept: bool) -> Status
     ensures { result ≡ kept_status is_kept }
 {
-    if is_kept {
-        Status::Yes
-    } else {
-        Status::No
-    }
+    if is_kept { Status::Yes } else { Status::No }
 }

@@ -151,9 +151,30 @@ fn a_leaf_is_simulated(rt: HostRuntime) -> Result<(), Fail> {
 fn trees_are_simulated(rt: HostRuntime) -> Result<(), Fail> {
     let alloc = rt.alloc();
     for (system, releases, pattern, slots, want, answer) in [
-        ([SIXES].as_slice(), "", "early", "10", Status::No, SIXES_ANSWER),
-        ([SIXES].as_slice(), "", "late", "10", Status::No, SIXES_ANSWER),
-        ([SIXES].as_slice(), "", "worst", "10", Status::No, SIXES_ANSWER),
+        (
+            [SIXES].as_slice(),
+            "",
+            "early",
+            "10",
+            Status::No,
+            SIXES_ANSWER,
+        ),
+        (
+            [SIXES].as_slice(),
+            "",
+            "late",
+            "10",
+            Status::No,
+            SIXES_ANSWER,
+        ),
+        (
+            [SIXES].as_slice(),
+            "",
+            "worst",
+            "10",
+            Status::No,
+            SIXES_ANSWER,
+        ),
         (
             [HOST].as_slice(),
             "0,audio,frame,1800\n",

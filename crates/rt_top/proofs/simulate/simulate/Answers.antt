@@ -8,7 +8,7 @@ use Rattle.rt_top.proofs.TwoFiles.{ends_read, stop_said}
 use Rattle.rt_top.proofs.simulate.simulate.Goals as goal
 
 pub judge-requires : goal.judge-requires
-judge-requires g c = (read_is_spelled c.in_ok-sys.ensures.system.bytes c.in_ok-sys.sys c.in_ok-sys.ensures.system.spelled).system
+judge-requires g c = record { system = (read_is_spelled c.in_ok-sys.ensures.system.bytes c.in_ok-sys.sys c.in_ok-sys.ensures.system.spelled).system }
 
 pub returns-in_err-sys-clause-answer : goal.returns-in_err-sys-clause-answer
 returns-in_err-sys-clause-answer g c =
