@@ -6,7 +6,10 @@ mod OneAdmission
 mod OneAnswer
 mod Statuses
 mod Steps
+mod OneFile
 mod Admitting
+mod Certifying
+mod Checking
 mod Auditing
 mod Simulating
 mod Reporting

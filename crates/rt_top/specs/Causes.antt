@@ -3,9 +3,11 @@ use Rattle.std.specs.Prelude.{◌≡◌, ℕ, ◌-◌, ◌^◌, ◌<◌, map, Op
 use Rattle.outside.specs.Files.{Files, file_named}
 use Rattle.rt_top.specs.declared.status.Status.{Status}
 use Rattle.rt_top.specs.declared.status.Status.TheVariants.{Yes, No, Wide, Absent, ReadFault, WriteFault, NoMemory}
-use Rattle.rt_top.specs.Command.{Command, admit, audit, simulate, file_names}
+use Rattle.rt_top.specs.Command.{Command, admit, certify, check, audit, simulate, file_names}
 use Rattle.rt_top.specs.Answer.{Contents}
 use Rattle.rt_top.specs.Admit.{CanAdmit}
+use Rattle.rt_top.specs.Certify.{CanCertify}
+use Rattle.rt_top.specs.Check.{CanCheck}
 use Rattle.rt_top.specs.Audit.{CanAudit}
 use Rattle.rt_top.specs.Simulate.{CanSimulate}
 
@@ -20,6 +22,8 @@ IsOfQuietStore _ = ⊤
 -- a command that can be judged by what its files hold: they are there, short enough and well formed
 abbrev pub CanJudge : Command → Contents → Type 0
 CanJudge (admit file) contents = CanAdmit contents
+CanJudge (certify file) contents = CanCertify contents
+CanJudge (check file cert) contents = CanCheck contents
 CanJudge (audit file trace) contents = CanAudit contents
 CanJudge (simulate file releases pattern slots) contents = CanSimulate contents
 

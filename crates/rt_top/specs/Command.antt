@@ -6,12 +6,16 @@ use Rattle.rt_top.specs.SlotWords.{pattern_of, slot_count}
 -- one form of words each: the names of its files, in the order of the words, and its numbers
 pub data Command : Type 0 where
   admit : (file : List ℕ) → Command
+  certify : (file : List ℕ) → Command
+  check : (file cert : List ℕ) → Command
   audit : (file trace : List ℕ) → Command
   simulate : (file releases : List ℕ) → (pattern : Pattern) → (slots : ℕ) → Command
 
 -- the names of a command's files, in the order of its words
 abbrev pub file_names : Command → List (List ℕ)
 file_names (admit file) = file ∷ []
+file_names (certify file) = file ∷ []
+file_names (check file cert) = file ∷ cert ∷ []
 file_names (audit file trace) = file ∷ trace ∷ []
 file_names (simulate file releases pattern slots) = file ∷ releases ∷ []
 
@@ -41,6 +45,9 @@ abbrev pub command_of : List (List ℕ) → Option Command
 command_of [] = None
 command_of (word ∷ rest) =
     if bytes_eq word (codes "admit") then option_map admit (one_word rest)
+    else if bytes_eq word (codes "certify") then option_map certify (one_word rest)
+    else if bytes_eq word (codes "check")
+    then option_map (λ names. check names.0 names.1) (two_words rest)
     else if bytes_eq word (codes "audit")
     then option_map (λ names. audit names.0 names.1) (two_words rest)
     else if bytes_eq word (codes "simulate") then simulate_of rest

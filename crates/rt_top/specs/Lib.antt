@@ -5,6 +5,8 @@ pub mod Attempt
 pub mod Budgets
 pub mod TwoFiles
 pub mod Admit
+pub mod Certify
+pub mod Check
 pub mod Audit
 pub mod Simulate
 pub mod Report

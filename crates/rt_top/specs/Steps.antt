@@ -10,14 +10,16 @@ use Rattle.rt_top.specs.declared.answer.Answer.{Answer}
 use Rattle.rt_top.specs.declared.answer.Ending.{Ending}
 use Rattle.rt_top.specs.declared.answer.Ending.TheVariants.{Answered, Unread, NoMemory as NoRoom}
 use Rattle.rt_top.specs.declared.command.Command.{Command as Parsed}
-use Rattle.rt_top.specs.declared.command.Command.TheVariants.{Admit, Audit, Simulate}
-use Rattle.rt_top.specs.Command.{Command, admit, audit, simulate}
+use Rattle.rt_top.specs.declared.command.Command.TheVariants.{Admit, Certify, Check, Audit, Simulate}
+use Rattle.rt_top.specs.Command.{Command, admit, certify, check, audit, simulate}
 use Rattle.rt_top.specs.Answer.{Saying, AtContent, file_limit}
 use Rattle.rt_top.specs.TwoFiles.{OnTwoFiles}
 
 -- the command that was parsed
 abbrev pub command_told : Parsed → Command
 command_told (Admit file) = admit file.now
+command_told (Certify file) = certify file.now
+command_told (Check file cert) = check file.now cert.now
 command_told (Audit file trace) = audit file.now trace.now
 command_told (Simulate file releases pattern slots) =
     simulate file.now releases.now pattern slots.count

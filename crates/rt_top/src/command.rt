@@ -12,6 +12,10 @@ use server_sched::Pattern;
 pub enum Command<'a> {
     /// `admit FILE`
     Admit(&'a str),
+    /// `certify FILE`
+    Certify(&'a str),
+    /// `check FILE CERT`
+    Check(&'a str, &'a str),
     /// `audit FILE TRACE`
     Audit(&'a str, &'a str),
     /// `simulate FILE RELEASES PATTERN SLOTS`
@@ -25,6 +29,11 @@ pub fn parse(words: &[String]) -> Option<Command<'_>>
     let (word, rest) = words.split_first()?;
     if word.as_str() == "admit" {
         Some(Command::Admit(one_word(rest)?))
+    } else if word.as_str() == "certify" {
+        Some(Command::Certify(one_word(rest)?))
+    } else if word.as_str() == "check" {
+        let (file, cert) = two_words(rest)?;
+        Some(Command::Check(file, cert))
     } else if word.as_str() == "audit" {
         let (file, trace) = two_words(rest)?;
         Some(Command::Audit(file, trace))

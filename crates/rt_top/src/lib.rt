@@ -4,6 +4,8 @@
 mod admit;
 mod answer;
 mod audit;
+mod certify;
+mod check;
 mod command;
 mod file;
 #[cfg(test)]
