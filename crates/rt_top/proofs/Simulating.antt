@@ -8,11 +8,11 @@ use Rattle.tree_model.specs.System.{IsSystem}
 use Rattle.tree_model.proofs.FirstTrees.{first_tree_unique}
 use Rattle.system_file.proofs.Laws.{read_is_spelled}
 use Rattle.outside.specs.Files.{Files}
-use Rattle.release_file.specs.ReleaseFile.{SpellsReleases, release_rows}
+use Rattle.release_file.specs.ReleaseFile.{release_rows}
 use Rattle.release_file.proofs.OneReleases.{same_jobs, no_release_fault, one_release_fault}
 use Rattle.server_sched.specs.declared.supplies.Pattern.{Pattern}
 use Rattle.server_sched.specs.Patterns.{pattern_supplies}
-use Rattle.server_sched.specs.TreeCounts.{CountsView, no_node_misses, AreTreeCounts, NoneMisses}
+use Rattle.server_sched.specs.TreeCounts.{CountsView, no_node_misses, AreTreeCounts}
 use Rattle.server_sched.proofs.Counted.{kept_exactly}
 use Rattle.rt_report.specs.Simulate.{simulate_text}
 use Rattle.rt_report.proofs.OneCounts.{one_counts}
@@ -21,9 +21,8 @@ use Rattle.rt_top.specs.declared.status.Status.TheVariants.{Yes, No, Wide}
 use Rattle.rt_top.specs.declared.answer.Ending.{Ending}
 use Rattle.rt_top.specs.Command.{simulate}
 use Rattle.rt_top.specs.Answer.{Contents, IsOne}
-use Rattle.rt_top.specs.Attempt.{OnAttempt}
 use Rattle.rt_top.specs.Budgets.{assigning, OnAssigned}
-use Rattle.rt_top.specs.Simulate.{releasing, RunsFirst, kept_status, IsSimulated, SimulatesBytes, Simulates, IsSimulationOf, TellsNoMiss, SimulateMeans, CanSimulate}
+use Rattle.rt_top.specs.Simulate.{releasing, RunsFirst, kept_status, IsSimulated, SimulatesBytes, Simulates, TellsNoMiss, SimulateMeans, CanSimulate}
 use Rattle.rt_top.specs.Report.{IsAnswer}
 use Rattle.rt_top.specs.Causes.{IsVerdict}
 use Rattle.rt_top.specs.Steps.{IfAnswered, AnswersTwo, IsJudged}

@@ -4,7 +4,6 @@ mod admit;
 mod audit;
 mod ends;
 mod rows;
-mod simulate;
 
 use crate::{Status, run};
 use outside::{MemorySink, MemoryStore};
