@@ -12,6 +12,7 @@ mod Certifying
 mod Checking
 mod Auditing
 mod Simulating
+mod HostAnswers
 mod Reporting
 mod ReplayLeaf
 mod ReplayList

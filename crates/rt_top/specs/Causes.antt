@@ -3,7 +3,7 @@ use Rattle.std.specs.Prelude.{◌≡◌, ℕ, ◌-◌, ◌^◌, ◌<◌, map, Op
 use Rattle.outside.specs.Files.{Files, file_named}
 use Rattle.rt_top.specs.declared.status.Status.{Status}
 use Rattle.rt_top.specs.declared.status.Status.TheVariants.{Yes, No, Wide, Absent, ReadFault, WriteFault, NoMemory}
-use Rattle.rt_top.specs.Command.{Command, admit, certify, check, audit, simulate, file_names}
+use Rattle.rt_top.specs.Command.{Command, admit, certify, check, audit, simulate, bulk, file_names}
 use Rattle.rt_top.specs.Answer.{Contents}
 use Rattle.rt_top.specs.Admit.{CanAdmit}
 use Rattle.rt_top.specs.Certify.{CanCertify}
@@ -26,6 +26,7 @@ CanJudge (certify file) contents = CanCertify contents
 CanJudge (check file cert) contents = CanCheck contents
 CanJudge (audit file trace) contents = CanAudit contents
 CanJudge (simulate file releases pattern slots) contents = CanSimulate contents
+CanJudge (bulk guests) contents = ⊤
 
 -- the words spell a command, and the files are told and let it be judged
 pub record IsJudgeable (command : Option Command) (files : Option Files) : Type 0 where

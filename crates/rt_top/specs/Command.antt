@@ -1,7 +1,8 @@
 -- The commands, and the words that spell them.
-use Rattle.std.specs.Prelude.{ℕ, List, [], ◌∷◌, Option, Some, None, option_map, codes, bytes_eq, if◌then◌else◌}
+use Rattle.std.specs.Prelude.{ℕ, List, [], ◌∷◌, Option, Some, None, option_map, option_and_then, codes, bytes_eq, if◌then◌else◌}
 use Rattle.server_sched.specs.declared.supplies.Pattern.{Pattern}
 use Rattle.rt_top.specs.SlotWords.{pattern_of, slot_count}
+use Rattle.rt_top.specs.Guests.{guest_number}
 
 -- one form of words each: the names of its files, in the order of the words, and its numbers
 pub data Command : Type 0 where
@@ -10,6 +11,7 @@ pub data Command : Type 0 where
   check : (file cert : List ℕ) → Command
   audit : (file trace : List ℕ) → Command
   simulate : (file releases : List ℕ) → (pattern : Pattern) → (slots : ℕ) → Command
+  bulk : (guests : ℕ) → Command
 
 -- the names of a command's files, in the order of its words
 abbrev pub file_names : Command → List (List ℕ)
@@ -18,6 +20,7 @@ file_names (certify file) = file ∷ []
 file_names (check file cert) = file ∷ cert ∷ []
 file_names (audit file trace) = file ∷ trace ∷ []
 file_names (simulate file releases pattern slots) = file ∷ releases ∷ []
+file_names (bulk guests) = []
 
 -- the only word, and none where there are fewer or more
 abbrev pub one_word : List (List ℕ) → Option (List ℕ)
@@ -51,4 +54,6 @@ command_of (word ∷ rest) =
     else if bytes_eq word (codes "audit")
     then option_map (λ names. audit names.0 names.1) (two_words rest)
     else if bytes_eq word (codes "simulate") then simulate_of rest
+    else if bytes_eq word (codes "bulk")
+    then option_map bulk (option_and_then guest_number (one_word rest))
     else None

@@ -1,4 +1,5 @@
 pub mod SlotWords
+pub mod Guests
 pub mod Command
 pub mod Answer
 pub mod Attempt
@@ -9,6 +10,7 @@ pub mod Certify
 pub mod Check
 pub mod Audit
 pub mod Simulate
+pub mod Bulk
 pub mod Report
 pub mod Causes
 pub mod Statuses

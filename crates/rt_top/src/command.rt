@@ -1,10 +1,13 @@
 ghost use Rattle.std.specs.Prelude.{◌≡◌, map, option_map, string_bytes};
 ghost use Rattle.std.specs.Option.{option_copied};
 ghost use Rattle.rt_top.specs.Command.{command_of, one_word, simulate_of, two_words};
+ghost use Rattle.rt_top.specs.Guests.{guest_number};
 ghost use Rattle.rt_top.specs.Steps.{command_told};
 
+use crate::guests::Guests;
 use crate::slot_words::{pattern_of, slot_count};
 use crate::slots::Slots;
+use csv_rows::{is_plain, number};
 use server_sched::Pattern;
 
 /// A form of words, with the names of its files in the order of the words.
@@ -20,6 +23,8 @@ pub enum Command<'a> {
     Audit(&'a str, &'a str),
     /// `simulate FILE RELEASES PATTERN SLOTS`
     Simulate(&'a str, &'a str, Pattern, Slots),
+    /// `bulk N`
+    Bulk(Guests),
 }
 
 /// The command that the words spell: its own word, and then its files.
@@ -39,6 +44,8 @@ pub fn parse(words: &[String]) -> Option<Command<'_>>
         Some(Command::Audit(file, trace))
     } else if word.as_str() == "simulate" {
         simulate_of(rest)
+    } else if word.as_str() == "bulk" {
+        Some(Command::Bulk(guest_number(one_word(rest)?)?))
     } else {
         None
     }
@@ -75,4 +82,19 @@ fn two_words(words: &[String]) -> Option<(&str, &str)>
         [first, second] => Some((first.as_str(), second.as_str())),
         _ => None,
     }
+}
+
+/// The number of guests that a word tells: a plain decimal from 1 to 256.
+fn guest_number(word: &str) -> Option<Guests>
+    ensures { option_map (λ guests. guests.number) result ≡ guest_number word.now }
+{
+    let digits = word.as_bytes();
+    if !is_plain(digits) {
+        return None;
+    }
+    let guests = number(digits, 256)?;
+    if guests < 1 {
+        return None;
+    }
+    Some(Guests { number: guests })
 }

@@ -13,6 +13,7 @@ use crate::Status;
 use crate::admit::admit;
 use crate::answer::{Answer, Ending, ended};
 use crate::audit::audit;
+use crate::bulk::bulk;
 use crate::certify::certify;
 use crate::check::check;
 use crate::command::{Command, parse};
@@ -69,6 +70,7 @@ fn answer<S: Store>(alloc: Global, command: Option<Command<'_>>, store: &mut S) 
         Some(Command::Simulate(file, releases, pattern, slots)) => {
             ended(simulate(alloc, store, file, releases, pattern, slots))
         }
+        Some(Command::Bulk(guests)) => ended(bulk(alloc, guests)),
         None => ended(usage(alloc)),
     }
 }
