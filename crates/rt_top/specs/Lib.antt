@@ -1,10 +1,16 @@
+pub mod SlotWords
+pub mod Guests
 pub mod Command
 pub mod Answer
 pub mod Attempt
 pub mod Budgets
 pub mod TwoFiles
 pub mod Admit
+pub mod Certify
+pub mod Check
 pub mod Audit
+pub mod Simulate
+pub mod Bulk
 pub mod Report
 pub mod Causes
 pub mod Statuses

@@ -4,12 +4,19 @@
 mod admit;
 mod answer;
 mod audit;
+mod bulk;
+mod certify;
+mod check;
 mod command;
 mod file;
+mod guests;
 #[cfg(test)]
 mod jitter_tests;
 mod refusing;
 mod replays;
+mod simulate;
+mod slot_words;
+mod slots;
 #[cfg(test)]
 mod spans_tests;
 mod status;
