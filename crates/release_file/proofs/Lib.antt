@@ -4,7 +4,7 @@ pub mod WakesMore
 pub mod WakesTaking
 pub mod SpeltWorkload
 pub mod OneWorkload
-pub mod OneRelease
+pub mod OneReleases
 mod FileExamples
 pub mod LeafMore
 pub mod ReleasesTaking

@@ -1,5 +1,5 @@
+pub mod SlotWords
 pub mod Guests
-pub mod Slots
 pub mod Command
 pub mod Answer
 pub mod Attempt
@@ -10,6 +10,7 @@ pub mod Certify
 pub mod Check
 pub mod Rtds
 pub mod Audit
+pub mod Simulate
 pub mod Bulk
 pub mod Report
 pub mod Causes

@@ -7,14 +7,15 @@ use Rattle.outside.specs.Written.{AppendsProperPrefix}
 use Rattle.rt_report.specs.Usage.{usage_line}
 use Rattle.rt_top.specs.declared.status.Status.{Status}
 use Rattle.rt_top.specs.declared.status.Status.TheVariants.{Usage, ReadFault, WriteFault, NoMemory}
-use Rattle.rt_top.specs.Command.{Command, admit, certify, check, audit, bulk, file_names, rtds}
+use Rattle.rt_top.specs.Command.{Command, admit, certify, check, rtds, audit, simulate, bulk, file_names}
 use Rattle.rt_top.specs.Answer.{Contents, IsOne}
 use Rattle.rt_top.specs.Admit.{Admits, AdmitMeans}
 use Rattle.rt_top.specs.Certify.{Certifies, CertifyMeans}
 use Rattle.rt_top.specs.Check.{Checks, CheckMeans}
-use Rattle.rt_top.specs.Audit.{Audits, AuditMeans}
-use Rattle.rt_top.specs.Bulk.{AnswersBulk, HostKeepsDeadlines}
 use Rattle.rt_top.specs.Rtds.{Runs, RunMeans}
+use Rattle.rt_top.specs.Audit.{Audits, AuditMeans}
+use Rattle.rt_top.specs.Simulate.{Simulates, SimulateMeans}
+use Rattle.rt_top.specs.Bulk.{AnswersBulk, HostKeepsDeadlines}
 
 -- the answer to a command, whose files have these contents
 abbrev pub JobAnswers : Command → Contents → Status → List ℕ → Type 0
@@ -23,6 +24,8 @@ JobAnswers (certify file) contents status text = Certifies contents status text
 JobAnswers (check file cert) contents status text = Checks contents status text
 JobAnswers (rtds file workload slots) contents status text = Runs slots contents status text
 JobAnswers (audit file trace) contents status text = Audits contents status text
+JobAnswers (simulate file releases pattern slots) contents status text =
+    Simulates pattern slots contents status text
 JobAnswers (bulk guests) contents status text = AnswersBulk guests status text
 
 -- the answer to words: the usage line where they spell no command
@@ -38,6 +41,8 @@ Means (Some (certify file)) contents status text = CertifyMeans contents status 
 Means (Some (check file cert)) contents status text = CheckMeans contents status
 Means (Some (rtds file workload slots)) contents status text = RunMeans slots contents status text
 Means (Some (audit file trace)) contents status text = AuditMeans contents status
+Means (Some (simulate file releases pattern slots)) contents status text =
+    SimulateMeans pattern slots contents status
 Means (Some (bulk guests)) contents status text = HostKeepsDeadlines guests
 
 abbrev pub names_of : Option Command → List (List ℕ)

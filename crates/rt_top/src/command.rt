@@ -1,16 +1,14 @@
 ghost use Rattle.std.specs.Prelude.{◌≡◌, map, option_map, string_bytes};
 ghost use Rattle.std.specs.Option.{option_copied};
-ghost use Rattle.rt_top.specs.Command.{command_of, one_word, two_words, two_and_slots};
+ghost use Rattle.rt_top.specs.Command.{command_of, one_word, rtds_of, simulate_of, two_words};
 ghost use Rattle.rt_top.specs.Guests.{guest_number};
-ghost use Rattle.rt_top.specs.Slots.{slots_of};
 ghost use Rattle.rt_top.specs.Steps.{command_told};
 
 use crate::guests::Guests;
+use crate::slot_words::{pattern_of, slot_count};
 use crate::slots::Slots;
 use csv_rows::{is_plain, number};
-
-/// The most slots of a run.
-const MOST_SLOTS: u64 = 1_000_000;
+use server_sched::Pattern;
 
 /// A form of words, with the names of its files in the order of the words.
 #[derive(Clone, Copy)]
@@ -25,6 +23,8 @@ pub enum Command<'a> {
     Rtds(&'a str, &'a str, Slots),
     /// `audit FILE TRACE`
     Audit(&'a str, &'a str),
+    /// `simulate FILE RELEASES PATTERN SLOTS`
+    Simulate(&'a str, &'a str, Pattern, Slots),
     /// `bulk N`
     Bulk(Guests),
 }
@@ -42,15 +42,43 @@ pub fn parse(words: &[String]) -> Option<Command<'_>>
         let (file, cert) = two_words(rest)?;
         Some(Command::Check(file, cert))
     } else if word.as_str() == "rtds" {
-        let (file, workload, slots) = two_and_slots(rest)?;
-        Some(Command::Rtds(file, workload, slots))
+        rtds_of(rest)
     } else if word.as_str() == "audit" {
         let (file, trace) = two_words(rest)?;
         Some(Command::Audit(file, trace))
+    } else if word.as_str() == "simulate" {
+        simulate_of(rest)
     } else if word.as_str() == "bulk" {
         Some(Command::Bulk(guest_number(one_word(rest)?)?))
     } else {
         None
+    }
+}
+
+/// The command whose own word is `rtds`.
+fn rtds_of(words: &[String]) -> Option<Command<'_>>
+    ensures { option_map command_told result ≡ rtds_of (map string_bytes words.now) }
+{
+    match words {
+        [file, workload, slots] => {
+            let slots = slot_count(slots.as_str())?;
+            Some(Command::Rtds(file.as_str(), workload.as_str(), slots))
+        }
+        _ => None,
+    }
+}
+
+/// The command whose own word is `simulate`.
+fn simulate_of(words: &[String]) -> Option<Command<'_>>
+    ensures { option_map command_told result ≡ simulate_of (map string_bytes words.now) }
+{
+    match words {
+        [file, releases, pattern, slots] => {
+            let pattern = pattern_of(pattern.as_str())?;
+            let slots = slot_count(slots.as_str())?;
+            Some(Command::Simulate(file.as_str(), releases.as_str(), pattern, slots))
+        }
+        _ => None,
     }
 }
 
@@ -86,32 +114,4 @@ fn guest_number(word: &str) -> Option<Guests>
         return None;
     }
     Some(Guests { number: guests })
-}
-
-fn two_and_slots(words: &[String]) -> Option<(&str, &str, Slots)>
-    ensures { option_map (λ words. (words.0.now, words.1.now, words.2.count)) result
-        ≡ two_and_slots (map string_bytes words.now) }
-{
-    match words {
-        [first, second, slots] => {
-            let slots = slots_of(slots.as_str())?;
-            Some((first.as_str(), second.as_str(), slots))
-        }
-        _ => None,
-    }
-}
-
-/// A number of slots: a plain decimal number from 1 to 1,000,000.
-pub fn slots_of(word: &str) -> Option<Slots>
-    ensures { option_map (λ slots. slots.count) result ≡ slots_of word.now }
-{
-    let digits = word.as_bytes();
-    if !is_plain(digits) {
-        return None;
-    }
-    let count = number(digits, MOST_SLOTS)?;
-    if count == 0 {
-        return None;
-    }
-    Some(Slots { count })
 }

@@ -15,6 +15,8 @@ mod jitter_tests;
 mod refusing;
 mod replays;
 mod rtds;
+mod simulate;
+mod slot_words;
 mod slots;
 #[cfg(test)]
 mod spans_tests;

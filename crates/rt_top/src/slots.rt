@@ -1,11 +1,11 @@
 ghost use Rattle.std.specs.Prelude.{◌≤◌};
 
-/// How many slots a run has.
-#[derive(Clone, Copy, Debug, PartialEq, Eq)]
+/// A number of slots of a run: 1 to 1,000,000.
+#[derive(Clone, Copy)]
 pub struct Slots {
     pub count: u64,
     pub ghost some: { 1 ≤ count },
-    pub ghost few: { count ≤ 1000000 },
+    pub ghost in_reach: { count ≤ 1_000_000 },
 }
 
 impl Slots {
@@ -14,7 +14,7 @@ impl Slots {
     pub fn count(self) -> u64
         ensures count { result ≡ self.count }
         ensures some { 1 ≤ result }
-        ensures few { result ≤ 1000000 }
+        ensures in_reach { result ≤ 1_000_000 }
     {
         self.count
     }

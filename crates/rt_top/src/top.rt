@@ -18,6 +18,7 @@ use crate::certify::certify;
 use crate::check::check;
 use crate::command::{Command, parse};
 use crate::rtds::rtds;
+use crate::simulate::simulate;
 use outside::{Sink, Store, write_all};
 use rt_report::usage_text;
 use std::alloc::Global;
@@ -70,6 +71,9 @@ fn answer<S: Store>(alloc: Global, command: Option<Command<'_>>, store: &mut S) 
             ended(rtds(alloc, store, file, workload, slots))
         }
         Some(Command::Audit(file, trace)) => ended(audit(alloc, store, file, trace)),
+        Some(Command::Simulate(file, releases, pattern, slots)) => {
+            ended(simulate(alloc, store, file, releases, pattern, slots))
+        }
         Some(Command::Bulk(guests)) => ended(bulk(alloc, guests)),
         None => ended(usage(alloc)),
     }
