@@ -12,3 +12,4 @@ mod Reporting
 mod ReplayLeaf
 mod ReplayList
 mod Examples
+mod AuditExamples
