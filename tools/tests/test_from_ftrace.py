@@ -113,6 +113,15 @@ class TraceCmd(unittest.TestCase):
         ], CORES, {"11": "A"})
         self.assertEqual(told, "at_ns,core,what,vcpu\n0,cpu3,start,A\n250,cpu3,run,A\n1500,cpu3,stop,\n1500,cpu3,block,A\n2000,cpu3,wake,A\n2000,,end,\n")
 
+    def test_a_buffer_with_a_name(self):
+        """trace-cmd prints the name of an instance before each line of it."""
+        told = tool.trace_of([
+            "cpus=4",
+            "g_tc:             bash-9234  [002]  4723.285855314: sched_wakeup:         bash:9229 [120] CPU:000",
+            "g_tc:  callgrind-amd64-3469  [000]  4723.285858751: sched_switch:         callgrind-amd64:3469 [120] R ==> bash:9229 [120]",
+        ], {0: "cpu0"}, {"9229": "A"})
+        self.assertEqual(told, "at_ns,core,what,vcpu\n0,cpu0,start,A\n3437,cpu0,run,A\n3437,,end,\n")
+
     def test_whole_microseconds_in_nine_digits_are_microseconds(self):
         line = "          <idle>-0     [001]  1.000000000: sched_wakeup: calc:11 [-1] CPU:003"
         self.assertEqual(tool.trace_of([line], CORES, {"11": "A"}), "at,core,what,vcpu\n0,cpu3,start,A\n0,,end,\n")
@@ -130,6 +139,7 @@ class Refusals(unittest.TestCase):
         self.refused(2, "lost", first, "CPU:3 [LOST 12 EVENTS]")
         self.refused(2, "lost", first, "CPU:3 [LOST EVENTS]")
         self.refused(2, "lost", first, "CPU:3 [12 EVENTS DROPPED]")
+        self.refused(2, "lost", first, "mine:    CPU:3 [EVENTS DROPPED]")
         self.refused(1, "lost", "# entries-in-buffer/entries-written: 90/91   #P:4", first)
         rows("# tracer: nop", "# entries-in-buffer/entries-written: 91/91   #P:4", "##### CPU 2 buffer started ####", "", first)
 

@@ -144,6 +144,17 @@ class Buffer(unittest.TestCase):
         self.assertEqual((chosen / "sched_switch/enable").read_text(), "1")
 
 
+CAN_NOT_LEAVE_ROOT = 77
+
+
+def leave_root():
+    """Goes on as a user without rights."""
+    if os.geteuid() == 0:
+        os.setgroups([])
+        os.setgid(65534)
+        os.setuid(65534)
+
+
 class Ends(unittest.TestCase):
     def run_tool(self, out, record):
         """The status of a run where the recording is pretended, and what it wrote on standard error."""
@@ -182,23 +193,22 @@ class Ends(unittest.TestCase):
             reader, writer = os.pipe()
             child = os.fork()
             if child == 0:
+                status = CAN_NOT_LEAVE_ROOT
                 try:
-                    os.dup2(writer, 2)
-                    if os.geteuid() == 0:
-                        os.setgroups([])
-                        os.setgid(65534)
-                        os.setuid(65534)
+                    leave_root()
                     sys.argv = ["record-deadline", f"{scratch}/recording", "calc@0=6000/20000", "--seconds=0.01"]
-                    sys.stderr = os.fdopen(2, "w", closefd=False)
+                    sys.stderr = os.fdopen(writer, "w")
                     status = tool.main()
                     sys.stderr.flush()
-                    os._exit(status)
                 finally:
-                    os._exit(99)
+                    os._exit(status)
             os.close(writer)
             with os.fdopen(reader) as file:
                 told = file.read()
-            self.assertEqual(os.waitstatus_to_exitcode(os.waitpid(child, 0)[1]), 3, told)
+            status = os.waitstatus_to_exitcode(os.waitpid(child, 0)[1])
+            if status == CAN_NOT_LEAVE_ROOT:
+                self.skipTest("root can't be left here")
+            self.assertEqual(status, 3, told)
             self.assertTrue(told.startswith("record-deadline: "), told)
 
 

@@ -1,5 +1,5 @@
 pub mod LeafBudgets
-mod CoreLoad
+pub mod CoreLoad
 pub mod Systems
 pub mod Admitting
 mod Examples

@@ -21,6 +21,7 @@ use Rattle.rt_report.specs.declared.replay.Replay.{Replay}
 use Rattle.auditor.specs.declared.finding.Finding.TheVariants.{Yes, Short, Over}
 use Rattle.rt_report.specs.Audit.{audit_text}
 use Rattle.rt_report.specs.Admit.{admit_text}
+use Rattle.rt_report.specs.Bulk.{bulk_text}
 use Rattle.cert_reader.specs.declared.flaw.Flaw.TheVariants.{Nodes, Budget, Cover, Hit, Least, Wide as TooWide}
 use Rattle.rt_report.specs.Refusal.{refusal_text}
 use Rattle.rt_report.specs.Check.{check_text}
@@ -167,3 +168,8 @@ files_that_are_not_read = (refl, refl, refl, refl)
 
 the_usage : usage_line ≡ codes "usage: rtadmit admit FILE | certify FILE | check FILE CERT | simulate FILE RELEASES PATTERN SLOTS | rtds FILE WORKLOAD SLOTS | audit FILE TRACE | bulk N\n"
 the_usage = refl
+
+-- a generated host of one guest
+a_generated_host : bulk_text (record { guests = 1; cores = 1; budgets = 53; jobs = 15; missed = 0; pending = 130460 }) ≡ codes "verdict=yes\nguests=1 cores=1 budgets=53 jobs=15 missed=0 pending=130460\n"
+unfolding digits
+a_generated_host = refl

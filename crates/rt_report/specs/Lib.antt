@@ -1,3 +1,4 @@
+pub mod Bulk
 pub mod Words
 pub mod Missed
 pub mod Replay

@@ -3,6 +3,7 @@
 
 mod admit;
 mod audit;
+mod bulk;
 mod cert_fault;
 mod check;
 mod fault;
@@ -18,6 +19,7 @@ mod usage;
 
 pub use admit::admit_text;
 pub use audit::audit_text;
+pub use bulk::bulk_text;
 pub use check::check_text;
 pub use fault::{FileFault, fault_text};
 pub use refusal::refusal_text;

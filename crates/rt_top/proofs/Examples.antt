@@ -22,7 +22,7 @@ use Rattle.rt_report.specs.Refusal.{refusal_text}
 use Rattle.rt_report.specs.Usage.{usage_line}
 use Rattle.rt_top.specs.declared.status.Status.{Status}
 use Rattle.rt_top.specs.declared.status.Status.TheVariants.{Yes, No, Usage, BadFile, Wide, Absent, TooLong, ReadFault, WriteFault, NoMemory}
-use Rattle.rt_top.specs.Command.{Command, admit, command_of}
+use Rattle.rt_top.specs.Command.{Command, admit, certify, check, command_of}
 use Rattle.rt_top.specs.Answer.{Contents, file_at, AtFile, OnSystem, IfSystem}
 use Rattle.rt_top.specs.Admit.{AdmitsSystem, AdmitMeans, KeepsDeadlines, IsTrulyOverfull, MeansOfSystem}
 use Rattle.rt_top.specs.Report.{IsAnswer, Reported}
@@ -31,6 +31,12 @@ use Rattle.rt_top.specs.Causes.{IsOfQuietStore, IsVerdict, IsJudgeable, Stays}
 -- `admit` and one file, and nothing else
 a_file_to_admit : command_of (codes "admit" ∷ codes "host.toml" ∷ []) ≡ Some (admit (codes "host.toml"))
 a_file_to_admit = refl
+
+-- `certify` takes one file, and `check` two
+files_of_certificates :
+    (command_of (codes "certify" ∷ codes "a" ∷ []) ≡ Some (certify (codes "a"))) × (command_of (codes "check" ∷ codes "a" ∷ codes "b" ∷ []) ≡ Some (check (codes "a") (codes "b")))
+    × (command_of (codes "check" ∷ codes "a" ∷ []) ≡ None) × (command_of (codes "certify" ∷ codes "a" ∷ codes "b" ∷ []) ≡ None)
+files_of_certificates = (refl, refl, refl, refl)
 
 no_form_is_left_open :
     (command_of [] ≡ None) × (command_of (codes "admit" ∷ []) ≡ None) × (command_of (codes "admit" ∷ codes "a" ∷ codes "b" ∷ []) ≡ None)

@@ -6,8 +6,12 @@ mod OneAdmission
 mod OneAnswer
 mod Statuses
 mod Steps
+mod OneFile
 mod Admitting
+mod Certifying
+mod Checking
 mod Auditing
+mod HostAnswers
 mod Reporting
 mod ReplayLeaf
 mod ReplayList

@@ -10,22 +10,31 @@ use Rattle.outside.specs.Written.{AppendsProperPrefix}
 use Rattle.rt_report.specs.Usage.{usage_line}
 use Rattle.rt_top.specs.declared.status.Status.{Status}
 use Rattle.rt_top.specs.declared.status.Status.TheVariants.{Yes, No, Usage, BadFile, Wide, Absent, TooLong, ReadFault, WriteFault, NoMemory}
-use Rattle.rt_top.specs.Command.{Command, admit, audit}
+use Rattle.rt_top.specs.Command.{Command, admit, certify, check, audit, bulk}
 use Rattle.rt_top.specs.Answer.{Contents}
 use Rattle.rt_top.specs.Report.{JobAnswers, Answers, AreContents, IsAnswer, Reported}
 use Rattle.rt_top.specs.Causes.{CanJudge, IsJudgeable, IsVerdict, Stays}
 use Rattle.rt_top.proofs.Statuses.{IsOfJob, HasText}
 use Rattle.rt_top.proofs.Admitting.{admit_status, admit_verdict}
+use Rattle.rt_top.proofs.Certifying.{certify_status, certify_verdict}
+use Rattle.rt_top.proofs.Checking.{check_status, check_verdict}
 use Rattle.rt_top.proofs.Auditing.{audit_status, audit_verdict}
+use Rattle.rt_top.proofs.HostAnswers.{bulk_status, bulk_verdict}
 
 -- what holds of each command
 job_status : (command : Command) (contents : Contents) (status : Status) (text : List ℕ) → JobAnswers command contents status text → IsOfJob status
 job_status (admit file) contents status text h = admit_status contents status text h
+job_status (certify file) contents status text h = certify_status contents status text h
+job_status (check file cert) contents status text h = check_status contents status text h
 job_status (audit file trace) contents status text h = audit_status contents status text h
+job_status (bulk guests) contents status text h = bulk_status guests status text h
 
 job_verdict : (command : Command) (contents : Contents) (status : Status) (text : List ℕ) → CanJudge command contents → JobAnswers command contents status text → IsVerdict status
 job_verdict (admit file) contents status text can h = admit_verdict contents status text can h
+job_verdict (certify file) contents status text can h = certify_verdict contents status text can h
+job_verdict (check file cert) contents status text can h = check_verdict contents status text can h
 job_verdict (audit file trace) contents status text can h = audit_verdict contents status text can h
+job_verdict (bulk guests) contents status text can h = bulk_verdict guests status text h
 
 -- the answer to words that spell no command
 usage_contents : (files : Option Files) → AreContents None files []

@@ -3,9 +3,11 @@ use Rattle.std.specs.Prelude.{◌≡◌, ℕ, ◌-◌, ◌^◌, ◌<◌, map, Op
 use Rattle.outside.specs.Files.{Files, file_named}
 use Rattle.rt_top.specs.declared.status.Status.{Status}
 use Rattle.rt_top.specs.declared.status.Status.TheVariants.{Yes, No, Wide, Absent, ReadFault, WriteFault, NoMemory}
-use Rattle.rt_top.specs.Command.{Command, admit, audit, file_names}
+use Rattle.rt_top.specs.Command.{Command, admit, certify, check, audit, bulk, file_names}
 use Rattle.rt_top.specs.Answer.{Contents}
 use Rattle.rt_top.specs.Admit.{CanAdmit}
+use Rattle.rt_top.specs.Certify.{CanCertify}
+use Rattle.rt_top.specs.Check.{CanCheck}
 use Rattle.rt_top.specs.Audit.{CanAudit}
 
 -- an answer that neither a failed call nor a name that is not there explains
@@ -19,7 +21,10 @@ IsOfQuietStore _ = ⊤
 -- a command that can be judged by what its files hold: they are there, short enough and well formed
 abbrev pub CanJudge : Command → Contents → Type 0
 CanJudge (admit file) contents = CanAdmit contents
+CanJudge (certify file) contents = CanCertify contents
+CanJudge (check file cert) contents = CanCheck contents
 CanJudge (audit file trace) contents = CanAudit contents
+CanJudge (bulk guests) contents = ⊤
 
 -- the words spell a command, and the files are told and let it be judged
 pub record IsJudgeable (command : Option Command) (files : Option Files) : Type 0 where

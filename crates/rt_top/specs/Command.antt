@@ -1,15 +1,22 @@
 -- The commands, and the words that spell them.
-use Rattle.std.specs.Prelude.{ℕ, List, [], ◌∷◌, Option, Some, None, option_map, codes, bytes_eq, if◌then◌else◌}
+use Rattle.std.specs.Prelude.{ℕ, List, [], ◌∷◌, Option, Some, None, option_map, option_and_then, codes, bytes_eq, if◌then◌else◌}
+use Rattle.rt_top.specs.Guests.{guest_number}
 
 -- one form of words each: the names of its files, in the order of the words, and its numbers
 pub data Command : Type 0 where
   admit : (file : List ℕ) → Command
+  certify : (file : List ℕ) → Command
+  check : (file cert : List ℕ) → Command
   audit : (file trace : List ℕ) → Command
+  bulk : (guests : ℕ) → Command
 
 -- the names of a command's files, in the order of its words
 abbrev pub file_names : Command → List (List ℕ)
 file_names (admit file) = file ∷ []
+file_names (certify file) = file ∷ []
+file_names (check file cert) = file ∷ cert ∷ []
 file_names (audit file trace) = file ∷ trace ∷ []
+file_names (bulk guests) = []
 
 -- the only word, and none where there are fewer or more
 abbrev pub one_word : List (List ℕ) → Option (List ℕ)
@@ -26,6 +33,11 @@ abbrev pub command_of : List (List ℕ) → Option Command
 command_of [] = None
 command_of (word ∷ rest) =
     if bytes_eq word (codes "admit") then option_map admit (one_word rest)
+    else if bytes_eq word (codes "certify") then option_map certify (one_word rest)
+    else if bytes_eq word (codes "check")
+    then option_map (λ names. check names.0 names.1) (two_words rest)
     else if bytes_eq word (codes "audit")
     then option_map (λ names. audit names.0 names.1) (two_words rest)
+    else if bytes_eq word (codes "bulk")
+    then option_map bulk (option_and_then guest_number (one_word rest))
     else None

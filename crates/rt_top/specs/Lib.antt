@@ -1,10 +1,14 @@
+pub mod Guests
 pub mod Command
 pub mod Answer
 pub mod Attempt
 pub mod Budgets
 pub mod TwoFiles
 pub mod Admit
+pub mod Certify
+pub mod Check
 pub mod Audit
+pub mod Bulk
 pub mod Report
 pub mod Causes
 pub mod Statuses

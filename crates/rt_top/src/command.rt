@@ -1,15 +1,25 @@
 ghost use Rattle.std.specs.Prelude.{◌≡◌, map, option_map, string_bytes};
 ghost use Rattle.std.specs.Option.{option_copied};
 ghost use Rattle.rt_top.specs.Command.{command_of, one_word, two_words};
+ghost use Rattle.rt_top.specs.Guests.{guest_number};
 ghost use Rattle.rt_top.specs.Steps.{command_told};
+
+use crate::guests::Guests;
+use csv_rows::{is_plain, number};
 
 /// A form of words, with the names of its files in the order of the words.
 #[derive(Clone, Copy)]
 pub enum Command<'a> {
     /// `admit FILE`
     Admit(&'a str),
+    /// `certify FILE`
+    Certify(&'a str),
+    /// `check FILE CERT`
+    Check(&'a str, &'a str),
     /// `audit FILE TRACE`
     Audit(&'a str, &'a str),
+    /// `bulk N`
+    Bulk(Guests),
 }
 
 /// The command that the words spell: its own word, and then its files.
@@ -19,9 +29,16 @@ pub fn parse(words: &[String]) -> Option<Command<'_>>
     let (word, rest) = words.split_first()?;
     if word.as_str() == "admit" {
         Some(Command::Admit(one_word(rest)?))
+    } else if word.as_str() == "certify" {
+        Some(Command::Certify(one_word(rest)?))
+    } else if word.as_str() == "check" {
+        let (file, cert) = two_words(rest)?;
+        Some(Command::Check(file, cert))
     } else if word.as_str() == "audit" {
         let (file, trace) = two_words(rest)?;
         Some(Command::Audit(file, trace))
+    } else if word.as_str() == "bulk" {
+        Some(Command::Bulk(guest_number(one_word(rest)?)?))
     } else {
         None
     }
@@ -44,4 +61,19 @@ fn two_words(words: &[String]) -> Option<(&str, &str)>
         [first, second] => Some((first.as_str(), second.as_str())),
         _ => None,
     }
+}
+
+/// The number of guests that a word tells: a plain decimal from 1 to 256.
+fn guest_number(word: &str) -> Option<Guests>
+    ensures { option_map (λ guests. guests.number) result ≡ guest_number word.now }
+{
+    let digits = word.as_bytes();
+    if !is_plain(digits) {
+        return None;
+    }
+    let guests = number(digits, 256)?;
+    if guests < 1 {
+        return None;
+    }
+    Some(Guests { number: guests })
 }

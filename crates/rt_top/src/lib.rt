@@ -4,8 +4,12 @@
 mod admit;
 mod answer;
 mod audit;
+mod bulk;
+mod certify;
+mod check;
 mod command;
 mod file;
+mod guests;
 #[cfg(test)]
 mod jitter_tests;
 mod refusing;

@@ -2,6 +2,7 @@ ghost use Rattle.std.specs.Prelude.{◌≤◌};
 
 mod admit;
 mod audit;
+mod bulk;
 mod ends;
 mod rows;
 

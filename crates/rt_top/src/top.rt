@@ -13,6 +13,9 @@ use crate::Status;
 use crate::admit::admit;
 use crate::answer::{Answer, Ending, ended};
 use crate::audit::audit;
+use crate::bulk::bulk;
+use crate::certify::certify;
+use crate::check::check;
 use crate::command::{Command, parse};
 use outside::{Sink, Store, write_all};
 use rt_report::usage_text;
@@ -60,7 +63,10 @@ fn answer<S: Store>(alloc: Global, command: Option<Command<'_>>, store: &mut S) 
 {
     match command {
         Some(Command::Admit(file)) => ended(admit(alloc, store, file)),
+        Some(Command::Certify(file)) => ended(certify(alloc, store, file)),
+        Some(Command::Check(file, cert)) => ended(check(alloc, store, file, cert)),
         Some(Command::Audit(file, trace)) => ended(audit(alloc, store, file, trace)),
+        Some(Command::Bulk(guests)) => ended(bulk(alloc, guests)),
         None => ended(usage(alloc)),
     }
 }

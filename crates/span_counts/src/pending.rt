@@ -31,6 +31,7 @@ pub fn count_pending(
     requires long { length (run_of spans.now) ≡ slots }
     requires few { length jobs.now * slots < 2 ^ 64 }
     ensures number { IfOk result (λ n. n ≡ pairs_pending jobs.now (run_of spans.now)) }
+    ensures few { IfOk result (λ n. n ≤ length jobs.now * slots) }
     ensures pending { (tasks : List SporadicTask) (j x : ℕ) → j < length jobs.now →
         IsTrue (is_pending jobs.now (run_of spans.now) j x)
         ↔ Pending guest tasks jobs.now (run_of spans.now) j x }
@@ -109,8 +110,9 @@ fn sum_of_waits(jobs: &[Job], waits: &[Wait], slots: u64) -> u64
     requires few { length jobs.now * slots < 2 ^ 64 }
     requires long { length waits.now ≡ length jobs.now }
     requires ends { (j : ℕ) → j < length jobs.now → (wait_at waits.now j).end ≤ slots }
-    ensures { (run : List (Option ℕ)) → length run ≡ slots →
+    ensures number { (run : List (Option ℕ)) → length run ≡ slots →
         AreWaitsTo jobs.now run slots slots waits.now → result ≡ pairs_pending jobs.now run }
+    ensures few { result ≤ length jobs.now * slots }
 {
     let mut pending = 0;
     for place in 0..jobs.len() {

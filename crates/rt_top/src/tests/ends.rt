@@ -16,7 +16,13 @@ fn words_and_names_that_lead_nowhere(rt: HostRuntime) -> Result<(), Fail> {
         (["admit"].as_slice(), Status::Usage, USAGE),
         ([].as_slice(), Status::Usage, USAGE),
         (["admit", "sys", "sys"].as_slice(), Status::Usage, USAGE),
-        (["certify", "sys"].as_slice(), Status::Usage, USAGE),
+        (["certify", "sys", "sys"].as_slice(), Status::Usage, USAGE),
+        (["check", "sys"].as_slice(), Status::Usage, USAGE),
+        (
+            ["check", "sys", "other"].as_slice(),
+            Status::Absent,
+            "absent file=2\n",
+        ),
         (["Admit", "sys"].as_slice(), Status::Usage, USAGE),
         (["audit", "sys"].as_slice(), Status::Usage, USAGE),
         (

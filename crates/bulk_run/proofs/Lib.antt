@@ -1,0 +1,3 @@
+mod HostRun
+mod Counting
+pub mod OneCount

@@ -1,0 +1,66 @@
+use Rattle.std.proofs.Common.{ℕ, List, Vec, Global, map, sym, ◌∙◌, ap, arith, add-one}
+use Rattle.std.proofs.lemmas.List.{length-map}
+use Rattle.slot_model.specs.declared.job.Job.{Job}
+use Rattle.slot_model.specs.Slots.{sum_below}
+use Rattle.slot_model.proofs.Sums.{sum_below-zero, sum_below-suc}
+use Rattle.guest_sched.specs.Spans.{run_of}
+use Rattle.span_counts.specs.Pending.{pairs_pending}
+use Rattle.tree_model.specs.Releases.{jobs_at}
+use Rattle.server_sched.specs.NodeView.{NodeView}
+use Rattle.server_sched.specs.TreeSpans.{node_at}
+use Rattle.bulk_run.proofs.Counting.{found, run_found, pending_found}
+use Rattle.bulk_run.proofs.counts.pending_of.Goals as goal
+
+abbrev pending_at : List (Vec Job Global) → List NodeView → ℕ → ℕ
+pending_at jobs nodes q = pairs_pending (jobs_at (map (λ (list : Vec Job Global). list.items) jobs) q) (run_of (node_at nodes q).spans)
+
+pub loop-place-init : goal.loop-place-init
+loop-place-init c = record { counted = sym (sum_below-zero (pending_at c.args.jobs.now c.args.nodes.now)); few = omega arith }
+
+pub count_pending-requires-clause-works : goal.count_pending-requires-clause-works
+count_pending-requires-clause-works c =
+    let long = length-map c.args.jobs.now (λ (list : Vec Job Global). list.items) in
+    let here = found c.args.jobs.now c.args.nodes.now c.loop-place.place c.index-jobs-place.result c.index-nodes-place.result c.deref.result.now c.spans.result.now (omega (arith, c.loop-place-test.true)) (omega (arith, c.loop-place-test.true, long, c.requires.runs.one_each)) c.index-jobs-place.is c.deref.ensures.value c.index-nodes-place.is c.spans.ensures in
+    (run_found (map (λ (list : Vec Job Global). list.items) c.args.jobs.now) c.args.nodes.now c.loop-place.place c.deref.result.now c.spans.result.now here c.requires.runs (omega (arith, c.loop-place-test.true, long))).works
+
+pub count_pending-requires-clause-released : goal.count_pending-requires-clause-released
+count_pending-requires-clause-released c =
+    let long = length-map c.args.jobs.now (λ (list : Vec Job Global). list.items) in
+    let here = found c.args.jobs.now c.args.nodes.now c.loop-place.place c.index-jobs-place.result c.index-nodes-place.result c.deref.result.now c.spans.result.now (omega (arith, c.loop-place-test.true)) (omega (arith, c.loop-place-test.true, long, c.requires.runs.one_each)) c.index-jobs-place.is c.deref.ensures.value c.index-nodes-place.is c.spans.ensures in
+    (run_found (map (λ (list : Vec Job Global). list.items) c.args.jobs.now) c.args.nodes.now c.loop-place.place c.deref.result.now c.spans.result.now here c.requires.runs (omega (arith, c.loop-place-test.true, long))).released
+
+pub count_pending-requires-clause-spans : goal.count_pending-requires-clause-spans
+count_pending-requires-clause-spans c =
+    let long = length-map c.args.jobs.now (λ (list : Vec Job Global). list.items) in
+    let here = found c.args.jobs.now c.args.nodes.now c.loop-place.place c.index-jobs-place.result c.index-nodes-place.result c.deref.result.now c.spans.result.now (omega (arith, c.loop-place-test.true)) (omega (arith, c.loop-place-test.true, long, c.requires.runs.one_each)) c.index-jobs-place.is c.deref.ensures.value c.index-nodes-place.is c.spans.ensures in
+    (run_found (map (λ (list : Vec Job Global). list.items) c.args.jobs.now) c.args.nodes.now c.loop-place.place c.deref.result.now c.spans.result.now here c.requires.runs (omega (arith, c.loop-place-test.true, long))).joined
+
+pub count_pending-requires-clause-long : goal.count_pending-requires-clause-long
+count_pending-requires-clause-long c =
+    let long = length-map c.args.jobs.now (λ (list : Vec Job Global). list.items) in
+    let here = found c.args.jobs.now c.args.nodes.now c.loop-place.place c.index-jobs-place.result c.index-nodes-place.result c.deref.result.now c.spans.result.now (omega (arith, c.loop-place-test.true)) (omega (arith, c.loop-place-test.true, long, c.requires.runs.one_each)) c.index-jobs-place.is c.deref.ensures.value c.index-nodes-place.is c.spans.ensures in
+    (run_found (map (λ (list : Vec Job Global). list.items) c.args.jobs.now) c.args.nodes.now c.loop-place.place c.deref.result.now c.spans.result.now here c.requires.runs (omega (arith, c.loop-place-test.true, long))).long
+
+pub count_pending-requires-clause-few : goal.count_pending-requires-clause-few
+count_pending-requires-clause-few c =
+    let long = length-map c.args.jobs.now (λ (list : Vec Job Global). list.items) in
+    let here = found c.args.jobs.now c.args.nodes.now c.loop-place.place c.index-jobs-place.result c.index-nodes-place.result c.deref.result.now c.spans.result.now (omega (arith, c.loop-place-test.true)) (omega (arith, c.loop-place-test.true, long, c.requires.runs.one_each)) c.index-jobs-place.is c.deref.ensures.value c.index-nodes-place.is c.spans.ensures in
+    omega (arith, (run_found (map (λ (list : Vec Job Global). list.items) c.args.jobs.now) c.args.nodes.now c.loop-place.place c.deref.result.now c.spans.result.now here c.requires.runs (omega (arith, c.loop-place-test.true, long))).few)
+
+pub overflow_add-pending : goal.overflow_add-pending
+overflow_add-pending c =
+    let long = length-map c.args.jobs.now (λ (list : Vec Job Global). list.items) in
+    let here = found c.args.jobs.now c.args.nodes.now c.loop-place.place c.index-jobs-place.result c.index-nodes-place.result c.deref.result.now c.spans.result.now (omega (arith, c.loop-place-test.true)) (omega (arith, c.loop-place-test.true, long, c.requires.runs.one_each)) c.index-jobs-place.is c.deref.ensures.value c.index-nodes-place.is c.spans.ensures in
+    let few = (run_found (map (λ (list : Vec Job Global). list.items) c.args.jobs.now) c.args.nodes.now c.loop-place.place c.deref.result.now c.spans.result.now here c.requires.runs (omega (arith, c.loop-place-test.true, long))).few in
+    record { fits = omega (arith, few, c.in_ok-pending.ensures.few, c.loop-place.invariant.few, c.requires.few, c.loop-place-test.true) }
+
+pub loop-place-preserved : goal.loop-place-preserved
+loop-place-preserved c =
+    let long = length-map c.args.jobs.now (λ (list : Vec Job Global). list.items) in
+    let here = found c.args.jobs.now c.args.nodes.now c.loop-place.place c.index-jobs-place.result c.index-nodes-place.result c.deref.result.now c.spans.result.now (omega (arith, c.loop-place-test.true)) (omega (arith, c.loop-place-test.true, long, c.requires.runs.one_each)) c.index-jobs-place.is c.deref.ensures.value c.index-nodes-place.is c.spans.ensures in
+    let few = (run_found (map (λ (list : Vec Job Global). list.items) c.args.jobs.now) c.args.nodes.now c.loop-place.place c.deref.result.now c.spans.result.now here c.requires.runs (omega (arith, c.loop-place-test.true, long))).few in
+    let one = c.in_ok-pending.ensures.number ∙ pending_found (map (λ (list : Vec Job Global). list.items) c.args.jobs.now) c.args.nodes.now c.loop-place.place c.deref.result.now c.spans.result.now here in
+    record {
+      counted = omega (arith, one, c.loop-place.invariant.counted, sum_below-suc (pending_at c.args.jobs.now c.args.nodes.now) c.loop-place.place, ap (sum_below (pending_at c.args.jobs.now c.args.nodes.now)) (add-one c.loop-place.place));
+      few = omega (arith, few, c.in_ok-pending.ensures.few, c.loop-place.invariant.few);
+    }

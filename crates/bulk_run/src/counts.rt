@@ -1,0 +1,153 @@
+ghost use Rattle.std.specs.Prelude.{◌≡◌, ◌^◌, ◌≤◌, ◌<◌, length, map, sum, sum_by, IfOk};
+ghost use Rattle.slot_model.specs.Slots.{sum_below};
+ghost use Rattle.guest_sched.specs.Spans.{run_of};
+ghost use Rattle.span_counts.specs.Pending.{pairs_pending};
+ghost use Rattle.tree_model.specs.Releases.{jobs_at};
+ghost use Rattle.server_sched.specs.TreeSpans.{node_at, runs_of, AreTreeSpans};
+ghost use Rattle.bulk_host.specs.Host.{bulk_host, bulk_budgets};
+ghost use Rattle.bulk_run.specs.Summary.{bulk_slots, bulk_supplies, bulk_jobs as jobs_of_host, counts_in, AreBulkCounts};
+ghost use Rattle.bulk_run.specs.Steps.{AreGuestRuns};
+
+use bulk_host::{bulk_jobs, make_bulk};
+use compose_tree::compose;
+use server_sched::{NodeSpans, Pattern, TreeSpans, core_supplies, span_tree};
+use slot_model::Job;
+use span_counts::count_pending;
+use std::alloc::{AllocError, Global};
+use tree_model::{Plan, System};
+
+/// The slots of the run.
+const SLOTS: u64 = 100_000;
+
+/// What is counted of a generated host and of its run: guests, cores, the sum of the budgets, the
+/// jobs of the guests, the misses at all nodes, and the pairs of a guest's job and a slot at which
+/// the job is pending.
+#[derive(Clone, Copy, Debug, PartialEq, Eq)]
+pub struct BulkCounts {
+    pub guests: u64,
+    pub cores: u64,
+    pub budgets: u64,
+    pub jobs: u64,
+    pub missed: u64,
+    pub pending: u64,
+}
+
+/// What is counted of the host of `n` guests, 1 to 256, in 100,000 slots.
+pub fn bulk_counts(alloc: Global, n: u64) -> Result<BulkCounts, AllocError>
+    requires some { 1 ≤ n }
+    requires most { n ≤ 256 }
+    ensures { IfOk result (λ counts. AreBulkCounts n counts) }
+{
+    let sys = make_bulk(alloc, n)?;
+    let plan = plan_of(alloc, &sys, n)?;
+    let jobs = bulk_jobs(alloc, &sys, SLOTS)?;
+    let tree = run_of_host(alloc, &sys, &plan, &jobs, n)?;
+    let counts = count_run(alloc, &sys, &plan, &jobs, &tree, n)?;
+    Ok(counts)
+}
+
+/// What is counted of a generated host, its budgets, its jobs and its run.
+fn count_run(
+    alloc: Global,
+    sys: &System,
+    plan: &Plan,
+    jobs: &[Vec<Job>],
+    tree: &TreeSpans,
+    n: u64,
+) -> Result<BulkCounts, AllocError>
+    requires some { 1 ≤ n }
+    requires most { n ≤ 256 }
+    requires host { sys.now ≡ bulk_host n }
+    requires plan { plan.now ≡ bulk_budgets n }
+    requires jobs { map (λ list. list.items) jobs.now ≡ jobs_of_host n }
+    requires tree { AreTreeSpans (bulk_host n) (bulk_budgets n) bulk_slots (bulk_supplies n)
+        (jobs_of_host n) tree.now }
+    ensures { IfOk result (λ counts. counts ≡ counts_in n (bulk_budgets n)
+        (runs_of tree.now.cores) (runs_of tree.now.parts)) }
+{
+    let budgets = sum_of(plan.budgets());
+    let number = number_of_jobs(jobs);
+    let at_cores = misses_of(tree.cores());
+    let at_parts = misses_of(tree.parts());
+    let pending = pending_of(alloc, jobs, tree.parts())?;
+    Ok(BulkCounts {
+        guests: n,
+        cores: sys.cores().len() as u64,
+        budgets,
+        jobs: number,
+        missed: at_cores + at_parts,
+        pending,
+    })
+}
+
+/// The budgets of a generated host, which is never refused.
+fn plan_of(alloc: Global, sys: &System, n: u64) -> Result<Plan, AllocError>
+    requires some { 1 ≤ n }
+    requires most { n ≤ 256 }
+    requires host { sys.now ≡ bulk_host n }
+    ensures { IfOk result (λ plan. plan ≡ bulk_budgets n) }
+{
+    match compose(alloc, sys) {
+        Ok(plan) => Ok(plan),
+        // no node refuses, so memory ran out
+        Err(_) => Err(AllocError),
+    }
+}
+
+/// The one first run of a generated host.
+fn run_of_host(
+    alloc: Global,
+    sys: &System,
+    plan: &Plan,
+    jobs: &[Vec<Job>],
+    n: u64,
+) -> Result<TreeSpans, AllocError>
+    requires some { 1 ≤ n }
+    requires most { n ≤ 256 }
+    requires host { sys.now ≡ bulk_host n }
+    requires plan { plan.now ≡ bulk_budgets n }
+    requires jobs { map (λ list. list.items) jobs.now ≡ jobs_of_host n }
+    ensures { IfOk result (λ tree. AreTreeSpans (bulk_host n) (bulk_budgets n) bulk_slots
+        (bulk_supplies n) (jobs_of_host n) tree) }
+{
+    let given = core_supplies(alloc, sys, Pattern::Early, SLOTS)?;
+    let tree = span_tree(alloc, sys, plan, jobs, &given, SLOTS)?;
+    Ok(tree)
+}
+
+fn sum_of(budgets: &[u64]) -> u64
+    requires { sum budgets.now < 2 ^ 64 }
+    ensures { result ≡ sum budgets.now }
+{
+    budgets.iter().sum()
+}
+
+fn number_of_jobs(jobs: &[Vec<Job>]) -> u64
+    requires { sum_by (λ list. length list.items) jobs.now < 2 ^ 64 }
+    ensures { result ≡ sum_by (λ list. length list.items) jobs.now }
+{
+    jobs.iter().map(|list| list.len() as u64).sum()
+}
+
+/// The jobs that miss at some nodes, in sum.
+fn misses_of(nodes: &[NodeSpans]) -> u64
+    requires { sum_by (λ node. node.counts.missed) nodes.now < 2 ^ 64 }
+    ensures { result ≡ sum_by (λ node. node.counts.missed) nodes.now }
+{
+    nodes.iter().map(|node| node.counts().missed).sum()
+}
+
+/// The pairs of a guest's job and a slot at which the job is pending, in sum.
+fn pending_of(alloc: Global, jobs: &[Vec<Job>], nodes: &[NodeSpans]) -> Result<u64, AllocError>
+    requires few { length jobs.now ≤ 512 }
+    requires runs { AreGuestRuns (map (λ list. list.items) jobs.now) nodes.now }
+    ensures { let lists = map (λ list. list.items) jobs.now in
+        IfOk result (λ pending. pending ≡ sum_below (λ q.
+        pairs_pending (jobs_at lists q) (run_of (node_at nodes.now q).spans)) (length lists)) }
+{
+    let mut pending = 0;
+    for place in 0..jobs.len() {
+        pending += count_pending(alloc, &jobs[place], nodes[place].spans(), SLOTS)?;
+    }
+    Ok(pending)
+}

@@ -1,0 +1,46 @@
+-- What `bulk N` answers and means.
+use Rattle.std.proofs.Common.{◌≡◌, ℕ, ◌≤◌, List, [], Option, Some, None, refl, sym, ◌∙◌, ap, subst}
+use Rattle.outside.specs.Files.{Files}
+use Rattle.fp_request.specs.Ranks.{order_laws}
+use Rattle.tree_model.proofs.FirstTrees.{AllStrict}
+use Rattle.compose_tree.proofs.Sound.{admitted_no_loss}
+use Rattle.bulk_host.specs.Host.{bulk_host}
+use Rattle.bulk_host.proofs.Systems.{host_is_system}
+use Rattle.bulk_run.specs.declared.counts.BulkCounts.{BulkCounts}
+use Rattle.bulk_run.specs.Summary.{AreBulkCounts}
+use Rattle.bulk_run.proofs.OneCount.{one_count}
+use Rattle.rt_report.specs.Bulk.{bulk_text}
+use Rattle.rt_top.specs.declared.status.Status.{Status}
+use Rattle.rt_top.specs.declared.status.Status.TheVariants.{Yes}
+use Rattle.rt_top.specs.Command.{bulk}
+use Rattle.rt_top.specs.Answer.{IsOne}
+use Rattle.rt_top.specs.Bulk.{AnswersBulk, HostKeepsDeadlines}
+use Rattle.rt_top.specs.Causes.{IsVerdict}
+use Rattle.rt_top.specs.Report.{AreContents, IsAnswer}
+use Rattle.rt_top.proofs.Statuses.{IsOfJob}
+
+strict : AllStrict
+strict sched tasks = record { not_itself = (order_laws sched).not_itself tasks; in_turn = (order_laws sched).in_turn tasks }
+
+pub one_bulk : (n : ℕ) → IsOne (AnswersBulk n)
+one_bulk n = λ s t x y a b.
+    (a.is_yes ∙ sym b.is_yes, a.told ∙ (ap bulk_text (one_count strict n a.some a.most a.counts b.counts a.counted b.counted) ∙ sym b.told))
+
+pub bulk_status : (n : ℕ) (status : Status) (text : List ℕ) → AnswersBulk n status text → IsOfJob status
+bulk_status n status text h = subst IsOfJob (sym h.is_yes) tt
+
+pub bulk_verdict : (n : ℕ) (status : Status) (text : List ℕ) → AnswersBulk n status text → IsVerdict status
+bulk_verdict n status text h = subst IsVerdict (sym h.is_yes) tt
+
+no_contents : (n : ℕ) (files : Option Files) → AreContents (Some (bulk n)) files []
+no_contents n None = tt
+no_contents n (Some files) = refl
+
+-- a host that was counted has its answer
+pub counted_answer : (n : ℕ) (files : Option Files) (counts : BulkCounts) (text : List ℕ) → 1 ≤ n → n ≤ 256 → AreBulkCounts n counts → text ≡ bulk_text counts → IsAnswer (Some (bulk n)) files Yes text
+counted_answer n files counts text some most counted told = record {
+  contents = [];
+  held = no_contents n files;
+  answers = record { some = some; most = most; is_yes = refl; counts = counts; counted = counted; told = told };
+  means = record { budgets = counted.budgets; admitted = counted.admitted; no_loss = admitted_no_loss (bulk_host n) (host_is_system n some most) counted.budgets counted.admitted };
+}
