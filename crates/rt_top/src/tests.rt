@@ -3,6 +3,7 @@ ghost use Rattle.std.specs.Prelude.{◌≤◌};
 mod admit;
 mod audit;
 mod bulk;
+mod certificates;
 mod ends;
 mod rows;
 
