@@ -18,3 +18,4 @@ mod Reporting
 mod ReplayLeaf
 mod ReplayList
 mod Examples
+mod AuditExamples
