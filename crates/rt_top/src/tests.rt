@@ -6,7 +6,6 @@ mod bulk;
 mod certificates;
 mod ends;
 mod rows;
-mod rtds;
 
 use crate::{Status, run};
 use outside::{MemorySink, MemoryStore};
