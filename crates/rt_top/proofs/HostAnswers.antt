@@ -14,7 +14,7 @@ use Rattle.rt_top.specs.declared.status.Status.{Status}
 use Rattle.rt_top.specs.declared.status.Status.TheVariants.{Yes}
 use Rattle.rt_top.specs.Command.{bulk}
 use Rattle.rt_top.specs.Answer.{IsOne}
-use Rattle.rt_top.specs.Bulk.{AnswersBulk, HostKeepsDeadlines}
+use Rattle.rt_top.specs.Bulk.{AnswersBulk}
 use Rattle.rt_top.specs.Causes.{IsVerdict}
 use Rattle.rt_top.specs.Report.{AreContents, IsAnswer}
 use Rattle.rt_top.proofs.Statuses.{IsOfJob}
