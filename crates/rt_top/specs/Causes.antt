@@ -3,12 +3,13 @@ use Rattle.std.specs.Prelude.{◌≡◌, ℕ, ◌-◌, ◌^◌, ◌<◌, map, Op
 use Rattle.outside.specs.Files.{Files, file_named}
 use Rattle.rt_top.specs.declared.status.Status.{Status}
 use Rattle.rt_top.specs.declared.status.Status.TheVariants.{Yes, No, Wide, Absent, ReadFault, WriteFault, NoMemory}
-use Rattle.rt_top.specs.Command.{Command, admit, certify, check, audit, bulk, file_names}
+use Rattle.rt_top.specs.Command.{Command, admit, certify, check, audit, simulate, bulk, file_names}
 use Rattle.rt_top.specs.Answer.{Contents}
 use Rattle.rt_top.specs.Admit.{CanAdmit}
 use Rattle.rt_top.specs.Certify.{CanCertify}
 use Rattle.rt_top.specs.Check.{CanCheck}
 use Rattle.rt_top.specs.Audit.{CanAudit}
+use Rattle.rt_top.specs.Simulate.{CanSimulate}
 
 -- an answer that neither a failed call nor a name that is not there explains
 abbrev pub IsOfQuietStore : Status → Type 0
@@ -24,6 +25,7 @@ CanJudge (admit file) contents = CanAdmit contents
 CanJudge (certify file) contents = CanCertify contents
 CanJudge (check file cert) contents = CanCheck contents
 CanJudge (audit file trace) contents = CanAudit contents
+CanJudge (simulate file releases pattern slots) contents = CanSimulate contents
 CanJudge (bulk guests) contents = ⊤
 
 -- the words spell a command, and the files are told and let it be judged

@@ -1,3 +1,4 @@
+pub mod SlotWords
 pub mod Guests
 pub mod Command
 pub mod Answer
@@ -8,6 +9,7 @@ pub mod Admit
 pub mod Certify
 pub mod Check
 pub mod Audit
+pub mod Simulate
 pub mod Bulk
 pub mod Report
 pub mod Causes

@@ -7,12 +7,13 @@ use Rattle.outside.specs.Written.{AppendsProperPrefix}
 use Rattle.rt_report.specs.Usage.{usage_line}
 use Rattle.rt_top.specs.declared.status.Status.{Status}
 use Rattle.rt_top.specs.declared.status.Status.TheVariants.{Usage, ReadFault, WriteFault, NoMemory}
-use Rattle.rt_top.specs.Command.{Command, admit, certify, check, audit, bulk, file_names}
+use Rattle.rt_top.specs.Command.{Command, admit, certify, check, audit, simulate, bulk, file_names}
 use Rattle.rt_top.specs.Answer.{Contents, IsOne}
 use Rattle.rt_top.specs.Admit.{Admits, AdmitMeans}
 use Rattle.rt_top.specs.Certify.{Certifies, CertifyMeans}
 use Rattle.rt_top.specs.Check.{Checks, CheckMeans}
 use Rattle.rt_top.specs.Audit.{Audits, AuditMeans}
+use Rattle.rt_top.specs.Simulate.{Simulates, SimulateMeans}
 use Rattle.rt_top.specs.Bulk.{AnswersBulk, HostKeepsDeadlines}
 
 -- the answer to a command, whose files have these contents
@@ -21,6 +22,8 @@ JobAnswers (admit file) contents status text = Admits contents status text
 JobAnswers (certify file) contents status text = Certifies contents status text
 JobAnswers (check file cert) contents status text = Checks contents status text
 JobAnswers (audit file trace) contents status text = Audits contents status text
+JobAnswers (simulate file releases pattern slots) contents status text =
+    Simulates pattern slots contents status text
 JobAnswers (bulk guests) contents status text = AnswersBulk guests status text
 
 -- the answer to words: the usage line where they spell no command
@@ -35,6 +38,8 @@ Means (Some (admit file)) contents status text = AdmitMeans contents status text
 Means (Some (certify file)) contents status text = CertifyMeans contents status text
 Means (Some (check file cert)) contents status text = CheckMeans contents status
 Means (Some (audit file trace)) contents status text = AuditMeans contents status
+Means (Some (simulate file releases pattern slots)) contents status text =
+    SimulateMeans pattern slots contents status
 Means (Some (bulk guests)) contents status text = HostKeepsDeadlines guests
 
 abbrev pub names_of : Option Command → List (List ℕ)

@@ -1,11 +1,14 @@
 ghost use Rattle.std.specs.Prelude.{◌≡◌, map, option_map, string_bytes};
 ghost use Rattle.std.specs.Option.{option_copied};
-ghost use Rattle.rt_top.specs.Command.{command_of, one_word, two_words};
+ghost use Rattle.rt_top.specs.Command.{command_of, one_word, simulate_of, two_words};
 ghost use Rattle.rt_top.specs.Guests.{guest_number};
 ghost use Rattle.rt_top.specs.Steps.{command_told};
 
 use crate::guests::Guests;
+use crate::slot_words::{pattern_of, slot_count};
+use crate::slots::Slots;
 use csv_rows::{is_plain, number};
+use server_sched::Pattern;
 
 /// A form of words, with the names of its files in the order of the words.
 #[derive(Clone, Copy)]
@@ -18,6 +21,8 @@ pub enum Command<'a> {
     Check(&'a str, &'a str),
     /// `audit FILE TRACE`
     Audit(&'a str, &'a str),
+    /// `simulate FILE RELEASES PATTERN SLOTS`
+    Simulate(&'a str, &'a str, Pattern, Slots),
     /// `bulk N`
     Bulk(Guests),
 }
@@ -37,10 +42,26 @@ pub fn parse(words: &[String]) -> Option<Command<'_>>
     } else if word.as_str() == "audit" {
         let (file, trace) = two_words(rest)?;
         Some(Command::Audit(file, trace))
+    } else if word.as_str() == "simulate" {
+        simulate_of(rest)
     } else if word.as_str() == "bulk" {
         Some(Command::Bulk(guest_number(one_word(rest)?)?))
     } else {
         None
+    }
+}
+
+/// The command whose own word is `simulate`.
+fn simulate_of(words: &[String]) -> Option<Command<'_>>
+    ensures { option_map command_told result ≡ simulate_of (map string_bytes words.now) }
+{
+    match words {
+        [file, releases, pattern, slots] => {
+            let pattern = pattern_of(pattern.as_str())?;
+            let slots = slot_count(slots.as_str())?;
+            Some(Command::Simulate(file.as_str(), releases.as_str(), pattern, slots))
+        }
+        _ => None,
     }
 }
 

@@ -14,6 +14,9 @@ mod guests;
 mod jitter_tests;
 mod refusing;
 mod replays;
+mod simulate;
+mod slot_words;
+mod slots;
 #[cfg(test)]
 mod spans_tests;
 mod status;

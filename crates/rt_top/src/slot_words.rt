@@ -1,0 +1,38 @@
+ghost use Rattle.std.specs.Prelude.{◌≡◌, option_map};
+ghost use Rattle.rt_top.specs.SlotWords.{pattern_of, slot_count};
+
+use crate::slots::Slots;
+use csv_rows::{is_plain, number};
+use server_sched::Pattern;
+
+/// The most slots of a run.
+const MOST_SLOTS: u64 = 1_000_000;
+
+/// The pattern that a word names.
+pub fn pattern_of(word: &str) -> Option<Pattern>
+    ensures { result ≡ pattern_of word.now }
+{
+    if word == "early" {
+        Some(Pattern::Early)
+    } else if word == "late" {
+        Some(Pattern::Late)
+    } else if word == "worst" {
+        Some(Pattern::Worst)
+    } else {
+        None
+    }
+}
+
+/// The number of slots that a word spells: a plain decimal number from 1 to 1,000,000.
+pub fn slot_count(word: &str) -> Option<Slots>
+    ensures { option_map (λ s. s.count) result ≡ slot_count word.now }
+{
+    let digits = word.as_bytes();
+    if !is_plain(digits) {
+        return None;
+    }
+    match number(digits, MOST_SLOTS) {
+        Some(count) if count >= 1 => Some(Slots { count }),
+        _ => None,
+    }
+}
