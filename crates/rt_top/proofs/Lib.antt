@@ -17,3 +17,4 @@ mod Reporting
 mod ReplayLeaf
 mod ReplayList
 mod Examples
+mod AuditExamples

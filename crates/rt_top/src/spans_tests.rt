@@ -10,13 +10,13 @@ use std::test::Fail;
 
 /// Numbers that look random.
 #[derive(Drop)]
-struct Generator {
-    state: u64,
+pub struct Generator {
+    pub state: u64,
 }
 
 impl Generator {
     /// A number below `bound`.
-    fn below(&mut self, bound: u64) -> u64
+    pub fn below(&mut self, bound: u64) -> u64
         requires { 1 ≤ bound }
         ensures { result < bound }
     {

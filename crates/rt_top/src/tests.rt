@@ -3,6 +3,7 @@ ghost use Rattle.std.specs.Prelude.{◌≤◌};
 mod admit;
 mod audit;
 mod bulk;
+mod certificates;
 mod ends;
 mod rows;
 
@@ -36,13 +37,17 @@ fn one_file(alloc: Global, text: &str, bite: usize, fails: Vec<u64>) -> Result<M
     file_of(alloc, text.as_bytes().to_vec(alloc)?, bite, fails)
 }
 
-// A store of the file `sys` with the first text and of `trace` with the second.
-fn two_files(alloc: Global, sys: &str, trace: &str, fails: Vec<u64>) -> Result<MemoryStore, Fail> {
+// A store of the file `sys` with this text and of `other` with these bytes.
+fn two_files(
+    alloc: Global,
+    sys: &str,
+    other: Vec<u8>,
+    fails: Vec<u64>,
+) -> Result<MemoryStore, Fail> {
     let mut files = Vec::new(alloc);
     let first = Name::new(alloc, b"sys")?.ok_or("no name")?;
     files.push((first, sys.as_bytes().to_vec(alloc)?))?;
-    let second = Name::new(alloc, b"trace")?.ok_or("no name")?;
-    files.push((second, trace.as_bytes().to_vec(alloc)?))?;
+    files.push((Name::new(alloc, b"other")?.ok_or("no name")?, other))?;
     Ok(MemoryStore::new(files, 4096, fails))
 }
 

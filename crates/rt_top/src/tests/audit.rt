@@ -15,8 +15,9 @@ const STARTS: &str = "0,cpu0,start,A\n0,cpu0,start,B\n";
 
 // The status of the audit of a trace over a system, and what was written.
 fn audited(alloc: Global, sys: &str, trace: &str) -> Result<(Status, Vec<u8>), Fail> {
+    let trace = trace.as_bytes().to_vec(alloc)?;
     let store = two_files(alloc, sys, trace, Vec::new(alloc))?;
-    let words = ["audit", "sys", "trace"].as_slice();
+    let words = ["audit", "sys", "other"].as_slice();
     answered(alloc, words, store, 4096, Vec::new(alloc))
 }
 

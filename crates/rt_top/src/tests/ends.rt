@@ -79,8 +79,9 @@ fn each_failing_call_over_two_files_is_a_read_fault(rt: HostRuntime) -> Result<(
     let alloc = rt.alloc();
     // each file is opened, read, and read to its end
     for k in 0..7 {
-        let store = two_files(alloc, SHARED, SHARED_TRACE, vec![in alloc; k]?)?;
-        let words = ["audit", "sys", "trace"].as_slice();
+        let trace = SHARED_TRACE.as_bytes().to_vec(alloc)?;
+        let store = two_files(alloc, SHARED, trace, vec![in alloc; k]?)?;
+        let words = ["audit", "sys", "other"].as_slice();
         let (status, written) = answered(alloc, words, store, 4096, Vec::new(alloc))?;
         let (want, answer) = if k < 6 {
             (Status::ReadFault, "")
@@ -122,5 +123,17 @@ fn one_byte_past_the_limit_is_too_long(rt: HostRuntime) -> Result<(), Fail> {
     let (status, written) = admitted(alloc, file_of(alloc, bytes, 4096, Vec::new(alloc))?)?;
     assert_eq!(rt; status, Status::TooLong);
     assert_eq!(rt; written.as_slice(), b"toolong file=1\n".as_slice());
+    Ok(())
+}
+
+#[test]
+fn so_is_a_second_file(rt: HostRuntime) -> Result<(), Fail> {
+    let alloc = rt.alloc();
+    let bytes = vec![in alloc; 0u8; 67_108_865]?;
+    let store = two_files(alloc, SHARED, bytes, Vec::new(alloc))?;
+    let words = ["audit", "sys", "other"].as_slice();
+    let (status, written) = answered(alloc, words, store, 4096, Vec::new(alloc))?;
+    assert_eq!(rt; status, Status::TooLong);
+    assert_eq!(rt; written.as_slice(), b"toolong file=2\n".as_slice());
     Ok(())
 }
