@@ -26,5 +26,6 @@ mod tests;
 mod top;
 mod two_files;
 
+pub use bulk_host::{bulk_jobs, make_bulk};
 pub use status::Status;
 pub use top::run;
