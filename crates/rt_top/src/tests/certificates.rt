@@ -42,8 +42,9 @@ fn certified(alloc: Global, sys: &str) -> Result<(Status, Vec<u8>), Fail> {
 
 // The answer to `check` of a system and a certificate.
 fn checked(alloc: Global, sys: &str, certificate: &str) -> Result<(Status, Vec<u8>), Fail> {
-    let store = two_files(alloc, sys, certificate, Vec::new(alloc))?;
-    let words = ["check", "sys", "trace"].as_slice();
+    let bytes = certificate.as_bytes().to_vec(alloc)?;
+    let store = two_files(alloc, sys, bytes, Vec::new(alloc))?;
+    let words = ["check", "sys", "other"].as_slice();
     answered(alloc, words, store, 4096, Vec::new(alloc))
 }
 
