@@ -1,7 +1,7 @@
 -- The jobs of a part, one job later.
-use Rattle.std.proofs.Common.{◌≡◌, ◌≢◌, ℕ, zero, suc, ◌+◌, ◌^◌, ◌<◌, ◌≤◌, nat_lt, nat_le, leb, Bool, true, false, not, eqb, ◌||◌, List, [], ◌∷◌, ◌++◌, length, get_or, set, Option, Some, None, refl, sym, ◌∙◌, ap, subst, arith, inl, inr, below_more, leb-true, ltb-true}
+use Rattle.std.proofs.Common.{◌≡◌, ◌≢◌, ℕ, suc, ◌+◌, ◌<◌, ◌≤◌, nat_lt, nat_le, Bool, true, false, not, eqb, ◌||◌, List, [], ◌∷◌, ◌++◌, length, get_or, set, Option, Some, None, refl, sym, ◌∙◌, ap, subst, arith, inl, inr, below_more, leb-true, ltb-true}
 use Rattle.std.specs.List.{list_any}
-use Rattle.std.proofs.lemmas.Bool.{cases_eq, and_left, and_right, and_from, and_parts, and_cases, eq-eqb, ne_eqb, eqb-true, both_ways, le-ltb, ltb-false, false_from_ne_true}
+use Rattle.std.proofs.lemmas.Bool.{cases_eq, and_left, and_right, and_from, and_parts, and_cases, eq-eqb, ne_eqb, both_ways, le-ltb, ltb-false, false_from_ne_true}
 use Rattle.std.proofs.lemmas.List.{get_or_append_left, get_or-set_same, get_or-set_other, length-set, length-map}
 use Rattle.std.proofs.lemmas.List.Folds.{list_any_at}
 use Rattle.std.proofs.Math.Seq.{get_or-append_seam}
@@ -12,11 +12,10 @@ use Rattle.csv_rows.specs.Rules.{fault_if}
 use Rattle.csv_rows.proofs.Keeping.{length_more}
 use Rattle.tree_model.specs.View.{NamedTask, PartView}
 use Rattle.tree_model.specs.System.{IsPart, own_tasks}
-use Rattle.release_file.specs.declared.fault.ReleaseFault.{ReleaseFault}
 use Rattle.release_file.specs.declared.fault.ReleaseFault.TheVariants.{OutOfRange, TooEarly}
 use Rattle.release_file.specs.declared.leaf_rows.LeafRows.{LeafRows}
 use Rattle.release_file.specs.ReleaseFile.{comes_too_soon, is_too_early, job_fault, task_names}
-use Rattle.release_file.specs.ReleasesTaken.{IsLast, IsLastJob, last_of, follows_too_soon, IsLeaf}
+use Rattle.release_file.specs.ReleasesTaken.{IsLast, last_of, follows_too_soon, IsLeaf}
 
 job_same : (js more : List Job) (i : ℕ) → i < length js → job_at (js ++ more) i ≡ job_at js i
 job_same js more i l = get_or_append_left js more default_job i l
@@ -39,6 +38,7 @@ too_early_is tasks jobs job (Some b) legal last = go (nat_lt (job.release + b.ea
   where
     P : ℕ
     P = (task_at tasks job.task).period
+
     late : nat_lt (job.release + b.early) (b.release + (task_at tasks job.task).period + job.early) ≡ false → (i : ℕ) → i < length jobs → (job_at jobs i).task ≡ job.task → (job_at jobs i).release + (task_at tasks job.task).period + job.early ≤ job.release + (job_at jobs i).early
     late e i l same =
         let b_late : b.release + (task_at tasks job.task).period + job.early ≤ job.release + b.early = ltb-false (job.release + b.early) (b.release + (task_at tasks job.task).period + job.early) e in
@@ -52,6 +52,7 @@ too_early_is tasks jobs job (Some b) legal last = go (nat_lt (job.release + b.ea
               let apart : ArrivesAfter (job_at jobs i) (task_at tasks (job_at jobs i).task).period (job_at jobs last.place) = legal.apart i last.place before last.within (same ∙ sym there) in
               omega (arith, b_late, apart, ap (λ (t : ℕ). (task_at tasks t).period) same, ap (λ (j : Job). j.release) last.is, ap (λ (j : Job). j.early) last.is)
         ]
+
     go : (t : Bool) → nat_lt (job.release + b.early) (b.release + (task_at tasks job.task).period + job.early) ≡ t → is_too_early tasks jobs job ≡ nat_lt (job.release + b.early) (b.release + (task_at tasks job.task).period + job.early)
     go true e =
         list_any_at (comes_too_soon (task_at tasks job.task).period job) jobs last.place default_job last.within
@@ -84,14 +85,19 @@ legal_more tasks jobs job legal fits apart = record {
         let b = and_parts _ _ a.0 in
         let d = and_parts _ _ b.0 in
         (d.0, d.1, b.1, a.1)
+
     named : job.task < length tasks
     named = ltb-true job.task (length tasks) three.0
+
     works : 1 ≤ job.work
     works = leb-true 1 job.work three.1
+
     in_work : job.work ≤ (task_at tasks job.task).work
     in_work = leb-true job.work (task_at tasks job.task).work three.2
+
     in_jitter : job.early ≤ (task_at tasks job.task).jitter
     in_jitter = leb-true job.early (task_at tasks job.task).jitter three.3
+
     new : (i : ℕ) → i < length jobs → (job_at jobs i).task ≡ job.task → ArrivesAfter (job_at jobs i) (task_at tasks (job_at jobs i).task).period job
     new i l same =
         let soon : comes_too_soon (task_at tasks job.task).period job (job_at jobs i) ≡ false =
@@ -100,6 +106,7 @@ legal_more tasks jobs job legal fits apart = record {
           | inl other ↦ absurd (both_ways (eqb (job_at jobs i).task job.task) other (eq-eqb (job_at jobs i).task job.task same))
           | inr late ↦ let p = ap (λ (t : ℕ). (task_at tasks t).period) same in omega (arith, p, ltb-false (job.release + (job_at jobs i).early) ((job_at jobs i).release + (task_at tasks job.task).period + job.early) late)
         ]
+
     both : (i j : ℕ) → i < j → j < length (jobs ++ job ∷ []) → (job_at (jobs ++ job ∷ []) i).task ≡ (job_at (jobs ++ job ∷ []) j).task → ArrivesAfter (job_at (jobs ++ job ∷ []) i) (task_at tasks (job_at (jobs ++ job ∷ []) i).task).period (job_at (jobs ++ job ∷ []) j)
     both i j l m same = elim (cases_eq j (length jobs)) [
       | inl e ↦

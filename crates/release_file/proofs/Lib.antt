@@ -2,7 +2,9 @@ pub mod Rows
 pub mod FieldCounts
 pub mod WakesMore
 pub mod WakesTaking
+pub mod SpeltWorkload
 pub mod OneWorkload
 pub mod OneReleases
+mod FileExamples
 pub mod LeafMore
 pub mod ReleasesTaking

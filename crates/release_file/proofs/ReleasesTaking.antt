@@ -1,5 +1,5 @@
 -- One row of a release file more.
-use Rattle.std.proofs.Common.{◌≡◌, ◌≢◌, ℕ, suc, ◌+◌, ◌-◌, ◌<◌, ◌≤◌, nat_lt, Bool, true, false, not, cond, eqb, List, [], ◌∷◌, ◌++◌, length, get_or, set, map, Option, Some, None, refl, sym, ◌∙◌, ap, subst, arith, inl, inr, below_more, ltb-true, lt-ltb, option_map, replicate}
+use Rattle.std.proofs.Common.{◌≡◌, ℕ, ◌+◌, ◌-◌, ◌<◌, ◌≤◌, nat_lt, Bool, true, false, not, cond, eqb, List, [], ◌∷◌, ◌++◌, length, get_or, set, map, Option, Some, None, refl, sym, ◌∙◌, ap, subst, arith, inl, inr, option_map, replicate}
 use Rattle.std.specs.Prelude.{position, unwrap_or, bytes_eq}
 use Rattle.std.specs.List.{filter}
 use Rattle.std.proofs.lemmas.Bool.{cases_eq, eq-eqb, ne_eqb, le-ltb, false≢true}
@@ -8,17 +8,17 @@ use Rattle.std.proofs.lemmas.List.Elements.{filter-append}
 use Rattle.std.proofs.Math.Seq.{get_or-append_seam}
 use Rattle.slot_model.specs.declared.job.Job.{Job}
 use Rattle.slot_model.specs.declared.task.TheConstants.{LIMIT}
-use Rattle.slot_model.specs.Task.{SporadicTask, default_job, early_job, task_at, job_at}
+use Rattle.slot_model.specs.Task.{SporadicTask, default_job, early_job}
 use Rattle.slot_model.specs.Release.{LegalRelease}
 use Rattle.csv_rows.specs.Decimal.{number}
 use Rattle.csv_rows.specs.Rules.{row_of, fault_if, RowsKeep, IsFirstFault}
 use Rattle.csv_rows.proofs.Keeping.{length_more}
 use Rattle.tree_model.specs.View.{NamedTask, PartView, SystemView}
-use Rattle.tree_model.specs.System.{IsPart, is_leaf, is_leaf_at, no_part, own_tasks, own_tasks_at, part_at}
+use Rattle.tree_model.specs.System.{IsPart, is_leaf, own_tasks, own_tasks_at, part_at}
 use Rattle.tree_model.specs.Releases.{AreReleases, jobs_at}
 use Rattle.trace_file.specs.File.{part_names, part_place}
 use Rattle.release_file.specs.declared.fault.ReleaseFault.{ReleaseFault}
-use Rattle.release_file.specs.declared.fault.ReleaseFault.TheVariants.{BadRow, Unknown, OutOfRange, BadOrder}
+use Rattle.release_file.specs.declared.fault.ReleaseFault.TheVariants.{BadRow, OutOfRange, BadOrder}
 use Rattle.release_file.specs.declared.leaf_rows.LeafRows.{LeafRows}
 use Rattle.release_file.specs.declared.release_rows.ReleaseRows.{ReleaseRows}
 use Rattle.release_file.specs.declared.release_spelling.ReleaseFields.{ReleaseFields}
@@ -97,22 +97,30 @@ took_release s a b rows row f at part n leaf next h number_is fields plain at_is
   where
     S : SystemView
     S = a.sys.now
+
     R : List Release
     R = releases_of s.sys.now s.version rows
+
     job : Job
     job = job_in leaf.part.now f at
+
     r : Release
     r = record { part = part; job = job_in leaf.part.now f at }
+
     here : IsLeafOf a.sys.now (releases_of s.sys.now s.version rows) part leaf
     here = subst (IsLeafOf a.sys.now (releases_of s.sys.now s.version rows) part) (sym leaf_is) (h.leaves part leaf (omega (arith, inside, h.one_each)))
+
     same_fields : all_fields s.version row ≡ fields_in f
     same_fields = ap (λ (v : Version). all_fields v row) (sym h.version) ∙ fields
+
     told : release_of s.sys.now (all_fields s.version row) ≡ record { part = part; job = job_in leaf.part.now f at }
     told =
         ap (release_of s.sys.now) same_fields ∙ (ap (λ z. release_of z.now (fields_in f)) (sym h.sys)
         ∙ (spelt_is a.sys.now f part at (found ∙ ap (position (bytes_eq f.part.now)) h.parts) at_is ∙ ap (λ (p : PartView). record { part = part; job = job_in p f at }) (sym here.part_is)))
+
     more : releases_of s.sys.now s.version (rows ++ row ∷ []) ≡ releases_of s.sys.now s.version rows ++ record { part = part; job = job_in leaf.part.now f at } ∷ []
     more = releases_more s.sys.now s.version rows row ∙ ap (λ (x : Release). releases_of s.sys.now s.version rows ++ x ∷ []) told
+
     rules : release_rules s.sys.now s.version rows row ≡ None
     rules =
         ap (λ (z : List (List ℕ)). fault_if (not (is_release_row z)) (BadRow (row_of (length rows))) (release_fault s.sys.now R (release_of s.sys.now (all_fields s.version row)))) same_fields
@@ -124,6 +132,7 @@ took_release s a b rows row f at part n leaf next h number_is fields plain at_is
         ∙ (ap (λ (p : PartView). part_fault p (jobs_of part R) (job_in leaf.part.now f at) (row_of (length R))) (sym here.part_is)
         ∙ (ap (λ (js : List Job). part_fault leaf.part.now js (job_in leaf.part.now f at) (row_of (length R))) (sym here.jobs_are)
         ∙ (ap (part_fault leaf.part.now leaf.jobs.items (job_in leaf.part.now f at)) (ap row_of (length-map rows (λ (x : List (List ℕ)). release_of s.sys.now (all_fields s.version x))) ∙ sym number_is) ∙ keeps))))))))
+
     each : (q : ℕ) (d : LeafRows) → q < length a.sys.now.parts → IsLeafOf a.sys.now (releases_of s.sys.now s.version rows ++ record { part = part; job = job_in leaf.part.now f at } ∷ []) q (get_or (set a.leaves.items part next) q d)
     each q d l = elim (cases_eq q part) [
       | inl e ↦ subst (IsLeafOf a.sys.now (R ++ r ∷ []) q) (sym (ap (λ (z : ℕ). get_or (set a.leaves.items part next) z d) e ∙ get_or-set_same a.leaves.items part next d inside)) (record {

@@ -1,5 +1,5 @@
 -- A workload, one row later.
-use Rattle.std.proofs.Common.{◌≡◌, ◌≢◌, ℕ, zero, suc, ◌+◌, ◌<◌, ◌≤◌, nat_lt, Bool, true, false, not, cond, eqb, List, [], ◌∷◌, ◌++◌, length, set, Option, Some, None, refl, sym, ◌∙◌, ap, subst, arith, inl, inr, below_more}
+use Rattle.std.proofs.Common.{◌≡◌, ◌≢◌, ℕ, zero, suc, ◌+◌, ◌<◌, ◌≤◌, nat_lt, Bool, true, false, not, cond, eqb, List, [], ◌∷◌, ◌++◌, length, set, Option, Some, None, sym, ◌∙◌, ap, subst, arith, inl, inr, below_more}
 use Rattle.std.specs.Prelude.{is_some}
 use Rattle.std.proofs.lemmas.Bool.{cases_Bool, cases_eq, and_left, and_right, and_from, eq-eqb, ne_eqb, both_ways, ltb-false, not-false}
 use Rattle.std.proofs.lemmas.List.{get_or_append_left, get_or-set_same, get_or-set_other, length-set}
@@ -11,7 +11,6 @@ use Rattle.tree_model.specs.View.{SystemView}
 use Rattle.tree_model.specs.System.{IsSystem}
 use Rattle.trace_file.specs.Rules.{is_vcpu}
 use Rattle.trace_file.proofs.Known.{vcpu_part}
-use Rattle.release_file.specs.declared.fault.ReleaseFault.{ReleaseFault}
 use Rattle.release_file.specs.declared.fault.ReleaseFault.TheVariants.{Unknown, OutOfRange, BadOrder}
 use Rattle.release_file.specs.declared.workload.Wake.{Wake}
 use Rattle.release_file.specs.declared.workload.WakeKind.TheVariants.{Start}
@@ -101,10 +100,13 @@ workload_more sys ws w h k = record {
   where
     zs : List Wake
     zs = ws ++ w ∷ []
+
     old : (i : ℕ) → i < length ws → row_at (ws ++ w ∷ []) i ≡ row_at ws i
     old i l = row_same ws (w ∷ []) i l
+
     new : row_at (ws ++ w ∷ []) (length ws) ≡ w
     new = row_last ws w
+
     in_order : (i : ℕ) → i + 1 < length (ws ++ w ∷ []) → (row_at (ws ++ w ∷ []) i).at ≤ (row_at (ws ++ w ∷ []) (i + 1)).at
     in_order i l = elim (cases_eq (i + 1) (length ws)) [
       | inl e ↦
@@ -116,6 +118,7 @@ workload_more sys ws w h k = record {
           let m : i + 1 < length ws = omega (arith, l, ne, length_more ws w) in
           omega (arith, ap (λ (r : Wake). r.at) (old i (omega (arith, m))), ap (λ (r : Wake). r.at) (old (i + 1) m), h.in_order i m)
     ]
+
     one_a_slot : (i j : ℕ) → i < j → j < length (ws ++ w ∷ []) → (row_at (ws ++ w ∷ []) i).vcpu ≡ (row_at (ws ++ w ∷ []) j).vcpu → (row_at (ws ++ w ∷ []) i).at ≢ (row_at (ws ++ w ∷ []) j).at
     one_a_slot i j l m of at = elim (cases_eq j (length ws)) [
       | inl e ↦
@@ -145,6 +148,7 @@ behind_more a b w system h k sys slot last items = record {
   where
     part : w.vcpu < length a.sys.now.parts
     part = vcpu_part a.sys.now w.vcpu k.known
+
     one : (v : ℕ) → v < 512 → last_at (set a.last w.vcpu (Some w)) v ≡ cond (is_of v w) (Some w) (last_row (is_of v) a.wakes.items (length a.wakes.items))
     one v l = elim (cases_eq v w.vcpu) [
       | inl e ↦

@@ -1,66 +1,31 @@
--- One row of a workload more.
-use Rattle.std.proofs.Common.{◌≡◌, ◌⊎◌, ◌<◌, nat_lt, ℕ, Bool, true, false, not, List, [], ◌∷◌, ◌++◌, length, Option, Some, None, refl, sym, ◌∙◌, ap, subst, arith, replicate, inl, inr}
+-- The rows of a workload that were read.
+use Rattle.std.proofs.Common.{◌≡◌, ◌<◌, nat_lt, ℕ, Bool, true, false, not, List, [], ◌∷◌, ◌++◌, length, Option, Some, None, refl, sym, ◌∙◌, ap, subst, arith, replicate}
 use Rattle.std.proofs.lemmas.Bool.{lt-ltb}
 use Rattle.std.proofs.lemmas.List.{map-append, length-map, get_or-replicate, length-replicate}
-use Rattle.std.specs.Prelude.{Result, Ok, Err, OnOk, IfOk}
+use Rattle.std.specs.Prelude.{Result, Ok, Err, OnOk}
 use Rattle.slot_model.specs.declared.task.TheConstants.{LIMIT}
 use Rattle.csv_rows.specs.Rules.{row_of, fault_if, RowsKeep, IsFirstFault}
 use Rattle.csv_rows.proofs.Keeping.{fault_broken}
 use Rattle.tree_model.specs.View.{SystemView}
 use Rattle.release_file.specs.declared.fault.ReleaseFault.{ReleaseFault}
-use Rattle.release_file.specs.declared.fault.ReleaseFault.TheVariants.{BadHeader, BadRow, OutOfRange, NoMemory}
+use Rattle.release_file.specs.declared.fault.ReleaseFault.TheVariants.{BadRow, OutOfRange}
 use Rattle.release_file.specs.declared.workload.Wake.{Wake}
 use Rattle.release_file.specs.declared.wake_rows.WakeRows.{WakeRows}
-use Rattle.release_file.specs.Workload.{last_row, is_of, IsWorkload}
-use Rattle.release_file.specs.WorkloadFile.{is_wake_row, wake_of, wakes_of, slot_before, wake_fault, wake_rules, is_wake_header, wake_rows, SpellsWorkload, IsWorkloadFault}
+use Rattle.release_file.specs.Workload.{is_of, IsWorkload}
+use Rattle.release_file.specs.WorkloadFile.{is_wake_row, wake_of, wakes_of, wake_fault, wake_rules, is_wake_header, wake_rows, SpellsWorkload, IsWorkloadFault}
 use Rattle.release_file.specs.WakesTaken.{last_at, IsBehind, HasTakenWakes}
 use Rattle.release_file.proofs.Rows.{last_row-zero}
-
-pub all_wakes : (s a : WakeRows) (rows : List (List (List ℕ))) → HasTakenWakes s a rows → length a.wakes.items ≡ length rows
-all_wakes s a rows h = ap (λ (z : List Wake). length z) h.wakes ∙ length-map rows (wake_of s.sys.now)
-
--- the rules of a row of three fields are those of what it spells
-pub rules_of_wake : (s a : WakeRows) (rows : List (List (List ℕ))) (row : List (List ℕ)) (w : Wake) → HasTakenWakes s a rows → is_wake_row row ≡ true → w ≡ wake_of a.sys.now row → wake_rules s.sys.now rows row ≡ wake_fault a.sys.now a.wakes.items w
-rules_of_wake s a rows row w h fits is =
-    ap (λ (z : Bool). fault_if (not z) (BadRow (row_of (length rows))) (wake_fault s.sys.now (wakes_of s.sys.now rows) (wake_of s.sys.now row))) fits
-    ∙ (ap (λ (z : List Wake). wake_fault s.sys.now z (wake_of s.sys.now row)) (sym h.wakes)
-    ∙ (ap (λ z. wake_fault z.now a.wakes.items (wake_of z.now row)) (sym h.sys)
-    ∙ ap (wake_fault a.sys.now a.wakes.items) (sym is)))
-
-pub bad_row : (s a : WakeRows) (rows : List (List (List ℕ))) (row : List (List ℕ)) (n : ℕ) → n ≡ row_of (length rows) → is_wake_row row ≡ false → wake_rules s.sys.now rows row ≡ Some (BadRow n)
-bad_row s a rows row n number bad =
-    ap (λ (z : Bool). fault_if (not z) (BadRow (row_of (length rows))) (wake_fault s.sys.now (wakes_of s.sys.now rows) (wake_of s.sys.now row))) bad ∙ ap (λ (m : ℕ). Some (BadRow m)) (sym number)
-
-pub too_late : (s a : WakeRows) (rows : List (List (List ℕ))) (row : List (List ℕ)) (n : ℕ) → HasTakenWakes s a rows → n ≡ row_of (length rows) → is_wake_row row ≡ true → LIMIT < (wake_of a.sys.now row).at → wake_rules s.sys.now rows row ≡ Some (OutOfRange n)
-too_late s a rows row n h number fits late =
-    rules_of_wake s a rows row (wake_of a.sys.now row) h fits refl
-    ∙ (fault_broken (nat_lt LIMIT (wake_of a.sys.now row).at) (OutOfRange (row_of (length a.wakes.items))) _ (lt-ltb LIMIT (wake_of a.sys.now row).at late)
-    ∙ ap (λ (m : ℕ). Some (OutOfRange m)) (ap row_of (all_wakes s a rows h) ∙ sym number))
 
 pub wakes_more : (sys : SystemView) (rows : List (List (List ℕ))) (row : List (List ℕ)) → wakes_of sys (rows ++ row ∷ []) ≡ wakes_of sys rows ++ wake_of sys row ∷ []
 wakes_more sys rows row = map-append (wake_of sys) rows (row ∷ [])
 
--- what taking a row gives
-pub took_wake : (r : Result Prim.Unit ReleaseFault) (s a b : WakeRows) (rows : List (List (List ℕ))) (row : List (List ℕ)) (w : Wake) → HasTakenWakes s a rows → is_wake_row row ≡ true → w ≡ wake_of a.sys.now row → b.sys ≡ a.sys → b.parts ≡ a.parts
-    → OnOk r (wake_fault a.sys.now a.wakes.items w ≡ None) → OnOk r (b.wakes.items ≡ a.wakes.items ++ w ∷ []) → OnOk r (IsBehind b.wakes.items b)
-    → OnOk r ((wake_rules s.sys.now rows row ≡ None) × HasTakenWakes s b (rows ++ row ∷ []))
-took_wake (Err f) s a b rows row w h fits is sys parts keeps items behind = tt
-took_wake (Ok u) s a b rows row w h fits is sys parts keeps items behind =
-    let spelt : w ≡ wake_of s.sys.now row = is ∙ ap (λ z. wake_of z.now row) h.sys in (
-      rules_of_wake s a rows row w h fits is ∙ keeps,
-      record {
-        system = rw (sys) h.system;
-        sys = sys ∙ h.sys;
-        parts = rw (sys) (parts ∙ h.parts);
-        wakes = items ∙ (ap (λ (z : List Wake). z ++ w ∷ []) h.wakes ∙ (ap (λ (z : Wake). wakes_of s.sys.now rows ++ z ∷ []) spelt ∙ sym (wakes_more s.sys.now rows row)));
-        behind = behind;
-      },
-    )
-
 -- before the first row
+pub no_rows : (sys : SystemView) → IsWorkload sys []
+no_rows sys = record { in_limit = λ i l. absurd (omega arith); in_order = λ i l. absurd (omega arith); known = λ i l. absurd (omega arith); one_a_slot = λ i j l m. absurd (omega arith); in_turn = λ i l. absurd (omega arith) }
+
 pub none_behind : (wakes : List Wake) (m : ℕ) (rows : WakeRows) → wakes ≡ [] → rows.slot ≡ 0 → rows.last ≡ replicate m None → m ≡ 512 → IsBehind wakes rows
 none_behind wakes m rows none slot last em = subst (λ (ws : List Wake). IsBehind ws rows) (sym none) (record {
-  workload = record { in_limit = λ i l. absurd (omega arith); in_order = λ i l. absurd (omega arith); known = λ i l. absurd (omega arith); one_a_slot = λ i j l m. absurd (omega arith); in_turn = λ i l. absurd (omega arith) };
+  workload = no_rows rows.sys.now;
   slot = slot;
   room = ap (λ (z : List (Option Wake)). length z) last ∙ (length-replicate {A = Option Wake} m None ∙ em);
   last = λ v l. ap (λ (z : List (Option Wake)). last_at z v) last ∙ (get_or-replicate {A = Option Wake} m v None None (omega arith) ∙ sym (last_row-zero (is_of v) []));

@@ -33,11 +33,7 @@ fn read_header(records: &mut Records) -> Result<(), ReleaseFault>
 
 /// The workload that the rows of a text spell, or the first rule that the text breaks, with its
 /// row.
-pub fn read_workload(
-    alloc: Global,
-    sys: &System,
-    bytes: &[u8],
-) -> Result<Vec<Wake>, ReleaseFault>
+pub fn read_workload(alloc: Global, sys: &System, bytes: &[u8]) -> Result<Vec<Wake>, ReleaseFault>
     ensures spelt { IfOk result
         (λ wakes. SpellsWorkload sys.now (records_of bytes.now) wakes.items) }
     ensures workload { IfOk result (λ wakes. IsWorkload sys.now wakes.items) }

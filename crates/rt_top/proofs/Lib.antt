@@ -13,6 +13,7 @@ mod Checking
 mod Auditing
 mod Simulating
 mod HostAnswers
+mod Running
 mod Reporting
 mod ReplayLeaf
 mod ReplayList

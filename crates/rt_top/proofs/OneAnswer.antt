@@ -1,13 +1,14 @@
 -- To a command over told files there is one answer.
 use Rattle.std.proofs.Common.{◌≡◌, Option, Some, None, sym, ◌∙◌, subst}
 use Rattle.outside.specs.Files.{Files}
-use Rattle.rt_top.specs.Command.{Command, admit, certify, check, audit, simulate, bulk}
+use Rattle.rt_top.specs.Command.{Command, admit, certify, check, rtds, audit, simulate, bulk}
 use Rattle.rt_top.specs.Answer.{Contents, IsOne}
 use Rattle.rt_top.specs.Report.{JobAnswers, Answers, HasOneAnswer}
 use Rattle.rt_top.proofs.OneAdmission.{one_admit}
 use Rattle.rt_top.proofs.Certifying.{one_certifies}
 use Rattle.rt_top.proofs.Checking.{one_checks}
 use Rattle.rt_top.proofs.Auditing.{one_audits}
+use Rattle.rt_top.proofs.Running.{one_runs}
 use Rattle.rt_top.proofs.Simulating.{one_simulates}
 use Rattle.rt_top.proofs.HostAnswers.{one_bulk}
 
@@ -15,6 +16,7 @@ one_of_job : (command : Command) (contents : Contents) → IsOne (JobAnswers com
 one_of_job (admit file) contents = one_admit contents
 one_of_job (certify file) contents = one_certifies contents
 one_of_job (check file cert) contents = one_checks contents
+one_of_job (rtds file workload slots) contents = one_runs slots contents
 one_of_job (audit file trace) contents = one_audits contents
 one_of_job (simulate file releases pattern slots) contents = one_simulates pattern slots contents
 one_of_job (bulk guests) contents = one_bulk guests

@@ -10,7 +10,7 @@ use Rattle.outside.specs.Written.{AppendsProperPrefix}
 use Rattle.rt_report.specs.Usage.{usage_line}
 use Rattle.rt_top.specs.declared.status.Status.{Status}
 use Rattle.rt_top.specs.declared.status.Status.TheVariants.{Yes, No, Usage, BadFile, Wide, Absent, TooLong, ReadFault, WriteFault, NoMemory}
-use Rattle.rt_top.specs.Command.{Command, admit, certify, check, audit, simulate, bulk}
+use Rattle.rt_top.specs.Command.{Command, admit, certify, check, rtds, audit, simulate, bulk}
 use Rattle.rt_top.specs.Answer.{Contents}
 use Rattle.rt_top.specs.Report.{JobAnswers, Answers, AreContents, IsAnswer, Reported}
 use Rattle.rt_top.specs.Causes.{CanJudge, IsJudgeable, IsVerdict, Stays}
@@ -19,6 +19,7 @@ use Rattle.rt_top.proofs.Admitting.{admit_status, admit_verdict}
 use Rattle.rt_top.proofs.Certifying.{certify_status, certify_verdict}
 use Rattle.rt_top.proofs.Checking.{check_status, check_verdict}
 use Rattle.rt_top.proofs.Auditing.{audit_status, audit_verdict}
+use Rattle.rt_top.proofs.Running.{run_status, run_verdict}
 use Rattle.rt_top.proofs.Simulating.{simulate_status, simulate_verdict}
 use Rattle.rt_top.proofs.HostAnswers.{bulk_status, bulk_verdict}
 
@@ -27,6 +28,7 @@ job_status : (command : Command) (contents : Contents) (status : Status) (text :
 job_status (admit file) contents status text h = admit_status contents status text h
 job_status (certify file) contents status text h = certify_status contents status text h
 job_status (check file cert) contents status text h = check_status contents status text h
+job_status (rtds file workload slots) contents status text h = run_status slots contents status text h
 job_status (audit file trace) contents status text h = audit_status contents status text h
 job_status (simulate file releases pattern slots) contents status text h = simulate_status pattern slots contents status text h
 job_status (bulk guests) contents status text h = bulk_status guests status text h
@@ -35,6 +37,7 @@ job_verdict : (command : Command) (contents : Contents) (status : Status) (text 
 job_verdict (admit file) contents status text can h = admit_verdict contents status text can h
 job_verdict (certify file) contents status text can h = certify_verdict contents status text can h
 job_verdict (check file cert) contents status text can h = check_verdict contents status text can h
+job_verdict (rtds file workload slots) contents status text can h = run_verdict slots contents status text can h
 job_verdict (audit file trace) contents status text can h = audit_verdict contents status text can h
 job_verdict (simulate file releases pattern slots) contents status text can h = simulate_verdict pattern slots contents status text can h
 job_verdict (bulk guests) contents status text can h = bulk_verdict guests status text h

@@ -3,11 +3,12 @@ use Rattle.std.specs.Prelude.{◌≡◌, ℕ, ◌-◌, ◌^◌, ◌<◌, map, Op
 use Rattle.outside.specs.Files.{Files, file_named}
 use Rattle.rt_top.specs.declared.status.Status.{Status}
 use Rattle.rt_top.specs.declared.status.Status.TheVariants.{Yes, No, Wide, Absent, ReadFault, WriteFault, NoMemory}
-use Rattle.rt_top.specs.Command.{Command, admit, certify, check, audit, simulate, bulk, file_names}
+use Rattle.rt_top.specs.Command.{Command, admit, certify, check, rtds, audit, simulate, bulk, file_names}
 use Rattle.rt_top.specs.Answer.{Contents}
 use Rattle.rt_top.specs.Admit.{CanAdmit}
 use Rattle.rt_top.specs.Certify.{CanCertify}
 use Rattle.rt_top.specs.Check.{CanCheck}
+use Rattle.rt_top.specs.Rtds.{CanRun}
 use Rattle.rt_top.specs.Audit.{CanAudit}
 use Rattle.rt_top.specs.Simulate.{CanSimulate}
 
@@ -24,6 +25,7 @@ abbrev pub CanJudge : Command → Contents → Type 0
 CanJudge (admit file) contents = CanAdmit contents
 CanJudge (certify file) contents = CanCertify contents
 CanJudge (check file cert) contents = CanCheck contents
+CanJudge (rtds file workload slots) contents = CanRun contents
 CanJudge (audit file trace) contents = CanAudit contents
 CanJudge (simulate file releases pattern slots) contents = CanSimulate contents
 CanJudge (bulk guests) contents = ⊤

@@ -9,6 +9,7 @@ pub data Command : Type 0 where
   admit : (file : List ℕ) → Command
   certify : (file : List ℕ) → Command
   check : (file cert : List ℕ) → Command
+  rtds : (file workload : List ℕ) (slots : ℕ) → Command
   audit : (file trace : List ℕ) → Command
   simulate : (file releases : List ℕ) → (pattern : Pattern) → (slots : ℕ) → Command
   bulk : (guests : ℕ) → Command
@@ -18,6 +19,7 @@ abbrev pub file_names : Command → List (List ℕ)
 file_names (admit file) = file ∷ []
 file_names (certify file) = file ∷ []
 file_names (check file cert) = file ∷ cert ∷ []
+file_names (rtds file workload slots) = file ∷ workload ∷ []
 file_names (audit file trace) = file ∷ trace ∷ []
 file_names (simulate file releases pattern slots) = file ∷ releases ∷ []
 file_names (bulk guests) = []
@@ -31,6 +33,11 @@ one_word _ = None
 abbrev pub two_words : List (List ℕ) → Option (List ℕ × List ℕ)
 two_words (first ∷ second ∷ []) = Some (first, second)
 two_words _ = None
+
+-- two files and a number of slots
+abbrev pub rtds_of : List (List ℕ) → Option Command
+rtds_of (file ∷ workload ∷ slots ∷ []) = option_map (rtds file workload) (slot_count slots)
+rtds_of _ = None
 
 -- two files, a pattern and a number of slots
 abbrev pub over_slots : List ℕ → List ℕ → Option Pattern → Option ℕ → Option Command
@@ -51,6 +58,7 @@ command_of (word ∷ rest) =
     else if bytes_eq word (codes "certify") then option_map certify (one_word rest)
     else if bytes_eq word (codes "check")
     then option_map (λ names. check names.0 names.1) (two_words rest)
+    else if bytes_eq word (codes "rtds") then rtds_of rest
     else if bytes_eq word (codes "audit")
     then option_map (λ names. audit names.0 names.1) (two_words rest)
     else if bytes_eq word (codes "simulate") then simulate_of rest

@@ -8,6 +8,7 @@ pub mod TwoFiles
 pub mod Admit
 pub mod Certify
 pub mod Check
+pub mod Rtds
 pub mod Audit
 pub mod Simulate
 pub mod Bulk

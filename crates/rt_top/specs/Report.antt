@@ -7,11 +7,12 @@ use Rattle.outside.specs.Written.{AppendsProperPrefix}
 use Rattle.rt_report.specs.Usage.{usage_line}
 use Rattle.rt_top.specs.declared.status.Status.{Status}
 use Rattle.rt_top.specs.declared.status.Status.TheVariants.{Usage, ReadFault, WriteFault, NoMemory}
-use Rattle.rt_top.specs.Command.{Command, admit, certify, check, audit, simulate, bulk, file_names}
+use Rattle.rt_top.specs.Command.{Command, admit, certify, check, rtds, audit, simulate, bulk, file_names}
 use Rattle.rt_top.specs.Answer.{Contents, IsOne}
 use Rattle.rt_top.specs.Admit.{Admits, AdmitMeans}
 use Rattle.rt_top.specs.Certify.{Certifies, CertifyMeans}
 use Rattle.rt_top.specs.Check.{Checks, CheckMeans}
+use Rattle.rt_top.specs.Rtds.{Runs, RunMeans}
 use Rattle.rt_top.specs.Audit.{Audits, AuditMeans}
 use Rattle.rt_top.specs.Simulate.{Simulates, SimulateMeans}
 use Rattle.rt_top.specs.Bulk.{AnswersBulk, HostKeepsDeadlines}
@@ -21,6 +22,7 @@ abbrev pub JobAnswers : Command → Contents → Status → List ℕ → Type 0
 JobAnswers (admit file) contents status text = Admits contents status text
 JobAnswers (certify file) contents status text = Certifies contents status text
 JobAnswers (check file cert) contents status text = Checks contents status text
+JobAnswers (rtds file workload slots) contents status text = Runs slots contents status text
 JobAnswers (audit file trace) contents status text = Audits contents status text
 JobAnswers (simulate file releases pattern slots) contents status text =
     Simulates pattern slots contents status text
@@ -37,6 +39,7 @@ Means None contents status text = ⊤
 Means (Some (admit file)) contents status text = AdmitMeans contents status text
 Means (Some (certify file)) contents status text = CertifyMeans contents status text
 Means (Some (check file cert)) contents status text = CheckMeans contents status
+Means (Some (rtds file workload slots)) contents status text = RunMeans slots contents status text
 Means (Some (audit file trace)) contents status text = AuditMeans contents status
 Means (Some (simulate file releases pattern slots)) contents status text =
     SimulateMeans pattern slots contents status

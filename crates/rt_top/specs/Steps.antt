@@ -10,8 +10,8 @@ use Rattle.rt_top.specs.declared.answer.Answer.{Answer}
 use Rattle.rt_top.specs.declared.answer.Ending.{Ending}
 use Rattle.rt_top.specs.declared.answer.Ending.TheVariants.{Answered, Unread, NoMemory as NoRoom}
 use Rattle.rt_top.specs.declared.command.Command.{Command as Parsed}
-use Rattle.rt_top.specs.declared.command.Command.TheVariants.{Admit, Certify, Check, Audit, Simulate, Bulk}
-use Rattle.rt_top.specs.Command.{Command, admit, certify, check, audit, simulate, bulk}
+use Rattle.rt_top.specs.declared.command.Command.TheVariants.{Admit, Certify, Check, Rtds, Audit, Simulate, Bulk}
+use Rattle.rt_top.specs.Command.{Command, admit, certify, check, rtds, audit, simulate, bulk}
 use Rattle.rt_top.specs.Answer.{Saying, AtContent, file_limit}
 use Rattle.rt_top.specs.TwoFiles.{OnTwoFiles}
 
@@ -20,6 +20,7 @@ abbrev pub command_told : Parsed → Command
 command_told (Admit file) = admit file.now
 command_told (Certify file) = certify file.now
 command_told (Check file cert) = check file.now cert.now
+command_told (Rtds file workload slots) = rtds file.now workload.now slots.count
 command_told (Audit file trace) = audit file.now trace.now
 command_told (Simulate file releases pattern slots) =
     simulate file.now releases.now pattern slots.count

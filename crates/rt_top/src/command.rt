@@ -1,6 +1,6 @@
 ghost use Rattle.std.specs.Prelude.{◌≡◌, map, option_map, string_bytes};
 ghost use Rattle.std.specs.Option.{option_copied};
-ghost use Rattle.rt_top.specs.Command.{command_of, one_word, simulate_of, two_words};
+ghost use Rattle.rt_top.specs.Command.{command_of, one_word, rtds_of, simulate_of, two_words};
 ghost use Rattle.rt_top.specs.Guests.{guest_number};
 ghost use Rattle.rt_top.specs.Steps.{command_told};
 
@@ -19,6 +19,8 @@ pub enum Command<'a> {
     Certify(&'a str),
     /// `check FILE CERT`
     Check(&'a str, &'a str),
+    /// `rtds FILE WORKLOAD SLOTS`
+    Rtds(&'a str, &'a str, Slots),
     /// `audit FILE TRACE`
     Audit(&'a str, &'a str),
     /// `simulate FILE RELEASES PATTERN SLOTS`
@@ -39,6 +41,8 @@ pub fn parse(words: &[String]) -> Option<Command<'_>>
     } else if word.as_str() == "check" {
         let (file, cert) = two_words(rest)?;
         Some(Command::Check(file, cert))
+    } else if word.as_str() == "rtds" {
+        rtds_of(rest)
     } else if word.as_str() == "audit" {
         let (file, trace) = two_words(rest)?;
         Some(Command::Audit(file, trace))
@@ -48,6 +52,19 @@ pub fn parse(words: &[String]) -> Option<Command<'_>>
         Some(Command::Bulk(guest_number(one_word(rest)?)?))
     } else {
         None
+    }
+}
+
+/// The command whose own word is `rtds`.
+fn rtds_of(words: &[String]) -> Option<Command<'_>>
+    ensures { option_map command_told result ≡ rtds_of (map string_bytes words.now) }
+{
+    match words {
+        [file, workload, slots] => {
+            let slots = slot_count(slots.as_str())?;
+            Some(Command::Rtds(file.as_str(), workload.as_str(), slots))
+        }
+        _ => None,
     }
 }
 

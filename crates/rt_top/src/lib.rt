@@ -14,6 +14,7 @@ mod guests;
 mod jitter_tests;
 mod refusing;
 mod replays;
+mod rtds;
 mod simulate;
 mod slot_words;
 mod slots;
@@ -25,5 +26,6 @@ mod tests;
 mod top;
 mod two_files;
 
+pub use bulk_host::{bulk_jobs, make_bulk};
 pub use status::Status;
 pub use top::run;

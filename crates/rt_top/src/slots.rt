@@ -7,3 +7,15 @@ pub struct Slots {
     pub ghost some: { 1 ≤ count },
     pub ghost in_reach: { count ≤ 1_000_000 },
 }
+
+impl Slots {
+    ghost use Rattle.std.specs.Prelude.{◌≡◌, ◌≤◌};
+
+    pub fn count(self) -> u64
+        ensures count { result ≡ self.count }
+        ensures some { 1 ≤ result }
+        ensures in_reach { result ≤ 1_000_000 }
+    {
+        self.count
+    }
+}

@@ -17,6 +17,7 @@ use crate::bulk::bulk;
 use crate::certify::certify;
 use crate::check::check;
 use crate::command::{Command, parse};
+use crate::rtds::rtds;
 use crate::simulate::simulate;
 use outside::{Sink, Store, write_all};
 use rt_report::usage_text;
@@ -66,6 +67,9 @@ fn answer<S: Store>(alloc: Global, command: Option<Command<'_>>, store: &mut S) 
         Some(Command::Admit(file)) => ended(admit(alloc, store, file)),
         Some(Command::Certify(file)) => ended(certify(alloc, store, file)),
         Some(Command::Check(file, cert)) => ended(check(alloc, store, file, cert)),
+        Some(Command::Rtds(file, workload, slots)) => {
+            ended(rtds(alloc, store, file, workload, slots))
+        }
         Some(Command::Audit(file, trace)) => ended(audit(alloc, store, file, trace)),
         Some(Command::Simulate(file, releases, pattern, slots)) => {
             ended(simulate(alloc, store, file, releases, pattern, slots))

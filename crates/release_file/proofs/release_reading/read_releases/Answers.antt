@@ -1,4 +1,4 @@
-use Rattle.std.proofs.Common.{◌≡◌, ◌∙◌, List, Vec, Global, map, ap, inl, inr}
+use Rattle.std.proofs.Common.{◌∙◌, Vec, Global, map, ap, inl, inr}
 use Rattle.std.proofs.lemmas.Simd.{map-map}
 use Rattle.csv_rows.specs.Reading.{records_of}
 use Rattle.slot_model.specs.declared.job.Job.{Job}

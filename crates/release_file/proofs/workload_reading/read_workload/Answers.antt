@@ -1,4 +1,4 @@
-use Rattle.std.proofs.Common.{◌∙◌, sym, ap, subst, inl, inr}
+use Rattle.std.proofs.Common.{inl, inr}
 use Rattle.csv_rows.specs.Reading.{records_of}
 use Rattle.release_file.proofs.WakesTaking.{spelt_all, workload_all, first_of_file}
 use Rattle.release_file.proofs.workload_reading.read_workload.Goals as goal

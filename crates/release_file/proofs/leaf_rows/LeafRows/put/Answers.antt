@@ -1,11 +1,9 @@
 use Rattle.std.proofs.Common.{◌≡◌, ◌<◌, ◌∙◌, Bool, None, true, refl, sym, ap, inr, arith, length, subst, rules, Option}
 use Rattle.std.specs.Result.{is_ok}
-use Rattle.std.proofs.lemmas.List.{get_or_read, length-map}
+use Rattle.std.proofs.lemmas.List.{get_or_read}
 use Rattle.csv_rows.specs.Rules.{fault_if}
 use Rattle.csv_rows.proofs.Keeping.{fault_broken}
 use Rattle.slot_model.specs.declared.job.Job.{Job}
-use Rattle.tree_model.specs.System.{own_tasks}
-use Rattle.tree_model.specs.View.{NamedTask}
 use Rattle.release_file.specs.declared.fault.ReleaseFault.TheVariants.{TooEarly}
 use Rattle.release_file.specs.ReleasesTaken.{IsLast, last_of, follows_too_soon}
 use Rattle.release_file.proofs.LeafMore.{fits_named, job_fault_is, leaf_more}

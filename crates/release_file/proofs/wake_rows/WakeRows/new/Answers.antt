@@ -1,8 +1,6 @@
-use Rattle.std.proofs.Common.{◌∙◌, refl, ap, sym, subst, List}
+use Rattle.std.proofs.Common.{◌∙◌, refl, ap}
 use Rattle.trace_file.specs.File.{core_names, part_names}
 use Rattle.trace_file.proofs.Distinct.{last_distinct}
-use Rattle.release_file.specs.declared.workload.Wake.{Wake}
-use Rattle.release_file.specs.WakesTaken.{IsBehind}
 use Rattle.release_file.proofs.WakesTaking.{none_behind}
 use Rattle.release_file.proofs.wake_rows.WakeRows.new.Goals as goal
 

@@ -1,6 +1,3 @@
-use Rattle.std.proofs.Common.{◌∙◌, sym}
-use Rattle.csv.specs.Records.{fields_of}
-use Rattle.release_file.proofs.WakesTaking.{took_wake}
 use Rattle.release_file.proofs.wake_rows.WakeRowsRowRules.take.Goals as goal
 
 pub keep-requires-clause-in_limit : goal.keep-requires-clause-in_limit

@@ -1,0 +1,164 @@
+-- What `rtds` answers: one thing, what it means, its statuses, and how a trace that was made
+-- becomes the answer.
+use Rattle.std.proofs.Common.{◌≡◌, ℕ, ◌<◌, ◌≤◌, Bool, true, false, ◌&&◌, List, length, Option, Some, None, refl, sym, ◌∙◌, ap, subst, arith, inl, inr}
+use Rattle.std.proofs.lemmas.Bool.{and_parts, both_ways, cases_lt, false≢true}
+use Rattle.csv_rows.specs.Printing.{text_of}
+use Rattle.csv_rows.specs.Reading.{records_of}
+use Rattle.slot_model.specs.declared.task.TheConstants.{LIMIT}
+use Rattle.slot_model.specs.declared.sched.Sched.{Sched}
+use Rattle.slot_model.specs.declared.sched.Sched.TheVariants.{Edf, Rm, Dm, Listed}
+use Rattle.slot_model.specs.Bound.{DemandFits, Passes}
+use Rattle.tree_model.specs.declared.place.Place.TheVariants.{Core}
+use Rattle.tree_model.specs.View.{SystemView}
+use Rattle.tree_model.specs.System.{IsSystem, core_at}
+use Rattle.tree_model.specs.Tree.{core_bound, server_tasks}
+use Rattle.tree_model.specs.Admission.{Admitted}
+use Rattle.tree_model.specs.Plans.{IsPlan}
+use Rattle.tree_model.proofs.InRange.{assigned_is_plan}
+use Rattle.system_file.proofs.Laws.{read_is_spelled}
+use Rattle.outside.specs.Files.{Files}
+use Rattle.trace_file.specs.declared.event.Event.{Event}
+use Rattle.trace_file.specs.Periods.{Satisfied}
+use Rattle.trace_file.specs.Printing.{printed_rows}
+use Rattle.release_file.specs.declared.workload.Wake.{Wake}
+use Rattle.release_file.specs.Workload.{IsWorkload}
+use Rattle.release_file.specs.WorkloadFile.{wake_rows}
+use Rattle.release_file.proofs.OneWorkload.{one_workload, no_workload_fault, one_workload_fault}
+use Rattle.release_file.proofs.SpeltWorkload.{spelt_workload}
+use Rattle.rtds_sim.specs.Rtds.{is_full, is_edf, is_rtds}
+use Rattle.rtds_sim.specs.Printed.{printed}
+use Rattle.rtds_sim.specs.Fault.{AllRtds, IsFirstOther}
+use Rattle.rtds_sim.specs.Giving.{AlwaysServed, ServersFit, NoneOver}
+use Rattle.rtds_sim.proofs.Runs.{rtds_unique}
+use Rattle.rtds_sim.proofs.Giving.{gives_budgets}
+use Rattle.rtds_sim.proofs.Traced.{satisfied, none_over}
+use Rattle.rt_top.specs.declared.status.Status.{Status}
+use Rattle.rt_top.specs.declared.status.Status.TheVariants.{Yes, BadFile}
+use Rattle.rt_top.specs.declared.answer.Ending.{Ending}
+use Rattle.rt_top.specs.Command.{rtds}
+use Rattle.rt_top.specs.Answer.{Contents, IsOne}
+use Rattle.rt_top.specs.Attempt.{OnAttempt, IsGiven, IsRefused}
+use Rattle.rt_top.specs.Budgets.{assigning, OnAssigned}
+use Rattle.rt_top.specs.Rtds.{waking, running, IsTraceOf, IsTraceText, RunsBytes, Runs, IsServed, TellsRun, RunMeans, CanRun}
+use Rattle.rt_top.specs.Report.{IsAnswer}
+use Rattle.rt_top.specs.Causes.{IsVerdict}
+use Rattle.rt_top.specs.Steps.{IfAnswered, AnswersTwo, IsJudged}
+use Rattle.rt_top.proofs.Attempt.{IsDecided, one_attempt, said_of_given, statuses_attempt}
+use Rattle.rt_top.proofs.Budgets.{assigning_decided, unassigned_status}
+use Rattle.rt_top.proofs.Statuses.{IsOfJob, job_of_judged}
+use Rattle.rt_top.proofs.TwoFiles.{one_two, said_of_two, statuses_two, two_answer}
+
+pub waking_decided : (sys : SystemView) (bytes : List ℕ) → IsDecided (waking sys bytes)
+waking_decided sys bytes = record {
+  one_value = one_workload sys (records_of bytes);
+  never_both = no_workload_fault sys (records_of bytes);
+  one_refusal = one_workload_fault sys (wake_rows (records_of bytes));
+}
+
+-- there is one trace of a workload, and one first core that is not full under earliest deadline
+-- first
+one_trace : (sys : SystemView) (budgets : List ℕ) (wakes : List Wake) (slots : ℕ) (x y : List Event) → IsTraceOf sys budgets wakes slots x → IsTraceOf sys budgets wakes slots y → x ≡ y
+one_trace sys budgets wakes slots x y p q =
+    p.trace.2 ∙ (ap (λ (runs : List (List (Option ℕ))). printed sys wakes runs slots) (rtds_unique sys budgets wakes slots p.trace.0 q.trace.0 p.trace.1 q.trace.1) ∙ sym q.trace.2)
+
+one_other : (sys : SystemView) (c d : ℕ) → IsFirstOther sys c → IsFirstOther sys d → c ≡ d
+one_other sys c d p q = elim (cases_lt c d) [
+  | inl before ↦ absurd (both_ways (is_rtds sys c) p.other (q.before c before))
+  | inr after ↦ elim (cases_lt d c) [
+    | inl before ↦ absurd (both_ways (is_rtds sys d) q.other (p.before d before))
+    | inr other ↦ omega (arith, after, other)
+  ]
+]
+
+running_decided : (sys : SystemView) (budgets : List ℕ) (wakes : List Wake) (slots : ℕ) → IsDecided (running sys budgets wakes slots)
+running_decided sys budgets wakes slots = record {
+  one_value = one_trace sys budgets wakes slots;
+  never_both = λ events c trace other. both_ways (is_rtds sys c) other.other (trace.all c other.is_core);
+  one_refusal = one_other sys;
+}
+
+-- one answer
+one_printed : (sys : SystemView) (events : List Event) → IsOne (IsTraceText sys events)
+one_printed sys events = λ s t x y p q. (p.status_is ∙ sym q.status_is, p.told ∙ sym q.told)
+
+one_of_bytes : (slots : ℕ) (sys : SystemView) → IsSystem sys → (bytes : List ℕ) → IsOne (RunsBytes slots sys bytes)
+one_of_bytes slots sys is bytes =
+    one_attempt (waking sys bytes) (λ wakes. OnAssigned sys (λ budgets. OnAttempt (running sys budgets wakes slots) (IsTraceText sys))) (waking_decided sys bytes)
+    (λ wakes spelled. one_attempt (assigning sys) (λ budgets. OnAttempt (running sys budgets wakes slots) (IsTraceText sys)) (assigning_decided sys is)
+    (λ budgets assigned. one_attempt (running sys budgets wakes slots) (IsTraceText sys) (running_decided sys budgets wakes slots) (λ events trace. one_printed sys events)))
+
+pub one_runs : (slots : ℕ) (contents : Contents) → IsOne (Runs slots contents)
+one_runs slots contents = one_two (RunsBytes slots) (one_of_bytes slots) contents
+
+-- its statuses
+printed_status : (P : Status → Type 0) → P Yes → (sys : SystemView) (events : List Event) (status : Status) (text : List ℕ) → IsTraceText sys events status text → P status
+printed_status P at_yes sys events status text h = subst P (sym h.status_is) at_yes
+
+runs_judged : (slots : ℕ) (sys : SystemView) (bytes : List ℕ) (status : Status) (text : List ℕ) → RunsBytes slots sys bytes status text → IsJudged status
+runs_judged slots sys bytes status text h =
+    statuses_attempt IsJudged (waking sys bytes) (λ wakes. OnAssigned sys (λ budgets. OnAttempt (running sys budgets wakes slots) (IsTraceText sys))) status text (λ fault refuses. tt)
+    (λ wakes. statuses_attempt IsJudged (assigning sys) (λ budgets. OnAttempt (running sys budgets wakes slots) (IsTraceText sys)) status text (unassigned_status IsJudged tt tt sys)
+    (λ budgets. statuses_attempt IsJudged (running sys budgets wakes slots) (IsTraceText sys) status text (λ c other. tt) (λ events. printed_status IsJudged tt sys events status text))) h
+
+pub run_status : (slots : ℕ) (contents : Contents) (status : Status) (text : List ℕ) → Runs slots contents status text → IsOfJob status
+run_status slots contents status text h = statuses_two IsOfJob tt tt tt contents (RunsBytes slots) status text (λ sys bytes said. job_of_judged status (runs_judged slots sys bytes status text said)) h
+
+run_of_all : (slots : ℕ) (sys : SystemView) (wakes : List Wake) (status : Status) (text : List ℕ) → AllRtds sys (length sys.cores) → OnAssigned sys (λ budgets. OnAttempt (running sys budgets wakes slots) (IsTraceText sys)) status text → IsVerdict status
+run_of_all slots sys wakes status text all h =
+    statuses_attempt IsVerdict (assigning sys) (λ budgets. OnAttempt (running sys budgets wakes slots) (IsTraceText sys)) status text (unassigned_status IsVerdict tt tt sys)
+    (λ budgets. statuses_attempt IsVerdict (running sys budgets wakes slots) (IsTraceText sys) status text (λ c other. absurd (both_ways (is_rtds sys c) other.other (all c other.is_core))) (λ events. printed_status IsVerdict tt sys events status text)) h
+
+pub run_verdict : (slots : ℕ) (contents : Contents) (status : Status) (text : List ℕ) → CanRun contents → Runs slots contents status text → IsVerdict status
+run_verdict slots contents status text can h =
+    let read = can.spelled.second in
+    let said : RunsBytes slots can.sys read.bytes status text = said_of_two contents can.sys _ (RunsBytes slots) status text can.spelled h in
+    run_of_all slots can.sys read.good.wakes status text read.good.all
+    (said_of_given (waking can.sys read.bytes) (λ wakes. OnAssigned can.sys (λ budgets. OnAttempt (running can.sys budgets wakes slots) (IsTraceText can.sys))) status text (waking_decided can.sys read.bytes) read.good.wakes read.good.spelled said)
+
+-- the servers of an admitted system pass on each core that is full and under earliest deadline
+-- first
+fit_core : (sched : Sched) (supply : Option (ℕ × ℕ)) (sys : SystemView) (budgets : List ℕ) (c : ℕ) → is_full supply ≡ true → is_edf sched ≡ true → Passes sched (server_tasks sys budgets (Core c)) (core_bound supply) → ServersFit sys budgets c
+fit_core Edf None sys budgets c full edf passes = passes
+fit_core Edf (Some s) sys budgets c full edf passes = absurd (false≢true full)
+fit_core Rm supply sys budgets c full edf passes = absurd (false≢true edf)
+fit_core Dm supply sys budgets c full edf passes = absurd (false≢true edf)
+fit_core Listed supply sys budgets c full edf passes = absurd (false≢true edf)
+
+served : (sys : SystemView) (budgets : List ℕ) (wakes : List Wake) → AllRtds sys (length sys.cores) → IsServed sys budgets wakes → AlwaysServed sys budgets wakes
+served sys budgets wakes all h = record {
+  runnable = h.runnable;
+  fit = λ c l.
+      let is = and_parts (is_full (core_at sys c).supply) (is_edf (core_at sys c).sched) (all c l) in
+      fit_core (core_at sys c).sched (core_at sys c).supply sys budgets c is.0 is.1 (h.admitted.passes (Core c) l).1;
+}
+
+-- what it means
+tells_run : (sys : SystemView) → IsSystem sys → (budgets : List ℕ) → IsPlan sys budgets → (wakes : List Wake) → IsWorkload sys wakes → (slots : ℕ) → slots ≤ 1000000 → (events : List Event) (status : Status) (text : List ℕ) → IsTraceOf sys budgets wakes slots events → IsTraceText sys events status text → TellsRun sys budgets wakes slots text
+tells_run sys is budgets plan wakes workload slots few events status text trace printed_is = record {
+  events = events;
+  trace = trace;
+  told = printed_is.told;
+  reads_back = printed_is.reads_back;
+  none_over = subst (λ (es : List Event). NoneOver sys budgets es) (sym trace.trace.2) (none_over sys is budgets plan wakes workload slots trace.trace.0 trace.trace.1 (omega (arith, few)));
+  gives = λ runs c run l always fit. gives_budgets sys budgets plan wakes slots c _ (run.cores c l) always fit;
+  satisfied = λ h. subst (λ (es : List Event). Satisfied sys budgets es) (sym trace.trace.2) (satisfied sys is budgets plan wakes workload slots trace.trace.0 trace.trace.1 (omega (arith, few)) (served sys budgets wakes trace.all h));
+}
+
+printed_tells : (sys : SystemView) → IsSystem sys → (budgets : List ℕ) → IsPlan sys budgets → (wakes : List Wake) → IsWorkload sys wakes → (slots : ℕ) → slots ≤ 1000000 → (status : Status) (text : List ℕ) → OnAttempt (running sys budgets wakes slots) (IsTraceText sys) status text → status ≡ Yes → TellsRun sys budgets wakes slots text
+printed_tells sys is budgets plan wakes workload slots few status text h told = elim h [
+  | inl given ↦ tells_run sys is budgets plan wakes workload slots few given.value status text given.gives given.said
+  | inr refused ↦ absurd (let e : Yes ≡ BadFile = sym told ∙ refused.status_is in cc)
+]
+
+pub run_means : (slots : ℕ) → slots ≤ 1000000 → (contents : Contents) (status : Status) (text : List ℕ) → Runs slots contents status text → RunMeans slots contents status text
+run_means slots few contents status text h = λ sys budgets wakes of told.
+    let read = of.spelled.second in
+    let is : IsSystem sys = (read_is_spelled of.spelled.first.bytes sys of.spelled.first.good).system in
+    let said : RunsBytes slots sys read.bytes status text = said_of_two contents sys _ (RunsBytes slots) status text of.spelled h in
+    let on : OnAssigned sys (λ b. OnAttempt (running sys b wakes slots) (IsTraceText sys)) status text = said_of_given (waking sys read.bytes) (λ w. OnAssigned sys (λ b. OnAttempt (running sys b w slots) (IsTraceText sys))) status text (waking_decided sys read.bytes) wakes read.good said in
+    let run : OnAttempt (running sys budgets wakes slots) (IsTraceText sys) status text = said_of_given (assigning sys) (λ b. OnAttempt (running sys b wakes slots) (IsTraceText sys)) status text (assigning_decided sys is) budgets of.assigned on in
+    printed_tells sys is budgets (assigned_is_plan sys is budgets of.assigned) wakes (spelt_workload sys (records_of read.bytes) wakes read.good) slots few status text run told
+
+-- the answer over both files is that to the command
+pub run_answer : (file workload : List ℕ) (slots : ℕ) → slots ≤ 1000000 → (files : Option Files) (end : Ending) → IfAnswered end (λ a. AnswersTwo files file workload (RunsBytes slots) a.status a.text.items) → IfAnswered end (λ a. IsAnswer (Some (rtds file workload slots)) files a.status a.text.items)
+run_answer file workload slots few files end h = two_answer (rtds file workload slots) file workload (RunsBytes slots) refl (record { answers = λ contents status text said. said; means = run_means slots few }) files end h

@@ -1,0 +1,114 @@
+ghost use Rattle.std.specs.Prelude.{◌≡◌, ◌<◌, Some, IfOk, IfErr, length};
+ghost use Rattle.csv_rows.specs.Reading.{records_of};
+ghost use Rattle.tree_model.specs.Plans.{IsPlan};
+ghost use Rattle.trace_file.specs.Rules.{Kept};
+ghost use Rattle.release_file.specs.Workload.{IsWorkload};
+ghost use Rattle.release_file.specs.WorkloadFile.{SpellsWorkload};
+ghost use Rattle.rt_report.specs.declared.fault.FileFault.TheVariants.{NotRtds};
+ghost use Rattle.rt_report.specs.Fault.{fault_text};
+ghost use Rattle.rt_top.specs.Attempt.{IsRefused};
+ghost use Rattle.rt_top.specs.Rtds.{waking, running, IsTraceOf, RunsBytes};
+ghost use Rattle.rt_top.specs.Command.{rtds};
+ghost use Rattle.rt_top.specs.Report.{IsAnswer};
+ghost use Rattle.rt_top.specs.Steps.{counts_of, ending_of, IfAnswered, Explains, EndsJudged};
+
+use crate::Status;
+use crate::answer::{Answer, Ending};
+use crate::file::bad_file;
+use crate::refusing::assigned;
+use crate::slots::Slots;
+use crate::two_files::read_two;
+use outside::Store;
+use release_file::{ReleaseFault, Wake, read_workload};
+use rt_report::{FileFault, fault_text};
+use rtds_sim::{RtdsFault, run_rtds};
+use std::alloc::{AllocError, Global};
+use trace_file::{Trace, print_trace};
+use tree_model::{Plan, System};
+
+/// `rtds FILE WORKLOAD SLOTS`: the trace of the workload over so many slots, where each part that
+/// stands on a core is a deferrable server.
+pub fn rtds<S: Store>(
+    alloc: Global,
+    store: &mut S,
+    file: &str,
+    workload: &str,
+    slots: Slots,
+) -> Result<Answer, Ending>
+    ensures answer { IfAnswered (ending_of result) (λ a.
+        IsAnswer (Some (rtds file.now workload.now slots.count)) (S.files store.old)
+        a.status a.text.items) }
+    ensures explained { let counts = counts_of S.faults S.absences S.taken in
+        Explains (ending_of result) (counts store.old) (counts store.new) }
+{
+    let (sys, bytes) = read_two(alloc, store, file, workload)?;
+    judge(alloc, &sys, &bytes, slots)
+}
+
+fn judge(alloc: Global, sys: &System, bytes: &[u8], slots: Slots) -> Result<Answer, Ending>
+    ensures answer { IfAnswered (ending_of result) (λ a.
+        RunsBytes slots.count sys.now bytes.now a.status a.text.items) }
+    ensures judged { EndsJudged (ending_of result) }
+{
+    let wakes = spelled_workload(alloc, sys, bytes)?;
+    let plan = assigned(alloc, sys)?;
+    let trace = trace_of(alloc, sys, &plan, &wakes, slots)?;
+    Ok(Answer {
+        status: Status::Yes,
+        text: print_trace(alloc, sys, &trace)?,
+    })
+}
+
+// The workload that the bytes of the second file word spell. It stops where they are refused.
+fn spelled_workload(alloc: Global, sys: &System, bytes: &[u8]) -> Result<Vec<Wake>, Ending>
+    ensures spelled { IfOk result
+        (λ wakes. SpellsWorkload sys.now (records_of bytes.now) wakes.items) }
+    ensures workload { IfOk result (λ wakes. IsWorkload sys.now wakes.items) }
+    ensures refused { IfErr result (λ stop. IfAnswered stop (λ a.
+        IsRefused (waking sys.now bytes.now) a.status a.text.items)) }
+    ensures judged { IfErr result (λ stop. EndsJudged stop) }
+{
+    match read_workload(alloc, sys, bytes) {
+        Ok(wakes) => Ok(wakes),
+        Err(ReleaseFault::NoMemory) => Err(Ending::NoMemory),
+        Err(fault) => Err(Ending::Answered(bad_file(alloc, FileFault::Release(fault), 2)?)),
+    }
+}
+
+// The trace of the workload. It stops at the first core that is not full or not under earliest
+// deadline first.
+fn trace_of(
+    alloc: Global,
+    sys: &System,
+    plan: &Plan,
+    wakes: &[Wake],
+    slots: Slots,
+) -> Result<Trace, Ending>
+    requires plan { IsPlan sys.now plan.now }
+    requires workload { IsWorkload sys.now wakes.now }
+    ensures trace { IfOk result
+        (λ trace. IsTraceOf sys.now plan.now wakes.now slots.count trace) }
+    ensures kept { IfOk result (λ trace. Kept sys.now trace) }
+    ensures refused { IfErr result (λ stop. IfAnswered stop (λ a.
+        IsRefused (running sys.now plan.now wakes.now slots.count) a.status a.text.items)) }
+    ensures judged { IfErr result (λ stop. EndsJudged stop) }
+{
+    match run_rtds(alloc, sys, plan, wakes, slots.count()) {
+        Ok(trace) => Ok(trace),
+        Err(RtdsFault::NoMemory) => Err(Ending::NoMemory),
+        Err(RtdsFault::NotRtds(core)) => Err(Ending::Answered(not_rtds(alloc, sys, core)?)),
+    }
+}
+
+// The answer to a core that is not full or not under earliest deadline first.
+fn not_rtds(alloc: Global, sys: &System, core: u32) -> Result<Answer, AllocError>
+    requires { core < length sys.now.cores }
+    ensures status { IfOk result (λ a. a.status ≡ Status.BadFile) }
+    ensures text { IfOk result
+        (λ a. a.text.items ≡ fault_text (Some sys.now) (NotRtds core) 1) }
+{
+    Ok(Answer {
+        status: Status::BadFile,
+        text: fault_text(alloc, Some(sys), &FileFault::NotRtds(core), 1)?,
+    })
+}
