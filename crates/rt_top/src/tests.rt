@@ -5,6 +5,7 @@ mod audit;
 mod bulk;
 mod ends;
 mod rows;
+mod simulate;
 
 use crate::{Status, run};
 use outside::{MemorySink, MemoryStore};
