@@ -6,6 +6,7 @@ mod bulk;
 mod certificates;
 mod ends;
 mod rows;
+mod simulate;
 
 use crate::{Status, run};
 use outside::{MemorySink, MemoryStore};
