@@ -6,6 +6,7 @@ mod bulk;
 mod certificates;
 mod ends;
 mod rows;
+mod rtds;
 mod simulate;
 
 use crate::{Status, run};

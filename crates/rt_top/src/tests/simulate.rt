@@ -46,8 +46,13 @@ fn simulated(
     pattern: &str,
     slots: &str,
 ) -> Result<(Status, Vec<u8>), Fail> {
-    let store = two_files(alloc, sys, releases, Vec::new(alloc))?;
-    let words = ["simulate", "sys", "trace", pattern, slots];
+    let store = two_files(
+        alloc,
+        sys,
+        releases.as_bytes().to_vec(alloc)?,
+        Vec::new(alloc),
+    )?;
+    let words = ["simulate", "sys", "other", pattern, slots];
     answered(alloc, words.as_slice(), store, 4096, Vec::new(alloc))
 }
 
