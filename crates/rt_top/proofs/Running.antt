@@ -1,25 +1,21 @@
 -- What `rtds` answers: one thing, what it means, its statuses, and how a trace that was made
 -- becomes the answer.
-use Rattle.std.proofs.Common.{◌≡◌, ℕ, ◌<◌, ◌≤◌, Bool, true, false, ◌&&◌, List, length, Option, Some, None, refl, sym, ◌∙◌, ap, subst, arith, inl, inr}
+use Rattle.std.proofs.Common.{◌≡◌, ℕ, ◌≤◌, true, List, length, Option, Some, None, refl, sym, ◌∙◌, ap, subst, arith, inl, inr}
 use Rattle.std.proofs.lemmas.Bool.{and_parts, both_ways, cases_lt, false≢true}
-use Rattle.csv_rows.specs.Printing.{text_of}
 use Rattle.csv_rows.specs.Reading.{records_of}
-use Rattle.slot_model.specs.declared.task.TheConstants.{LIMIT}
 use Rattle.slot_model.specs.declared.sched.Sched.{Sched}
 use Rattle.slot_model.specs.declared.sched.Sched.TheVariants.{Edf, Rm, Dm, Listed}
-use Rattle.slot_model.specs.Bound.{DemandFits, Passes}
+use Rattle.slot_model.specs.Bound.{Passes}
 use Rattle.tree_model.specs.declared.place.Place.TheVariants.{Core}
 use Rattle.tree_model.specs.View.{SystemView}
 use Rattle.tree_model.specs.System.{IsSystem, core_at}
 use Rattle.tree_model.specs.Tree.{core_bound, server_tasks}
-use Rattle.tree_model.specs.Admission.{Admitted}
 use Rattle.tree_model.specs.Plans.{IsPlan}
 use Rattle.tree_model.proofs.InRange.{assigned_is_plan}
 use Rattle.system_file.proofs.Laws.{read_is_spelled}
 use Rattle.outside.specs.Files.{Files}
 use Rattle.trace_file.specs.declared.event.Event.{Event}
 use Rattle.trace_file.specs.Periods.{Satisfied}
-use Rattle.trace_file.specs.Printing.{printed_rows}
 use Rattle.release_file.specs.declared.workload.Wake.{Wake}
 use Rattle.release_file.specs.Workload.{IsWorkload}
 use Rattle.release_file.specs.WorkloadFile.{wake_rows}
@@ -37,11 +33,11 @@ use Rattle.rt_top.specs.declared.status.Status.TheVariants.{Yes, BadFile}
 use Rattle.rt_top.specs.declared.answer.Ending.{Ending}
 use Rattle.rt_top.specs.Command.{rtds}
 use Rattle.rt_top.specs.Answer.{Contents, IsOne}
-use Rattle.rt_top.specs.Attempt.{OnAttempt, IsGiven, IsRefused}
+use Rattle.rt_top.specs.Attempt.{OnAttempt}
 use Rattle.rt_top.specs.Budgets.{assigning, OnAssigned}
 use Rattle.rt_top.specs.Rtds.{waking, running, IsTraceOf, IsTraceText, RunsBytes, Runs, IsServed, TellsRun, RunMeans, CanRun}
 use Rattle.rt_top.specs.Report.{IsAnswer}
-use Rattle.rt_top.specs.Causes.{IsVerdict}
+use Rattle.rt_top.specs.Causes.{IsVerdictOrRefusal}
 use Rattle.rt_top.specs.Steps.{IfAnswered, AnswersTwo, IsJudged}
 use Rattle.rt_top.proofs.Attempt.{IsDecided, one_attempt, said_of_given, statuses_attempt}
 use Rattle.rt_top.proofs.Budgets.{assigning_decided, unassigned_status}
@@ -103,16 +99,16 @@ runs_judged slots sys bytes status text h =
 pub run_status : (slots : ℕ) (contents : Contents) (status : Status) (text : List ℕ) → Runs slots contents status text → IsOfJob status
 run_status slots contents status text h = statuses_two IsOfJob tt tt tt contents (RunsBytes slots) status text (λ sys bytes said. job_of_judged status (runs_judged slots sys bytes status text said)) h
 
-run_of_all : (slots : ℕ) (sys : SystemView) (wakes : List Wake) (status : Status) (text : List ℕ) → AllRtds sys (length sys.cores) → OnAssigned sys (λ budgets. OnAttempt (running sys budgets wakes slots) (IsTraceText sys)) status text → IsVerdict status
-run_of_all slots sys wakes status text all h =
-    statuses_attempt IsVerdict (assigning sys) (λ budgets. OnAttempt (running sys budgets wakes slots) (IsTraceText sys)) status text (unassigned_status IsVerdict tt tt sys)
-    (λ budgets. statuses_attempt IsVerdict (running sys budgets wakes slots) (IsTraceText sys) status text (λ c other. absurd (both_ways (is_rtds sys c) other.other (all c other.is_core))) (λ events. printed_status IsVerdict tt sys events status text)) h
+run_of_wakes : (slots : ℕ) (sys : SystemView) (wakes : List Wake) (status : Status) (text : List ℕ) → OnAssigned sys (λ budgets. OnAttempt (running sys budgets wakes slots) (IsTraceText sys)) status text → IsVerdictOrRefusal status
+run_of_wakes slots sys wakes status text h =
+    statuses_attempt IsVerdictOrRefusal (assigning sys) (λ budgets. OnAttempt (running sys budgets wakes slots) (IsTraceText sys)) status text (unassigned_status IsVerdictOrRefusal tt tt sys)
+    (λ budgets. statuses_attempt IsVerdictOrRefusal (running sys budgets wakes slots) (IsTraceText sys) status text (λ c other. tt) (λ events. printed_status IsVerdictOrRefusal tt sys events status text)) h
 
-pub run_verdict : (slots : ℕ) (contents : Contents) (status : Status) (text : List ℕ) → CanRun contents → Runs slots contents status text → IsVerdict status
+pub run_verdict : (slots : ℕ) (contents : Contents) (status : Status) (text : List ℕ) → CanRun contents → Runs slots contents status text → IsVerdictOrRefusal status
 run_verdict slots contents status text can h =
     let read = can.spelled.second in
     let said : RunsBytes slots can.sys read.bytes status text = said_of_two contents can.sys _ (RunsBytes slots) status text can.spelled h in
-    run_of_all slots can.sys read.good.wakes status text read.good.all
+    run_of_wakes slots can.sys read.good.wakes status text
     (said_of_given (waking can.sys read.bytes) (λ wakes. OnAssigned can.sys (λ budgets. OnAttempt (running can.sys budgets wakes slots) (IsTraceText can.sys))) status text (waking_decided can.sys read.bytes) read.good.wakes read.good.spelled said)
 
 -- the servers of an admitted system pass on each core that is full and under earliest deadline

@@ -2,7 +2,7 @@
 use Rattle.std.specs.Prelude.{◌≡◌, ℕ, ◌-◌, ◌^◌, ◌<◌, map, Option, Some, ⊤}
 use Rattle.outside.specs.Files.{Files, file_named}
 use Rattle.rt_top.specs.declared.status.Status.{Status}
-use Rattle.rt_top.specs.declared.status.Status.TheVariants.{Yes, No, Wide, Absent, ReadFault, WriteFault, NoMemory}
+use Rattle.rt_top.specs.declared.status.Status.TheVariants.{Yes, No, BadFile, Wide, Absent, ReadFault, WriteFault, NoMemory}
 use Rattle.rt_top.specs.Command.{Command, admit, certify, check, rtds, audit, simulate, bulk, file_names}
 use Rattle.rt_top.specs.Answer.{Contents}
 use Rattle.rt_top.specs.Admit.{CanAdmit}
@@ -49,3 +49,14 @@ IsVerdict No = ⊤
 IsVerdict Wide = ⊤
 IsVerdict NoMemory = ⊤
 IsVerdict _ = ⊥
+
+-- the same, or the file is refused
+abbrev pub IsVerdictOrRefusal : Status → Type 0
+IsVerdictOrRefusal BadFile = ⊤
+IsVerdictOrRefusal status = IsVerdict status
+
+-- how a command that can be judged ends: `rtds` also refuses a file whose cores are not all full and
+-- under earliest deadline first
+abbrev pub IsVerdictOf : Option Command → Status → Type 0
+IsVerdictOf (Some (rtds file workload slots)) status = IsVerdictOrRefusal status
+IsVerdictOf _ status = IsVerdict status

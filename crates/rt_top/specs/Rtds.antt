@@ -96,10 +96,8 @@ abbrev pub RunMeans : ℕ → Contents → Status → List ℕ → Type 0
 RunMeans slots contents status text = (sys : SystemView) (budgets : List ℕ) (wakes : List Wake)
     → IsRunOf contents sys budgets wakes → status ≡ Yes → TellsRun sys budgets wakes slots text
 
--- the files are there, short enough, and spell a system whose cores are all full and under earliest
--- deadline first, and a workload
+-- the files are there, short enough, and spell a system and a workload
 pub record IsRunnable (sys : SystemView) (bytes : List ℕ) : Type 0 where
-  pub all : AllRtds sys (length sys.cores)
   pub wakes : List Wake
   pub spelled : SpellsWorkload sys (records_of bytes) wakes
 

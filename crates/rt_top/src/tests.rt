@@ -5,6 +5,7 @@ mod audit;
 mod bulk;
 mod certificates;
 mod ends;
+mod failing;
 mod rows;
 mod rtds;
 mod simulate;
@@ -46,11 +47,24 @@ fn two_files(
     other: Vec<u8>,
     fails: Vec<u64>,
 ) -> Result<MemoryStore, Fail> {
+    bitten_files(alloc, sys, other, 4096, fails)
+}
+
+// The same, which gives at most `bite` bytes a read.
+fn bitten_files(
+    alloc: Global,
+    sys: &str,
+    other: Vec<u8>,
+    bite: usize,
+    fails: Vec<u64>,
+) -> Result<MemoryStore, Fail>
+    requires { 1 ≤ bite }
+{
     let mut files = Vec::new(alloc);
     let first = Name::new(alloc, b"sys")?.ok_or("no name")?;
     files.push((first, sys.as_bytes().to_vec(alloc)?))?;
     files.push((Name::new(alloc, b"other")?.ok_or("no name")?, other))?;
-    Ok(MemoryStore::new(files, 4096, fails))
+    Ok(MemoryStore::new(files, bite, fails))
 }
 
 // The status of these words and what was written, at most `bite` bytes a write, where the writes of

@@ -6,7 +6,7 @@ ghost use Rattle.outside.specs.Written.{AppendsProperPrefix};
 ghost use Rattle.rt_report.specs.Usage.{usage_line};
 ghost use Rattle.rt_top.specs.Command.{command_of};
 ghost use Rattle.rt_top.specs.Report.{IsAnswer, Reported, HasOneAnswer};
-ghost use Rattle.rt_top.specs.Causes.{IsOfQuietStore, IsJudgeable, IsVerdict, Stays};
+ghost use Rattle.rt_top.specs.Causes.{IsOfQuietStore, IsJudgeable, IsVerdictOf, Stays};
 ghost use Rattle.rt_top.specs.Steps.{command_told, counts_of, IfAnswered, Explains};
 
 use crate::Status;
@@ -43,11 +43,12 @@ pub fn run<S: Store, K: Sink>(alloc: Global, words: &[String], store: &mut S, ou
     ensures too_long { result ≡ Status.TooLong
         → RoseBeyond 67108864 (S.taken store.old) (S.taken store.new) }
     ensures write_fault { result ≡ Status.WriteFault → Rose (K.faults out.old) (K.faults out.new) }
-    // files that can be judged, over a store and a sink that do not fail, get their verdict
+    // files that can be judged, over a store and a sink that do not fail, get their verdict, or
+    // `rtds` refuses cores that are not all full and under earliest deadline first
     ensures complete { IsJudgeable (command_of (map string_bytes words.now)) (S.files store.old)
         → Stays (S.faults store.old) (S.faults store.new)
         → Stays (K.faults out.old) (K.faults out.new)
-        → IsVerdict result }
+        → IsVerdictOf (command_of (map string_bytes words.now)) result }
 {
     match answer(alloc, parse(words), store) {
         Ending::Answered(answer) => finish(out, answer.status, &answer.text),

@@ -6,13 +6,7 @@ use crate::spans_tests::Generator;
 use std::alloc::{AllocError, Global};
 use std::test::Fail;
 
-/// Of two tasks under earliest deadline first, and of the same by rate.
-const LEAF_CERTIFICATE: &str =
-    "{\"format\":1,\"nodes\":[{\"budget\":3,\"computed\":true,\"falls\":[],\"hits\":[],\
-     \"kind\":\"part\",\"period\":10,\"place\":0,\"points\":[\"35\",\"65\",\"86\",\"137\",\
-     \"161\"],\"witness\":\"75\"},{\"budget\":1,\"computed\":false,\"falls\":[],\"hits\":[],\
-     \"kind\":\"core\",\"period\":1,\"place\":0,\"points\":[\"3\",\"12\"],\"witness\":null}]}\n";
-
+/// Of two tasks by rate.
 const RATE_CERTIFICATE: &str =
     "{\"format\":1,\"nodes\":[{\"budget\":4,\"computed\":true,\"falls\":[1,65,76],\
      \"hits\":[25,46],\"kind\":\"part\",\"period\":10,\"place\":0,\"points\":[],\

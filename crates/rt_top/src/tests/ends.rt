@@ -40,6 +40,21 @@ fn words_and_names_that_lead_nowhere(rt: HostRuntime) -> Result<(), Fail> {
             Status::Absent,
             "absent file=2\n",
         ),
+        (
+            ["certify", "other"].as_slice(),
+            Status::Absent,
+            "absent file=1\n",
+        ),
+        (
+            ["rtds", "sys", "other", "10"].as_slice(),
+            Status::Absent,
+            "absent file=2\n",
+        ),
+        (
+            ["simulate", "sys", "other", "late", "5"].as_slice(),
+            Status::Absent,
+            "absent file=2\n",
+        ),
     ] {
         let store = one_file(alloc, CORE, 4096, Vec::new(alloc))?;
         let (status, written) = answered(alloc, all, store, 4096, Vec::new(alloc))?;

@@ -111,3 +111,10 @@ pub const SHARED_TRACE: &str =
 pub const USAGE: &str =
     "usage: rtadmit admit FILE | certify FILE | check FILE CERT | simulate FILE RELEASES \
      PATTERN SLOTS | rtds FILE WORKLOAD SLOTS | audit FILE TRACE | bulk N\n";
+
+/// The certificate of two tasks under earliest deadline first.
+pub const LEAF_CERTIFICATE: &str =
+    "{\"format\":1,\"nodes\":[{\"budget\":3,\"computed\":true,\"falls\":[],\"hits\":[],\
+     \"kind\":\"part\",\"period\":10,\"place\":0,\"points\":[\"35\",\"65\",\"86\",\"137\",\
+     \"161\"],\"witness\":\"75\"},{\"budget\":1,\"computed\":false,\"falls\":[],\"hits\":[],\
+     \"kind\":\"core\",\"period\":1,\"place\":0,\"points\":[\"3\",\"12\"],\"witness\":null}]}\n";
