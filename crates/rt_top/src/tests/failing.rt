@@ -1,4 +1,6 @@
 // For each command: each call of the store and each write failing in turn.
+ghost use Rattle.std.specs.Prelude.{◌≤◌};
+
 use super::rows::*;
 use super::{answered, bitten_files, joined};
 use crate::Status;
