@@ -125,6 +125,16 @@ fn one_leaf_is_judged(rt: HostRuntime) -> Result<(), Fail> {
             Status::BadFile,
             "fault=Empty at=part 1 file=1\n",
         ),
+        (
+            ["format = "].as_slice(),
+            Status::BadFile,
+            "fault=NotToml file=1\n",
+        ),
+        (
+            [LEAF, "sched = \"edf\"\nperiod = 9223372036854775807\n", T1].as_slice(),
+            Status::BadFile,
+            "fault=OutOfRange at=part 1 file=1\n",
+        ),
     ] {
         let text = joined(alloc, pieces)?;
         let (status, written) = answer_to(alloc, text.as_str())?;
