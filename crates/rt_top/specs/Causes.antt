@@ -55,8 +55,8 @@ abbrev pub IsVerdictOrRefusal : Status → Type 0
 IsVerdictOrRefusal BadFile = ⊤
 IsVerdictOrRefusal status = IsVerdict status
 
--- how a command that can be judged ends: `rtds` also refuses a file whose cores are not all full and
--- under earliest deadline first
+-- how a command that can be judged ends: `rtds` also refuses a file whose cores are not all full
+-- and under earliest deadline first
 abbrev pub IsVerdictOf : Option Command → Status → Type 0
 IsVerdictOf (Some (rtds file workload slots)) status = IsVerdictOrRefusal status
 IsVerdictOf _ status = IsVerdict status
