@@ -1,5 +1,5 @@
 -- A cover up to the horizon shows that no window at all is short.
-use Rattle.std.proofs.Common.{ℕ, ◌<◌, Bool, List}
+use Rattle.std.proofs.Common.{ℕ, Bool, List}
 use Rattle.slot_model.specs.Task.{SporadicTask, AreConstrained}
 use Rattle.slot_model.specs.Supply.{SupplyLaws}
 use Rattle.slot_model.specs.Bound.{DemandFits, IsHorizon}

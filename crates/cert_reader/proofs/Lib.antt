@@ -10,3 +10,5 @@ pub mod OneFlaw
 pub mod ReadBack
 pub mod Newline
 pub mod TextBack
+pub mod Pieces
+pub mod Standing

@@ -1,15 +1,15 @@
 -- The text of a certificate is read back as the certificate.
-use Rattle.std.proofs.Common.{◌≡◌, ℕ, suc, ◌+◌, ◌^◌, ◌<◌, ◌≤◌, Bool, true, false, codes, subst, append_assoc, List, [], ◌∷◌, ◌++◌, length, get_or, Option, Some, None, Ok, option_map, option_and_then, decimal, refl, sym, ap, ◌∙◌, arith, append-nil, IsUtf8}
+use Rattle.std.proofs.Common.{◌≡◌, ℕ, suc, ◌^◌, ◌<◌, ◌≤◌, Bool, true, false, codes, subst, append_assoc, List, [], ◌∷◌, ◌++◌, length, get_or, Option, Some, None, Ok, option_map, option_and_then, decimal, refl, sym, ap, ◌∙◌, arith, append-nil, IsUtf8}
 use Rattle.std.proofs.lemmas.Str.{IsUtf8-append, IsUtf8-from_ascii}
 use Rattle.std.proofs.lemmas.Fmt.{IsAscii-decimal_wide}
 use Rattle.json.specs.Json as json
 use Rattle.json.specs.Lex.{tokens}
-use Rattle.json.specs.Print.{escape_byte, quoted, print}
+use Rattle.json.specs.Print.{escape_byte, quoted}
 use Rattle.json.specs.Tree as tree
 use Rattle.json.proofs.Printed.Decimals.{IsNumber-decimal}
 use Rattle.json.proofs.Printed.Trees.{value-json_tokens, ArePrintable-json_tokens}
 use Rattle.json.proofs.Printed.Utf8.{are_ascii, IsUtf8-are_ascii, IsUtf8-quoted}
-use Rattle.serde_json.specs.Data.{Data, Items, no_items, item, Members, no_members, member, boolean, number, string, array, object}
+use Rattle.serde_json.specs.Data.{Data, Items, Members, no_members, member, boolean, number, string, array, object}
 use Rattle.serde_json.specs.Read.{read, of_json, of_items, max_depth}
 use Rattle.serde_json.specs.Written.{outline, items_outline, comma_if, compact_text, items_text, members_text}
 use Rattle.serde_json.proofs.Numbers.{number_of-decimal}
@@ -19,7 +19,7 @@ use Rattle.tree_model.specs.declared.place.Place.TheVariants.{Core, Part}
 use Rattle.tree_model.specs.CertificateView.{NodeView}
 use Rattle.cert_reader.specs.Printed.{items_from, number_value, written_value, witness_value, kind_text, place_number, node_value, certificate_value, certificate_text, IsBelow, IsInRange}
 use Rattle.cert_reader.specs.Proves.{no_node, node_at}
-use Rattle.cert_reader.specs.CertificateFile.{value_of, certificate_of}
+use Rattle.cert_reader.specs.CertificateFile.{certificate_of}
 use Rattle.cert_reader.proofs.Newline.{tokens_newline}
 use Rattle.cert_reader.proofs.ReadBack.{reads_back}
 use Rattle.cert_reader.proofs.Texts.{value_text}

@@ -6,6 +6,7 @@ ghost use Rattle.cert_reader.specs.CertificateFile.{value_of, certificate_of};
 ghost use Rattle.cert_reader.specs.Printed.{TextSpells};
 
 use crate::CertFault;
+use crate::printed::read_printed;
 use crate::reading::read_top;
 use serde_json::Value;
 use std::alloc::Global;
@@ -37,6 +38,9 @@ pub fn read_certificate(alloc: Global, bytes: &[u8]) -> Result<Certificate, Cert
     // what the text of a certificate spells
     ensures back { (nodes : List NodeView) → TextSpells nodes }
 {
+    if let Some(nodes) = read_printed(alloc, bytes) {
+        return Ok(Certificate { nodes });
+    }
     let top = value_of_text(alloc, bytes)?;
     let nodes = read_top(alloc, &top)?;
     Ok(Certificate { nodes })

@@ -4,10 +4,11 @@ ghost use Rattle.slot_model.specs.Order.{ranks_above};
 ghost use Rattle.slot_model.specs.Bound.{dbf, rbf, IsHit};
 ghost use Rattle.slot_model.specs.Points.{IsCover, IsChain};
 
-use edf_demand::demand;
+use edf_demand::{demand, demand_by, write_reciprocals};
 use fp_request::request;
 use slot_model::{Sched, Task};
 use supply_bound::Supply;
+use tree_model::MAX_PARTS;
 
 /// Whether the points are a cover of all windows up to `h`.
 pub fn is_cover<S: Supply>(tasks: &[Task], s: &S, h: u128, points: &[u128]) -> bool
@@ -19,8 +20,10 @@ pub fn is_cover<S: Supply>(tasks: &[Task], s: &S, h: u128, points: &[u128]) -> b
     if !asks_nothing(tasks, points[0] - 1) {
         return false;
     }
+    let mut reciprocals = [0; MAX_PARTS];
+    write_reciprocals(tasks, &mut reciprocals);
     for j in 0..points.len() - 1 {
-        if !covers(tasks, s, points[j], points[j + 1]) {
+        if !covers(tasks, &reciprocals, s, points[j], points[j + 1]) {
             return false;
         }
     }
@@ -36,8 +39,8 @@ fn asks_nothing(tasks: &[Task], t: u128) -> bool
     }
 }
 
-/// Whether a point covers all windows up to the next.
-fn covers<S: Supply>(tasks: &[Task], s: &S, from: u128, to: u128) -> bool
+/// Whether a point covers all windows up to the next. The reciprocals are those of the periods.
+fn covers<S: Supply>(tasks: &[Task], reciprocals: &[u64], s: &S, from: u128, to: u128) -> bool
     ensures { IsTrue result ↔
         ((from < to) × (dbf (sporadic_tasks tasks.now) (to - 1) ≤ S.bound s.now from)) }
 {
@@ -45,7 +48,7 @@ fn covers<S: Supply>(tasks: &[Task], s: &S, from: u128, to: u128) -> bool
         return false;
     }
     let given = s.least(from);
-    match demand(tasks, to - 1) {
+    match demand_by(tasks, reciprocals, to - 1) {
         Some(asked) => asked <= given,
         None => false,
     }

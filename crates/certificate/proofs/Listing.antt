@@ -2,7 +2,7 @@
 use Rattle.std.proofs.Common.{◌≡◌, ℕ, zero, suc, ◌+◌, ◌<◌, ◌≤◌, List, ◌∷◌, ◌++◌, length, drop, get_or, sym, ◌∙◌, ap, subst, arith, inl, inr, append_assoc, append-nil, drop-cons, add-one}
 use Rattle.std.proofs.lemmas.Bool.{cases_lt}
 use Rattle.std.proofs.lemmas.List.{drop_all}
-use Rattle.certificate.specs.Text.{behind, listed}
+use Rattle.cert_reader.specs.Text.{behind, listed}
 
 -- the first of all is written, and of the rest so many: what is left makes the whole, and all that
 -- was read is good

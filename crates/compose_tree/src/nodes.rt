@@ -1,4 +1,4 @@
-ghost use Rattle.std.specs.Prelude.{◌≡◌, ◌^◌, ◌<◌, ◌≤◌, None, length, IfOk, IfErr};
+ghost use Rattle.std.specs.Prelude.{◌≡◌, ◌^◌, ◌<◌, None, length, IfOk, IfErr};
 ghost use Rattle.slot_model.specs.Task.{sporadic_tasks};
 ghost use Rattle.slot_model.specs.Bound.{sbf, TestPasses};
 ghost use Rattle.tree_model.specs.System.{IsPeriod, IsGivenBudget, IsCoreSupply};

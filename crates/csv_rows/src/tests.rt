@@ -1,4 +1,4 @@
-use crate::{Records, RowWriter, is_plain, number};
+use crate::{Plain, Records, RowWriter, is_plain, number, plain_number};
 use std::test::Fail;
 
 #[test]
@@ -18,6 +18,39 @@ fn rows_are_read_as_they_were_written(rt: HostRuntime) -> Result<(), Fail> {
     Ok(())
 }
 
+/// Two fields each, with a mark at the front, an empty line, quotes, and no line end at the end.
+const QUOTED: &str = "\u{FEFF}a\"b,c\r\n\n\"x,\"\"y\"\"\r\n\",\"p\"q\n,z";
+
+#[test]
+fn fields_may_stand_in_quotes(rt: HostRuntime) -> Result<(), Fail> {
+    let alloc = rt.alloc();
+    let mut records = Records::new(alloc, QUOTED.as_bytes());
+    let read = [("a\"b", "c"), ("x,\"y\"\r\n", "pq"), ("", "z")];
+    for (first, second) in read {
+        assert!(rt; records.advance()?);
+        assert_eq!(rt; records.row().len(), 2);
+        assert_eq!(rt; records.row().get(0), Some(first.as_bytes()));
+        assert_eq!(rt; records.row().get(1), Some(second.as_bytes()));
+    }
+    assert!(rt; !records.advance()?);
+    assert!(rt; !records.advance()?);
+    Ok(())
+}
+
+#[test]
+fn a_comma_at_the_end_leaves_an_empty_field(rt: HostRuntime) -> Result<(), Fail> {
+    let alloc = rt.alloc();
+    for text in ["a,", "a,\n", "a,\"\"", "\r\n\"a\","] {
+        let mut records = Records::new(alloc, text.as_bytes());
+        assert!(rt; records.advance()?);
+        assert_eq!(rt; records.row().len(), 2);
+        assert_eq!(rt; records.row().get(0), Some(b"a".as_slice()));
+        assert_eq!(rt; records.row().get(1), Some(b"".as_slice()));
+        assert!(rt; !records.advance()?);
+    }
+    Ok(())
+}
+
 #[test]
 fn plain_numbers_have_no_sign_and_no_leading_zero(rt: HostRuntime) -> Result<(), Fail> {
     for field in [b"0".as_slice(), b"10", b"99999999999999999999999"] {
@@ -29,5 +62,18 @@ fn plain_numbers_have_no_sign_and_no_leading_zero(rt: HostRuntime) -> Result<(),
     assert_eq!(rt; number(b"1000", 1000), Some(1000));
     assert_eq!(rt; number(b"1001", 1000), None);
     assert_eq!(rt; number(b"99999999999999999999999", 1000), None);
+    let cases = [
+        (b"0".as_slice(), Plain::Is(0)),
+        (b"1000", Plain::Is(1000)),
+        (b"1001", Plain::Past),
+        (b"99999999999999999999999", Plain::Past),
+        (b"", Plain::No),
+        (b"01", Plain::No),
+        (b"1.0", Plain::No),
+        (b"9999999999999999999999x", Plain::No),
+    ];
+    for (field, plain) in cases {
+        assert_eq!(rt; plain_number(field, 1000), plain);
+    }
     Ok(())
 }

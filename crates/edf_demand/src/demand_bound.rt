@@ -5,6 +5,7 @@ ghost use Rattle.slot_model.specs.Task.{sporadic_task, sporadic_tasks};
 ghost use Rattle.slot_model.specs.declared.job.Job.{Job};
 ghost use Rattle.edf_demand.specs.Jobs.{jobs_due};
 
+use crate::quotient::quotient;
 use slot_model::Task;
 
 /// The demand bound function: the most work that jobs of the tasks ask for, if they are released
@@ -18,21 +19,31 @@ pub fn demand(tasks: &[Task], t: u128) -> Option<u128>
         work_within (sporadic_tasks tasks.now) jobs from (from + t)
         ≤ dbf (sporadic_tasks tasks.now) t }
 {
+    demand_by(tasks, &[], t)
+}
+
+/// The same, and quicker where these are the reciprocals of the first periods. The answer is the
+/// demand whatever they are.
+pub fn demand_by(tasks: &[Task], reciprocals: &[u64], t: u128) -> Option<u128>
+    ensures { MatchOption result
+        (2 ^ 128 ≤ dbf (sporadic_tasks tasks.now) t)
+        (λ d. d ≡ dbf (sporadic_tasks tasks.now) t) }
+{
     if t <= u64::MAX as u128 {
-        Some(demand_within(tasks, t as u64))
+        Some(demand_within(tasks, reciprocals, t as u64))
     } else {
         demand_past(tasks, t)
     }
 }
 
 /// The same in 64 bits, but for the sum: a task's demand is at most `t`.
-fn demand_within(tasks: &[Task], t: u64) -> u128
+fn demand_within(tasks: &[Task], reciprocals: &[u64], t: u64) -> u128
     ensures { result ≡ dbf (sporadic_tasks tasks.now) t }
 {
     let mut total: u128 = 0;
-    let mut due = Due::new(1, 1, t);
-    for task in tasks {
-        due = due.of_task(task, t);
+    let mut due = Due::new(1, 1, None, t);
+    for (k, task) in tasks.iter().enumerate() {
+        due = due.of_task(task, reciprocals.get(k).copied(), t);
         total += demand_of_task(task, &due, t) as u128;
     }
     total
@@ -47,19 +58,23 @@ struct Due {
 }
 
 impl Due {
-    fn new(period: u64, room: u64, t: u64) -> Due
+    fn new(period: u64, room: u64, reciprocal: Option<u64>, t: u64) -> Due
         requires some_period { 1 ≤ period }
         requires some_room { 1 ≤ room }
         ensures period { result.period ≡ period }
         ensures room { result.room ≡ room }
         ensures jobs { result.jobs ≡ jobs_due period room t }
     {
-        let jobs = if t < room { 0 } else { (t - room) / period + 1 };
+        let jobs = if t < room {
+            0
+        } else {
+            quotient(t - room, period, reciprocal) + 1
+        };
         Due { period, room, jobs }
     }
 
     /// The same of a task; tasks of one period and room that stand in a row share a division.
-    fn of_task(self, task: &Task, t: u64) -> Due
+    fn of_task(self, task: &Task, reciprocal: Option<u64>, t: u64) -> Due
         requires { self.jobs ≡ jobs_due self.period self.room t }
         ensures period { result.period ≡ task.now.period }
         ensures room { result.room ≡ task.now.deadline - task.now.jitter }
@@ -69,7 +84,7 @@ impl Due {
         if self.period == task.period && self.room == room {
             return self;
         }
-        Due::new(task.period, room, t)
+        Due::new(task.period, room, reciprocal, t)
     }
 }
 

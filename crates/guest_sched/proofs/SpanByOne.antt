@@ -1,11 +1,14 @@
 -- The spans of a run one by one: where each begins and ends, and what the run holds there.
-use Rattle.std.proofs.Common.{◌≡◌, ℕ, zero, suc, ◌+◌, ◌-◌, ◌<◌, ◌≤◌, List, length, Option, Some, sym, ◌∙◌, ap, arith, add-one, add-zero}
+use Rattle.std.proofs.Common.{◌≡◌, ℕ, zero, suc, ◌+◌, ◌-◌, ◌<◌, ◌≤◌, List, [], length, Option, Some, refl, sym, ◌∙◌, ap, arith, add-one, add-zero}
 use Rattle.slot_model.specs.declared.job.Job.{Job}
 use Rattle.slot_model.specs.Run.{held}
 use Rattle.slot_model.specs.Miss.{HoldsReleased, IsReleased}
 use Rattle.guest_sched.specs.declared.spans.Span.{Span}
 use Rattle.guest_sched.specs.Spans.{span_at, run_of, end_of, AreSpans}
 use Rattle.guest_sched.proofs.Held.{held_within}
+
+pub no_spans : AreSpans [] 0
+no_spans = record { some = λ i l. absurd (omega arith); join = λ i l. absurd (omega arith); whole = refl; change = λ i l. absurd (omega arith) }
 
 -- what a run holds at the slots of a span
 abbrev pub Holds : List (Option ℕ) → ℕ → ℕ → Option ℕ → Type 0

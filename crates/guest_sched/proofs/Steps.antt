@@ -11,17 +11,14 @@ use Rattle.guest_sched.specs.declared.releases.Release.{Release}
 use Rattle.guest_sched.specs.declared.ready.Ready.{Ready}
 use Rattle.guest_sched.specs.declared.spans.Span.{Span}
 use Rattle.guest_sched.specs.declared.spans.Window.{Window}
-use Rattle.guest_sched.specs.declared.windows.Stretch.{Stretch}
 use Rattle.guest_sched.specs.Releases.{release_at, AreReleases}
 use Rattle.guest_sched.specs.Choice.{job_of, IsBeaten, IsUnbeaten, IsFirstUnbeaten}
 use Rattle.guest_sched.specs.Keep.{AreEnds}
 use Rattle.guest_sched.specs.Places.{StandsIn, IsAscending}
 use Rattle.guest_sched.specs.Ready.{HasCome, IsReady, HaveCome, AreToCome, IsServed, IsSteady, left_after}
 use Rattle.guest_sched.specs.Spans.{slots_of, entries_of}
-use Rattle.guest_sched.specs.Stretch.{IsStretch}
 use Rattle.guest_sched.proofs.State.{ready_in}
 use Rattle.guest_sched.proofs.Steady.{Steady, no_entry, span_run, gap_run, service_span}
-use Rattle.guest_sched.proofs.Given.{slot_at}
 
 -- what the state says of the run so far: each job lacks its work but for its service
 abbrev pub IsLeft : List Job → List (Option ℕ) → ℕ → List ℕ → Type 0
@@ -136,12 +133,11 @@ pub record IsCurrent (state : Ready) : Type 0 where
   pub early : state.time < 2 ^ 64 - 1
 
 -- what serves a span
-pub record Serves (before : Job → Job → Bool) (jobs : List Job) (came : Ready) (stretch : Stretch) (span : Span) (after : Ready) : Type 0 where
+pub record Serves (before : Job → Job → Bool) (jobs : List Job) (came : Ready) (span : Span) (after : Ready) : Type 0 where
   pub from : span.from ≡ came.time
   pub some : came.time < span.until
-  pub in_stretch : span.until ≤ stretch.until
-  pub served : IsServed before jobs came.ready.items stretch.given span.job
-  pub steady : stretch.given ≡ true → IsSteady came span.until
+  pub served : IsServed before jobs came.ready.items true span.job
+  pub steady : IsSteady came span.until
   pub enough : (p : ℕ) → span.job ≡ Some p → span.until - came.time ≤ get_or came.left.items p 0
   pub left : after.left.items ≡ left_after came.left.items span.job (span.until - came.time)
   pub is_state : IsReady after
@@ -155,60 +151,60 @@ served_stands before jobs ready false entry p v e = absurd (none_some entry p v 
 served_stands before jobs ready true None p v e = absurd (none_some None p refl e)
 served_stands before jobs ready true (Some j) p v e = (v.0, v.2.0, v.1 ∙ same_some j p e)
 
+-- the slots from one moment up to another are given
+abbrev pub AreGiven : List Bool → ℕ → ℕ → Type 0
+AreGiven slots from until = (x : ℕ) → from ≤ x → x < until → get_or slots x false ≡ true
+
 -- nothing changes within a span
-steady_span : (level : Level) (before : Job → Job → Bool) (tasks : List SporadicTask) (jobs : List Job) (windows : List Window) (n : ℕ) (run : List (Option ℕ)) (state : Ready) (stretch : Stretch) (span : Span) (after : Ready)
+steady_span : (level : Level) (before : Job → Job → Bool) (tasks : List SporadicTask) (jobs : List Job) (windows : List Window) (n : ℕ) (run : List (Option ℕ)) (state : Ready) (span : Span) (after : Ready)
     → AreReleases jobs state.releases.items → AreEnds level tasks jobs state.ends.items → IsLeft jobs run state.time state.left.items → length state.left.items ≡ length jobs → IsCurrent state → AreReady level tasks jobs run state.time state.ready.items
-    → IsStretch windows state.time n stretch → Serves before jobs state stretch span after → stretch.given ≡ true
-    → Steady level tasks jobs (slots_of windows n) run state.time (span.until - state.time) stretch.given span.job
-steady_span level before tasks jobs windows n run state stretch span after by ends lacks long now are same v given = record {
-  same_slots = λ x a b. slot_at windows n x (omega (arith, same.in_slots, v.in_stretch)) ∙ same.same x a (omega (arith, v.in_stretch));
+    → AreGiven (slots_of windows n) state.time span.until → Serves before jobs state span after
+    → Steady level tasks jobs (slots_of windows n) run state.time (span.until - state.time) true span.job
+steady_span level before tasks jobs windows n run state span after by ends lacks long now are same v = record {
+  same_slots = λ x a b. same x a (omega (arith, v.some));
   releases = λ j l.
       let e : (i : ℕ) × (i < length state.releases.items) × ((release_at state.releases.items i).place ≡ j) = by.every j l in
       let rel : (release_at state.releases.items e.0).release ≡ (job_at jobs j).release = by.of_job e.0 e.1 ∙ ap (λ (z : ℕ). (job_at jobs z).release) e.2 in
       elim (cases_lt e.0 state.released) [
         | inl m ↦ inl (omega (arith, now.come e.0 m))
-        | inr m ↦ inr (omega (arith, v.some, (v.steady given).none_comes (omega (arith, e.1)), now.is_state.in_order state.released e.0 m e.1))
+        | inr m ↦ inr (omega (arith, v.some, v.steady.none_comes (omega (arith, e.1)), now.is_state.in_order state.released e.0 m e.1))
       ];
   still_open = λ j x p l.
       let s : StandsIn state.ready.items j = are.all j p in
-      (ends.each j p.is_job).stays x (omega (arith, v.some, (v.steady given).none_ends, now.is_state.soon j s));
+      (ends.each j p.is_job).stays x (omega (arith, v.some, v.steady.none_ends, now.is_state.soon j s));
   enough = λ j e.
-      let s : StandsIn state.ready.items j = served_stands before jobs state.ready.items stretch.given span.job j v.served e in
+      let s : StandsIn state.ready.items j = served_stands before jobs state.ready.items true span.job j v.served e in
       omega (arith, v.enough j e, lacks j (are.pending j s).is_job);
 }
 
-span_more : (level : Level) (before : Job → Job → Bool) (tasks : List SporadicTask) (jobs : List Job) (windows : List Window) (n : ℕ) (run : List (Option ℕ)) (state : Ready) (stretch : Stretch) (span : Span) (after : Ready)
+span_more : (level : Level) (before : Job → Job → Bool) (tasks : List SporadicTask) (jobs : List Job) (windows : List Window) (n : ℕ) (run : List (Option ℕ)) (state : Ready) (span : Span) (after : Ready)
     → FirstRunTo level before tasks jobs (slots_of windows n) state.time run → AreReleases jobs state.releases.items → AreEnds level tasks jobs state.ends.items → IsLeft jobs run state.time state.left.items → length state.left.items ≡ length jobs → IsCurrent state
-    → IsStretch windows state.time n stretch → Serves before jobs state stretch span after → (given : Bool) → stretch.given ≡ given
+    → AreGiven (slots_of windows n) state.time span.until → Serves before jobs state span after
     → FirstRunTo level before tasks jobs (slots_of windows n) (state.time + (span.until - state.time)) (run ++ replicate (span.until - state.time) span.job)
-span_more level before tasks jobs windows n run state stretch span after f by ends lacks long now same v false given =
-    let idle : None ≡ span.job = sym (subst (λ (b : Bool). IsServed before jobs state.ready.items b span.job) given v.served) in
-    subst (λ (o : Option ℕ). FirstRunTo level before tasks jobs (slots_of windows n) (state.time + (span.until - state.time)) (run ++ replicate (span.until - state.time) o)) idle
-    (gap_run level before tasks jobs (slots_of windows n) (span.until - state.time) state.time run f (λ x a b. slot_at windows n x (omega (arith, same.in_slots, v.in_stretch, v.some)) ∙ (same.same x a (omega (arith, v.in_stretch, v.some)) ∙ given)))
-span_more level before tasks jobs windows n run state stretch span after f by ends lacks long now same v true given =
+span_more level before tasks jobs windows n run state span after f by ends lacks long now same v =
     let are : AreReady level tasks jobs run state.time state.ready.items = ready_are level tasks jobs state run by now.is_state now.come now.to_come lacks ends now.none_over now.early in
-    span_run level before tasks jobs (slots_of windows n) stretch.given span.job (span.until - state.time) state.time run f (steady_span level before tasks jobs windows n run state stretch span after by ends lacks long now are same v given)
-    (served_entry level before tasks jobs run state.time state.ready.items are stretch.given span.job v.served)
+    span_run level before tasks jobs (slots_of windows n) true span.job (span.until - state.time) state.time run f (steady_span level before tasks jobs windows n run state span after by ends lacks long now are same v)
+    (served_entry level before tasks jobs run state.time state.ready.items are true span.job v.served)
 
 -- after one span more: `came` is the state when the jobs have come, and `after` the state when one
 -- is served
-pub kept_more : (level : Level) (before : Job → Job → Bool) (tasks : List SporadicTask) (jobs : List Job) (windows : List Window) (n : ℕ) (run more : List (Option ℕ)) (state came after : Ready) (stretch : Stretch) (span : Span) → Kept level before tasks jobs (slots_of windows n) run state
+pub kept_more : (level : Level) (before : Job → Job → Bool) (tasks : List SporadicTask) (jobs : List Job) (windows : List Window) (n : ℕ) (run more : List (Option ℕ)) (state came after : Ready) (span : Span) → Kept level before tasks jobs (slots_of windows n) run state
     → IsCurrent came → came.time ≡ state.time → came.releases.items ≡ state.releases.items → came.left.items ≡ state.left.items → came.ends.items ≡ state.ends.items
-    → IsStretch windows state.time n stretch → Serves before jobs came stretch span after → more ≡ run ++ entries_of span → Kept level before tasks jobs (slots_of windows n) more after
-kept_more level before tasks jobs windows n run more state came after stretch span k now time kept same_left same_ends same v e =
+    → AreGiven (slots_of windows n) state.time span.until → Serves before jobs came span after → more ≡ run ++ entries_of span → Kept level before tasks jobs (slots_of windows n) more after
+kept_more level before tasks jobs windows n run more state came after span k now time kept same_left same_ends same v e =
     let by : AreReleases jobs came.releases.items = subst (AreReleases jobs) (sym kept) k.by_release in
     let lacks : IsLeft jobs run came.time came.left.items = subst (λ (z : ℕ). IsLeft jobs run z came.left.items) (sym time) (subst (IsLeft jobs run state.time) (sym same_left) k.lacks) in
     let ends : AreEnds level tasks jobs came.ends.items = subst (AreEnds level tasks jobs) (sym same_ends) k.ends in
     let long : length came.left.items ≡ length jobs = ap (λ (z : List ℕ). length z) same_left ∙ k.long in
     let so_far : FirstRunTo level before tasks jobs (slots_of windows n) came.time run = subst (λ (z : ℕ). FirstRunTo level before tasks jobs (slots_of windows n) z run) (sym time) k.run_so_far in
-    let stretches : IsStretch windows came.time n stretch = subst (λ (z : ℕ). IsStretch windows z n stretch) (sym time) same in
+    let given : AreGiven (slots_of windows n) came.time span.until = subst (λ (z : ℕ). AreGiven (slots_of windows n) z span.until) (sym time) same in
     let is : run ++ replicate (span.until - came.time) span.job ≡ more = ap (λ (z : ℕ). run ++ replicate (span.until - z) span.job) (sym v.from) ∙ sym e in
     let end : came.time + (span.until - came.time) ≡ after.time = omega (arith, v.some, v.time) in
     let first : FirstRunTo level before tasks jobs (slots_of windows n) (came.time + (span.until - came.time)) (run ++ replicate (span.until - came.time) span.job)
-    = span_more level before tasks jobs windows n run came stretch span after so_far by ends lacks long now stretches v stretch.given refl in
+    = span_more level before tasks jobs windows n run came span after so_far by ends lacks long now given v in
     let left : IsLeft jobs (run ++ replicate (span.until - came.time) span.job) (came.time + (span.until - came.time)) (left_after came.left.items span.job (span.until - came.time))
     = left_more jobs run came.time (span.until - came.time) came.left.items span.job so_far.long lacks (λ p q. (
-      ready_in came.releases.items came.released came.left.items came.ends.items came.ready.items came.soonest came.time now.is_state p (served_stands before jobs came.ready.items stretch.given span.job p v.served q),
+      ready_in came.releases.items came.released came.left.items came.ends.items came.ready.items came.soonest came.time now.is_state p (served_stands before jobs came.ready.items true span.job p v.served q),
       v.enough p q,
     )) in
     record {
@@ -219,4 +215,23 @@ kept_more level before tasks jobs windows n run more state came after stretch sp
       come = λ i l. omega (arith, v.some, v.time, now.come i (omega (arith, v.released)), ap (λ (a : List Release). (release_at a i).release) v.releases);
       lacks = subst (IsLeft jobs more after.time) (sym v.left) (subst (λ (z : ℕ). IsLeft jobs more z (left_after came.left.items span.job (span.until - came.time))) end (subst (λ (r : List (Option ℕ)). IsLeft jobs r (came.time + (span.until - came.time)) (left_after came.left.items span.job (span.until - came.time))) is left));
       ends = subst (AreEnds level tasks jobs) (sym v.ends) ends;
+    }
+
+-- after slots that are not given
+pub kept_gap : (level : Level) (before : Job → Job → Bool) (tasks : List SporadicTask) (jobs : List Job) (slots : List Bool) (run more : List (Option ℕ)) (state after : Ready) (until : ℕ) → Kept level before tasks jobs slots run state → ((x : ℕ) → state.time ≤ x → x < until → get_or slots x false ≡ false)
+    → after ≡ record state { time = after.time } → after.time ≡ state.time + (until - state.time) → IsReady after → more ≡ run ++ replicate (until - state.time) None → Kept level before tasks jobs slots more after
+kept_gap level before tasks jobs slots run more state after until k none same time is e =
+    let releases : after.releases.items ≡ state.releases.items = ap (λ (s : Ready). s.releases.items) same in
+    let left : after.left.items ≡ state.left.items = ap (λ (s : Ready). s.left.items) same in
+    let d : ℕ = until - state.time in
+    let first : FirstRunTo level before tasks jobs slots (state.time + d) (run ++ replicate d None) = gap_run level before tasks jobs slots d state.time run k.run_so_far (λ x a b. none x a (omega arith)) in
+    let lacks : IsLeft jobs (run ++ replicate d None) (state.time + d) state.left.items = left_more jobs run state.time d state.left.items None k.run_so_far.long k.lacks (λ p q. absurd (none_some None p refl q)) in
+    record {
+      run_so_far = subst (λ (z : ℕ). FirstRunTo level before tasks jobs slots z more) (sym time) (subst (FirstRunTo level before tasks jobs slots (state.time + d)) (sym e) first);
+      by_release = subst (AreReleases jobs) (sym releases) k.by_release;
+      long = ap (λ (z : List ℕ). length z) left ∙ k.long;
+      is_state = is;
+      come = λ i l. omega (arith, time, k.come i (omega (arith, ap (λ (s : Ready). s.released) same)), ap (λ (a : List Release). (release_at a i).release) releases);
+      lacks = subst (λ (z : List ℕ). IsLeft jobs more after.time z) (sym left) (subst (λ (z : ℕ). IsLeft jobs more z state.left.items) (sym time) (subst (λ (r : List (Option ℕ)). IsLeft jobs r (state.time + d) state.left.items) (sym e) lacks));
+      ends = subst (AreEnds level tasks jobs) (sym (ap (λ (s : Ready). s.ends.items) same)) k.ends;
     }

@@ -3,6 +3,5 @@ pub mod Releases
 pub mod Places
 pub mod Keep
 pub mod Spans
-pub mod Stretch
 pub mod Ready
 pub mod MoreWindows

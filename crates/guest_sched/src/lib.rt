@@ -16,7 +16,7 @@ mod windows;
 
 pub use level::{guest_by, servers_by};
 pub use patterns::{windows_of, worst_windows};
-pub use schedule::{run_level, run_over, written};
+pub use schedule::{run_level, run_over, spans_of, written};
 pub use spans::{Span, Window, run_spans, server_spans};
 pub use windows::{add_window, are_windows};
 

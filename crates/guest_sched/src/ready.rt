@@ -10,7 +10,6 @@ use crate::keep::{Keep, end_moment};
 use crate::places::{insert_place, remove_place};
 use crate::releases::{Release, releases};
 use crate::spans::Span;
-use crate::windows::Stretch;
 use slot_model::{Job, Order, Task};
 use std::alloc::{AllocError, Global};
 
@@ -169,14 +168,9 @@ impl Ready {
         self.soonest = soonest_end(&self.ends, &self.ready);
     }
 
-    /// The next span: the job that has its slots, if there is one, which is served.
-    pub fn serve<O: Order>(
-        &mut self,
-        order: &O,
-        tasks: &[Task],
-        jobs: &[Job],
-        stretch: &Stretch,
-    ) -> Span
+    /// The next span where all slots up to `until` are given: the job that has its slots, if there
+    /// is one, which is served.
+    pub fn serve<O: Order>(&mut self, order: &O, tasks: &[Task], jobs: &[Job], until: u64) -> Span
         requires state { IsReady self.old }
         requires to_come { AreToCome self.old self.old.time }
         requires none_over { self.old.time < self.old.soonest }
@@ -186,14 +180,14 @@ impl Ready {
             All (λ a. a.early ≤ (task_at T a.task).jitter) jobs.now }
         requires best { let before = O.goes order.now (sporadic_tasks tasks.now) in
             IsBest before jobs.now self.old.ready.items self.old.best }
-        requires some { self.old.time < stretch.now.until }
+        requires some { self.old.time < until }
         ensures from { result.from ≡ self.old.time }
         ensures some { self.old.time < result.until }
         ensures time { self.new.time ≡ result.until }
-        ensures in_stretch { result.until ≤ stretch.now.until }
+        ensures in_time { result.until ≤ until }
         ensures served { let before = O.goes order.now (sporadic_tasks tasks.now) in
-            IsServed before jobs.now self.old.ready.items stretch.now.given result.job }
-        ensures steady { IsTrue stretch.now.given → IsSteady self.old result.until }
+            IsServed before jobs.now self.old.ready.items true result.job }
+        ensures steady { IsSteady self.old result.until }
         ensures enough { IfSome result.job (λ j.
             result.until - self.old.time ≤ slice_index self.old.left.items j) }
         ensures left { self.new.left.items ≡ left_after self.old.left.items result.job
@@ -205,10 +199,7 @@ impl Ready {
         ensures released { self.new.released ≡ self.old.released }
         ensures ends { self.new.ends ≡ self.old.ends }
     {
-        if !stretch.given {
-            return self.pass(stretch.until);
-        }
-        let until = self.steady_until(stretch.until);
+        let until = self.steady_until(until);
         match self.choose(order, tasks, jobs) {
             None => self.pass(until),
             Some(place) => self.give(place, until),
@@ -216,7 +207,7 @@ impl Ready {
     }
 
     /// Serves no job up to `until`.
-    fn pass(&mut self, until: u64) -> Span
+    pub fn pass(&mut self, until: u64) -> Span
         requires state { IsReady self.old }
         requires later { self.old.time ≤ until }
         ensures span { result ≡ record { from = self.old.time; until = until; job = None } }

@@ -1,4 +1,4 @@
-ghost use Rattle.std.specs.Prelude.{◌≡◌, ◌≢◌, ◌^◌, ◌<◌, length};
+ghost use Rattle.std.specs.Prelude.{◌≢◌, ◌^◌, ◌<◌, length};
 ghost use Rattle.slot_model.specs.Task.{sporadic_tasks};
 ghost use Rattle.slot_model.specs.Order.{before_of};
 ghost use Rattle.least_budget.specs.Answers.{IsTested, Foretells};

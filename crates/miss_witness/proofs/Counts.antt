@@ -1,5 +1,5 @@
 -- The jobs of a short defeat are few.
-use Rattle.std.proofs.Common.{ℕ, ◌*◌, ◌≤◌, List, length, arith, mul-le-mul_right}
+use Rattle.std.proofs.Common.{ℕ, ◌≤◌, List, length, arith, mul-le-mul_right}
 use Rattle.slot_model.specs.Task.{SporadicTask}
 use Rattle.slot_model.specs.Release.{synchronous}
 use Rattle.release_pattern.proofs.FewJobs.{synchronous-few}

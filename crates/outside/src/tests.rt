@@ -1,4 +1,4 @@
-ghost use Rattle.std.specs.Prelude.{IfOk, ◌≤◌, None};
+ghost use Rattle.std.specs.Prelude.{◌≤◌, None};
 
 use super::*;
 use slot_model::Name;

@@ -1,17 +1,13 @@
 -- Worked rows, on which the rules are computed: A with the tasks t1, of 7 slots in 50 with a jitter
 -- of 5, and t2, of 9 slots in 75; and B, without tasks, on which C stands.
-use Rattle.std.proofs.Common.{◌≡◌, ℕ, Bool, true, false, Option, Some, None, List, [], ◌∷◌, codes, refl}
-use Rattle.slot_model.specs.declared.job.Job.{Job}
+use Rattle.std.proofs.Common.{◌≡◌, ℕ, false, Some, None, List, [], ◌∷◌, codes, refl}
 use Rattle.slot_model.specs.declared.sched.Sched.TheVariants.{Edf}
 use Rattle.slot_model.specs.Task.{early_job, jittery_task, plain_task}
-use Rattle.tree_model.specs.declared.pinned_core.Core.{Core as CoreView}
 use Rattle.tree_model.specs.declared.place.Parent.{Parent}
 use Rattle.tree_model.specs.declared.place.Parent.TheVariants.{Core as on_core, Part as on_part}
 use Rattle.tree_model.specs.View.{NamedTask, PartView, SystemView}
-use Rattle.release_file.specs.declared.fault.ReleaseFault.{ReleaseFault}
 use Rattle.release_file.specs.declared.fault.ReleaseFault.TheVariants.{BadRow, Unknown, OutOfRange, TooEarly, BadOrder}
 use Rattle.release_file.specs.declared.release_spelling.Version.TheVariants.{First, Second}
-use Rattle.release_file.specs.declared.workload.Wake.{Wake}
 use Rattle.release_file.specs.declared.workload.WakeKind.TheVariants.{Start, Wake as ToWake, Block}
 use Rattle.release_file.specs.Workload.{last_row}
 use Rattle.release_file.specs.WorkloadFile.{wakes_of, wake_rules, wake_rows}

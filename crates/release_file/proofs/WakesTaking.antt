@@ -1,18 +1,13 @@
 -- The rows of a workload that were read.
-use Rattle.std.proofs.Common.{◌≡◌, ◌<◌, nat_lt, ℕ, Bool, true, false, not, List, [], ◌∷◌, ◌++◌, length, Option, Some, None, refl, sym, ◌∙◌, ap, subst, arith, replicate}
-use Rattle.std.proofs.lemmas.Bool.{lt-ltb}
-use Rattle.std.proofs.lemmas.List.{map-append, length-map, get_or-replicate, length-replicate}
-use Rattle.std.specs.Prelude.{Result, Ok, Err, OnOk}
-use Rattle.slot_model.specs.declared.task.TheConstants.{LIMIT}
-use Rattle.csv_rows.specs.Rules.{row_of, fault_if, RowsKeep, IsFirstFault}
-use Rattle.csv_rows.proofs.Keeping.{fault_broken}
+use Rattle.std.proofs.Common.{◌≡◌, ℕ, true, List, [], ◌∷◌, ◌++◌, length, Option, Some, None, refl, sym, ◌∙◌, ap, subst, arith, replicate}
+use Rattle.std.proofs.lemmas.List.{map-append, get_or-replicate, length-replicate}
+use Rattle.csv_rows.specs.Rules.{RowsKeep, IsFirstFault}
 use Rattle.tree_model.specs.View.{SystemView}
 use Rattle.release_file.specs.declared.fault.ReleaseFault.{ReleaseFault}
-use Rattle.release_file.specs.declared.fault.ReleaseFault.TheVariants.{BadRow, OutOfRange}
 use Rattle.release_file.specs.declared.workload.Wake.{Wake}
 use Rattle.release_file.specs.declared.wake_rows.WakeRows.{WakeRows}
 use Rattle.release_file.specs.Workload.{is_of, IsWorkload}
-use Rattle.release_file.specs.WorkloadFile.{is_wake_row, wake_of, wakes_of, wake_fault, wake_rules, is_wake_header, wake_rows, SpellsWorkload, IsWorkloadFault}
+use Rattle.release_file.specs.WorkloadFile.{wake_of, wakes_of, wake_rules, is_wake_header, wake_rows, SpellsWorkload, IsWorkloadFault}
 use Rattle.release_file.specs.WakesTaken.{last_at, IsBehind, HasTakenWakes}
 use Rattle.release_file.proofs.Rows.{last_row-zero}
 

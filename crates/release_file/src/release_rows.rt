@@ -68,7 +68,7 @@ impl<'s> RowRules for ReleaseRows<'s> {
 }
 
 impl<'s> ReleaseRows<'s> {
-    ghost use Rattle.std.specs.Prelude.{◌≡◌, [], IfOk, IfErr, map};
+    ghost use Rattle.std.specs.Prelude.{◌≡◌, [], IfOk, map};
     ghost use Rattle.release_file.specs.declared.fault.ReleaseFault.TheVariants.{NoMemory};
     ghost use Rattle.release_file.specs.ReleasesTaken.{HasTakenReleases};
 

@@ -1,4 +1,4 @@
-ghost use Rattle.std.specs.Prelude.{◌≡◌, ◌⊎◌, ◌≤◌, ◌<◌, ◌+◌, ◌∷◌, ◌++◌, [], List, ℕ, Option, Some, None, length, OnOk, IfErr};
+ghost use Rattle.std.specs.Prelude.{◌≡◌, ◌⊎◌, ◌≤◌, ◌<◌, ◌+◌, ◌∷◌, ◌++◌, [], Option, Some, None, length, OnOk, IfErr};
 ghost use Rattle.release_file.specs.Workload.{is_block, may_follow};
 ghost use Rattle.release_file.specs.WakesTaken.{stands_at};
 
@@ -51,12 +51,11 @@ impl<'s> RowRules for WakeRows<'s> {
 }
 
 impl<'s> WakeRows<'s> {
-    ghost use Rattle.std.specs.Prelude.{◌≡◌, ◌⊎◌, ◌≤◌, ◌<◌, ◌+◌, ◌∷◌, ◌++◌, [], List, ℕ, Some, None, length, true, IfOk, IfErr, OnOk};
+    ghost use Rattle.std.specs.Prelude.{◌≡◌, ◌⊎◌, ◌≤◌, ◌<◌, ◌+◌, ◌∷◌, ◌++◌, [], Some, None, length, true, IfOk, IfErr, OnOk};
     ghost use Rattle.slot_model.specs.declared.task.TheConstants.{LIMIT};
     ghost use Rattle.tree_model.specs.System.{IsSystem};
     ghost use Rattle.trace_file.specs.Rules.{is_vcpu};
     ghost use Rattle.release_file.specs.declared.fault.ReleaseFault.TheVariants.{NoMemory};
-    ghost use Rattle.release_file.specs.Workload.{is_of, last_row};
     ghost use Rattle.csv_rows.specs.Rules.{row_of};
     ghost use Rattle.release_file.specs.WorkloadFile.{turn_fault, wake_fault};
     ghost use Rattle.release_file.specs.WakesTaken.{HasTakenWakes, IsBehind};

@@ -1,6 +1,4 @@
-mod Bags
-mod TaskReleases
-mod Ordered
-mod Sorted
 mod FewTasks
+mod Moments
+mod Dues
 pub mod FewJobs

@@ -1,10 +1,14 @@
-ghost use Rattle.std.specs.Prelude.{◌≡◌, ◌+◌, ◌^◌, ◌<◌, ◌≤◌, ◌++◌, length, IfOk};
-ghost use Rattle.slot_model.specs.Task.{sporadic_tasks};
-ghost use Rattle.slot_model.specs.Release.{LegalRelease, synchronous};
-ghost use Rattle.release_pattern.specs.Jobs.{task_releases};
+ghost use Rattle.std.specs.Prelude.{◌≡◌, ◌⊎◌, ℕ, ◌+◌, ◌*◌, ◌-◌, ◌^◌, ◌<◌, ◌≤◌, min, true, List, [], ◌∷◌, ◌++◌, length, slice_index, IfOk, OnOk};
+ghost use Rattle.slot_model.specs.Task.{sporadic_tasks, task_at};
+ghost use Rattle.slot_model.specs.Release.{LegalRelease, releases_now, release_of, releases_at, synchronous};
+ghost use Rattle.slot_model.specs.declared.job.Job.{Job as AnyJob};
+ghost use Rattle.release_pattern.specs.Due.{IsNext, AreDue, IsDue, NoneRelease};
 
 use slot_model::{Job, Task};
 use std::alloc::{AllocError, Global};
+
+/// So many tasks that stand side by side make a group, whose next release is known.
+const GROUP: usize = 16;
 
 /// The synchronous release: every task releases at `start`, with its whole jitter behind it, and
 /// then as its jobs arrive, once a period, within `span` slots, always with full work. The jobs
@@ -23,39 +27,127 @@ pub fn synchronous_jobs(
     ensures few { IfOk result (λ jobs. length jobs.items < 2 ^ 32) }
 {
     let mut jobs = Vec::new(alloc);
-    for place in 0..tasks.len() {
-        push_releases(&mut jobs, tasks, place, start, span)?;
+    let mut due = Due::new(alloc, tasks)?;
+    let mut after = 0;
+    while after < span {
+        after = due.push_moment(&mut jobs, tasks, start, after)?;
     }
-    jobs.sort_unstable_by_key(|job| (job.release, job.task));
     Ok(jobs)
 }
 
-/// Adds what the task at `place` releases in `span` slots from `start` on.
-fn push_releases(
+/// When the next jobs are released, in slots after the start.
+#[derive(Drop)]
+pub struct Due {
+    /// The next release of each task.
+    tasks: Vec<u64>,
+    /// No task of a group releases before this moment.
+    groups: Vec<u64>,
+}
+
+impl Due {
+    /// All tasks release at the start.
+    fn new(alloc: Global, tasks: &[Task]) -> Result<Due, AllocError>
+        ensures { IfOk result (λ due. IsDue (sporadic_tasks tasks.now) 0 due) }
+    {
+        Ok(Due {
+            tasks: vec![in alloc; 0; tasks.len()]?,
+            groups: vec![in alloc; 0; tasks.len() / GROUP + 1]?,
+        })
+    }
+
+    /// Adds what the tasks release at a moment, and tells the next at which one may release.
+    fn push_moment(
+        &mut self,
+        jobs: &mut Vec<Job>,
+        tasks: &[Task],
+        start: u64,
+        after: u64,
+    ) -> Result<u64, AllocError>
+        requires few { length tasks.now < 2 ^ 32 }
+        requires in_time { start + after < 2 ^ 64 - 1 }
+        requires due { IsDue (sporadic_tasks tasks.now) after self.old }
+        ensures jobs { let T = sporadic_tasks tasks.now in
+            OnOk result (jobs.new.items ≡ releases_at T start after (length T) jobs.old.items) }
+        ensures later { IfOk result (λ next. after < next) }
+        ensures none { let T = sporadic_tasks tasks.now in
+            IfOk result (λ next. NoneRelease T (after + 1) next) }
+        ensures due { IfOk result (λ next. IsDue (sporadic_tasks tasks.now) next self.new) }
+    {
+        let mut next = u64::MAX;
+        for group in 0..self.groups.len() {
+            if self.groups[group] == after {
+                let first = self.push_group(jobs, tasks, group, start, after)?;
+                self.groups[group] = first;
+            }
+            next = next.min(self.groups[group]);
+        }
+        Ok(next)
+    }
+
+    /// Adds what the tasks of a group release at a moment, and tells the next release of the group.
+    fn push_group(
+        &mut self,
+        jobs: &mut Vec<Job>,
+        tasks: &[Task],
+        group: usize,
+        start: u64,
+        after: u64,
+    ) -> Result<u64, AllocError>
+        requires few { length tasks.now < 2 ^ 32 }
+        requires in_time { start + after < 2 ^ 64 - 1 }
+        requires in_tasks { 16 * group ≤ length tasks.now }
+        requires due { AreDue (sporadic_tasks tasks.now) (16 * group) after self.old.tasks.items }
+        ensures jobs { let T = sporadic_tasks tasks.now in
+            (earlier : List AnyJob) →
+            jobs.old.items ≡ releases_at T start after (16 * group) earlier →
+            OnOk result (jobs.new.items ≡ releases_at T start after
+            (min (16 * group + 16) (length T)) earlier) }
+        ensures due { let T = sporadic_tasks tasks.now in
+            OnOk result (AreDue T (16 * group + 16) after self.new.tasks.items) }
+        ensures same { OnOk result ((i : ℕ) → (i < 16 * group) ⊎ (16 * group + 16 ≤ i) →
+            slice_index self.new.tasks.items i ≡ slice_index self.old.tasks.items i) }
+        ensures groups { self.new.groups ≡ self.old.groups }
+        ensures later { IfOk result (λ next. after < next) }
+        ensures first { IfOk result (λ next. (i : ℕ) → 16 * group ≤ i → i < 16 * group + 16 →
+            i < length tasks.now → next ≤ slice_index self.new.tasks.items i) }
+    {
+        let from = GROUP * group;
+        let until = from + GROUP.min(tasks.len() - from);
+        let mut next = u64::MAX;
+        for place in from..until {
+            if self.tasks[place] == after {
+                self.tasks[place] = push_release(jobs, tasks, place, start, after)?;
+            }
+            next = next.min(self.tasks[place]);
+        }
+        Ok(next)
+    }
+}
+
+/// Adds the job that the task at `place` releases at a moment, and tells its next release.
+fn push_release(
     jobs: &mut Vec<Job>,
     tasks: &[Task],
     place: usize,
     start: u64,
-    span: u64,
-) -> Result<(), AllocError>
+    after: u64,
+) -> Result<u64, AllocError>
     requires is_task { place < length tasks.now }
-    requires few { 1 ≤ span → length tasks.now < 2 ^ 32 }
-    requires in_time { start + span < 2 ^ 64 }
-    ensures { let T = sporadic_tasks tasks.now in
-        IfOk result (λ done. jobs.new.items ≡ jobs.old.items ++ task_releases T start place span) }
+    requires few { length tasks.now < 2 ^ 32 }
+    requires in_time { start + after < 2 ^ 64 - 1 }
+    requires due { releases_now (task_at (sporadic_tasks tasks.now) place) after ≡ true }
+    ensures job { let T = sporadic_tasks tasks.now in
+        OnOk result (jobs.new.items ≡ jobs.old.items ++ release_of T start after place ∷ []) }
+    ensures next { let T = sporadic_tasks tasks.now in
+        IfOk result (λ next. IsNext (task_at T place) (after + 1) next) }
 {
     let task = tasks[place];
-    let mut after = 0u128;
-    let mut early = task.jitter;
-    while after < span as u128 {
-        jobs.push(Job {
-            task: place as u32,
-            release: start + after as u64,
-            work: task.work,
-            early,
-        })?;
-        after += (task.period - early) as u128;
-        early = 0;
-    }
-    Ok(())
+    let early = if after == 0 { task.jitter } else { 0 };
+    jobs.push(Job {
+        task: place as u32,
+        release: start + after,
+        work: task.work,
+        early,
+    })?;
+    Ok(after.saturating_add(task.period - early))
 }

@@ -7,9 +7,9 @@ use std::test::Fail;
 
 const OUT: &str = "out of range";
 
-// The jobs of at most two tasks in 96 slots from slot 2 on.
+// The jobs of a few tasks in 96 slots from slot 2 on.
 fn jobs_of(alloc: Global, tasks: &[Task]) -> Result<Vec<Job>, AllocError>
-    requires { length tasks.now ≤ 2 }
+    requires { length tasks.now ≤ 20 }
 {
     synchronous_jobs(alloc, tasks, 2, 96)
 }
@@ -38,6 +38,27 @@ fn the_first_job_has_its_jitter_behind_it(rt: HostRuntime) -> Result<(), Fail> {
                 work,
                 early
             }
+        );
+    }
+    Ok(())
+}
+
+// Sixteen tasks of period 90, and a seventeenth of period 40.
+#[test]
+fn jobs_of_one_moment_stand_by_place(rt: HostRuntime) -> Result<(), Fail> {
+    let mut tasks = [Task::new(90, 90, 1).ok_or(OUT)?; 17];
+    tasks[16] = Task::new(40, 40, 1).ok_or(OUT)?;
+    let jobs = jobs_of(rt.alloc(), &tasks)?;
+    assert_eq!(rt; jobs.len(), 35);
+    for place in 0..17 {
+        assert_eq!(rt; (jobs[place].task, jobs[place].release), (place as u32, 2));
+    }
+    assert_eq!(rt; (jobs[17].task, jobs[17].release), (16, 42));
+    assert_eq!(rt; (jobs[18].task, jobs[18].release), (16, 82));
+    for place in 0..16 {
+        assert_eq!(rt;
+            (jobs[place + 19].task, jobs[place + 19].release),
+            (place as u32, 92)
         );
     }
     Ok(())

@@ -1,5 +1,5 @@
 -- The text of a generated host: the verdict, and what is counted of it and of its run.
-use Rattle.std.specs.Prelude.{ℕ, List, [], ◌∷◌, ◌++◌, codes}
+use Rattle.std.specs.Prelude.{ℕ, List, [], ◌∷◌, codes}
 use Rattle.std.specs.Fmt.{decimal}
 use Rattle.bulk_run.specs.declared.counts.BulkCounts.{BulkCounts}
 use Rattle.rt_report.specs.Words.{joined}

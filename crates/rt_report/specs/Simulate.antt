@@ -1,13 +1,14 @@
 -- The text of a simulation: the verdict, then what is counted of each core and of each part, and
 -- below a node with a miss its first one.
-use Rattle.std.specs.Prelude.{ℕ, suc, Bool, if◌then◌else◌, List, [], ◌∷◌, ◌++◌, codes, Option, Some, None}
+use Rattle.std.specs.Prelude.{◌≡◌, ℕ, suc, Bool, if◌then◌else◌, List, [], ◌∷◌, ◌++◌, length, slice_index_or, codes, Option, Some, None}
 use Rattle.std.specs.Fmt.{decimal}
+use Rattle.slot_model.specs.declared.job.Job.{Job}
 use Rattle.slot_model.specs.declared.miss.Miss.{Miss}
 use Rattle.span_counts.specs.declared.counts.Counts.{Counts}
 use Rattle.tree_model.specs.declared.place.Place.{Place}
 use Rattle.tree_model.specs.declared.place.Place.TheVariants.{Core, Part}
 use Rattle.tree_model.specs.View.{SystemView}
-use Rattle.server_sched.specs.TreeCounts.{CountsView, no_node_misses}
+use Rattle.server_sched.specs.TreeCounts.{CountsView, no_node_misses, AreTreeCounts}
 use Rattle.rt_report.specs.Words.{joined, node_words, served_name}
 use Rattle.rt_report.specs.Missed.{missed_words}
 
@@ -38,3 +39,15 @@ abbrev pub simulate_text : SystemView → CountsView → List ℕ
 simulate_text sys counts =
     verdict_line (no_node_misses counts) ++ counts_lines sys Core 0 counts.cores
     ++ counts_lines sys Part 0 counts.parts
+
+-- how many slots these lists tell of the first core
+abbrev pub slots_told : List (List Bool) → ℕ
+slots_told supplies = length (slice_index_or supplies 0 [])
+
+-- the text is that of what is counted of these runs
+pub record IsTextOfRun (sys : SystemView) (budgets : List ℕ) (supplies : List (List Bool))
+    (jobs : List (List Job)) (core_runs part_runs : List (List (Option ℕ))) (text : List ℕ)
+    : Type 0 where
+  pub counts : CountsView
+  pub are : AreTreeCounts sys budgets (slots_told supplies) supplies jobs core_runs part_runs counts
+  pub told : text ≡ simulate_text sys counts

@@ -1,4 +1,4 @@
-ghost use Rattle.std.specs.Prelude.{◌≡◌, ◌++◌, IfOk, OnOk, string_bytes, codes, drop, length};
+ghost use Rattle.std.specs.Prelude.{◌≡◌, ◌++◌, IfOk, OnOk, string_bytes, drop, length};
 ghost use Rattle.rt_report.specs.Admit.{admit_text, part_line, witness_line, miss_words, short_task, first_witness};
 
 use crate::missed::push_missed;

@@ -1,6 +1,4 @@
 ghost use Rattle.std.specs.Prelude.{◌≡◌, ◌++◌, IfOk, IfErr, OnOk, string_bytes};
-ghost use Rattle.tree_model.specs.Tree.{IsNode};
-ghost use Rattle.rt_report.specs.Words.{node_words};
 ghost use Rattle.rt_report.specs.Check.{check_text, flaw_words, IsFlawOf};
 
 use crate::names::push_node;

@@ -1,4 +1,4 @@
-ghost use Rattle.std.specs.Prelude.{◌≡◌, ◌<◌, length, IfOk, option_copied};
+ghost use Rattle.std.specs.Prelude.{◌≡◌, ◌<◌, IfOk, option_copied};
 ghost use Rattle.rt_report.specs.Fault.{fault_text, not_rtds_text, HasCore, IsFault};
 
 use crate::cert_fault::cert_text;

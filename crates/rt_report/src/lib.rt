@@ -24,6 +24,6 @@ pub use check::check_text;
 pub use fault::{FileFault, fault_text};
 pub use refusal::refusal_text;
 pub use replay::Replay;
-pub use simulate::counts_text;
+pub use simulate::{counts_text, simulate_text};
 pub use unread::{absent_text, too_long_text};
 pub use usage::usage_text;

@@ -1,6 +1,5 @@
-ghost use Rattle.std.specs.Prelude.{◌≡◌, ◌++◌, ◌<◌, length, OnOk, string_bytes};
+ghost use Rattle.std.specs.Prelude.{◌≡◌, ◌++◌, ◌<◌, OnOk, string_bytes};
 ghost use Rattle.tree_model.specs.declared.place.Place.TheVariants.{Core, Part};
-ghost use Rattle.tree_model.specs.System.{part_at};
 ghost use Rattle.rt_report.specs.Words.{node_words, child_name, served_name, task_name};
 ghost use Rattle.tree_model.specs.Tree.{IsNode};
 

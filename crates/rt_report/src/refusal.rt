@@ -1,4 +1,4 @@
-ghost use Rattle.std.specs.Prelude.{◌≡◌, ◌≢◌, ◌++◌, IfOk, OnOk, string_bytes, codes};
+ghost use Rattle.std.specs.Prelude.{◌≡◌, ◌++◌, IfOk, OnOk, string_bytes};
 ghost use Rattle.tree_model.specs.Tree.{IsNode};
 ghost use Rattle.rt_report.specs.Refusal.{short_words, refusal_text, IsRefusalOf};
 

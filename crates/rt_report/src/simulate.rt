@@ -1,17 +1,18 @@
-ghost use Rattle.std.specs.Prelude.{◌≡◌, ◌++◌, length, IfOk, OnOk, string_bytes, codes};
+ghost use Rattle.std.specs.Prelude.{◌≡◌, ◌++◌, ◌<◌, ◌≤◌, ◌^◌, ℕ, length, map, IfOk, OnOk, string_bytes};
 ghost use Rattle.tree_model.specs.declared.place.Place.TheVariants.{Core as core_place, Part as part_place};
 ghost use Rattle.tree_model.specs.Tree.{IsNode};
-ghost use Rattle.server_sched.specs.TreeCounts.{no_node_misses};
-ghost use Rattle.rt_report.specs.Words.{node_words};
-ghost use Rattle.rt_report.specs.Simulate.{first_line, counts_line, counts_lines, verdict_line, simulate_text};
+ghost use Rattle.tree_model.specs.Plans.{IsPlan};
+ghost use Rattle.tree_model.specs.Releases.{AreReleases, jobs_at};
+ghost use Rattle.tree_model.specs.FirstTree.{FirstTree};
+ghost use Rattle.rt_report.specs.Simulate.{first_line, counts_line, counts_lines, verdict_line, simulate_text, slots_told, IsTextOfRun};
 
 use crate::missed::push_missed;
 use crate::names;
-use server_sched::TreeCounts;
-use slot_model::Miss;
+use server_sched::{TreeCounts, count_run};
+use slot_model::{Job, Miss};
 use span_counts::Counts;
 use std::alloc::{AllocError, Global};
-use tree_model::{Place, System};
+use tree_model::{Place, Plan, System, TreeRun};
 
 /// The text of a simulation: the verdict, then what is counted of each core and of each part, and
 /// below a node with a miss its first one.
@@ -24,6 +25,41 @@ pub fn counts_text(alloc: Global, sys: &System, counts: &TreeCounts) -> Result<V
     push_cores(&mut text, sys, counts.cores())?;
     push_parts(&mut text, sys, counts.parts())?;
     Ok(text.into_bytes())
+}
+
+/// The same of the first run of a tree that stands slot by slot, as `run_tree` answers it over
+/// these jobs and these lists of slots, one a core.
+pub fn simulate_text(
+    alloc: Global,
+    sys: &System,
+    plan: &Plan,
+    jobs: &[Vec<Job>],
+    given: &[Vec<bool>],
+    run: &TreeRun,
+) -> Result<Vec<u8>, AllocError>
+    requires plan { IsPlan sys.now plan.now }
+    requires jobs { AreReleases sys.now (map (λ j. j.items) jobs.now) }
+    requires one_each { length given.now ≡ length sys.now.cores }
+    requires short { slots_told (map (λ g. g.items) given.now) ≤ 1000000 }
+    requires few { (q : ℕ) → q < length sys.now.parts →
+        length (jobs_at (map (λ j. j.items) jobs.now) q) < 2 ^ 32 }
+    requires first { let supplies = map (λ g. g.items) given.now in
+        FirstTree sys.now plan.now (slots_told supplies) supplies
+        (map (λ j. j.items) jobs.now) run.now.cores run.now.parts }
+    ensures { IfOk result (λ text. IsTextOfRun sys.now plan.now (map (λ g. g.items) given.now)
+        (map (λ j. j.items) jobs.now) run.now.cores run.now.parts text.items) }
+{
+    let counts = count_run(alloc, sys, plan, jobs, given, run, slots_told(given))?;
+    counts_text(alloc, sys, &counts)
+}
+
+fn slots_told(given: &[Vec<bool>]) -> u64
+    ensures { result ≡ slots_told (map (λ g. g.items) given.now) }
+{
+    if given.is_empty() {
+        return 0;
+    }
+    given[0].len() as u64
 }
 
 fn verdict(is_kept: bool) -> &'static str

@@ -13,7 +13,7 @@ use Rattle.rt_top.specs.declared.status.Status.TheVariants.{Yes, No, Usage, BadF
 use Rattle.rt_top.specs.Command.{Command, admit, certify, check, rtds, audit, simulate, bulk}
 use Rattle.rt_top.specs.Answer.{Contents}
 use Rattle.rt_top.specs.Report.{JobAnswers, Answers, AreContents, IsAnswer, Reported}
-use Rattle.rt_top.specs.Causes.{CanJudge, IsJudgeable, IsVerdictOf, Stays}
+use Rattle.rt_top.specs.Causes.{contents_of, CanJudge, IsJudgeable, EndsAs, IsVerdictOf, Stays}
 use Rattle.rt_top.proofs.Statuses.{IsOfJob, HasText}
 use Rattle.rt_top.proofs.Admitting.{admit_status, admit_verdict}
 use Rattle.rt_top.proofs.Certifying.{certify_status, certify_verdict}
@@ -33,7 +33,7 @@ job_status (audit file trace) contents status text h = audit_status contents sta
 job_status (simulate file releases pattern slots) contents status text h = simulate_status pattern slots contents status text h
 job_status (bulk guests) contents status text h = bulk_status guests status text h
 
-job_verdict : (command : Command) (contents : Contents) (status : Status) (text : List ℕ) → CanJudge command contents → JobAnswers command contents status text → IsVerdictOf (Some command) status
+job_verdict : (command : Command) (contents : Contents) (status : Status) (text : List ℕ) → CanJudge command contents → JobAnswers command contents status text → EndsAs command contents status
 job_verdict (admit file) contents status text can h = admit_verdict contents status text can h
 job_verdict (certify file) contents status text can h = certify_verdict contents status text can h
 job_verdict (check file cert) contents status text can h = check_verdict contents status text can h
@@ -119,21 +119,21 @@ finished_usage command files status result text Whole Front Failed answer end is
 ]
 
 -- the answer to files that can be judged is a verdict
-answer_verdict : (command : Option Command) (files : Option Files) (status : Status) (text : List ℕ) → IsAnswer command files status text → IsJudgeable command files → IsVerdictOf command status
+answer_verdict : (command : Option Command) (files : Option Files) (status : Status) (text : List ℕ) → IsAnswer command files status text → (can : IsJudgeable command files) → IsVerdictOf can status
 answer_verdict command files status text answer can =
     let held : AreContents (Some can.spelled) (Some can.all) answer.contents = subst (λ (o : Option Files). AreContents (Some can.spelled) o answer.contents) can.told (subst (λ (o : Option Command). AreContents o files answer.contents) can.spells answer.held) in
     let answers : JobAnswers can.spelled answer.contents status text = subst (λ (o : Option Command). Answers o answer.contents status text) can.spells answer.answers in
-    subst (λ (o : Option Command). IsVerdictOf o status) (sym can.spells) (job_verdict can.spelled answer.contents status text (subst (λ (c : Contents). CanJudge can.spelled c) (sym held) can.judged) answers)
+    job_verdict can.spelled (contents_of can.spelled can.all) status text can.judged (subst (λ (c : Contents). JobAnswers can.spelled c status text) held answers)
 
 -- a count that stays did not rise
 pub stays_not_rose : (before after : ℕ) → Stays before after → Rose before after → ⊥
 stays_not_rose before after stays rose = omega (arith, stays.0, stays.1, rose)
 
-pub finished_verdict : (command : Option Command) (files : Option Files) (status result : Status) (text : List ℕ) (before after : ℕ) (Whole Front : Type 0) → IsAnswer command files status text → Finishes status result Whole Front (Rose before after) → IsJudgeable command files → Stays before after → IsVerdictOf command result
+pub finished_verdict : (command : Option Command) (files : Option Files) (status result : Status) (text : List ℕ) (before after : ℕ) (Whole Front : Type 0) → IsAnswer command files status text → Finishes status result Whole Front (Rose before after) → (can : IsJudgeable command files) → Stays before after → IsVerdictOf can result
 finished_verdict command files status result text before after Whole Front answer end can stays =
     let sound : status ≢ WriteFault = no_write_fault status (answer_has_text command answer.contents status text answer.answers) in
     elim end.which [
-      | inl e ↦ subst (IsVerdictOf command) (sym e) (answer_verdict command files status text answer can)
+      | inl e ↦ subst (IsVerdictOf can) (sym e) (answer_verdict command files status text answer can)
       | inr w ↦ absurd (stays_not_rose before after stays (end.failed sound w))
     ]
 
@@ -143,12 +143,11 @@ answer_of_parsed parsed command files status text piece spelled same answer =
     subst (λ (c : Option Command). IsAnswer c files status piece) spelled (subst (λ (t : List ℕ). IsAnswer (option_map command_told parsed) files status t) (sym same) answer)
 
 -- want of memory may end any command
-pub no_memory_ends : (command : Option Command) → IsVerdictOf command NoMemory
-no_memory_ends None = tt
-no_memory_ends (Some (admit file)) = tt
-no_memory_ends (Some (certify file)) = tt
-no_memory_ends (Some (check file cert)) = tt
-no_memory_ends (Some (rtds file workload slots)) = tt
-no_memory_ends (Some (audit file trace)) = tt
-no_memory_ends (Some (simulate file releases pattern slots)) = tt
-no_memory_ends (Some (bulk guests)) = tt
+pub no_memory_ends : (command : Command) (contents : Contents) → EndsAs command contents NoMemory
+no_memory_ends (admit file) contents = tt
+no_memory_ends (certify file) contents = tt
+no_memory_ends (check file cert) contents = tt
+no_memory_ends (rtds file workload slots) contents = tt
+no_memory_ends (audit file trace) contents = tt
+no_memory_ends (simulate file releases pattern slots) contents = tt
+no_memory_ends (bulk guests) contents = tt

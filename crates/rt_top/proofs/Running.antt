@@ -1,6 +1,6 @@
 -- What `rtds` answers: one thing, what it means, its statuses, and how a trace that was made
 -- becomes the answer.
-use Rattle.std.proofs.Common.{◌≡◌, ℕ, ◌≤◌, true, List, length, Option, Some, None, refl, sym, ◌∙◌, ap, subst, arith, inl, inr}
+use Rattle.std.proofs.Common.{◌≡◌, ℕ, ◌≤◌, true, List, length, Option, Some, None, Ok, refl, sym, ◌∙◌, ap, subst, arith, inl, inr}
 use Rattle.std.proofs.lemmas.Bool.{and_parts, both_ways, cases_lt, false≢true}
 use Rattle.csv_rows.specs.Reading.{records_of}
 use Rattle.slot_model.specs.declared.sched.Sched.{Sched}
@@ -21,6 +21,7 @@ use Rattle.release_file.specs.Workload.{IsWorkload}
 use Rattle.release_file.specs.WorkloadFile.{wake_rows}
 use Rattle.release_file.proofs.OneWorkload.{one_workload, no_workload_fault, one_workload_fault}
 use Rattle.release_file.proofs.SpeltWorkload.{spelt_workload}
+use Rattle.system_file.specs.SystemFile.{system_of}
 use Rattle.rtds_sim.specs.Rtds.{is_full, is_edf, is_rtds}
 use Rattle.rtds_sim.specs.Printed.{printed}
 use Rattle.rtds_sim.specs.Fault.{AllRtds, IsFirstOther}
@@ -32,12 +33,12 @@ use Rattle.rt_top.specs.declared.status.Status.{Status}
 use Rattle.rt_top.specs.declared.status.Status.TheVariants.{Yes, BadFile}
 use Rattle.rt_top.specs.declared.answer.Ending.{Ending}
 use Rattle.rt_top.specs.Command.{rtds}
-use Rattle.rt_top.specs.Answer.{Contents, IsOne}
+use Rattle.rt_top.specs.Answer.{Contents, IsOne, IsReadable}
 use Rattle.rt_top.specs.Attempt.{OnAttempt}
 use Rattle.rt_top.specs.Budgets.{assigning, OnAssigned}
 use Rattle.rt_top.specs.Rtds.{waking, running, IsTraceOf, IsTraceText, RunsBytes, Runs, IsServed, TellsRun, RunMeans, CanRun}
 use Rattle.rt_top.specs.Report.{IsAnswer}
-use Rattle.rt_top.specs.Causes.{IsVerdictOrRefusal}
+use Rattle.rt_top.specs.Causes.{IsVerdictOfRun}
 use Rattle.rt_top.specs.Steps.{IfAnswered, AnswersTwo, IsJudged}
 use Rattle.rt_top.proofs.Attempt.{IsDecided, one_attempt, said_of_given, statuses_attempt}
 use Rattle.rt_top.proofs.Budgets.{assigning_decided, unassigned_status}
@@ -99,16 +100,17 @@ runs_judged slots sys bytes status text h =
 pub run_status : (slots : ℕ) (contents : Contents) (status : Status) (text : List ℕ) → Runs slots contents status text → IsOfJob status
 run_status slots contents status text h = statuses_two IsOfJob tt tt tt contents (RunsBytes slots) status text (λ sys bytes said. job_of_judged status (runs_judged slots sys bytes status text said)) h
 
-run_of_wakes : (slots : ℕ) (sys : SystemView) (wakes : List Wake) (status : Status) (text : List ℕ) → OnAssigned sys (λ budgets. OnAttempt (running sys budgets wakes slots) (IsTraceText sys)) status text → IsVerdictOrRefusal status
-run_of_wakes slots sys wakes status text h =
-    statuses_attempt IsVerdictOrRefusal (assigning sys) (λ budgets. OnAttempt (running sys budgets wakes slots) (IsTraceText sys)) status text (unassigned_status IsVerdictOrRefusal tt tt sys)
-    (λ budgets. statuses_attempt IsVerdictOrRefusal (running sys budgets wakes slots) (IsTraceText sys) status text (λ c other. tt) (λ events. printed_status IsVerdictOrRefusal tt sys events status text)) h
+run_of_wakes : (slots : ℕ) (contents : Contents) (sys : SystemView) (wakes : List Wake) (status : Status) (text : List ℕ) → IsReadable 1 contents (λ bytes. system_of bytes ≡ Ok sys) → OnAssigned sys (λ budgets. OnAttempt (running sys budgets wakes slots) (IsTraceText sys)) status text → IsVerdictOfRun contents status
+run_of_wakes slots contents sys wakes status text spelled h =
+    statuses_attempt (IsVerdictOfRun contents) (assigning sys) (λ budgets. OnAttempt (running sys budgets wakes slots) (IsTraceText sys)) status text (unassigned_status (IsVerdictOfRun contents) tt tt sys)
+    (λ budgets. statuses_attempt (IsVerdictOfRun contents) (running sys budgets wakes slots) (IsTraceText sys) status text (λ c other. record { sys = sys; spelled = spelled; core = c; other = other })
+    (λ events. printed_status (IsVerdictOfRun contents) tt sys events status text)) h
 
-pub run_verdict : (slots : ℕ) (contents : Contents) (status : Status) (text : List ℕ) → CanRun contents → Runs slots contents status text → IsVerdictOrRefusal status
+pub run_verdict : (slots : ℕ) (contents : Contents) (status : Status) (text : List ℕ) → CanRun contents → Runs slots contents status text → IsVerdictOfRun contents status
 run_verdict slots contents status text can h =
     let read = can.spelled.second in
     let said : RunsBytes slots can.sys read.bytes status text = said_of_two contents can.sys _ (RunsBytes slots) status text can.spelled h in
-    run_of_wakes slots can.sys read.good.wakes status text
+    run_of_wakes slots contents can.sys read.good.wakes status text can.spelled.first
     (said_of_given (waking can.sys read.bytes) (λ wakes. OnAssigned can.sys (λ budgets. OnAttempt (running can.sys budgets wakes slots) (IsTraceText can.sys))) status text (waking_decided can.sys read.bytes) read.good.wakes read.good.spelled said)
 
 -- the servers of an admitted system pass on each core that is full and under earliest deadline

@@ -8,7 +8,7 @@ use Rattle.rt_top.specs.Answer.{Contents}
 use Rattle.rt_top.specs.Admit.{CanAdmit}
 use Rattle.rt_top.specs.Certify.{CanCertify}
 use Rattle.rt_top.specs.Check.{CanCheck}
-use Rattle.rt_top.specs.Rtds.{CanRun}
+use Rattle.rt_top.specs.Rtds.{CanRun, HasOtherCore}
 use Rattle.rt_top.specs.Audit.{CanAudit}
 use Rattle.rt_top.specs.Simulate.{CanSimulate}
 
@@ -30,13 +30,17 @@ CanJudge (audit file trace) contents = CanAudit contents
 CanJudge (simulate file releases pattern slots) contents = CanSimulate contents
 CanJudge (bulk guests) contents = ⊤
 
+-- what stands under the names that a command gives
+abbrev pub contents_of : Command → Files → Contents
+contents_of command files = map (λ name. file_named name files) (file_names command)
+
 -- the words spell a command, and the files are told and let it be judged
 pub record IsJudgeable (command : Option Command) (files : Option Files) : Type 0 where
   pub spelled : Command
   pub spells : command ≡ Some spelled
   pub all : Files
   pub told : files ≡ Some all
-  pub judged : CanJudge spelled (map (λ name. file_named name all) (file_names spelled))
+  pub judged : CanJudge spelled (contents_of spelled all)
 
 -- a count that did not rise, and does not stand at its last value
 abbrev pub Stays : ℕ → ℕ → Type 0
@@ -50,13 +54,18 @@ IsVerdict Wide = ⊤
 IsVerdict NoMemory = ⊤
 IsVerdict _ = ⊥
 
--- the same, or the file is refused
-abbrev pub IsVerdictOrRefusal : Status → Type 0
-IsVerdictOrRefusal BadFile = ⊤
-IsVerdictOrRefusal status = IsVerdict status
+-- the same, or the system file is refused, where one of its cores is not full or not under earliest
+-- deadline first
+abbrev pub IsVerdictOfRun : Contents → Status → Type 0
+IsVerdictOfRun contents BadFile = HasOtherCore contents
+IsVerdictOfRun contents status = IsVerdict status
 
--- how a command that can be judged ends: `rtds` also refuses a file whose cores are not all full
--- and under earliest deadline first
-abbrev pub IsVerdictOf : Option Command → Status → Type 0
-IsVerdictOf (Some (rtds file workload slots)) status = IsVerdictOrRefusal status
-IsVerdictOf _ status = IsVerdict status
+-- how a command ends that can be judged by what its files hold
+abbrev pub EndsAs : Command → Contents → Status → Type 0
+EndsAs (rtds file workload slots) contents status = IsVerdictOfRun contents status
+EndsAs _ contents status = IsVerdict status
+
+abbrev pub IsVerdictOf
+    : {command : Option Command} {files : Option Files} → IsJudgeable command files
+    → Status → Type 0
+IsVerdictOf can status = EndsAs can.spelled (contents_of can.spelled can.all) status

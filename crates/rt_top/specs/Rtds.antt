@@ -1,6 +1,6 @@
 -- `rtds FILE WORKLOAD SLOTS`: what it answers, and what its yes means to who takes the trace for
 -- what the scheduler does.
-use Rattle.std.specs.Prelude.{◌≡◌, ℕ, ◌<◌, List, length, Option, Some, None}
+use Rattle.std.specs.Prelude.{◌≡◌, ℕ, ◌<◌, List, length, Option, Some, None, Ok}
 use Rattle.csv_rows.specs.Printing.{text_of}
 use Rattle.csv_rows.specs.Reading.{records_of}
 use Rattle.tree_model.specs.View.{SystemView}
@@ -13,6 +13,7 @@ use Rattle.trace_file.specs.Printing.{printed_rows}
 use Rattle.release_file.specs.declared.fault.ReleaseFault.{ReleaseFault}
 use Rattle.release_file.specs.declared.workload.Wake.{Wake}
 use Rattle.release_file.specs.WorkloadFile.{SpellsWorkload, IsWorkloadFault, wake_rows}
+use Rattle.system_file.specs.SystemFile.{system_of}
 use Rattle.rtds_sim.specs.Rtds.{RtdsRun}
 use Rattle.rtds_sim.specs.Printed.{IsRtdsTrace}
 use Rattle.rtds_sim.specs.Fault.{AllRtds, IsFirstOther}
@@ -21,7 +22,7 @@ use Rattle.rt_report.specs.declared.fault.FileFault.TheVariants.{Release, NotRtd
 use Rattle.rt_report.specs.Fault.{fault_text}
 use Rattle.rt_top.specs.declared.status.Status.{Status}
 use Rattle.rt_top.specs.declared.status.Status.TheVariants.{Yes, BadFile}
-use Rattle.rt_top.specs.Answer.{Contents}
+use Rattle.rt_top.specs.Answer.{Contents, IsReadable}
 use Rattle.rt_top.specs.Attempt.{Attempt, OnAttempt}
 use Rattle.rt_top.specs.Budgets.{OnAssigned}
 use Rattle.rt_top.specs.TwoFiles.{OnTwoFiles, SpellsSystem, AreReadable}
@@ -103,3 +104,10 @@ pub record IsRunnable (sys : SystemView) (bytes : List ℕ) : Type 0 where
 
 abbrev pub CanRun : Contents → Type 0
 CanRun contents = AreReadable contents IsRunnable
+
+-- the first file spells a system with a core that is not full or not under earliest deadline first
+pub record HasOtherCore (contents : Contents) : Type 0 where
+  pub sys : SystemView
+  pub spelled : IsReadable 1 contents (λ bytes. system_of bytes ≡ Ok sys)
+  pub core : ℕ
+  pub other : IsFirstOther sys core

@@ -2,10 +2,8 @@ ghost use Rattle.std.specs.Prelude.{◌≡◌, ◌+◌, ◌<◌, ◌≤◌, true
 ghost use Rattle.slot_model.specs.declared.task.TheConstants.{LIMIT};
 ghost use Rattle.slot_model.specs.Task.{sporadic_tasks};
 ghost use Rattle.slot_model.specs.Supply.{worst_slot};
-ghost use Rattle.slot_model.specs.Bound.{IsLeastBudget, IsSmall};
 ghost use Rattle.slot_model.specs.Order.{before_of};
 ghost use Rattle.slot_model.specs.Miss.{MissesFromStart, WorstList};
-ghost use Rattle.miss_witness.specs.Defeat.{IsDefeat};
 ghost use Rattle.tree_model.specs.System.{part_at, is_computed_leaf};
 ghost use Rattle.tree_model.specs.Admission.{Admitted};
 ghost use Rattle.rt_report.specs.Admit.{AreReplays};

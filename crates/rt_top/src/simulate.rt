@@ -1,10 +1,9 @@
-ghost use Rattle.std.specs.Prelude.{◌≡◌, ◌≢◌, ◌⊎◌, ℕ, ◌^◌, ◌<◌, Some, length, map, IfOk, IfErr};
+ghost use Rattle.std.specs.Prelude.{◌≡◌, ◌⊎◌, ℕ, ◌^◌, ◌<◌, Some, length, map, IfOk, IfErr};
 ghost use Rattle.csv_rows.specs.Reading.{records_of};
 ghost use Rattle.tree_model.specs.Plans.{IsPlan};
 ghost use Rattle.tree_model.specs.System.{IsSystem};
 ghost use Rattle.tree_model.specs.Releases.{AreReleases, jobs_at};
 ghost use Rattle.release_file.specs.ReleaseFile.{SpellsReleases};
-ghost use Rattle.server_sched.specs.TreeCounts.{no_node_misses};
 ghost use Rattle.rt_top.specs.Attempt.{IsRefused};
 ghost use Rattle.rt_top.specs.Simulate.{releasing, kept_status, IsSimulated, SimulatesBytes};
 ghost use Rattle.rt_top.specs.Command.{simulate};

@@ -6,6 +6,7 @@ mod bulk;
 mod certificates;
 mod ends;
 mod failing;
+mod generated;
 mod rows;
 mod rtds;
 mod simulate;

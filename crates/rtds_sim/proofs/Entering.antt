@@ -1,8 +1,7 @@
 -- What the accounts say at a slot whose rows are taken: who is eligible, and who goes first.
-use Rattle.std.proofs.Common.{◌≡◌, ℕ, zero, suc, ◌/◌, ◌<◌, ◌≤◌, nat_lt, Bool, true, false, not, cond, ◌&&◌, ◌||◌, List, length, Option, Some, None, refl, sym, ◌∙◌, ap, arith, subst, inl, inr, eqb-true, ltb-true, lt-ltb, le-leb}
+use Rattle.std.proofs.Common.{◌≡◌, ℕ, zero, suc, ◌/◌, ◌<◌, ◌≤◌, nat_lt, Bool, true, false, not, ◌&&◌, ◌||◌, List, length, Option, sym, ◌∙◌, ap, arith, subst, inl, inr, eqb-true, ltb-true, lt-ltb, le-leb}
 use Rattle.std.specs.Prelude.{is_some}
-use Rattle.std.proofs.lemmas.Bool.{cases_eq, cases_Bool, and_parts, lt-leb}
-use Rattle.slot_model.proofs.FirstRuns.{none_some, same_some}
+use Rattle.std.proofs.lemmas.Bool.{cases_eq, cases_Bool, both_ways, and_parts, lt-leb}
 use Rattle.tree_model.specs.declared.place.Parent.{Parent}
 use Rattle.tree_model.specs.declared.place.Parent.TheVariants.{Core as on_core, Part as on_part}
 use Rattle.tree_model.specs.declared.place.Place.TheVariants.{Core}
@@ -10,14 +9,12 @@ use Rattle.tree_model.specs.View.{SystemView}
 use Rattle.tree_model.specs.System.{part_at}
 use Rattle.tree_model.specs.Tree.{is_child, place_of, same_place, budget_at, run_at}
 use Rattle.rtds_sim.specs.declared.account.Account.{Account}
-use Rattle.rtds_sim.specs.declared.choice.Rank.{Rank}
 use Rattle.release_file.specs.declared.workload.Wake.{Wake as Row}
 use Rattle.release_file.specs.Workload.{row_at, last_row, is_by, is_of, starts, blocks, started_after, blocked_after, is_started_at, is_blocked_at}
 use Rattle.rtds_sim.specs.Rtds.{used, level_at, deadline_at, can_run, is_eligible, goes_first, goes_before, RtdsEntry}
 use Rattle.rtds_sim.specs.Printed.{core_of}
-use Rattle.rtds_sim.specs.Accounts.{account_at, account_eligible, rank_of, ranks_before, IsBestTo, vcpu_of, IsChoice, IsInPeriod, IsAccount, AreAccounts, AreBefore}
+use Rattle.rtds_sim.specs.Accounts.{account_at, account_eligible, level_of, deadline_of, ranked, ranks_before, IsChoice, IsInPeriod, IsAccount, AreAccounts, AreBefore}
 use Rattle.release_file.proofs.Rows.{last_row-zero, last_row-yes, last_row-no}
-use Rattle.rtds_sim.proofs.Choices.{no_rank, ranked, rank, rank_is}
 
 -- a part on core c
 pub child_core : (sys : SystemView) (c v : ℕ) → is_child sys (Core c) v ≡ true → core_of (part_at sys v).parent ≡ c
@@ -91,47 +88,31 @@ module _ (sys : SystemView) (budgets : List ℕ) (rows : List Row) (runs : List 
       (p.0, (and_parts (account_at accounts v).started (not (account_at accounts v).blocked) (and_parts ((account_at accounts v).started && not (account_at accounts v).blocked) (nat_lt (account_at accounts v).used (budget_at budgets v) || (part_at sys v).extra) p.1).0).0)
 
   -- and in which order
-  rank_numbers : (v : ℕ) → v < length sys.parts → ranked sys budgets accounts c v ≡ true → ((rank sys budgets accounts c v).level ≡ level_at sys budgets rows run v x) × ((rank sys budgets accounts c v).deadline ≡ deadline_at sys rows v x)
+  rank_numbers : (v : ℕ) → v < length sys.parts → ranked sys budgets accounts c v ≡ true → (level_of (account_at accounts v) (budget_at budgets v) ≡ level_at sys budgets rows run v x) × (deadline_of (account_at accounts v) (part_at sys v).period ≡ deadline_at sys rows v x)
   rank_numbers v l e =
       let s : (is_child sys (Core c) v ≡ true) × ((account_at accounts v).started ≡ true) = ranked_started v e in
       let h : IsInPeriod sys rows run v x (account_at accounts v) = (account_on v (l, s.0)).in_period s.1 in
       (ap (λ (g : ℕ). g / budget_at budgets v) h.used_is, omega (arith, h.from_is))
 
-  before_is : (u v : ℕ) → u < length sys.parts → v < length sys.parts → ranked sys budgets accounts c u ≡ true → ranked sys budgets accounts c v ≡ true → ranks_before (rank sys budgets accounts c u) (rank sys budgets accounts c v) ≡ goes_before sys budgets rows run x u v
+  before_is : (u v : ℕ) → u < length sys.parts → v < length sys.parts → ranked sys budgets accounts c u ≡ true → ranked sys budgets accounts c v ≡ true → ranks_before sys budgets accounts u v ≡ goes_before sys budgets rows run x u v
   before_is u v lu lv eu ev =
       let a = rank_numbers u lu eu in
       let b = rank_numbers v lv ev in
-      ap (λ (l : ℕ). goes_first l (rank sys budgets accounts c u).deadline u (rank sys budgets accounts c v).level (rank sys budgets accounts c v).deadline v) a.0
-      ∙ (ap (λ (d : ℕ). goes_first (level_at sys budgets rows run u x) d u (rank sys budgets accounts c v).level (rank sys budgets accounts c v).deadline v) a.1
-      ∙ (ap (λ (l : ℕ). goes_first (level_at sys budgets rows run u x) (deadline_at sys rows u x) u l (rank sys budgets accounts c v).deadline v) b.0
+      ap (λ (l : ℕ). goes_first l (deadline_of (account_at accounts u) (part_at sys u).period) u (level_of (account_at accounts v) (budget_at budgets v)) (deadline_of (account_at accounts v) (part_at sys v).period) v) a.0
+      ∙ (ap (λ (d : ℕ). goes_first (level_at sys budgets rows run u x) d u (level_of (account_at accounts v) (budget_at budgets v)) (deadline_of (account_at accounts v) (part_at sys v).period) v) a.1
+      ∙ (ap (λ (l : ℕ). goes_first (level_at sys budgets rows run u x) (deadline_at sys rows u x) u l (deadline_of (account_at accounts v) (part_at sys v).period) v) b.0
       ∙ ap (λ (d : ℕ). goes_first (level_at sys budgets rows run u x) (deadline_at sys rows u x) u (level_at sys budgets rows run v x) d v) b.1))
 
-  rank_some : (v : ℕ) → ranked sys budgets accounts c v ≡ true → rank_of sys budgets accounts c v ≡ Some (rank sys budgets accounts c v)
-  rank_some v e = ap (λ (b : Bool). cond b (Some (rank sys budgets accounts c v)) None) e
-
   -- so the choice is the entry
-  best_entry : (best : Option Rank) → IsBestTo sys budgets accounts c (length sys.parts) best → RtdsEntry sys budgets rows c run x (vcpu_of best)
-  best_entry None h = record {
+  pub choice_entry : (o : Option ℕ) → IsChoice sys budgets accounts c o → RtdsEntry sys budgets rows c run x o
+  choice_entry o h = record {
     idle = λ q v. elim (cases_Bool (is_eligible sys budgets rows c run v x)) [
       | inr e ↦ e
-      | inl e ↦ let on : on_this v = eligible_on v e in absurd (no_rank (rank_of sys budgets accounts c v) (rank sys budgets accounts c v) (h.none refl v on.0) (rank_some v (sym (eligible_is v on) ∙ e)))
+      | inl e ↦ let on : on_this v = eligible_on v e in absurd (both_ways _ (h.idle q v on.0) (sym (eligible_is v on) ∙ e))
     ];
-    named = λ v q. absurd (none_some None v refl q);
-    first = λ u v q. absurd (none_some None v refl q);
+    named = λ v q. eligible_is v (h.within v q, (ranked_started v (h.named v q)).0) ∙ h.named v q;
+    first = λ u v q e.
+        let on : on_this u = eligible_on u e in
+        let ranked_u : ranked sys budgets accounts c u ≡ true = sym (eligible_is u on) ∙ e in
+        sym (before_is u v on.0 (h.within v q) ranked_u (h.named v q)) ∙ h.first u v q on.0 ranked_u;
   }
-  best_entry (Some r) h =
-      let w : ℕ = r.vcpu in
-      let l : w < length sys.parts = h.within r refl in
-      let is = rank_is sys budgets accounts c w r (h.is_rank r refl) in
-      record {
-        idle = λ q. absurd (none_some (Some w) w q refl);
-        named = λ v q. subst (λ (z : ℕ). is_eligible sys budgets rows c run z x ≡ true) (same_some w v q) (eligible_is w (l, (ranked_started w is.0).0) ∙ is.0);
-        first = λ u v q e.
-            let on : on_this u = eligible_on u e in
-            let ranked_u : ranked sys budgets accounts c u ≡ true = sym (eligible_is u on) ∙ e in
-            subst (λ (z : ℕ). goes_before sys budgets rows run x u z ≡ false) (same_some w v q)
-            (sym (before_is u w on.0 l ranked_u is.0) ∙ subst (λ (z : Rank). ranks_before (rank sys budgets accounts c u) z ≡ false) is.1 (h.first r (rank sys budgets accounts c u) u refl on.0 (rank_some u ranked_u)));
-      }
-
-  pub choice_entry : (o : Option ℕ) → IsChoice sys budgets accounts c o → RtdsEntry sys budgets rows c run x o
-  choice_entry o h = subst (RtdsEntry sys budgets rows c run x) (sym h.names) (best_entry h.best h.is_best)

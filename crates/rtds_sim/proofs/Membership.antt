@@ -1,11 +1,11 @@
 -- The VCPUs of each core, put one before the other.
-use Rattle.std.proofs.Common.{◌≡◌, ◌≢◌, ℕ, suc, ◌<◌, ◌≤◌, true, false, List, length, set, sym, ◌∙◌, ap, arith, subst, inl, inr, ne_eqb}
+use Rattle.std.proofs.Common.{◌≡◌, ◌≢◌, ℕ, suc, ◌<◌, ◌≤◌, true, false, List, length, slice_index_or, set, sym, ◌∙◌, ap, arith, subst, inl, inr, ne_eqb}
 use Rattle.std.proofs.lemmas.Bool.{cases_eq, both_ways}
-use Rattle.std.proofs.lemmas.List.{get_or-set_same, get_or-set_other, length-set}
+use Rattle.std.proofs.lemmas.List.{get_or-set_same, get_or-set_other, length-set, get_or_default}
 use Rattle.tree_model.specs.declared.place.Parent.{Parent}
 use Rattle.tree_model.specs.declared.place.Parent.TheVariants.{Core as on_core, Part as on_part}
 use Rattle.tree_model.specs.declared.place.Place.TheVariants.{Core}
-use Rattle.tree_model.specs.View.{SystemView}
+use Rattle.tree_model.specs.View.{PartView, SystemView}
 use Rattle.tree_model.specs.System.{part_at}
 use Rattle.tree_model.specs.Tree.{is_child, place_of, same_place}
 use Rattle.tree_model.proofs.Children.{same_itself}
@@ -91,3 +91,7 @@ put_none sys n members e a b p q each = record {
   first = λ c l. record { from = omega (arith, e, each c (omega arith)); within = omega (arith, each c (omega arith)); child = λ k. absurd (omega (arith, k, each c (omega arith))); none = λ u x y. absurd (omega (arith, e, x, y, each c (omega arith))) };
   next = λ c v l x y is. absurd (omega (arith, e, x, y));
 }
+
+-- the part that was looked at
+pub part_here : (sys : SystemView) (parts : List PartView) (v : ℕ) (p : PartView) → parts ≡ sys.parts → v < length sys.parts → p ≡ slice_index_or parts v p → p ≡ part_at sys v
+part_here sys parts v p e l is = is ∙ (ap (λ (ps : List PartView). slice_index_or ps v p) e ∙ get_or_default sys.parts v _ _ l)

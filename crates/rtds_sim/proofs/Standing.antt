@@ -1,9 +1,8 @@
 -- The state of a simulation before a slot: its accounts, its holders and its events are those of
 -- the run so far.
-use Rattle.std.proofs.Common.{◌≡◌, ◌≢◌, ℕ, zero, suc, ◌+◌, ◌-◌, ◌^◌, ◌<◌, ◌≤◌, true, List, [], length, Option, None, refl, sym, ◌∙◌, ap, arith, subst, inl, inr}
+use Rattle.std.proofs.Common.{◌≡◌, ◌≢◌, ℕ, zero, suc, ◌-◌, ◌<◌, ◌≤◌, true, List, [], length, Option, None, refl, sym, ◌∙◌, ap, arith, subst, inl, inr, eqb-true}
 use Rattle.std.specs.Prelude.{is_some}
-use Rattle.std.proofs.lemmas.Bool.{cases_lt, false≢true}
-use Rattle.slot_model.specs.declared.task.TheConstants.{LIMIT}
+use Rattle.std.proofs.lemmas.Bool.{cases_lt, and_parts, false≢true}
 use Rattle.slot_model.specs.Run.{held, holds}
 use Rattle.tree_model.specs.View.{SystemView}
 use Rattle.tree_model.specs.System.{part_at, IsSystem}
@@ -13,11 +12,13 @@ use Rattle.rtds_sim.specs.declared.account.Account.{Account}
 use Rattle.rtds_sim.specs.declared.host.Host.{Host}
 use Rattle.release_file.specs.declared.workload.Wake.{Wake as Row}
 use Rattle.tree_model.specs.Plans.{IsPlan}
-use Rattle.release_file.specs.Workload.{row_at, starts, is_of, blocks, IsWorkload}
+use Rattle.release_file.specs.Workload.{row_at, starts, is_of, is_start, blocks, IsWorkload}
 use Rattle.rtds_sim.specs.Rtds.{RtdsRun}
 use Rattle.rtds_sim.specs.Printed.{core_of, holder_before, printed_below}
-use Rattle.rtds_sim.specs.Accounts.{no_account, account_at, holder_at, gone_on, AreAccounts, AreBefore, HasRoom, IsAccount, run_of_part}
-use Rattle.release_file.proofs.Rows.{last_row-zero, ordered}
+use Rattle.rtds_sim.specs.Accounts.{no_account, account_at, holder_at, gone_on, AreAccounts, AreBefore, number_at, HasRoom, AreEnds, IsAccount, run_of_part}
+use Rattle.release_file.proofs.Rows.{last_row-zero, ordered, some_found}
+use Rattle.trace_file.specs.Rules.{is_vcpu}
+use Rattle.rtds_sim.proofs.Keeping.{OnCore, vcpu_core}
 use Rattle.rtds_sim.proofs.Steady.{IsNext, alike, gone_accounts}
 use Rattle.rtds_sim.proofs.Visits.{printed_below-zero, printed_on, quiet}
 
@@ -88,32 +89,30 @@ pub some_periods : (sys : SystemView) → IsSystem sys → (v : ℕ) → v < len
 some_periods sys is v l = (is.parts v l).period.0
 
 pub visit_rows : (sys : SystemView) → IsSystem sys → (rows : List Row) → IsWorkload sys rows → (runs : List (List (Option ℕ))) (old host : Host) (events : List Event) → Standing sys rows runs old events
-    → host.time ≡ old.time → host.holders ≡ old.holders → length host.accounts ≡ length old.accounts → host.taken ≤ length rows → old.taken ≤ host.taken
+    → host.time ≡ old.time → host.holders ≡ old.holders → HasRoom sys host → host.taken ≤ length rows → old.taken ≤ host.taken
     → ((i : ℕ) → old.taken ≤ i → i < host.taken → (row_at rows i).at ≡ old.time) → (host.taken < length rows → (row_at rows host.taken).at ≢ old.time)
     → ((sys : SystemView) (runs : List (List (Option ℕ))) → IsWorkload sys rows → AreBefore rows old.taken old.time → ((v : ℕ) → v < length sys.parts → 1 ≤ (part_at sys v).period) → AreAccounts sys rows runs old.time old.taken old.accounts → AreAccounts sys rows runs old.time host.taken host.accounts)
     → Visit sys rows runs host events
-visit_rows sys system rows w runs old host events s t hs long in_rows later now no_more accounts = record {
+visit_rows sys system rows w runs old host events s t hs room in_rows later now no_more accounts = record {
   taken = subst (λ (x : ℕ). AreBefore rows host.taken (suc x)) (sym t) (taken_rows sys rows w old.time old.taken host.taken s.before later in_rows now no_more);
   are = subst (λ (x : ℕ). AreAccounts sys rows runs x host.taken host.accounts) (sym t) (accounts sys runs w s.before (some_periods sys system) s.are);
   holders_are = λ c l. ap (λ (xs : List (Option ℕ)). holder_at xs c) hs ∙ (s.holders_are c l ∙ sym (ap (holder_before (run_at runs c)) t));
-  room = record { all_vcpus = long ∙ s.room.all_vcpus; all_cores = ap (λ (xs : List (Option ℕ)). length xs) hs ∙ s.room.all_cores; few_parts = s.room.few_parts; few_cores = s.room.few_cores; parts = λ c v l e. s.room.parts c v l (sym (ap (λ (xs : List (Option ℕ)). holder_at xs c) hs) ∙ e) };
+  room = room;
   events_are = s.events_are ∙ sym (ap (printed_below sys rows runs) t);
 }
 
--- all numbers are small
-pub ends_fit : (sys : SystemView) → IsSystem sys → (rows : List Row) (runs : List (List (Option ℕ))) (x k : ℕ) (accounts others : List Account) → x ≤ LIMIT → AreAccounts sys rows runs x k accounts → others ≡ accounts
-    → (v : ℕ) → v < length sys.parts → (account_at others v).from + (part_at sys v).period < 2 ^ 64
-ends_fit sys is rows runs x k accounts others l h e v p = omega (arith, (h.each v p).early, (is.parts v p).period.1, ap (λ (xs : List Account). (account_at xs v).from) e)
-
-pub few_fit : (sys : SystemView) (rows : List Row) (runs : List (List (Option ℕ))) (x k to : ℕ) (accounts others : List Account) → x ≤ LIMIT → to ≤ LIMIT → AreAccounts sys rows runs x k accounts → others ≡ accounts
-    → (v : ℕ) → v < length sys.parts → (account_at others v).used + to < 2 ^ 64
-few_fit sys rows runs x k to accounts others l t h e v p = omega (arith, (h.each v p).few, ap (λ (xs : List Account). (account_at xs v).used) e)
-
 -- the next slot is later
-pub next_later : (sys : SystemView) (rows : List Row) (runs : List (List (Option ℕ))) (host : Host) (events : List Event) → Visit sys rows runs host events → (other : Host) (slots next : ℕ) → other.time ≡ host.time → other.taken ≡ host.taken → other.accounts ≡ host.accounts → host.time < slots
-    → (other.time < slots → (other.taken < length rows → other.time < (row_at rows other.taken).at) → ((v : ℕ) → v < length sys.parts → (account_at other.accounts v).started ≡ true → other.time < (account_at other.accounts v).from + (part_at sys v).period) → other.time < next)
+pub next_later : (sys : SystemView) (rows : List Row) (runs : List (List (Option ℕ))) (host : Host) (events : List Event) → Visit sys rows runs host events → AreEnds sys host → (other : Host) (slots next : ℕ) → other.time ≡ host.time → other.taken ≡ host.taken → other.ends ≡ host.ends → host.time < slots
+    → (other.time < slots → (other.taken < length rows → other.time < (row_at rows other.taken).at) → ((c : ℕ) → c < length sys.cores → other.time < number_at other.ends c) → other.time < next)
     → host.time < next
-next_later sys rows runs host events h other slots next t k a l later =
+next_later sys rows runs host events h ends other slots next t k e l later =
     subst (λ (x : ℕ). x < next) t (later (omega arith)
     (λ m. omega (arith, h.taken.to_come other.taken (omega arith) m))
-    (λ v p on. omega (arith, ((h.are.each v p).in_period (sym (ap (λ (xs : List Account). (account_at xs v).started) a) ∙ on)).not_over, ap (λ (xs : List Account). (account_at xs v).from) a)))
+    (λ c p. omega (arith, ends.later c p, ap (λ (xs : List ℕ). number_at xs c) e)))
+
+-- a VCPU that is started stands on a core
+pub started_core : (sys : SystemView) → IsSystem sys → (rows : List Row) → IsWorkload sys rows → (runs : List (List (Option ℕ))) (x k : ℕ) (accounts : List Account) → k ≤ length rows → AreAccounts sys rows runs x k accounts → (v : ℕ) → v < length sys.parts → (account_at accounts v).started ≡ true → OnCore sys v
+started_core sys system rows w runs x k accounts in_rows are v l on =
+    let f = some_found (starts v) rows k (sym (are.each v l).started ∙ on) in
+    let its : f.0.vcpu ≡ v = eqb-true f.0.vcpu v (and_parts (is_of v f.0) (is_start f.0.what) f.2.passes).0 in
+    vcpu_core sys system v (subst (λ (u : ℕ). is_vcpu sys u ≡ true) (ap (λ (r : Row). r.vcpu) f.2.is ∙ its) (w.known f.2.place (omega (arith, f.2.within, in_rows))))

@@ -1,5 +1,5 @@
 -- What is kept of VCPUs and cores between two events.
-use Rattle.std.specs.Prelude.{◌≡◌, ℕ, ◌+◌, ◌-◌, ◌/◌, ◌%◌, ◌<◌, ◌≤◌, ◌==◌, Bool, true, false, not, ◌&&◌, ◌||◌, nat_lt, if◌then◌else◌, List, length, slice_index_or, Option, Some, None}
+use Rattle.std.specs.Prelude.{◌≡◌, ℕ, ◌+◌, ◌*◌, ◌-◌, ◌/◌, ◌%◌, ◌<◌, ◌≤◌, ◌==◌, Bool, true, false, not, ◌&&◌, ◌||◌, nat_lt, if◌then◌else◌, List, length, slice_index_or, Option, Some, None}
 use Rattle.tree_model.specs.declared.place.Place.TheVariants.{Core}
 use Rattle.tree_model.specs.View.{SystemView}
 use Rattle.tree_model.specs.System.{part_at}
@@ -7,7 +7,7 @@ use Rattle.tree_model.specs.Tree.{is_child, budget_at, run_at}
 use Rattle.trace_file.specs.declared.event.Event.{Event}
 use Rattle.trace_file.specs.declared.event.What.TheVariants.{Stop}
 use Rattle.rtds_sim.specs.declared.account.Account.{Account}
-use Rattle.rtds_sim.specs.declared.choice.Rank.{Rank}
+use Rattle.rtds_sim.specs.declared.account.TheConstants.{LEVEL, NO_KEY, NEVER}
 use Rattle.rtds_sim.specs.declared.host.Host.{Host}
 use Rattle.release_file.specs.declared.workload.Wake.{Wake as Row}
 use Rattle.release_file.specs.declared.workload.WakeKind.{WakeKind}
@@ -47,45 +47,59 @@ abbrev pub account_eligible : Account → ℕ → Bool → Bool
 account_eligible account budget extra =
     (account.started && not account.blocked) && (nat_lt account.used budget || extra)
 
--- the rank of VCPU v, where it is eligible on core c
-abbrev pub rank_of : SystemView → List ℕ → List Account → ℕ → ℕ → Option Rank
-rank_of sys budgets accounts c v =
-    let account = account_at accounts v in
-    let budget = budget_at budgets v in
-    if is_child sys (Core c) v && account_eligible account budget (part_at sys v).extra
-    then Some (record {
-      level = account.used / budget;
-      deadline = account.from + (part_at sys v).period;
-      vcpu = v;
-    })
-    else None
+abbrev pub level_of : Account → ℕ → ℕ
+level_of account budget = account.used / budget
 
-abbrev pub ranks_before : Rank → Rank → Bool
-ranks_before a b = goes_first a.level a.deadline a.vcpu b.level b.deadline b.vcpu
+abbrev pub deadline_of : Account → ℕ → ℕ
+deadline_of account period = account.from + period
 
-abbrev pub better_rank : Option Rank → Option Rank → Option Rank
-better_rank best None = best
-better_rank None (Some new) = Some new
-better_rank (Some old) (Some new) = Some (if ranks_before new old then new else old)
+-- a number that is the less the sooner the VCPU goes, and the last one where it is not eligible
+abbrev pub key_of : Account → ℕ → Bool → ℕ → ℕ
+key_of account budget extra period =
+    if account_eligible account budget extra
+    then level_of account budget * LEVEL + deadline_of account period
+    else NO_KEY
 
--- the best rank among those of the first n parts
-pub record IsBestTo (sys : SystemView) (budgets : List ℕ) (accounts : List Account) (c n : ℕ)
-    (best : Option Rank) : Type 0 where
-  pub none : best ≡ None → (v : ℕ) → v < n → rank_of sys budgets accounts c v ≡ None
-  pub within : (r : Rank) → best ≡ Some r → r.vcpu < n
-  pub is_rank : (r : Rank) → best ≡ Some r → rank_of sys budgets accounts c r.vcpu ≡ Some r
-  pub first : (r s : Rank) (u : ℕ) → best ≡ Some r → u < n →
-      rank_of sys budgets accounts c u ≡ Some s → ranks_before s r ≡ false
+-- the slot at which its period ends, where it is started
+abbrev pub end_of : Account → ℕ → ℕ
+end_of account period = if account.started then deadline_of account period else NEVER
 
-abbrev pub vcpu_of : Option Rank → Option ℕ
-vcpu_of None = None
-vcpu_of (Some r) = Some r.vcpu
+abbrev pub number_at : List ℕ → ℕ → ℕ
+number_at numbers i = slice_index_or numbers i 0
 
+-- whether VCPU v is one of core c and eligible
+abbrev pub ranked : SystemView → List ℕ → List Account → ℕ → ℕ → Bool
+ranked sys budgets accounts c v =
+    is_child sys (Core c) v &&
+    account_eligible (account_at accounts v) (budget_at budgets v) (part_at sys v).extra
+
+-- the order of two VCPUs
+abbrev pub ranks_before : SystemView → List ℕ → List Account → ℕ → ℕ → Bool
+ranks_before sys budgets accounts u v =
+    goes_first (level_of (account_at accounts u) (budget_at budgets u))
+    (deadline_of (account_at accounts u) (part_at sys u).period) u
+    (level_of (account_at accounts v) (budget_at budgets v))
+    (deadline_of (account_at accounts v) (part_at sys v).period) v
+
+-- the eligible VCPU of core c before which no other one goes, if there is one
 pub record IsChoice (sys : SystemView) (budgets : List ℕ) (accounts : List Account) (c : ℕ)
     (o : Option ℕ) : Type 0 where
-  pub best : Option Rank
-  pub is_best : IsBestTo sys budgets accounts c (length sys.parts) best
-  pub names : o ≡ vcpu_of best
+  pub idle : o ≡ None → (v : ℕ) → v < length sys.parts →
+      ranked sys budgets accounts c v ≡ false
+  pub within : (v : ℕ) → o ≡ Some v → v < length sys.parts
+  pub named : (v : ℕ) → o ≡ Some v → ranked sys budgets accounts c v ≡ true
+  pub first : (u v : ℕ) → o ≡ Some v → u < length sys.parts →
+      ranked sys budgets accounts c u ≡ true → ranks_before sys budgets accounts u v ≡ false
+
+-- the first VCPU of core c among those below n with the least key, if that is one
+pub record IsFirstKey (sys : SystemView) (keys : List ℕ) (c n key v : ℕ) : Type 0 where
+  pub no_more : key ≤ NO_KEY
+  pub within : key < NO_KEY → v < n
+  pub child : key < NO_KEY → is_child sys (Core c) v ≡ true
+  pub its : key < NO_KEY → number_at keys v ≡ key
+  pub least : (u : ℕ) → u < n → is_child sys (Core c) u ≡ true → key ≤ number_at keys u
+  pub first : (u : ℕ) → key < NO_KEY → u < v → is_child sys (Core c) u ≡ true →
+      key < number_at keys u
 
 -- whether a VCPU, if one is meant, is blocked
 abbrev pub gives_up : List Account → Option ℕ → Bool
@@ -141,11 +155,64 @@ pub record AreBefore (rows : List Row) (k x : ℕ) : Type 0 where
   pub past : (i : ℕ) → i < k → (row_at rows i).at < x
   pub to_come : (i : ℕ) → k ≤ i → i < length rows → x ≤ (row_at rows i).at
 
+-- what the least key of a core names
+pub record IsNamed (sys : SystemView) (keys : List ℕ) (c : ℕ) (o : Option ℕ) : Type 0 where
+  pub key : ℕ
+  pub vcpu : ℕ
+  pub first : IsFirstKey sys keys c (length sys.parts) key vcpu
+  pub none : key ≡ NO_KEY → o ≡ None
+  pub some : key < NO_KEY → o ≡ Some vcpu
+
+-- whether a key of core c has changed since the core went to its VCPU
+abbrev pub is_stale : List Bool → ℕ → Bool
+is_stale stale c = slice_index_or stale c false
+
 -- there is room for each VCPU and each core, and what has a core is a part
 pub record HasRoom (sys : SystemView) (host : Host) : Type 0 where
   pub all_vcpus : length host.accounts ≡ 512
+  pub all_keys : length host.keys ≡ 512
+  pub all_until : length host.until ≡ 512
   pub all_cores : length host.holders ≡ 64
+  pub all_ends : length host.ends ≡ 64
+  pub all_stale : length host.stale ≡ 64
   pub few_parts : length sys.parts ≤ 512
   pub few_cores : length sys.cores ≤ 64
   pub parts : (c v : ℕ) → c < length sys.cores → holder_at host.holders c ≡ Some v →
       v < length sys.parts
+
+-- the keys and the ends of periods are those of the accounts, whose numbers are small, and what has
+-- a core stands on it, and is what its keys name, where none has changed
+pub record IsReady (sys : SystemView) (budgets : List ℕ) (host : Host) : Type 0 where
+  pub room : HasRoom sys host
+  pub early : (v : ℕ) → v < length sys.parts → (account_at host.accounts v).from ≤ host.time
+  pub few : (v : ℕ) → v < length sys.parts → (account_at host.accounts v).used ≤ host.time
+  pub keys : (v : ℕ) → v < length sys.parts →
+      number_at host.keys v ≡ key_of (account_at host.accounts v) (budget_at budgets v)
+      (part_at sys v).extra (part_at sys v).period
+  pub until : (v : ℕ) → v < length sys.parts →
+      number_at host.until v ≡ end_of (account_at host.accounts v) (part_at sys v).period
+  pub on_core : (c v : ℕ) → c < length sys.cores → holder_at host.holders c ≡ Some v →
+      is_child sys (Core c) v ≡ true
+  pub named : (c : ℕ) → c < length sys.cores → is_stale host.stale c ≡ false →
+      IsNamed sys host.keys c (holder_at host.holders c)
+
+-- on no core does a period end before the slot that is kept of it
+abbrev pub IsEnd : SystemView → List Account → ℕ → ℕ → Type 0
+IsEnd sys accounts c end = (v : ℕ) → v < length sys.parts → is_child sys (Core c) v ≡ true →
+    (account_at accounts v).started ≡ true →
+    end ≤ (account_at accounts v).from + (part_at sys v).period
+
+pub record AreEnds (sys : SystemView) (host : Host) : Type 0 where
+  pub bound : (c : ℕ) → c < length sys.cores →
+      IsEnd sys host.accounts c (number_at host.ends c)
+  pub later : (c : ℕ) → c < length sys.cores → host.time < number_at host.ends c
+
+-- an account after some slots that its VCPU had or not, and where its period may end at a slot
+abbrev pub used_more : Account → Bool → ℕ → Account
+used_more account has_core slots =
+    if has_core then record account { used = account.used + slots } else account
+
+abbrev pub period_ended : Account → ℕ → ℕ → Account
+period_ended account period to =
+    if account.started && (to == account.from + period)
+    then record account { from = to; used = 0 } else account

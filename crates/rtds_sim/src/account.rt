@@ -1,7 +1,17 @@
 ghost use Rattle.std.specs.Prelude.{◌≡◌, ◌≤◌, ◌<◌, ◌+◌, ◌^◌};
-ghost use Rattle.rtds_sim.specs.Accounts.{no_account, account_eligible, left_of, gone_on, row_taken};
+ghost use Rattle.slot_model.specs.declared.task.TheConstants.{LIMIT};
+ghost use Rattle.rtds_sim.specs.Accounts.{no_account, account_eligible, key_of, end_of, level_of, left_of, row_taken};
 
 use release_file::{Wake, WakeKind};
+
+/// By how much a level counts more than a deadline in a key.
+pub const LEVEL: u64 = 4_294_967_296;
+
+/// The key of a VCPU that is not eligible.
+pub const NO_KEY: u64 = 18_446_744_073_709_551_615;
+
+/// Past all ends of periods.
+pub const NEVER: u64 = 18_446_744_073_709_551_615;
 
 /// What is kept of a VCPU between two events.
 #[derive(Clone, Copy, Debug, PartialEq, Eq)]
@@ -60,29 +70,44 @@ impl Account {
         requires { 1 ≤ budget }
         ensures { result ≡ left_of self budget }
     {
+        if self.used < budget {
+            return budget - self.used;
+        }
         budget - self.used % budget
     }
 
-    /// Goes on over some slots, up to the end of its period at the latest. `has_core` says whether
-    /// it has them.
-    pub fn advanced(self, has_core: bool, slots: u64, period: u64, to: u64) -> Account
-        requires end { self.from + period < 2 ^ 64 }
-        requires used { self.used + slots < 2 ^ 64 }
-        ensures { result ≡ gone_on self has_core slots period to }
+    /// How often it has had its budget.
+    fn level(self, budget: u64) -> u64
+        requires { 1 ≤ budget }
+        ensures { result ≡ level_of self budget }
     {
-        if self.started && to == self.from + period {
-            return Account {
-                from: to,
-                used: 0,
-                ..self
-            };
+        if self.used < budget {
+            return 0;
         }
-        if has_core {
-            return Account {
-                used: self.used + slots,
-                ..self
-            };
+        self.used / budget
+    }
+
+    /// The less it is, the sooner the VCPU goes: by its level and then its deadline.
+    pub fn key(self, budget: u64, extra: bool, period: u64) -> u64
+        requires some { 1 ≤ budget }
+        requires used { self.used ≤ LIMIT }
+        requires deadline { self.from + period < LEVEL }
+        ensures { result ≡ key_of self budget extra period }
+    {
+        if !self.is_eligible(budget, extra) {
+            return NO_KEY;
         }
-        self
+        self.level(budget) * LEVEL + (self.from + period)
+    }
+
+    /// The slot at which its period ends, where it is started.
+    pub fn end(self, period: u64) -> u64
+        requires { self.from + period < 2 ^ 64 }
+        ensures { result ≡ end_of self period }
+    {
+        if self.started {
+            return self.from + period;
+        }
+        NEVER
     }
 }

@@ -1,11 +1,11 @@
-ghost use Rattle.std.specs.Prelude.{◌≡◌, ℕ, ◌≤◌, ◌<◌, ◌+◌, ◌++◌, ◌^◌, Some, length, OnOk};
+ghost use Rattle.std.specs.Prelude.{◌≡◌, ℕ, ◌≤◌, ◌<◌, ◌+◌, ◌++◌, ◌^◌, Some, false, length, OnOk};
 ghost use Rattle.slot_model.specs.declared.task.TheConstants.{LIMIT};
 ghost use Rattle.tree_model.specs.System.{part_at};
 ghost use Rattle.release_file.specs.Workload.{row_at};
 ghost use Rattle.rtds_sim.specs.Printed.{core_of, event_of, switch_to, gathered, push_some, row_event_at};
 
-use crate::account::Account;
-use crate::choice::{account_of, budget_of, choose};
+use crate::account::{Account, NEVER, NO_KEY};
+use crate::choice::{account_of, budget_of, first_key};
 use crate::members::Members;
 use crate::moment::moment_of_slot;
 use release_file::{Wake, WakeKind};
@@ -21,8 +21,16 @@ pub struct Host {
     /// How many rows of the workload have been taken.
     pub taken: usize,
     pub accounts: [Account; MAX_PARTS],
+    /// The key of each account.
+    pub keys: [u64; MAX_PARTS],
+    /// The slot at which its period ends.
+    pub until: [u64; MAX_PARTS],
     /// For each core the VCPU that has it.
     pub holders: [Option<u32>; MAX_CORES],
+    /// For each core a slot before which no period of its VCPUs ends.
+    pub ends: [u64; MAX_CORES],
+    /// Whether a key on the core has changed since it went to its VCPU.
+    pub stale: [bool; MAX_CORES],
 }
 
 /// The core on which a part stands.
@@ -67,6 +75,14 @@ fn switch_to(holder: Option<u32>, next: Option<u32>) -> Option<What>
     }
 }
 
+/// Whether a core is stale, once a key on it is another.
+fn is_changed(stale: bool, old: u64, new: u64) -> bool
+    ensures stale { result ≡ false → stale ≡ false }
+    ensures key { result ≡ false → new ≡ old }
+{
+    stale || new != old
+}
+
 /// Row `i` of a workload.
 fn row_at(rows: &[Wake], i: usize) -> Wake
     requires { i < length rows.now }
@@ -76,25 +92,29 @@ fn row_at(rows: &[Wake], i: usize) -> Wake
 }
 
 impl Host {
-    ghost use Rattle.std.specs.Prelude.{◌≡◌, ◌≢◌, ℕ, ◌≤◌, ◌<◌, ◌+◌, ◌-◌, ◌++◌, ◌^◌, true, List, Option, Some, None, length, slice_set, if◌then◌else◌, OnOk};
+    ghost use Rattle.std.specs.Prelude.{◌≡◌, ◌≢◌, ℕ, ◌≤◌, ◌<◌, ◌+◌, ◌-◌, ◌++◌, ◌^◌, true, false, List, Option, Some, None, length, slice_set, if◌then◌else◌, OnOk};
     ghost use Rattle.slot_model.specs.Run.{holds};
     ghost use Rattle.slot_model.specs.declared.task.TheConstants.{LIMIT};
+    ghost use Rattle.tree_model.specs.declared.place.Place.TheVariants.{Core};
     ghost use Rattle.tree_model.specs.View.{SystemView};
     ghost use Rattle.tree_model.specs.System.{part_at};
-    ghost use Rattle.tree_model.specs.Tree.{budget_at};
+    ghost use Rattle.tree_model.specs.Tree.{is_child, budget_at};
     ghost use Rattle.tree_model.specs.Plans.{IsPlan};
+    ghost use Rattle.release_file.specs.declared.workload.WakeKind.TheVariants.{Start};
     ghost use Rattle.release_file.specs.Workload.{row_at, IsWorkload};
     ghost use Rattle.rtds_sim.specs.Printed.{core_of, gathered, on_core_at, switch_to};
     ghost use Rattle.tree_model.specs.System.{IsSystem};
     ghost use Rattle.rtds_sim.specs.Members.{AreMembersFrom};
-    ghost use Rattle.rtds_sim.specs.Accounts.{no_account, account_at, holder_at, row_taken, gone_on, left_of, left_at, gives_up, stop_of, switch_of, IsChoice, AreAccounts, AreBefore, HasRoom};
+    ghost use Rattle.rtds_sim.specs.Accounts.{no_account, account_at, holder_at, number_at, row_taken, gone_on, used_more, period_ended, left_of, left_at, gives_up, stop_of, switch_of, IsChoice, IsNamed, IsAccount, AreAccounts, AreBefore, HasRoom, IsReady, IsEnd, AreEnds};
 
     /// Before the first slot.
-    pub fn new(sys: &System) -> Host
+    pub fn new(sys: &System, plan: &Plan) -> Host
+        requires plan { IsPlan sys.now plan.now }
         ensures system { IsSystem sys.now }
         ensures time { result.time ≡ 0 }
         ensures taken { result.taken ≡ 0 }
-        ensures room { HasRoom sys.now result }
+        ensures ready { IsReady sys.now plan.now result }
+        ensures ends { AreEnds sys.now result }
         ensures accounts { (v : ℕ) → account_at result.accounts v ≡ no_account }
         ensures holders { (c : ℕ) → holder_at result.holders c ≡ None }
     {
@@ -104,14 +124,69 @@ impl Host {
             time: 0,
             taken: 0,
             accounts: [Account::new(); MAX_PARTS],
+            keys: [NO_KEY; MAX_PARTS],
+            until: [NEVER; MAX_PARTS],
             holders: [None; MAX_CORES],
+            ends: [NEVER; MAX_CORES],
+            stale: [true; MAX_CORES],
+        }
+    }
+
+    /// Sets an account, its key and the end of its period.
+    fn set(&mut self, sys: &System, plan: &Plan, v: u32, account: Account)
+        requires plan { IsPlan sys.now plan.now }
+        requires ready { IsReady sys.now plan.now self.old }
+        requires is_part { v < length sys.now.parts }
+        requires early { account.from ≤ self.old.time }
+        requires few { account.used ≤ self.old.time }
+        requires in_limit { self.old.time ≤ LIMIT }
+        ensures ready { IsReady sys.now plan.now self.new }
+        ensures accounts { self.new.accounts ≡ slice_set self.old.accounts v account }
+        ensures taken { self.new.taken ≡ self.old.taken }
+        ensures time { self.new.time ≡ self.old.time }
+        ensures holders { self.new.holders ≡ self.old.holders }
+        ensures ends { self.new.ends ≡ self.old.ends }
+    {
+        let part = &sys.parts()[v as usize];
+        let key = account.key(budget_of(plan, v), part.extra(), part.period());
+        let end = account.end(part.period());
+        let core = core_of(sys, v) as usize;
+        let stale = is_changed(self.stale[core], self.keys[v as usize], key);
+        self.accounts[v as usize] = account;
+        self.keys[v as usize] = key;
+        self.until[v as usize] = end;
+        self.stale[core] = stale;
+    }
+
+    /// Before which slot no period ends on core `core`, once a row of its VCPUs is taken.
+    fn end_with(&self, sys: &System, core: usize, row: Wake) -> u64
+        requires is_core { core < length self.now.ends }
+        requires is_part { row.vcpu < length sys.now.parts }
+        requires in_limit { row.at ≤ LIMIT }
+        ensures within { result ≤ number_at self.now.ends core }
+        ensures start { row.what ≡ Start → result ≤ row.at + (part_at sys.now row.vcpu).period }
+        ensures later { row.at < number_at self.now.ends core → row.at < result }
+        ensures system { IsSystem sys.now }
+    {
+        let end = self.ends[core];
+        let period = sys.parts()[row.vcpu as usize].period();
+        match row.what {
+            WakeKind::Start => end.min(row.at + period),
+            _ => end,
         }
     }
 
     /// Takes one row.
-    fn take(&mut self, row: Wake)
-        requires is_part { row.vcpu < length self.old.accounts }
+    fn take(&mut self, sys: &System, plan: &Plan, row: Wake)
+        requires plan { IsPlan sys.now plan.now }
+        requires ready { IsReady sys.now plan.now self.old }
+        requires ends { AreEnds sys.now self.old }
+        requires is_part { row.vcpu < length sys.now.parts }
         requires more { self.old.taken + 1 < 2 ^ 64 }
+        requires now { row.at ≡ self.old.time }
+        requires in_limit { self.old.time ≤ LIMIT }
+        ensures ready { IsReady sys.now plan.now self.new }
+        ensures ends { AreEnds sys.now self.new }
         ensures accounts { self.new.accounts
             ≡ slice_set self.old.accounts row.vcpu
             (row_taken row.what row.at (account_at self.old.accounts row.vcpu)) }
@@ -120,15 +195,25 @@ impl Host {
         ensures holders { self.new.holders ≡ self.old.holders }
     {
         let v = row.vcpu;
-        self.accounts[v as usize] = account_of(&self.accounts, v).taking(row);
+        let core = core_of(sys, v) as usize;
+        let end = self.end_with(sys, core, row);
+        let account = account_of(&self.accounts, v).taking(row);
+        self.ends[core] = end;
         self.taken += 1;
+        self.set(sys, plan, v, account);
     }
 
     /// Takes the rows at the next slot.
-    pub fn take_rows(&mut self, rows: &[Wake])
+    pub fn take_rows(&mut self, sys: &System, plan: &Plan, rows: &[Wake])
+        requires plan { IsPlan sys.now plan.now }
+        requires ready { IsReady sys.now plan.now self.old }
+        requires ends { AreEnds sys.now self.old }
         requires in_rows { self.old.taken ≤ length rows.now }
         requires known { (i : ℕ) → i < length rows.now
-            → (row_at rows.now i).vcpu < length self.old.accounts }
+            → (row_at rows.now i).vcpu < length sys.now.parts }
+        requires in_limit { self.old.time ≤ LIMIT }
+        ensures ready { IsReady sys.now plan.now self.new }
+        ensures ends { AreEnds sys.now self.new }
         ensures in_rows { self.new.taken ≤ length rows.now }
         ensures later { self.old.taken ≤ self.new.taken }
         ensures now { (i : ℕ) → self.old.taken ≤ i → i < self.new.taken
@@ -141,12 +226,11 @@ impl Host {
             → ((v : ℕ) → v < length sys.parts → 1 ≤ (part_at sys v).period)
             → AreAccounts sys rows.now runs self.old.time self.old.taken self.old.accounts
             → AreAccounts sys rows.now runs self.old.time self.new.taken self.new.accounts }
-        ensures all_vcpus { length self.new.accounts ≡ length self.old.accounts }
         ensures time { self.new.time ≡ self.old.time }
         ensures holders { self.new.holders ≡ self.old.holders }
     {
         while self.taken < rows.len() && row_at(rows, self.taken).at == self.time {
-            self.take(row_at(rows, self.taken));
+            self.take(sys, plan, row_at(rows, self.taken));
         }
     }
 
@@ -214,8 +298,14 @@ impl Host {
     }
 
     /// Stops the cores whose VCPUs block.
-    pub fn stop_blocked(&mut self, sys: &System, events: &mut Vec<Event>) -> Result<(), AllocError>
-        requires room { HasRoom sys.now self.old }
+    pub fn stop_blocked(
+        &mut self,
+        sys: &System,
+        plan: &Plan,
+        events: &mut Vec<Event>,
+    ) -> Result<(), AllocError>
+        requires plan { IsPlan sys.now plan.now }
+        requires ready { IsReady sys.now plan.now self.old }
         requires in_limit { self.old.time ≤ LIMIT }
         ensures events { OnOk result
             (events.new.items ≡ events.old.items
@@ -223,8 +313,9 @@ impl Host {
         ensures left { OnOk result
             ((c : ℕ) → c < length sys.now.cores →
             holder_at self.new.holders c ≡ left_at self.old.accounts self.old.holders c) }
-        ensures room { OnOk result (HasRoom sys.now self.new) }
+        ensures ready { OnOk result (IsReady sys.now plan.now self.new) }
         ensures accounts { self.new.accounts ≡ self.old.accounts }
+        ensures ends { self.new.ends ≡ self.old.ends }
         ensures taken { self.new.taken ≡ self.old.taken }
         ensures time { self.new.time ≡ self.old.time }
     {
@@ -233,6 +324,27 @@ impl Host {
             self.holders[c] = self.holder_left(c);
         }
         Ok(())
+    }
+
+    /// The VCPU to which core `core` goes.
+    fn choose(&self, sys: &System, plan: &Plan, members: &Members, core: u32) -> Option<u32>
+        requires members { AreMembersFrom sys.now 0 members.now }
+        requires plan { IsPlan sys.now plan.now }
+        requires ready { IsReady sys.now plan.now self.now }
+        requires is_core { core < length sys.now.cores }
+        requires in_limit { self.now.time ≤ LIMIT }
+        ensures choice { IsChoice sys.now plan.now self.now.accounts core result }
+        ensures named { IsNamed sys.now self.now.keys core result }
+    {
+        prove!(sys.cores().len() <= MAX_CORES);
+        if !self.stale[core as usize] {
+            return self.holders[core as usize];
+        }
+        let (key, v) = first_key(sys, &self.keys, members, core);
+        if key == NO_KEY {
+            return None;
+        }
+        Some(v)
     }
 
     /// Gives each core to the VCPU of the next slot.
@@ -245,9 +357,7 @@ impl Host {
     ) -> Result<(), AllocError>
         requires members { AreMembersFrom sys.now 0 members.now }
         requires plan { IsPlan sys.now plan.now }
-        requires room { HasRoom sys.now self.old }
-        requires ends { (v : ℕ) → v < length sys.now.parts
-            → (account_at self.old.accounts v).from + (part_at sys.now v).period < 2 ^ 64 }
+        requires ready { IsReady sys.now plan.now self.old }
         requires in_limit { self.old.time ≤ LIMIT }
         ensures events { OnOk result
             (events.new.items ≡ events.old.items
@@ -256,15 +366,17 @@ impl Host {
         ensures chosen { OnOk result
             ((c : ℕ) → c < length sys.now.cores
             → IsChoice sys.now plan.now self.old.accounts c (holder_at self.new.holders c)) }
-        ensures all_cores { OnOk result (length self.new.holders ≡ length self.old.holders) }
+        ensures ready { OnOk result (IsReady sys.now plan.now self.new) }
         ensures accounts { self.new.accounts ≡ self.old.accounts }
+        ensures ends { self.new.ends ≡ self.old.ends }
         ensures taken { self.new.taken ≡ self.old.taken }
         ensures time { self.new.time ≡ self.old.time }
     {
         for c in 0..sys.cores().len() {
-            let next = choose(sys, plan, &self.accounts, members, c as u32);
+            let next = self.choose(sys, plan, members, c as u32);
             push_some(events, self.switch_event(c, next))?;
             self.holders[c] = next;
+            self.stale[c] = false;
         }
         Ok(())
     }
@@ -274,15 +386,12 @@ impl Host {
     pub fn next_slot(&self, sys: &System, plan: &Plan, rows: &[Wake], slots: u64) -> u64
         requires plan { IsPlan sys.now plan.now }
         requires room { HasRoom sys.now self.now }
-        requires ends { (v : ℕ) → v < length sys.now.parts
-            → (account_at self.now.accounts v).from + (part_at sys.now v).period < 2 ^ 64 }
         requires in_limit { self.now.time ≤ LIMIT }
         ensures in_slots { result ≤ slots }
         ensures row { self.now.taken < length rows.now
             → result ≤ (row_at rows.now self.now.taken).at }
-        ensures period { (v : ℕ) → v < length sys.now.parts
-            → (account_at self.now.accounts v).started ≡ true
-            → result ≤ (account_at self.now.accounts v).from + (part_at sys.now v).period }
+        ensures period { (c : ℕ) → c < length sys.now.cores
+            → result ≤ number_at self.now.ends c }
         ensures budget { (c v : ℕ) → c < length sys.now.cores
             → holder_at self.now.holders c ≡ Some v
             → result ≤ self.now.time + left_of (account_at self.now.accounts v)
@@ -290,15 +399,12 @@ impl Host {
         ensures later { self.now.time < slots →
             (self.now.taken < length rows.now
             → self.now.time < (row_at rows.now self.now.taken).at) →
-            ((v : ℕ) → v < length sys.now.parts → (account_at self.now.accounts v).started ≡ true
-            → self.now.time < (account_at self.now.accounts v).from + (part_at sys.now v).period)
+            ((c : ℕ) → c < length sys.now.cores → self.now.time < number_at self.now.ends c)
             → self.now.time < result }
     {
         let mut next = self.next_row(rows, slots);
-        for v in 0..sys.parts().len() {
-            next = next.min(self.end_of(sys, v as u32, slots));
-        }
         for c in 0..sys.cores().len() {
+            next = next.min(self.ends[c]);
             next = next.min(self.budget_end(sys, plan, c, slots));
         }
         next
@@ -316,25 +422,6 @@ impl Host {
     {
         if self.taken < rows.len() {
             return row_at(rows, self.taken).at.min(slots);
-        }
-        slots
-    }
-
-    /// The end of the period of VCPU `v`, and `slots` where it is not started.
-    fn end_of(&self, sys: &System, v: u32, slots: u64) -> u64
-        requires is_part { v < length sys.now.parts }
-        requires room { HasRoom sys.now self.now }
-        requires end { (account_at self.now.accounts v).from + (part_at sys.now v).period < 2 ^ 64 }
-        ensures period { (account_at self.now.accounts v).started ≡ true
-            → result ≡ (account_at self.now.accounts v).from + (part_at sys.now v).period }
-        ensures later { self.now.time < slots →
-            ((account_at self.now.accounts v).started ≡ true
-            → self.now.time < (account_at self.now.accounts v).from + (part_at sys.now v).period)
-            → self.now.time < result }
-    {
-        let account = account_of(&self.accounts, v);
-        if account.started {
-            return account.from + sys.parts()[v as usize].period();
         }
         slots
     }
@@ -359,42 +446,140 @@ impl Host {
     }
 
     /// Goes on to a later slot, before which nothing changes.
-    pub fn go_on(&mut self, sys: &System, to: u64)
-        requires room { HasRoom sys.now self.old }
+    pub fn go_on(&mut self, sys: &System, plan: &Plan, members: &Members, to: u64)
+        requires members { AreMembersFrom sys.now 0 members.now }
+        requires plan { IsPlan sys.now plan.now }
+        requires ready { IsReady sys.now plan.now self.old }
+        requires ends { AreEnds sys.now self.old }
         requires later { self.old.time ≤ to }
-        requires ends { (v : ℕ) → v < length sys.now.parts
-            → (account_at self.old.accounts v).from + (part_at sys.now v).period < 2 ^ 64 }
-        requires few { (v : ℕ) → v < length sys.now.parts
-            → (account_at self.old.accounts v).used + to < 2 ^ 64 }
-        ensures accounts { (v : ℕ) → v < length sys.now.parts
+        requires in_limit { to ≤ LIMIT }
+        requires in_time { (c : ℕ) → c < length sys.now.cores → to ≤ number_at self.old.ends c }
+        ensures ready { IsReady sys.now plan.now self.new }
+        ensures ends { AreEnds sys.now self.new }
+        ensures own { (c v : ℕ) → c < length sys.now.cores → v < length sys.now.parts
+            → is_child sys.now (Core c) v ≡ true
             → account_at self.new.accounts v
-            ≡ gone_on (account_at self.old.accounts v)
-            (holds (holder_at self.old.holders (core_of (part_at sys.now v).parent)) v)
+            ≡ gone_on (account_at self.old.accounts v) (holds (holder_at self.old.holders c) v)
             (to - self.old.time) (part_at sys.now v).period to }
+        ensures others { (v : ℕ) → v < length sys.now.parts
+            → ((c : ℕ) → c < length sys.now.cores → is_child sys.now (Core c) v ≡ false)
+            → account_at self.new.accounts v ≡ account_at self.old.accounts v }
         ensures time { self.new.time ≡ to }
-        ensures room { HasRoom sys.now self.new }
         ensures holders { self.new.holders ≡ self.old.holders }
         ensures taken { self.new.taken ≡ self.old.taken }
     {
         let slots = to - self.time;
-        for v in 0..sys.parts().len() {
-            let has_core = self.has_core(sys, v as u32);
-            let period = sys.parts()[v].period();
-            self.accounts[v] = account_of(&self.accounts, v as u32).advanced(
-                has_core, slots, period, to,
-            );
-        }
         self.time = to;
+        for c in 0..sys.cores().len() {
+            self.use_slots(sys, plan, c, slots);
+            self.end_periods(sys, plan, members, c);
+        }
     }
 
-    /// Whether VCPU `v` has its core.
-    fn has_core(&self, sys: &System, v: u32) -> bool
-        requires is_part { v < length sys.now.parts }
-        requires room { HasRoom sys.now self.now }
-        ensures { result
-            ≡ holds (holder_at self.now.holders (core_of (part_at sys.now v).parent)) v }
+    /// Counts some slots, which the VCPU of core `core` had.
+    fn use_slots(&mut self, sys: &System, plan: &Plan, core: usize, slots: u64)
+        requires plan { IsPlan sys.now plan.now }
+        requires ready { IsReady sys.now plan.now self.old }
+        requires is_core { core < length sys.now.cores }
+        requires in_limit { self.old.time ≤ LIMIT }
+        requires few { (v : ℕ) → holder_at self.old.holders core ≡ Some v
+            → (account_at self.old.accounts v).used + slots ≤ self.old.time }
+        ensures ready { IsReady sys.now plan.now self.new }
+        ensures accounts { (v : ℕ) → v < length sys.now.parts
+            → account_at self.new.accounts v
+            ≡ used_more (account_at self.old.accounts v)
+            (holds (holder_at self.old.holders core) v) slots }
+        ensures time { self.new.time ≡ self.old.time }
+        ensures holders { self.new.holders ≡ self.old.holders }
+        ensures taken { self.new.taken ≡ self.old.taken }
+        ensures ends { self.new.ends ≡ self.old.ends }
     {
-        self.holders[core_of(sys, v) as usize] == Some(v)
+        if let Some(v) = self.holders[core] {
+            let account = account_of(&self.accounts, v);
+            let used = account.used + slots;
+            let account = Account { used, ..account };
+            if used < budget_of(plan, v) {
+                self.accounts[v as usize] = account;
+                return;
+            }
+            self.set(sys, plan, v, account);
+        }
+    }
+
+    /// Begins the periods that begin now on core `core`.
+    fn end_periods(&mut self, sys: &System, plan: &Plan, members: &Members, core: usize)
+        requires members { AreMembersFrom sys.now 0 members.now }
+        requires plan { IsPlan sys.now plan.now }
+        requires ready { IsReady sys.now plan.now self.old }
+        requires is_core { core < length sys.now.cores }
+        requires in_limit { self.old.time ≤ LIMIT }
+        requires bound { IsEnd sys.now self.old.accounts core (number_at self.old.ends core) }
+        requires in_time { self.old.time ≤ number_at self.old.ends core }
+        ensures ready { IsReady sys.now plan.now self.new }
+        ensures own { (v : ℕ) → v < length sys.now.parts → is_child sys.now (Core core) v ≡ true
+            → account_at self.new.accounts v
+            ≡ period_ended (account_at self.old.accounts v) (part_at sys.now v).period
+            self.old.time }
+        ensures others { (v : ℕ) → v < length sys.now.parts
+            → is_child sys.now (Core core) v ≡ false
+            → account_at self.new.accounts v ≡ account_at self.old.accounts v }
+        ensures bound { IsEnd sys.now self.new.accounts core (number_at self.new.ends core) }
+        ensures later { self.old.time < number_at self.new.ends core }
+        ensures ends { (d : ℕ) → d ≢ core
+            → number_at self.new.ends d ≡ number_at self.old.ends d }
+        ensures time { self.new.time ≡ self.old.time }
+        ensures holders { self.new.holders ≡ self.old.holders }
+        ensures taken { self.new.taken ≡ self.old.taken }
+    {
+        prove!(sys.parts().len() <= MAX_PARTS);
+        if self.time < self.ends[core] {
+            return;
+        }
+        let none = sys.parts().len() as u32;
+        let mut end = NEVER;
+        let mut v = members.first[core];
+        while v < none {
+            end = end.min(self.begin(sys, plan, v));
+            v = members.next[v as usize];
+        }
+        self.ends[core] = end;
+    }
+
+    /// Begins the period of VCPU `v` that begins now, if one does. Gives the slot at which its
+    /// period ends.
+    fn begin(&mut self, sys: &System, plan: &Plan, v: u32) -> u64
+        requires plan { IsPlan sys.now plan.now }
+        requires ready { IsReady sys.now plan.now self.old }
+        requires is_part { v < length sys.now.parts }
+        requires in_limit { self.old.time ≤ LIMIT }
+        requires in_time { (account_at self.old.accounts v).started ≡ true
+            → self.old.time ≤ (account_at self.old.accounts v).from + (part_at sys.now v).period }
+        ensures ready { IsReady sys.now plan.now self.new }
+        ensures account { account_at self.new.accounts v
+            ≡ period_ended (account_at self.old.accounts v) (part_at sys.now v).period
+            self.old.time }
+        ensures others { (u : ℕ) → u ≢ v
+            → account_at self.new.accounts u ≡ account_at self.old.accounts u }
+        ensures end { (account_at self.new.accounts v).started ≡ true
+            → result ≤ (account_at self.new.accounts v).from + (part_at sys.now v).period }
+        ensures later { self.old.time < result }
+        ensures time { self.new.time ≡ self.old.time }
+        ensures holders { self.new.holders ≡ self.old.holders }
+        ensures taken { self.new.taken ≡ self.old.taken }
+        ensures ends { self.new.ends ≡ self.old.ends }
+    {
+        let end = self.until[v as usize];
+        if end != self.time {
+            return end;
+        }
+        let account = account_of(&self.accounts, v);
+        let begun = Account {
+            from: self.time,
+            used: 0,
+            ..account
+        };
+        self.set(sys, plan, v, begun);
+        self.time + sys.parts()[v as usize].period()
     }
 }
 

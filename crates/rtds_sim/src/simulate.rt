@@ -104,16 +104,16 @@ fn simulated(
     ensures system { IsSystem sys.now }
 {
     let mut events = Vec::new(alloc);
-    let mut host = Host::new(sys);
+    let mut host = Host::new(sys, plan);
     let members = Members::new(sys);
     while host.time < slots {
         let first = host.taken;
-        host.take_rows(wakes);
-        host.stop_blocked(sys, &mut events)?;
+        host.take_rows(sys, plan, wakes);
+        host.stop_blocked(sys, plan, &mut events)?;
         print_rows(sys, wakes, first, host.taken, &mut events)?;
         host.switch_all(sys, plan, &members, &mut events)?;
         let next = host.next_slot(sys, plan, wakes, slots);
-        host.go_on(sys, next);
+        host.go_on(sys, plan, &members, next);
     }
     events.push(Event {
         at: moment_of_slot(slots),

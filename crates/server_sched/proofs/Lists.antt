@@ -1,13 +1,14 @@
 -- Lists of slots as windows, and what is said of a tree over both.
-use Rattle.std.proofs.Common.{◌≡◌, ℕ, ◌+◌, ◌^◌, ◌<◌, ◌≤◌, Bool, List, [], ◌∷◌, ◌++◌, length, get_or, sym, ◌∙◌, ap, arith, subst, inl, inr, mul-le-mul_right}
+use Rattle.std.proofs.Common.{◌≡◌, ℕ, ◌+◌, ◌^◌, ◌<◌, ◌≤◌, Bool, List, [], ◌∷◌, ◌++◌, length, map, get_or, sym, ◌∙◌, ap, arith, subst, inl, inr, mul-le-mul_right, Vec, Global}
 use Rattle.std.proofs.lemmas.Bool.{cases_eq}
 use Rattle.std.proofs.lemmas.List.{get_or_append_left, get_or_push, length_push, length-map, get_or-map, ext_get_or}
 use Rattle.slot_model.specs.declared.job.Job.{Job}
 use Rattle.guest_sched.specs.declared.spans.Window.{Window}
 use Rattle.guest_sched.specs.Spans.{AreWindows, slots_of}
+use Rattle.tree_model.specs.declared.place.Place.{Place}
 use Rattle.tree_model.specs.View.{SystemView}
 use Rattle.tree_model.specs.System.{IsSystem}
-use Rattle.tree_model.specs.Tree.{server_tasks}
+use Rattle.tree_model.specs.Tree.{server_tasks, server_jobs}
 use Rattle.release_pattern.proofs.FewJobs.{synchronous-few}
 use Rattle.tree_model.proofs.Parents.{few_servers}
 use Rattle.tree_model.specs.Releases.{jobs_at}
@@ -34,5 +35,12 @@ same_supplies n given lists h =
 pub are_supplies : (sys : SystemView) (n : ℕ) (given : List (List Bool)) (lists : List (List Window)) → length given ≡ length sys.cores → AreWindowsOf n given (length given) lists → AreSupplies sys n lists
 are_supplies sys n given lists e h = record { one_each = h.long ∙ e; windows = λ c l. h.windows c (omega arith) }
 
+pub servers_in_reach : (sys : SystemView) (budgets : List ℕ) (n : ℕ) → IsSystem sys → n ≤ 1000000 → (node : Place) → length (server_jobs sys budgets node n) < 2 ^ 32
+servers_in_reach sys budgets n is l node = omega (arith, synchronous-few (server_tasks sys budgets node) 0 n, mul-le-mul_right (length (server_tasks sys budgets node)) l, few_servers sys is budgets node)
+
 pub few_in_reach : (sys : SystemView) (budgets : List ℕ) (n : ℕ) (jobs : List (List Job)) → IsSystem sys → n ≤ 1000000 → ((q : ℕ) → q < length sys.parts → length (jobs_at jobs q) < 2 ^ 32) → AreFewJobs sys budgets n jobs
-few_in_reach sys budgets n jobs is l own = record { servers = λ node m. omega (arith, synchronous-few (server_tasks sys budgets node) 0 n, mul-le-mul_right (length (server_tasks sys budgets node)) l, few_servers sys is budgets node); own = own }
+few_in_reach sys budgets n jobs is l own = record { servers = λ node m. servers_in_reach sys budgets n is l node; own = own }
+
+-- the list that the code reads of several
+pub list_read : {X : Type 0} (vecs : List (Vec X Global)) (i count : ℕ) (own : Vec X Global) (read : List X) → length (map (λ (s : Vec X Global). s.items) vecs) ≡ count → i < count → own ≡ get_or vecs i own → read ≡ own.items → read ≡ get_or (map (λ (s : Vec X Global). s.items) vecs) i []
+list_read {X} vecs i count own read e l r w = w ∙ (ap (λ (s : Vec X Global). s.items) r ∙ sym (get_or-map (λ (s : Vec X Global). s.items) vecs i own [] (omega (arith, e, length-map vecs (λ (s : Vec X Global). s.items)))))

@@ -3,3 +3,4 @@ pub mod NodeView
 pub mod TreeCounts
 pub mod TreeSpans
 pub mod Patterns
+pub mod SlotCounts

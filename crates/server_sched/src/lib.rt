@@ -7,6 +7,7 @@
 mod node;
 mod servers;
 mod shares;
+mod slot_counts;
 mod slots;
 mod supplies;
 mod tree;
@@ -15,6 +16,7 @@ mod tree_counts;
 pub use guest_sched::{Span, Window, server_spans};
 pub use node::{NodeSpans, TreeSpans};
 pub use servers::{run_servers, server_jobs};
+pub use slot_counts::count_run;
 pub use slots::run_tree;
 pub use supplies::{Pattern, core_supplies};
 pub use tree::span_tree;

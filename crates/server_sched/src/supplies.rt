@@ -1,7 +1,8 @@
-ghost use Rattle.std.specs.Prelude.{◌≡◌, ◌+◌, ◌≤◌, map, Some, IfOk};
+ghost use Rattle.std.specs.Prelude.{◌≡◌, ℕ, ◌+◌, ◌<◌, ◌≤◌, [], length, map, slice_index_or, Some, IfOk};
 ghost use Rattle.slot_model.specs.Supply.{Follows, IsFull};
 ghost use Rattle.guest_sched.specs.Spans.{AreWindows, slots_of};
-ghost use Rattle.tree_model.specs.System.{IsCoreSupply};
+ghost use Rattle.tree_model.specs.System.{IsCoreSupply, core_at};
+ghost use Rattle.tree_model.specs.Tree.{CoreConforms};
 ghost use Rattle.server_sched.specs.TreeSpans.{AreSupplies, supplies_of};
 ghost use Rattle.server_sched.specs.Patterns.{cyclic_slot, pattern_slot, pattern_supplies};
 
@@ -33,6 +34,10 @@ pub fn core_supplies(
         AreSupplies sys.now slots (map (λ g. g.items) given.items)) }
     ensures exact { IfOk result (λ given. supplies_of (map (λ g. g.items) given.items) slots ≡
         pattern_supplies sys.now pattern slots) }
+    // each of these lists gives what the file says of its core
+    ensures conform { IfOk result (λ _. (c : ℕ) → c < length sys.now.cores →
+        CoreConforms (core_at sys.now c).supply
+        (slice_index_or (pattern_supplies sys.now pattern slots) c [])) }
 {
     let cores = sys.cores();
     let mut given = Vec::with_capacity(alloc, cores.len())?;

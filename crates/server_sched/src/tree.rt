@@ -54,16 +54,23 @@ pub fn span_tree(
         IfOk result (λ _. OneFirstTree sys.now plan.now slots supplies
         (map (λ j. j.items) jobs.now)) }
 {
+    let mut room = room_for_tasks(alloc)?;
+    let cores = core_nodes(alloc, sys, plan.budgets(), given, slots, &mut room)?;
+    let parts = part_nodes(alloc, sys, plan.budgets(), jobs, &cores, slots, &mut room)?;
+    Ok(TreeSpans { cores, parts })
+}
+
+/// Room for the tasks of one node.
+pub(crate) fn room_for_tasks(alloc: Global) -> Result<Vec<Task>, AllocError>
+    ensures { IfOk result (λ room. 512 ≤ length room.items) }
+{
     let filler = Task {
         period: 1,
         deadline: 1,
         work: 1,
         jitter: 0,
     };
-    let mut room = vec![in alloc; filler; MAX_PARTS]?;
-    let cores = core_nodes(alloc, sys, plan.budgets(), given, slots, &mut room)?;
-    let parts = part_nodes(alloc, sys, plan.budgets(), jobs, &cores, slots, &mut room)?;
-    Ok(TreeSpans { cores, parts })
+    vec![in alloc; filler; MAX_PARTS]
 }
 
 /// The runs of the cores. `room` is for the tasks of one node.
@@ -140,7 +147,7 @@ fn share_of<'a>(
 }
 
 /// The place of a part among the children of its parent.
-fn rank_of(sys: &System, q: u32) -> usize
+pub(crate) fn rank_of(sys: &System, q: u32) -> usize
     requires { q < length sys.now.parts }
     ensures { result ≡ rank_among sys.now q }
 {

@@ -2,7 +2,7 @@ ghost use Rattle.std.specs.Prelude.{◌≡◌, ◌∷◌, [], ◌≤◌, true, l
 ghost use Rattle.tree_model.specs.Plans.{IsPlan};
 ghost use Rattle.tree_model.specs.System.{IsSystem};
 
-use crate::{Pattern, TreeSpans, core_supplies, run_tree, span_tree};
+use crate::{Pattern, TreeCounts, TreeSpans, core_supplies, count_run, run_tree, span_tree};
 use guest_sched::Window;
 use slot_model::{Job, Miss, Name, Sched, Task};
 use span_counts::Counts;
@@ -118,14 +118,20 @@ fn idle_tree(
     Ok(Some(span_tree(alloc, sys, plan, &jobs, &given, slots)?))
 }
 
-/// The same slot by slot, over 10 slots that the core of a system of one core has.
-fn idle_run(alloc: Global, sys: &System, plan: &Plan) -> Result<Option<TreeRun>, AllocError> {
+/// The same slot by slot, over 10 slots that the core of a system of one core has, and its counts.
+fn idle_run(
+    alloc: Global,
+    sys: &System,
+    plan: &Plan,
+) -> Result<Option<(TreeRun, TreeCounts)>, AllocError> {
     if !is_plan(sys, plan) || sys.cores().len() != 1 {
         return Ok(None);
     }
     let jobs = no_jobs(alloc, sys)?;
     let given = Vec::from_array(alloc, [vec![in alloc; true; 10]?])?;
-    Ok(Some(run_tree(alloc, sys, plan, &jobs, &given, 10)?))
+    let run = run_tree(alloc, sys, plan, &jobs, &given, 10)?;
+    let counts = count_run(alloc, sys, plan, &jobs, &given, &run, 10)?;
+    Ok(Some((run, counts)))
 }
 
 fn two_servers(rt: &impl Abort, alloc: Global) -> Result<System, AllocError> {
@@ -160,7 +166,9 @@ fn the_second_of_two_servers_misses(rt: HostRuntime) -> Result<(), Fail> {
     assert!(rt; !counts.is_kept());
     assert_eq!(rt; counts.cores(), [core].as_slice());
     assert_eq!(rt; counts.parts(), [idle(6), idle(4)].as_slice());
-    let run = idle_run(alloc, &sys, &plan)?.expect(&rt, "a plan");
+    let (run, counts) = idle_run(alloc, &sys, &plan)?.expect(&rt, "a plan");
+    assert_eq!(rt; counts.cores(), [core].as_slice());
+    assert_eq!(rt; counts.parts(), [idle(6), idle(4)].as_slice());
     assert_eq!(rt; run.cores.len(), 1);
     assert_eq!(rt; run.cores[0].len(), 10);
     for (x, entry) in run.cores[0].iter().enumerate() {

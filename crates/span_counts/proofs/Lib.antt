@@ -1,3 +1,4 @@
 mod Counting
+mod FirstMore
 mod Waiting
 mod PendingExamples

@@ -1,11 +1,11 @@
 -- How long jobs are pending: from their release to the moment from which they have their work.
-use Rattle.std.proofs.Common.{◌≡◌, ℕ, zero, suc, ◌+◌, ◌-◌, ◌*◌, ◌<◌, ◌≤◌, ◌&&◌, Bool, true, false, cond, leb, ltb, eqb, List, length, get_or, set, Option, Some, None, refl, sym, ◌∙◌, ap, arith, subst, inl, inr, eq-eqb, ne_eqb, lt-ltb, le-ltb, le-leb, length-set, get_or-set_same, get_or-set_other}
+use Rattle.std.proofs.Common.{◌≡◌, ℕ, ◌+◌, ◌-◌, ◌<◌, ◌≤◌, ◌&&◌, Bool, true, false, cond, leb, ltb, List, length, set, Option, Some, None, refl, sym, ◌∙◌, ap, arith, subst, inl, inr, eq-eqb, ne_eqb, lt-ltb, le-ltb, le-leb, length-set, get_or-set_same, get_or-set_other}
 use Rattle.std.proofs.lemmas.Bool.{cases_eq, cases_lt, lt-leb}
 use Rattle.slot_model.specs.declared.job.Job.{Job}
-use Rattle.slot_model.specs.Slots.{count_below, sum_below}
+use Rattle.slot_model.specs.Slots.{count_below}
 use Rattle.slot_model.specs.Task.{job_at}
 use Rattle.slot_model.specs.Run.{held, holds, service}
-use Rattle.slot_model.proofs.Sums.{sum_below-zero, sum_below-suc}
+use Rattle.slot_model.proofs.Sums.{sum_below-zero}
 use Rattle.slot_model.proofs.Runs.{count_below-mono}
 use Rattle.span_counts.specs.declared.pending.Wait.{Wait}
 use Rattle.span_counts.specs.Pending.{is_pending, slots_pending, HasWorkFrom, WaitsTo, wait_at, AreWaitsTo}

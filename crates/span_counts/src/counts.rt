@@ -40,11 +40,12 @@ pub fn count_level(
         (run_of spans.now) counts) }
 {
     let got = services(alloc, tasks, jobs, spans)?;
+    let missed = find_missed(tasks, jobs, spans, &got);
     Ok(Counts {
         given: slots_given(given),
         released: jobs_before(jobs, slots),
-        missed: count_missed(tasks, jobs, spans, &got),
-        first: first_missed(tasks, jobs, spans, &got),
+        missed: missed.count,
+        first: missed.first,
     })
 }
 
@@ -66,7 +67,7 @@ pub fn misses(
         IfOk result (λ n. (n ≡ 0) ↔ NoneMissed T jobs.now (run_of spans.now)) }
 {
     let got = services(alloc, tasks, jobs, spans)?;
-    Ok(count_missed(tasks, jobs, spans, &got))
+    Ok(find_missed(tasks, jobs, spans, &got).count)
 }
 
 /// The missed job with the earliest deadline moment in a run of spans, and of several the first in
@@ -85,7 +86,7 @@ pub fn first_miss(
         IfOk result (λ miss. IsFirstMiss T jobs.now (run_of spans.now) miss) }
 {
     let got = services(alloc, tasks, jobs, spans)?;
-    Ok(first_missed(tasks, jobs, spans, &got))
+    Ok(find_missed(tasks, jobs, spans, &got).first)
 }
 
 /// The number of slots of windows.
@@ -155,42 +156,36 @@ fn slots_before(span: &Span, moment: u128) -> u64
     moment as u64 - span.from
 }
 
-/// The number of jobs that miss: their deadline moment is within the run, and they got fewer slots
-/// than their work before it.
-fn count_missed(tasks: &[Task], jobs: &[Job], spans: &[Span], got: &[u64]) -> u64
-    requires named { AreNamed (sporadic_tasks tasks.now) jobs.now }
-    requires in_jitter { AreInJitter (sporadic_tasks tasks.now) jobs.now }
-    requires spans { AreSpans spans.now (length (run_of spans.now)) }
-    requires got { AreServices (sporadic_tasks tasks.now) jobs.now (run_of spans.now) got.now }
-    ensures number { let T = sporadic_tasks tasks.now in
-        result ≡ count_below (is_missed T jobs.now (run_of spans.now)) (length jobs.now) }
-    ensures none { let T = sporadic_tasks tasks.now in
-        (result ≡ 0) ↔ NoneMissed T jobs.now (run_of spans.now) }
-{
-    let mut missed = 0;
-    for place in 0..jobs.len() {
-        if find_miss(tasks, jobs, spans, got, place).is_some() {
-            missed += 1;
-        }
-    }
-    missed
+/// The jobs that miss in a run: how many they are, and the first of them.
+#[derive(Clone, Copy)]
+struct Missed {
+    count: u64,
+    first: Option<Miss>,
 }
 
-/// The missed job with the earliest deadline moment, and of several the first in the list.
-fn first_missed(tasks: &[Task], jobs: &[Job], spans: &[Span], got: &[u64]) -> Option<Miss>
+/// A job misses where its deadline moment is within the run, and it got fewer slots than its work
+/// before it. The first has the earliest deadline moment, and of several is the first in the list.
+fn find_missed(tasks: &[Task], jobs: &[Job], spans: &[Span], got: &[u64]) -> Missed
     requires named { AreNamed (sporadic_tasks tasks.now) jobs.now }
     requires in_jitter { AreInJitter (sporadic_tasks tasks.now) jobs.now }
     requires spans { AreSpans spans.now (length (run_of spans.now)) }
     requires got { AreServices (sporadic_tasks tasks.now) jobs.now (run_of spans.now) got.now }
-    ensures { IsFirstMiss (sporadic_tasks tasks.now) jobs.now (run_of spans.now) result }
+    ensures count { let T = sporadic_tasks tasks.now in
+        result.count ≡ count_below (is_missed T jobs.now (run_of spans.now)) (length jobs.now) }
+    ensures none { let T = sporadic_tasks tasks.now in
+        (result.count ≡ 0) ↔ NoneMissed T jobs.now (run_of spans.now) }
+    ensures first { let T = sporadic_tasks tasks.now in
+        IsFirstMiss T jobs.now (run_of spans.now) result.first }
 {
+    let mut count = 0;
     let mut first = None;
     for place in 0..jobs.len() {
         if let Some(miss) = find_miss(tasks, jobs, spans, got, place) {
+            count += 1;
             first = Some(earlier(first, miss));
         }
     }
-    first
+    Missed { count, first }
 }
 
 // The miss that is there already stays where the moments are equal.
@@ -222,12 +217,12 @@ fn find_miss(
         (is_missed T jobs.now run place ≡ true) × (miss ≡ miss_of T jobs.now run place)) }
 {
     let job = jobs[place];
-    let moment = deadline_moment(tasks, &job);
-    if moment > end_of_run(spans) as u128 {
-        return None;
-    }
     let got = got[place];
     if got >= job.work {
+        return None;
+    }
+    let moment = deadline_moment(tasks, &job);
+    if moment > end_of_run(spans) as u128 {
         return None;
     }
     Some(Miss {

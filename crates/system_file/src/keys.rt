@@ -1,4 +1,4 @@
-ghost use Rattle.std.specs.Prelude.{◌≡◌, ℕ, ◌≤◌, pos, Bool, true, false, List, [], ◌∷◌, ◌++◌, length, map, codes, bytes_eq, string_bytes, Option, Some, None, option_map, IfOk, IfErr};
+ghost use Rattle.std.specs.Prelude.{◌≡◌, ℕ, ◌≤◌, pos, true, false, List, [], length, map, codes, bytes_eq, string_bytes, Option, Some, None, option_map, IfOk, IfErr};
 ghost use Rattle.toml.specs.Data.{string, integer, array, table, get_member, as_table, as_array};
 ghost use Rattle.toml.specs.View.{view, items_view, table_view};
 ghost use Rattle.tree_model.specs.System.{IsGivenBudget};
@@ -6,8 +6,8 @@ ghost use Rattle.std.specs.List.{list_any, list_all};
 ghost use Rattle.std.specs.BTreeMap.{keys};
 ghost use Rattle.system_file.specs.declared.fault.Spot.{Spot};
 ghost use Rattle.system_file.specs.declared.fault.SystemFault.{SystemFault};
-ghost use Rattle.system_file.specs.Document.{format_at as format_in, elements_of, number_of as number_in, given_number, flag_of, sched_named, array_of as elements};
-ghost use Rattle.system_file.specs.Faults.{required, optional, text_faults, sched_faults, range_faults, below_faults, format_faults, flag_faults, array_faults, core_array_faults, has_only, fault_if};
+ghost use Rattle.system_file.specs.Document.{format_at as format_in, number_of as number_in, given_number, flag_of, sched_named, array_of as elements};
+ghost use Rattle.system_file.specs.Faults.{required, optional, text_faults, sched_faults, range_faults, below_faults, format_faults, flag_faults, array_faults, core_array_faults, has_only};
 ghost use Rattle.system_file.specs.Reading.{first_of};
 
 use crate::format::Format;

@@ -1,9 +1,10 @@
 // What `certify` writes, and what `check` answers to that and to what was changed in it.
+use super::generated::generate;
 use super::rows::*;
 use super::{answered, joined, one_file, two_files};
 use crate::Status;
 use crate::spans_tests::Generator;
-use std::alloc::{AllocError, Global};
+use std::alloc::Global;
 use std::test::Fail;
 
 /// Of two tasks by rate.
@@ -310,53 +311,6 @@ fn texts_that_are_no_certificate(rt: HostRuntime) -> Result<(), Fail> {
     Ok(())
 }
 
-// A guest of one or two tasks, on the core or on the middle server.
-fn push_guest(
-    alloc: Global,
-    text: &mut String,
-    from: &mut Generator,
-    name: &str,
-) -> Result<(), AllocError> {
-    let sched = rank(from.below(4));
-    let parent = if from.below(2) == 0 { "cpu0" } else { "mid" };
-    let period = 5 + from.below(20);
-    text.push_str(format!(in alloc;
-        "[[part]]\nname = \"{name}\"\nparent = \"{parent}\"\nsched = \"{sched}\"\nperiod = {period}\n"
-    )?.as_str())?;
-    for task in 0..1 + from.below(2) {
-        let period = 40 + 10 * from.below(6);
-        let work = 1 + from.below(5);
-        text.push_str(format!(in alloc;
-            "[[part.task]]\nname = \"t{task}\"\nperiod = {period}\nwork = {work}\n"
-        )?.as_str())?;
-    }
-    Ok(())
-}
-
-fn rank(number: u64) -> &'static str {
-    match number {
-        0 => "edf",
-        1 => "rm",
-        2 => "dm",
-        _ => "listed",
-    }
-}
-
-// A core, a middle server on it and three guests.
-fn generated(alloc: Global, from: &mut Generator) -> Result<String, AllocError> {
-    let (outer, inner) = (rank(from.below(4)), rank(from.below(4)));
-    let mut text = format!(in alloc;
-        "format = 1\n[[core]]\nname = \"cpu0\"\nsched = \"{outer}\"\n[[part]]\nname = \"mid\"\nparent = \"cpu0\"\nsched = \"{inner}\"\nperiod = 6\n"
-    )?;
-    for name in ["a", "b", "c"] {
-        push_guest(alloc, &mut text, from, name)?;
-    }
-    text.push_str(
-        "[[part]]\nname = \"last\"\nparent = \"mid\"\nsched = \"edf\"\nperiod = 30\n[[part.task]]\nname = \"t\"\nperiod = 90\nwork = 1\n",
-    )?;
-    Ok(text)
-}
-
 // What `certify` writes proves the system. With a larger budget at its first part it does not: that
 // part's budget is computed, so nothing is short at the larger one.
 #[test]
@@ -366,8 +320,8 @@ fn what_is_certified_is_proved(rt: HostRuntime) -> Result<(), Fail> {
     systems.push(String::from_str(alloc, HOST)?)?;
     systems.push(joined(alloc, &[TREE_HEAD, "supply_budget = 16\n", TREE_REST])?)?;
     let mut from = Generator { state: 7 };
-    for _ in 0..30 {
-        systems.push(generated(alloc, &mut from)?)?;
+    for _ in 0..100 {
+        systems.push(generate(alloc, &mut from)?.system)?;
     }
     let mut proved = 0u64;
     for sys in &systems {

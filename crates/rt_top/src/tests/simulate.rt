@@ -1,7 +1,9 @@
 // What `simulate` answers to worked systems and releases.
+use super::generated::generate;
 use super::rows::*;
-use super::{answered, joined, two_files};
+use super::{answered, joined, one_file, two_files};
 use crate::Status;
+use crate::spans_tests::Generator;
 use std::alloc::Global;
 use std::test::Fail;
 
@@ -299,5 +301,30 @@ fn patterns_and_slots_have_their_words(rt: HostRuntime) -> Result<(), Fail> {
         assert_eq!(rt; status, Status::Usage, "{slots}");
         assert_eq!(rt; written.as_slice(), USAGE.as_bytes(), "{slots}");
     }
+    Ok(())
+}
+
+// A test is exact over all supplies and releases, so no simulation of a system that passes shows a
+// miss.
+#[test]
+fn what_is_admitted_never_misses(rt: HostRuntime) -> Result<(), Fail> {
+    let alloc = rt.alloc();
+    let mut from = Generator { state: 11 };
+    let mut admitted = 0u64;
+    for _ in 0..100 {
+        let made = generate(alloc, &mut from)?;
+        let store = one_file(alloc, made.system.as_str(), 4096, Vec::new(alloc))?;
+        let words = ["admit", "sys"];
+        let (status, _) = answered(alloc, words.as_slice(), store, 4096, Vec::new(alloc))?;
+        if status == Status::Yes {
+            admitted = admitted.saturating_add(1);
+            for pattern in ["early", "late", "worst"] {
+                let (system, releases) = (made.system.as_str(), made.releases.as_str());
+                let (status, _) = simulated(alloc, system, releases, pattern, "200")?;
+                assert_eq!(rt; status, Status::Yes, "{system}{releases}{pattern}");
+            }
+        }
+    }
+    assert!(rt; 20 <= admitted, "{admitted}");
     Ok(())
 }

@@ -25,3 +25,6 @@ returns-in_err-nodes-clause-back c = text_spells
 
 pub returns-clause-back : goal.returns-clause-back
 returns-clause-back c = text_spells
+
+pub returns-in-Some-clause-back : goal.returns-in-Some-clause-back
+returns-in-Some-clause-back c = text_spells

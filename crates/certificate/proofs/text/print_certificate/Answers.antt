@@ -1,26 +1,25 @@
-use Rattle.std.proofs.Common.{◌≡◌, ℕ, Vec, Global, List, ◌++◌, codes, ◌∙◌, ap, sym, subst}
-use Rattle.std.specs.Prelude.{string_bytes}
+use Rattle.std.proofs.Common.{◌≡◌, ℕ, List, ◌++◌, codes, ◌∙◌, ap, sym, subst}
 use Rattle.tree_model.specs.CertificateView.{NodeView, CertificateView}
 use Rattle.cert_reader.specs.CertificateFile.{certificate_of}
 use Rattle.cert_reader.specs.Printed.{certificate_text, AreInRange}
 use Rattle.cert_reader.proofs.TextBack.{text_spells}
-use Rattle.certificate.specs.Text.{listed, node_text}
+use Rattle.cert_reader.specs.Text.{listed, node_text}
 use Rattle.certificate.proofs.Listing.{then}
-use Rattle.certificate.proofs.Texts.{certificate_same}
+use Rattle.cert_reader.proofs.Pieces.{certificate_same}
 use Rattle.certificate.proofs.text.print_certificate.Goals as goal
 
 pub returns-clause-text : goal.returns-clause-text
 returns-clause-text c =
     let nodes : List NodeView = c.c.inside.nodes.items in
     let in_range : AreInRange nodes = subst AreInRange c.deref.ensures.value c.in_ok-write_nodes.ensures.in_range in
-    let t0 : List ℕ = string_bytes c.in_ok-text.text in
-    let t1 : List ℕ = string_bytes c.write_nodes.new.text in
-    let t2 : List ℕ = string_bytes c.push_str.new.self in
-    let first : t0 ≡ codes "{\"format\":1,\"nodes\":[" = c.in_ok-text.ensures.ok in
+    let t0 : List ℕ = c.in_ok-text.text.items in
+    let t1 : List ℕ = c.write_nodes.new.text.items in
+    let t2 : List ℕ = c.extend_from_slice.new.self.items in
+    let first : t0 ≡ codes "{\"format\":1,\"nodes\":[" = c.in_ok-text.ensures.items in
     let middle : t1 ≡ t0 ++ listed node_text nodes = c.in_ok-write_nodes.ensures.text ∙ ap (λ (ns : List NodeView). t0 ++ listed node_text ns) c.deref.ensures.value in
-    let both : t2 ≡ t0 ++ (listed node_text nodes ++ codes "]}\n") = then t0 t1 t2 (listed node_text nodes) (codes "]}\n") middle c.in_ok-push_str.ensures.bytes in
+    let both : t2 ≡ t0 ++ (listed node_text nodes ++ codes "]}\n") = then t0 t1 t2 (listed node_text nodes) (codes "]}\n") middle c.in_ok-extend_from_slice.ensures.items in
     let whole : t2 ≡ codes "{\"format\":1,\"nodes\":[" ++ (listed node_text nodes ++ codes "]}\n") = both ∙ ap (λ (s : List ℕ). s ++ (listed node_text nodes ++ codes "]}\n")) first in
-    subst (λ (now : List NodeView). c.into_bytes.result.items ≡ certificate_text now) (ap (λ (v : CertificateView). v.nodes) c.c.view_is) (ap (λ (v : Vec ℕ Global). v.items) c.into_bytes.ensures.value ∙ (whole ∙ sym (certificate_same nodes in_range)))
+    subst (λ (now : List NodeView). t2 ≡ certificate_text now) (ap (λ (v : CertificateView). v.nodes) c.c.view_is) (whole ∙ sym (certificate_same nodes in_range))
 
 pub returns-clause-spells : goal.returns-clause-spells
 returns-clause-spells c = λ few.

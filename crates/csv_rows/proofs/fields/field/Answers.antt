@@ -1,4 +1,3 @@
-use Rattle.std.proofs.Common.{◌≡◌}
 use Rattle.csv.specs.Records.{fields_of}
 use Rattle.csv_rows.proofs.FieldsThere.{field_there, field_is}
 use Rattle.csv_rows.proofs.fields.field.Goals as goal

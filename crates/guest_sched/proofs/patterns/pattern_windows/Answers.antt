@@ -1,4 +1,4 @@
-use Rattle.std.proofs.Common.{◌≡◌, ◌<◌, ◌≤◌, ℕ, ◌+◌, Bool, List, arith, sym, subst, Vec, Global, ◌∙◌, ap, false, true}
+use Rattle.std.proofs.Common.{◌≡◌, ◌<◌, ◌≤◌, ℕ, ◌+◌, Bool, arith, sym, subst, Vec, Global, ◌∙◌, ap, false, true}
 use Rattle.guest_sched.specs.declared.spans.Window.{Window}
 use Rattle.guest_sched.proofs.Spelled.{Spells, then_none, then_all, spelled_follows}
 use Rattle.guest_sched.proofs.patterns.pattern_windows.Goals as goal

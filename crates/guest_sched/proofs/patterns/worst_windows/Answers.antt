@@ -1,8 +1,8 @@
-use Rattle.std.proofs.Common.{◌≡◌, ℕ, ◌+◌, ◌-◌, ◌*◌, ◌++◌, ◌∙◌, List, [], ◌∷◌, arith, sym, ap, subst}
+use Rattle.std.proofs.Common.{◌≡◌, ℕ, ◌-◌, ◌*◌, ◌++◌, ◌∙◌, List, [], ◌∷◌, arith, sym, ap, subst}
 use Rattle.slot_model.specs.Supply.{Follows, worst_slot}
 use Rattle.guest_sched.specs.declared.spans.Window.{Window}
 use Rattle.guest_sched.specs.Spans.{slots_of}
-use Rattle.guest_sched.proofs.Spelled.{Spells, SpellsTo, spelled_follows, nothing_yet, none_spelled, whole_spelled, first_spelled, one_budget_more, all_spelled}
+use Rattle.guest_sched.proofs.Spelled.{SpellsTo, spelled_follows, nothing_yet, none_spelled, whole_spelled, first_spelled, one_budget_more, all_spelled}
 use Rattle.guest_sched.proofs.patterns.worst_windows.Goals as goal
 use Rattle.guest_sched.proofs.patterns.worst_windows.Goals.{then-supply-eq0-via-then-supply-eq0, then-supply-eq0-via-else-supply-eq0+then-slots-eq0}
 

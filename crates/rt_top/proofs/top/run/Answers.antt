@@ -1,5 +1,6 @@
 use Rattle.std.proofs.Common.{map, string_bytes}
 use Rattle.rt_top.specs.Command.{command_of}
+use Rattle.rt_top.specs.Causes.{contents_of}
 use Rattle.rt_top.proofs.OneAnswer.{one_answer}
 use Rattle.rt_top.proofs.Reporting.{answer_of_parsed, finished_report, finished_usage, finished_verdict, no_memory_ends, stays_not_rose}
 use Rattle.rt_top.proofs.top.run.Goals as goal
@@ -35,4 +36,4 @@ pub returns-in-NoMemory-clause-only : goal.returns-in-NoMemory-clause-only
 returns-in-NoMemory-clause-only g c = one_answer (command_of (map string_bytes c.args.words.now))
 
 pub returns-in-NoMemory-clause-complete : goal.returns-in-NoMemory-clause-complete
-returns-in-NoMemory-clause-complete g c = λ can store_stays out_stays. no_memory_ends (command_of (map string_bytes c.args.words.now))
+returns-in-NoMemory-clause-complete g c = λ can store_stays out_stays. no_memory_ends can.spelled (contents_of can.spelled can.all)

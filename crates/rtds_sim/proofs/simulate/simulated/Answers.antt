@@ -1,6 +1,9 @@
-use Rattle.std.proofs.Common.{◌≡◌, ℕ, suc, ◌-◌, ◌<◌, ◌++◌, List, [], ◌∷◌, length, sym, ◌∙◌, ap, arith, subst}
+use Rattle.std.proofs.Common.{◌≡◌, ℕ, suc, ◌-◌, ◌<◌, ◌++◌, Bool, true, false, List, [], ◌∷◌, length, refl, sym, ◌∙◌, ap, arith, subst, inl, inr}
 use Rattle.slot_model.specs.Run.{holds}
-use Rattle.tree_model.specs.Tree.{budget_at}
+use Rattle.std.proofs.lemmas.Bool.{cases_Bool, both_ways}
+use Rattle.tree_model.specs.declared.place.Place.TheVariants.{Core}
+use Rattle.tree_model.specs.View.{SystemView}
+use Rattle.tree_model.specs.Tree.{is_child, budget_at}
 use Rattle.tree_model.specs.System.{part_at}
 use Rattle.trace_file.specs.declared.event.Event.{Event}
 use Rattle.trace_file.specs.declared.event.What.TheVariants.{End}
@@ -8,11 +11,14 @@ use Rattle.rtds_sim.specs.declared.account.Account.{Account}
 use Rattle.release_file.specs.Workload.{row_at}
 use Rattle.rtds_sim.specs.Rtds.{RtdsRun}
 use Rattle.rtds_sim.specs.Printed.{printed_below, gathered, core_of}
-use Rattle.rtds_sim.specs.Accounts.{account_at, holder_at, left_of, gone_on, switch_of, IsChoice}
+use Rattle.rtds_sim.specs.Accounts.{account_at, holder_at, number_at, left_of, gone_on, switch_of, IsChoice, IsEnd}
 use Rattle.rtds_sim.proofs.Runs.{rtds_run, rtds_run-is}
-use Rattle.rtds_sim.proofs.Steady.{IsNext}
+use Rattle.rtds_sim.proofs.Keeping.{OnCore}
+use Rattle.rtds_sim.proofs.Steady.{IsNext, core_in}
+use Rattle.rtds_sim.proofs.Entering.{child_core}
+use Rattle.rtds_sim.proofs.Ready.{not_held, not_gone}
 use Rattle.rtds_sim.proofs.Visits.{next_is, visited}
-use Rattle.rtds_sim.proofs.Standing.{Visit, standing_start, standing_next, visit_rows, ends_fit, few_fit, next_later}
+use Rattle.rtds_sim.proofs.Standing.{Visit, standing_start, standing_next, visit_rows, next_later, started_core}
 use Rattle.release_file.proofs.Rows.{ordered}
 use Rattle.rtds_sim.proofs.simulate.simulated.Goals as goal
 
@@ -20,48 +26,18 @@ pub loop-host-init : goal.loop-host-init
 loop-host-init c =
     let made = c.new-host.ensures in
     record {
-      stands = standing_start c.args.sys.now c.args.wakes.now (rtds_run c.args.sys.now c.args.plan.now c.args.wakes.now c.args.slots) c.new-host.result c.new-events.result.items made.time made.taken made.room made.accounts made.holders c.new-events.ensures.items;
+      stands = standing_start c.args.sys.now c.args.wakes.now (rtds_run c.args.sys.now c.args.plan.now c.args.wakes.now c.args.slots) c.new-host.result c.new-events.result.items made.time made.taken made.ready.room made.accounts made.holders c.new-events.ensures.items;
+      ready = made.ready;
+      ends = made.ends;
       in_slots = omega (arith, made.time);
     }
 
-pub switch_all-requires-clause-ends : goal.switch_all-requires-clause-ends
-switch_all-requires-clause-ends c =
-    let sys = c.args.sys.now in
-    let rows = c.args.wakes.now in
-    let runs = rtds_run sys c.args.plan.now rows c.args.slots in
-    let took = c.take_rows.ensures in
-    let visit : Visit sys rows runs c.take_rows.new.self c.loop-host.events.items = visit_rows sys c.new-host.ensures.system rows c.requires.workload runs c.loop-host.host c.take_rows.new.self c.loop-host.events.items c.loop-host.invariant.stands took.time took.holders took.all_vcpus took.in_rows took.later took.now took.no_more took.accounts in
-    ends_fit sys c.new-host.ensures.system rows runs c.take_rows.new.self.time c.take_rows.new.self.taken c.take_rows.new.self.accounts c.stop_blocked.new.self.accounts (omega (arith, took.time, c.loop-host.invariant.in_slots, c.requires.short)) visit.are c.stop_blocked.ensures.accounts
-
-pub next_slot-next-requires-clause-ends : goal.next_slot-next-requires-clause-ends
-next_slot-next-requires-clause-ends c =
-    let sys = c.args.sys.now in
-    let rows = c.args.wakes.now in
-    let runs = rtds_run sys c.args.plan.now rows c.args.slots in
-    let took = c.take_rows.ensures in
-    let visit : Visit sys rows runs c.take_rows.new.self c.loop-host.events.items = visit_rows sys c.new-host.ensures.system rows c.requires.workload runs c.loop-host.host c.take_rows.new.self c.loop-host.events.items c.loop-host.invariant.stands took.time took.holders took.all_vcpus took.in_rows took.later took.now took.no_more took.accounts in
-    let same : c.switch_all.new.self.accounts ≡ c.take_rows.new.self.accounts = c.switch_all.ensures.accounts ∙ c.stop_blocked.ensures.accounts in
-    ends_fit sys c.new-host.ensures.system rows runs c.take_rows.new.self.time c.take_rows.new.self.taken c.take_rows.new.self.accounts c.switch_all.new.self.accounts (omega (arith, took.time, c.loop-host.invariant.in_slots, c.requires.short)) visit.are same
-
 pub go_on-requires-clause-ends : goal.go_on-requires-clause-ends
-go_on-requires-clause-ends c =
-    let sys = c.args.sys.now in
-    let rows = c.args.wakes.now in
-    let runs = rtds_run sys c.args.plan.now rows c.args.slots in
-    let took = c.take_rows.ensures in
-    let visit : Visit sys rows runs c.take_rows.new.self c.loop-host.events.items = visit_rows sys c.new-host.ensures.system rows c.requires.workload runs c.loop-host.host c.take_rows.new.self c.loop-host.events.items c.loop-host.invariant.stands took.time took.holders took.all_vcpus took.in_rows took.later took.now took.no_more took.accounts in
-    let same : c.switch_all.new.self.accounts ≡ c.take_rows.new.self.accounts = c.switch_all.ensures.accounts ∙ c.stop_blocked.ensures.accounts in
-    ends_fit sys c.new-host.ensures.system rows runs c.take_rows.new.self.time c.take_rows.new.self.taken c.take_rows.new.self.accounts c.switch_all.new.self.accounts (omega (arith, took.time, c.loop-host.invariant.in_slots, c.requires.short)) visit.are same
-
-pub go_on-requires-clause-few : goal.go_on-requires-clause-few
-go_on-requires-clause-few c =
-    let sys = c.args.sys.now in
-    let rows = c.args.wakes.now in
-    let runs = rtds_run sys c.args.plan.now rows c.args.slots in
-    let took = c.take_rows.ensures in
-    let visit : Visit sys rows runs c.take_rows.new.self c.loop-host.events.items = visit_rows sys c.new-host.ensures.system rows c.requires.workload runs c.loop-host.host c.take_rows.new.self c.loop-host.events.items c.loop-host.invariant.stands took.time took.holders took.all_vcpus took.in_rows took.later took.now took.no_more took.accounts in
-    let same : c.switch_all.new.self.accounts ≡ c.take_rows.new.self.accounts = c.switch_all.ensures.accounts ∙ c.stop_blocked.ensures.accounts in
-    few_fit sys rows runs c.take_rows.new.self.time c.take_rows.new.self.taken c.next_slot-next.result c.take_rows.new.self.accounts c.switch_all.new.self.accounts (omega (arith, took.time, c.loop-host.invariant.in_slots, c.requires.short)) (omega (arith, c.next_slot-next.ensures.in_slots, c.requires.short)) visit.are same
+go_on-requires-clause-ends c = record {
+  bound = λ d l. subst (λ (xs : List Account). IsEnd c.args.sys.now xs d (number_at c.switch_all.new.self.ends d)) (sym (c.switch_all.ensures.accounts ∙ c.stop_blocked.ensures.accounts))
+      (subst (λ (ns : List ℕ). IsEnd c.args.sys.now c.take_rows.new.self.accounts d (number_at ns d)) (sym (c.switch_all.ensures.ends ∙ c.stop_blocked.ensures.ends)) (c.take_rows.ensures.ends.bound d l));
+  later = λ d l. omega (arith, c.take_rows.ensures.ends.later d l, ap (λ (ns : List ℕ). number_at ns d) (c.switch_all.ensures.ends ∙ c.stop_blocked.ensures.ends), c.switch_all.ensures.time, c.stop_blocked.ensures.time);
+}
 
 pub go_on-requires-clause-later : goal.go_on-requires-clause-later
 go_on-requires-clause-later c =
@@ -69,9 +45,9 @@ go_on-requires-clause-later c =
     let rows = c.args.wakes.now in
     let runs = rtds_run sys c.args.plan.now rows c.args.slots in
     let took = c.take_rows.ensures in
-    let visit : Visit sys rows runs c.take_rows.new.self c.loop-host.events.items = visit_rows sys c.new-host.ensures.system rows c.requires.workload runs c.loop-host.host c.take_rows.new.self c.loop-host.events.items c.loop-host.invariant.stands took.time took.holders took.all_vcpus took.in_rows took.later took.now took.no_more took.accounts in
+    let visit : Visit sys rows runs c.take_rows.new.self c.loop-host.events.items = visit_rows sys c.new-host.ensures.system rows c.requires.workload runs c.loop-host.host c.take_rows.new.self c.loop-host.events.items c.loop-host.invariant.stands took.time took.holders took.ready.room took.in_rows took.later took.now took.no_more took.accounts in
     let same : c.switch_all.new.self.accounts ≡ c.take_rows.new.self.accounts = c.switch_all.ensures.accounts ∙ c.stop_blocked.ensures.accounts in
-    let later : c.take_rows.new.self.time < c.next_slot-next.result = next_later sys rows runs c.take_rows.new.self c.loop-host.events.items visit c.switch_all.new.self c.args.slots c.next_slot-next.result (c.switch_all.ensures.time ∙ c.stop_blocked.ensures.time) (c.switch_all.ensures.taken ∙ c.stop_blocked.ensures.taken) same (omega (arith, took.time, c.loop-host-test.true)) c.next_slot-next.ensures.later in
+    let later : c.take_rows.new.self.time < c.next_slot-next.result = next_later sys rows runs c.take_rows.new.self c.loop-host.events.items visit took.ends c.switch_all.new.self c.args.slots c.next_slot-next.result (c.switch_all.ensures.time ∙ c.stop_blocked.ensures.time) (c.switch_all.ensures.taken ∙ c.stop_blocked.ensures.taken) (c.switch_all.ensures.ends ∙ c.stop_blocked.ensures.ends) (omega (arith, took.time, c.loop-host-test.true)) c.next_slot-next.ensures.later in
     omega (arith, later, c.switch_all.ensures.time, c.stop_blocked.ensures.time)
 
 pub loop-host-smaller : goal.loop-host-smaller
@@ -80,10 +56,17 @@ loop-host-smaller c =
     let rows = c.args.wakes.now in
     let runs = rtds_run sys c.args.plan.now rows c.args.slots in
     let took = c.take_rows.ensures in
-    let visit : Visit sys rows runs c.take_rows.new.self c.loop-host.events.items = visit_rows sys c.new-host.ensures.system rows c.requires.workload runs c.loop-host.host c.take_rows.new.self c.loop-host.events.items c.loop-host.invariant.stands took.time took.holders took.all_vcpus took.in_rows took.later took.now took.no_more took.accounts in
+    let visit : Visit sys rows runs c.take_rows.new.self c.loop-host.events.items = visit_rows sys c.new-host.ensures.system rows c.requires.workload runs c.loop-host.host c.take_rows.new.self c.loop-host.events.items c.loop-host.invariant.stands took.time took.holders took.ready.room took.in_rows took.later took.now took.no_more took.accounts in
     let same : c.switch_all.new.self.accounts ≡ c.take_rows.new.self.accounts = c.switch_all.ensures.accounts ∙ c.stop_blocked.ensures.accounts in
-    let later : c.take_rows.new.self.time < c.next_slot-next.result = next_later sys rows runs c.take_rows.new.self c.loop-host.events.items visit c.switch_all.new.self c.args.slots c.next_slot-next.result (c.switch_all.ensures.time ∙ c.stop_blocked.ensures.time) (c.switch_all.ensures.taken ∙ c.stop_blocked.ensures.taken) same (omega (arith, took.time, c.loop-host-test.true)) c.next_slot-next.ensures.later in
+    let later : c.take_rows.new.self.time < c.next_slot-next.result = next_later sys rows runs c.take_rows.new.self c.loop-host.events.items visit took.ends c.switch_all.new.self c.args.slots c.next_slot-next.result (c.switch_all.ensures.time ∙ c.stop_blocked.ensures.time) (c.switch_all.ensures.taken ∙ c.stop_blocked.ensures.taken) (c.switch_all.ensures.ends ∙ c.stop_blocked.ensures.ends) (omega (arith, took.time, c.loop-host-test.true)) c.next_slot-next.ensures.later in
     omega (arith, later, took.time, c.go_on.ensures.time, c.next_slot-next.ensures.in_slots, c.loop-host-test.true)
+
+off : (b : Bool) → (b ≡ true → ⊥) → b ≡ false
+off true h = absurd (h refl)
+off false h = refl
+
+nowhere : (sys : SystemView) (c v : ℕ) → (is_child sys (Core c) v ≡ true → ⊥) → is_child sys (Core c) v ≡ false
+nowhere sys c v h = off (is_child sys (Core c) v) h
 
 pub loop-host-preserved : goal.loop-host-preserved
 loop-host-preserved c =
@@ -91,9 +74,9 @@ loop-host-preserved c =
     let rows = c.args.wakes.now in
     let runs = rtds_run sys c.args.plan.now rows c.args.slots in
     let took = c.take_rows.ensures in
-    let visit : Visit sys rows runs c.take_rows.new.self c.loop-host.events.items = visit_rows sys c.new-host.ensures.system rows c.requires.workload runs c.loop-host.host c.take_rows.new.self c.loop-host.events.items c.loop-host.invariant.stands took.time took.holders took.all_vcpus took.in_rows took.later took.now took.no_more took.accounts in
+    let visit : Visit sys rows runs c.take_rows.new.self c.loop-host.events.items = visit_rows sys c.new-host.ensures.system rows c.requires.workload runs c.loop-host.host c.take_rows.new.self c.loop-host.events.items c.loop-host.invariant.stands took.time took.holders took.ready.room took.in_rows took.later took.now took.no_more took.accounts in
     let same : c.switch_all.new.self.accounts ≡ c.take_rows.new.self.accounts = c.switch_all.ensures.accounts ∙ c.stop_blocked.ensures.accounts in
-    let later : c.take_rows.new.self.time < c.next_slot-next.result = next_later sys rows runs c.take_rows.new.self c.loop-host.events.items visit c.switch_all.new.self c.args.slots c.next_slot-next.result (c.switch_all.ensures.time ∙ c.stop_blocked.ensures.time) (c.switch_all.ensures.taken ∙ c.stop_blocked.ensures.taken) same (omega (arith, took.time, c.loop-host-test.true)) c.next_slot-next.ensures.later in
+    let later : c.take_rows.new.self.time < c.next_slot-next.result = next_later sys rows runs c.take_rows.new.self c.loop-host.events.items visit took.ends c.switch_all.new.self c.args.slots c.next_slot-next.result (c.switch_all.ensures.time ∙ c.stop_blocked.ensures.time) (c.switch_all.ensures.taken ∙ c.stop_blocked.ensures.taken) (c.switch_all.ensures.ends ∙ c.stop_blocked.ensures.ends) (omega (arith, took.time, c.loop-host-test.true)) c.next_slot-next.ensures.later in
     let is : RtdsRun sys c.args.plan.now rows c.args.slots runs = rtds_run-is sys c.args.plan.now rows c.args.slots in
     let took_host = c.take_rows.new.self in
     let x : ℕ = took_host.time in
@@ -115,15 +98,31 @@ loop-host-preserved c =
       holders_are = λ d l. next_is sys c.args.plan.now rows c.args.slots runs is took_host within visit.taken visit.are visit.room visit.holders_are d l (holder_at c.switch_all.new.self.holders d) (chosen d l);
       later = later;
       rows_later = λ i a b. omega (arith, ordered sys rows c.requires.workload took_host.taken i a b, c.next_slot-next.ensures.row (omega (arith, taken)), ap (λ (z : ℕ). (row_at rows z).at) taken);
-      in_period = λ v l on. omega (arith, c.next_slot-next.ensures.period v l (ap (λ (xs : List Account). (account_at xs v).started) same ∙ on), ap (λ (xs : List Account). (account_at xs v).from) same);
+      in_period = λ v l on.
+          let core : OnCore sys v = started_core sys c.new-host.ensures.system rows c.requires.workload runs x took_host.taken took_host.accounts took.in_rows visit.are v l on in
+          let d : ℕ = core_of (part_at sys v).parent in
+          omega (arith, took.ends.bound d core.is_core v l core.child on, c.next_slot-next.ensures.period d core.is_core, ap (λ (ns : List ℕ). number_at ns d) (c.switch_all.ensures.ends ∙ c.stop_blocked.ensures.ends));
       in_budget = λ d v l e. omega (arith, c.next_slot-next.ensures.budget d v l e, time, ap (λ (xs : List Account). left_of (account_at xs v) (budget_at c.args.plan.now v)) same);
     } in
+    let has : ℕ → Bool = λ v. holds (holder_at c.switch_all.new.self.holders (core_of (part_at sys v).parent)) v in
+    let gone : (v : ℕ) → v < length sys.parts → account_at c.go_on.new.self.accounts v ≡ gone_on (account_at took_host.accounts v) (has v) (c.next_slot-next.result - c.switch_all.new.self.time) (part_at sys v).period c.next_slot-next.result = λ v l.
+    let d : ℕ = core_of (part_at sys v).parent in
+    let ld : d < length sys.cores = core_in sys c.new-host.ensures.system v l in
+    elim (cases_Bool (is_child sys (Core d) v)) [
+      | inl b ↦ c.go_on.ensures.own d v ld l b ∙ ap (λ (xs : List Account). gone_on (account_at xs v) (has v) (c.next_slot-next.result - c.switch_all.new.self.time) (part_at sys v).period c.next_slot-next.result) same
+      | inr b ↦ c.go_on.ensures.others v l (λ e le. nowhere sys e v (λ its. both_ways _ b (subst (λ (z : ℕ). is_child sys (Core z) v ≡ true) (sym (child_core sys e v its)) its)))
+          ∙ (ap (λ (xs : List Account). account_at xs v) same
+          ∙ not_gone (account_at took_host.accounts v) (has v) (c.next_slot-next.result - c.switch_all.new.self.time) (part_at sys v).period c.next_slot-next.result
+          (off (account_at took_host.accounts v).started (λ on. both_ways _ b (started_core sys c.new-host.ensures.system rows c.requires.workload runs x took_host.taken took_host.accounts took.in_rows visit.are v l on).child))
+          (not_held sys c.args.plan.now c.switch_all.new.self d v ld c.in_ok-switch_all.ensures.ready b))
+    ] in
     record {
       stands = standing_next sys c.new-host.ensures.system c.args.plan.now c.requires.plan rows c.args.slots runs is x took_host.taken took_host.accounts c.switch_all.new.self.holders c.next_slot-next.result next c.next_slot-next.ensures.in_slots
-          c.go_on.new.self c.switch_all.new.events.items c.go_on.ensures.time (c.go_on.ensures.taken ∙ taken) c.go_on.ensures.holders c.go_on.ensures.room
-          (λ v l. c.go_on.ensures.accounts v l ∙ (ap (λ (xs : List Account). gone_on (account_at xs v) (holds (holder_at c.switch_all.new.self.holders (core_of (part_at sys v).parent)) v) (c.next_slot-next.result - c.switch_all.new.self.time) (part_at sys v).period c.next_slot-next.result) same
-          ∙ ap (λ (y : ℕ). gone_on (account_at took_host.accounts v) (holds (holder_at c.switch_all.new.self.holders (core_of (part_at sys v).parent)) v) (c.next_slot-next.result - y) (part_at sys v).period c.next_slot-next.result) time))
+          c.go_on.new.self c.switch_all.new.events.items c.go_on.ensures.time (c.go_on.ensures.taken ∙ taken) c.go_on.ensures.holders c.go_on.ensures.ready.room
+          (λ v l. gone v l ∙ ap (λ (y : ℕ). gone_on (account_at took_host.accounts v) (holds (holder_at c.switch_all.new.self.holders (core_of (part_at sys v).parent)) v) (c.next_slot-next.result - y) (part_at sys v).period c.next_slot-next.result) time)
           told;
+      ready = c.go_on.ensures.ready;
+      ends = c.go_on.ensures.ends;
       in_slots = omega (arith, c.go_on.ensures.time, c.next_slot-next.ensures.in_slots);
     }
 

@@ -6,6 +6,7 @@ use Rattle.tree_model.specs.declared.pinned_core.Core.{Core}
 use Rattle.tree_model.specs.System.{no_core}
 use Rattle.server_sched.specs.Patterns.{pattern_slots}
 use Rattle.server_sched.proofs.Patterned.{PatternTo, pattern_exact, one_core_more, all_exact}
+use Rattle.server_sched.proofs.Conforming.{pattern_conforms}
 use Rattle.server_sched.proofs.supplies.core_supplies.Goals as goal
 
 pub loop-core-preserved : goal.loop-core-preserved
@@ -23,3 +24,6 @@ pub returns-clause-exact : goal.returns-clause-exact
 returns-clause-exact c =
     all_exact c.args.sys.now c.args.pattern c.args.slots (length c.args.sys.now.cores) _ refl (subst (λ (v : List Core). PatternTo v c.args.pattern c.args.slots (length v) (map (λ (s : Vec Window Global). s.items) c.loop-core.given.items)) c.cores-cores.ensures.cores
     (subst (λ (m : ℕ). PatternTo c.cores-cores.result.now c.args.pattern c.args.slots m (map (λ (s : Vec Window Global). s.items) c.loop-core.given.items)) (omega (arith, c.loop-core-test.false, c.loop-core.auto.core-index-end)) c.loop-core.invariant))
+
+pub returns-clause-conform : goal.returns-clause-conform
+returns-clause-conform c = λ k l. pattern_conforms c.args.sys.now c.args.pattern c.args.slots k l (c.cores-cores.ensures.system.supplies k l)

@@ -12,7 +12,7 @@ returns c =
     record {
       given = c.slots_given.ensures c.args.slots c.requires.windows ∙ ap (slots_between slots 0) (sym long);
       released = c.jobs_before.ensures ∙ ap (λ (n : ℕ). count_below (is_early c.args.jobs.now n) (length c.args.jobs.now)) (sym long);
-      missed = c.count_missed.ensures.number;
-      none = c.count_missed.ensures.none;
-      first = c.first_missed.ensures;
+      missed = c.find_missed-missed.ensures.count;
+      none = c.find_missed-missed.ensures.none;
+      first = c.find_missed-missed.ensures.first;
     }

@@ -1,4 +1,4 @@
-use Rattle.std.proofs.Common.{◌≡◌, ℕ, ◌<◌, List, length, get_or}
+use Rattle.std.proofs.Common.{◌≡◌, ℕ, ◌<◌, length}
 use Rattle.slot_model.specs.Task.{job_at}
 use Rattle.span_counts.specs.Pending.{wait_at}
 use Rattle.span_counts.proofs.pending.first_waits.Given as goal

@@ -1,6 +1,5 @@
-use Rattle.std.proofs.Common.{◌≡◌, ℕ, ◌+◌, length, set, arith, ap, sym, ◌∙◌, subst, Vec, Global, List}
+use Rattle.std.proofs.Common.{◌≡◌, ℕ, arith, ap, sym, ◌∙◌, subst, Vec, Global}
 use Rattle.std.proofs.lemmas.List.{get_or_read}
-use Rattle.slot_model.specs.Miss.{HoldsReleased}
 use Rattle.guest_sched.specs.Spans.{run_of, end_of, span_at, AreSpans}
 use Rattle.guest_sched.proofs.SpanByOne.{SpanHere, span_here, span_job}
 use Rattle.span_counts.specs.declared.pending.Wait.{Wait}

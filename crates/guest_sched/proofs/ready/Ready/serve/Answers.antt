@@ -1,13 +1,8 @@
-use Rattle.std.proofs.Common.{subst, sym, refl, arith}
+use Rattle.std.proofs.Common.{refl, arith}
 use Rattle.slot_model.specs.Task.{sporadic_tasks}
-use Rattle.guest_sched.specs.declared.ready.Ready.{Ready}
-use Rattle.guest_sched.specs.Ready.{IsBest}
 use Rattle.guest_sched.proofs.State.{all_in_jobs}
 use Rattle.guest_sched.proofs.Best.{best_stays}
 use Rattle.guest_sched.proofs.ready.Ready.serve.Goals as goal
-
-pub returns-then-not-stretch-clause-best : goal.returns-then-not-stretch-clause-best
-returns-then-not-stretch-clause-best g c = subst (λ (s : Ready). IsBest (g.O.Order.goes c.args.order.now (sporadic_tasks c.args.tasks.now)) c.args.jobs.now s.ready.items s.best) (sym c.pass.ensures.rest) c.requires.best
 
 pub choose-requires-clause-in_jobs : goal.choose-requires-clause-in_jobs
 choose-requires-clause-in_jobs g c k d l =

@@ -1,17 +1,12 @@
-use Rattle.std.proofs.Common.{◌≡◌, ℕ, ◌<◌, List, length, slice_index_or, sym, refl, ◌∙◌, ap, subst}
-use Rattle.std.proofs.lemmas.List.{get_or_default}
+use Rattle.std.proofs.Common.{◌≡◌, ℕ, ◌<◌, length, sym, refl, ◌∙◌, ap, subst}
 use Rattle.tree_model.specs.declared.place.Parent.{Parent}
 use Rattle.tree_model.specs.declared.place.Parent.TheVariants.{Core as on_core}
-use Rattle.tree_model.specs.View.{PartView, SystemView}
+use Rattle.tree_model.specs.View.{PartView}
 use Rattle.tree_model.specs.System.{part_at}
 use Rattle.rtds_sim.specs.Printed.{core_of}
 use Rattle.rtds_sim.proofs.Steady.{core_in}
-use Rattle.rtds_sim.proofs.Membership.{put_nowhere, put_first}
+use Rattle.rtds_sim.proofs.Membership.{put_nowhere, put_first, part_here}
 use Rattle.rtds_sim.proofs.members.Members.put.Goals as goal
-
--- the part that was looked at
-part_here : (sys : SystemView) (parts : List PartView) (v : ℕ) (p : PartView) → parts ≡ sys.parts → v < length sys.parts → p ≡ slice_index_or parts v p → p ≡ part_at sys v
-part_here sys parts v p e l is = is ∙ (ap (λ (ps : List PartView). slice_index_or ps v p) e ∙ get_or_default sys.parts v _ _ l)
 
 pub returns-in-Core : goal.returns-in-Core
 returns-in-Core c =

@@ -1,0 +1,174 @@
+-- Accounts and keys that are set.
+use Rattle.std.proofs.Common.{◌≡◌, ◌≢◌, ℕ, ◌+◌, ◌*◌, ◌/◌, ◌<◌, ◌≤◌, nat_lt, not, ◌||◌, if◌then◌else◌, lt-ltb, Bool, true, false, cond, ◌&&◌, ◌==◌, List, length, set, refl, sym, ◌∙◌, ap, arith, subst, inl, inr}
+use Rattle.std.proofs.Math.Nat.{div-eq_of_lt}
+use Rattle.std.proofs.lemmas.Bool.{cases_eq, cases_Bool, both_ways}
+use Rattle.std.proofs.lemmas.List.{get_or-set_same, get_or-set_other, length-set}
+use Rattle.slot_model.specs.Run.{holds}
+use Rattle.slot_model.proofs.Runs.{holds-is}
+use Rattle.tree_model.specs.declared.place.Place.TheVariants.{Core}
+use Rattle.tree_model.specs.View.{SystemView}
+use Rattle.tree_model.specs.System.{part_at}
+use Rattle.tree_model.specs.Tree.{is_child, budget_at}
+use Rattle.rtds_sim.specs.declared.account.Account.{Account}
+use Rattle.rtds_sim.specs.declared.account.TheConstants.{LEVEL, NO_KEY}
+use Rattle.rtds_sim.specs.declared.host.Host.{Host}
+use Rattle.rtds_sim.specs.Printed.{core_of}
+use Rattle.rtds_sim.proofs.Entering.{child_core}
+use Rattle.rtds_sim.specs.Accounts.{no_account, account_at, holder_at, number_at, account_eligible, deadline_of, key_of, end_of, is_stale, gone_on, used_more, period_ended, IsFirstKey, IsNamed, IsReady}
+
+-- one account is set
+pub account_here : (accounts : List Account) (v : ℕ) (a : Account) → v < length accounts → account_at (set accounts v a) v ≡ a
+account_here accounts v a l = get_or-set_same accounts v a no_account l
+
+pub account_there : (accounts : List Account) (v u : ℕ) (a : Account) → u ≢ v → account_at (set accounts v a) u ≡ account_at accounts u
+account_there accounts v u a ne = get_or-set_other accounts v u a no_account ne
+
+-- what holds of the account and of those before holds of all
+at_set : (P : Account → Type 0) (accounts : List Account) (v u : ℕ) (a : Account) → v < length accounts → (u ≡ v → P a) → P (account_at accounts u) → P (account_at (set accounts v a) u)
+at_set P accounts v u a l new old = elim (cases_eq u v) [
+  | inl e ↦ subst P (sym (ap (account_at (set accounts v a)) e ∙ account_here accounts v a l)) (new e)
+  | inr ne ↦ subst P (sym (account_there accounts v u a ne)) old
+]
+
+pub number_here : (numbers : List ℕ) (i n : ℕ) → i < length numbers → number_at (set numbers i n) i ≡ n
+number_here numbers i n l = get_or-set_same numbers i n 0 l
+
+pub number_there : (numbers : List ℕ) (i d n : ℕ) → d ≢ i → number_at (set numbers i n) d ≡ number_at numbers d
+number_there numbers i d n ne = get_or-set_other numbers i d n 0 ne
+
+-- the key of a VCPU of another core does not count
+first_other : (sys : SystemView) (keys others : List ℕ) (c n key v : ℕ) → ((u : ℕ) → is_child sys (Core c) u ≡ true → number_at others u ≡ number_at keys u) → IsFirstKey sys keys c n key v → IsFirstKey sys others c n key v
+first_other sys keys others c n key v same h = record {
+  no_more = h.no_more;
+  within = h.within;
+  child = h.child;
+  its = λ q. same v (h.child q) ∙ h.its q;
+  least = λ u l on. omega (arith, h.least u l on, same u on);
+  first = λ u q l on. omega (arith, h.first u q l on, same u on);
+}
+
+-- an account and its key are set
+pub ready_one : (sys : SystemView) (budgets : List ℕ) (host : Host) (v : ℕ) (a : Account) (key end c : ℕ) (b : Bool) → v < length sys.parts → c < length host.stale → IsReady sys budgets host → a.from ≤ host.time → a.used ≤ host.time → key ≡ key_of a (budget_at budgets v) (part_at sys v).extra (part_at sys v).period → end ≡ end_of a (part_at sys v).period → c ≡ core_of (part_at sys v).parent
+    → (b ≡ false → is_stale host.stale c ≡ false) → (b ≡ false → key ≡ number_at host.keys v)
+    → IsReady sys budgets (record host { accounts = set host.accounts v a; keys = set host.keys v key; until = set host.until v end; stale = set host.stale c b })
+ready_one sys budgets host v a key end c b l lc h early few is ends its_core fresh_before same_key = record {
+  room = record {
+    all_vcpus = length-set host.accounts v a ∙ h.room.all_vcpus;
+    all_keys = length-set host.keys v key ∙ h.room.all_keys;
+    all_until = length-set host.until v end ∙ h.room.all_until;
+    all_cores = h.room.all_cores;
+    all_ends = h.room.all_ends;
+    all_stale = length-set host.stale c b ∙ h.room.all_stale;
+    few_parts = h.room.few_parts;
+    few_cores = h.room.few_cores;
+    parts = h.room.parts;
+  };
+  early = λ u lu. at_set (λ (z : Account). z.from ≤ host.time) host.accounts v u a room (λ e. early) (h.early u lu);
+  few = λ u lu. at_set (λ (z : Account). z.used ≤ host.time) host.accounts v u a room (λ e. few) (h.few u lu);
+  keys = λ u lu. elim (cases_eq u v) [
+    | inl e ↦ subst (λ (z : ℕ). number_at (set host.keys v key) z ≡ key_of (account_at (set host.accounts v a) z) (budget_at budgets z) (part_at sys z).extra (part_at sys z).period) (sym e)
+        (number_here host.keys v key (omega (arith, l, h.room.all_keys, h.room.few_parts)) ∙ (is ∙ sym (ap (λ (z : Account). key_of z (budget_at budgets v) (part_at sys v).extra (part_at sys v).period) (account_here host.accounts v a room))))
+    | inr ne ↦ number_there host.keys v u key ne ∙ (h.keys u lu ∙ sym (ap (λ (z : Account). key_of z (budget_at budgets u) (part_at sys u).extra (part_at sys u).period) (account_there host.accounts v u a ne)))
+  ];
+  until = λ u lu. elim (cases_eq u v) [
+    | inl e ↦ subst (λ (z : ℕ). number_at (set host.until v end) z ≡ end_of (account_at (set host.accounts v a) z) (part_at sys z).period) (sym e)
+        (number_here host.until v end (omega (arith, l, h.room.all_until, h.room.few_parts)) ∙ (ends ∙ sym (ap (λ (z : Account). end_of z (part_at sys v).period) (account_here host.accounts v a room))))
+    | inr ne ↦ number_there host.until v u end ne ∙ (h.until u lu ∙ sym (ap (λ (z : Account). end_of z (part_at sys u).period) (account_there host.accounts v u a ne)))
+  ];
+  on_core = h.on_core;
+  named = λ d ld fresh.
+      let old : IsNamed sys host.keys d (holder_at host.holders d) = h.named d ld (before d fresh) in
+      record {
+        key = old.key;
+        vcpu = old.vcpu;
+        first = first_other sys host.keys (set host.keys v key) d (length sys.parts) old.key old.vcpu (λ u on. elim (cases_eq u v) [
+          | inl e ↦ ap (number_at (set host.keys v key)) e ∙ (number_here host.keys v key (omega (arith, l, h.room.all_keys, h.room.few_parts)) ∙ (same_key (here d fresh (sym (child_core sys d u on) ∙ (ap (λ (z : ℕ). core_of (part_at sys z).parent) e ∙ sym its_core))) ∙ sym (ap (number_at host.keys) e)))
+          | inr ne ↦ number_there host.keys v u key ne
+        ]) old.first;
+        none = old.none;
+        some = old.some;
+      };
+}
+  where
+    room : v < length host.accounts
+    room = omega (arith, l, h.room.all_vcpus, h.room.few_parts)
+
+    here : (d : ℕ) → is_stale (set host.stale c b) d ≡ false → d ≡ c → b ≡ false
+    here d fresh e = sym (ap (is_stale (set host.stale c b)) e ∙ get_or-set_same host.stale c b false lc) ∙ fresh
+
+    before : (d : ℕ) → is_stale (set host.stale c b) d ≡ false → is_stale host.stale d ≡ false
+    before d fresh = elim (cases_eq d c) [
+      | inl e ↦ ap (is_stale host.stale) e ∙ fresh_before (here d fresh e)
+      | inr ne ↦ sym (get_or-set_other host.stale c d b false ne) ∙ fresh
+    ]
+
+-- an account within its budget goes on, whose key stays
+same_key : (a : Account) (used budget : ℕ) (extra : Bool) (period : ℕ) → a.used < budget → used < budget → key_of a budget extra period ≡ key_of (record a { used = used }) budget extra period
+same_key a used budget extra period l m =
+    let level : a.used / budget ≡ used / budget = div-eq_of_lt l ∙ sym (div-eq_of_lt m) in
+    let left : nat_lt a.used budget ≡ nat_lt used budget = lt-ltb a.used budget l ∙ sym (lt-ltb used budget m) in
+    ap (λ (g : ℕ). if account_eligible a budget extra then g * LEVEL + deadline_of a period else NO_KEY) level
+    ∙ ap (λ (b : Bool). if (a.started && not a.blocked) && (b || extra) then (used / budget) * LEVEL + deadline_of a period else NO_KEY) left
+
+pub ready_few : (sys : SystemView) (budgets : List ℕ) (host : Host) (v used : ℕ) → v < length sys.parts → IsReady sys budgets host → (account_at host.accounts v).used ≤ used → used ≤ host.time → used < budget_at budgets v
+    → IsReady sys budgets (record host { accounts = set host.accounts v (record (account_at host.accounts v) { used = used }) })
+ready_few sys budgets host v used l h more few left =
+    let a : Account = record (account_at host.accounts v) { used = used } in
+    let room : v < length host.accounts = omega (arith, l, h.room.all_vcpus, h.room.few_parts) in
+    record {
+      room = record {
+        all_vcpus = length-set host.accounts v a ∙ h.room.all_vcpus;
+        all_keys = h.room.all_keys;
+        all_until = h.room.all_until;
+        all_cores = h.room.all_cores;
+        all_ends = h.room.all_ends;
+        all_stale = h.room.all_stale;
+        few_parts = h.room.few_parts;
+        few_cores = h.room.few_cores;
+        parts = h.room.parts;
+      };
+      early = λ u lu. at_set (λ (z : Account). z.from ≤ host.time) host.accounts v u a room (λ e. h.early v l) (h.early u lu);
+      few = λ u lu. at_set (λ (z : Account). z.used ≤ host.time) host.accounts v u a room (λ e. few) (h.few u lu);
+      keys = λ u lu. at_set (λ (z : Account). number_at host.keys u ≡ key_of z (budget_at budgets u) (part_at sys u).extra (part_at sys u).period) host.accounts v u a room
+          (λ e. subst (λ (w : ℕ). number_at host.keys w ≡ key_of a (budget_at budgets w) (part_at sys w).extra (part_at sys w).period) (sym e)
+          (h.keys v l ∙ same_key (account_at host.accounts v) used (budget_at budgets v) (part_at sys v).extra (part_at sys v).period (omega (arith, more, left)) left)) (h.keys u lu);
+      until = λ u lu. at_set (λ (z : Account). number_at host.until u ≡ end_of z (part_at sys u).period) host.accounts v u a room
+          (λ e. subst (λ (w : ℕ). number_at host.until w ≡ end_of a (part_at sys w).period) (sym e) (h.until v l)) (h.until u lu);
+      on_core = h.on_core;
+      named = h.named;
+    }
+
+-- an account that has gone on is one with the slots that it had, whose period may have ended
+pub gone_is : (a : Account) (has : Bool) (slots period to : ℕ) → period_ended (used_more a has slots) period to ≡ gone_on a has slots period to
+gone_is a true slots period to = refl
+gone_is a false slots period to = refl
+
+-- what stands on one core stands on no other
+pub on_one_core : (sys : SystemView) (c d v : ℕ) → d ≢ c → is_child sys (Core c) v ≡ true → is_child sys (Core d) v ≡ false
+on_one_core sys c d v ne its = elim (cases_Bool (is_child sys (Core d) v)) [
+  | inr b ↦ b
+  | inl b ↦ absurd (ne (sym (child_core sys d v b) ∙ child_core sys c v its))
+]
+
+-- a core holds none but its own, and what has no core uses no slots
+pub not_held : (sys : SystemView) (budgets : List ℕ) (host : Host) (c v : ℕ) → c < length sys.cores → IsReady sys budgets host → is_child sys (Core c) v ≡ false → holds (holder_at host.holders c) v ≡ false
+not_held sys budgets host c v l h other = elim (cases_Bool (holds (holder_at host.holders c) v)) [
+  | inr b ↦ b
+  | inl b ↦ absurd (both_ways _ other (h.on_core c v l (holds-is (holder_at host.holders c) v b)))
+]
+
+pub not_used : (a : Account) (has : Bool) (slots : ℕ) → has ≡ false → used_more a has slots ≡ a
+not_used a true slots e = cc
+not_used a false slots e = refl
+
+-- so is an account of no core as it was
+pub not_gone : (a : Account) (has : Bool) (slots period to : ℕ) → a.started ≡ false → has ≡ false → a ≡ gone_on a has slots period to
+not_gone a has slots period to off e = sym (ap (λ (b : Bool). cond (b && (to == (a.from + period))) (record a { from = to; used = 0 }) (used_more a has slots)) off ∙ not_used a has slots e)
+
+pub started_more : (a : Account) (has : Bool) (slots : ℕ) → (used_more a has slots).started ≡ a.started
+started_more a true slots = refl
+started_more a false slots = refl
+
+pub from_more : (a : Account) (has : Bool) (slots : ℕ) → (used_more a has slots).from ≡ a.from
+from_more a true slots = refl
+from_more a false slots = refl
