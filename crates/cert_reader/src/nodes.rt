@@ -117,13 +117,7 @@ fn check_nodes(sys: &System, budgets: &[u64], nodes: &[Node]) -> Result<(), Flaw
         (λ flaw.
         FirstNode nodes.now (NodeProves sys.now budgets.now) (NodeFails sys.now budgets.now flaw)) }
 {
-    let filler = Task {
-        period: 1,
-        deadline: 1,
-        work: 1,
-        jitter: 0,
-    };
-    let mut room = [filler; MAX_PARTS];
+    let mut room = [Task::least(); MAX_PARTS];
     for node in nodes {
         check_node(sys, budgets, node, &mut room)?;
     }

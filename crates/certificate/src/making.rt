@@ -46,13 +46,7 @@ fn make_nodes(alloc: Global, sys: &System, budgets: &[u64]) -> Result<Vec<Node>,
     ensures { let count = length sys.now.parts + length sys.now.cores in
         IfOk result (λ nodes. AreMade sys.now budgets.now nodes.items count) }
 {
-    let filler = Task {
-        period: 1,
-        deadline: 1,
-        work: 1,
-        jitter: 0,
-    };
-    let mut room = vec![in alloc; filler; MAX_PARTS]?;
+    let mut room = vec![in alloc; Task::least(); MAX_PARTS]?;
     let parts = sys.parts().len();
     let mut nodes = Vec::with_capacity(alloc, parts + sys.cores().len())?;
     for q in 0..parts as u32 {

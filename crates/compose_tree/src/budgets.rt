@@ -39,16 +39,10 @@ pub fn rooms(alloc: Global, sys: &System) -> Result<(Vec<u64>, Vec<Task>), Refus
     ensures system { IsSystem sys.now }
     ensures refusal { IfErr result (λ r. r ≡ Refusal.NoMemory) }
 {
-    let filler = Task {
-        period: 1,
-        deadline: 1,
-        work: 1,
-        jitter: 0,
-    };
     let Ok(budgets) = vec![in alloc; 0; sys.parts().len()] else {
         return Err(Refusal::NoMemory);
     };
-    let Ok(room) = vec![in alloc; filler; MAX_PARTS] else {
+    let Ok(room) = vec![in alloc; Task::least(); MAX_PARTS] else {
         return Err(Refusal::NoMemory);
     };
     Ok((budgets, room))

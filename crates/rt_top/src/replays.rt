@@ -26,13 +26,7 @@ pub fn replay_all(alloc: Global, sys: &System, plan: &Plan) -> Result<Vec<Replay
     requires { Admitted sys.now plan.now }
     ensures { IfOk result (λ replays. AreReplays sys.now plan.now replays.items) }
 {
-    let filler = Task {
-        period: 1,
-        deadline: 1,
-        work: 1,
-        jitter: 0,
-    };
-    let mut room = vec![in alloc; filler; MAX_TASKS]?;
+    let mut room = vec![in alloc; Task::least(); MAX_TASKS]?;
     replay_leaves(alloc, sys, plan, &mut room)
 }
 

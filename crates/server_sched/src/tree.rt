@@ -64,13 +64,7 @@ pub fn span_tree(
 pub(crate) fn room_for_tasks(alloc: Global) -> Result<Vec<Task>, AllocError>
     ensures { IfOk result (λ room. 512 ≤ length room.items) }
 {
-    let filler = Task {
-        period: 1,
-        deadline: 1,
-        work: 1,
-        jitter: 0,
-    };
-    vec![in alloc; filler; MAX_PARTS]
+    vec![in alloc; Task::least(); MAX_PARTS]
 }
 
 /// The runs of the cores. `room` is for the tasks of one node.
