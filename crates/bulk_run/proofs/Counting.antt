@@ -110,12 +110,12 @@ pub record AreFound (lists : List (List Job)) (nodes : List NodeView) (place : �
   pub jobs_is : jobs_at lists place ≡ jobs
   pub spans_is : (node_at nodes place).spans ≡ spans
 
-pub found : (vecs : List (Vec Job Global)) (nodes : List NodeView) (place : ℕ) (list : Vec Job Global) (node : NodeView) (jobs : List Job) (spans : List Span) →
-    place < length vecs → place < length nodes → list ≡ get_or vecs place list → jobs ≡ list.items → node ≡ get_or nodes place node → spans ≡ node.spans →
-    AreFound (map (λ (list : Vec Job Global). list.items) vecs) nodes place jobs spans
-found vecs nodes place list node jobs spans l m a b c d = record {
+pub found : (vecs : List (Vec Job Global)) (nodes : List NodeView) (place : ℕ) (list : Vec Job Global) (node : NodeView) (jobs : List Job) →
+    place < length vecs → place < length nodes → list ≡ get_or vecs place list → jobs ≡ list.items → node ≡ get_or nodes place node →
+    AreFound (map (λ (list : Vec Job Global). list.items) vecs) nodes place jobs node.spans
+found vecs nodes place list node jobs l m a b c = record {
   jobs_is = get_or-map (λ (v : Vec Job Global). v.items) vecs place list [] l ∙ (ap (λ (v : Vec Job Global). v.items) (sym a) ∙ sym b);
-  spans_is = ap (λ (x : NodeView). x.spans) (get_or_default nodes place (node_at [] 0) node m ∙ sym c) ∙ sym d;
+  spans_is = ap (λ (x : NodeView). x.spans) (get_or_default nodes place (node_at [] 0) node m ∙ sym c);
 }
 
 pub run_found : (lists : List (List Job)) (nodes : List NodeView) (place : ℕ) (jobs : List Job) (spans : List Span) → AreFound lists nodes place jobs spans → AreGuestRuns lists nodes → place < length lists → IsGuestRun jobs spans

@@ -1,4 +1,4 @@
-ghost use Rattle.std.specs.Prelude.{◌≡◌, ◌^◌, ◌≤◌, ◌<◌, length, map, sum, sum_by, IfOk};
+ghost use Rattle.std.specs.Prelude.{◌≡◌, ◌^◌, ◌*◌, ◌≤◌, ◌<◌, length, map, sum, sum_by, IfOk};
 ghost use Rattle.slot_model.specs.Slots.{sum_below};
 ghost use Rattle.guest_sched.specs.Spans.{run_of};
 ghost use Rattle.span_counts.specs.Pending.{pairs_pending};
@@ -6,7 +6,7 @@ ghost use Rattle.tree_model.specs.Releases.{jobs_at};
 ghost use Rattle.server_sched.specs.TreeSpans.{node_at, runs_of, AreTreeSpans};
 ghost use Rattle.bulk_host.specs.Host.{bulk_host, bulk_budgets};
 ghost use Rattle.bulk_run.specs.Summary.{bulk_slots, bulk_supplies, bulk_jobs as jobs_of_host, counts_in, AreBulkCounts};
-ghost use Rattle.bulk_run.specs.Steps.{AreGuestRuns};
+ghost use Rattle.bulk_run.specs.Steps.{IsGuestRun, AreGuestRuns};
 
 use bulk_host::{bulk_jobs, make_bulk};
 use compose_tree::compose;
@@ -147,7 +147,16 @@ fn pending_of(alloc: Global, jobs: &[Vec<Job>], nodes: &[NodeSpans]) -> Result<u
 {
     let mut pending = 0;
     for place in 0..jobs.len() {
-        pending += count_pending(alloc, &jobs[place], nodes[place].spans(), SLOTS)?;
+        pending += pending_in(alloc, &jobs[place], &nodes[place])?;
     }
     Ok(pending)
+}
+
+/// The same at one guest.
+fn pending_in(alloc: Global, jobs: &[Job], node: &NodeSpans) -> Result<u64, AllocError>
+    requires run { IsGuestRun jobs.now node.now.spans }
+    ensures number { IfOk result (λ n. n ≡ pairs_pending jobs.now (run_of node.now.spans)) }
+    ensures few { IfOk result (λ n. n ≤ 2 ^ 32 * 100000) }
+{
+    count_pending(alloc, jobs, node.spans(), SLOTS)
 }

@@ -17,50 +17,21 @@ pending_at jobs nodes q = pairs_pending (jobs_at (map (λ (list : Vec Job Global
 pub loop-place-init : goal.loop-place-init
 loop-place-init c = record { counted = sym (sum_below-zero (pending_at c.args.jobs.now c.args.nodes.now)); few = omega arith }
 
-pub count_pending-requires-clause-works : goal.count_pending-requires-clause-works
-count_pending-requires-clause-works c =
+pub pending_in-requires : goal.pending_in-requires
+pending_in-requires c =
     let long = length-map c.args.jobs.now (λ (list : Vec Job Global). list.items) in
-    let here = found c.args.jobs.now c.args.nodes.now c.loop-place.place c.index-jobs-place.result c.index-nodes-place.result c.deref.result.now c.spans.result.now (omega (arith, c.loop-place-test.true)) (omega (arith, c.loop-place-test.true, long, c.requires.runs.one_each)) c.index-jobs-place.is c.deref.ensures.value c.index-nodes-place.is c.spans.ensures in
-    (run_found (map (λ (list : Vec Job Global). list.items) c.args.jobs.now) c.args.nodes.now c.loop-place.place c.deref.result.now c.spans.result.now here c.requires.runs (omega (arith, c.loop-place-test.true, long))).works
-
-pub count_pending-requires-clause-released : goal.count_pending-requires-clause-released
-count_pending-requires-clause-released c =
-    let long = length-map c.args.jobs.now (λ (list : Vec Job Global). list.items) in
-    let here = found c.args.jobs.now c.args.nodes.now c.loop-place.place c.index-jobs-place.result c.index-nodes-place.result c.deref.result.now c.spans.result.now (omega (arith, c.loop-place-test.true)) (omega (arith, c.loop-place-test.true, long, c.requires.runs.one_each)) c.index-jobs-place.is c.deref.ensures.value c.index-nodes-place.is c.spans.ensures in
-    (run_found (map (λ (list : Vec Job Global). list.items) c.args.jobs.now) c.args.nodes.now c.loop-place.place c.deref.result.now c.spans.result.now here c.requires.runs (omega (arith, c.loop-place-test.true, long))).released
-
-pub count_pending-requires-clause-spans : goal.count_pending-requires-clause-spans
-count_pending-requires-clause-spans c =
-    let long = length-map c.args.jobs.now (λ (list : Vec Job Global). list.items) in
-    let here = found c.args.jobs.now c.args.nodes.now c.loop-place.place c.index-jobs-place.result c.index-nodes-place.result c.deref.result.now c.spans.result.now (omega (arith, c.loop-place-test.true)) (omega (arith, c.loop-place-test.true, long, c.requires.runs.one_each)) c.index-jobs-place.is c.deref.ensures.value c.index-nodes-place.is c.spans.ensures in
-    (run_found (map (λ (list : Vec Job Global). list.items) c.args.jobs.now) c.args.nodes.now c.loop-place.place c.deref.result.now c.spans.result.now here c.requires.runs (omega (arith, c.loop-place-test.true, long))).joined
-
-pub count_pending-requires-clause-long : goal.count_pending-requires-clause-long
-count_pending-requires-clause-long c =
-    let long = length-map c.args.jobs.now (λ (list : Vec Job Global). list.items) in
-    let here = found c.args.jobs.now c.args.nodes.now c.loop-place.place c.index-jobs-place.result c.index-nodes-place.result c.deref.result.now c.spans.result.now (omega (arith, c.loop-place-test.true)) (omega (arith, c.loop-place-test.true, long, c.requires.runs.one_each)) c.index-jobs-place.is c.deref.ensures.value c.index-nodes-place.is c.spans.ensures in
-    (run_found (map (λ (list : Vec Job Global). list.items) c.args.jobs.now) c.args.nodes.now c.loop-place.place c.deref.result.now c.spans.result.now here c.requires.runs (omega (arith, c.loop-place-test.true, long))).long
-
-pub count_pending-requires-clause-few : goal.count_pending-requires-clause-few
-count_pending-requires-clause-few c =
-    let long = length-map c.args.jobs.now (λ (list : Vec Job Global). list.items) in
-    let here = found c.args.jobs.now c.args.nodes.now c.loop-place.place c.index-jobs-place.result c.index-nodes-place.result c.deref.result.now c.spans.result.now (omega (arith, c.loop-place-test.true)) (omega (arith, c.loop-place-test.true, long, c.requires.runs.one_each)) c.index-jobs-place.is c.deref.ensures.value c.index-nodes-place.is c.spans.ensures in
-    omega (arith, (run_found (map (λ (list : Vec Job Global). list.items) c.args.jobs.now) c.args.nodes.now c.loop-place.place c.deref.result.now c.spans.result.now here c.requires.runs (omega (arith, c.loop-place-test.true, long))).few)
+    let here = found c.args.jobs.now c.args.nodes.now c.loop-place.place c.index-jobs-place.result c.index-nodes-place.result c.deref.result.now (omega (arith, c.loop-place-test.true)) (omega (arith, c.loop-place-test.true, long, c.requires.runs.one_each)) c.index-jobs-place.is c.deref.ensures.value c.index-nodes-place.is in
+    record { run = run_found (map (λ (list : Vec Job Global). list.items) c.args.jobs.now) c.args.nodes.now c.loop-place.place c.deref.result.now c.index-nodes-place.result.spans here c.requires.runs (omega (arith, c.loop-place-test.true, long)) }
 
 pub overflow_add-pending : goal.overflow_add-pending
-overflow_add-pending c =
-    let long = length-map c.args.jobs.now (λ (list : Vec Job Global). list.items) in
-    let here = found c.args.jobs.now c.args.nodes.now c.loop-place.place c.index-jobs-place.result c.index-nodes-place.result c.deref.result.now c.spans.result.now (omega (arith, c.loop-place-test.true)) (omega (arith, c.loop-place-test.true, long, c.requires.runs.one_each)) c.index-jobs-place.is c.deref.ensures.value c.index-nodes-place.is c.spans.ensures in
-    let few = (run_found (map (λ (list : Vec Job Global). list.items) c.args.jobs.now) c.args.nodes.now c.loop-place.place c.deref.result.now c.spans.result.now here c.requires.runs (omega (arith, c.loop-place-test.true, long))).few in
-    record { fits = omega (arith, few, c.in_ok-pending.ensures.few, c.loop-place.invariant.few, c.requires.few, c.loop-place-test.true) }
+overflow_add-pending c = record { fits = omega (arith, c.in_ok-pending.ensures.few, c.loop-place.invariant.few, c.requires.few, c.loop-place-test.true) }
 
 pub loop-place-preserved : goal.loop-place-preserved
 loop-place-preserved c =
     let long = length-map c.args.jobs.now (λ (list : Vec Job Global). list.items) in
-    let here = found c.args.jobs.now c.args.nodes.now c.loop-place.place c.index-jobs-place.result c.index-nodes-place.result c.deref.result.now c.spans.result.now (omega (arith, c.loop-place-test.true)) (omega (arith, c.loop-place-test.true, long, c.requires.runs.one_each)) c.index-jobs-place.is c.deref.ensures.value c.index-nodes-place.is c.spans.ensures in
-    let few = (run_found (map (λ (list : Vec Job Global). list.items) c.args.jobs.now) c.args.nodes.now c.loop-place.place c.deref.result.now c.spans.result.now here c.requires.runs (omega (arith, c.loop-place-test.true, long))).few in
-    let one = c.in_ok-pending.ensures.number ∙ pending_found (map (λ (list : Vec Job Global). list.items) c.args.jobs.now) c.args.nodes.now c.loop-place.place c.deref.result.now c.spans.result.now here in
+    let here = found c.args.jobs.now c.args.nodes.now c.loop-place.place c.index-jobs-place.result c.index-nodes-place.result c.deref.result.now (omega (arith, c.loop-place-test.true)) (omega (arith, c.loop-place-test.true, long, c.requires.runs.one_each)) c.index-jobs-place.is c.deref.ensures.value c.index-nodes-place.is in
+    let one = c.in_ok-pending.ensures.number ∙ pending_found (map (λ (list : Vec Job Global). list.items) c.args.jobs.now) c.args.nodes.now c.loop-place.place c.deref.result.now c.index-nodes-place.result.spans here in
     record {
       counted = omega (arith, one, c.loop-place.invariant.counted, sum_below-suc (pending_at c.args.jobs.now c.args.nodes.now) c.loop-place.place, ap (sum_below (pending_at c.args.jobs.now c.args.nodes.now)) (add-one c.loop-place.place));
-      few = omega (arith, few, c.in_ok-pending.ensures.few, c.loop-place.invariant.few);
+      few = omega (arith, c.in_ok-pending.ensures.few, c.loop-place.invariant.few);
     }
