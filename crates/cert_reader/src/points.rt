@@ -3,8 +3,9 @@ ghost use Rattle.slot_model.specs.Task.{sporadic_tasks};
 ghost use Rattle.slot_model.specs.Order.{ranks_above};
 ghost use Rattle.slot_model.specs.Bound.{dbf, rbf, IsHit};
 ghost use Rattle.slot_model.specs.Points.{IsCover, IsChain};
+ghost use Rattle.edf_demand.specs.Terms.{IsGathered};
 
-use edf_demand::{demand, demand_by, write_reciprocals};
+use edf_demand::{Gathered, Term, demand, demand_by, gather};
 use fp_request::request;
 use slot_model::{Sched, Task};
 use supply_bound::Supply;
@@ -20,10 +21,10 @@ pub fn is_cover<S: Supply>(tasks: &[Task], s: &S, h: u128, points: &[u128]) -> b
     if !asks_nothing(tasks, points[0] - 1) {
         return false;
     }
-    let mut reciprocals = [0; MAX_PARTS];
-    write_reciprocals(tasks, &mut reciprocals);
+    let mut terms = [Term::none(); MAX_PARTS];
+    let gathered = gather(tasks, &mut terms);
     for j in 0..points.len() - 1 {
-        if !covers(tasks, &reciprocals, s, points[j], points[j + 1]) {
+        if !covers(tasks, &terms, gathered, s, points[j], points[j + 1]) {
             return false;
         }
     }
@@ -39,8 +40,16 @@ fn asks_nothing(tasks: &[Task], t: u128) -> bool
     }
 }
 
-/// Whether a point covers all windows up to the next. The reciprocals are those of the periods.
-fn covers<S: Supply>(tasks: &[Task], reciprocals: &[u64], s: &S, from: u128, to: u128) -> bool
+/// Whether a point covers all windows up to the next. The terms were gathered from the tasks.
+fn covers<S: Supply>(
+    tasks: &[Task],
+    terms: &[Term],
+    gathered: Gathered,
+    s: &S,
+    from: u128,
+    to: u128,
+) -> bool
+    requires { IsGathered gathered terms.now tasks.now }
     ensures { IsTrue result ↔
         ((from < to) × (dbf (sporadic_tasks tasks.now) (to - 1) ≤ S.bound s.now from)) }
 {
@@ -48,7 +57,7 @@ fn covers<S: Supply>(tasks: &[Task], reciprocals: &[u64], s: &S, from: u128, to:
         return false;
     }
     let given = s.least(from);
-    match demand_by(tasks, reciprocals, to - 1) {
+    match demand_by(tasks, terms, gathered, to - 1) {
         Some(asked) => asked <= given,
         None => false,
     }

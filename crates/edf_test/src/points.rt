@@ -4,7 +4,7 @@ ghost use Rattle.slot_model.specs.Bound.{dbf};
 ghost use Rattle.slot_model.specs.Points.{IsCover, IsBackward, CoversShow};
 
 use crate::back::given_by;
-use edf_demand::write_reciprocals;
+use edf_demand::{Term, gather};
 use slot_model::Task;
 use std::alloc::{AllocError, Global};
 use supply_bound::Supply;
@@ -26,13 +26,13 @@ pub fn cover<S: Supply>(
         × IsBackward T (S.bound s.now) h points.items)) }
     ensures shows { CoversShow (sporadic_tasks tasks.now) (S.bound s.now) h }
 {
-    let mut reciprocals = vec![in alloc; 0; tasks.len()]?;
-    write_reciprocals(tasks, &mut reciprocals);
+    let mut terms = vec![in alloc; Term::none(); tasks.len()]?;
+    let gathered = gather(tasks, &mut terms);
     let mut points = Vec::new(alloc);
     let mut point = h + 1;
     points.push(point)?;
     loop {
-        let Some(given) = given_by(tasks, &reciprocals, s, point - 1) else {
+        let Some(given) = given_by(tasks, &terms, gathered, s, point - 1) else {
             return Ok(None);
         };
         if given == 0 {
