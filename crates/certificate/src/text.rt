@@ -1,4 +1,4 @@
-ghost use Rattle.std.specs.Prelude.{◌≡◌, ℕ, ◌++◌, ◌^◌, ◌<◌, ◌≤◌, length, Ok, IfOk, OnOk, codes, decimal};
+ghost use Rattle.std.specs.Prelude.{◌≡◌, ℕ, ◌++◌, ◌^◌, ◌<◌, ◌≤◌, List, All, length, Ok, IfOk, OnOk, codes, decimal};
 ghost use Rattle.cert_reader.specs.CertificateFile.{certificate_of};
 ghost use Rattle.cert_reader.specs.Printed.{certificate_text, place_number, AreBelow, IsBelow, IsInRange, AreInRange};
 ghost use Rattle.cert_reader.specs.Text.{behind, listed, quoted_number, witness_text, flag_text, place_text, node_text};
@@ -15,22 +15,74 @@ pub fn print_certificate(alloc: Global, c: &Certificate) -> Result<Vec<u8>, Allo
         (λ text. length c.now.nodes ≤ 576 → certificate_of text.items ≡ Ok c.now.nodes) }
 {
     let mut text = Vec::from_slice(alloc, b"{\"format\":1,\"nodes\":[")?;
-    write_nodes(&mut text, &c.nodes)?;
+    write_list(&mut text, &c.nodes)?;
     text.extend_from_slice(b"]}\n")?;
     Ok(text)
 }
 
-fn write_nodes(text: &mut Vec<u8>, nodes: &[Node]) -> Result<(), AllocError>
-    ensures text { OnOk result (text.new.items ≡ text.old.items ++ listed node_text nodes.now) }
-    ensures in_range { OnOk result (AreInRange nodes.now) }
+/// What stands in lists of a certificate.
+trait Listed {
+    ghost spelled: { Self → List ℕ };
+
+    ghost in_range: { Self → Type 0 };
+
+    fn write(&self, text: &mut Vec<u8>) -> Result<(), AllocError>
+        ensures text { OnOk result (text.new.items ≡ text.old.items ++ spelled self.now) }
+        ensures in_range { OnOk result (in_range self.now) };
+}
+
+/// Hits and falls are plain numbers.
+impl Listed for u64 {
+    ghost use Rattle.std.specs.Prelude.{decimal, ◌<◌, ◌^◌};
+
+    ghost spelled = { λ n. decimal n };
+
+    ghost in_range = { λ n. n < 2 ^ 64 };
+
+    fn write(&self, text: &mut Vec<u8>) -> Result<(), AllocError> {
+        write_number(text, *self as u128)
+    }
+}
+
+/// Points stand in quotes.
+impl Listed for u128 {
+    ghost use Rattle.std.specs.Prelude.{◌<◌, ◌^◌};
+    ghost use Rattle.cert_reader.specs.Text.{quoted_number};
+
+    ghost spelled = { λ n. quoted_number n };
+
+    ghost in_range = { λ n. n < 2 ^ 128 };
+
+    fn write(&self, text: &mut Vec<u8>) -> Result<(), AllocError> {
+        write_quoted(text, *self)
+    }
+}
+
+impl Listed for Node {
+    ghost use Rattle.cert_reader.specs.Printed.{IsInRange};
+    ghost use Rattle.cert_reader.specs.Text.{node_text};
+
+    ghost spelled = { λ n. node_text n };
+
+    ghost in_range = { λ n. IsInRange n };
+
+    fn write(&self, text: &mut Vec<u8>) -> Result<(), AllocError> {
+        write_node(text, self)
+    }
+}
+
+/// Writes them one after another, with commas between them.
+fn write_list<T: Listed>(text: &mut Vec<u8>, list: &[T]) -> Result<(), AllocError>
+    ensures text { OnOk result (text.new.items ≡ text.old.items ++ listed T.spelled list.now) }
+    ensures in_range { OnOk result (All T.in_range list.now) }
 {
-    let Some((first, rest)) = nodes.split_first() else {
+    let Some((first, rest)) = list.split_first() else {
         return Ok(());
     };
-    write_node(text, first)?;
-    for node in rest {
+    first.write(text)?;
+    for next in rest {
         text.push(b',')?;
-        write_node(text, node)?;
+        next.write(text)?;
     }
     Ok(())
 }
@@ -45,13 +97,13 @@ fn write_node(text: &mut Vec<u8>, node: &Node) -> Result<(), AllocError>
     text.extend_from_slice(b",\"computed\":")?;
     text.extend_from_slice(flag(node.computed))?;
     text.extend_from_slice(b",\"falls\":[")?;
-    write_numbers(text, &node.falls)?;
+    write_list(text, &node.falls)?;
     text.extend_from_slice(b"],\"hits\":[")?;
-    write_numbers(text, &node.hits)?;
+    write_list(text, &node.hits)?;
     text.extend_from_slice(b"],\"kind\":\"")?;
     write_place(text, node.place, period)?;
     text.extend_from_slice(b",\"points\":[")?;
-    write_points(text, &node.points)?;
+    write_list(text, &node.points)?;
     text.extend_from_slice(b"],\"witness\":")?;
     write_witness(text, node.witness)?;
     text.push(b'}')?;
@@ -84,37 +136,6 @@ fn write_kind(text: &mut Vec<u8>, kind: &[u8], period: u64, place: u32) -> Resul
     write_number(text, period as u128)?;
     text.extend_from_slice(b",\"place\":")?;
     write_number(text, place as u128)
-}
-
-fn write_numbers(text: &mut Vec<u8>, numbers: &[u64]) -> Result<(), AllocError>
-    ensures text { OnOk result (text.new.items ≡ text.old.items ++ listed decimal numbers.now) }
-    ensures in_range { OnOk result (AreBelow (2 ^ 64) numbers.now) }
-{
-    let Some((first, rest)) = numbers.split_first() else {
-        return Ok(());
-    };
-    write_number(text, *first as u128)?;
-    for number in rest {
-        text.push(b',')?;
-        write_number(text, *number as u128)?;
-    }
-    Ok(())
-}
-
-fn write_points(text: &mut Vec<u8>, points: &[u128]) -> Result<(), AllocError>
-    ensures text { OnOk result
-        (text.new.items ≡ text.old.items ++ listed quoted_number points.now) }
-    ensures in_range { OnOk result (AreBelow (2 ^ 128) points.now) }
-{
-    let Some((first, rest)) = points.split_first() else {
-        return Ok(());
-    };
-    write_quoted(text, *first)?;
-    for point in rest {
-        text.push(b',')?;
-        write_quoted(text, *point)?;
-    }
-    Ok(())
 }
 
 fn write_witness(text: &mut Vec<u8>, witness: Option<u128>) -> Result<(), AllocError>
