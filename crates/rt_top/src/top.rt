@@ -45,7 +45,8 @@ pub fn run<S: Store, K: Sink>(alloc: Global, words: &[String], store: &mut S, ou
     ensures write_fault { result ≡ Status.WriteFault → Rose (K.faults out.old) (K.faults out.new) }
     // files that can be judged, over a store and a sink that do not fail, get their verdict, or
     // `rtds` refuses a core that is not full or not under earliest deadline first
-    ensures complete { (can : IsJudgeable (command_of (map string_bytes words.now)) (S.files store.old))
+    ensures complete { let command = command_of (map string_bytes words.now) in
+        (can : IsJudgeable command (S.files store.old))
         → Stays (S.faults store.old) (S.faults store.new)
         → Stays (K.faults out.old) (K.faults out.new)
         → IsVerdictOf can result }
