@@ -1,5 +1,5 @@
 -- Accounts and keys that are set.
-use Rattle.std.proofs.Common.{◌≡◌, ◌≢◌, ℕ, ◌+◌, ◌*◌, ◌/◌, ◌<◌, ◌≤◌, nat_lt, not, ◌||◌, if◌then◌else◌, lt-ltb, Bool, true, false, cond, ◌&&◌, ◌==◌, List, length, set, refl, sym, ◌∙◌, ap, arith, subst, inl, inr}
+use Rattle.std.proofs.Common.{◌≡◌, ◌≢◌, ℕ, ◌+◌, ◌/◌, ◌<◌, ◌≤◌, nat_lt, not, ◌||◌, if◌then◌else◌, lt-ltb, Bool, true, false, cond, ◌&&◌, ◌==◌, List, length, set, Option, Some, None, refl, sym, ◌∙◌, ap, arith, subst, inl, inr}
 use Rattle.std.proofs.Math.Nat.{div-eq_of_lt}
 use Rattle.std.proofs.lemmas.Bool.{cases_eq, cases_Bool, both_ways}
 use Rattle.std.proofs.lemmas.List.{get_or-set_same, get_or-set_other, length-set}
@@ -10,11 +10,12 @@ use Rattle.tree_model.specs.View.{SystemView}
 use Rattle.tree_model.specs.System.{part_at}
 use Rattle.tree_model.specs.Tree.{is_child, budget_at}
 use Rattle.rtds_sim.specs.declared.account.Account.{Account}
-use Rattle.rtds_sim.specs.declared.account.TheConstants.{LEVEL, NO_KEY}
+use Rattle.rtds_sim.specs.declared.key.Key.{Key}
 use Rattle.rtds_sim.specs.declared.host.Host.{Host}
 use Rattle.rtds_sim.specs.Printed.{core_of}
 use Rattle.rtds_sim.proofs.Entering.{child_core}
-use Rattle.rtds_sim.specs.Accounts.{no_account, account_at, holder_at, number_at, account_eligible, deadline_of, key_of, end_of, is_stale, gone_on, used_more, period_ended, IsFirstKey, IsNamed, IsReady}
+use Rattle.rtds_sim.specs.Keys.{comes_before, key_at, key_of_one, IsFirstKey}
+use Rattle.rtds_sim.specs.Accounts.{no_account, account_at, holder_at, until_at, account_eligible, deadline_of, key_of, end_of, is_stale, gone_on, used_more, period_ended, IsReady}
 
 -- one account is set
 pub account_here : (accounts : List Account) (v : ℕ) (a : Account) → v < length accounts → account_at (set accounts v a) v ≡ a
@@ -30,26 +31,35 @@ at_set P accounts v u a l new old = elim (cases_eq u v) [
   | inr ne ↦ subst P (sym (account_there accounts v u a ne)) old
 ]
 
-pub number_here : (numbers : List ℕ) (i n : ℕ) → i < length numbers → number_at (set numbers i n) i ≡ n
-number_here numbers i n l = get_or-set_same numbers i n 0 l
+pub key_here : (keys : List (Option Key)) (v : ℕ) (k : Option Key) → v < length keys → key_at (set keys v k) v ≡ k
+key_here keys v k l = get_or-set_same keys v k None l
 
-pub number_there : (numbers : List ℕ) (i d n : ℕ) → d ≢ i → number_at (set numbers i n) d ≡ number_at numbers d
-number_there numbers i d n ne = get_or-set_other numbers i d n 0 ne
+pub key_there : (keys : List (Option Key)) (v u : ℕ) (k : Option Key) → u ≢ v → key_at (set keys v k) u ≡ key_at keys u
+key_there keys v u k ne = get_or-set_other keys v u k None ne
+
+pub until_here : (until : List (Option ℕ)) (v : ℕ) (o : Option ℕ) → v < length until → until_at (set until v o) v ≡ o
+until_here until v o l = get_or-set_same until v o None l
+
+pub until_there : (until : List (Option ℕ)) (v u : ℕ) (o : Option ℕ) → u ≢ v → until_at (set until v o) u ≡ until_at until u
+until_there until v u o ne = get_or-set_other until v u o None ne
 
 -- the key of a VCPU of another core does not count
-first_other : (sys : SystemView) (keys others : List ℕ) (c n key v : ℕ) → ((u : ℕ) → is_child sys (Core c) u ≡ true → number_at others u ≡ number_at keys u) → IsFirstKey sys keys c n key v → IsFirstKey sys others c n key v
-first_other sys keys others c n key v same h = record {
-  no_more = h.no_more;
+first_other : (sys : SystemView) (keys others : List (Option Key)) (c n : ℕ) (o : Option ℕ) → ((u : ℕ) → is_child sys (Core c) u ≡ true → key_at others u ≡ key_at keys u) → IsFirstKey sys keys c n o → IsFirstKey sys others c n o
+first_other sys keys others c n o same h = record {
   within = h.within;
   child = h.child;
-  its = λ q. same v (h.child q) ∙ h.its q;
-  least = λ u l on. omega (arith, h.least u l on, same u on);
-  first = λ u q l on. omega (arith, h.first u q l on, same u on);
+  eligible = λ v e. ap (λ (k : Option Key). comes_before k None) (same v (h.child v e)) ∙ h.eligible v e;
+  least = λ u l on. ap (λ (k : Option Key). comes_before k (key_of_one others o)) (same u on) ∙ (ap (comes_before (key_at keys u)) (one o (λ v e. same v (h.child v e))) ∙ h.least u l on);
+  first = λ u v e l on. ap (λ (k : Option Key). comes_before k (key_at others u)) (same v (h.child v e)) ∙ (ap (comes_before (key_at keys v)) (same u on) ∙ h.first u v e l on);
 }
+  where
+    one : (p : Option ℕ) → ((v : ℕ) → p ≡ Some v → key_at others v ≡ key_at keys v) → key_of_one others p ≡ key_of_one keys p
+    one None its = refl
+    one (Some v) its = its v refl
 
 -- an account and its key are set
-pub ready_one : (sys : SystemView) (budgets : List ℕ) (host : Host) (v : ℕ) (a : Account) (key end c : ℕ) (b : Bool) → v < length sys.parts → c < length host.stale → IsReady sys budgets host → a.from ≤ host.time → a.used ≤ host.time → key ≡ key_of a (budget_at budgets v) (part_at sys v).extra (part_at sys v).period → end ≡ end_of a (part_at sys v).period → c ≡ core_of (part_at sys v).parent
-    → (b ≡ false → is_stale host.stale c ≡ false) → (b ≡ false → key ≡ number_at host.keys v)
+pub ready_one : (sys : SystemView) (budgets : List ℕ) (host : Host) (v : ℕ) (a : Account) (key : Option Key) (end : Option ℕ) (c : ℕ) (b : Bool) → v < length sys.parts → c < length host.stale → IsReady sys budgets host → a.from ≤ host.time → a.used ≤ host.time → key ≡ key_of a (budget_at budgets v) (part_at sys v).extra (part_at sys v).period → end ≡ end_of a (part_at sys v).period → c ≡ core_of (part_at sys v).parent
+    → (b ≡ false → is_stale host.stale c ≡ false) → (b ≡ false → key ≡ key_at host.keys v)
     → IsReady sys budgets (record host { accounts = set host.accounts v a; keys = set host.keys v key; until = set host.until v end; stale = set host.stale c b })
 ready_one sys budgets host v a key end c b l lc h early few is ends its_core fresh_before same_key = record {
   room = record {
@@ -66,28 +76,20 @@ ready_one sys budgets host v a key end c b l lc h early few is ends its_core fre
   early = λ u lu. at_set (λ (z : Account). z.from ≤ host.time) host.accounts v u a room (λ e. early) (h.early u lu);
   few = λ u lu. at_set (λ (z : Account). z.used ≤ host.time) host.accounts v u a room (λ e. few) (h.few u lu);
   keys = λ u lu. elim (cases_eq u v) [
-    | inl e ↦ subst (λ (z : ℕ). number_at (set host.keys v key) z ≡ key_of (account_at (set host.accounts v a) z) (budget_at budgets z) (part_at sys z).extra (part_at sys z).period) (sym e)
-        (number_here host.keys v key (omega (arith, l, h.room.all_keys, h.room.few_parts)) ∙ (is ∙ sym (ap (λ (z : Account). key_of z (budget_at budgets v) (part_at sys v).extra (part_at sys v).period) (account_here host.accounts v a room))))
-    | inr ne ↦ number_there host.keys v u key ne ∙ (h.keys u lu ∙ sym (ap (λ (z : Account). key_of z (budget_at budgets u) (part_at sys u).extra (part_at sys u).period) (account_there host.accounts v u a ne)))
+    | inl e ↦ subst (λ (z : ℕ). key_at (set host.keys v key) z ≡ key_of (account_at (set host.accounts v a) z) (budget_at budgets z) (part_at sys z).extra (part_at sys z).period) (sym e)
+        (key_here host.keys v key (omega (arith, l, h.room.all_keys, h.room.few_parts)) ∙ (is ∙ sym (ap (λ (z : Account). key_of z (budget_at budgets v) (part_at sys v).extra (part_at sys v).period) (account_here host.accounts v a room))))
+    | inr ne ↦ key_there host.keys v u key ne ∙ (h.keys u lu ∙ sym (ap (λ (z : Account). key_of z (budget_at budgets u) (part_at sys u).extra (part_at sys u).period) (account_there host.accounts v u a ne)))
   ];
   until = λ u lu. elim (cases_eq u v) [
-    | inl e ↦ subst (λ (z : ℕ). number_at (set host.until v end) z ≡ end_of (account_at (set host.accounts v a) z) (part_at sys z).period) (sym e)
-        (number_here host.until v end (omega (arith, l, h.room.all_until, h.room.few_parts)) ∙ (ends ∙ sym (ap (λ (z : Account). end_of z (part_at sys v).period) (account_here host.accounts v a room))))
-    | inr ne ↦ number_there host.until v u end ne ∙ (h.until u lu ∙ sym (ap (λ (z : Account). end_of z (part_at sys u).period) (account_there host.accounts v u a ne)))
+    | inl e ↦ subst (λ (z : ℕ). until_at (set host.until v end) z ≡ end_of (account_at (set host.accounts v a) z) (part_at sys z).period) (sym e)
+        (until_here host.until v end (omega (arith, l, h.room.all_until, h.room.few_parts)) ∙ (ends ∙ sym (ap (λ (z : Account). end_of z (part_at sys v).period) (account_here host.accounts v a room))))
+    | inr ne ↦ until_there host.until v u end ne ∙ (h.until u lu ∙ sym (ap (λ (z : Account). end_of z (part_at sys u).period) (account_there host.accounts v u a ne)))
   ];
   on_core = h.on_core;
-  named = λ d ld fresh.
-      let old : IsNamed sys host.keys d (holder_at host.holders d) = h.named d ld (before d fresh) in
-      record {
-        key = old.key;
-        vcpu = old.vcpu;
-        first = first_other sys host.keys (set host.keys v key) d (length sys.parts) old.key old.vcpu (λ u on. elim (cases_eq u v) [
-          | inl e ↦ ap (number_at (set host.keys v key)) e ∙ (number_here host.keys v key (omega (arith, l, h.room.all_keys, h.room.few_parts)) ∙ (same_key (here d fresh (sym (child_core sys d u on) ∙ (ap (λ (z : ℕ). core_of (part_at sys z).parent) e ∙ sym its_core))) ∙ sym (ap (number_at host.keys) e)))
-          | inr ne ↦ number_there host.keys v u key ne
-        ]) old.first;
-        none = old.none;
-        some = old.some;
-      };
+  named = λ d ld fresh. first_other sys host.keys (set host.keys v key) d (length sys.parts) (holder_at host.holders d) (λ u on. elim (cases_eq u v) [
+    | inl e ↦ ap (key_at (set host.keys v key)) e ∙ (key_here host.keys v key (omega (arith, l, h.room.all_keys, h.room.few_parts)) ∙ (same_key (here d fresh (sym (child_core sys d u on) ∙ (ap (λ (z : ℕ). core_of (part_at sys z).parent) e ∙ sym its_core))) ∙ sym (ap (key_at host.keys) e)))
+    | inr ne ↦ key_there host.keys v u key ne
+  ]) (h.named d ld (before d fresh));
 }
   where
     room : v < length host.accounts
@@ -107,8 +109,11 @@ same_key : (a : Account) (used budget : ℕ) (extra : Bool) (period : ℕ) → a
 same_key a used budget extra period l m =
     let level : a.used / budget ≡ used / budget = div-eq_of_lt l ∙ sym (div-eq_of_lt m) in
     let left : nat_lt a.used budget ≡ nat_lt used budget = lt-ltb a.used budget l ∙ sym (lt-ltb used budget m) in
-    ap (λ (g : ℕ). if account_eligible a budget extra then g * LEVEL + deadline_of a period else NO_KEY) level
-    ∙ ap (λ (b : Bool). if (a.started && not a.blocked) && (b || extra) then (used / budget) * LEVEL + deadline_of a period else NO_KEY) left
+    ap (λ (g : ℕ). if account_eligible a budget extra then Some (key g) else None) level
+    ∙ ap (λ (b : Bool). if (a.started && not a.blocked) && (b || extra) then Some (key (used / budget)) else None) left
+  where
+    key : ℕ → Key
+    key g = record { level = g; deadline = deadline_of a period }
 
 pub ready_few : (sys : SystemView) (budgets : List ℕ) (host : Host) (v used : ℕ) → v < length sys.parts → IsReady sys budgets host → (account_at host.accounts v).used ≤ used → used ≤ host.time → used < budget_at budgets v
     → IsReady sys budgets (record host { accounts = set host.accounts v (record (account_at host.accounts v) { used = used }) })
@@ -129,11 +134,11 @@ ready_few sys budgets host v used l h more few left =
       };
       early = λ u lu. at_set (λ (z : Account). z.from ≤ host.time) host.accounts v u a room (λ e. h.early v l) (h.early u lu);
       few = λ u lu. at_set (λ (z : Account). z.used ≤ host.time) host.accounts v u a room (λ e. few) (h.few u lu);
-      keys = λ u lu. at_set (λ (z : Account). number_at host.keys u ≡ key_of z (budget_at budgets u) (part_at sys u).extra (part_at sys u).period) host.accounts v u a room
-          (λ e. subst (λ (w : ℕ). number_at host.keys w ≡ key_of a (budget_at budgets w) (part_at sys w).extra (part_at sys w).period) (sym e)
+      keys = λ u lu. at_set (λ (z : Account). key_at host.keys u ≡ key_of z (budget_at budgets u) (part_at sys u).extra (part_at sys u).period) host.accounts v u a room
+          (λ e. subst (λ (w : ℕ). key_at host.keys w ≡ key_of a (budget_at budgets w) (part_at sys w).extra (part_at sys w).period) (sym e)
           (h.keys v l ∙ same_key (account_at host.accounts v) used (budget_at budgets v) (part_at sys v).extra (part_at sys v).period (omega (arith, more, left)) left)) (h.keys u lu);
-      until = λ u lu. at_set (λ (z : Account). number_at host.until u ≡ end_of z (part_at sys u).period) host.accounts v u a room
-          (λ e. subst (λ (w : ℕ). number_at host.until w ≡ end_of a (part_at sys w).period) (sym e) (h.until v l)) (h.until u lu);
+      until = λ u lu. at_set (λ (z : Account). until_at host.until u ≡ end_of z (part_at sys u).period) host.accounts v u a room
+          (λ e. subst (λ (w : ℕ). until_at host.until w ≡ end_of a (part_at sys w).period) (sym e) (h.until v l)) (h.until u lu);
       on_core = h.on_core;
       named = h.named;
     }

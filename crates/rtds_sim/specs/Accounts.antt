@@ -1,5 +1,5 @@
 -- What is kept of VCPUs and cores between two events.
-use Rattle.std.specs.Prelude.{◌≡◌, ℕ, ◌+◌, ◌*◌, ◌-◌, ◌/◌, ◌%◌, ◌<◌, ◌≤◌, ◌==◌, Bool, true, false, not, ◌&&◌, ◌||◌, nat_lt, if◌then◌else◌, List, length, slice_index_or, Option, Some, None}
+use Rattle.std.specs.Prelude.{◌≡◌, ℕ, ◌+◌, ◌-◌, ◌/◌, ◌%◌, ◌<◌, ◌≤◌, ◌==◌, Bool, true, false, not, ◌&&◌, ◌||◌, nat_lt, if◌then◌else◌, List, length, slice_index_or, Option, Some, None}
 use Rattle.tree_model.specs.declared.place.Place.TheVariants.{Core}
 use Rattle.tree_model.specs.View.{SystemView}
 use Rattle.tree_model.specs.System.{part_at}
@@ -7,13 +7,14 @@ use Rattle.tree_model.specs.Tree.{is_child, budget_at, run_at}
 use Rattle.trace_file.specs.declared.event.Event.{Event}
 use Rattle.trace_file.specs.declared.event.What.TheVariants.{Stop}
 use Rattle.rtds_sim.specs.declared.account.Account.{Account}
-use Rattle.rtds_sim.specs.declared.account.TheConstants.{LEVEL, NO_KEY, NEVER}
+use Rattle.rtds_sim.specs.declared.key.Key.{Key}
 use Rattle.rtds_sim.specs.declared.host.Host.{Host}
 use Rattle.release_file.specs.declared.workload.Wake.{Wake as Row}
 use Rattle.release_file.specs.declared.workload.WakeKind.{WakeKind}
 use Rattle.release_file.specs.declared.workload.WakeKind.TheVariants.{Start, Wake, Block}
 use Rattle.release_file.specs.Workload.{row_at, started_after, blocked_after}
 use Rattle.rtds_sim.specs.Rtds.{period_from, used, goes_first}
+use Rattle.rtds_sim.specs.Keys.{key_at, IsFirstKey}
 use Rattle.rtds_sim.specs.Printed.{core_of, on_at, on_core_at, switch_to}
 
 abbrev pub no_account : Account
@@ -53,16 +54,22 @@ level_of account budget = account.used / budget
 abbrev pub deadline_of : Account → ℕ → ℕ
 deadline_of account period = account.from + period
 
--- a number that is the less the sooner the VCPU goes, and the last one where it is not eligible
-abbrev pub key_of : Account → ℕ → Bool → ℕ → ℕ
+-- what a VCPU goes by, where it is eligible
+abbrev pub key_of : Account → ℕ → Bool → ℕ → Option Key
 key_of account budget extra period =
     if account_eligible account budget extra
-    then level_of account budget * LEVEL + deadline_of account period
-    else NO_KEY
+    then Some (record {
+      level = level_of account budget;
+      deadline = deadline_of account period;
+    })
+    else None
 
 -- the slot at which its period ends, where it is started
-abbrev pub end_of : Account → ℕ → ℕ
-end_of account period = if account.started then deadline_of account period else NEVER
+abbrev pub end_of : Account → ℕ → Option ℕ
+end_of account period = if account.started then Some (deadline_of account period) else None
+
+abbrev pub until_at : List (Option ℕ) → ℕ → Option ℕ
+until_at until v = slice_index_or until v None
 
 abbrev pub number_at : List ℕ → ℕ → ℕ
 number_at numbers i = slice_index_or numbers i 0
@@ -90,16 +97,6 @@ pub record IsChoice (sys : SystemView) (budgets : List ℕ) (accounts : List Acc
   pub named : (v : ℕ) → o ≡ Some v → ranked sys budgets accounts c v ≡ true
   pub first : (u v : ℕ) → o ≡ Some v → u < length sys.parts →
       ranked sys budgets accounts c u ≡ true → ranks_before sys budgets accounts u v ≡ false
-
--- the first VCPU of core c among those below n with the least key, if that is one
-pub record IsFirstKey (sys : SystemView) (keys : List ℕ) (c n key v : ℕ) : Type 0 where
-  pub no_more : key ≤ NO_KEY
-  pub within : key < NO_KEY → v < n
-  pub child : key < NO_KEY → is_child sys (Core c) v ≡ true
-  pub its : key < NO_KEY → number_at keys v ≡ key
-  pub least : (u : ℕ) → u < n → is_child sys (Core c) u ≡ true → key ≤ number_at keys u
-  pub first : (u : ℕ) → key < NO_KEY → u < v → is_child sys (Core c) u ≡ true →
-      key < number_at keys u
 
 -- whether a VCPU, if one is meant, is blocked
 abbrev pub gives_up : List Account → Option ℕ → Bool
@@ -155,14 +152,6 @@ pub record AreBefore (rows : List Row) (k x : ℕ) : Type 0 where
   pub past : (i : ℕ) → i < k → (row_at rows i).at < x
   pub to_come : (i : ℕ) → k ≤ i → i < length rows → x ≤ (row_at rows i).at
 
--- what the least key of a core names
-pub record IsNamed (sys : SystemView) (keys : List ℕ) (c : ℕ) (o : Option ℕ) : Type 0 where
-  pub key : ℕ
-  pub vcpu : ℕ
-  pub first : IsFirstKey sys keys c (length sys.parts) key vcpu
-  pub none : key ≡ NO_KEY → o ≡ None
-  pub some : key < NO_KEY → o ≡ Some vcpu
-
 -- whether a key of core c has changed since the core went to its VCPU
 abbrev pub is_stale : List Bool → ℕ → Bool
 is_stale stale c = slice_index_or stale c false
@@ -187,14 +176,14 @@ pub record IsReady (sys : SystemView) (budgets : List ℕ) (host : Host) : Type 
   pub early : (v : ℕ) → v < length sys.parts → (account_at host.accounts v).from ≤ host.time
   pub few : (v : ℕ) → v < length sys.parts → (account_at host.accounts v).used ≤ host.time
   pub keys : (v : ℕ) → v < length sys.parts →
-      number_at host.keys v ≡ key_of (account_at host.accounts v) (budget_at budgets v)
+      key_at host.keys v ≡ key_of (account_at host.accounts v) (budget_at budgets v)
       (part_at sys v).extra (part_at sys v).period
   pub until : (v : ℕ) → v < length sys.parts →
-      number_at host.until v ≡ end_of (account_at host.accounts v) (part_at sys v).period
+      until_at host.until v ≡ end_of (account_at host.accounts v) (part_at sys v).period
   pub on_core : (c v : ℕ) → c < length sys.cores → holder_at host.holders c ≡ Some v →
       is_child sys (Core c) v ≡ true
   pub named : (c : ℕ) → c < length sys.cores → is_stale host.stale c ≡ false →
-      IsNamed sys host.keys c (holder_at host.holders c)
+      IsFirstKey sys host.keys c (length sys.parts) (holder_at host.holders c)
 
 -- on no core does a period end before the slot that is kept of it
 abbrev pub IsEnd : SystemView → List Account → ℕ → ℕ → Type 0

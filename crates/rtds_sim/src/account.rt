@@ -1,17 +1,8 @@
 ghost use Rattle.std.specs.Prelude.{◌≡◌, ◌≤◌, ◌<◌, ◌+◌, ◌^◌};
-ghost use Rattle.slot_model.specs.declared.task.TheConstants.{LIMIT};
 ghost use Rattle.rtds_sim.specs.Accounts.{no_account, account_eligible, key_of, end_of, level_of, left_of, row_taken};
 
+use crate::key::Key;
 use release_file::{Wake, WakeKind};
-
-/// By how much a level counts more than a deadline in a key.
-pub const LEVEL: u64 = 4_294_967_296;
-
-/// The key of a VCPU that is not eligible.
-pub const NO_KEY: u64 = 18_446_744_073_709_551_615;
-
-/// Past all ends of periods.
-pub const NEVER: u64 = 18_446_744_073_709_551_615;
 
 /// What is kept of a VCPU between two events.
 #[derive(Clone, Copy, Debug, PartialEq, Eq)]
@@ -87,27 +78,29 @@ impl Account {
         self.used / budget
     }
 
-    /// The less it is, the sooner the VCPU goes: by its level and then its deadline.
-    pub fn key(self, budget: u64, extra: bool, period: u64) -> u64
+    /// What it goes by, where it is eligible.
+    pub fn key(self, budget: u64, extra: bool, period: u64) -> Option<Key>
         requires some { 1 ≤ budget }
-        requires used { self.used ≤ LIMIT }
-        requires deadline { self.from + period < LEVEL }
+        requires deadline { self.from + period < 2 ^ 64 }
         ensures { result ≡ key_of self budget extra period }
     {
         if !self.is_eligible(budget, extra) {
-            return NO_KEY;
+            return None;
         }
-        self.level(budget) * LEVEL + (self.from + period)
+        Some(Key {
+            level: self.level(budget),
+            deadline: self.from + period,
+        })
     }
 
     /// The slot at which its period ends, where it is started.
-    pub fn end(self, period: u64) -> u64
+    pub fn end(self, period: u64) -> Option<u64>
         requires { self.from + period < 2 ^ 64 }
         ensures { result ≡ end_of self period }
     {
         if self.started {
-            return self.from + period;
+            return Some(self.from + period);
         }
-        NEVER
+        None
     }
 }

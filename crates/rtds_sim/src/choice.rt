@@ -2,9 +2,11 @@ ghost use Rattle.std.specs.Prelude.{◌≡◌, ℕ, ◌≤◌, ◌<◌, length};
 ghost use Rattle.tree_model.specs.System.{IsSystem};
 ghost use Rattle.tree_model.specs.Tree.{budget_at};
 ghost use Rattle.rtds_sim.specs.Members.{AreMembersFrom};
-ghost use Rattle.rtds_sim.specs.Accounts.{account_at, IsFirstKey};
+ghost use Rattle.rtds_sim.specs.Accounts.{account_at};
+ghost use Rattle.rtds_sim.specs.Keys.{IsFirstKey};
 
-use crate::account::{Account, NO_KEY};
+use crate::account::Account;
+use crate::key::{Key, comes_before};
 use crate::members::Members;
 use tree_model::{MAX_PARTS, Plan, System};
 
@@ -24,26 +26,26 @@ pub fn account_of(accounts: &[Account], v: u32) -> Account
     accounts[v as usize]
 }
 
-/// The least key on core `core`, and the first VCPU that has it.
-pub fn first_key(sys: &System, keys: &[u64], members: &Members, core: u32) -> (u64, u32)
+/// The VCPU of core `core` that goes first, if one of them is eligible.
+pub fn first_key(sys: &System, keys: &[Option<Key>], members: &Members, core: u32) -> Option<u32>
     requires members { AreMembersFrom sys.now 0 members.now }
     requires is_core { core < length sys.now.cores }
     requires room { length sys.now.parts ≤ length keys.now }
-    ensures first { IsFirstKey sys.now keys.now core (length sys.now.parts) result.0 result.1 }
+    ensures first { IsFirstKey sys.now keys.now core (length sys.now.parts) result }
     ensures system { IsSystem sys.now }
 {
     prove!(sys.parts().len() <= MAX_PARTS);
     let end = sys.parts().len() as u32;
-    let mut least = NO_KEY;
-    let mut first = 0;
+    let mut least = None;
+    let mut first = None;
     let mut v = members.first[core as usize];
     while v < end {
         let key = keys[v as usize];
-        if key < least {
+        if comes_before(key, least) {
             least = key;
-            first = v;
+            first = Some(v);
         }
         v = members.next[v as usize];
     }
-    (least, first)
+    first
 }

@@ -4,14 +4,19 @@ ghost use Rattle.tree_model.specs.System.{part_at};
 ghost use Rattle.release_file.specs.Workload.{row_at};
 ghost use Rattle.rtds_sim.specs.Printed.{core_of, event_of, switch_to, gathered, push_some, row_event_at};
 
-use crate::account::{Account, NEVER, NO_KEY};
+use crate::account::Account;
 use crate::choice::{account_of, budget_of, first_key};
+use crate::key::Key;
 use crate::members::Members;
 use crate::moment::moment_of_slot;
 use release_file::{Wake, WakeKind};
+use slot_model::LIMIT;
 use std::alloc::AllocError;
 use trace_file::{Event, What};
 use tree_model::{MAX_CORES, MAX_PARTS, Parent, Plan, System};
+
+/// Past the last slot of each run.
+pub const PAST_ALL: u64 = LIMIT + 1;
 
 /// What the VCPUs and cores have come to.
 #[derive(Drop)]
@@ -21,10 +26,10 @@ pub struct Host {
     /// How many rows of the workload have been taken.
     pub taken: usize,
     pub accounts: [Account; MAX_PARTS],
-    /// The key of each account.
-    pub keys: [u64; MAX_PARTS],
-    /// The slot at which its period ends.
-    pub until: [u64; MAX_PARTS],
+    /// What each VCPU goes by, where it is eligible.
+    pub keys: [Option<Key>; MAX_PARTS],
+    /// The slot at which its period ends, where it is started.
+    pub until: [Option<u64>; MAX_PARTS],
     /// For each core the VCPU that has it.
     pub holders: [Option<u32>; MAX_CORES],
     /// For each core a slot before which no period of its VCPUs ends.
@@ -76,7 +81,7 @@ fn switch_to(holder: Option<u32>, next: Option<u32>) -> Option<What>
 }
 
 /// Whether a core is stale, once a key on it is another.
-fn is_changed(stale: bool, old: u64, new: u64) -> bool
+fn is_changed(stale: bool, old: Option<Key>, new: Option<Key>) -> bool
     ensures stale { result ≡ false → stale ≡ false }
     ensures key { result ≡ false → new ≡ old }
 {
@@ -105,7 +110,8 @@ impl Host {
     ghost use Rattle.rtds_sim.specs.Printed.{core_of, gathered, on_core_at, switch_to};
     ghost use Rattle.tree_model.specs.System.{IsSystem};
     ghost use Rattle.rtds_sim.specs.Members.{AreMembersFrom};
-    ghost use Rattle.rtds_sim.specs.Accounts.{no_account, account_at, holder_at, number_at, row_taken, gone_on, used_more, period_ended, left_of, left_at, gives_up, stop_of, switch_of, IsChoice, IsNamed, IsAccount, AreAccounts, AreBefore, HasRoom, IsReady, IsEnd, AreEnds};
+    ghost use Rattle.rtds_sim.specs.Keys.{IsFirstKey};
+    ghost use Rattle.rtds_sim.specs.Accounts.{no_account, account_at, holder_at, number_at, row_taken, gone_on, used_more, period_ended, left_of, left_at, gives_up, stop_of, switch_of, IsChoice, IsAccount, AreAccounts, AreBefore, HasRoom, IsReady, IsEnd, AreEnds};
 
     /// Before the first slot.
     pub fn new(sys: &System, plan: &Plan) -> Host
@@ -124,10 +130,10 @@ impl Host {
             time: 0,
             taken: 0,
             accounts: [Account::new(); MAX_PARTS],
-            keys: [NO_KEY; MAX_PARTS],
-            until: [NEVER; MAX_PARTS],
+            keys: [None; MAX_PARTS],
+            until: [None; MAX_PARTS],
             holders: [None; MAX_CORES],
-            ends: [NEVER; MAX_CORES],
+            ends: [PAST_ALL; MAX_CORES],
             stale: [true; MAX_CORES],
         }
     }
@@ -329,22 +335,16 @@ impl Host {
     /// The VCPU to which core `core` goes.
     fn choose(&self, sys: &System, plan: &Plan, members: &Members, core: u32) -> Option<u32>
         requires members { AreMembersFrom sys.now 0 members.now }
-        requires plan { IsPlan sys.now plan.now }
         requires ready { IsReady sys.now plan.now self.now }
         requires is_core { core < length sys.now.cores }
-        requires in_limit { self.now.time ≤ LIMIT }
         ensures choice { IsChoice sys.now plan.now self.now.accounts core result }
-        ensures named { IsNamed sys.now self.now.keys core result }
+        ensures named { IsFirstKey sys.now self.now.keys core (length sys.now.parts) result }
     {
         prove!(sys.cores().len() <= MAX_CORES);
         if !self.stale[core as usize] {
             return self.holders[core as usize];
         }
-        let (key, v) = first_key(sys, &self.keys, members, core);
-        if key == NO_KEY {
-            return None;
-        }
-        Some(v)
+        first_key(sys, &self.keys, members, core)
     }
 
     /// Gives each core to the VCPU of the next slot.
@@ -536,7 +536,7 @@ impl Host {
             return;
         }
         let none = sys.parts().len() as u32;
-        let mut end = NEVER;
+        let mut end = PAST_ALL;
         let mut v = members.first[core];
         while v < none {
             end = end.min(self.begin(sys, plan, v));
@@ -545,8 +545,8 @@ impl Host {
         self.ends[core] = end;
     }
 
-    /// Begins the period of VCPU `v` that begins now, if one does. Gives the slot at which its
-    /// period ends.
+    /// Begins the period of VCPU `v` that begins now, if one does. Gives a slot before which its
+    /// period does not end.
     fn begin(&mut self, sys: &System, plan: &Plan, v: u32) -> u64
         requires plan { IsPlan sys.now plan.now }
         requires ready { IsReady sys.now plan.now self.old }
@@ -568,7 +568,7 @@ impl Host {
         ensures taken { self.new.taken ≡ self.old.taken }
         ensures ends { self.new.ends ≡ self.old.ends }
     {
-        let end = self.until[v as usize];
+        let end = self.until[v as usize].unwrap_or(PAST_ALL);
         if end != self.time {
             return end;
         }

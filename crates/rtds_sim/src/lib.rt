@@ -6,6 +6,7 @@ mod account;
 mod choice;
 mod fault;
 mod host;
+mod key;
 mod members;
 mod moment;
 mod simulate;

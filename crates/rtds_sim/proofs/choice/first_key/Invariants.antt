@@ -1,13 +1,14 @@
 use Rattle.std.proofs.Common.{◌≡◌, ◌≤◌, ◌<◌, ◌-◌, true, length}
 use Rattle.tree_model.specs.declared.place.Place.TheVariants.{Core}
 use Rattle.tree_model.specs.Tree.{is_child}
-use Rattle.rtds_sim.specs.Accounts.{IsFirstKey}
+use Rattle.rtds_sim.specs.Keys.{key_of_one, IsFirstKey}
 use Rattle.rtds_sim.proofs.choice.first_key.Given as goal
 
 -- the first of the least keys so far, where v is the core's next VCPU
 abbrev pub invariant-loop-v : goal.invariant-loop-v
 invariant-loop-v l = record {
-  so_far : IsFirstKey l.sys l.keys l.core l.v l.least l.first;
+  so_far : IsFirstKey l.sys l.keys l.core l.v l.first;
+  least : l.least ≡ key_of_one l.keys l.first;
   within : l.v ≤ length l.sys.parts;
   child : l.v < length l.sys.parts → is_child l.sys (Core l.core) l.v ≡ true;
 }
