@@ -1,6 +1,5 @@
 -- Accounts and keys that are set.
-use Rattle.std.proofs.Common.{◌≡◌, ◌≢◌, ℕ, ◌+◌, ◌/◌, ◌<◌, ◌≤◌, nat_lt, not, ◌||◌, if◌then◌else◌, lt-ltb, Bool, true, false, cond, ◌&&◌, ◌==◌, List, length, set, Option, Some, None, refl, sym, ◌∙◌, ap, arith, subst, inl, inr}
-use Rattle.std.proofs.Math.Nat.{div-eq_of_lt}
+use Rattle.std.proofs.Common.{◌≡◌, ◌≢◌, ℕ, ◌+◌, ◌/◌, ◌<◌, ◌≤◌, not, ◌||◌, if◌then◌else◌, Bool, true, false, cond, ◌&&◌, ◌==◌, List, length, set, Option, Some, None, refl, sym, ◌∙◌, ap, arith, subst, inl, inr}
 use Rattle.std.proofs.lemmas.Bool.{cases_eq, cases_Bool, both_ways}
 use Rattle.std.proofs.lemmas.List.{get_or-set_same, get_or-set_other, length-set}
 use Rattle.slot_model.specs.Run.{holds}
@@ -13,9 +12,12 @@ use Rattle.rtds_sim.specs.declared.account.Account.{Account}
 use Rattle.rtds_sim.specs.declared.key.Key.{Key}
 use Rattle.rtds_sim.specs.declared.host.Host.{Host}
 use Rattle.rtds_sim.specs.Printed.{core_of}
+use Rattle.slot_model.proofs.FirstRuns.{none_some, same_some}
 use Rattle.rtds_sim.proofs.Entering.{child_core}
+use Rattle.rtds_sim.proofs.Keys.{one_way}
+use Rattle.rtds_sim.proofs.Steady.{same_quotient, lt_same}
 use Rattle.rtds_sim.specs.Keys.{comes_before, key_at, key_of_one, IsFirstKey}
-use Rattle.rtds_sim.specs.Accounts.{no_account, account_at, holder_at, until_at, account_eligible, deadline_of, key_of, end_of, is_stale, gone_on, used_more, period_ended, IsReady}
+use Rattle.rtds_sim.specs.Accounts.{no_account, account_at, holder_at, until_at, account_eligible, level_of, left_of, deadline_of, key_of, end_of, is_stale, gone_on, used_more, period_ended, IsReady}
 
 -- one account is set
 pub account_here : (accounts : List Account) (v : ℕ) (a : Account) → v < length accounts → account_at (set accounts v a) v ≡ a
@@ -57,11 +59,43 @@ first_other sys keys others c n o same h = record {
     one None its = refl
     one (Some v) its = its v refl
 
+key_kept : (keys : List (Option Key)) (v u : ℕ) (key : Option Key) → v < length keys → key ≡ key_at keys v → key_at (set keys v key) u ≡ key_at keys u
+key_kept keys v u key l same = elim (cases_eq u v) [
+  | inl e ↦ ap (key_at (set keys v key)) e ∙ (key_here keys v key l ∙ (same ∙ sym (ap (key_at keys) e)))
+  | inr ne ↦ key_there keys v u key ne
+]
+
+-- nor does one that is set, where it is as it was, or the VCPU that goes first goes before it
+first_set : (sys : SystemView) (keys : List (Option Key)) (c n v : ℕ) (key : Option Key) (o : Option ℕ) → v < length keys → (((u : ℕ) → o ≡ Some u → u ≡ v) → key ≡ key_at keys v)
+    → ((u : ℕ) → o ≡ Some u → u ≢ v → comes_before (key_at keys u) key ≡ true) → IsFirstKey sys keys c n o → IsFirstKey sys (set keys v key) c n o
+first_set sys keys c n v key None l own other h = first_other sys keys (set keys v key) c n None (λ u on. key_kept keys v u key l (own (λ w q. absurd (none_some None w refl q)))) h
+first_set sys keys c n v key (Some w) l own other h = elim (cases_eq w v) [
+  | inl e ↦ first_other sys keys (set keys v key) c n (Some w) (λ u on. key_kept keys v u key l (own (λ z q. sym (same_some w z q) ∙ e))) h
+  | inr ne ↦
+      let its : key_at (set keys v key) w ≡ key_at keys w = key_there keys v w key ne in
+      let before : comes_before (key_at keys w) key ≡ true = other w refl ne in
+      record {
+        within = h.within;
+        child = h.child;
+        eligible = λ z q. subst (λ (y : ℕ). comes_before (key_at (set keys v key) y) None ≡ true) (same_some w z q) (ap (λ (k : Option Key). comes_before k None) its ∙ h.eligible w refl);
+        least = λ u lu on. ap (comes_before (key_at (set keys v key) u)) its ∙ elim (cases_eq u v) [
+          | inl e ↦ ap (λ (k : Option Key). comes_before k (key_at keys w)) (ap (key_at (set keys v key)) e ∙ key_here keys v key l) ∙ one_way (key_at keys w) key before
+          | inr other_one ↦ ap (λ (k : Option Key). comes_before k (key_at keys w)) (key_there keys v u key other_one) ∙ h.least u lu on
+        ];
+        first = λ u z q lu on. subst (λ (y : ℕ). comes_before (key_at (set keys v key) y) (key_at (set keys v key) u) ≡ true) (same_some w z q)
+            (ap (λ (k : Option Key). comes_before k (key_at (set keys v key) u)) its ∙ elim (cases_eq u v) [
+              | inl e ↦ ap (comes_before (key_at keys w)) (ap (key_at (set keys v key)) e ∙ key_here keys v key l) ∙ before
+              | inr other_one ↦ ap (comes_before (key_at keys w)) (key_there keys v u key other_one) ∙ h.first u w refl (omega (arith, lu, same_some w z q)) on
+            ]);
+      }
+]
+
 -- an account and its key are set
 pub ready_one : (sys : SystemView) (budgets : List ℕ) (host : Host) (v : ℕ) (a : Account) (key : Option Key) (end : Option ℕ) (c : ℕ) (b : Bool) → v < length sys.parts → c < length host.stale → IsReady sys budgets host → a.from ≤ host.time → a.used ≤ host.time → key ≡ key_of a (budget_at budgets v) (part_at sys v).extra (part_at sys v).period → end ≡ end_of a (part_at sys v).period → c ≡ core_of (part_at sys v).parent
-    → (b ≡ false → is_stale host.stale c ≡ false) → (b ≡ false → key ≡ key_at host.keys v)
+    → (b ≡ false → is_stale host.stale c ≡ false) → (b ≡ false → ((u : ℕ) → holder_at host.holders c ≡ Some u → u ≡ v) → key ≡ key_at host.keys v)
+    → ((u : ℕ) → b ≡ false → holder_at host.holders c ≡ Some u → u ≢ v → comes_before (key_at host.keys u) key ≡ true)
     → IsReady sys budgets (record host { accounts = set host.accounts v a; keys = set host.keys v key; until = set host.until v end; stale = set host.stale c b })
-ready_one sys budgets host v a key end c b l lc h early few is ends its_core fresh_before same_key = record {
+ready_one sys budgets host v a key end c b l lc h early few is ends its_core fresh_before own other = record {
   room = record {
     all_vcpus = length-set host.accounts v a ∙ h.room.all_vcpus;
     all_keys = length-set host.keys v key ∙ h.room.all_keys;
@@ -86,10 +120,14 @@ ready_one sys budgets host v a key end c b l lc h early few is ends its_core fre
     | inr ne ↦ until_there host.until v u end ne ∙ (h.until u lu ∙ sym (ap (λ (z : Account). end_of z (part_at sys u).period) (account_there host.accounts v u a ne)))
   ];
   on_core = h.on_core;
-  named = λ d ld fresh. first_other sys host.keys (set host.keys v key) d (length sys.parts) (holder_at host.holders d) (λ u on. elim (cases_eq u v) [
-    | inl e ↦ ap (key_at (set host.keys v key)) e ∙ (key_here host.keys v key (omega (arith, l, h.room.all_keys, h.room.few_parts)) ∙ (same_key (here d fresh (sym (child_core sys d u on) ∙ (ap (λ (z : ℕ). core_of (part_at sys z).parent) e ∙ sym its_core))) ∙ sym (ap (key_at host.keys) e)))
-    | inr ne ↦ key_there host.keys v u key ne
-  ]) (h.named d ld (before d fresh));
+  named = λ d ld fresh. elim (cases_eq d c) [
+    | inl e ↦ first_set sys host.keys d (length sys.parts) v key (holder_at host.holders d) (omega (arith, l, h.room.all_keys, h.room.few_parts))
+        (λ its. own (here d fresh e) (λ u q. its u (ap (holder_at host.holders) e ∙ q)))
+        (λ u q ne. other u (here d fresh e) (sym (ap (holder_at host.holders) e) ∙ q) ne)
+        (h.named d ld (before d fresh))
+    | inr ne ↦ first_other sys host.keys (set host.keys v key) d (length sys.parts) (holder_at host.holders d)
+        (λ u on. key_there host.keys v u key (λ q. ne (sym (child_core sys d u on) ∙ (ap (λ (z : ℕ). core_of (part_at sys z).parent) q ∙ sym its_core)))) (h.named d ld (before d fresh))
+  ];
 }
   where
     room : v < length host.accounts
@@ -104,21 +142,27 @@ ready_one sys budgets host v a key end c b l lc h early few is ends its_core fre
       | inr ne ↦ sym (get_or-set_other host.stale c d b false ne) ∙ fresh
     ]
 
--- an account within its budget goes on, whose key stays
-same_key : (a : Account) (used budget : ℕ) (extra : Bool) (period : ℕ) → a.used < budget → used < budget → key_of a budget extra period ≡ key_of (record a { used = used }) budget extra period
-same_key a used budget extra period l m =
-    let level : a.used / budget ≡ used / budget = div-eq_of_lt l ∙ sym (div-eq_of_lt m) in
-    let left : nat_lt a.used budget ≡ nat_lt used budget = lt-ltb a.used budget l ∙ sym (lt-ltb used budget m) in
-    ap (λ (g : ℕ). if account_eligible a budget extra then Some (key g) else None) level
-    ∙ ap (λ (b : Bool). if (a.started && not a.blocked) && (b || extra) then Some (key (used / budget)) else None) left
+-- an account goes on, whose key stays until it has had its budget once more
+same_key : (a : Account) (slots budget : ℕ) (extra : Bool) (period : ℕ) → 1 ≤ budget → slots < left_of a budget → key_of a budget extra period ≡ key_of (record a { used = a.used + slots }) budget extra period
+same_key a slots budget extra period some l =
+    ap (λ (g : ℕ). if account_eligible a budget extra then Some (key g) else None) (sym (same_quotient a.used slots budget some l))
+    ∙ ap (λ (b : Bool). if (a.started && not a.blocked) && (b || extra) then Some (key ((a.used + slots) / budget)) else None) (sym (lt_same a.used slots budget some l))
   where
     key : ℕ → Key
     key g = record { level = g; deadline = deadline_of a period }
 
-pub ready_few : (sys : SystemView) (budgets : List ℕ) (host : Host) (v used : ℕ) → v < length sys.parts → IsReady sys budgets host → (account_at host.accounts v).used ≤ used → used ≤ host.time → used < budget_at budgets v
-    → IsReady sys budgets (record host { accounts = set host.accounts v (record (account_at host.accounts v) { used = used }) })
-ready_few sys budgets host v used l h more few left =
-    let a : Account = record (account_at host.accounts v) { used = used } in
+-- where a VCPU has a key, the key tells its level
+pub level_told : (sys : SystemView) (budgets : List ℕ) (host : Host) (v : ℕ) (key : Key) → v < length sys.parts → IsReady sys budgets host → key_at host.keys v ≡ Some key → key.level ≡ level_of (account_at host.accounts v) (budget_at budgets v)
+level_told sys budgets host v key l h is = told (account_eligible (account_at host.accounts v) (budget_at budgets v) (part_at sys v).extra) _ key (sym (h.keys v l) ∙ is)
+  where
+    told : (b : Bool) (k m : Key) → (if b then Some k else None) ≡ Some m → m.level ≡ k.level
+    told true k m e = cc e
+    told false k m e = absurd (cc e)
+
+pub ready_few : (sys : SystemView) (budgets : List ℕ) (host : Host) (v slots : ℕ) → v < length sys.parts → 1 ≤ budget_at budgets v → IsReady sys budgets host → (account_at host.accounts v).used + slots ≤ host.time → slots < left_of (account_at host.accounts v) (budget_at budgets v)
+    → IsReady sys budgets (record host { accounts = set host.accounts v (record (account_at host.accounts v) { used = (account_at host.accounts v).used + slots }) })
+ready_few sys budgets host v slots l some h few left =
+    let a : Account = record (account_at host.accounts v) { used = (account_at host.accounts v).used + slots } in
     let room : v < length host.accounts = omega (arith, l, h.room.all_vcpus, h.room.few_parts) in
     record {
       room = record {
@@ -136,7 +180,7 @@ ready_few sys budgets host v used l h more few left =
       few = λ u lu. at_set (λ (z : Account). z.used ≤ host.time) host.accounts v u a room (λ e. few) (h.few u lu);
       keys = λ u lu. at_set (λ (z : Account). key_at host.keys u ≡ key_of z (budget_at budgets u) (part_at sys u).extra (part_at sys u).period) host.accounts v u a room
           (λ e. subst (λ (w : ℕ). key_at host.keys w ≡ key_of a (budget_at budgets w) (part_at sys w).extra (part_at sys w).period) (sym e)
-          (h.keys v l ∙ same_key (account_at host.accounts v) used (budget_at budgets v) (part_at sys v).extra (part_at sys v).period (omega (arith, more, left)) left)) (h.keys u lu);
+          (h.keys v l ∙ same_key (account_at host.accounts v) slots (budget_at budgets v) (part_at sys v).extra (part_at sys v).period some left)) (h.keys u lu);
       until = λ u lu. at_set (λ (z : Account). until_at host.until u ≡ end_of z (part_at sys u).period) host.accounts v u a room
           (λ e. subst (λ (w : ℕ). until_at host.until w ≡ end_of a (part_at sys w).period) (sym e) (h.until v l)) (h.until u lu);
       on_core = h.on_core;

@@ -40,12 +40,12 @@ count_alike p a x (suc m) false l h =
     none false b e = refl
 
 -- budgets are had as often, until one is had once more
-same_quotient : (g m b : ℕ) → 1 ≤ b → m < b - g % b → (g + m) / b ≡ g / b
+pub same_quotient : (g m b : ℕ) → 1 ≤ b → m < b - g % b → (g + m) / b ≡ g / b
 same_quotient g m b some l =
     let e : g + m ≡ (g / b) * b + (g % b + m) = omega arith in
     ap (λ (z : ℕ). z / b) e ∙ div-mul-add (g / b) b (g % b + m) (omega arith)
 
-lt_same : (g m b : ℕ) → 1 ≤ b → m < b - g % b → nat_lt (g + m) b ≡ nat_lt g b
+pub lt_same : (g m b : ℕ) → 1 ≤ b → m < b - g % b → nat_lt (g + m) b ≡ nat_lt g b
 lt_same g m b some l = elim (cases_lt g b) [
   | inl h ↦
       let z : g / b ≡ 0 = div-eq_of_lt h in

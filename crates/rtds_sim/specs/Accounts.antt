@@ -152,7 +152,7 @@ pub record AreBefore (rows : List Row) (k x : ℕ) : Type 0 where
   pub past : (i : ℕ) → i < k → (row_at rows i).at < x
   pub to_come : (i : ℕ) → k ≤ i → i < length rows → x ≤ (row_at rows i).at
 
--- whether a key of core c has changed since the core went to its VCPU
+-- whether the VCPU of core c that goes first may be another than the one that has it
 abbrev pub is_stale : List Bool → ℕ → Bool
 is_stale stale c = slice_index_or stale c false
 
@@ -170,7 +170,7 @@ pub record HasRoom (sys : SystemView) (host : Host) : Type 0 where
       v < length sys.parts
 
 -- the keys and the ends of periods are those of the accounts, whose numbers are small, and what has
--- a core stands on it, and is what its keys name, where none has changed
+-- a core stands on it, and goes first on it where the core is not stale
 pub record IsReady (sys : SystemView) (budgets : List ℕ) (host : Host) : Type 0 where
   pub room : HasRoom sys host
   pub early : (v : ℕ) → v < length sys.parts → (account_at host.accounts v).from ≤ host.time

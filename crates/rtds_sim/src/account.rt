@@ -56,15 +56,14 @@ impl Account {
         self.started && !self.blocked && (self.used < budget || extra)
     }
 
-    /// The slots until it has had its budget once more.
-    pub fn left(self, budget: u64) -> u64
-        requires { 1 ≤ budget }
-        ensures { result ≡ left_of self budget }
+    /// The slots until it has had its budget once more, where this is its level.
+    pub fn left(self, budget: u64, level: u64) -> u64
+        requires some { 1 ≤ budget }
+        requires level { level ≡ level_of self budget }
+        ensures value { result ≡ left_of self budget }
+        ensures some { 1 ≤ result }
     {
-        if self.used < budget {
-            return budget - self.used;
-        }
-        budget - self.used % budget
+        budget - (self.used - level * budget)
     }
 
     /// How often it has had its budget.

@@ -1,12 +1,13 @@
-ghost use Rattle.std.specs.Prelude.{◌≡◌, ℕ, ◌≤◌, ◌<◌, ◌+◌, ◌++◌, ◌^◌, Some, false, length, OnOk};
+ghost use Rattle.std.specs.Prelude.{◌≡◌, ◌≢◌, ℕ, ◌≤◌, ◌<◌, ◌+◌, ◌++◌, ◌^◌, Some, true, false, length, OnOk};
 ghost use Rattle.slot_model.specs.declared.task.TheConstants.{LIMIT};
 ghost use Rattle.tree_model.specs.System.{part_at};
 ghost use Rattle.release_file.specs.Workload.{row_at};
+ghost use Rattle.rtds_sim.specs.Keys.{comes_before, key_at};
 ghost use Rattle.rtds_sim.specs.Printed.{core_of, event_of, switch_to, gathered, push_some, row_event_at};
 
 use crate::account::Account;
 use crate::choice::{account_of, budget_of, first_key};
-use crate::key::Key;
+use crate::key::{Key, comes_before};
 use crate::members::Members;
 use crate::moment::moment_of_slot;
 use release_file::{Wake, WakeKind};
@@ -34,7 +35,7 @@ pub struct Host {
     pub holders: [Option<u32>; MAX_CORES],
     /// For each core a slot before which no period of its VCPUs ends.
     pub ends: [u64; MAX_CORES],
-    /// Whether a key on the core has changed since it went to its VCPU.
+    /// Whether the VCPU of the core that goes first may be another than the one that has it.
     pub stale: [bool; MAX_CORES],
 }
 
@@ -80,12 +81,22 @@ fn switch_to(holder: Option<u32>, next: Option<u32>) -> Option<What>
     }
 }
 
-/// Whether a core is stale, once a key on it is another.
-fn is_changed(stale: bool, old: Option<Key>, new: Option<Key>) -> bool
-    ensures stale { result ≡ false → stale ≡ false }
-    ensures key { result ≡ false → new ≡ old }
+/// Whether the VCPU of a core, if it has one, may not be the one that goes first, once VCPU `v`
+/// goes by `key`.
+fn may_leave(keys: &[Option<Key>], holder: Option<u32>, v: u32, key: Option<Key>) -> bool
+    requires is_vcpu { v < length keys.now }
+    requires holder { (u : ℕ) → holder ≡ Some u → u < length keys.now }
+    ensures own { result ≡ false → ((u : ℕ) → holder ≡ Some u → u ≡ v)
+        → key ≡ key_at keys.now v }
+    ensures other { (u : ℕ) → result ≡ false → holder ≡ Some u → u ≢ v
+        → comes_before (key_at keys.now u) key ≡ true }
 {
-    stale || new != old
+    if let Some(u) = holder {
+        if u != v {
+            return !comes_before(keys[u as usize], key);
+        }
+    }
+    key != keys[v as usize]
 }
 
 /// Row `i` of a workload.
@@ -110,8 +121,8 @@ impl Host {
     ghost use Rattle.rtds_sim.specs.Printed.{core_of, gathered, on_core_at, switch_to};
     ghost use Rattle.tree_model.specs.System.{IsSystem};
     ghost use Rattle.rtds_sim.specs.Members.{AreMembersFrom};
-    ghost use Rattle.rtds_sim.specs.Keys.{IsFirstKey};
-    ghost use Rattle.rtds_sim.specs.Accounts.{no_account, account_at, holder_at, number_at, row_taken, gone_on, used_more, period_ended, left_of, left_at, gives_up, stop_of, switch_of, IsChoice, IsAccount, AreAccounts, AreBefore, HasRoom, IsReady, IsEnd, AreEnds};
+    ghost use Rattle.rtds_sim.specs.Keys.{comes_before, key_at, IsFirstKey};
+    ghost use Rattle.rtds_sim.specs.Accounts.{no_account, account_at, holder_at, is_stale, number_at, row_taken, gone_on, used_more, period_ended, left_of, left_at, gives_up, stop_of, switch_of, IsChoice, IsAccount, AreAccounts, AreBefore, HasRoom, IsReady, IsEnd, AreEnds};
 
     /// Before the first slot.
     pub fn new(sys: &System, plan: &Plan) -> Host
@@ -138,6 +149,27 @@ impl Host {
         }
     }
 
+    /// Whether the VCPU of core `core` may not be the one that goes first, once VCPU `v` goes by
+    /// `key`.
+    fn is_stale_with(&self, core: usize, v: u32, key: Option<Key>) -> bool
+        requires is_core { core < length self.now.stale }
+        requires has_holder { core < length self.now.holders }
+        requires is_vcpu { v < length self.now.keys }
+        requires holder { (u : ℕ) → holder_at self.now.holders core ≡ Some u
+            → u < length self.now.keys }
+        ensures stale { result ≡ false → is_stale self.now.stale core ≡ false }
+        ensures own { result ≡ false
+            → ((u : ℕ) → holder_at self.now.holders core ≡ Some u → u ≡ v)
+            → key ≡ key_at self.now.keys v }
+        ensures other { (u : ℕ) → result ≡ false → holder_at self.now.holders core ≡ Some u
+            → u ≢ v → comes_before (key_at self.now.keys u) key ≡ true }
+    {
+        if self.stale[core] {
+            return true;
+        }
+        may_leave(&self.keys, self.holders[core], v, key)
+    }
+
     /// Sets an account, its key and the end of its period.
     fn set(&mut self, sys: &System, plan: &Plan, v: u32, account: Account)
         requires plan { IsPlan sys.now plan.now }
@@ -157,7 +189,7 @@ impl Host {
         let key = account.key(budget_of(plan, v), part.extra(), part.period());
         let end = account.end(part.period());
         let core = core_of(sys, v) as usize;
-        let stale = is_changed(self.stale[core], self.keys[v as usize], key);
+        let stale = self.is_stale_with(core, v, key);
         self.accounts[v as usize] = account;
         self.keys[v as usize] = key;
         self.until[v as usize] = end;
@@ -385,7 +417,7 @@ impl Host {
     /// its budget once more.
     pub fn next_slot(&self, sys: &System, plan: &Plan, rows: &[Wake], slots: u64) -> u64
         requires plan { IsPlan sys.now plan.now }
-        requires room { HasRoom sys.now self.now }
+        requires ready { IsReady sys.now plan.now self.now }
         requires in_limit { self.now.time ≤ LIMIT }
         ensures in_slots { result ≤ slots }
         ensures row { self.now.taken < length rows.now
@@ -426,22 +458,37 @@ impl Host {
         slots
     }
 
-    /// The slot at which the VCPU of core `core` has had its budget once more, and `slots` where
-    /// none has the core.
+    /// A slot up to which the VCPU of core `core` has not had its budget once more, and `slots`
+    /// where none has the core.
     fn budget_end(&self, sys: &System, plan: &Plan, core: usize, slots: u64) -> u64
         requires plan { IsPlan sys.now plan.now }
-        requires room { HasRoom sys.now self.now }
+        requires ready { IsReady sys.now plan.now self.now }
         requires is_core { core < length sys.now.cores }
         requires in_limit { self.now.time ≤ LIMIT }
         requires system { IsSystem sys.now }
         ensures budget { (v : ℕ) → holder_at self.now.holders core ≡ Some v
             → result
-            ≡ self.now.time + left_of (account_at self.now.accounts v) (budget_at plan.now v) }
+            ≤ self.now.time + left_of (account_at self.now.accounts v) (budget_at plan.now v) }
         ensures later { self.now.time < slots → self.now.time < result }
     {
         match self.holders[core] {
-            Some(v) => self.time + account_of(&self.accounts, v).left(budget_of(plan, v)),
+            Some(v) => self.time + self.left(sys, plan, v),
             None => slots,
+        }
+    }
+
+    /// The slots until VCPU `v` has had its budget once more, and one where it is not eligible.
+    fn left(&self, sys: &System, plan: &Plan, v: u32) -> u64
+        requires plan { IsPlan sys.now plan.now }
+        requires ready { IsReady sys.now plan.now self.now }
+        requires is_part { v < length sys.now.parts }
+        ensures within { result
+            ≤ left_of (account_at self.now.accounts v) (budget_at plan.now v) }
+        ensures some { 1 ≤ result }
+    {
+        match self.keys[v as usize] {
+            Some(key) => account_of(&self.accounts, v).left(budget_of(plan, v), key.level),
+            None => 1,
         }
     }
 
@@ -498,7 +545,7 @@ impl Host {
             let account = account_of(&self.accounts, v);
             let used = account.used + slots;
             let account = Account { used, ..account };
-            if used < budget_of(plan, v) {
+            if slots < self.left(sys, plan, v) {
                 self.accounts[v as usize] = account;
                 return;
             }
