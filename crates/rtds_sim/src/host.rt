@@ -118,7 +118,8 @@ impl Host {
     ghost use Rattle.tree_model.specs.Plans.{IsPlan};
     ghost use Rattle.release_file.specs.declared.workload.WakeKind.TheVariants.{Start};
     ghost use Rattle.release_file.specs.Workload.{row_at, IsWorkload};
-    ghost use Rattle.rtds_sim.specs.Printed.{core_of, gathered, on_core_at, switch_to};
+    ghost use Rattle.trace_file.specs.declared.event.What.TheVariants.{Stop};
+    ghost use Rattle.rtds_sim.specs.Printed.{core_of, gathered, on_at, on_core_at, switch_to};
     ghost use Rattle.tree_model.specs.System.{IsSystem};
     ghost use Rattle.rtds_sim.specs.Members.{AreMembersFrom};
     ghost use Rattle.rtds_sim.specs.Keys.{comes_before, key_at, IsFirstKey};
@@ -285,36 +286,17 @@ impl Host {
         }
     }
 
-    /// The VCPU that still has core `core`, if its VCPU gives it up where it blocks.
-    fn holder_left(&self, core: usize) -> Option<u32>
-        requires is_core { core < length self.now.holders }
-        requires is_part { (v : ℕ) → holder_at self.now.holders core ≡ Some v
-            → v < length self.now.accounts }
-        ensures { result ≡ left_at self.now.accounts self.now.holders core }
-    {
-        if self.gives_up(core) {
-            return None;
-        }
-        self.holders[core]
-    }
-
-    /// What is told where the VCPU of core `core` blocks.
-    fn stop_event(&self, core: usize) -> Option<Event>
-        requires is_core { core < length self.now.holders }
+    /// What is told where core `core` stops.
+    fn stop_event(&self, core: usize) -> Event
         requires few { core < 64 }
-        requires is_part { (v : ℕ) → holder_at self.now.holders core ≡ Some v
-            → v < length self.now.accounts }
         requires in_limit { self.now.time ≤ LIMIT }
-        ensures { result ≡ stop_of self.now core }
+        ensures { result ≡ on_at core self.now.time Stop }
     {
-        if self.gives_up(core) {
-            return Some(Event {
-                at: moment_of_slot(self.time),
-                core: core as u32,
-                what: What::Stop,
-            });
+        Event {
+            at: moment_of_slot(self.time),
+            core: core as u32,
+            what: What::Stop,
         }
-        None
     }
 
     /// What is told where core `core` goes to `next`.
@@ -358,8 +340,10 @@ impl Host {
         ensures time { self.new.time ≡ self.old.time }
     {
         for c in 0..sys.cores().len() {
-            push_some(events, self.stop_event(c))?;
-            self.holders[c] = self.holder_left(c);
+            if self.gives_up(c) {
+                events.push(self.stop_event(c))?;
+                self.holders[c] = None;
+            }
         }
         Ok(())
     }
