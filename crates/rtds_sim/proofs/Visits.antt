@@ -39,7 +39,7 @@ printed_on sys rows runs a (suc b) l h = elim (cases_eq a (suc b)) [
 ]
 
 -- a core that keeps its VCPU tells nothing
-switch_none : (o : Option ℕ) → switch_to o o ≡ None
+pub switch_none : (o : Option ℕ) → switch_to o o ≡ None
 switch_none None = refl
 switch_none (Some v) = ap (λ (b : Bool). cond b None (Some (Run v))) (eq-eqb v v refl)
 

@@ -348,21 +348,6 @@ impl Host {
         Ok(())
     }
 
-    /// The VCPU to which core `core` goes.
-    fn choose(&self, sys: &System, plan: &Plan, members: &Members, core: u32) -> Option<u32>
-        requires members { AreMembersFrom sys.now 0 members.now }
-        requires ready { IsReady sys.now plan.now self.now }
-        requires is_core { core < length sys.now.cores }
-        ensures choice { IsChoice sys.now plan.now self.now.accounts core result }
-        ensures named { IsFirstKey sys.now self.now.keys core (length sys.now.parts) result }
-    {
-        prove!(sys.cores().len() <= MAX_CORES);
-        if !self.stale[core as usize] {
-            return self.holders[core as usize];
-        }
-        first_key(sys, &self.keys, members, core)
-    }
-
     /// Gives each core to the VCPU of the next slot.
     pub fn switch_all(
         &mut self,
@@ -389,10 +374,12 @@ impl Host {
         ensures time { self.new.time ≡ self.old.time }
     {
         for c in 0..sys.cores().len() {
-            let next = self.choose(sys, plan, members, c as u32);
-            push_some(events, self.switch_event(c, next))?;
-            self.holders[c] = next;
-            self.stale[c] = false;
+            if self.stale[c] {
+                let next = first_key(sys, &self.keys, members, c as u32);
+                push_some(events, self.switch_event(c, next))?;
+                self.holders[c] = next;
+                self.stale[c] = false;
+            }
         }
         Ok(())
     }
