@@ -64,13 +64,6 @@ cores-many n = length-map-range_with_len host_core 0 (cores_for n)
 pub guests-many : (n : ℕ) → length (bulk_host n).parts ≡ n
 guests-many n = length-map-range_with_len guest_at 0 n
 
--- the names of the host's nodes: those of the cores and then those of the guests
-core_names : ℕ → List (List ℕ)
-core_names n = map (λ (c : CoreView). c.name) (bulk_host n).cores
-
-guest_names : ℕ → List (List ℕ)
-guest_names n = map (λ (p : PartView). p.name) (bulk_host n).parts
-
 name_of_core : (n i : ℕ) (d : List ℕ) → i < cores_for n → get_or (node_names (bulk_host n)) i d ≡ codes "c" ++ decimal i
 name_of_core n i d l =
     let cs : List (List ℕ) = map (λ (c : CoreView). c.name) (bulk_host n).cores in

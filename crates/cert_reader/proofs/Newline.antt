@@ -39,9 +39,6 @@ record SameBehind (t : Token) (r u : List ℕ) : Type 0 where
   left : ends t ≡ true → ends_word r ≡ true
   right : ends t ≡ true → ends_word u ≡ true
 
-word_then : (t : Token) (r u : List ℕ) → ends_word r ≡ true → ends_word u ≡ true → lex between r ≡ lex between u → token (cond (ends_word r) t bad) ∷ lex between r ≡ token (cond (ends_word u) t bad) ∷ lex between u
-word_then t r u l m e = rw (l, m, e)
-
 token_same : (t : Token) (r u : List ℕ) → IsPrintable t → SameBehind t r u → lex between (token_text t ++ r) ≡ lex between (token_text t ++ u)
 unfolding lex word
 token_same begin_object r u h s = ap (λ l. token begin_object ∷ l) s.lexes

@@ -4,7 +4,6 @@ use Rattle.std.proofs.lemmas.Bool.{cases_lt}
 use Rattle.std.proofs.lemmas.List.{get_or_append_left, get_or_push, length_push}
 use Rattle.slot_model.specs.Task.{SporadicTask}
 use Rattle.slot_model.specs.Bound.{IsHit, IsShortTask, AllHit}
-use Rattle.certificate.specs.Made.{AreLeastHits}
 
 abbrev pub IsLeastHit : (ℕ → ℕ → Bool) → List SporadicTask → (ℕ → ℕ) → ℕ → ℕ → Type 0
 IsLeastHit above tasks bound i t = IsHit above tasks bound i t × ((u : ℕ) → u < t → IsHit above tasks bound i u → ⊥)
@@ -22,9 +21,6 @@ has_hit above tasks bound i None all l exact = let hit = all i l in absurd (omeg
 pub least_of : (above : ℕ → ℕ → Bool) (tasks : List SporadicTask) (bound : ℕ → ℕ) (i : ℕ) (answer : Option ℕ) (t : ℕ) → answer ≡ Some t → MatchOption answer (IsShortTask above tasks bound i) (IsLeastHit above tasks bound i) → IsLeastHit above tasks bound i t
 least_of above tasks bound i answer t is exact = subst (λ (o : Option ℕ). MatchOption o (IsShortTask above tasks bound i) (IsLeastHit above tasks bound i)) is exact
 
-pub hits_none : (above : ℕ → ℕ → Bool) (tasks : List SporadicTask) (bound : ℕ → ℕ) → HitsTo above tasks bound [] 0
-hits_none above tasks bound = record { long = refl; each = λ i l. absurd (omega arith) }
-
 pub hits_more : (above : ℕ → ℕ → Bool) (tasks : List SporadicTask) (bound : ℕ → ℕ) (hits : List ℕ) (n t : ℕ) → HitsTo above tasks bound hits n → IsLeastHit above tasks bound n t → HitsTo above tasks bound (hits ++ t ∷ []) (n + 1)
 hits_more above tasks bound hits n t before least = record {
   long = omega (arith, length_push hits t, before.long);
@@ -35,6 +31,3 @@ hits_more above tasks bound hits n t before least = record {
         subst (λ (j : ℕ). IsLeastHit above tasks bound j (get_or (hits ++ t ∷ []) j 0)) (sym same) (subst (λ (x : ℕ). IsLeastHit above tasks bound n x) (sym (get_or_push hits t 0 n (omega (arith, before.long)))) least)
   ];
 }
-
-pub hits_all : (above : ℕ → ℕ → Bool) (tasks : List SporadicTask) (bound : ℕ → ℕ) (hits : List ℕ) (n : ℕ) → n ≡ length tasks → HitsTo above tasks bound hits n → AreLeastHits above tasks bound hits
-hits_all above tasks bound hits n e to = record { one_each = omega (arith, to.long, e); each = λ i l. (to.each i (omega (arith, e))).0; least = λ i u l m hit. (to.each i (omega (arith, e))).1 u m hit }

@@ -12,7 +12,7 @@ use Rattle.tree_model.specs.declared.place.Place.TheVariants.{Core, Part}
 use Rattle.tree_model.specs.CertificateView.{NodeView}
 use Rattle.tree_model.specs.View.{PartView, SystemView}
 use Rattle.tree_model.specs.System.{IsSystem, core_at, part_at}
-use Rattle.tree_model.specs.Tree.{core_bound, core_cycle, budget_at, node_tasks, node_sched, given_budget, core_budget, node_cycle, node_bound}
+use Rattle.tree_model.specs.Tree.{core_bound, core_cycle, budget_at, node_tasks, node_sched, given_budget, node_cycle, node_bound}
 use Rattle.tree_model.specs.Admission.{NodePasses, Admitted, BudgetStands}
 use Rattle.tree_model.proofs.InRange.{admitted_in_period}
 use Rattle.cert_reader.specs.Proves.{no_node, node_at, nth_place, AreNodes, IsBudget, budgets_of}
@@ -54,20 +54,7 @@ part_made sys is budgets admitted q h node place period budget computed pass lea
       least = least;
     })
 
-pub core_made : (sys : SystemView) (budgets : List ℕ) (c : ℕ) (node : NodeView) → node.place ≡ Core c → node.period ≡ core_cycle (core_at sys c).supply → node.budget ≡ core_budget (core_at sys c).supply → node.computed ≡ false
-    → ListsPass (core_at sys c).sched (node_tasks sys budgets (Core c)) (core_bound (core_at sys c).supply) (core_cycle (core_at sys c).supply) node.points node.hits → node.witness ≡ None → node.falls ≡ [] → IsMadeAt sys budgets (Core c) node
-core_made sys budgets c node place period budget given pass no_witness no_falls =
-    made_for sys budgets node (Core c) place (record {
-      period = period;
-      budget = (given, budget);
-      pass = pass;
-      least = subst (λ (b : Bool). ListsLeast b (core_at sys c).sched (node_tasks sys budgets (Core c)) node.period node.budget node.witness node.falls) (sym given) (no_witness, no_falls);
-    })
-
--- node after node
-pub none_made : (sys : SystemView) (budgets : List ℕ) → AreMade sys budgets [] 0
-none_made sys budgets = record { long = refl; each = λ k l. absurd (omega arith); budgets_are = λ q l h. absurd (omega arith) }
-
+-- one node more
 pub one_more : (sys : SystemView) (budgets : List ℕ) (nodes : List NodeView) (n : ℕ) (node : NodeView) → AreMade sys budgets nodes n → IsMadeAt sys budgets (nth_place (length sys.parts) n) node → (n < length sys.parts → node.budget ≡ budget_at budgets n)
     → AreMade sys budgets (nodes ++ node ∷ []) (n + 1)
 one_more sys budgets nodes n node before made budget =

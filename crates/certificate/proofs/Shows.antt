@@ -23,12 +23,6 @@ fixed_all_hit Rm fixed tasks bound passes = passes
 fixed_all_hit Dm fixed tasks bound passes = passes
 fixed_all_hit Listed fixed tasks bound passes = passes
 
-pub fixed_lists : (sched : Sched) → sched ≢ Edf → (tasks : List SporadicTask) (bound : ℕ → ℕ) (cycle : ℕ) (points hits : List ℕ) → points ≡ [] → AreLeastHits (ranks_above sched tasks) tasks bound hits → ListsPass sched tasks bound cycle points hits
-fixed_lists Edf fixed tasks bound cycle points hits none least = absurd (fixed refl)
-fixed_lists Rm fixed tasks bound cycle points hits none least = (least, none)
-fixed_lists Dm fixed tasks bound cycle points hits none least = (least, none)
-fixed_lists Listed fixed tasks bound cycle points hits none least = (least, none)
-
 -- the least hits are hits
 least_hits : (above : ℕ → ℕ → Bool) (tasks : List SporadicTask) (bound : ℕ → ℕ) (node : NodeView) → AreLeastHits above tasks bound node.hits → node.points ≡ [] → AreHits above tasks bound node
 least_hits above tasks bound node hits none = record { lists = record { one_each = hits.one_each; no_points = none }; each = hits.each }

@@ -19,13 +19,6 @@ use Rattle.tree_model.proofs.Parents.{part_tasks_same}
 use Rattle.tree_model.proofs.Unique.{never_both, never_assigned}
 use Rattle.compose_tree.specs.Steps.{NodeRefuses, PartsPassFrom, CoresPassTo}
 
--- no part is assigned at the start, and none passes
-pub assigned_none : (sys : SystemView) (budgets : List ℕ) (k : ℕ) → length budgets ≡ length sys.parts → length sys.parts ≤ k → AssignedFrom sys budgets k
-assigned_none sys budgets k one l = record { one_each = one; stands = λ q g h. absurd (omega arith) }
-
-pub none_pass : (sys : SystemView) (budgets : List ℕ) (k : ℕ) → length sys.parts ≤ k → PartsPassFrom sys budgets k
-none_pass sys budgets k l q g h = absurd (omega arith)
-
 -- what stands and passes does so under budgets that are the same where it matters
 stands_same : (sys : SystemView) (b c : List ℕ) (q : ℕ) → budget_at b q ≡ budget_at c q → node_tasks sys b (Part q) ≡ node_tasks sys c (Part q) → (given : Option ℕ) → BudgetStands sys b q given → BudgetStands sys c q given
 stands_same sys b c q same tasks given h =

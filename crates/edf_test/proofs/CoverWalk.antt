@@ -1,8 +1,7 @@
 -- The points of the walk backwards, from a point on.
-use Rattle.std.proofs.Common.{◌≡◌, ℕ, zero, suc, ◌+◌, ◌-◌, ◌<◌, ◌≤◌, List, [], ◌∷◌, length, get_or, ◌∙◌, ap, arith}
+use Rattle.std.proofs.Common.{◌≡◌, ℕ, zero, suc, ◌+◌, ◌-◌, ◌<◌, ◌≤◌, List, ◌∷◌, length, get_or, ◌∙◌, ap, arith}
 use Rattle.slot_model.specs.Task.{SporadicTask, AreConstrained}
 use Rattle.slot_model.specs.Bound.{dbf}
-use Rattle.slot_model.specs.Points.{IsCover, IsBackward}
 use Rattle.slot_model.proofs.Demand.{dbf_start}
 use Rattle.edf_test.specs.Back.{IsGivenBy}
 
@@ -15,9 +14,6 @@ pub record IsWalk (tasks : List SporadicTask) (bound : ℕ → ℕ) (h point : �
   pub steps : (j : ℕ) → j + 1 < length points → dbf tasks (get_or points (j + 1) 0 - 1) ≤ bound (get_or points j 0)
   pub least : (j u : ℕ) → j + 1 < length points → u < get_or points j 0 → bound u < dbf tasks (get_or points (j + 1) 0 - 1)
   pub ends : get_or points (length points - 1) 0 ≡ h + 1
-
-pub walk_start : (tasks : List SporadicTask) (bound : ℕ → ℕ) (h : ℕ) → IsWalk tasks bound h (h + 1) ((h + 1) ∷ [])
-walk_start tasks bound h = record { some = omega arith; starts = omega arith; positive = omega arith; rising = λ j l. absurd (omega arith); steps = λ j l. absurd (omega arith); least = λ j u l m. absurd (omega arith); ends = omega arith }
 
 -- one point before
 pub walk_more : (tasks : List SporadicTask) (bound : ℕ → ℕ) (h point given : ℕ) (points : List ℕ) → IsWalk tasks bound h point points → IsGivenBy tasks bound (point - 1) given → 1 ≤ given → IsWalk tasks bound h given (given ∷ points)
@@ -48,13 +44,6 @@ walk_more tasks bound h point given points w step some = record {
     least : (j u : ℕ) → j + 1 < length (given ∷ points) → u < get_or (given ∷ points) j 0 → bound u < dbf tasks (get_or (given ∷ points) (j + 1) 0 - 1)
     least zero u l m = rw w.starts (step.least u m)
     least (suc j) u l m = rw (further j) (w.least j u (omega arith) m)
-
--- where nothing is asked for before the point, the walk is a cover
-pub walk_covers : (tasks : List SporadicTask) (bound : ℕ → ℕ) (h point : ℕ) (points : List ℕ) → IsWalk tasks bound h point points → dbf tasks (point - 1) ≡ 0 → IsCover tasks bound h points × IsBackward tasks bound h points
-walk_covers tasks bound h point points w none = (
-  record { some_point = w.some; some_slots = omega (arith, w.starts, w.positive); none_before = rw w.starts none; rising = w.rising; steps = w.steps; past = omega (arith, w.ends) },
-  record { ends = w.ends; least = w.least },
-)
 
 -- a short window has some slots
 pub short_past_none : (tasks : List SporadicTask) → AreConstrained tasks → (bound : ℕ → ℕ) (t : ℕ) → bound t < dbf tasks t → 1 ≤ t

@@ -56,9 +56,6 @@ pub record FallsTo (above : ℕ → ℕ → Bool) (tasks : List SporadicTask) (b
   pub some_slots : 1 ≤ last
   pub within : last ≤ room_of (task_at tasks i) + 1
 
-pub falls_first : (above : ℕ → ℕ → Bool) (tasks : List SporadicTask) (bound : ℕ → ℕ) (i : ℕ) → 1 ≤ room_of (task_at tasks i) → FallsTo above tasks bound i (1 ∷ []) 1
-falls_first above tasks bound i l = record { some_point = omega arith; from_one = omega arith; rising = λ j m. absurd (omega arith); steps = λ j m. absurd (omega arith); ends = omega arith; some_slots = omega arith; within = omega arith }
-
 -- the last entry of a list that one was added to, and the earlier ones
 before_push : (xs : List ℕ) (x j : ℕ) → j < length xs → get_or (xs ++ x ∷ []) j 0 ≡ get_or xs j 0
 before_push xs x j l = get_or_append_left xs (x ∷ []) 0 j l
@@ -86,10 +83,6 @@ falls_more above tasks bound i falls last next f step later = record {
   some_slots = omega arith;
   within = step.within;
 }
-
--- once the last is just past the end they are the falls, and these are a chain
-pub falls_all : (above : ℕ → ℕ → Bool) (tasks : List SporadicTask) (bound : ℕ → ℕ) (i : ℕ) (falls : List ℕ) (last : ℕ) → FallsTo above tasks bound i falls last → room_of (task_at tasks i) < last → AreFalls above tasks bound i falls
-falls_all above tasks bound i falls last f l = record { some_point = f.some_point; from_one = f.from_one; rising = f.rising; steps = f.steps; to_deadline = omega (arith, f.ends, f.within) }
 
 pub falls_chain : (above : ℕ → ℕ → Bool) (tasks : List SporadicTask) (bound : ℕ → ℕ) (i : ℕ) (falls : List ℕ) → AreFalls above tasks bound i falls → IsChain above tasks bound i falls
 falls_chain above tasks bound i falls f = record {

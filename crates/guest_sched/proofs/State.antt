@@ -1,7 +1,7 @@
 -- The state of a scheduler when a job comes, when one ends, and when one is served.
 use Rattle.std.proofs.Common.{◌≡◌, ◌≢◌, ℕ, ◌+◌, ◌-◌, ◌<◌, ◌≤◌, List, length, get_or, set, refl, sym, ◌∙◌, ap, arith, inl, inr, length-set, get_or-set_same, get_or-set_other}
 use Rattle.std.proofs.lemmas.Bool.{cases_eq, cases_lt}
-use Rattle.std.proofs.lemmas.List.{get_or_read, get_or_default}
+use Rattle.std.proofs.lemmas.List.{get_or_default}
 use Rattle.guest_sched.specs.declared.releases.Release.{Release}
 use Rattle.guest_sched.specs.Releases.{release_at}
 use Rattle.guest_sched.specs.Places.{StandsIn, IsAscending, AddsPlace, RemovesPlace}
@@ -30,10 +30,6 @@ one_comes releases n left ends ready soonest now new sooner h l adds a b = recor
   ascending = adds.ascending;
 }
 
--- the place that is read at an index of the ready jobs
-pub at_ready : (ready : List ℕ) (at p : ℕ) → at < length ready → p ≡ get_or ready at p → StandsIn ready p
-at_ready ready at p l e = (at, l, sym (get_or_read ready at p l e 0))
-
 pub ready_in : (releases : List Release) (n : ℕ) (left ends ready : List ℕ) (soonest now : ℕ) → IsState releases n left ends ready soonest now → (p : ℕ) → StandsIn ready p → p < length left
 ready_in releases n left ends ready soonest now h p s = let c : HasCome releases n p = h.come p s in omega (arith, c.1, c.2, h.some_come, h.in_jobs c.0 (omega (arith, c.1, h.some_come)))
 
@@ -41,16 +37,6 @@ pub all_in_jobs : (releases : List Release) (n : ℕ) (left ends ready : List �
 all_in_jobs releases n left ends ready soonest now read h e k d l =
     let m : k < length ready = omega (arith, l, ap (λ (z : List ℕ). length z) e) in
     omega (arith, ready_in releases n left ends ready soonest now h (get_or ready k 0) (k, m, refl), ap (λ (z : List ℕ). get_or z k d) e, get_or_default ready k d 0 m)
-
--- time goes on
-pub state_later : (releases : List Release) (n : ℕ) (left ends ready : List ℕ) (soonest now later : ℕ) → IsState releases n left ends ready soonest now → now ≤ later → IsState releases n left ends ready soonest later
-state_later releases n left ends ready soonest now later h l =
-    record { in_jobs = h.in_jobs; same_jobs = h.same_jobs; once = h.once; in_order = h.in_order; some_come = h.some_come; to_come = h.to_come; come = h.come; lacks = h.lacks; all = λ j c some lasts. h.all j c some (omega arith); soon = h.soon; ascending = h.ascending }
-
--- another moment before which no ready job ends
-pub state_soon : (releases : List Release) (n : ℕ) (left ends ready : List ℕ) (soonest now other : ℕ) → IsState releases n left ends ready soonest now → ((j : ℕ) → StandsIn ready j → other ≤ get_or ends j 0) → IsState releases n left ends ready other now
-state_soon releases n left ends ready soonest now other h l =
-    record { in_jobs = h.in_jobs; same_jobs = h.same_jobs; once = h.once; in_order = h.in_order; some_come = h.some_come; to_come = h.to_come; come = h.come; lacks = h.lacks; all = h.all; soon = l; ascending = h.ascending }
 
 -- a job ends
 pub one_ends : (releases : List Release) (n : ℕ) (left ends ready : List ℕ) (soonest now p : ℕ) (new : List ℕ) → IsState releases n left ends ready soonest now → get_or ends p 0 ≤ now → RemovesPlace ready p new → IsState releases n left ends new soonest now

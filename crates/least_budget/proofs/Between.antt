@@ -3,7 +3,7 @@ use Rattle.std.proofs.Common.{ℕ, ◌+◌, ◌<◌, ◌≤◌, List, arith}
 use Rattle.slot_model.specs.declared.sched.Sched.{Sched}
 use Rattle.slot_model.specs.Task.{SporadicTask, AreConstrained}
 use Rattle.slot_model.specs.Order.{before_of}
-use Rattle.slot_model.specs.Bound.{sbf, Passes, IsLeastBudget}
+use Rattle.slot_model.specs.Bound.{sbf, Passes}
 use Rattle.least_budget.specs.declared.answers.Least.{Least}
 use Rattle.least_budget.specs.declared.answers.Least.TheVariants.{Budget, Over, Wide}
 use Rattle.least_budget.specs.Answers.{IsLeast, Separates}
@@ -24,12 +24,6 @@ between_higher sched tasks period low high middle l m none b = record {
   passes = b.passes;
   below = λ budget lb passes. none (larger_passes sched tasks period budget middle l (omega arith) (omega (arith, b.in_period)) passes);
 }
-
-pub between_lower : (sched : Sched) (tasks : List SporadicTask) (period low high middle : ℕ) → low ≤ middle → middle < high → Passes sched tasks (sbf period middle) → IsBetween sched tasks period low high → IsBetween sched tasks period low middle
-between_lower sched tasks period low high middle l m passes b = record { in_order = l; in_period = omega (arith, b.in_period); passes = passes; below = b.below }
-
-pub between_ends : (sched : Sched) (tasks : List SporadicTask) (period low high : ℕ) → high ≤ low → IsBetween sched tasks period low high → IsLeastBudget sched tasks period high
-between_ends sched tasks period low high l b = record { in_period = b.in_period; passes = b.passes; least = λ budget lb passes. b.below budget (omega arith) passes }
 
 -- the least budget separates those that must miss from those that lose no job
 pub least_separates : (sched : Sched) (tasks : List SporadicTask) → AreConstrained tasks → (period : ℕ) → 1 ≤ period → (answer : Least) → IsLeast sched tasks period answer → Separates (before_of sched tasks) tasks period answer

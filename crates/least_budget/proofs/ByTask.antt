@@ -73,8 +73,5 @@ hit_higher above tasks period i from low high middle l o m none b = record {
   below = λ budget lf lb has. none (larger_hit above tasks period budget middle i l (omega arith) (omega (arith, b.in_period)) has);
 }
 
-pub hit_lower : (above : ℕ → ℕ → Bool) (tasks : List SporadicTask) (period i from low high middle : ℕ) → low ≤ middle → middle < high → HasHit above tasks (sbf period middle) i → IsHitBetween above tasks period i from low high → IsHitBetween above tasks period i from low middle
-hit_lower above tasks period i from low high middle l m has b = record { not_below = b.not_below; in_order = l; in_period = omega (arith, b.in_period); enough = has; below = b.below }
-
 pub hit_ends : (above : ℕ → ℕ → Bool) (tasks : List SporadicTask) (period i from low high : ℕ) → high ≤ low → IsHitBetween above tasks period i from low high → IsLeastOfTask above tasks period i from high
 hit_ends above tasks period i from low high l b = record { not_below = omega (arith, b.not_below, b.in_order); in_period = b.in_period; enough = b.enough; least = λ budget lf lb has. b.below budget lf (omega arith) has }

@@ -10,23 +10,6 @@ use Rattle.fp_request.specs.Parts.{part_of}
 use Rattle.fp_test.proofs.Answer.{IsAnswer}
 use Rattle.least_budget.specs.CommonHit.{IsLowest, IsCommon}
 
--- one place is the lowest of one
-pub lowest_of_one : (above : ℕ → ℕ → Bool) → IsLowest above 1 0
-lowest_of_one above k l ne = absurd (ne (omega arith))
-
--- the next place is lower, or ranks above
-pub lowest_next : (above : ℕ → ℕ → Bool) → IsRank above → (n low : ℕ) → low < n → IsLowest above n low → above low n ≡ true → IsLowest above (n + 1) n
-lowest_next above ranks n low l h a k m ne = elim (cases_eq k low) [
-  | inl e ↦ subst (λ (z : ℕ). above z n ≡ true) (sym e) a
-  | inr other ↦ ranks.in_turn k low n (h k (omega (arith, ne)) other) a
-]
-
-pub lowest_stays : (above : ℕ → ℕ → Bool) → IsRank above → (n low : ℕ) → low < n → IsLowest above n low → above low n ≡ false → IsLowest above (n + 1) low
-lowest_stays above ranks n low l h a k m ne = elim (cases_eq k n) [
-  | inl e ↦ subst (λ (z : ℕ). above z low ≡ true) (sym e) (elim (ranks.one_way n low (omega arith)) [ inl u ↦ u | inr u ↦ absurd (cc) ])
-  | inr other ↦ h k (omega (arith, other)) ne
-]
-
 -- a task asks for its work in every window
 work_asked : (task : SporadicTask) → IsConstrained task → (t : ℕ) → 1 ≤ t → task.work ≤ request_of task t
 work_asked task fits t l =

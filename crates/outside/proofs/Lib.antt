@@ -1,4 +1,3 @@
-pub mod MemoryReads
 pub mod Growing
 pub mod ReadSoFar
 mod Examples

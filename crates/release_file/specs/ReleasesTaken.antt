@@ -1,5 +1,5 @@
 -- What is kept of the rows of a release file that were read.
-use Rattle.std.specs.Prelude.{◌≡◌, ◌≢◌, ℕ, ◌+◌, ◌^◌, ◌<◌, ◌≤◌, Bool, false, ◌&&◌, nat_lt, nat_le, List, [], ◌∷◌, length, map, slice_index_or, Option, Some, None}
+use Rattle.std.specs.Prelude.{◌≡◌, ◌≢◌, ℕ, ◌+◌, ◌^◌, ◌<◌, ◌≤◌, Bool, false, ◌&&◌, nat_lt, nat_le, List, [], ◌∷◌, length, slice_index_or, Option, Some, None}
 use Rattle.slot_model.specs.declared.job.Job.{Job}
 use Rattle.slot_model.specs.Task.{SporadicTask, early_job, job_at}
 use Rattle.csv_rows.specs.Decimal.{number}
@@ -64,10 +64,7 @@ pub record IsLeafOf (sys : SystemView) (rows : List Release) (q : ℕ) (leaf : L
   pub part_is : leaf.part.now ≡ part_at sys q
   pub jobs_are : leaf.jobs.items ≡ jobs_of q rows
 
--- the jobs of all parts; and each part of the system, without jobs
-abbrev pub jobs_in : List LeafRows → List (List Job)
-jobs_in leaves = map (λ (l : LeafRows). l.jobs.items) leaves
-
+-- each part of the system, without jobs
 pub record AreEmptyLeaves (sys : SystemView) (leaves : List LeafRows) : Type 0 where
   pub one_each : length leaves ≡ length sys.parts
   pub each : (q : ℕ) (d : LeafRows) → q < length sys.parts →

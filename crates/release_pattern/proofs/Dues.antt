@@ -1,5 +1,5 @@
 -- The next releases of tasks as those of one moment are made.
-use Rattle.std.proofs.Common.{◌≡◌, ◌≢◌, ◌⊎◌, ℕ, min, ◌+◌, ◌-◌, ◌*◌, ◌/◌, ◌^◌, ◌<◌, ◌≤◌, true, false, List, [], ◌∷◌, ◌++◌, length, get_or, set, refl, sym, ◌∙◌, ap, arith, subst, inl, inr, length-set, get_or-set_same, get_or-set_other}
+use Rattle.std.proofs.Common.{◌≡◌, ◌≢◌, ◌⊎◌, ℕ, min, ◌+◌, ◌-◌, ◌*◌, ◌/◌, ◌^◌, ◌<◌, ◌≤◌, true, false, List, [], ◌∷◌, ◌++◌, length, get_or, set, sym, ◌∙◌, ap, arith, subst, inl, inr, length-set, get_or-set_same, get_or-set_other}
 use Rattle.std.proofs.lemmas.Bool.{cases_eq, cases_lt}
 use Rattle.slot_model.specs.Task.{SporadicTask, task_at}
 use Rattle.slot_model.specs.Release.{releases_now, release_of, releases_at}
@@ -46,9 +46,6 @@ pub record GroupTo (tasks : List SporadicTask) (start x from place next : ℕ) (
   pub same : (i : ℕ) → (i < from) ⊎ (place ≤ i) → get_or due i 0 ≡ get_or old i 0
   pub after : x < next
   pub first : (i : ℕ) → from ≤ i → i < place → next ≤ get_or due i 0
-
-pub group_begins : (tasks : List SporadicTask) (start x from next : ℕ) (due : List ℕ) (jobs : List Job) → AreDue tasks from x due → x < next → GroupTo tasks start x from from next due due jobs jobs
-group_begins tasks start x from next due jobs h l = record { jobs_so_far = λ earlier e. e; each = h; same = λ i m. refl; after = l; first = λ i a b. absurd (omega arith) }
 
 pub group_releases : (tasks : List SporadicTask) (start x from p next more n : ℕ) (old due : List ℕ) (before jobs added : List Job) → from ≤ p → p < length tasks → x < 2 ^ 64 - 1 → GroupTo tasks start x from p next old due before jobs → get_or due p 0 ≡ x → IsNext (task_at tasks p) (x + 1) n
     → added ≡ jobs ++ release_of tasks start x p ∷ [] → more ≡ min next (get_or (set due p n) p 0) → GroupTo tasks start x from (p + 1) more old (set due p n) before added

@@ -1,6 +1,4 @@
 mod ChildNames
-mod PartLines
-mod CountsLines
 pub mod OneReplay
 pub mod OneCounts
 mod Examples

@@ -13,7 +13,7 @@ use Rattle.auditor.specs.declared.finding.Finding.{Finding}
 use Rattle.auditor.specs.declared.finding.Finding.TheVariants.{Yes as Kept, Short, Over}
 use Rattle.auditor.specs.Finding.{IsFinding}
 use Rattle.auditor.proofs.OneFinding.{one_finding}
-use Rattle.rt_report.specs.Audit.{audit_text, IsFindingOf}
+use Rattle.rt_report.specs.Audit.{audit_text}
 use Rattle.rt_top.specs.declared.status.Status.{Status}
 use Rattle.rt_top.specs.declared.status.Status.TheVariants.{Yes, No}
 use Rattle.rt_top.specs.declared.answer.Ending.{Ending}
@@ -93,12 +93,6 @@ audit_means contents status text h = λ sys budgets events of.
     let said : AuditsBytes sys trace.bytes status text = said_of_two contents sys _ AuditsBytes status text of.spelled h in
     let on : OnAssigned sys (λ b. IsAudited sys b events) status text = said_of_given (tracing sys trace.bytes) (λ e. OnAssigned sys (λ b. IsAudited sys b e)) status text (tracing_decided sys trace.bytes) events trace.good said in
     audited_tells sys budgets events status text (said_of_given (assigning sys) (λ b. IsAudited sys b events) status text (assigning_decided sys is) budgets of.assigned on)
-
--- a finding tells a part of the system
-pub finding_told : (sys : SystemView) (budgets : List ℕ) (events : List Event) (finding : Finding) → IsFinding sys budgets events finding → IsFindingOf sys finding
-finding_told sys budgets events (Kept periods) found = tt
-finding_told sys budgets events (Short v from got) found = found.short.period.is_part
-finding_told sys budgets events (Over v from got) found = found.over.period.is_part
 
 -- the answer over both files is that to the command
 pub audit_answer : (file trace : List ℕ) (files : Option Files) (end : Ending) → IfAnswered end (λ a. AnswersTwo files file trace AuditsBytes a.status a.text.items) → IfAnswered end (λ a. IsAnswer (Some (audit file trace)) files a.status a.text.items)

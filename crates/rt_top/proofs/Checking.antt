@@ -101,9 +101,6 @@ verdict_status P at_yes at_no sys nodes status text h = elim (verdict_of sys nod
 pub checks_judged : (sys : SystemView) (bytes : List ℕ) (status : Status) (text : List ℕ) → ChecksBytes sys bytes status text → IsJudged status
 checks_judged sys bytes status text h = statuses_attempt IsJudged (spelling bytes) (ChecksNodes sys) status text (λ fault refuses. tt) (λ nodes. verdict_status IsJudged tt tt sys nodes status text) h
 
-pub nodes_judged : (sys : SystemView) (nodes : List NodeView) (status : Status) (text : List ℕ) → ChecksNodes sys nodes status text → IsJudged status
-nodes_judged sys nodes status text h = verdict_status IsJudged tt tt sys nodes status text h
-
 pub check_status : (contents : Contents) (status : Status) (text : List ℕ) → Checks contents status text → IsOfJob status
 check_status contents status text h = statuses_two IsOfJob tt tt tt contents ChecksBytes status text (λ sys bytes said. job_of_judged status (checks_judged sys bytes status text said)) h
 

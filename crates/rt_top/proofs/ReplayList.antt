@@ -26,9 +26,6 @@ pub record ReplaysTo (sys : SystemView) (budgets : List ℕ) (n : ℕ) (replays 
   pub one_each : length replays ≡ length (leaves_among sys n)
   pub each : (k : ℕ) (replay : Replay) → slice_get replays k ≡ Some replay → IsReplay sys budgets (slice_index (leaves_among sys n) k) replay
 
-pub no_replays : (sys : SystemView) (budgets : List ℕ) → ReplaysTo sys budgets 0 []
-no_replays sys budgets = record { one_each = refl; each = λ k replay e. absurd (omega (arith, slice_get_within [] k replay e)) }
-
 more_leaves : (sys : SystemView) (n : ℕ) → leaves_among sys (n + 1) ≡ push_if (leaves_among sys n) (is_computed_leaf (part_at sys n)) n
 more_leaves sys n = ap (λ (z : ℕ). leaves_among sys z) (add-one n) ∙ places_where-suc (λ q. is_computed_leaf (part_at sys q)) n
 

@@ -1,5 +1,5 @@
 -- From an answer to what is reported.
-use Rattle.std.proofs.Common.{◌≡◌, ◌≢◌, ◌⊎◌, ℕ, List, [], Option, Some, None, inl, inr, arith, refl, subst, sym, ◌∙◌}
+use Rattle.std.proofs.Common.{◌≡◌, ◌≢◌, ◌⊎◌, ℕ, List, Option, Some, None, inl, inr, arith, refl, subst, sym, ◌∙◌}
 use Rattle.std.specs.Prelude.{⊤, option_map}
 use Rattle.rt_top.specs.declared.command.Command.{Command as Parsed}
 use Rattle.rt_top.specs.Steps.{command_told}
@@ -7,7 +7,6 @@ use Rattle.std.specs.Io.KnownBytes.{Appends}
 use Rattle.outside.specs.Files.{Files}
 use Rattle.outside.specs.Counts.{Rose}
 use Rattle.outside.specs.Written.{AppendsProperPrefix}
-use Rattle.rt_report.specs.Usage.{usage_line}
 use Rattle.rt_top.specs.declared.status.Status.{Status}
 use Rattle.rt_top.specs.declared.status.Status.TheVariants.{Yes, No, Usage, BadFile, Wide, Absent, TooLong, ReadFault, WriteFault, NoMemory}
 use Rattle.rt_top.specs.Command.{Command, admit, certify, check, rtds, audit, simulate, bulk}
@@ -41,14 +40,6 @@ job_verdict (rtds file workload slots) contents status text can h = run_verdict 
 job_verdict (audit file trace) contents status text can h = audit_verdict contents status text can h
 job_verdict (simulate file releases pattern slots) contents status text can h = simulate_verdict pattern slots contents status text can h
 job_verdict (bulk guests) contents status text can h = bulk_verdict guests status text h
-
--- the answer to words that spell no command
-usage_contents : (files : Option Files) → AreContents None files []
-usage_contents None = tt
-usage_contents (Some files) = refl
-
-pub usage_answer : (command : Option Command) (files : Option Files) (text : List ℕ) → command ≡ None → text ≡ usage_line → IsAnswer command files Usage text
-usage_answer command files text none is = subst (λ (o : Option Command). IsAnswer o files Usage text) (sym none) (record { contents = []; held = usage_contents files; answers = (refl, is); means = tt })
 
 -- a job's status has a text
 has_text_of_job : (status : Status) → IsOfJob status → HasText status

@@ -4,28 +4,19 @@ use Rattle.std.specs.Prelude.{IsSomeAnd, IfOk, OnOk, IfErr, Result, Ok, Err}
 use Rattle.tree_model.specs.View.{SystemView}
 use Rattle.system_file.specs.declared.fault.SystemFault.{SystemFault}
 use Rattle.system_file.specs.SystemFile.{system_of}
-use Rattle.rt_report.specs.Unread.{absent_text, too_long_text}
+use Rattle.rt_report.specs.Unread.{too_long_text}
 use Rattle.outside.specs.Files.{Files, Told, file_named}
 use Rattle.rt_top.specs.declared.status.Status.{Status}
-use Rattle.rt_top.specs.declared.status.Status.TheVariants.{BadFile, Absent, TooLong}
+use Rattle.rt_top.specs.declared.status.Status.TheVariants.{BadFile, TooLong}
 use Rattle.rt_top.specs.Answer.{file_limit, Saying, AtContent, OnSystem}
 use Rattle.rt_top.specs.declared.answer.Ending.{Ending}
 use Rattle.rt_top.specs.declared.answer.Ending.TheVariants.{Answered, Unread, NoMemory as NoRoom}
 use Rattle.rt_top.specs.Steps.{Counts, IsQuiet, Explains, ExplainsAnswer, IfAnswered, IsSpelled, StopsAt}
-use Rattle.rt_top.proofs.AtFile.{more_at}
-
--- where the files are told, one fact of the named file gives another
-told_more : (files : Option Files) (name : List ℕ) (P Q : Option (List ℕ) → Type 0) → ((file : Option (List ℕ)) → P file → Q file) → Told files name P → Told files name Q
-told_more None name P Q more told = tt
-told_more (Some files) name P Q more told = more _ told
 
 -- a list of more than n entries
 longer_list : (n : ℕ) → (bytes : List ℕ) × (n < length bytes)
 longer_list zero = (0 ∷ [], omega arith)
 longer_list (suc n) = (let shorter = longer_list n in (0 ∷ shorter.0, omega (arith, shorter.1)))
-
-pub stops_absent : (k : ℕ) (files : Option Files) (name : List ℕ) (text : List ℕ) (Says : Saying) → text ≡ absent_text k → Told files name (λ file. file ≡ None) → StopsAt k files name Says Absent text
-stops_absent k files name text Says is told = record { content = None; held = told; answers = (refl, is) }
 
 long_content : (k : ℕ) (bytes text : List ℕ) (Says : Saying) → text ≡ too_long_text k → file_limit < length bytes → AtContent k (Some bytes) Says TooLong text
 long_content k bytes text Says is long = record { too_long = λ l. (refl, is); said = λ l. absurd (omega (arith, long)) }
@@ -37,10 +28,6 @@ long_of_told k files name text Says is (Some bytes) e long = record { content = 
 pub stops_long : (k : ℕ) (files : Option Files) (name : List ℕ) (text : List ℕ) (Says : Saying) → text ≡ too_long_text k → Told files name (λ file. IsSomeAnd file (λ bytes. file_limit < length bytes)) → StopsAt k files name Says TooLong text
 stops_long k None name text Says is told = (let long = longer_list file_limit in record { content = Some long.0; held = tt; answers = long_content k long.0 text Says is long.1 })
 stops_long k (Some files) name text Says is told = long_of_told k files name text Says is (file_named name files) refl told
-
--- where nothing more is said of the bytes, anything may be
-pub stops_more : (k : ℕ) (files : Option Files) (name : List ℕ) (status : Status) (text : List ℕ) (Q : Saying) → StopsAt k files name (λ _ _ _. ⊥) status text → StopsAt k files name Q status text
-stops_more k files name status text Q h = record { content = h.content; held = h.held; answers = more_at k (λ _ _ _. ⊥) Q status text (λ bytes none. absurd none) h.content h.answers }
 
 -- a system that was spelled, or was not
 pub system_spelled : (files : Option Files) (name bytes : List ℕ) (result : Result SystemView Ending) → Told files name (λ file. file ≡ Some bytes) → length bytes ≤ file_limit → IfOk result (λ sys. system_of bytes ≡ Ok sys) → IfOk result (λ sys. IsSpelled files name sys)

@@ -15,7 +15,7 @@ use Rattle.guest_sched.proofs.Given.{slots-long}
 use Rattle.guest_sched.proofs.Spelled.{Spells, nothing_yet, then_none, then_all}
 use Rattle.server_sched.specs.declared.supplies.Pattern.{Pattern}
 use Rattle.server_sched.specs.Patterns.{cyclic_slot, pattern_slot, pattern_slots, pattern_supplies}
-use Rattle.server_sched.specs.TreeSpans.{given_at, supplies_of, AreSupplies}
+use Rattle.server_sched.specs.TreeSpans.{given_at, supplies_of}
 
 -- the slots of period k, by their place in it
 cyclic_at : (period first budget k y : ℕ) → y < period → cyclic_slot period first budget (k * period + y) ≡ (nat_le first y && nat_lt y (first + budget))
@@ -43,13 +43,6 @@ pub record CyclicTo (period first budget slots from : ℕ) (windows : List Windo
   pub k : ℕ
   pub begins : from ≡ k * period + first
   pub spells : Spells (cyclic_slot period first budget) (min slots (k * period)) windows
-
-pub none_cyclic : (period first budget slots : ℕ) → CyclicTo period first budget slots first []
-none_cyclic period first budget slots = record {
-  k = 0;
-  begins = omega arith;
-  spells = subst (λ (m : ℕ). Spells (cyclic_slot period first budget) m []) (let e : 0 ≡ min slots (0 * period) = omega arith in e) (nothing_yet (cyclic_slot period first budget));
-}
 
 pub one_period_more : (period first budget slots from until : ℕ) (old new : List Window) → first + budget ≤ period → from < slots → until ≡ min (from + budget) slots → CyclicTo period first budget slots from old → AddsWindow old from until new → CyclicTo period first budget slots (from + period) new
 one_period_more period first budget slots from until old new f l e h adds =
@@ -87,9 +80,6 @@ pub record PatternTo (cores : List Core) (pattern : Pattern) (n m : ℕ) (lists 
   pub windows : (c : ℕ) → c < m → AreWindows (given_at lists c) n
   pub same : (c : ℕ) → c < m → slots_of (given_at lists c) n ≡ pattern_slots pattern (get_or cores c no_core).supply n
 
-pub no_cores_yet : (cores : List Core) (pattern : Pattern) (n : ℕ) → PatternTo cores pattern n 0 []
-no_cores_yet cores pattern n = record { long = refl; windows = λ c l. absurd (omega arith); same = λ c l. absurd (omega arith) }
-
 pub one_core_more : (cores : List Core) (pattern : Pattern) (n m : ℕ) (lists : List (List Window)) → PatternTo cores pattern n m lists → (new : List Window) → AreWindows new n → slots_of new n ≡ pattern_slots pattern (get_or cores m no_core).supply n → PatternTo cores pattern n (m + 1) (lists ++ new ∷ [])
 one_core_more cores pattern n m lists h new are same = record {
   long = omega (arith, length_push lists new, h.long);
@@ -102,9 +92,6 @@ one_core_more cores pattern n m lists h new are same = record {
     | inr ne ↦ ap (λ (w : List Window). slots_of w n) (get_or_append_left lists (new ∷ []) [] c (omega (arith, h.long))) ∙ h.same c (omega arith)
   ];
 }
-
-pub all_cores : (sys : SystemView) (pattern : Pattern) (n m : ℕ) (lists : List (List Window)) → m ≡ length sys.cores → PatternTo sys.cores pattern n m lists → AreSupplies sys n lists
-all_cores sys pattern n m lists e h = record { one_each = h.long ∙ e; windows = λ c l. h.windows c (omega arith) }
 
 pub all_exact : (sys : SystemView) (pattern : Pattern) (n m : ℕ) (lists : List (List Window)) → m ≡ length sys.cores → PatternTo sys.cores pattern n m lists → supplies_of lists n ≡ pattern_supplies sys pattern n
 all_exact sys pattern n m lists e h =

@@ -1,13 +1,11 @@
 -- The first fault of a list that is put together from several, and names that are looked for among
 -- elements.
 use Rattle.std.proofs.lemmas.List.{map-append}
-use Rattle.std.proofs.Common.{◌≡◌, ℕ, ◌+◌, ◌<◌, ◌||◌, List, [], ◌∷◌, ◌++◌, map, length, take, drop, Some, refl, sym, ap, ◌∙◌, codes, drop-cons, get_or, add-one}
+use Rattle.std.proofs.Common.{◌≡◌, ℕ, ◌+◌, ◌||◌, List, [], ◌∷◌, ◌++◌, map, Some, refl, sym, ap, ◌∙◌, codes}
 use Rattle.std.specs.Prelude.{bytes_eq}
 use Rattle.std.specs.List.{list_any}
 use Rattle.toml.specs.Data.{Data, string, get}
-use Rattle.system_file.specs.declared.fault.SystemFault.{SystemFault}
 use Rattle.system_file.specs.Document.{is_text, is_named}
-use Rattle.system_file.specs.Faults.{in_order}
 use Rattle.system_file.specs.Reading.{first_of, HaveNames}
 
 -- the first of a list stays the first where more comes behind
@@ -50,8 +48,3 @@ more_names ds names d s have is =
     ∙ ap (λ xs. xs ++ get (codes "name") d ∷ []) have
     ∙ ap (λ x. map (λ name. Some (string name)) names ++ x ∷ []) is
     ∙ sym (map-append (λ (name : List ℕ). Some (string name)) names (s ∷ []))
-
--- one step along the elements of an array
-pub order_step : (at_element : List Data → Data → List SystemFault) (all : List Data) (i : ℕ) (d : Data) → i < length all →
-    in_order at_element (take i all) (drop i all) ≡ at_element (take i all) (get_or all i d) ++ in_order at_element (take i all ++ get_or all i d ∷ []) (drop (i + 1) all)
-order_step at_element all i d h = rw (add-one, drop-cons all i d)

@@ -1,6 +1,5 @@
 pub mod Elements
 pub mod Along
-pub mod Children
 pub mod Faultless
 pub mod First
 pub mod Fits
