@@ -20,7 +20,7 @@ use Rattle.tree_model.specs.Releases.{jobs_at}
 use Rattle.server_sched.specs.NodeView.{NodeView, TreeView}
 use Rattle.server_sched.specs.TreeSpans.{node_at, runs_of, AreFewJobs, AreTreeSpans}
 use Rattle.bulk_host.specs.Host.{guest_budget, bulk_host, bulk_budgets}
-use Rattle.bulk_host.proofs.CoreLoad.{budget_here}
+use Rattle.bulk_host.proofs.Servers.{budget_here}
 use Rattle.bulk_host.proofs.Systems.{cores-many, guests-many}
 use Rattle.bulk_run.specs.declared.counts.BulkCounts.{BulkCounts}
 use Rattle.bulk_run.specs.Summary.{bulk_slots, bulk_supplies, bulk_jobs, misses_in, core_misses, guest_misses, guest_pending}
@@ -42,19 +42,19 @@ count_bounded p n = omega (arith, sum_bounded (λ x. cond (p x) 1 0) 1 n (λ x l
 pub misses_bounded : (tasks : List SporadicTask) (jobs : List Job) (run : List (Option ℕ)) → misses_in tasks jobs run ≤ length jobs
 misses_bounded tasks jobs run = count_bounded (is_missed tasks jobs run) (length jobs)
 
--- the sum of the budgets
-pub budgets_bounded : (n : ℕ) → n ≤ 256 → sum (bulk_budgets n) < 2 ^ 64
-budgets_bounded n few =
-    let places : sum (bulk_budgets n) ≡ sum_below (budget_at (bulk_budgets n)) (length (bulk_budgets n)) = sum_by-places (λ (x : ℕ). x) 0 (bulk_budgets n) in
-    let many : length (bulk_budgets n) ≡ n = length-map-range_with_len guest_budget 0 n in
-    omega (arith, places, many, sum_bounded (budget_at (bulk_budgets n)) 1000 (length (bulk_budgets n)) (λ q l. each q (omega (arith, many))))
-  where
-    each : (q : ℕ) → q < n → budget_at (bulk_budgets n) q ≤ 1000
-    each q l = omega (arith, budget_here n q l)
+-- the sum of the budgets, guest by guest
+pub budgets_by_guest : (n : ℕ) → sum (bulk_budgets n) ≡ sum_below (budget_at (bulk_budgets n)) n
+budgets_by_guest n = sum_by-places (λ (x : ℕ). x) 0 (bulk_budgets n) ∙ ap (sum_below (budget_at (bulk_budgets n))) (length-map-range_with_len guest_budget 0 n)
+
+pub budgets_bounded : (n : ℕ) → n ≤ 256 → sum (bulk_budgets n) < 2 ^ 58
+budgets_bounded n few = omega (arith, budgets_by_guest n, sum_bounded (budget_at (bulk_budgets n)) 1000 n (λ q l. omega (arith, budget_here n q l)))
 
 -- the number of the jobs
-pub jobs_bounded : (n : ℕ) → n ≤ 256 → sum_by (λ (jobs : List Job). length jobs) (bulk_jobs n) < 2 ^ 64
-jobs_bounded n few = omega (arith, sum_by-places (λ (jobs : List Job). length jobs) [] (bulk_jobs n), jobs-many n, sum_bounded (λ q. length (jobs_at (bulk_jobs n) q)) 200000 (length (bulk_jobs n)) (λ q l. few_here n q (omega (arith, jobs-many n))))
+pub jobs_by_guest : (n : ℕ) → sum_by (λ (jobs : List Job). length jobs) (bulk_jobs n) ≡ sum_below (λ q. length (jobs_at (bulk_jobs n) q)) n
+jobs_by_guest n = sum_by-places (λ (jobs : List Job). length jobs) [] (bulk_jobs n) ∙ ap (sum_below (λ q. length (jobs_at (bulk_jobs n) q))) (jobs-many n)
+
+pub jobs_bounded : (n : ℕ) → n ≤ 256 → sum_by (λ (jobs : List Job). length jobs) (bulk_jobs n) < 2 ^ 58
+jobs_bounded n few = omega (arith, jobs_by_guest n, sum_bounded (λ q. length (jobs_at (bulk_jobs n) q)) 200000 n (λ q l. few_here n q l))
 
 -- the misses of the cores, and of the guests
 pub core_missed : (n : ℕ) (budgets : List ℕ) (tree : TreeView) → AreTreeSpans (bulk_host n) budgets bulk_slots (bulk_supplies n) (bulk_jobs n) tree → (c : ℕ) → c < length tree.cores → (node_at tree.cores c).counts.missed ≡ core_misses n budgets (runs_of tree.cores) c

@@ -10,6 +10,7 @@ use Rattle.tree_model.specs.Releases.{jobs_at}
 use Rattle.server_sched.specs.NodeView.{NodeView}
 use Rattle.server_sched.specs.TreeSpans.{node_at, runs_of}
 use Rattle.bulk_host.specs.Host.{bulk_host, bulk_budgets}
+use Rattle.bulk_host.proofs.Systems.{cores-many}
 use Rattle.bulk_run.specs.Summary.{bulk_jobs, core_misses, guest_misses, guest_pending}
 use Rattle.bulk_run.specs.Steps.{AreGuestRuns}
 use Rattle.bulk_run.proofs.HostRun.{host_few, jobs-many, guest_runs}
@@ -66,8 +67,8 @@ overflow_add-result c =
       );
     }
 
-pub returns : goal.returns
-returns c =
+pub returns-clause-counts : goal.returns-clause-counts
+returns-clause-counts c =
     let n = c.args.n in
     let tree = c.args.tree.now in
     let at_cores : c.misses_of-at_cores.result ≡ sum_below (core_misses n (bulk_budgets n) (runs_of tree.cores)) (length (bulk_host n).cores) =
@@ -82,7 +83,30 @@ returns c =
     (c.sum_of-budgets.ensures ∙ ap (λ (b : List ℕ). sum b) (c.budgets.ensures ∙ c.requires.plan))
     (c.number_of_jobs-number.ensures ∙ (jobs_in_all c.args.jobs.now ∙ ap (λ (js : List (List Job)). sum_by (λ (jobs : List Job). length jobs) js) c.requires.jobs))
     (ap (λ (z : ℕ). z + c.misses_of-at_parts.result) at_cores ∙ ap (λ (z : ℕ). sum_below (core_misses n (bulk_budgets n) (runs_of tree.cores)) (length (bulk_host n).cores) + z) at_parts)
-    (c.in_ok-pending.ensures
+    (c.in_ok-pending.ensures.counted
     ∙ (ap (λ (js : List (List Job)). sum_below (λ q. pairs_pending (jobs_at js q) (run_of (node_at c.parts-2.result.now q).spans)) (length js)) c.requires.jobs
     ∙ (ap (λ (ns : List NodeView). sum_below (λ q. pairs_pending (jobs_at (bulk_jobs n) q) (run_of (node_at ns q).spans)) (length (bulk_jobs n))) c.parts-2.ensures
     ∙ guests_pending n (bulk_budgets n) tree c.requires.tree)))
+
+pub returns-clause-few : goal.returns-clause-few
+returns-clause-few c =
+    let cores = core_misses_bounded c.args.n (bulk_budgets c.args.n) c.requires.most (host_few c.args.n c.requires.some c.requires.most) (runs_of c.args.tree.now.cores) in
+    let parts = guest_misses_bounded c.args.n c.requires.most (runs_of c.args.tree.now.parts) in
+    record {
+      guests = omega (arith, c.requires.most);
+      cores = omega (arith, ap length c.cores-2.ensures.cores, ap (λ (s : SystemView). length s.cores) c.requires.host, cores-many c.args.n, c.requires.most);
+      budgets = omega (arith, c.sum_of-budgets.ensures, ap (λ (b : List ℕ). sum b) (c.budgets.ensures ∙ c.requires.plan), budgets_bounded c.args.n c.requires.most);
+      jobs = omega (arith, c.number_of_jobs-number.ensures, jobs_in_all c.args.jobs.now, ap (λ (js : List (List Job)). sum_by (λ (jobs : List Job). length jobs) js) c.requires.jobs, jobs_bounded c.args.n c.requires.most);
+      missed = omega (
+        arith,
+        c.misses_of-at_cores.ensures,
+        c.misses_of-at_parts.ensures,
+        cores,
+        parts,
+        ap (λ (ns : List NodeView). sum_by (λ (node : NodeView). node.counts.missed) ns) c.cores.ensures,
+        cores_missed c.args.n (bulk_budgets c.args.n) c.args.tree.now c.requires.tree,
+        ap (λ (ns : List NodeView). sum_by (λ (node : NodeView). node.counts.missed) ns) c.parts.ensures,
+        guests_missed c.args.n (bulk_budgets c.args.n) c.args.tree.now c.requires.tree,
+      );
+      pending = omega (arith, c.in_ok-pending.ensures.few, length-map c.args.jobs.now (λ (list : Vec Job Global). list.items), ap (λ (js : List (List Job)). length js) c.requires.jobs, jobs-many c.args.n, c.requires.most);
+    }
