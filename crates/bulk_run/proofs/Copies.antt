@@ -1,5 +1,5 @@
 -- A core of a generated host runs as the host of its guests alone does, whose one core it is.
-use Rattle.std.proofs.Common.{◌≡◌, ℕ, ◌*◌, ◌/◌, ◌%◌, ◌<◌, ◌≤◌, Bool, cond, eqb, true, List, [], length, get_or, Option, None, sym, ◌∙◌, ap, arith, subst}
+use Rattle.std.proofs.Common.{◌≡◌, ℕ, ◌/◌, ◌%◌, ◌<◌, cond, eqb, List, [], get_or, Option, sym, ◌∙◌, ap, arith, subst}
 use Rattle.slot_model.specs.declared.job.Job.{Job}
 use Rattle.slot_model.specs.declared.sched.Sched.{Sched}
 use Rattle.slot_model.specs.declared.sched.Sched.TheVariants.{Edf, Rm}
@@ -7,7 +7,6 @@ use Rattle.slot_model.specs.Task.{SporadicTask}
 use Rattle.slot_model.specs.Release.{synchronous}
 use Rattle.span_counts.specs.Pending.{pairs_pending}
 use Rattle.tree_model.specs.declared.pinned_core.Core.{Core as CoreView}
-use Rattle.tree_model.specs.declared.place.Place.{Place}
 use Rattle.tree_model.specs.declared.place.Place.TheVariants.{Core}
 use Rattle.tree_model.specs.View.{PartView}
 use Rattle.tree_model.specs.System.{part_at, own_tasks_at}
@@ -15,7 +14,7 @@ use Rattle.tree_model.specs.Tree.{place_of, node_sched, server_tasks, run_at, ru
 use Rattle.tree_model.specs.Releases.{jobs_at}
 use Rattle.tree_model.specs.FirstTree.{FirstServers, FirstLeaf}
 use Rattle.tree_model.proofs.SameNodes.{first_servers_same, first_leaf_same, slots_same}
-use Rattle.bulk_host.specs.Host.{guest_period, guest_sched, guest_budget, cores_for, bulk_host, bulk_budgets}
+use Rattle.bulk_host.specs.Host.{guest_period, cores_for, bulk_host, bulk_budgets}
 use Rattle.bulk_host.proofs.LeafBudgets.{tasks_of}
 use Rattle.bulk_host.proofs.Servers.{budget_here, guests_on, core_servers, rank_here, servers_here}
 use Rattle.bulk_host.proofs.Systems.{core_here, guest_here, cores-many, guests-many}

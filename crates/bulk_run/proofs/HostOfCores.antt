@@ -38,24 +38,26 @@ all_cores n full rest = map (core_run n full rest) (range_with_len 0 (cores_for 
 abbrev all_parts : (n : ℕ) → HostFirstRun 8 → HostFirstRun (n % 8) → List (List (Option ℕ))
 all_parts n full rest = map (part_run n full rest) (range_with_len 0 n)
 
+core_here : (n : ℕ) (full : HostFirstRun 8) (rest : HostFirstRun (n % 8)) (c : ℕ) (before : Bool) → ltb c (n / 8) ≡ before → c < cores_for n → run_at (all_cores n full rest) c ≡ cond before (run_at full.cores 0) (run_at rest.cores 0)
+unfolding core_run
+core_here n full rest c before e l = get_or-map-range_with_len (core_run n full rest) 0 (cores_for n) c c [] l (omega arith) ∙ ap (λ (b : Bool). cond b (run_at full.cores 0) (run_at rest.cores 0)) e
+
+part_here : (n : ℕ) (full : HostFirstRun 8) (rest : HostFirstRun (n % 8)) (q : ℕ) (before : Bool) → ltb (q / 8) (n / 8) ≡ before → q < n → run_at (all_parts n full rest) q ≡ cond before (run_at full.parts (q % 8)) (run_at rest.parts (q % 8))
+unfolding part_run
+part_here n full rest q before e l = get_or-map-range_with_len (part_run n full rest) 0 n q q [] l (omega arith) ∙ ap (λ (b : Bool). cond b (run_at full.parts (q % 8)) (run_at rest.parts (q % 8))) e
+
 full_copy : (n : ℕ) (full : HostFirstRun 8) (rest : HostFirstRun (n % 8)) (c : ℕ) → c < n / 8 → IsCopy n (all_cores n full rest) (all_parts n full rest) c 8 full
-unfolding core_run part_run
 full_copy n full rest c l = record {
   guests = omega arith;
-  core = get_or-map-range_with_len (core_run n full rest) 0 (cores_for n) c c [] (omega arith) (omega arith) ∙ ap (λ (b : Bool). cond b (run_at full.cores 0) (run_at rest.cores 0)) (lt-ltb c (n / 8) l);
-  each = λ q m e.
-      get_or-map-range_with_len (part_run n full rest) 0 n q q [] m (omega arith)
-      ∙ ap (λ (b : Bool). cond b (run_at full.parts (q % 8)) (run_at rest.parts (q % 8))) (lt-ltb (q / 8) (n / 8) (omega arith));
+  core = core_here n full rest c true (lt-ltb c (n / 8) l) (omega arith);
+  each = λ q m e. part_here n full rest q true (lt-ltb (q / 8) (n / 8) (omega arith)) m;
 }
 
 rest_copy : (n : ℕ) (full : HostFirstRun 8) (rest : HostFirstRun (n % 8)) (c : ℕ) → n / 8 ≤ c → c < cores_for n → IsCopy n (all_cores n full rest) (all_parts n full rest) c (n % 8) rest
-unfolding core_run part_run
 rest_copy n full rest c l m = record {
   guests = omega arith;
-  core = get_or-map-range_with_len (core_run n full rest) 0 (cores_for n) c c [] m (omega arith) ∙ ap (λ (b : Bool). cond b (run_at full.cores 0) (run_at rest.cores 0)) (le-ltb c (n / 8) l);
-  each = λ q h e.
-      get_or-map-range_with_len (part_run n full rest) 0 n q q [] h (omega arith)
-      ∙ ap (λ (b : Bool). cond b (run_at full.parts (q % 8)) (run_at rest.parts (q % 8))) (le-ltb (q / 8) (n / 8) (omega arith));
+  core = core_here n full rest c false (le-ltb c (n / 8) l) m;
+  each = λ q h e. part_here n full rest q false (le-ltb (q / 8) (n / 8) (omega arith)) h;
 }
 
 -- they are the first run of the host
