@@ -90,10 +90,6 @@ guests_in_sum f g h n full rest =
     (λ c i l m. full (8 * c + i) (omega arith) (omega arith) ∙ ap g (let e : (8 * c + i) % 8 ≡ i = omega arith in e))
     (λ i l. rest (8 * (n / 8) + i) (omega arith) (omega arith) ∙ ap h (let e : (8 * (n / 8) + i) % 8 ≡ i = omega arith in e))
 
-parts_in_sum : (f g h : ℕ → ℕ) (n : ℕ) → ((q : ℕ) → q < n → q / 8 < n / 8 → f q ≡ g (q % 8)) → ((q : ℕ) → q < n → n / 8 ≤ q / 8 → f q ≡ h (q % 8)) →
-    sum_below f (length (bulk_host n).parts) ≡ n / 8 * sum_below g (length (bulk_host 8).parts) + sum_below h (length (bulk_host (n % 8)).parts)
-parts_in_sum f g h n full rest = omega (arith, guests_in_sum f g h n full rest, ap (sum_below f) (guests-many n), ap (λ (z : ℕ). n / 8 * sum_below g z) (guests-many 8), ap (sum_below h) (guests-many (n % 8)))
-
 cores_in_sum : (f g h : ℕ → ℕ) (n : ℕ) → ((c : ℕ) → c < n / 8 → f c ≡ g 0) → ((c : ℕ) → n / 8 ≤ c → c < cores_for n → f c ≡ h 0) →
     sum_below f (length (bulk_host n).cores) ≡ n / 8 * sum_below g (length (bulk_host 8).cores) + sum_below h (length (bulk_host (n % 8)).cores)
 cores_in_sum f g h n full rest =
@@ -115,7 +111,7 @@ jobs_in_sum n =
     let split = guests_in_sum (λ q. length (jobs_at (bulk_jobs n) q)) (λ q. length (jobs_at (bulk_jobs 8) q)) (λ q. length (jobs_at (bulk_jobs (n % 8)) q)) n (λ q l m. ap (λ (js : List Job). length js) (jobs_same n q 8 (q % 8) l (omega arith) (omega arith))) (λ q l m. ap (λ (js : List Job). length js) (jobs_same n q (n % 8) (q % 8) l (omega arith) (omega arith))) in
     omega (arith, split, jobs_by_guest n, jobs_by_guest (n % 8), ap (λ (z : ℕ). n / 8 * z) (jobs_by_guest 8))
 
--- what is counted of the runs
+-- what is counted of the servers of each core
 core_misses_in_sum : (n : ℕ) (full : HostFirstRun 8) (rest : HostFirstRun (n % 8)) →
     sum_below (core_misses n (bulk_budgets n) (all_cores n full rest)) (length (bulk_host n).cores) ≡ n / 8 * sum_below (core_misses 8 (bulk_budgets 8) full.cores) (length (bulk_host 8).cores) + sum_below (core_misses (n % 8) (bulk_budgets (n % 8)) rest.cores) (length (bulk_host (n % 8)).cores)
 core_misses_in_sum n full rest =
@@ -123,19 +119,16 @@ core_misses_in_sum n full rest =
     (λ c l. copy_misses n c 8 (all_cores n full rest) (all_parts n full rest) full (omega arith) (full_copy n full rest c l))
     (λ c l m. copy_misses n c (n % 8) (all_cores n full rest) (all_parts n full rest) rest m (rest_copy n full rest c l m))
 
-guest_misses_in_sum : (n : ℕ) (full : HostFirstRun 8) (rest : HostFirstRun (n % 8)) →
-    sum_below (guest_misses n (all_parts n full rest)) (length (bulk_host n).parts) ≡ n / 8 * sum_below (guest_misses 8 full.parts) (length (bulk_host 8).parts) + sum_below (guest_misses (n % 8) rest.parts) (length (bulk_host (n % 8)).parts)
-guest_misses_in_sum n full rest =
-    parts_in_sum (guest_misses n (all_parts n full rest)) (guest_misses 8 full.parts) (guest_misses (n % 8) rest.parts) n
-    (λ q l m. copied_guest_misses n q 8 (all_cores n full rest) (all_parts n full rest) full l (full_copy n full rest (q / 8) m))
-    (λ q l m. copied_guest_misses n q (n % 8) (all_cores n full rest) (all_parts n full rest) rest l (rest_copy n full rest (q / 8) m (omega arith)))
-
-pending_in_sum : (n : ℕ) (full : HostFirstRun 8) (rest : HostFirstRun (n % 8)) →
-    sum_below (guest_pending n (all_parts n full rest)) (length (bulk_host n).parts) ≡ n / 8 * sum_below (guest_pending 8 full.parts) (length (bulk_host 8).parts) + sum_below (guest_pending (n % 8) rest.parts) (length (bulk_host (n % 8)).parts)
-pending_in_sum n full rest =
-    parts_in_sum (guest_pending n (all_parts n full rest)) (guest_pending 8 full.parts) (guest_pending (n % 8) rest.parts) n
-    (λ q l m. copied_guest_pending n q 8 (all_cores n full rest) (all_parts n full rest) full l (full_copy n full rest (q / 8) m))
-    (λ q l m. copied_guest_pending n q (n % 8) (all_cores n full rest) (all_parts n full rest) rest l (rest_copy n full rest (q / 8) m (omega arith)))
+-- what is counted of each guest, where a copy has the count of what it copies
+guests_counted : (count : ℕ → List (List (Option ℕ)) → ℕ → ℕ) → ((n q k : ℕ) (core_runs part_runs : List (List (Option ℕ))) (small : HostFirstRun k) → q < n → IsCopy n core_runs part_runs (q / 8) k small → count n part_runs q ≡ count k small.parts (q % 8)) →
+    (n : ℕ) (full : HostFirstRun 8) (rest : HostFirstRun (n % 8)) →
+    sum_below (count n (all_parts n full rest)) (length (bulk_host n).parts) ≡ n / 8 * sum_below (count 8 full.parts) (length (bulk_host 8).parts) + sum_below (count (n % 8) rest.parts) (length (bulk_host (n % 8)).parts)
+guests_counted count same n full rest =
+    let split =
+    guests_in_sum (count n (all_parts n full rest)) (count 8 full.parts) (count (n % 8) rest.parts) n
+    (λ q l m. same n q 8 (all_cores n full rest) (all_parts n full rest) full l (full_copy n full rest (q / 8) m))
+    (λ q l m. same n q (n % 8) (all_cores n full rest) (all_parts n full rest) rest l (rest_copy n full rest (q / 8) m (omega arith))) in
+    omega (arith, split, ap (sum_below (count n (all_parts n full rest))) (guests-many n), ap (λ (z : ℕ). n / 8 * sum_below (count 8 full.parts) z) (guests-many 8), ap (sum_below (count (n % 8) rest.parts)) (guests-many (n % 8)))
 
 -- the counts in these runs
 two_sums : (k a b c d x y : ℕ) → x ≡ k * a + c → y ≡ k * b + d → k * (a + b) + (c + d) ≡ x + y
@@ -148,8 +141,8 @@ counts_in_sum n full rest =
     (omega (arith, cores-many n, cores-many (n % 8), ap (λ (z : ℕ). n / 8 * z) (cores-many 8)))
     (sym (budgets_in_sum n))
     (sym (jobs_in_sum n))
-    (two_sums (n / 8) _ _ _ _ _ _ (core_misses_in_sum n full rest) (guest_misses_in_sum n full rest))
-    (sym (pending_in_sum n full rest))
+    (two_sums (n / 8) _ _ _ _ _ _ (core_misses_in_sum n full rest) (guests_counted guest_misses copied_guest_misses n full rest))
+    (sym (guests_counted guest_pending copied_guest_pending n full rest))
 
 pub host_of_cores : (n : ℕ) (full rest : BulkCounts) → AreHostCounts 8 full → AreHostCounts (n % 8) rest → AreHostCounts n (plus (times (n / 8) full) rest)
 host_of_cores n full rest a b = record {
