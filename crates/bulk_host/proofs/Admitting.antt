@@ -16,7 +16,8 @@ use Rattle.tree_model.proofs.NodeTasks.{leaf_tasks}
 use Rattle.bulk_host.specs.Host.{guest_period, guest_sched, guest_budget, cores_for, bulk_host, bulk_budgets}
 use Rattle.bulk_host.proofs.LeafBudgets.{tasks_of, least_of_kind}
 use Rattle.bulk_host.proofs.Systems.{core_here, guest_here, cores-many, guests-many}
-use Rattle.bulk_host.proofs.CoreLoad.{budget_here, core_fits, core_is_small}
+use Rattle.bulk_host.proofs.Servers.{budget_here}
+use Rattle.bulk_host.proofs.CoreLoad.{core_fits, core_is_small}
 
 -- the tasks of a guest are its own
 pub tasks_here : (n q : ℕ) (budgets : List ℕ) → q < n → node_tasks (bulk_host n) budgets (Part q) ≡ tasks_of (guest_period q)

@@ -1,4 +1,5 @@
 pub mod LeafBudgets
+pub mod Servers
 pub mod CoreLoad
 pub mod Systems
 pub mod Admitting

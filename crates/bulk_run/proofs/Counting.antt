@@ -18,14 +18,14 @@ use Rattle.tree_model.specs.Tree.{server_tasks, server_jobs, run_at, budget_at}
 use Rattle.tree_model.specs.System.{own_tasks_at}
 use Rattle.tree_model.specs.Releases.{jobs_at}
 use Rattle.server_sched.specs.NodeView.{NodeView, TreeView}
-use Rattle.server_sched.specs.TreeSpans.{node_at, runs_of, AreFewJobs, AreTreeSpans}
+use Rattle.server_sched.specs.TreeSpans.{node_at, runs_of, AreTreeSpans}
 use Rattle.bulk_host.specs.Host.{guest_budget, bulk_host, bulk_budgets}
-use Rattle.bulk_host.proofs.CoreLoad.{budget_here}
+use Rattle.bulk_host.proofs.Servers.{budget_here}
 use Rattle.bulk_host.proofs.Systems.{cores-many, guests-many}
 use Rattle.bulk_run.specs.declared.counts.BulkCounts.{BulkCounts}
 use Rattle.bulk_run.specs.Summary.{bulk_slots, bulk_supplies, bulk_jobs, misses_in, core_misses, guest_misses, guest_pending}
 use Rattle.bulk_run.specs.Steps.{IsGuestRun, AreGuestRuns}
-use Rattle.bulk_run.proofs.HostRun.{leaf_here, few_here, jobs-many, run_here}
+use Rattle.bulk_run.proofs.HostRun.{leaf_here, few_here, host_few, jobs-many, run_here}
 
 -- a sum of terms that are each at most m
 pub sum_bounded : (f : ℕ → ℕ) (m n : ℕ) → ((x : ℕ) → x < n → f x ≤ m) → sum_below f n ≤ n * m
@@ -42,19 +42,19 @@ count_bounded p n = omega (arith, sum_bounded (λ x. cond (p x) 1 0) 1 n (λ x l
 pub misses_bounded : (tasks : List SporadicTask) (jobs : List Job) (run : List (Option ℕ)) → misses_in tasks jobs run ≤ length jobs
 misses_bounded tasks jobs run = count_bounded (is_missed tasks jobs run) (length jobs)
 
--- the sum of the budgets
-pub budgets_bounded : (n : ℕ) → n ≤ 256 → sum (bulk_budgets n) < 2 ^ 64
-budgets_bounded n few =
-    let places : sum (bulk_budgets n) ≡ sum_below (budget_at (bulk_budgets n)) (length (bulk_budgets n)) = sum_by-places (λ (x : ℕ). x) 0 (bulk_budgets n) in
-    let many : length (bulk_budgets n) ≡ n = length-map-range_with_len guest_budget 0 n in
-    omega (arith, places, many, sum_bounded (budget_at (bulk_budgets n)) 1000 (length (bulk_budgets n)) (λ q l. each q (omega (arith, many))))
-  where
-    each : (q : ℕ) → q < n → budget_at (bulk_budgets n) q ≤ 1000
-    each q l = omega (arith, budget_here n q l)
+-- the sum of the budgets, guest by guest
+pub budgets_by_guest : (n : ℕ) → sum (bulk_budgets n) ≡ sum_below (budget_at (bulk_budgets n)) n
+budgets_by_guest n = sum_by-places (λ (x : ℕ). x) 0 (bulk_budgets n) ∙ ap (sum_below (budget_at (bulk_budgets n))) (length-map-range_with_len guest_budget 0 n)
+
+pub budgets_bounded : (n : ℕ) → n ≤ 256 → sum (bulk_budgets n) < 2 ^ 58
+budgets_bounded n few = omega (arith, budgets_by_guest n, sum_bounded (budget_at (bulk_budgets n)) 1000 n (λ q l. omega (arith, budget_here n q l)))
 
 -- the number of the jobs
-pub jobs_bounded : (n : ℕ) → n ≤ 256 → sum_by (λ (jobs : List Job). length jobs) (bulk_jobs n) < 2 ^ 64
-jobs_bounded n few = omega (arith, sum_by-places (λ (jobs : List Job). length jobs) [] (bulk_jobs n), jobs-many n, sum_bounded (λ q. length (jobs_at (bulk_jobs n) q)) 200000 (length (bulk_jobs n)) (λ q l. few_here n q (omega (arith, jobs-many n))))
+pub jobs_by_guest : (n : ℕ) → sum_by (λ (jobs : List Job). length jobs) (bulk_jobs n) ≡ sum_below (λ q. length (jobs_at (bulk_jobs n) q)) n
+jobs_by_guest n = sum_by-places (λ (jobs : List Job). length jobs) [] (bulk_jobs n) ∙ ap (sum_below (λ q. length (jobs_at (bulk_jobs n) q))) (jobs-many n)
+
+pub jobs_bounded : (n : ℕ) → n ≤ 256 → sum_by (λ (jobs : List Job). length jobs) (bulk_jobs n) < 2 ^ 58
+jobs_bounded n few = omega (arith, jobs_by_guest n, sum_bounded (λ q. length (jobs_at (bulk_jobs n) q)) 200000 n (λ q l. few_here n q l))
 
 -- the misses of the cores, and of the guests
 pub core_missed : (n : ℕ) (budgets : List ℕ) (tree : TreeView) → AreTreeSpans (bulk_host n) budgets bulk_slots (bulk_supplies n) (bulk_jobs n) tree → (c : ℕ) → c < length tree.cores → (node_at tree.cores c).counts.missed ≡ core_misses n budgets (runs_of tree.cores) c
@@ -67,26 +67,35 @@ guest_missed n budgets tree h q l =
     ((h.parts q (omega (arith, h.each_part))).leaf (leaf_here n q (omega (arith, h.each_part, guests-many n)))).counts.missed
     ∙ ap (λ (run : List (Option ℕ)). misses_in (own_tasks_at (bulk_host n) q) (jobs_at (bulk_jobs n) q) run) (sym (run_here tree.parts q l))
 
-pub cores_missed : (n : ℕ) (budgets : List ℕ) (tree : TreeView) → AreTreeSpans (bulk_host n) budgets bulk_slots (bulk_supplies n) (bulk_jobs n) tree → sum_by (λ (node : NodeView). node.counts.missed) tree.cores ≡ sum_below (core_misses n budgets (runs_of tree.cores)) (length (bulk_host n).cores)
-cores_missed n budgets tree h =
-    sum_by-places (λ (node : NodeView). node.counts.missed) (node_at [] 0) tree.cores
+pub cores_missed : (n : ℕ) (budgets : List ℕ) (tree : TreeView) → AreTreeSpans (bulk_host n) budgets bulk_slots (bulk_supplies n) (bulk_jobs n) tree → (nodes : List NodeView) → nodes ≡ tree.cores →
+    sum_by (λ (node : NodeView). node.counts.missed) nodes ≡ sum_below (core_misses n budgets (runs_of tree.cores)) (length (bulk_host n).cores)
+cores_missed n budgets tree h nodes same =
+    ap (λ (ns : List NodeView). sum_by (λ (node : NodeView). node.counts.missed) ns) same
+    ∙ (sum_by-places (λ (node : NodeView). node.counts.missed) (node_at [] 0) tree.cores
     ∙ (sum_below-same (λ c. (node_at tree.cores c).counts.missed) (core_misses n budgets (runs_of tree.cores)) (length tree.cores) (λ c l. core_missed n budgets tree h c l)
-    ∙ ap (sum_below (core_misses n budgets (runs_of tree.cores))) h.each_core)
+    ∙ ap (sum_below (core_misses n budgets (runs_of tree.cores))) h.each_core))
 
-pub guests_missed : (n : ℕ) (budgets : List ℕ) (tree : TreeView) → AreTreeSpans (bulk_host n) budgets bulk_slots (bulk_supplies n) (bulk_jobs n) tree → sum_by (λ (node : NodeView). node.counts.missed) tree.parts ≡ sum_below (guest_misses n (runs_of tree.parts)) (length (bulk_host n).parts)
-guests_missed n budgets tree h =
-    sum_by-places (λ (node : NodeView). node.counts.missed) (node_at [] 0) tree.parts
+pub guests_missed : (n : ℕ) (budgets : List ℕ) (tree : TreeView) → AreTreeSpans (bulk_host n) budgets bulk_slots (bulk_supplies n) (bulk_jobs n) tree → (nodes : List NodeView) → nodes ≡ tree.parts →
+    sum_by (λ (node : NodeView). node.counts.missed) nodes ≡ sum_below (guest_misses n (runs_of tree.parts)) (length (bulk_host n).parts)
+guests_missed n budgets tree h nodes same =
+    ap (λ (ns : List NodeView). sum_by (λ (node : NodeView). node.counts.missed) ns) same
+    ∙ (sum_by-places (λ (node : NodeView). node.counts.missed) (node_at [] 0) tree.parts
     ∙ (sum_below-same (λ q. (node_at tree.parts q).counts.missed) (guest_misses n (runs_of tree.parts)) (length tree.parts) (λ q l. guest_missed n budgets tree h q l)
-    ∙ ap (sum_below (guest_misses n (runs_of tree.parts))) h.each_part)
+    ∙ ap (sum_below (guest_misses n (runs_of tree.parts))) h.each_part))
 
 -- they are few
-pub core_misses_bounded : (n : ℕ) (budgets : List ℕ) → n ≤ 256 → AreFewJobs (bulk_host n) budgets bulk_slots (bulk_jobs n) → (runs : List (List (Option ℕ))) → sum_below (core_misses n budgets runs) (length (bulk_host n).cores) < 2 ^ 48
-core_misses_bounded n budgets few jobs runs =
-    omega (arith, cores-many n, sum_bounded (core_misses n budgets runs) (2 ^ 32) (length (bulk_host n).cores) (λ c l. omega (arith, misses_bounded (server_tasks (bulk_host n) budgets (Core c)) (server_jobs (bulk_host n) budgets (Core c) bulk_slots) (run_at runs c), jobs.servers (Core c) l)))
+pub few_at_cores : (n : ℕ) → 1 ≤ n → n ≤ 256 → (tree : TreeView) → AreTreeSpans (bulk_host n) (bulk_budgets n) bulk_slots (bulk_supplies n) (bulk_jobs n) tree → (nodes : List NodeView) → nodes ≡ tree.cores → sum_by (λ (node : NodeView). node.counts.missed) nodes < 2 ^ 48
+few_at_cores n some few tree h nodes same =
+    let jobs = host_few n some few in
+    let runs : List (List (Option ℕ)) = runs_of tree.cores in
+    let each = sum_bounded (core_misses n (bulk_budgets n) runs) (2 ^ 32) (length (bulk_host n).cores) (λ c l. omega (arith, misses_bounded (server_tasks (bulk_host n) (bulk_budgets n) (Core c)) (server_jobs (bulk_host n) (bulk_budgets n) (Core c) bulk_slots) (run_at runs c), jobs.servers (Core c) l)) in
+    omega (arith, each, cores-many n, cores_missed n (bulk_budgets n) tree h nodes same)
 
-pub guest_misses_bounded : (n : ℕ) → n ≤ 256 → (runs : List (List (Option ℕ))) → sum_below (guest_misses n runs) (length (bulk_host n).parts) < 2 ^ 48
-guest_misses_bounded n few runs =
-    omega (arith, guests-many n, sum_bounded (guest_misses n runs) (2 ^ 32) (length (bulk_host n).parts) (λ q l. omega (arith, misses_bounded (own_tasks_at (bulk_host n) q) (jobs_at (bulk_jobs n) q) (run_at runs q), few_here n q (omega (arith, guests-many n)))))
+pub few_at_parts : (n : ℕ) → n ≤ 256 → (tree : TreeView) → AreTreeSpans (bulk_host n) (bulk_budgets n) bulk_slots (bulk_supplies n) (bulk_jobs n) tree → (nodes : List NodeView) → nodes ≡ tree.parts → sum_by (λ (node : NodeView). node.counts.missed) nodes < 2 ^ 48
+few_at_parts n few tree h nodes same =
+    let runs : List (List (Option ℕ)) = runs_of tree.parts in
+    let each = sum_bounded (guest_misses n runs) (2 ^ 32) (length (bulk_host n).parts) (λ q l. omega (arith, misses_bounded (own_tasks_at (bulk_host n) q) (jobs_at (bulk_jobs n) q) (run_at runs q), few_here n q (omega (arith, guests-many n)))) in
+    omega (arith, each, guests-many n, guests_missed n (bulk_budgets n) tree h nodes same)
 
 -- the pairs that are pending
 pub guests_pending : (n : ℕ) (budgets : List ℕ) (tree : TreeView) → AreTreeSpans (bulk_host n) budgets bulk_slots (bulk_supplies n) (bulk_jobs n) tree →

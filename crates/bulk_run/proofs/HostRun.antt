@@ -1,6 +1,6 @@
 -- The run of a generated host: its jobs are legal and few, and each guest's spans are as long as
 -- the run.
-use Rattle.std.proofs.Common.{◌≡◌, ℕ, ◌*◌, ◌/◌, ◌<◌, ◌≤◌, Bool, true, false, List, [], length, get_or, Option, sym, ◌∙◌, ap, arith, subst, lit≤}
+use Rattle.std.proofs.Common.{◌≡◌, ℕ, ◌*◌, ◌/◌, ◌<◌, ◌≤◌, Bool, true, false, List, [], length, get_or, Option, None, sym, ◌∙◌, ap, arith, subst, lit≤}
 use Rattle.std.proofs.lemmas.List.{length-map, get_or-map}
 use Rattle.std.proofs.lemmas.List.FromFn.{length-map-range_with_len}
 use Rattle.slot_model.specs.declared.job.Job.{Job}
@@ -26,7 +26,7 @@ use Rattle.server_sched.specs.TreeSpans.{node_at, runs_of, AreFewJobs, AreTreeSp
 use Rattle.server_sched.proofs.Lists.{few_in_reach}
 use Rattle.bulk_host.specs.Host.{guest_period, cores_for, bulk_host, bulk_budgets}
 use Rattle.bulk_host.proofs.LeafBudgets.{tasks_of, constrained_of}
-use Rattle.bulk_host.proofs.Systems.{guest_here, cores-many, guests-many, host_is_system}
+use Rattle.bulk_host.proofs.Systems.{core_here, guest_here, cores-many, guests-many, host_is_system}
 use Rattle.bulk_host.proofs.Admitting.{host_is_admitted}
 use Rattle.bulk_run.specs.Summary.{bulk_slots, bulk_supplies, bulk_jobs}
 use Rattle.bulk_run.specs.Steps.{IsGuestRun, AreGuestRuns}
@@ -84,11 +84,14 @@ carried sys other budgets more supplies given jobs lists tree a b c d h =
 pub run_here : (nodes : List NodeView) (i : ℕ) → i < length nodes → run_at (runs_of nodes) i ≡ run_of (node_at nodes i).spans
 run_here nodes i l = get_or-map (λ (node : NodeView). run_of node.spans) nodes i (node_at [] 0) [] l
 
--- the runs have all slots
+-- a core has every slot, and the runs are as long
+pub supply_here : (n c : ℕ) → c < cores_for n → get_or (bulk_supplies n) c [] ≡ pattern_slots Early None bulk_slots
+supply_here n c l =
+    get_or-map (λ (core : CoreView). pattern_slots Early core.supply bulk_slots) (bulk_host n).cores c no_core [] (omega (arith, cores-many n))
+    ∙ ap (λ (core : CoreView). pattern_slots Early core.supply bulk_slots) (core_here n c l)
+
 supply_long : (n c : ℕ) → c < cores_for n → length (get_or (bulk_supplies n) c []) ≡ bulk_slots
-supply_long n c l =
-    ap (λ (s : List Bool). length s) (get_or-map (λ (core : CoreView). pattern_slots Early core.supply bulk_slots) (bulk_host n).cores c no_core [] (omega (arith, cores-many n)))
-    ∙ length-map-range_with_len (pattern_slot Early (get_or (bulk_host n).cores c no_core).supply) 0 bulk_slots
+supply_long n c l = ap (λ (s : List Bool). length s) (supply_here n c l) ∙ length-map-range_with_len (pattern_slot Early None) 0 bulk_slots
 
 core_long : (n : ℕ) (budgets : List ℕ) (cores parts : List (List (Option ℕ))) → FirstTree (bulk_host n) budgets bulk_slots (bulk_supplies n) (bulk_jobs n) cores parts → (c : ℕ) → c < cores_for n → length (run_at cores c) ≡ bulk_slots
 core_long n budgets cores parts first c l = (first.cores c (omega (arith, cores-many n))).long ∙ supply_long n c l

@@ -1,3 +1,6 @@
 mod HostRun
 mod Counting
+mod Blocks
+mod Copies
+mod HostOfCores
 pub mod OneCount

@@ -6,7 +6,7 @@ ghost use Rattle.tree_model.specs.Releases.{jobs_at};
 ghost use Rattle.server_sched.specs.TreeSpans.{node_at, runs_of, AreTreeSpans};
 ghost use Rattle.bulk_host.specs.Host.{bulk_host, bulk_budgets};
 ghost use Rattle.bulk_run.specs.Summary.{bulk_slots, bulk_supplies, bulk_jobs as jobs_of_host, counts_in, AreBulkCounts};
-ghost use Rattle.bulk_run.specs.Steps.{IsGuestRun, AreGuestRuns};
+ghost use Rattle.bulk_run.specs.Steps.{IsGuestRun, AreGuestRuns, AreHostCounts, AreBelow, times, plus};
 
 use bulk_host::{bulk_jobs, make_bulk};
 use compose_tree::compose;
@@ -32,11 +32,65 @@ pub struct BulkCounts {
     pub pending: u64,
 }
 
-/// What is counted of the host of `n` guests, 1 to 256, in 100,000 slots.
+impl BulkCounts {
+    /// What is counted of `cores` cores that are counted alike.
+    fn times(self, cores: u64) -> BulkCounts
+        requires cores { cores ≤ 32 }
+        requires few { AreBelow (2 ^ 58) self }
+        ensures value { result ≡ times cores self }
+        ensures few { AreBelow (2 ^ 63) result }
+    {
+        BulkCounts {
+            guests: cores * self.guests,
+            cores: cores * self.cores,
+            budgets: cores * self.budgets,
+            jobs: cores * self.jobs,
+            missed: cores * self.missed,
+            pending: cores * self.pending,
+        }
+    }
+
+    /// What is counted of two hosts together.
+    fn plus(self, other: BulkCounts) -> BulkCounts
+        requires few { AreBelow (2 ^ 63) self }
+        requires other { AreBelow (2 ^ 63) other }
+        ensures { result ≡ plus self other }
+    {
+        BulkCounts {
+            guests: self.guests + other.guests,
+            cores: self.cores + other.cores,
+            budgets: self.budgets + other.budgets,
+            jobs: self.jobs + other.jobs,
+            missed: self.missed + other.missed,
+            pending: self.pending + other.pending,
+        }
+    }
+}
+
+/// What is counted of the host of `n` guests, 1 to 256, in 100,000 slots. Its full cores run alike,
+/// so one of them is run, and beside it the core that is not full.
 pub fn bulk_counts(alloc: Global, n: u64) -> Result<BulkCounts, AllocError>
     requires some { 1 ≤ n }
     requires most { n ≤ 256 }
     ensures { IfOk result (λ counts. AreBulkCounts n counts) }
+{
+    if n < 8 {
+        return host_counts(alloc, n);
+    }
+    let full = host_counts(alloc, 8)?.times(n / 8);
+    if n % 8 == 0 {
+        return Ok(full);
+    }
+    let rest = host_counts(alloc, n % 8)?;
+    Ok(full.plus(rest))
+}
+
+/// What is counted of the host of `n` guests, of which every core is run.
+fn host_counts(alloc: Global, n: u64) -> Result<BulkCounts, AllocError>
+    requires some { 1 ≤ n }
+    requires most { n ≤ 256 }
+    ensures counts { IfOk result (λ counts. AreHostCounts n counts) }
+    ensures few { IfOk result (λ counts. AreBelow (2 ^ 58) counts) }
 {
     let sys = make_bulk(alloc, n)?;
     let plan = plan_of(alloc, &sys, n)?;
@@ -62,8 +116,9 @@ fn count_run(
     requires jobs { map (λ list. list.items) jobs.now ≡ jobs_of_host n }
     requires tree { AreTreeSpans (bulk_host n) (bulk_budgets n) bulk_slots (bulk_supplies n)
         (jobs_of_host n) tree.now }
-    ensures { IfOk result (λ counts. counts ≡ counts_in n (bulk_budgets n)
+    ensures counts { IfOk result (λ counts. counts ≡ counts_in n (bulk_budgets n)
         (runs_of tree.now.cores) (runs_of tree.now.parts)) }
+    ensures few { IfOk result (λ counts. AreBelow (2 ^ 58) counts) }
 {
     let budgets = sum_of(plan.budgets());
     let number = number_of_jobs(jobs);
@@ -141,9 +196,10 @@ fn misses_of(nodes: &[NodeSpans]) -> u64
 fn pending_of(alloc: Global, jobs: &[Vec<Job>], nodes: &[NodeSpans]) -> Result<u64, AllocError>
     requires few { length jobs.now ≤ 512 }
     requires runs { AreGuestRuns (map (λ list. list.items) jobs.now) nodes.now }
-    ensures { let lists = map (λ list. list.items) jobs.now in
+    ensures counted { let lists = map (λ list. list.items) jobs.now in
         IfOk result (λ pending. pending ≡ sum_below (λ q.
         pairs_pending (jobs_at lists q) (run_of (node_at nodes.now q).spans)) (length lists)) }
+    ensures few { IfOk result (λ pending. pending ≤ length jobs.now * 2 ^ 49) }
 {
     let mut pending = 0;
     for place in 0..jobs.len() {

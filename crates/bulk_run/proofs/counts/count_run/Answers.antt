@@ -1,4 +1,4 @@
-use Rattle.std.proofs.Common.{◌≡◌, ℕ, ◌+◌, List, Vec, Global, length, refl, sym, ◌∙◌, ap, arith, subst}
+use Rattle.std.proofs.Common.{◌≡◌, ℕ, ◌+◌, ◌^◌, ◌<◌, List, Vec, Global, length, refl, sym, ◌∙◌, ap, arith, subst}
 use Rattle.std.specs.Prelude.{sum, sum_by}
 use Rattle.std.proofs.lemmas.List.{length-map}
 use Rattle.slot_model.specs.declared.job.Job.{Job}
@@ -8,12 +8,13 @@ use Rattle.span_counts.specs.Pending.{pairs_pending}
 use Rattle.tree_model.specs.View.{SystemView}
 use Rattle.tree_model.specs.Releases.{jobs_at}
 use Rattle.server_sched.specs.NodeView.{NodeView}
-use Rattle.server_sched.specs.TreeSpans.{node_at, runs_of}
+use Rattle.server_sched.specs.TreeSpans.{node_at}
 use Rattle.bulk_host.specs.Host.{bulk_host, bulk_budgets}
-use Rattle.bulk_run.specs.Summary.{bulk_jobs, core_misses, guest_misses, guest_pending}
+use Rattle.bulk_host.proofs.Systems.{cores-many}
+use Rattle.bulk_run.specs.Summary.{bulk_jobs}
 use Rattle.bulk_run.specs.Steps.{AreGuestRuns}
-use Rattle.bulk_run.proofs.HostRun.{host_few, jobs-many, guest_runs}
-use Rattle.bulk_run.proofs.Counting.{budgets_bounded, jobs_bounded, cores_missed, guests_missed, core_misses_bounded, guest_misses_bounded, guests_pending, jobs_in_all, same_counts}
+use Rattle.bulk_run.proofs.HostRun.{jobs-many, guest_runs}
+use Rattle.bulk_run.proofs.Counting.{budgets_bounded, jobs_bounded, cores_missed, guests_missed, few_at_cores, few_at_parts, guests_pending, jobs_in_all, same_counts}
 use Rattle.bulk_run.proofs.counts.count_run.Goals as goal
 
 pub sum_of-budgets-requires : goal.sum_of-budgets-requires
@@ -23,22 +24,10 @@ pub number_of_jobs-number-requires : goal.number_of_jobs-number-requires
 number_of_jobs-number-requires c = omega (arith, jobs_in_all c.args.jobs.now, ap (λ (js : List (List Job)). sum_by (λ (jobs : List Job). length jobs) js) c.requires.jobs, jobs_bounded c.args.n c.requires.most)
 
 pub misses_of-at_cores-requires : goal.misses_of-at_cores-requires
-misses_of-at_cores-requires c =
-    omega (
-      arith,
-      ap (λ (ns : List NodeView). sum_by (λ (node : NodeView). node.counts.missed) ns) c.cores.ensures,
-      cores_missed c.args.n (bulk_budgets c.args.n) c.args.tree.now c.requires.tree,
-      core_misses_bounded c.args.n (bulk_budgets c.args.n) c.requires.most (host_few c.args.n c.requires.some c.requires.most) (runs_of c.args.tree.now.cores),
-    )
+misses_of-at_cores-requires c = omega (arith, few_at_cores c.args.n c.requires.some c.requires.most c.args.tree.now c.requires.tree c.cores.result.now c.cores.ensures)
 
 pub misses_of-at_parts-requires : goal.misses_of-at_parts-requires
-misses_of-at_parts-requires c =
-    omega (
-      arith,
-      ap (λ (ns : List NodeView). sum_by (λ (node : NodeView). node.counts.missed) ns) c.parts.ensures,
-      guests_missed c.args.n (bulk_budgets c.args.n) c.args.tree.now c.requires.tree,
-      guest_misses_bounded c.args.n c.requires.most (runs_of c.args.tree.now.parts),
-    )
+misses_of-at_parts-requires c = omega (arith, few_at_parts c.args.n c.requires.most c.args.tree.now c.requires.tree c.parts.result.now c.parts.ensures)
 
 pub pending_of-requires-clause-few : goal.pending_of-requires-clause-few
 pending_of-requires-clause-few c = omega (arith, length-map c.args.jobs.now (λ (list : Vec Job Global). list.items), ap (λ (js : List (List Job)). length js) c.requires.jobs, jobs-many c.args.n, c.requires.most)
@@ -48,41 +37,52 @@ pending_of-requires-clause-runs c =
     subst (λ (js : List (List Job)). AreGuestRuns js c.parts-2.result.now) (sym c.requires.jobs)
     (subst (λ (ns : List NodeView). AreGuestRuns (bulk_jobs c.args.n) ns) (sym c.parts-2.ensures) (guest_runs c.args.n (bulk_budgets c.args.n) c.args.tree.now c.requires.tree))
 
-pub overflow_add-result : goal.overflow_add-result
-overflow_add-result c =
-    let cores = core_misses_bounded c.args.n (bulk_budgets c.args.n) c.requires.most (host_few c.args.n c.requires.some c.requires.most) (runs_of c.args.tree.now.cores) in
-    let parts = guest_misses_bounded c.args.n c.requires.most (runs_of c.args.tree.now.parts) in
-    record {
-      fits = omega (
-        arith,
-        c.misses_of-at_cores.ensures,
-        c.misses_of-at_parts.ensures,
-        cores,
-        parts,
-        ap (λ (ns : List NodeView). sum_by (λ (node : NodeView). node.counts.missed) ns) c.cores.ensures,
-        cores_missed c.args.n (bulk_budgets c.args.n) c.args.tree.now c.requires.tree,
-        ap (λ (ns : List NodeView). sum_by (λ (node : NodeView). node.counts.missed) ns) c.parts.ensures,
-        guests_missed c.args.n (bulk_budgets c.args.n) c.args.tree.now c.requires.tree,
-      );
-    }
+-- the counts, each as its call told it
+budgets_told : (c : goal.After-cores-2) → c.sum_of-budgets.result ≡ sum (bulk_budgets c.args.n)
+budgets_told c = c.sum_of-budgets.ensures ∙ ap (λ (b : List ℕ). sum b) (c.budgets.ensures ∙ c.requires.plan)
 
-pub returns : goal.returns
-returns c =
+jobs_told : (c : goal.After-cores-2) → c.number_of_jobs-number.result ≡ sum_by (λ (jobs : List Job). length jobs) (bulk_jobs c.args.n)
+jobs_told c = c.number_of_jobs-number.ensures ∙ (jobs_in_all c.args.jobs.now ∙ ap (λ (js : List (List Job)). sum_by (λ (jobs : List Job). length jobs) js) c.requires.jobs)
+
+cores_told : (c : goal.After-cores-2) → length c.cores-2.result.now ≡ length (bulk_host c.args.n).cores
+cores_told c = ap length c.cores-2.ensures.cores ∙ ap (λ (s : SystemView). length s.cores) c.requires.host
+
+few_missed : (c : goal.After-cores-2) → c.misses_of-at_cores.result + c.misses_of-at_parts.result < 2 ^ 49
+few_missed c =
+    omega (
+      arith,
+      c.misses_of-at_cores.ensures,
+      c.misses_of-at_parts.ensures,
+      few_at_cores c.args.n c.requires.some c.requires.most c.args.tree.now c.requires.tree c.cores.result.now c.cores.ensures,
+      few_at_parts c.args.n c.requires.most c.args.tree.now c.requires.tree c.parts.result.now c.parts.ensures,
+    )
+
+pub overflow_add-result : goal.overflow_add-result
+overflow_add-result c = record { fits = omega (arith, few_missed c) }
+
+pub returns-clause-counts : goal.returns-clause-counts
+returns-clause-counts c =
     let n = c.args.n in
     let tree = c.args.tree.now in
-    let at_cores : c.misses_of-at_cores.result ≡ sum_below (core_misses n (bulk_budgets n) (runs_of tree.cores)) (length (bulk_host n).cores) =
-    c.misses_of-at_cores.ensures ∙ (ap (λ (ns : List NodeView). sum_by (λ (node : NodeView). node.counts.missed) ns) c.cores.ensures ∙ cores_missed n (bulk_budgets n) tree c.requires.tree) in
-    let at_parts : c.misses_of-at_parts.result ≡ sum_below (guest_misses n (runs_of tree.parts)) (length (bulk_host n).parts) =
-    c.misses_of-at_parts.ensures ∙ (ap (λ (ns : List NodeView). sum_by (λ (node : NodeView). node.counts.missed) ns) c.parts.ensures ∙ guests_missed n (bulk_budgets n) tree c.requires.tree) in
-    same_counts n n (length c.cores-2.result.now) (length (bulk_host n).cores) c.sum_of-budgets.result (sum (bulk_budgets n)) c.number_of_jobs-number.result (sum_by (λ (jobs : List Job). length jobs) (bulk_jobs n))
-    (c.misses_of-at_cores.result + c.misses_of-at_parts.result) (sum_below (core_misses n (bulk_budgets n) (runs_of tree.cores)) (length (bulk_host n).cores) + sum_below (guest_misses n (runs_of tree.parts)) (length (bulk_host n).parts))
-    c.in_ok-pending.pending (sum_below (guest_pending n (runs_of tree.parts)) (length (bulk_host n).parts))
-    refl
-    (ap length c.cores-2.ensures.cores ∙ ap (λ (s : SystemView). length s.cores) c.requires.host)
-    (c.sum_of-budgets.ensures ∙ ap (λ (b : List ℕ). sum b) (c.budgets.ensures ∙ c.requires.plan))
-    (c.number_of_jobs-number.ensures ∙ (jobs_in_all c.args.jobs.now ∙ ap (λ (js : List (List Job)). sum_by (λ (jobs : List Job). length jobs) js) c.requires.jobs))
-    (ap (λ (z : ℕ). z + c.misses_of-at_parts.result) at_cores ∙ ap (λ (z : ℕ). sum_below (core_misses n (bulk_budgets n) (runs_of tree.cores)) (length (bulk_host n).cores) + z) at_parts)
-    (c.in_ok-pending.ensures
+    same_counts _ _ _ _ _ _ _ _ _ _ _ _ refl (cores_told c) (budgets_told c) (jobs_told c)
+    (omega (
+      arith,
+      c.misses_of-at_cores.ensures,
+      c.misses_of-at_parts.ensures,
+      cores_missed n (bulk_budgets n) tree c.requires.tree c.cores.result.now c.cores.ensures,
+      guests_missed n (bulk_budgets n) tree c.requires.tree c.parts.result.now c.parts.ensures,
+    ))
+    (c.in_ok-pending.ensures.counted
     ∙ (ap (λ (js : List (List Job)). sum_below (λ q. pairs_pending (jobs_at js q) (run_of (node_at c.parts-2.result.now q).spans)) (length js)) c.requires.jobs
     ∙ (ap (λ (ns : List NodeView). sum_below (λ q. pairs_pending (jobs_at (bulk_jobs n) q) (run_of (node_at ns q).spans)) (length (bulk_jobs n))) c.parts-2.ensures
     ∙ guests_pending n (bulk_budgets n) tree c.requires.tree)))
+
+pub returns-clause-few : goal.returns-clause-few
+returns-clause-few c = record {
+  guests = omega (arith, c.requires.most);
+  cores = omega (arith, cores_told c, cores-many c.args.n, c.requires.most);
+  budgets = omega (arith, budgets_told c, budgets_bounded c.args.n c.requires.most);
+  jobs = omega (arith, jobs_told c, jobs_bounded c.args.n c.requires.most);
+  missed = omega (arith, few_missed c);
+  pending = omega (arith, c.in_ok-pending.ensures.few, length-map c.args.jobs.now (λ (list : Vec Job Global). list.items), ap (λ (js : List (List Job)). length js) c.requires.jobs, jobs-many c.args.n, c.requires.most);
+}

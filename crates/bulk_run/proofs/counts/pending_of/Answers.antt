@@ -35,3 +35,6 @@ loop-place-preserved c =
       counted = omega (arith, one, c.loop-place.invariant.counted, sum_below-suc (pending_at c.args.jobs.now c.args.nodes.now) c.loop-place.place, ap (sum_below (pending_at c.args.jobs.now c.args.nodes.now)) (add-one c.loop-place.place));
       few = omega (arith, c.in_ok-pending.ensures.few, c.loop-place.invariant.few);
     }
+
+pub returns-clause-few : goal.returns-clause-few
+returns-clause-few c = omega (arith, c.loop-place.invariant.few, c.loop-place.auto.place-end)
