@@ -41,8 +41,8 @@ misses_on_every_level : simulate_text tree (record { cores = counted 10 2 1 (Som
 unfolding digits
 misses_on_every_level = refl
 
--- there are as many slots as the list of the first core has, and the text tells what is counted over
--- them
+-- there are as many slots as the list of the first core has, and the text tells what is counted
+-- over them
 slots_of_the_first_core : (slots_told ((true ∷ false ∷ []) ∷ (true ∷ []) ∷ (true ∷ []) ∷ []) ≡ 2) × (slots_told [] ≡ 0)
 slots_of_the_first_core = (refl, refl)
 
