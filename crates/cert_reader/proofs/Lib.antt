@@ -12,3 +12,4 @@ pub mod Newline
 pub mod TextBack
 pub mod Pieces
 pub mod Standing
+mod Examples

@@ -1,6 +1,7 @@
 -- Worked rows, on which the rules are computed: A with the tasks t1, of 7 slots in 50 with a jitter
 -- of 5, and t2, of 9 slots in 75; and B, without tasks, on which C stands.
-use Rattle.std.proofs.Common.{◌≡◌, ℕ, false, Some, None, List, [], ◌∷◌, codes, refl}
+use Rattle.std.proofs.Common.{◌≡◌, ◌≢◌, ℕ, zero, suc, ◌+◌, ◌<◌, ◌≤◌, true, false, Some, None, List, [], ◌∷◌, codes, refl, arith, lit<, lit≤}
+use Rattle.slot_model.specs.declared.task.TheConstants.{LIMIT}
 use Rattle.slot_model.specs.declared.sched.Sched.TheVariants.{Edf}
 use Rattle.slot_model.specs.Task.{early_job, jittery_task, plain_task}
 use Rattle.tree_model.specs.declared.place.Parent.{Parent}
@@ -8,8 +9,11 @@ use Rattle.tree_model.specs.declared.place.Parent.TheVariants.{Core as on_core, 
 use Rattle.tree_model.specs.View.{NamedTask, PartView, SystemView}
 use Rattle.release_file.specs.declared.fault.ReleaseFault.TheVariants.{BadRow, Unknown, OutOfRange, TooEarly, BadOrder}
 use Rattle.release_file.specs.declared.release_spelling.Version.TheVariants.{First, Second}
+use Rattle.trace_file.specs.Rules.{is_vcpu}
+use Rattle.release_file.specs.declared.workload.Wake.{Wake}
+use Rattle.release_file.specs.declared.workload.WakeKind.{WakeKind}
 use Rattle.release_file.specs.declared.workload.WakeKind.TheVariants.{Start, Wake as ToWake, Block}
-use Rattle.release_file.specs.Workload.{last_row}
+use Rattle.release_file.specs.Workload.{row_at, last_row, is_of, is_started_at, is_blocked_at, is_started, start_of, may_follow, IsWorkload}
 use Rattle.release_file.specs.WorkloadFile.{wakes_of, wake_rules, wake_rows}
 use Rattle.release_file.specs.ReleaseFile.{jobs_of, releases_of, release_rules, release_rows}
 
@@ -57,6 +61,13 @@ a_block_of_one_that_is_blocked : wake_rules host (a_starts ∷ a_blocks ∷ []) 
 unfolding last_row
 a_block_of_one_that_is_blocked = refl
 
+a_start_of_one_that_is_blocked : wake_rules host (a_starts ∷ a_blocks ∷ []) (codes "4" ∷ codes "A" ∷ codes "start" ∷ []) ≡ Some (BadOrder 4)
+unfolding last_row
+a_start_of_one_that_is_blocked = refl
+
+a_start_past_the_longest_period : wake_rules host [] (codes "1000000001" ∷ codes "A" ∷ codes "start" ∷ []) ≡ Some (OutOfRange 2)
+a_start_past_the_longest_period = refl
+
 a_wake_before_the_start : wake_rules host [] (a_wakes 48) ≡ Some (BadOrder 2)
 unfolding last_row
 a_wake_before_the_start = refl
@@ -70,8 +81,74 @@ a_falling_slot = refl
 another_word : wake_rules host [] (codes "0" ∷ codes "A" ∷ codes "run" ∷ []) ≡ Some (BadRow 2)
 another_word = refl
 
+a_header_of_three_fields : wake_rows ((codes "at" ∷ codes "vcpu" ∷ codes "what" ∷ []) ∷ a_starts ∷ []) ≡ Some (a_starts ∷ [])
+a_header_of_three_fields = refl
+
 a_header_of_four_fields_is_none : wake_rows ((codes "at" ∷ codes "vcpu" ∷ codes "what" ∷ codes "why" ∷ []) ∷ []) ≡ None
 a_header_of_four_fields_is_none = refl
+
+-- what such rows are together, and what they are not
+abbrev wake : ℕ → ℕ → WakeKind → Wake
+wake at vcpu what = record { at = at; vcpu = vcpu; what = what }
+
+two : (P : ℕ → Type 0) → P 0 → P 1 → (i : ℕ) → i < 2 → P i
+two P p q zero h = p
+two P p q (suc zero) h = q
+two P p q (suc (suc i)) h = absurd (omega arith)
+
+abbrev start_and_block : List Wake
+start_and_block = wake 0 0 Start ∷ wake 3 0 Block ∷ []
+
+a_start_and_a_block_are_a_workload : IsWorkload host start_and_block
+unfolding last_row
+a_start_and_a_block_are_a_workload = record {
+  in_limit = two (λ i. (row_at start_and_block i).at ≤ LIMIT) (lit≤ tt) (lit≤ tt);
+  in_order = in_order;
+  known = two (λ i. is_vcpu host (row_at start_and_block i).vcpu ≡ true) refl refl;
+  one_a_slot = one_a_slot;
+  in_turn = two (λ i. may_follow (last_row (is_of (row_at start_and_block i).vcpu) start_and_block i) (row_at start_and_block i).what ≡ true) refl refl;
+}
+  where
+    in_order : (i : ℕ) → i + 1 < 2 → (row_at start_and_block i).at ≤ (row_at start_and_block (i + 1)).at
+    in_order zero h = lit≤ tt
+    in_order (suc i) h = absurd (omega arith)
+
+    one_a_slot : (i j : ℕ) → i < j → j < 2 → (row_at start_and_block i).vcpu ≡ (row_at start_and_block j).vcpu → (row_at start_and_block i).at ≢ (row_at start_and_block j).at
+    one_a_slot zero (suc zero) l h same = λ e. omega (arith, e)
+    one_a_slot i (suc (suc j)) l h same = absurd (omega arith)
+    one_a_slot i j l h same = absurd (omega arith)
+
+two_rows_of_a_vcpu_at_a_slot_are_none : IsWorkload host (wake 3 0 Start ∷ wake 3 0 Block ∷ []) → ⊥
+two_rows_of_a_vcpu_at_a_slot_are_none is = is.one_a_slot 0 1 (lit< tt) (lit< tt) refl refl
+
+a_row_before_the_row_before_is_none : IsWorkload host (wake 3 0 Start ∷ wake 2 1 Start ∷ []) → ⊥
+a_row_before_the_row_before_is_none is = let rises : 3 ≤ 2 = is.in_order 0 (lit< tt) in omega arith
+
+a_child_of_a_part_is_no_vcpu_of_one : IsWorkload host (wake 0 2 Start ∷ []) → ⊥
+a_child_of_a_part_is_no_vcpu_of_one is = let known : false ≡ true = is.known 0 (lit< tt) in cc
+
+a_wake_without_a_start_is_none : IsWorkload host (wake 0 0 ToWake ∷ []) → ⊥
+unfolding last_row
+a_wake_without_a_start_is_none is = let turn : false ≡ true = is.in_turn 0 (lit< tt) in cc
+
+a_row_past_the_longest_period_is_none : IsWorkload host (wake 1000000001 0 Start ∷ []) → ⊥
+a_row_past_the_longest_period_is_none is = let within : 1000000001 ≤ 1000000000 = is.in_limit 0 (lit< tt) in omega arith
+
+-- A starts at 1, blocks at 3 and wakes at 5, where B starts
+abbrev four_rows : List Wake
+four_rows = wake 1 0 Start ∷ wake 3 0 Block ∷ wake 5 0 ToWake ∷ wake 5 1 Start ∷ []
+
+from_its_start_on_a_vcpu_is_started : (is_started_at four_rows 0 0 ≡ false) × (is_started_at four_rows 0 1 ≡ true) × (is_started_at four_rows 1 4 ≡ false) × (is_started_at four_rows 1 5 ≡ true)
+unfolding last_row
+from_its_start_on_a_vcpu_is_started = (refl, refl, refl, refl)
+
+from_its_block_up_to_its_wake_it_is_blocked : (is_blocked_at four_rows 0 2 ≡ false) × (is_blocked_at four_rows 0 3 ≡ true) × (is_blocked_at four_rows 0 4 ≡ true) × (is_blocked_at four_rows 0 5 ≡ false)
+unfolding last_row
+from_its_block_up_to_its_wake_it_is_blocked = (refl, refl, refl, refl)
+
+its_start_is_told_with_its_slot : (is_started four_rows 0 ≡ true) × (is_started four_rows 2 ≡ false) × (start_of four_rows 0 ≡ 1) × (start_of four_rows 1 ≡ 5)
+unfolding last_row
+its_start_is_told_with_its_slot = (refl, refl, refl, refl)
 
 -- rows of releases
 abbrev first_of : List ℕ → List ℕ → List ℕ → List ℕ → Row
@@ -94,6 +171,12 @@ a_period_after = refl
 
 a_slot_less : release_rules host First (t1_at_0 ∷ []) (first_of (codes "49") (codes "A") (codes "t1") (codes "7")) ≡ Some (TooEarly 3)
 a_slot_less = refl
+
+a_slot_before_that_of_the_row_before : release_rules host First (t1_at_0 ∷ first_of (codes "50") (codes "A") (codes "t1") (codes "7") ∷ []) (first_of (codes "49") (codes "A") (codes "t2") (codes "9")) ≡ Some (BadOrder 4)
+a_slot_before_that_of_the_row_before = refl
+
+a_slot_past_the_longest_period : release_rules host First [] (first_of (codes "1000000001") (codes "A") (codes "t1") (codes "7")) ≡ Some (OutOfRange 2)
+a_slot_past_the_longest_period = refl
 
 another_task_at_the_same_slot : release_rules host First (t1_at_0 ∷ []) (first_of (codes "0") (codes "A") (codes "t2") (codes "9")) ≡ None
 another_task_at_the_same_slot = refl
@@ -125,3 +208,9 @@ five_fields_under_version_1 = refl
 
 headers : release_rows ((codes "at" ∷ codes "part" ∷ codes "task" ∷ codes "work" ∷ []) ∷ t1_at_0 ∷ []) ≡ Some (First, t1_at_0 ∷ [])
 headers = refl
+
+-- the header of version 2, and two that are of neither
+headers_of_five_fields :
+    (release_rows ((codes "at" ∷ codes "part" ∷ codes "task" ∷ codes "work" ∷ codes "early" ∷ []) ∷ late_at_0 ∷ []) ≡ Some (Second, late_at_0 ∷ []))
+    × (release_rows ((codes "at" ∷ codes "part" ∷ codes "task" ∷ codes "work" ∷ codes "late" ∷ []) ∷ []) ≡ None) × (release_rows ((codes "at" ∷ codes "part" ∷ codes "work" ∷ codes "task" ∷ []) ∷ []) ≡ None)
+headers_of_five_fields = (refl, refl, refl)

@@ -1,15 +1,17 @@
 -- Worked texts of simulations: spelled out by hand, and what defines them comes to just this.
 use Rattle.slot_model.specs.Task.{plain_task}
-use Rattle.std.proofs.Common.{◌≡◌, ℕ, false, List, [], ◌∷◌, Option, Some, None, refl}
+use Rattle.std.proofs.Common.{◌≡◌, ℕ, Bool, true, false, List, [], ◌∷◌, Option, Some, None, refl}
 use Rattle.std.specs.Prelude.{codes}
 use Rattle.std.specs.Fmt.{digits}
+use Rattle.slot_model.specs.declared.job.Job.{Job}
 use Rattle.slot_model.specs.declared.miss.Miss.{Miss}
 use Rattle.slot_model.specs.declared.sched.Sched.TheVariants.{Edf}
 use Rattle.span_counts.specs.declared.counts.Counts.{Counts}
 use Rattle.tree_model.specs.declared.place.Parent.{Parent}
 use Rattle.tree_model.specs.declared.place.Parent.TheVariants.{Core as on_core, Part as on_part}
 use Rattle.tree_model.specs.View.{NamedTask, PartView, SystemView}
-use Rattle.rt_report.specs.Simulate.{simulate_text}
+use Rattle.server_sched.specs.TreeCounts.{CountsView, AreTreeCounts}
+use Rattle.rt_report.specs.Simulate.{simulate_text, slots_told, IsTextOfRun}
 
 abbrev part : List ℕ → Parent → List NamedTask → PartView
 part name parent tasks = record { name = name; parent = parent; sched = Edf; period = 10; budget = None; extra = false; tasks = tasks }
@@ -38,3 +40,12 @@ a_simulation_without_a_miss = refl
 misses_on_every_level : simulate_text tree (record { cores = counted 10 2 1 (Some (miss 1)) ∷ []; parts = counted 6 1 1 (Some (miss 0)) ∷ counted 4 0 0 None ∷ counted 4 2 2 (Some (miss 1)) ∷ [] }) ≡ codes "verdict=no\ncore cpu0 given=10 jobs=2 missed=1\nfirst db release=0 deadline=10 got=4 of=6\npart mid given=6 jobs=1 missed=1\nfirst web release=0 deadline=10 got=4 of=6\npart db given=4 jobs=0 missed=0\npart web given=4 jobs=2 missed=2\nfirst write release=0 deadline=10 got=4 of=6\n"
 unfolding digits
 misses_on_every_level = refl
+
+-- there are as many slots as the list of the first core has, and the text tells what is counted
+-- over them
+slots_of_the_first_core : (slots_told ((true ∷ false ∷ []) ∷ (true ∷ []) ∷ (true ∷ []) ∷ []) ≡ 2) × (slots_told [] ≡ 0)
+slots_of_the_first_core = (refl, refl)
+
+what_a_text_tells : (sys : SystemView) (budgets : List ℕ) (supplies : List (List Bool)) (jobs : List (List Job)) (core_runs part_runs : List (List (Option ℕ))) (text : List ℕ) → IsTextOfRun sys budgets supplies jobs core_runs part_runs text →
+    (counts : CountsView) × AreTreeCounts sys budgets (slots_told supplies) supplies jobs core_runs part_runs counts × (text ≡ simulate_text sys counts)
+what_a_text_tells sys budgets supplies jobs core_runs part_runs text h = (h.counts, h.are, h.told)

@@ -19,3 +19,4 @@ mod ReplayLeaf
 mod ReplayList
 mod Examples
 mod AuditExamples
+mod MeansExamples

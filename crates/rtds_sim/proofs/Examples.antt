@@ -16,20 +16,20 @@ use Rattle.rtds_sim.specs.Rtds.{CoreRun, level_at}
 use Rattle.rtds_sim.specs.Printed.{gathered, printed_below, printed}
 use Rattle.rtds_sim.proofs.Runs.{better, choice, chosen, is_run}
 
-abbrev server : ℕ → ℕ → Bool → PartView
+abbrev pub server : ℕ → ℕ → Bool → PartView
 server letter budget extra = record { name = letter ∷ []; parent = on_core 0; sched = Edf; period = 10; budget = Some budget; extra = extra; tasks = record { name = 116 ∷ []; task = record { period = 100; deadline = 100; work = budget; jitter = 0 } } ∷ [] }
 
-abbrev core : CoreView
+abbrev pub core : CoreView
 core = record { name = 99 ∷ []; sched = Edf; supply = None }
 
 -- whether A has extra time
-abbrev host : Bool → SystemView
+abbrev pub host : Bool → SystemView
 host extra = record { cores = core ∷ []; parts = server 65 3 extra ∷ server 66 4 false ∷ [] }
 
-abbrev budgets : List ℕ
+abbrev pub budgets : List ℕ
 budgets = 3 ∷ 4 ∷ []
 
-abbrev row : ℕ → ℕ → WakeKind → Wake
+abbrev pub row : ℕ → ℕ → WakeKind → Wake
 row at vcpu what = record { at = at; vcpu = vcpu; what = what }
 
 abbrev event : ℕ → What → Event
@@ -38,11 +38,11 @@ event at what = record { at = at; core = 0; what = what }
 abbrev A : Option ℕ
 A = Some 0
 
-abbrev B : Option ℕ
+abbrev pub B : Option ℕ
 B = Some 1
 
 -- both start at 0
-abbrev both_start : List Wake
+abbrev pub both_start : List Wake
 both_start = row 0 0 Start ∷ row 0 1 Start ∷ []
 
 -- with extra time A has what B leaves

@@ -1,9 +1,12 @@
--- Worked examples of covers, by hand. A wrong definition breaks one of them.
+-- Worked examples of covers and chains, by hand. A wrong definition breaks one of them.
 use Rattle.std.proofs.Common.{◌≡◌, ℕ, zero, suc, ◌+◌, ◌-◌, ◌<◌, ◌≤◌, List, [], ◌∷◌, get_or, refl, arith}
+use Rattle.slot_model.specs.declared.sched.Sched.TheVariants.{Listed}
+use Rattle.slot_model.specs.Slots.{sum_below}
 use Rattle.slot_model.specs.Task.{SporadicTask, plain_task}
-use Rattle.slot_model.specs.Bound.{sbf, dbf}
-use Rattle.slot_model.specs.Points.{IsCover, IsBackward}
-use Rattle.slot_model.proofs.BoundExamples.{two_tasks, with_jitter}
+use Rattle.slot_model.specs.Order.{ranks_above}
+use Rattle.slot_model.specs.Bound.{sbf, dbf, rbf}
+use Rattle.slot_model.specs.Points.{IsCover, IsBackward, CoversShow, IsChain}
+use Rattle.slot_model.proofs.BoundExamples.{two_tasks, with_jitter, too_much}
 
 -- one task of 3 slots in 10, where a window of t slots has t
 
@@ -57,6 +60,9 @@ no_point_stands_twice cover = let rises : 3 < 3 = cover.rising 0 (omega arith) i
 
 the_first_point_is_not_past_a_deadline : IsCover one_task (λ t. t) 11 (11 ∷ 12 ∷ []) → ⊥
 the_first_point_is_not_past_a_deadline cover = let due : dbf one_task 10 ≡ 3 = refl in omega (arith, due, cover.none_before)
+
+what_a_cover_shows_holds_at_its_end : CoversShow one_task (λ t. t) 11 → dbf one_task 11 ≤ 11
+what_a_cover_shows_holds_at_its_end shows = shows from_three three_slots_and_the_end_cover 11 (omega arith) (omega arith)
 
 no_points_are_no_cover : IsCover one_task (λ t. t) 11 [] → ⊥
 no_points_are_no_cover cover = let some : 1 ≤ 0 = cover.some_point in omega arith
@@ -121,3 +127,27 @@ with_one_point_more_they_do = record { some_point = omega arith; some_slots = om
     steps (suc zero) l = omega arith
     steps (suc (suc zero)) l = omega arith
     steps (suc (suc (suc j))) l = absurd (omega arith)
+
+-- in its deadline of two slots the second task asks for one, behind two of the first
+
+past_its_deadline_a_chain_ends : IsChain (ranks_above Listed too_much) too_much (λ t. t) 1 (1 ∷ 3 ∷ [])
+unfolding sum_below
+past_its_deadline_a_chain_ends = record { some_point = omega arith; from_one = refl; rising = rising; steps = steps; to_deadline = refl }
+  where
+    rising : (j : ℕ) → j + 1 < 2 → get_or (1 ∷ 3 ∷ []) j 0 < get_or (1 ∷ 3 ∷ []) (j + 1) 0
+    rising zero l = omega arith
+    rising (suc j) l = absurd (omega arith)
+
+    steps : (j : ℕ) → j + 1 < 2 → get_or (1 ∷ 3 ∷ []) (j + 1) 0 - 1 < rbf (ranks_above Listed too_much) too_much 1 (get_or (1 ∷ 3 ∷ []) j 0)
+    steps zero l = omega arith
+    steps (suc j) l = absurd (omega arith)
+
+a_chain_begins_at_one : IsChain (ranks_above Listed too_much) too_much (λ t. t) 1 (2 ∷ 3 ∷ []) → ⊥
+a_chain_begins_at_one chain = let one : 2 ≡ 1 = chain.from_one in omega (arith, one)
+
+a_chain_does_not_end_at_the_deadline : IsChain (ranks_above Listed too_much) too_much (λ t. t) 1 (1 ∷ 2 ∷ []) → ⊥
+a_chain_does_not_end_at_the_deadline chain = let past : 2 ≡ 3 = chain.to_deadline in omega (arith, past)
+
+with_a_slot_more_the_work_is_given : IsChain (ranks_above Listed too_much) too_much (λ t. suc t) 1 (1 ∷ 3 ∷ []) → ⊥
+unfolding sum_below
+with_a_slot_more_the_work_is_given chain = let less : 3 < 3 = chain.steps 0 (omega arith) in omega arith
