@@ -7,8 +7,8 @@ use Rattle.slot_model.specs.Task.{sporadic_task}
 use Rattle.slot_model.specs.Bound.{demand_of}
 use Rattle.slot_model.proofs.Constrained.{constrained}
 use Rattle.slot_model.proofs.Demand.{demand_closed}
-use Rattle.edf_demand.specs.declared.term.Term.{Term}
-use Rattle.edf_demand.specs.Terms.{asked_by}
+use Rattle.window_terms.specs.declared.term.Term.{Term}
+use Rattle.window_terms.specs.Asked.{asked_by}
 
 -- what one term asks for
 abbrev pub asked_of : Term → ℕ → ℕ

@@ -1,7 +1,7 @@
 use Rattle.std.proofs.Common.{◌≡◌, ℕ, ◌+◌, ◌-◌, ◌*◌, ◌/◌, ◌^◌, ◌<◌, subst, ap, sym, ◌∙◌, arith}
-use Rattle.edf_demand.specs.declared.term.Term.{Term}
-use Rattle.edf_demand.proofs.Quotients.{IsGuess, guessed, quotient_is}
-use Rattle.edf_demand.proofs.term.Term.jobs.Goals as goal
+use Rattle.window_terms.specs.declared.term.Term.{Term}
+use Rattle.window_terms.proofs.Quotients.{IsGuess, guessed, quotient_is}
+use Rattle.window_terms.proofs.term.Term.jobs.Goals as goal
 
 is_guess : (term : Term) (all guess : ℕ) → all < 2 ^ 64 → guess ≡ (all * term.reciprocal) / 2 ^ 64 → IsGuess all term.period guess
 is_guess term all guess small e =

@@ -1,14 +1,8 @@
 ghost use Rattle.std.specs.Prelude.{◌≡◌, ◌*◌, ◌-◌, ◌/◌, ◌^◌, ◌<◌, ◌≤◌};
 ghost use Rattle.slot_model.specs.declared.task.TheConstants.{LIMIT};
 
-use slot_model::Task;
-
-/// Windows below this one are near: the reciprocal alone gives a quotient there.
-pub(crate) const NEAR: u64 = 1 << 33;
-
-/// What a run of neighbouring tasks of one period and one room ask for together: in `t` slots
-/// `(t + slack) / period` jobs of each fall due, where the slack is what the room leaves of the
-/// period. The work is the sum of their works.
+/// What tasks of one period ask for together: in `t` slots `(t + slack) / period` jobs of each. The
+/// work is the sum of their works.
 #[derive(Clone, Copy)]
 pub struct Term {
     pub period: u64,
@@ -36,42 +30,43 @@ impl Term {
     }
 
     /// One task by itself.
-    pub(crate) fn of(task: &Task) -> Term
-        ensures period { result.period ≡ task.now.period }
-        ensures slack { result.slack ≡ task.now.period - (task.now.deadline - task.now.jitter) }
-        ensures work { result.work ≡ task.now.work }
+    pub fn new(period: u64, slack: u64, work: u64) -> Term
+        requires in_period { slack < period }
+        requires in_limit { period ≤ LIMIT }
+        ensures { (result.period ≡ period) × (result.slack ≡ slack) × (result.work ≡ work) }
     {
         Term {
-            period: task.period,
-            slack: slack_of(task),
-            work: task.work,
-            reciprocal: u64::MAX / task.period,
+            period,
+            slack,
+            work,
+            reciprocal: u64::MAX / period,
         }
     }
 
-    /// One task more, where it has this period and room and the sum of the works fits.
-    pub(crate) fn with(self, task: &Task) -> Option<Term>
+    /// One task more, where the sum of the works fits.
+    pub fn with(self, work: u64) -> Option<Term>
         ensures { IfSome result (λ longer.
             (longer.period ≡ self.period) × (longer.slack ≡ self.slack)
-            × (longer.work ≡ self.work + task.now.work)
-            × (self.period ≡ task.now.period)
-            × (self.slack ≡ task.now.period - (task.now.deadline - task.now.jitter))) }
+            × (longer.work ≡ self.work + work)) }
     {
-        if self.period != task.period || self.slack != slack_of(task) {
-            return None;
-        }
-        let work = self.work.checked_add(task.work)?;
         Some(Term {
             period: self.period,
             slack: self.slack,
-            work,
+            work: self.work.checked_add(work)?,
             reciprocal: self.reciprocal,
         })
     }
 
-    /// How many jobs of each task fall due in a near window.
+    /// The longest near window: up to it the reciprocal alone gives the quotient.
+    pub(crate) fn near(&self) -> u64
+        ensures { result + 1 + self.now.slack ≡ self.now.reciprocal }
+    {
+        self.reciprocal - self.slack - 1
+    }
+
+    /// How many jobs of each task fall into a near window.
     pub(crate) fn jobs_near(&self, t: u64) -> u64
-        requires { t < NEAR }
+        requires { t + 1 + self.now.slack ≤ self.now.reciprocal }
         ensures { result ≡ (t + self.now.slack) / self.now.period }
     {
         let next = t + 1 + self.slack;
@@ -93,13 +88,6 @@ impl Term {
             guess
         }
     }
-}
-
-/// What the room of a task leaves of its period.
-fn slack_of(task: &Task) -> u64
-    ensures { result ≡ task.now.period - (task.now.deadline - task.now.jitter) }
-{
-    task.period - (task.deadline - task.jitter)
 }
 
 /// The upper 64 bits of a product.
