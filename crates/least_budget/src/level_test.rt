@@ -7,8 +7,10 @@ use crate::Tested;
 use crate::lowest::{has_hit_within, hit_of_lowest};
 use edf_demand::horizon;
 use edf_test::first_short;
+use fp_request::gather;
 use slot_model::{Sched, Short, Task};
 use supply_bound::Supply;
+use window_terms::{KEPT, Term};
 
 /// Whether the tasks pass over the supply, and if not, what is short first: the least window under
 /// earliest deadline first, the first task of the list under a fixed rank.
@@ -44,9 +46,12 @@ fn test_tasks<S: Supply>(sched: Sched, tasks: &[Task], s: &S) -> Tested
     requires few { length tasks.now < 2 ^ 32 }
     ensures { IsTested sched (sporadic_tasks tasks.now) (S.bound s.now) (S.cycle_of s.now) result }
 {
-    let common = hit_of_lowest(sched, tasks, s);
+    let mut room = [Term::none(); KEPT];
+    let count = gather(tasks, &mut room);
+    let terms = &room[..count];
+    let common = hit_of_lowest(sched, tasks, terms, s);
     for i in 0..tasks.len() as u32 {
-        if !has_hit_within(sched, tasks, i, s, common) {
+        if !has_hit_within(sched, tasks, terms, i, s, common) {
             return Tested::Short(Short::Task(i));
         }
     }
