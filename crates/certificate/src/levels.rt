@@ -7,11 +7,13 @@ ghost use Rattle.certificate.specs.Made.{IsBackwardCover, AreLeastHits, ListsPas
 
 use edf_demand::horizon;
 use edf_test::cover;
-use fp_test::{falls, hit};
+use fp_request::gather;
+use fp_test::{falls, hit_by};
 use miss_witness::witness;
 use slot_model::{Sched, Task};
 use std::alloc::{AllocError, Global};
 use supply_bound::{Periodic, Supply};
+use window_terms::{KEPT, Term};
 
 /// The points and the hits that show that a level passes.
 pub fn pass_lists<S: Supply>(
@@ -59,9 +61,12 @@ fn hits_of<S: Supply>(
     ensures { let T = sporadic_tasks tasks.now in
         IfOk result (λ hits. AreLeastHits (ranks_above sched T) T (S.bound s.now) hits.items) }
 {
+    let mut room = [Term::none(); KEPT];
+    let count = gather(tasks, &mut room);
+    let terms = &room[..count];
     let mut hits = Vec::with_capacity(alloc, tasks.len())?;
     for i in 0..tasks.len() as u32 {
-        hits.push(hit(sched, tasks, i, s).unwrap())?;
+        hits.push(hit_by(sched, tasks, terms, i, s).unwrap())?;
     }
     Ok(hits)
 }
