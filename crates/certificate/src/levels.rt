@@ -13,7 +13,7 @@ use miss_witness::witness;
 use slot_model::{Sched, Task};
 use std::alloc::{AllocError, Global};
 use supply_bound::{Periodic, Supply};
-use window_terms::{KEPT, Term};
+use window_terms::{FEW, KEPT, Term};
 
 /// The points and the hits that show that a level passes.
 pub fn pass_lists<S: Supply>(
@@ -61,8 +61,47 @@ fn hits_of<S: Supply>(
     ensures { let T = sporadic_tasks tasks.now in
         IfOk result (λ hits. AreLeastHits (ranks_above sched T) T (S.bound s.now) hits.items) }
 {
-    let mut room = [Term::none(); KEPT];
-    let count = gather(tasks, &mut room);
+    if tasks.len() <= FEW {
+        hits_in(alloc, &mut [Term::none(); FEW], sched, tasks, s)
+    } else {
+        hits_of_many(alloc, sched, tasks, s)
+    }
+}
+
+/// The same apart, since a function pays at its entry for all the room that it may need.
+#[inline(never)]
+fn hits_of_many<S: Supply>(
+    alloc: Global,
+    sched: Sched,
+    tasks: &[Task],
+    s: &S,
+) -> Result<Vec<u64>, AllocError>
+    requires fixed { sched ≢ Sched.Edf }
+    requires few { length tasks.now < 2 ^ 32 }
+    requires all_hit { let T = sporadic_tasks tasks.now in
+        AllHit (ranks_above sched T) T (S.bound s.now) }
+    ensures { let T = sporadic_tasks tasks.now in
+        IfOk result (λ hits. AreLeastHits (ranks_above sched T) T (S.bound s.now) hits.items) }
+{
+    hits_in(alloc, &mut [Term::none(); KEPT], sched, tasks, s)
+}
+
+/// The same, where the tasks' terms are gathered in this room.
+fn hits_in<S: Supply>(
+    alloc: Global,
+    room: &mut [Term],
+    sched: Sched,
+    tasks: &[Task],
+    s: &S,
+) -> Result<Vec<u64>, AllocError>
+    requires fixed { sched ≢ Sched.Edf }
+    requires few { length tasks.now < 2 ^ 32 }
+    requires all_hit { let T = sporadic_tasks tasks.now in
+        AllHit (ranks_above sched T) T (S.bound s.now) }
+    ensures { let T = sporadic_tasks tasks.now in
+        IfOk result (λ hits. AreLeastHits (ranks_above sched T) T (S.bound s.now) hits.items) }
+{
+    let count = gather(tasks, room);
     let terms = &room[..count];
     let mut hits = Vec::with_capacity(alloc, tasks.len())?;
     for i in 0..tasks.len() as u32 {

@@ -4,8 +4,7 @@ use Rattle.std.proofs.lemmas.Bool.{cases_eq, cond-true, cond-false}
 use Rattle.std.proofs.lemmas.Nat.{le-div}
 use Rattle.slot_model.specs.Task.{SporadicTask, AreConstrained, IsConstrained, task_at}
 use Rattle.slot_model.specs.Order.{IsRank}
-use Rattle.slot_model.specs.Bound.{sbf, request_of, rbf, IsHit}
-use Rattle.slot_model.proofs.Budgets.{sbf-more}
+use Rattle.slot_model.specs.Bound.{request_of, rbf, IsHit}
 use Rattle.slot_model.proofs.Sums.{sum_below-lt}
 use Rattle.fp_request.specs.Parts.{part_of}
 use Rattle.fp_test.proofs.Answer.{IsAnswer}
@@ -60,10 +59,3 @@ common_of_lowest above tasks ranks fits bound low t lowest h i li room = elim (c
 pub common_answer : (above : ℕ → ℕ → Bool) (tasks : List SporadicTask) → IsRank above → AreConstrained tasks → (bound : ℕ → ℕ) (low : ℕ) → IsLowest above (length tasks) low → (answer : Option ℕ) → IsAnswer above tasks bound low answer → IfSome answer (λ t. IsCommon above tasks bound t)
 common_answer above tasks ranks fits bound low lowest None h = tt
 common_answer above tasks ranks fits bound low lowest (Some t) h = common_of_lowest above tasks ranks fits bound low t lowest h.0
-
--- and it stays one with a larger budget
-pub larger_common : (above : ℕ → ℕ → Bool) (tasks : List SporadicTask) (period budget more : ℕ) → 1 ≤ period → budget ≤ more → more ≤ period → (answer : Option ℕ) → IfSome answer (λ t. IsCommon above tasks (sbf period budget) t) → IfSome answer (λ t. IsCommon above tasks (sbf period more) t)
-larger_common above tasks period budget more l m n None h = tt
-larger_common above tasks period budget more l m n (Some t) common = λ i li room.
-    let hit : IsHit above tasks (sbf period budget) i t = common i li room in
-    record { some_slots = hit.some_slots; in_deadline = hit.in_deadline; enough = omega (arith, hit.enough, sbf-more period budget more t l m n) }
