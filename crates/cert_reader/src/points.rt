@@ -5,11 +5,12 @@ ghost use Rattle.slot_model.specs.Bound.{dbf, rbf, IsHit};
 ghost use Rattle.slot_model.specs.Points.{IsCover, IsChain};
 ghost use Rattle.edf_demand.specs.Terms.{IsGathered};
 
-use edf_demand::{Gathered, Term, demand, demand_by, gather};
+use edf_demand::{Gathered, demand, demand_by, gather};
 use fp_request::request;
 use slot_model::{Sched, Task};
 use supply_bound::Supply;
 use tree_model::MAX_PARTS;
+use window_terms::Term;
 
 /// Whether the points are a cover of all windows up to `h`.
 pub fn is_cover<S: Supply>(tasks: &[Task], s: &S, h: u128, points: &[u128]) -> bool

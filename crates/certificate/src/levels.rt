@@ -7,11 +7,13 @@ ghost use Rattle.certificate.specs.Made.{IsBackwardCover, AreLeastHits, ListsPas
 
 use edf_demand::horizon;
 use edf_test::cover;
-use fp_test::{falls, hit};
+use fp_request::gather;
+use fp_test::{falls, hit_by};
 use miss_witness::witness;
 use slot_model::{Sched, Task};
 use std::alloc::{AllocError, Global};
 use supply_bound::{Periodic, Supply};
+use window_terms::{FEW, KEPT, Term};
 
 /// The points and the hits that show that a level passes.
 pub fn pass_lists<S: Supply>(
@@ -59,9 +61,51 @@ fn hits_of<S: Supply>(
     ensures { let T = sporadic_tasks tasks.now in
         IfOk result (λ hits. AreLeastHits (ranks_above sched T) T (S.bound s.now) hits.items) }
 {
+    if tasks.len() <= FEW {
+        hits_in(alloc, &mut [Term::none(); FEW], sched, tasks, s)
+    } else {
+        hits_of_many(alloc, sched, tasks, s)
+    }
+}
+
+/// The same apart, since a function pays at its entry for all the room that it may need.
+#[inline(never)]
+fn hits_of_many<S: Supply>(
+    alloc: Global,
+    sched: Sched,
+    tasks: &[Task],
+    s: &S,
+) -> Result<Vec<u64>, AllocError>
+    requires fixed { sched ≢ Sched.Edf }
+    requires few { length tasks.now < 2 ^ 32 }
+    requires all_hit { let T = sporadic_tasks tasks.now in
+        AllHit (ranks_above sched T) T (S.bound s.now) }
+    ensures { let T = sporadic_tasks tasks.now in
+        IfOk result (λ hits. AreLeastHits (ranks_above sched T) T (S.bound s.now) hits.items) }
+{
+    hits_in(alloc, &mut [Term::none(); KEPT], sched, tasks, s)
+}
+
+/// The same, where the tasks' terms are gathered in this room.
+fn hits_in<S: Supply>(
+    alloc: Global,
+    room: &mut [Term],
+    sched: Sched,
+    tasks: &[Task],
+    s: &S,
+) -> Result<Vec<u64>, AllocError>
+    requires fixed { sched ≢ Sched.Edf }
+    requires few { length tasks.now < 2 ^ 32 }
+    requires all_hit { let T = sporadic_tasks tasks.now in
+        AllHit (ranks_above sched T) T (S.bound s.now) }
+    ensures { let T = sporadic_tasks tasks.now in
+        IfOk result (λ hits. AreLeastHits (ranks_above sched T) T (S.bound s.now) hits.items) }
+{
+    let count = gather(tasks, room);
+    let terms = &room[..count];
     let mut hits = Vec::with_capacity(alloc, tasks.len())?;
     for i in 0..tasks.len() as u32 {
-        hits.push(hit(sched, tasks, i, s).unwrap())?;
+        hits.push(hit_by(sched, tasks, terms, i, s).unwrap())?;
     }
     Ok(hits)
 }

@@ -1,22 +1,14 @@
 -- One task more among the terms.
 use Rattle.std.proofs.Common.{◌≡◌, ℕ, ◌+◌, ◌-◌, ◌*◌, ◌/◌, ◌<◌, ◌≤◌, List, length, get_or, take, set, ◌∙◌, ap, arith}
-use Rattle.std.proofs.lemmas.List.{take_more_set}
-use Rattle.std.proofs.lemmas.List.Sums.{sum_by_push, sum_by_more}
+use Rattle.std.proofs.lemmas.List.Sums.{sum_by_more}
 use Rattle.slot_model.specs.declared.task.Task.{Task}
 use Rattle.slot_model.specs.Task.{sporadic_task}
 use Rattle.slot_model.specs.Bound.{demand_of}
 use Rattle.slot_model.proofs.Constrained.{constrained}
 use Rattle.slot_model.proofs.Demand.{demand_closed}
-use Rattle.edf_demand.specs.declared.term.Term.{Term}
-use Rattle.edf_demand.specs.Terms.{asked_by}
-
--- what one term asks for
-abbrev pub asked_of : Term → ℕ → ℕ
-asked_of term t = ((t + term.slack) / term.period) * term.work
-
--- a term written behind so many
-pub written : (terms : List Term) (i : ℕ) (term : Term) (t : ℕ) → i < length terms → asked_by (take (i + 1) (set terms i term)) t ≡ asked_by (take i terms) t + asked_of term t
-written terms i term t l = ap (λ (xs : List Term). asked_by xs t) (take_more_set terms i term l) ∙ sum_by_push (λ x. asked_of x t) (take i terms) term
+use Rattle.window_terms.specs.declared.term.Term.{Term}
+use Rattle.window_terms.specs.Asked.{asked_by}
+use Rattle.window_terms.proofs.Written.{asked_of, written}
 
 -- the term of a task, and a term with a task more
 pub alone : (term : Term) (task : Task) (t : ℕ) → term.period ≡ task.period → term.slack ≡ task.period - (task.deadline - task.jitter) → term.work ≡ task.work → asked_of term t ≡ demand_of (sporadic_task task) t

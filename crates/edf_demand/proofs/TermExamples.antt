@@ -1,9 +1,10 @@
 -- Worked examples of terms, by hand. A wrong definition breaks one of them.
-use Rattle.std.proofs.Common.{◌≡◌, [], ◌∷◌, refl, arith}
+use Rattle.std.proofs.Common.{◌≡◌, ℕ, zero, suc, ◌<◌, [], ◌∷◌, get_or, refl, arith}
 use Rattle.slot_model.specs.declared.task.Task.{Task}
-use Rattle.edf_demand.specs.declared.term.Term.{Term}
+use Rattle.window_terms.specs.declared.term.Term.{Term}
 use Rattle.edf_demand.specs.declared.terms.Gathered.{Gathered}
-use Rattle.edf_demand.specs.Terms.{asked_by, IsGathered}
+use Rattle.window_terms.specs.Asked.{asked_by, IsNear}
+use Rattle.edf_demand.specs.Terms.{IsGathered}
 use Rattle.edf_demand.proofs.Gathering.{alone}
 
 -- two tasks of 7 and 2 slots in 50 with a room of 45, and one of 9 slots in 75
@@ -38,15 +39,23 @@ both_fall_due_again_a_period_later : asked_by (both ∷ other ∷ []) 95 ≡ 27
 both_fall_due_again_a_period_later = refl
 
 abbrev one_for_two : Gathered
-one_for_two = record { terms = 1; tasks = 2 }
+one_for_two = record { terms = 1; tasks = 2; near = 1 }
+
+near_one : (k : ℕ) (d : Term) → k < 1 → IsNear (get_or (both ∷ []) k d) 1
+near_one zero d l = omega arith
+near_one (suc k) d l = absurd (omega arith)
 
 -- the term of both stands for both, and the term of one does not
 one_term_stands_for_both : IsGathered one_for_two (both ∷ []) (first ∷ second ∷ [])
-one_term_stands_for_both = record { in_terms = omega arith; in_tasks = omega arith; same = λ t. omega (arith, alone first_alone first t refl refl refl, alone second_alone second t refl refl refl) }
+one_term_stands_for_both = record { in_terms = omega arith; in_tasks = omega arith; same = λ t. omega (arith, alone first_alone first t refl refl refl, alone second_alone second t refl refl refl); near = near_one; fits = omega arith }
 
 the_term_of_one_does_not : IsGathered one_for_two (first_alone ∷ []) (first ∷ second ∷ []) → ⊥
 the_term_of_one_does_not g = let wrong : 7 ≡ 9 = g.same 45 in absurd (omega (arith, wrong))
 
 -- nor does a term that is not counted
-a_term_past_the_count_does_not : IsGathered (record { terms = 0; tasks = 2 }) (both ∷ []) (first ∷ second ∷ []) → ⊥
+a_term_past_the_count_does_not : IsGathered (record { terms = 0; tasks = 2; near = 1 }) (both ∷ []) (first ∷ second ∷ []) → ⊥
 a_term_past_the_count_does_not g = let wrong : 0 ≡ 9 = g.same 45 in absurd (omega (arith, wrong))
+
+-- nor does a window count as near that the reciprocal does not serve
+a_window_past_the_reciprocal_is_not_near : IsGathered (record { terms = 1; tasks = 2; near = 368934881474191027 }) (both ∷ []) (first ∷ second ∷ []) → ⊥
+a_window_past_the_reciprocal_is_not_near g = let wrong : IsNear both 368934881474191027 = g.near 0 both (omega arith) in absurd (omega (arith, wrong))

@@ -5,9 +5,9 @@ ghost use Rattle.slot_model.specs.Task.{sporadic_task, sporadic_tasks};
 ghost use Rattle.slot_model.specs.declared.job.Job.{Job};
 ghost use Rattle.edf_demand.specs.Terms.{IsGathered};
 
-use crate::term::Term;
-use crate::terms::{Gathered, asked};
+use crate::terms::Gathered;
 use slot_model::{LIMIT, Task};
+use window_terms::{Term, asked};
 
 /// The demand bound function: the most work that jobs of the tasks ask for, if they are released
 /// and due in one window of `t` slots. None exactly where it is 2^128 slots or more.
@@ -47,6 +47,6 @@ pub fn demand_by(tasks: &[Task], terms: &[Term], gathered: Gathered, t: u128) ->
     if t >= (u64::MAX - LIMIT) as u128 {
         return demand(tasks, t);
     }
-    let first = asked(&terms[..gathered.terms], gathered.tasks, t as u64);
+    let first = asked(&terms[..gathered.terms], gathered.near, t as u64);
     demand(&tasks[gathered.tasks..], t)?.checked_add(first)
 }

@@ -1,23 +1,23 @@
-ghost use Rattle.std.specs.Prelude.{◌≡◌, ℕ, ◌+◌, ◌*◌, ◌-◌, ◌^◌, ◌<◌, ◌≤◌, MatchOption, length, take};
-ghost use Rattle.slot_model.specs.declared.task.TheConstants.{LIMIT};
+ghost use Rattle.std.specs.Prelude.{◌≡◌, ℕ, ◌+◌, ◌*◌, ◌-◌, ◌^◌, ◌<◌, ◌≤◌, MatchOption, IfSome, All, length, take};
 ghost use Rattle.slot_model.specs.Bound.{demand_of};
 ghost use Rattle.slot_model.specs.Task.{sporadic_task};
-ghost use Rattle.edf_demand.specs.Terms.{IsGathered, asked_by};
+ghost use Rattle.window_terms.specs.Asked.{asked_by, IsNear};
+ghost use Rattle.edf_demand.specs.Terms.{IsGathered};
 
-use crate::term::{NEAR, Term};
 use slot_model::Task;
+use window_terms::{Term, near};
 
-/// So few tasks ask for less than 2^64 slots in a near window.
-const FEW: usize = 1 << 31;
-
-/// How many terms were written, and for how many tasks they stand.
+/// How many terms were written, and for how many tasks they stand. Up to the near window no term
+/// needs more than its reciprocal, and 64 bits hold the sum.
 #[derive(Clone, Copy)]
 pub struct Gathered {
     pub terms: usize,
     pub tasks: usize,
+    pub near: u64,
 }
 
-/// Writes the terms of as many of the first tasks as there is room for.
+/// Writes the terms of as many of the first tasks as there is room for: a run of neighbouring tasks
+/// of one period and one room has one term. The slack is what the room leaves of the period.
 pub fn gather(tasks: &[Task], into: &mut [Term]) -> Gathered
     ensures stand { IsGathered result into.new tasks.now }
     ensures room { result.tasks < length tasks.now → result.terms ≡ length into.new }
@@ -25,13 +25,24 @@ pub fn gather(tasks: &[Task], into: &mut [Term]) -> Gathered
     let mut terms = 0;
     for (k, task) in tasks.iter().enumerate() {
         let Some(more) = add(task, terms, into) else {
-            return Gathered { terms, tasks: k };
+            return counted(&into[..terms], k);
         };
         terms = more;
     }
+    counted(&into[..terms], tasks.len())
+}
+
+/// So many tasks have these terms. For each a window asks for no more slots than it has.
+fn counted(terms: &[Term], tasks: usize) -> Gathered
+    ensures numbers { (result.terms ≡ length terms.now) × (result.tasks ≡ tasks) }
+    ensures near { All (λ term. IsNear term result.near) terms.now }
+    ensures fits { tasks * result.near < 2 ^ 64 }
+{
+    let most = u64::MAX / tasks.max(1) as u64;
     Gathered {
-        terms,
-        tasks: tasks.len(),
+        terms: terms.len(),
+        tasks,
+        near: near(terms, most),
     }
 }
 
@@ -45,7 +56,7 @@ fn add(task: &Task, terms: usize, into: &mut [Term]) -> Option<usize>
         ≡ asked_by (take terms into.old) t + demand_of (sporadic_task task.now) t)) }
 {
     if terms > 0 {
-        if let Some(longer) = into[terms - 1].with(task) {
+        if let Some(longer) = joined(into[terms - 1], task) {
             into[terms - 1] = longer;
             return Some(terms);
         }
@@ -53,43 +64,28 @@ fn add(task: &Task, terms: usize, into: &mut [Term]) -> Option<usize>
     if terms == into.len() {
         return None;
     }
-    into[terms] = Term::of(task);
+    into[terms] = Term::new(task.period, slack_of(task), task.work);
     Some(terms + 1)
 }
 
-/// What the terms of so many tasks ask for in a window that leaves room for their slack.
-pub(crate) fn asked(terms: &[Term], tasks: usize, t: u64) -> u128
-    requires in_range { t < 2 ^ 64 - LIMIT }
-    requires at_most { asked_by terms.now t ≤ tasks * t }
-    ensures { result ≡ asked_by terms.now t }
+/// The task joins the term, where it has its period and room and the sum of the works fits.
+fn joined(term: Term, task: &Task) -> Option<Term>
+    ensures { IfSome result (λ longer.
+        (longer.period ≡ term.period) × (longer.slack ≡ term.slack)
+        × (longer.work ≡ term.work + task.now.work)
+        × (term.period ≡ task.now.period)
+        × (term.slack ≡ task.now.period - (task.now.deadline - task.now.jitter))) }
 {
-    if t < NEAR && tasks < FEW {
-        asked_near(terms, t) as u128
-    } else {
-        asked_far(terms, t)
+    if term.period != task.period || term.slack != slack_of(task) {
+        return None;
     }
+    term.with(task.work)
 }
 
-fn asked_near(terms: &[Term], t: u64) -> u64
-    requires near { t < NEAR }
-    requires fits { asked_by terms.now t < 2 ^ 64 }
-    ensures { result ≡ asked_by terms.now t }
+/// What the room of a task leaves of its period.
+fn slack_of(task: &Task) -> u64
+    ensures exact { result ≡ task.now.period - (task.now.deadline - task.now.jitter) }
+    ensures in_period { result < task.now.period }
 {
-    let mut total = 0;
-    for term in terms {
-        total += term.jobs_near(t) * term.work;
-    }
-    total
-}
-
-fn asked_far(terms: &[Term], t: u64) -> u128
-    requires in_range { t < 2 ^ 64 - LIMIT }
-    requires fits { asked_by terms.now t < 2 ^ 128 }
-    ensures { result ≡ asked_by terms.now t }
-{
-    let mut total: u128 = 0;
-    for term in terms {
-        total += term.jobs(t) as u128 * term.work as u128;
-    }
-    total
+    task.period - (task.deadline - task.jitter)
 }

@@ -4,10 +4,11 @@ ghost use Rattle.slot_model.specs.Bound.{dbf};
 ghost use Rattle.slot_model.specs.Points.{IsCover, IsBackward, CoversShow};
 
 use crate::back::given_by;
-use edf_demand::{Term, gather};
+use edf_demand::gather;
 use slot_model::Task;
 use std::alloc::{AllocError, Global};
 use supply_bound::Supply;
+use window_terms::Term;
 
 /// The points of the walk backwards from `h + 1`, in slots and ascending: they show that no window
 /// of 1 to `h` slots asks for more slots than the supply gives at the least. None exactly where one

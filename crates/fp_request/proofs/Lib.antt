@@ -5,3 +5,4 @@ pub mod Ceiling
 pub mod Parts
 mod ReleasedExamples
 mod OrderExamples
+pub mod Aboves

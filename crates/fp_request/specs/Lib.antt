@@ -1,3 +1,4 @@
 pub mod Released
 pub mod Ranks
 pub mod Parts
+pub mod Terms

@@ -3,12 +3,14 @@
 //! All numbers are slots.
 #![tactic(auto)]
 
+mod by_terms;
 mod fixed;
 mod rank;
 mod request_bound;
 #[cfg(test)]
 mod tests;
 
+pub use by_terms::{Above, gather, gather_above, request_by};
 pub use fixed::Fixed;
 pub use rank::higher;
 pub use request_bound::request;

@@ -10,4 +10,4 @@ mod hits;
 mod tests;
 
 pub use fall::falls;
-pub use hits::hit;
+pub use hits::{hit, hit_by};

@@ -7,8 +7,10 @@ use crate::Tested;
 use crate::lowest::{has_hit_within, hit_of_lowest};
 use edf_demand::horizon;
 use edf_test::first_short;
+use fp_request::gather;
 use slot_model::{Sched, Short, Task};
 use supply_bound::Supply;
+use window_terms::{FEW, KEPT, Term};
 
 /// Whether the tasks pass over the supply, and if not, what is short first: the least window under
 /// earliest deadline first, the first task of the list under a fixed rank.
@@ -44,9 +46,34 @@ fn test_tasks<S: Supply>(sched: Sched, tasks: &[Task], s: &S) -> Tested
     requires few { length tasks.now < 2 ^ 32 }
     ensures { IsTested sched (sporadic_tasks tasks.now) (S.bound s.now) (S.cycle_of s.now) result }
 {
-    let common = hit_of_lowest(sched, tasks, s);
+    if tasks.len() <= FEW {
+        test_tasks_in(&mut [Term::none(); FEW], sched, tasks, s)
+    } else {
+        test_many_tasks(sched, tasks, s)
+    }
+}
+
+/// The same apart, since a function pays at its entry for all the room that it may need.
+#[inline(never)]
+fn test_many_tasks<S: Supply>(sched: Sched, tasks: &[Task], s: &S) -> Tested
+    requires fixed { sched ≢ Sched.Edf }
+    requires few { length tasks.now < 2 ^ 32 }
+    ensures { IsTested sched (sporadic_tasks tasks.now) (S.bound s.now) (S.cycle_of s.now) result }
+{
+    test_tasks_in(&mut [Term::none(); KEPT], sched, tasks, s)
+}
+
+/// The same, where the tasks' terms are gathered in this room.
+fn test_tasks_in<S: Supply>(room: &mut [Term], sched: Sched, tasks: &[Task], s: &S) -> Tested
+    requires fixed { sched ≢ Sched.Edf }
+    requires few { length tasks.now < 2 ^ 32 }
+    ensures { IsTested sched (sporadic_tasks tasks.now) (S.bound s.now) (S.cycle_of s.now) result }
+{
+    let count = gather(tasks, room);
+    let terms = &room[..count];
+    let common = hit_of_lowest(sched, tasks, terms, s);
     for i in 0..tasks.len() as u32 {
-        if !has_hit_within(sched, tasks, i, s, common) {
+        if !has_hit_within(sched, tasks, terms, i, s, common) {
             return Tested::Short(Short::Task(i));
         }
     }

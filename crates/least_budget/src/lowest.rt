@@ -1,26 +1,30 @@
 ghost use Rattle.std.specs.Prelude.{◌≢◌, ◌↔◌, ◌^◌, ◌<◌, length, IsTrue, IfSome};
 ghost use Rattle.slot_model.specs.Task.{sporadic_tasks};
 ghost use Rattle.slot_model.specs.Order.{ranks_above};
+ghost use Rattle.fp_request.specs.Terms.{AreTerms};
 ghost use Rattle.least_budget.specs.Answers.{HasHit};
 ghost use Rattle.least_budget.specs.CommonHit.{IsLowest, IsCommon};
 
 use fp_request::higher;
-use fp_test::hit;
+use fp_test::hit_by;
 use slot_model::{Sched, Task};
 use supply_bound::Supply;
+use window_terms::Term;
 
 /// The least hit of the task that all others rank above: within it each task has a hit whose
 /// deadline leaves as much past its jitter. None where there is no task, or the lowest has no hit.
-pub fn hit_of_lowest<S: Supply>(sched: Sched, tasks: &[Task], s: &S) -> Option<u64>
+/// The terms were gathered of the tasks.
+pub fn hit_of_lowest<S: Supply>(sched: Sched, tasks: &[Task], terms: &[Term], s: &S) -> Option<u64>
     requires fixed { sched ≢ Sched.Edf }
     requires few { length tasks.now < 2 ^ 32 }
+    requires terms { AreTerms terms.now tasks.now }
     ensures { let T = sporadic_tasks tasks.now in
         IfSome result (λ t. IsCommon (ranks_above sched T) T (S.bound s.now) t) }
 {
     if tasks.is_empty() {
         return None;
     }
-    hit(sched, tasks, lowest(sched, tasks), s)
+    hit_by(sched, tasks, terms, lowest(sched, tasks), s)
 }
 
 /// The place of the task that all others rank above.
@@ -45,12 +49,14 @@ pub fn lowest(sched: Sched, tasks: &[Task]) -> u32
 pub fn has_hit_within<S: Supply>(
     sched: Sched,
     tasks: &[Task],
+    terms: &[Term],
     i: u32,
     s: &S,
     common: Option<u64>,
 ) -> bool
     requires fixed { sched ≢ Sched.Edf }
     requires i_named { i < length tasks.now }
+    requires terms { AreTerms terms.now tasks.now }
     requires common { let T = sporadic_tasks tasks.now in
         IfSome common (λ t. IsCommon (ranks_above sched T) T (S.bound s.now) t) }
     ensures { let T = sporadic_tasks tasks.now in
@@ -62,5 +68,5 @@ pub fn has_hit_within<S: Supply>(
             return true;
         }
     }
-    hit(sched, tasks, i, s).is_some()
+    hit_by(sched, tasks, terms, i, s).is_some()
 }

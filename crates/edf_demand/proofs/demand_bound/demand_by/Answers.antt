@@ -1,12 +1,24 @@
-use Rattle.std.proofs.Common.{◌≡◌, ℕ, ◌+◌, ◌*◌, ◌^◌, ◌<◌, ◌≤◌, Option, None, Some, MatchOption, SomeIff, take, ap, subst, sym, arith}
+use Rattle.std.proofs.Common.{◌≡◌, ℕ, ◌+◌, ◌*◌, ◌-◌, ◌^◌, ◌<◌, ◌≤◌, Option, None, Some, MatchOption, SomeIff, take, List, ap, subst, sym, arith, mul-le-mul_left}
 use Rattle.std.proofs.lemmas.List.{length-take-le}
+use Rattle.slot_model.specs.declared.task.Task.{Task}
 use Rattle.slot_model.specs.Task.{sporadic_tasks}
 use Rattle.slot_model.specs.Bound.{dbf}
+use Rattle.window_terms.specs.declared.term.Term.{Term}
+use Rattle.window_terms.specs.Asked.{asked_by}
+use Rattle.edf_demand.specs.declared.terms.Gathered.{Gathered}
+use Rattle.edf_demand.specs.Terms.{IsGathered}
 use Rattle.edf_demand.proofs.Demands.{dbf_small, dbf_split}
 use Rattle.edf_demand.proofs.demand_bound.demand_by.Goals as goal
 
-pub asked-first-requires-clause-at_most : goal.asked-first-requires-clause-at_most
-asked-first-requires-clause-at_most c = omega (arith, c.requires.same c.args.t, dbf_small (take c.args.gathered.tasks c.args.tasks.now) c.args.t, ap (λ (n : ℕ). n * c.args.t) (length-take-le c.args.gathered.tasks c.args.tasks.now c.requires.in_tasks))
+-- for each task a window asks for no more slots than it has
+at_most : (gathered : Gathered) (terms : List Term) (tasks : List Task) (t : ℕ) → IsGathered gathered terms tasks → asked_by (take gathered.terms terms) t ≤ gathered.tasks * t
+at_most gathered terms tasks t g = omega (arith, g.same t, dbf_small (take gathered.tasks tasks) t, ap (λ (n : ℕ). n * t) (length-take-le gathered.tasks tasks g.in_tasks))
+
+pub asked-first-requires-clause-near_fits : goal.asked-first-requires-clause-near_fits
+asked-first-requires-clause-near_fits c l = omega (arith, at_most c.args.gathered c.args.terms.now c.args.tasks.now c.args.t c.requires, mul-le-mul_left c.args.gathered.tasks l, c.requires.fits)
+
+pub asked-first-requires-clause-fits : goal.asked-first-requires-clause-fits
+asked-first-requires-clause-fits c = omega (arith, at_most c.args.gathered c.args.terms.now c.args.tasks.now c.args.t c.requires, mul-le-mul_left c.args.gathered.tasks (let small : c.args.t ≤ 2 ^ 64 - 1 = omega arith in small))
 
 pub returns-in_err-demand : goal.returns-in_err-demand
 returns-in_err-demand c =

@@ -1,7 +1,7 @@
 use Rattle.std.proofs.Common.{◌≡◌, ℕ, ◌≤◌, length, take}
 use Rattle.slot_model.specs.Task.{sporadic_tasks}
 use Rattle.slot_model.specs.Bound.{dbf}
-use Rattle.edf_demand.specs.Terms.{asked_by}
+use Rattle.window_terms.specs.Asked.{asked_by}
 use Rattle.edf_demand.proofs.terms.gather.Given as goal
 
 abbrev pub invariant-loop-k : goal.invariant-loop-k
