@@ -54,7 +54,13 @@ fn ending_of(alloc: Global, sys: &System, core: u32, what: What) -> Result<Endin
     ensures what { IfOk result (λ e. e.what ≡ what) }
 {
     let vcpu = vcpu_field(sys, what.named());
-    let text = row_text(alloc, "".as_bytes(), core_field(sys, core, what), word_of(what), vcpu)?;
+    let text = row_text(
+        alloc,
+        "".as_bytes(),
+        core_field(sys, core, what),
+        word_of(what),
+        vcpu,
+    )?;
     Ok(Ending { core, what, text })
 }
 
