@@ -1,14 +1,16 @@
 -- The order of keys.
-use Rattle.std.proofs.Common.{◌≡◌, ℕ, suc, ◌<◌, ◌≤◌, true, false, List, Option, Some, None, refl, sym, ◌∙◌, ap, arith, subst, inl, inr}
+use Rattle.std.proofs.Common.{◌≡◌, ℕ, suc, ◌<◌, ◌≤◌, Bool, true, false, ◌&&◌, List, Option, Some, None, refl, sym, ◌∙◌, ap, arith, subst, inl, inr}
+use Rattle.std.specs.Prelude.{is_some}
 use Rattle.std.proofs.lemmas.Bool.{cases_eq, cases_lt, both_ways, false≢true}
 use Rattle.std.proofs.lemmas.Bool.Decides.{nat_tests}
-use Rattle.slot_model.proofs.FirstRuns.{same_some}
+use Rattle.slot_model.proofs.FirstRuns.{none_some, same_some}
 use Rattle.tree_model.specs.declared.place.Place.TheVariants.{Core}
 use Rattle.tree_model.specs.View.{SystemView}
 use Rattle.tree_model.specs.Tree.{is_child}
 use Rattle.rtds_sim.specs.declared.key.Key.{Key}
 use Rattle.rtds_sim.specs.Rtds.{goes_first}
 use Rattle.rtds_sim.specs.Keys.{comes_before, key_at, key_of_one, IsFirstKey}
+use Rattle.rtds_sim.specs.Queues.{is_queued}
 
 pub one_way : (k l : Option Key) → comes_before k l ≡ true → comes_before l k ≡ false
 one_way None l h = absurd (false≢true h)
@@ -29,6 +31,22 @@ before_none (Some k) l h = refl
 -- by keys, and then by places, VCPUs go as by their levels, deadlines and places
 pub by_keys : (k l : Key) (p q : ℕ) → comes_before (Some k) (Some l) ≡ false → (p < q → comes_before (Some l) (Some k) ≡ true) → goes_first k.level k.deadline p l.level l.deadline q ≡ false
 by_keys k l p q not_sooner later = grind (arith, nat_tests)
+
+-- a VCPU of the core that is not listed goes before none
+unlisted : (b : Bool) (k l : Option Key) → b ≡ true → (b && is_some k) ≡ false → comes_before k l ≡ false
+unlisted b None l its h = refl
+unlisted true (Some k) l its h = absurd (false≢true (sym h))
+unlisted false (Some k) l its h = absurd (false≢true its)
+
+-- where none before n is listed
+pub first_none : (sys : SystemView) (keys : List (Option Key)) (c n : ℕ) → ((u : ℕ) → u < n → is_queued sys keys c u ≡ false) → IsFirstKey sys keys c n None
+first_none sys keys c n none = record {
+  within = λ v e. absurd (none_some None v refl e);
+  child = λ v e. absurd (none_some None v refl e);
+  eligible = λ v e. absurd (none_some None v refl e);
+  least = λ u l its. unlisted (is_child sys (Core c) u) (key_at keys u) None its (none u l);
+  first = λ u v e. absurd (none_some None v refl e);
+}
 
 module _ (sys : SystemView) (keys : List (Option Key)) (c n : ℕ) where
   -- VCPU n goes before those below
@@ -62,15 +80,15 @@ module _ (sys : SystemView) (keys : List (Option Key)) (c n : ℕ) where
     first = h.first;
   }
 
-  -- not_sooner VCPU of the core is passed over
-  pub first_on : (m : ℕ) (o : Option ℕ) → n ≤ m → ((u : ℕ) → n ≤ u → u < m → is_child sys (Core c) u ≡ false) → IsFirstKey sys keys c n o → IsFirstKey sys keys c m o
+  -- no VCPU of the core with a key is passed over
+  pub first_on : (m : ℕ) (o : Option ℕ) → n ≤ m → ((u : ℕ) → n ≤ u → u < m → is_queued sys keys c u ≡ false) → IsFirstKey sys keys c n o → IsFirstKey sys keys c m o
   first_on m o l none h = record {
     within = λ v e. omega (arith, h.within v e);
     child = h.child;
     eligible = h.eligible;
     least = λ u lu its. elim (cases_lt u n) [
       | inl a ↦ h.least u a its
-      | inr a ↦ absurd (both_ways (is_child sys (Core c) u) (none u a lu) its)
+      | inr a ↦ unlisted (is_child sys (Core c) u) (key_at keys u) (key_of_one keys o) its (none u a lu)
     ];
     first = h.first;
   }

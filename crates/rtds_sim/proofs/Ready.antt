@@ -11,13 +11,15 @@ use Rattle.tree_model.specs.Tree.{is_child, budget_at}
 use Rattle.rtds_sim.specs.declared.account.Account.{Account}
 use Rattle.rtds_sim.specs.declared.key.Key.{Key}
 use Rattle.rtds_sim.specs.declared.host.Host.{Host}
+use Rattle.rtds_sim.specs.declared.queues.Queues.{Queues}
 use Rattle.rtds_sim.specs.Printed.{core_of}
 use Rattle.slot_model.proofs.FirstRuns.{none_some, same_some}
 use Rattle.rtds_sim.proofs.Entering.{child_core}
 use Rattle.rtds_sim.proofs.Keys.{one_way}
 use Rattle.rtds_sim.proofs.Steady.{same_quotient, lt_same}
 use Rattle.rtds_sim.specs.Keys.{comes_before, key_at, key_of_one, IsFirstKey}
-use Rattle.rtds_sim.specs.Accounts.{no_account, account_at, holder_at, until_at, account_eligible, level_of, left_of, deadline_of, key_of, end_of, is_stale, gone_on, used_more, period_ended, IsReady}
+use Rattle.rtds_sim.specs.Queues.{AreQueues}
+use Rattle.rtds_sim.specs.Accounts.{no_account, account_at, holder_at, number_at, account_eligible, level_of, left_of, deadline_of, key_of, end_of, is_stale, gone_on, used_more, period_ended, IsReady}
 
 -- one account is set
 pub account_here : (accounts : List Account) (v : ℕ) (a : Account) → v < length accounts → account_at (set accounts v a) v ≡ a
@@ -39,11 +41,11 @@ key_here keys v k l = get_or-set_same keys v k None l
 pub key_there : (keys : List (Option Key)) (v u : ℕ) (k : Option Key) → u ≢ v → key_at (set keys v k) u ≡ key_at keys u
 key_there keys v u k ne = get_or-set_other keys v u k None ne
 
-pub until_here : (until : List (Option ℕ)) (v : ℕ) (o : Option ℕ) → v < length until → until_at (set until v o) v ≡ o
-until_here until v o l = get_or-set_same until v o None l
+pub until_here : (until : List ℕ) (v o : ℕ) → v < length until → number_at (set until v o) v ≡ o
+until_here until v o l = get_or-set_same until v o 0 l
 
-pub until_there : (until : List (Option ℕ)) (v u : ℕ) (o : Option ℕ) → u ≢ v → until_at (set until v o) u ≡ until_at until u
-until_there until v u o ne = get_or-set_other until v u o None ne
+pub until_there : (until : List ℕ) (v u o : ℕ) → u ≢ v → number_at (set until v o) u ≡ number_at until u
+until_there until v u o ne = get_or-set_other until v u o 0 ne
 
 -- the key of a VCPU of another core does not count
 first_other : (sys : SystemView) (keys others : List (Option Key)) (c n : ℕ) (o : Option ℕ) → ((u : ℕ) → is_child sys (Core c) u ≡ true → key_at others u ≡ key_at keys u) → IsFirstKey sys keys c n o → IsFirstKey sys others c n o
@@ -91,14 +93,14 @@ first_set sys keys c n v key (Some w) l own other h = elim (cases_eq w v) [
 ]
 
 -- an account and its key are set
-pub ready_one : (sys : SystemView) (budgets : List ℕ) (host : Host) (v : ℕ) (a : Account) (key : Option Key) (end : Option ℕ) (c : ℕ) (b : Bool) → v < length sys.parts → c < length host.stale → IsReady sys budgets host → a.from ≤ host.time → a.used ≤ host.time → key ≡ key_of a (budget_at budgets v) (part_at sys v).extra (part_at sys v).period → end ≡ end_of a (part_at sys v).period → c ≡ core_of (part_at sys v).parent
-    → (b ≡ false → is_stale host.stale c ≡ false) → (b ≡ false → ((u : ℕ) → holder_at host.holders c ≡ Some u → u ≡ v) → key ≡ key_at host.keys v)
-    → ((u : ℕ) → b ≡ false → holder_at host.holders c ≡ Some u → u ≢ v → comes_before (key_at host.keys u) key ≡ true)
-    → IsReady sys budgets (record host { accounts = set host.accounts v a; keys = set host.keys v key; until = set host.until v end; stale = set host.stale c b })
-ready_one sys budgets host v a key end c b l lc h early few is ends its_core fresh_before own other = record {
+pub ready_one : (sys : SystemView) (budgets : List ℕ) (host : Host) (v : ℕ) (a : Account) (key : Option Key) (end c : ℕ) (b : Bool) → v < length sys.parts → c < length host.stale → IsReady sys budgets host → a.from ≤ host.time → a.used ≤ host.time → key ≡ key_of a (budget_at budgets v) (part_at sys v).extra (part_at sys v).period → end ≡ end_of a (part_at sys v).period → c ≡ core_of (part_at sys v).parent
+    → (b ≡ false → is_stale host.stale c ≡ false) → (b ≡ false → ((u : ℕ) → holder_at host.holders c ≡ Some u → u ≡ v) → key ≡ key_at host.queues.keys v)
+    → ((u : ℕ) → b ≡ false → holder_at host.holders c ≡ Some u → u ≢ v → comes_before (key_at host.queues.keys u) key ≡ true)
+    → (queues : Queues) → AreQueues sys queues → queues.keys ≡ set host.queues.keys v key → IsReady sys budgets (record host { accounts = set host.accounts v a; queues = queues; until = set host.until v end; stale = set host.stale c b })
+ready_one sys budgets host v a key end c b l lc h early few is ends its_core fresh_before own other queues listed its_keys = record {
   room = record {
     all_vcpus = length-set host.accounts v a ∙ h.room.all_vcpus;
-    all_keys = length-set host.keys v key ∙ h.room.all_keys;
+    all_keys = listed.all_keys;
     all_until = length-set host.until v end ∙ h.room.all_until;
     all_cores = h.room.all_cores;
     all_ends = h.room.all_ends;
@@ -107,27 +109,28 @@ ready_one sys budgets host v a key end c b l lc h early few is ends its_core fre
     few_cores = h.room.few_cores;
     parts = h.room.parts;
   };
+  listed = listed;
   early = λ u lu. at_set (λ (z : Account). z.from ≤ host.time) host.accounts v u a room (λ e. early) (h.early u lu);
   few = λ u lu. at_set (λ (z : Account). z.used ≤ host.time) host.accounts v u a room (λ e. few) (h.few u lu);
-  keys = λ u lu. elim (cases_eq u v) [
-    | inl e ↦ subst (λ (z : ℕ). key_at (set host.keys v key) z ≡ key_of (account_at (set host.accounts v a) z) (budget_at budgets z) (part_at sys z).extra (part_at sys z).period) (sym e)
-        (key_here host.keys v key (omega (arith, l, h.room.all_keys, h.room.few_parts)) ∙ (is ∙ sym (ap (λ (z : Account). key_of z (budget_at budgets v) (part_at sys v).extra (part_at sys v).period) (account_here host.accounts v a room))))
-    | inr ne ↦ key_there host.keys v u key ne ∙ (h.keys u lu ∙ sym (ap (λ (z : Account). key_of z (budget_at budgets u) (part_at sys u).extra (part_at sys u).period) (account_there host.accounts v u a ne)))
+  keys = λ u lu. ap (λ (ks : List (Option Key)). key_at ks u) its_keys ∙ elim (cases_eq u v) [
+    | inl e ↦ subst (λ (z : ℕ). key_at (set host.queues.keys v key) z ≡ key_of (account_at (set host.accounts v a) z) (budget_at budgets z) (part_at sys z).extra (part_at sys z).period) (sym e)
+        (key_here host.queues.keys v key (omega (arith, l, h.room.all_keys, h.room.few_parts)) ∙ (is ∙ sym (ap (λ (z : Account). key_of z (budget_at budgets v) (part_at sys v).extra (part_at sys v).period) (account_here host.accounts v a room))))
+    | inr ne ↦ key_there host.queues.keys v u key ne ∙ (h.keys u lu ∙ sym (ap (λ (z : Account). key_of z (budget_at budgets u) (part_at sys u).extra (part_at sys u).period) (account_there host.accounts v u a ne)))
   ];
   until = λ u lu. elim (cases_eq u v) [
-    | inl e ↦ subst (λ (z : ℕ). until_at (set host.until v end) z ≡ end_of (account_at (set host.accounts v a) z) (part_at sys z).period) (sym e)
+    | inl e ↦ subst (λ (z : ℕ). number_at (set host.until v end) z ≡ end_of (account_at (set host.accounts v a) z) (part_at sys z).period) (sym e)
         (until_here host.until v end (omega (arith, l, h.room.all_until, h.room.few_parts)) ∙ (ends ∙ sym (ap (λ (z : Account). end_of z (part_at sys v).period) (account_here host.accounts v a room))))
     | inr ne ↦ until_there host.until v u end ne ∙ (h.until u lu ∙ sym (ap (λ (z : Account). end_of z (part_at sys u).period) (account_there host.accounts v u a ne)))
   ];
   on_core = h.on_core;
-  named = λ d ld fresh. elim (cases_eq d c) [
-    | inl e ↦ first_set sys host.keys d (length sys.parts) v key (holder_at host.holders d) (omega (arith, l, h.room.all_keys, h.room.few_parts))
+  named = λ d ld fresh. subst (λ (ks : List (Option Key)). IsFirstKey sys ks d (length sys.parts) (holder_at host.holders d)) (sym its_keys) (elim (cases_eq d c) [
+    | inl e ↦ first_set sys host.queues.keys d (length sys.parts) v key (holder_at host.holders d) (omega (arith, l, h.room.all_keys, h.room.few_parts))
         (λ its. own (here d fresh e) (λ u q. its u (ap (holder_at host.holders) e ∙ q)))
         (λ u q ne. other u (here d fresh e) (sym (ap (holder_at host.holders) e) ∙ q) ne)
         (h.named d ld (before d fresh))
-    | inr ne ↦ first_other sys host.keys (set host.keys v key) d (length sys.parts) (holder_at host.holders d)
-        (λ u on. key_there host.keys v u key (λ q. ne (sym (child_core sys d u on) ∙ (ap (λ (z : ℕ). core_of (part_at sys z).parent) q ∙ sym its_core)))) (h.named d ld (before d fresh))
-  ];
+    | inr ne ↦ first_other sys host.queues.keys (set host.queues.keys v key) d (length sys.parts) (holder_at host.holders d)
+        (λ u on. key_there host.queues.keys v u key (λ q. ne (sym (child_core sys d u on) ∙ (ap (λ (z : ℕ). core_of (part_at sys z).parent) q ∙ sym its_core)))) (h.named d ld (before d fresh))
+  ]);
 }
   where
     room : v < length host.accounts
@@ -152,7 +155,7 @@ same_key a slots budget extra period some l =
     key g = record { level = g; deadline = deadline_of a period }
 
 -- where a VCPU has a key, the key tells its level
-pub level_told : (sys : SystemView) (budgets : List ℕ) (host : Host) (v : ℕ) (key : Key) → v < length sys.parts → IsReady sys budgets host → key_at host.keys v ≡ Some key → key.level ≡ level_of (account_at host.accounts v) (budget_at budgets v)
+pub level_told : (sys : SystemView) (budgets : List ℕ) (host : Host) (v : ℕ) (key : Key) → v < length sys.parts → IsReady sys budgets host → key_at host.queues.keys v ≡ Some key → key.level ≡ level_of (account_at host.accounts v) (budget_at budgets v)
 level_told sys budgets host v key l h is = told (account_eligible (account_at host.accounts v) (budget_at budgets v) (part_at sys v).extra) _ key (sym (h.keys v l) ∙ is)
   where
     told : (b : Bool) (k m : Key) → (if b then Some k else None) ≡ Some m → m.level ≡ k.level
@@ -176,13 +179,14 @@ ready_few sys budgets host v slots l some h few left =
         few_cores = h.room.few_cores;
         parts = h.room.parts;
       };
+      listed = h.listed;
       early = λ u lu. at_set (λ (z : Account). z.from ≤ host.time) host.accounts v u a room (λ e. h.early v l) (h.early u lu);
       few = λ u lu. at_set (λ (z : Account). z.used ≤ host.time) host.accounts v u a room (λ e. few) (h.few u lu);
-      keys = λ u lu. at_set (λ (z : Account). key_at host.keys u ≡ key_of z (budget_at budgets u) (part_at sys u).extra (part_at sys u).period) host.accounts v u a room
-          (λ e. subst (λ (w : ℕ). key_at host.keys w ≡ key_of a (budget_at budgets w) (part_at sys w).extra (part_at sys w).period) (sym e)
+      keys = λ u lu. at_set (λ (z : Account). key_at host.queues.keys u ≡ key_of z (budget_at budgets u) (part_at sys u).extra (part_at sys u).period) host.accounts v u a room
+          (λ e. subst (λ (w : ℕ). key_at host.queues.keys w ≡ key_of a (budget_at budgets w) (part_at sys w).extra (part_at sys w).period) (sym e)
           (h.keys v l ∙ same_key (account_at host.accounts v) slots (budget_at budgets v) (part_at sys v).extra (part_at sys v).period some left)) (h.keys u lu);
-      until = λ u lu. at_set (λ (z : Account). until_at host.until u ≡ end_of z (part_at sys u).period) host.accounts v u a room
-          (λ e. subst (λ (w : ℕ). until_at host.until w ≡ end_of a (part_at sys w).period) (sym e) (h.until v l)) (h.until u lu);
+      until = λ u lu. at_set (λ (z : Account). number_at host.until u ≡ end_of z (part_at sys u).period) host.accounts v u a room
+          (λ e. subst (λ (w : ℕ). number_at host.until w ≡ end_of a (part_at sys w).period) (sym e) (h.until v l)) (h.until u lu);
       on_core = h.on_core;
       named = h.named;
     }

@@ -7,6 +7,7 @@ use Rattle.tree_model.specs.Tree.{is_child, budget_at, run_at}
 use Rattle.trace_file.specs.declared.event.Event.{Event}
 use Rattle.trace_file.specs.declared.event.What.TheVariants.{Stop}
 use Rattle.rtds_sim.specs.declared.account.Account.{Account}
+use Rattle.rtds_sim.specs.declared.account.TheConstants.{PAST_ALL}
 use Rattle.rtds_sim.specs.declared.key.Key.{Key}
 use Rattle.rtds_sim.specs.declared.host.Host.{Host}
 use Rattle.release_file.specs.declared.workload.Wake.{Wake as Row}
@@ -15,6 +16,7 @@ use Rattle.release_file.specs.declared.workload.WakeKind.TheVariants.{Start, Wak
 use Rattle.release_file.specs.Workload.{row_at, started_after, blocked_after}
 use Rattle.rtds_sim.specs.Rtds.{period_from, used, goes_first}
 use Rattle.rtds_sim.specs.Keys.{key_at, IsFirstKey}
+use Rattle.rtds_sim.specs.Queues.{AreQueues}
 use Rattle.rtds_sim.specs.Printed.{core_of, on_at, on_core_at, switch_to}
 
 abbrev pub no_account : Account
@@ -64,12 +66,9 @@ key_of account budget extra period =
     })
     else None
 
--- the slot at which its period ends, where it is started
-abbrev pub end_of : Account → ℕ → Option ℕ
-end_of account period = if account.started then Some (deadline_of account period) else None
-
-abbrev pub until_at : List (Option ℕ) → ℕ → Option ℕ
-until_at until v = slice_index_or until v None
+-- the slot at which its period ends, and one past all where it is not started
+abbrev pub end_of : Account → ℕ → ℕ
+end_of account period = if account.started then deadline_of account period else PAST_ALL
 
 abbrev pub number_at : List ℕ → ℕ → ℕ
 number_at numbers i = slice_index_or numbers i 0
@@ -159,7 +158,7 @@ is_stale stale c = slice_index_or stale c false
 -- there is room for each VCPU and each core, and what has a core is a part
 pub record HasRoom (sys : SystemView) (host : Host) : Type 0 where
   pub all_vcpus : length host.accounts ≡ 512
-  pub all_keys : length host.keys ≡ 512
+  pub all_keys : length host.queues.keys ≡ 512
   pub all_until : length host.until ≡ 512
   pub all_cores : length host.holders ≡ 64
   pub all_ends : length host.ends ≡ 64
@@ -169,21 +168,22 @@ pub record HasRoom (sys : SystemView) (host : Host) : Type 0 where
   pub parts : (c v : ℕ) → c < length sys.cores → holder_at host.holders c ≡ Some v →
       v < length sys.parts
 
--- the keys and the ends of periods are those of the accounts, whose numbers are small, and what has
--- a core stands on it, and goes first on it where the core is not stale
+-- the keys and the ends of periods are those of the accounts, whose numbers are small, and the VCPUs
+-- with a key are listed; what has a core stands on it, and goes first on it where the core is not stale
 pub record IsReady (sys : SystemView) (budgets : List ℕ) (host : Host) : Type 0 where
   pub room : HasRoom sys host
+  pub listed : AreQueues sys host.queues
   pub early : (v : ℕ) → v < length sys.parts → (account_at host.accounts v).from ≤ host.time
   pub few : (v : ℕ) → v < length sys.parts → (account_at host.accounts v).used ≤ host.time
   pub keys : (v : ℕ) → v < length sys.parts →
-      key_at host.keys v ≡ key_of (account_at host.accounts v) (budget_at budgets v)
+      key_at host.queues.keys v ≡ key_of (account_at host.accounts v) (budget_at budgets v)
       (part_at sys v).extra (part_at sys v).period
   pub until : (v : ℕ) → v < length sys.parts →
-      until_at host.until v ≡ end_of (account_at host.accounts v) (part_at sys v).period
+      number_at host.until v ≡ end_of (account_at host.accounts v) (part_at sys v).period
   pub on_core : (c v : ℕ) → c < length sys.cores → holder_at host.holders c ≡ Some v →
       is_child sys (Core c) v ≡ true
   pub named : (c : ℕ) → c < length sys.cores → is_stale host.stale c ≡ false →
-      IsFirstKey sys host.keys c (length sys.parts) (holder_at host.holders c)
+      IsFirstKey sys host.queues.keys c (length sys.parts) (holder_at host.holders c)
 
 -- on no core does a period end before the slot that is kept of it
 abbrev pub IsEnd : SystemView → List Account → ℕ → ℕ → Type 0

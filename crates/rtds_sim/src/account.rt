@@ -3,6 +3,10 @@ ghost use Rattle.rtds_sim.specs.Accounts.{no_account, account_eligible, key_of, 
 
 use crate::key::Key;
 use release_file::{Wake, WakeKind};
+use slot_model::LIMIT;
+
+/// Past the last slot of each run.
+pub const PAST_ALL: u64 = LIMIT + 1;
 
 /// What is kept of a VCPU between two events.
 #[derive(Clone, Copy, Debug, PartialEq, Eq)]
@@ -92,14 +96,14 @@ impl Account {
         })
     }
 
-    /// The slot at which its period ends, where it is started.
-    pub fn end(self, period: u64) -> Option<u64>
+    /// The slot at which its period ends, and one past all where it is not started.
+    pub fn end(self, period: u64) -> u64
         requires { self.from + period < 2 ^ 64 }
         ensures { result ≡ end_of self period }
     {
         if self.started {
-            return Some(self.from + period);
+            return self.from + period;
         }
-        None
+        PAST_ALL
     }
 }

@@ -1,13 +1,13 @@
 ghost use Rattle.std.specs.Prelude.{◌≡◌, ℕ, ◌≤◌, ◌<◌, length};
 ghost use Rattle.tree_model.specs.System.{IsSystem};
 ghost use Rattle.tree_model.specs.Tree.{budget_at};
-ghost use Rattle.rtds_sim.specs.Members.{AreMembersFrom};
 ghost use Rattle.rtds_sim.specs.Accounts.{account_at};
 ghost use Rattle.rtds_sim.specs.Keys.{IsFirstKey};
+ghost use Rattle.rtds_sim.specs.Queues.{AreQueues};
 
 use crate::account::Account;
-use crate::key::{Key, comes_before};
-use crate::members::Members;
+use crate::key::comes_before;
+use crate::queues::Queues;
 use tree_model::{MAX_PARTS, Plan, System};
 
 /// The budget of VCPU `v`.
@@ -27,25 +27,24 @@ pub fn account_of(accounts: &[Account], v: u32) -> Account
 }
 
 /// The VCPU of core `core` that goes first, if one of them is eligible.
-pub fn first_key(sys: &System, keys: &[Option<Key>], members: &Members, core: u32) -> Option<u32>
-    requires members { AreMembersFrom sys.now 0 members.now }
+pub fn first_key(sys: &System, queues: &Queues, core: u32) -> Option<u32>
+    requires are { AreQueues sys.now queues.now }
     requires is_core { core < length sys.now.cores }
-    requires room { length sys.now.parts ≤ length keys.now }
-    ensures first { IsFirstKey sys.now keys.now core (length sys.now.parts) result }
+    ensures first { IsFirstKey sys.now queues.now.keys core (length sys.now.parts) result }
     ensures system { IsSystem sys.now }
 {
     prove!(sys.parts().len() <= MAX_PARTS);
     let end = sys.parts().len() as u32;
     let mut least = None;
     let mut first = None;
-    let mut v = members.first[core as usize];
+    let mut v = queues.first[core as usize];
     while v < end {
-        let key = keys[v as usize];
+        let key = queues.keys[v as usize];
         if comes_before(key, least) {
             least = key;
             first = Some(v);
         }
-        v = members.next[v as usize];
+        v = queues.next[v as usize];
     }
     first
 }

@@ -5,19 +5,17 @@ ghost use Rattle.release_file.specs.Workload.{row_at};
 ghost use Rattle.rtds_sim.specs.Keys.{comes_before, key_at};
 ghost use Rattle.rtds_sim.specs.Printed.{core_of, event_of, switch_to, gathered, push_some, row_event_at};
 
-use crate::account::Account;
+use crate::account::{Account, PAST_ALL};
 use crate::choice::{account_of, budget_of, first_key};
 use crate::key::{Key, comes_before};
 use crate::members::Members;
 use crate::moment::moment_of_slot;
+use crate::queues::Queues;
 use release_file::{Wake, WakeKind};
 use slot_model::LIMIT;
 use std::alloc::AllocError;
 use trace_file::{Event, What};
 use tree_model::{MAX_CORES, MAX_PARTS, Parent, Plan, System};
-
-/// Past the last slot of each run.
-pub const PAST_ALL: u64 = LIMIT + 1;
 
 /// What the VCPUs and cores have come to.
 #[derive(Drop)]
@@ -27,10 +25,10 @@ pub struct Host {
     /// How many rows of the workload have been taken.
     pub taken: usize,
     pub accounts: [Account; MAX_PARTS],
-    /// What each VCPU goes by, where it is eligible.
-    pub keys: [Option<Key>; MAX_PARTS],
-    /// The slot at which its period ends, where it is started.
-    pub until: [Option<u64>; MAX_PARTS],
+    /// What each VCPU goes by, and those of each core that are eligible.
+    pub queues: Queues,
+    /// The slot at which its period ends, and one past all where it is not started.
+    pub until: [u64; MAX_PARTS],
     /// For each core the VCPU that has it.
     pub holders: [Option<u32>; MAX_CORES],
     /// For each core a slot before which no period of its VCPUs ends.
@@ -142,8 +140,8 @@ impl Host {
             time: 0,
             taken: 0,
             accounts: [Account::new(); MAX_PARTS],
-            keys: [None; MAX_PARTS],
-            until: [None; MAX_PARTS],
+            queues: Queues::new(sys),
+            until: [PAST_ALL; MAX_PARTS],
             holders: [None; MAX_CORES],
             ends: [PAST_ALL; MAX_CORES],
             stale: [true; MAX_CORES],
@@ -155,20 +153,20 @@ impl Host {
     fn is_stale_with(&self, core: usize, v: u32, key: Option<Key>) -> bool
         requires is_core { core < length self.now.stale }
         requires has_holder { core < length self.now.holders }
-        requires is_vcpu { v < length self.now.keys }
+        requires is_vcpu { v < length self.now.queues.keys }
         requires holder { (u : ℕ) → holder_at self.now.holders core ≡ Some u
-            → u < length self.now.keys }
+            → u < length self.now.queues.keys }
         ensures stale { result ≡ false → is_stale self.now.stale core ≡ false }
         ensures own { result ≡ false
             → ((u : ℕ) → holder_at self.now.holders core ≡ Some u → u ≡ v)
-            → key ≡ key_at self.now.keys v }
+            → key ≡ key_at self.now.queues.keys v }
         ensures other { (u : ℕ) → result ≡ false → holder_at self.now.holders core ≡ Some u
-            → u ≢ v → comes_before (key_at self.now.keys u) key ≡ true }
+            → u ≢ v → comes_before (key_at self.now.queues.keys u) key ≡ true }
     {
         if self.stale[core] {
             return true;
         }
-        may_leave(&self.keys, self.holders[core], v, key)
+        may_leave(&self.queues.keys, self.holders[core], v, key)
     }
 
     /// Sets an account, its key and the end of its period.
@@ -192,7 +190,7 @@ impl Host {
         let core = core_of(sys, v) as usize;
         let stale = self.is_stale_with(core, v, key);
         self.accounts[v as usize] = account;
-        self.keys[v as usize] = key;
+        self.queues.set(sys, v, key);
         self.until[v as usize] = end;
         self.stale[core] = stale;
     }
@@ -353,10 +351,8 @@ impl Host {
         &mut self,
         sys: &System,
         plan: &Plan,
-        members: &Members,
         events: &mut Vec<Event>,
     ) -> Result<(), AllocError>
-        requires members { AreMembersFrom sys.now 0 members.now }
         requires plan { IsPlan sys.now plan.now }
         requires ready { IsReady sys.now plan.now self.old }
         requires in_limit { self.old.time ≤ LIMIT }
@@ -375,7 +371,7 @@ impl Host {
     {
         for c in 0..sys.cores().len() {
             if self.stale[c] {
-                let next = first_key(sys, &self.keys, members, c as u32);
+                let next = first_key(sys, &self.queues, c as u32);
                 push_some(events, self.switch_event(c, next))?;
                 self.holders[c] = next;
                 self.stale[c] = false;
@@ -457,7 +453,7 @@ impl Host {
             ≤ left_of (account_at self.now.accounts v) (budget_at plan.now v) }
         ensures some { 1 ≤ result }
     {
-        match self.keys[v as usize] {
+        match self.queues.keys[v as usize] {
             Some(key) => account_of(&self.accounts, v).left(budget_of(plan, v), key.level),
             None => 1,
         }
@@ -586,7 +582,7 @@ impl Host {
         ensures taken { self.new.taken ≡ self.old.taken }
         ensures ends { self.new.ends ≡ self.old.ends }
     {
-        let end = self.until[v as usize].unwrap_or(PAST_ALL);
+        let end = self.until[v as usize];
         if end != self.time {
             return end;
         }

@@ -9,6 +9,7 @@ mod host;
 mod key;
 mod members;
 mod moment;
+mod queues;
 mod simulate;
 
 pub use fault::RtdsFault;

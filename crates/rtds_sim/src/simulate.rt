@@ -111,7 +111,7 @@ fn simulated(
         host.take_rows(sys, plan, wakes);
         host.stop_blocked(sys, plan, &mut events)?;
         print_rows(sys, wakes, first, host.taken, &mut events)?;
-        host.switch_all(sys, plan, &members, &mut events)?;
+        host.switch_all(sys, plan, &mut events)?;
         let next = host.next_slot(sys, plan, wakes, slots);
         host.go_on(sys, plan, &members, next);
     }

@@ -1,16 +1,15 @@
 use Rattle.std.proofs.Common.{◌≡◌, ◌≤◌, ◌<◌, ◌-◌, true, length}
-use Rattle.tree_model.specs.declared.place.Place.TheVariants.{Core}
-use Rattle.tree_model.specs.Tree.{is_child}
 use Rattle.rtds_sim.specs.Keys.{key_of_one, IsFirstKey}
+use Rattle.rtds_sim.specs.Queues.{is_queued}
 use Rattle.rtds_sim.proofs.choice.first_key.Given as goal
 
--- the first of the least keys so far, where v is the core's next VCPU
+-- the first of the least keys so far, where v is the core's next VCPU with a key
 abbrev pub invariant-loop-v : goal.invariant-loop-v
 invariant-loop-v l = record {
-  so_far : IsFirstKey l.sys l.keys l.core l.v l.first;
-  least : l.least ≡ key_of_one l.keys l.first;
+  so_far : IsFirstKey l.sys l.queues.keys l.core l.v l.first;
+  least : l.least ≡ key_of_one l.queues.keys l.first;
   within : l.v ≤ length l.sys.parts;
-  child : l.v < length l.sys.parts → is_child l.sys (Core l.core) l.v ≡ true;
+  listed : l.v < length l.sys.parts → is_queued l.sys l.queues.keys l.core l.v ≡ true;
 }
 
 abbrev pub decreases-loop-v : goal.decreases-loop-v

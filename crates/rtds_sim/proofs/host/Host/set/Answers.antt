@@ -17,4 +17,4 @@ returns-clause-ready c =
     ∙ (ap (λ (b : Bool). key_of c.args.account (budget_at c.args.plan.now c.args.v) b c.period.result) (c.extra.ensures ∙ ap (λ (p : PartView). p.extra) part)
     ∙ ap (key_of c.args.account (budget_at c.args.plan.now c.args.v) (part_at sys c.args.v).extra) (c.period.ensures ∙ ap (λ (p : PartView). p.period) part))))
     (c.end-end.ensures ∙ ap (end_of c.args.account) (c.period-2.ensures ∙ ap (λ (p : PartView). p.period) part))
-    c.core_of-core.ensures.is c.is_stale_with-stale.ensures.stale c.is_stale_with-stale.ensures.own c.is_stale_with-stale.ensures.other
+    c.core_of-core.ensures.is c.is_stale_with-stale.ensures.stale c.is_stale_with-stale.ensures.own c.is_stale_with-stale.ensures.other c.set.new.self c.set.ensures.are c.set.ensures.keys

@@ -1,0 +1,11 @@
+use Rattle.std.proofs.Common.{ℕ, length, Option, None, ap, List}
+use Rattle.tree_model.specs.View.{PartView}
+use Rattle.rtds_sim.specs.declared.key.Key.{Key}
+use Rattle.rtds_sim.proofs.Queueing.{alike, no_queues}
+use Rattle.rtds_sim.proofs.queues.Queues.new.Goals as goal
+
+pub returns-clause-are : goal.returns-clause-are
+returns-clause-are c = no_queues c.args.sys.now (length c.parts-2.result.now) (ap (λ (ps : List PartView). length ps) c.parts-2.ensures.parts) c.parts-2.ensures.system.few_parts c.parts-2.ensures.system.few_cores
+
+pub returns-clause-keys : goal.returns-clause-keys
+returns-clause-keys c v = alike {X = Option Key} 512 v None

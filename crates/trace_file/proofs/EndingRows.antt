@@ -1,0 +1,48 @@
+-- The endings of rows, and a row as its moment and its ending.
+use Rattle.std.proofs.Common.{◌≡◌, ◌<◌, ◌+◌, ◌^◌, ◌==◌, ℕ, zero, suc, Bool, true, false, not, cond, ◌&&◌, ◌||◌, List, [], ◌∷◌, ◌++◌, length, get_or, set, Option, Some, None, refl, sym, ◌∙◌, ap, arith, subst, inl, inr, append-nil, append_assoc}
+use Rattle.std.specs.Prelude.{decimal, slice_index_or}
+use Rattle.std.specs.Char.{is_ascii_digit}
+use Rattle.std.specs.List.{list_all, list_any}
+use Rattle.std.proofs.lemmas.Bool.{cases_eq, cases_lt, and_parts}
+use Rattle.std.proofs.lemmas.Bool.Decides.{nat_tests}
+use Rattle.std.proofs.lemmas.List.{get_or-set_same, get_or-set_other}
+use Rattle.slot_model.proofs.FirstRuns.{same_some}
+use Rattle.csv.specs.Quoting.{needs_byte}
+use Rattle.csv.specs.Writing.{default_writer, row_text, fields_text, is_blank, needs_quotes, field_text, quoted, end_text}
+use Rattle.tree_model.specs.View.{SystemView}
+use Rattle.trace_file.specs.declared.endings.Ending.{Ending}
+use Rattle.trace_file.specs.Endings.{IsEnding, AreEndings}
+use Rattle.trace_file.proofs.Printed.{all_digits}
+
+-- an entry more, or another one
+pub none_push : (made : List (Option Ending)) → ((i : ℕ) → get_or made i None ≡ None) → (i : ℕ) → get_or (made ++ None ∷ []) i None ≡ None
+none_push [] h zero = refl
+none_push [] h (suc i) = refl
+none_push (o ∷ made) h zero = h 0
+none_push (o ∷ made) h (suc i) = none_push made (λ j. h (suc j)) i
+
+pub kept_more : (sys : SystemView) (made : List (Option Ending)) (p : ℕ) (n : Ending) → p < length made → AreEndings sys made → IsEnding sys n → AreEndings sys (set made p (Some n))
+kept_more sys made p n l are is i e at = elim (cases_eq i p) [
+  | inl q ↦ subst (IsEnding sys) (same_ending n e (sym (get_or-set_same made p (Some n) None l) ∙ (sym (ap (λ (z : ℕ). get_or (set made p (Some n)) z None) q) ∙ at))) is
+  | inr ne ↦ are i e (sym (get_or-set_other made p i (Some n) None ne) ∙ at)
+]
+  where
+    same_ending : (a b : Ending) → Some a ≡ Some b → a ≡ b
+    same_ending a b q = cc q
+
+-- digits call for no quotes
+digit_plain : (b : ℕ) → is_ascii_digit b ≡ true → needs_byte default_writer b ≡ false
+digit_plain b h = grind (arith, nat_tests)
+
+digits_plain : (ds : List ℕ) → list_all is_ascii_digit ds ≡ true → needs_quotes default_writer ds ≡ false
+digits_plain [] h = refl
+digits_plain (d ∷ ds) h =
+    let parts = and_parts (is_ascii_digit d) (list_all is_ascii_digit ds) h in
+    ap (λ (b : Bool). b || needs_quotes default_writer ds) (digit_plain d parts.0) ∙ digits_plain ds parts.1
+
+pub row_split : (n : ℕ) (a b c : List ℕ) → n < 2 ^ 64 → decimal n ++ row_text default_writer ([] ∷ a ∷ b ∷ c ∷ []) ≡ row_text default_writer (decimal n ∷ a ∷ b ∷ c ∷ [])
+unfolding is_blank
+row_split n a b c l =
+    let rest : List ℕ = fields_text default_writer (a ∷ b ∷ c ∷ []) in
+    let end : List ℕ = [] ++ end_text default_writer.terminator in
+    sym (ap (λ (q : Bool). (cond q (quoted default_writer (decimal n)) (decimal n) ++ rest) ++ end) (digits_plain (decimal n) (all_digits n l)) ∙ append_assoc (decimal n) rest end)
