@@ -1,6 +1,7 @@
 mod Sharing
 mod Nodes
 mod TreeNodes
+mod KeptNodes
 pub mod Lists
 pub mod Counted
 mod Conforming

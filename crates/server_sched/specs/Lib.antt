@@ -4,3 +4,4 @@ pub mod TreeCounts
 pub mod TreeSpans
 pub mod Patterns
 pub mod SlotCounts
+pub mod CountedTree

@@ -4,6 +4,7 @@
 //! parent's run holds one of its jobs.
 #![tactic(auto)]
 
+mod counted_tree;
 mod node;
 mod servers;
 mod shares;
@@ -13,6 +14,7 @@ mod supplies;
 mod tree;
 mod tree_counts;
 
+pub use counted_tree::count_tree;
 pub use guest_sched::{Span, Window, server_spans};
 pub use node::{NodeSpans, TreeSpans};
 pub use servers::{run_servers, server_jobs};

@@ -157,7 +157,7 @@ pub(crate) fn rank_of(sys: &System, q: u32) -> usize
 }
 
 /// The run of a part over its windows.
-fn part_node(
+pub(crate) fn part_node(
     alloc: Global,
     sys: &System,
     budgets: &[u64],
@@ -221,7 +221,7 @@ fn leaf_node(
 }
 
 /// The run of a node's servers, and what each child gets of it.
-fn server_node(
+pub(crate) fn server_node(
     alloc: Global,
     sys: &System,
     budgets: &[u64],
