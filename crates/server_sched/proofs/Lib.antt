@@ -1,3 +1,7 @@
+mod Choosing
+mod Releasing
+mod ServedRuns
+mod Renewing
 mod Sharing
 mod Nodes
 mod TreeNodes

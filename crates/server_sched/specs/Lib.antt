@@ -5,3 +5,4 @@ pub mod TreeSpans
 pub mod Patterns
 pub mod SlotCounts
 pub mod CountedTree
+pub mod Serving

@@ -7,10 +7,12 @@
 mod counted_tree;
 mod node;
 mod servers;
+mod serving;
 mod shares;
 mod slot_counts;
 mod slots;
 mod supplies;
+mod tally;
 mod tree;
 mod tree_counts;
 
