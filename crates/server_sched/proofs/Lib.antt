@@ -2,6 +2,9 @@ mod Choosing
 mod Releasing
 mod ServedRuns
 mod Renewing
+mod Tallying
+mod Underway
+mod LevelServed
 mod Sharing
 mod Nodes
 mod TreeNodes

@@ -6,7 +6,7 @@ use Rattle.slot_model.specs.declared.job.Job.{Job}
 use Rattle.slot_model.specs.Task.{SporadicTask, task_at, job_at, default_job}
 use Rattle.slot_model.specs.Release.{releases_now, release_of, releases_at, synchronous}
 use Rattle.slot_model.proofs.Places.{length-push_if, push_if-kept, push_if-last}
-use Rattle.release_pattern.proofs.Moments.{one_releases, no_task, next_moment}
+use Rattle.release_pattern.proofs.Moments.{one_releases, no_task, no_moment, next_moment}
 
 -- the jobs so far stay where further tasks release
 more_jobs : (T : List SporadicTask) (x i m : ℕ) (jobs : List Job) → i ≤ m → length (releases_at T 0 x i jobs) ≤ length (releases_at T 0 x m jobs)
@@ -93,3 +93,13 @@ later_jobs T y (suc n) k l a m = elim (cases_eq y (suc n)) [
         | inr after ↦ omega (arith, ap (λ (js : List Job). (job_at js k).release) (next_moment T 0 n), added_then T n (length T) (synchronous T 0 n) k after (omega (arith, m, here)))
       ]
 ]
+
+-- each is released before the end
+pub in_moments : (T : List SporadicTask) (n k : ℕ) → k < length (synchronous T 0 n) → (job_at (synchronous T 0 n) k).release < n
+in_moments T zero k m = absurd (omega (arith, m, ap (λ (js : List Job). length js) (no_moment T 0)))
+in_moments T (suc n) k m =
+    let here : length (synchronous T 0 (suc n)) ≡ come_by T n (length T) = ap (λ (js : List Job). length js) (next_moment T 0 n) in
+    elim (cases_lt k (length (synchronous T 0 n))) [
+      | inl before ↦ omega (arith, in_moments T n k before, ap (λ (j : Job). j.release) (stays_there T n (suc n) k (omega arith) before))
+      | inr after ↦ omega (arith, ap (λ (js : List Job). (job_at js k).release) (next_moment T 0 n), added_then T n (length T) (synchronous T 0 n) k after (omega (arith, m, here)))
+    ]

@@ -1,5 +1,5 @@
 -- What is kept of a level of servers between two events, in place of a list of its jobs.
-use Rattle.std.specs.Prelude.{◌≡◌, ◌⊎◌, ℕ, ◌+◌, ◌-◌, ◌<◌, ◌≤◌, ◌==◌, ◌&&◌, ◌||◌, nat_lt, min, Bool, true, false, List, length, slice_index_or, Option, Some, None, IfSome}
+use Rattle.std.specs.Prelude.{◌≡◌, ◌⊎◌, ℕ, ◌+◌, ◌-◌, ◌<◌, ◌≤◌, ◌==◌, ◌&&◌, ◌||◌, nat_lt, min, Bool, true, false, List, length, map, slice_index_or, Option, Some, None, IfSome}
 use Rattle.slot_model.specs.declared.job.Job.{Job}
 use Rattle.slot_model.specs.declared.miss.Miss.{Miss}
 use Rattle.slot_model.specs.declared.sched.Sched.{Sched}
@@ -8,15 +8,16 @@ use Rattle.slot_model.specs.Slots.{count_below}
 use Rattle.slot_model.specs.Task.{SporadicTask, task_at, job_at, deadline_of}
 use Rattle.slot_model.specs.Order.{before_of}
 use Rattle.slot_model.specs.Release.{releases_at, synchronous}
-use Rattle.slot_model.specs.Run.{server, service, FirstRun}
+use Rattle.slot_model.specs.Run.{server, held, service, holds_task, FirstRun, FirstRunTo}
 use Rattle.slot_model.specs.Miss.{miss_of}
 use Rattle.guest_sched.specs.declared.spans.Window.{Window}
-use Rattle.guest_sched.specs.Spans.{slots_of}
+use Rattle.guest_sched.specs.Spans.{AreWindows, is_given, slots_of}
 use Rattle.release_pattern.specs.Due.{IsNext}
 use Rattle.span_counts.specs.Counts.{AreCounts}
+use Rattle.server_sched.specs.declared.level.Level.{Level}
 use Rattle.server_sched.specs.declared.serving.Server.{Server}
 use Rattle.server_sched.specs.declared.tally.Late.{Late}
-use Rattle.server_sched.specs.Shares.{AreShares}
+use Rattle.server_sched.specs.Shares.{share_at, AreShares}
 use Rattle.server_sched.specs.CountedTree.{KeptView}
 
 -- tasks of servers: a job is released as it arrives, and due at the end of its period
@@ -123,6 +124,34 @@ pub record Tallies (tasks : List SporadicTask) (jobs : List Job) (run : List (Op
   pub count : missed ≡ count_below late (length jobs)
   pub some : IfSome first (IsFirstLate tasks jobs run late)
   pub none : first ≡ None → missed ≡ 0
+
+-- what each child gets of a run up to x
+pub record AreSharesTo (jobs : List Job) (run : List (Option ℕ)) (x count : ℕ)
+    (shares : List (List Window)) : Type 0 where
+  pub one_each : length shares ≡ count
+  pub fit : (k : ℕ) → k < count → AreWindows (share_at shares k) x
+  pub same : (k y : ℕ) → k < count → y < x →
+      is_given (share_at shares k) y ≡ holds_task jobs (held run y) k
+
+-- what is told of the first late job
+abbrev pub told_of : Option Late → Option Miss
+told_of None = None
+told_of (Some late) = Some late.miss
+
+-- a level of servers whose first run is made up to a moment
+pub record IsUnderway (sched : Sched) (tasks : List SporadicTask) (slots : List Bool)
+    (level : Level) : Type 0 where
+  pub run : List (Option ℕ)
+  pub first : FirstRunTo server (before_of sched tasks) tasks (synchronous tasks 0 level.slots)
+      slots level.time run
+  pub in_slots : level.time ≤ level.slots
+  pub rest : AtRest sched tasks level.slots run level.time level.come.released level.come.next
+      level.servers.items
+  pub shares : AreSharesTo (synchronous tasks 0 level.slots) run level.time (length tasks)
+      (map (λ s. s.items) level.shares.items)
+  pub tallied : Tallies tasks (synchronous tasks 0 level.slots) run
+      (is_late tasks (synchronous tasks 0 level.slots) run level.come.next 0)
+      level.tally.missed level.tally.first
 
 -- the first run of a level of servers, of which this is kept
 pub record IsServed (sched : Sched) (tasks : List SporadicTask) (given : List Window) (n : ℕ)

@@ -5,7 +5,9 @@
 #![tactic(auto)]
 
 mod counted_tree;
+mod level;
 mod node;
+mod served;
 mod servers;
 mod serving;
 mod shares;

@@ -102,7 +102,8 @@ pub fn renew(
         (n : ℕ) (run : List (Option ℕ)) → moment < n →
         HoldsReleased (synchronous T 0 n) run →
         AtMoment sched T (synchronous T 0 n) run moment 0 released servers.old →
-        AtRest sched T n run moment result.released result.next servers.new }
+        AtRest sched T n run moment result.released result.next servers.new
+        × (moment < result.next) }
 {
     let mut come = Come {
         released,

@@ -68,4 +68,4 @@ returns-clause-rest c = λ n run m holds h.
     let T = sporadic_tasks c.args.tasks.now in
     let i = c.loop-i.invariant in
     let done = i.released n run m holds h in
-    all_renewed c.args.sched T n run c.args.moment c.loop-i.i c.loop-i.come.released c.loop-i.come.next c.loop-i.servers m done.1 (omega (arith, c.loop-i-test.false, c.loop-i.auto.i-end, c.requires.one_each, length-map c.args.tasks.now sporadic_task)) i.least done.0
+    (all_renewed c.args.sched T n run c.args.moment c.loop-i.i c.loop-i.come.released c.loop-i.come.next c.loop-i.servers m done.1 (omega (arith, c.loop-i-test.false, c.loop-i.auto.i-end, c.requires.one_each, length-map c.args.tasks.now sporadic_task)) i.least done.0, done.1)
