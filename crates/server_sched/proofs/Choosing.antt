@@ -1,8 +1,8 @@
 -- The server that goes first, among more and more of them.
-use Rattle.std.proofs.Common.{◌≡◌, ◌⊎◌, ℕ, suc, ◌+◌, ◌<◌, ◌≤◌, List, length, Option, Some, None, refl, ap, arith, inl, inr, subst}
+use Rattle.std.proofs.Common.{◌≡◌, ℕ, ◌+◌, ◌<◌, List, Option, Some, None, refl, ap, arith, inl, inr, subst}
 use Rattle.std.proofs.lemmas.Bool.{cases_eq}
 use Rattle.server_sched.specs.declared.serving.Server.{Server}
-use Rattle.server_sched.specs.Serving.{server_at, goes_first, IsChosen}
+use Rattle.server_sched.specs.Serving.{server_at, goes_first}
 
 -- the one of the first m
 abbrev pub ChosenTo : List Server → ℕ → Option ℕ → Type 0
@@ -25,7 +25,11 @@ one_stays servers m b h g = (omega (arith, h.0), h.1, λ i l a. elim (cases_eq i
 
 pub one_chosen : (servers : List Server) (m : ℕ) (best : Option ℕ) → ChosenTo servers m best → 0 < (server_at servers m).left → ((b : ℕ) → best ≡ Some b → goes_first (server_at servers m) (server_at servers b)) → ChosenTo servers (m + 1) (Some m)
 one_chosen servers m None h some g = (omega arith, some, λ i l a. elim (cases_eq i m) [ inl q ↦ subst (λ (z : ℕ). goes_first (server_at servers m) (server_at servers z)) (let e : m ≡ i = omega arith in e) (itself (server_at servers m)) | inr ne ↦ absurd (omega (arith, a, h i (omega arith))) ])
-one_chosen servers m (Some b) h some g = (omega arith, some, λ i l a. elim (cases_eq i m) [
-  | inl q ↦ subst (λ (z : ℕ). goes_first (server_at servers m) (server_at servers z)) (let e : m ≡ i = omega arith in e) (itself (server_at servers m))
-  | inr ne ↦ first_turn (server_at servers m) (server_at servers b) (server_at servers i) (g b refl) (h.2 i (omega arith) a)
-])
+one_chosen servers m (Some b) h some g = (
+  omega arith,
+  some,
+  λ i l a. elim (cases_eq i m) [
+    | inl q ↦ subst (λ (z : ℕ). goes_first (server_at servers m) (server_at servers z)) (let e : m ≡ i = omega arith in e) (itself (server_at servers m))
+    | inr ne ↦ first_turn (server_at servers m) (server_at servers b) (server_at servers i) (g b refl) (h.2 i (omega arith) a)
+  ],
+)

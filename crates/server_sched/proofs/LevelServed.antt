@@ -1,21 +1,19 @@
 -- A level of servers at its end: its first run, and what is kept of it.
-use Rattle.std.proofs.Common.{◌≡◌, ◌↔◌, ℕ, ◌<◌, ◌≤◌, min, Bool, true, List, length, map, Option, Some, None, cond, refl, sym, ◌∙◌, ap, arith, subst, lt-ltb, Vec, Global}
-use Rattle.slot_model.specs.declared.miss.Miss.{Miss}
+use Rattle.std.proofs.Common.{◌≡◌, ℕ, ◌<◌, ◌≤◌, min, Bool, true, List, length, map, Option, Some, None, cond, sym, ◌∙◌, ap, arith, subst, lt-ltb, Vec, Global}
 use Rattle.slot_model.specs.declared.job.Job.{Job}
 use Rattle.slot_model.specs.declared.sched.Sched.{Sched}
 use Rattle.slot_model.specs.Slots.{count_below, slots_between}
-use Rattle.slot_model.specs.Task.{SporadicTask, AreConstrained, job_at, deadline_of}
+use Rattle.slot_model.specs.Task.{SporadicTask, AreConstrained}
 use Rattle.slot_model.specs.Order.{before_of}
 use Rattle.slot_model.specs.Release.{synchronous}
-use Rattle.slot_model.specs.Run.{service, server, FirstRun, FirstRunTo}
+use Rattle.slot_model.specs.Run.{server, FirstRunTo}
 use Rattle.slot_model.specs.Miss.{is_missed, IsFirstMiss}
 use Rattle.slot_model.proofs.Sums.{sum_below-zero}
 use Rattle.slot_model.proofs.MissedJobs.{none_where_zero, zero_where_none}
 use Rattle.slot_model.proofs.Synchronous.{legal_synchronous}
 use Rattle.guest_sched.specs.declared.spans.Window.{Window}
-use Rattle.guest_sched.specs.Spans.{AreWindows, slots_of}
+use Rattle.guest_sched.specs.Spans.{slots_of}
 use Rattle.guest_sched.proofs.Given.{slots-long}
-use Rattle.span_counts.specs.declared.counts.Counts.{Counts}
 use Rattle.span_counts.specs.Counts.{is_early, AreCounts}
 use Rattle.span_counts.proofs.Counting.{count_to}
 use Rattle.server_sched.specs.declared.level.Level.{Level}
@@ -24,7 +22,7 @@ use Rattle.server_sched.specs.Shares.{AreShares}
 use Rattle.server_sched.specs.CountedTree.{KeptView}
 use Rattle.server_sched.specs.Serving.{AreServerTasks, AtRest, AreSharesTo, Tallies, is_late, IsUnderway, IsServed, told_of}
 use Rattle.server_sched.proofs.Releasing.{in_moments}
-use Rattle.server_sched.proofs.Sharing.{SharedTo, all_shared}
+use Rattle.server_sched.proofs.Sharing.{all_shared}
 use Rattle.server_sched.proofs.Tallying.{all_late, rest_late, first_missed, none_missed}
 
 -- the late jobs are those that miss

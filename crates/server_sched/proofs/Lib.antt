@@ -5,6 +5,7 @@ mod Renewing
 mod Tallying
 mod Underway
 mod LevelServed
+mod ServerKept
 mod Sharing
 mod Nodes
 mod TreeNodes

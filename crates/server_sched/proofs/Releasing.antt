@@ -1,5 +1,5 @@
 -- Where the jobs of servers stand among all: each moment's after those of earlier ones.
-use Rattle.std.proofs.Common.{◌≡◌, ℕ, zero, suc, ◌+◌, ◌<◌, ◌≤◌, Bool, true, false, cond, List, [], ◌∷◌, ◌++◌, length, sym, ◌∙◌, ap, arith, inl, inr, subst}
+use Rattle.std.proofs.Common.{◌≡◌, ℕ, zero, suc, ◌+◌, ◌<◌, ◌≤◌, true, List, length, sym, ◌∙◌, ap, arith, inl, inr}
 use Rattle.std.proofs.lemmas.Bool.{cases_eq, cases_lt, cases_Bool, cond-true, cond-false}
 use Rattle.std.proofs.lemmas.List.{get_or_push, length_push}
 use Rattle.slot_model.specs.declared.job.Job.{Job}
@@ -59,14 +59,13 @@ pub comes_at : (T : List SporadicTask) (x n p : ℕ) → x < n → p < length T 
 comes_at T x n p l m e =
     let now = releases_at T 0 x p (synchronous T 0 x) in
     let more = come_more T x p m e in
-    let within : come_by T x p < come_by T x (length T) = omega (arith, more, more_jobs T x (p + 1) (length T) (synchronous T 0 x) (omega arith)) in
-    (
+    let within : come_by T x p < come_by T x (length T) = omega (arith, more, more_jobs T x (p + 1) (length T) (synchronous T 0 x) (omega arith)) in (
       omega (arith, within, come_whole T x n l),
       stays_there T (suc x) n (come_by T x p) l (omega (arith, within, ap (λ (js : List Job). length js) (next_moment T 0 x)))
-      ∙ (ap (λ (js : List Job). job_at js (come_by T x p)) (next_moment T 0 x)
-      ∙ (stays T x (p + 1) (length T) (synchronous T 0 x) (come_by T x p) (omega arith) (omega (arith, more))
-      ∙ (ap (λ (js : List Job). job_at js (come_by T x p)) (one_releases T 0 x p (synchronous T 0 x) e)
-      ∙ get_or_push now (release_of T 0 x p) default_job (come_by T x p) (omega arith)))),
+          ∙ (ap (λ (js : List Job). job_at js (come_by T x p)) (next_moment T 0 x)
+          ∙ (stays T x (p + 1) (length T) (synchronous T 0 x) (come_by T x p) (omega arith) (omega (arith, more))
+          ∙ (ap (λ (js : List Job). job_at js (come_by T x p)) (one_releases T 0 x p (synchronous T 0 x) e)
+          ∙ get_or_push now (release_of T 0 x p) default_job (come_by T x p) (omega arith)))),
     )
 
 -- the jobs that a moment adds are released then

@@ -1,13 +1,12 @@
 -- The servers that are due at a moment release their next jobs, one after the other.
-use Rattle.std.proofs.Common.{◌≡◌, ◌≢◌, ◌⊎◌, ℕ, ◌+◌, ◌-◌, ◌<◌, ◌≤◌, ◌^◌, ◌==◌, min, Bool, true, false, if◌then◌else◌, List, length, set, get_or, Option, refl, sym, ◌∙◌, ap, arith, subst, inl, inr, length-set, get_or-set_same, get_or-set_other}
-use Rattle.std.proofs.lemmas.Bool.{cases_eq, cases_lt}
+use Rattle.std.proofs.Common.{◌≡◌, ◌≢◌, ℕ, ◌+◌, ◌-◌, ◌<◌, ◌≤◌, ◌^◌, ◌==◌, min, Bool, true, false, if◌then◌else◌, List, length, set, Option, refl, sym, ◌∙◌, ap, arith, subst, inl, inr, length-set, get_or-set_same, get_or-set_other}
+use Rattle.std.proofs.lemmas.Bool.{cases_eq}
 use Rattle.slot_model.specs.declared.job.Job.{Job}
 use Rattle.slot_model.specs.declared.sched.Sched.{Sched}
-use Rattle.slot_model.specs.Task.{SporadicTask, IsConstrained, AreConstrained, task_at, job_at, deadline_of}
+use Rattle.slot_model.specs.Task.{SporadicTask, AreConstrained, task_at, job_at, deadline_of}
 use Rattle.slot_model.specs.Release.{releases_now, release_of, releases_at, synchronous}
-use Rattle.slot_model.specs.Run.{service}
 use Rattle.slot_model.specs.Miss.{HoldsReleased}
-use Rattle.slot_model.proofs.Synchronous.{early_at, early_at-le}
+use Rattle.slot_model.proofs.Synchronous.{early_at-le}
 use Rattle.slot_model.proofs.MissedJobs.{service-before_release}
 use Rattle.release_pattern.specs.Due.{IsNext, NoneRelease}
 use Rattle.release_pattern.proofs.Moments.{one_waits, released_next, up_to_next}

@@ -1,17 +1,17 @@
 -- The run of a level of servers, one span more, and what each server's job lacks then.
-use Rattle.std.proofs.Common.{◌≡◌, ◌≢◌, ◌⊎◌, ℕ, ◌+◌, ◌-◌, ◌<◌, ◌≤◌, ◌&&◌, ◌||◌, min, Bool, true, false, cond, List, ◌++◌, length, set, replicate, Option, Some, None, eqb, refl, sym, ◌∙◌, ap, arith, subst, inl, inr, lt-ltb, le-ltb, eq-eqb, ne_eqb, length-set, get_or, get_or-set_same, get_or-set_other}
+use Rattle.std.proofs.Common.{◌≡◌, ◌≢◌, ◌⊎◌, ℕ, ◌+◌, ◌-◌, ◌<◌, ◌≤◌, ◌&&◌, ◌||◌, min, Bool, true, false, List, ◌++◌, length, set, replicate, Option, Some, None, eqb, refl, sym, ◌∙◌, ap, arith, subst, inl, inr, lt-ltb, le-ltb, eq-eqb, ne_eqb, length-set, get_or, get_or-set_same, get_or-set_other}
 use Rattle.std.proofs.lemmas.Bool.{cases_eq, cases_lt, both_ways, true≢false, or_left, or_right, and_from, cond-true, cond-false, cases_Bool}
 use Rattle.slot_model.specs.declared.job.Job.{Job}
 use Rattle.slot_model.specs.declared.sched.Sched.{Sched}
 use Rattle.slot_model.specs.declared.sched.Sched.TheVariants.{Edf, Rm, Dm, Listed}
 use Rattle.slot_model.specs.Task.{SporadicTask, task_at, job_at, deadline_of, AreConstrained}
-use Rattle.slot_model.specs.Order.{IsRank, OrderLaws, ranks_by, ranks_above, fixed_before, arrives_before, before_of}
-use Rattle.slot_model.specs.Release.{LegalRelease, synchronous}
-use Rattle.slot_model.specs.Run.{holds, service, server, StillOpen, Pending, MayHold, Entry, FirstRunTo}
+use Rattle.slot_model.specs.Order.{IsRank, ranks_by, ranks_above, fixed_before, arrives_before, before_of}
+use Rattle.slot_model.specs.Release.{synchronous}
+use Rattle.slot_model.specs.Run.{service, server, Pending, MayHold, Entry}
 use Rattle.slot_model.proofs.FirstRuns.{none_some, same_some}
 use Rattle.slot_model.proofs.Synchronous.{legal_synchronous}
-use Rattle.fp_request.specs.Ranks.{order_laws, key_ranks, place_ranks, ranks_is_rank}
-use Rattle.guest_sched.proofs.Steady.{Steady, span_run, service_span}
+use Rattle.fp_request.specs.Ranks.{order_laws, ranks_is_rank}
+use Rattle.guest_sched.proofs.Steady.{Steady, service_span}
 use Rattle.release_pattern.specs.Due.{IsNext}
 use Rattle.server_sched.specs.declared.serving.Server.{Server}
 use Rattle.server_sched.specs.Serving.{server_at, no_server, IsKeyed, goes_first, IsChosen, HasJob, IsActive, AtRest}
@@ -54,8 +54,7 @@ own_pending sched T n run x released next servers h l i li some =
 -- a fixed rank serves the job of the task above
 above_first : (above : ℕ → ℕ → Bool) → IsRank above → (a b : Job) → a.task ≢ b.task → above a.task b.task ≡ true → (fixed_before above b a ≡ false) × (fixed_before above a b ≡ true)
 above_first above rank a b ne e =
-    let not_above : above b.task a.task ≡ false = elim (cases_Bool (above b.task a.task)) [ inl up ↦ absurd (both_ways _ (rank.not_itself a.task) (rank.in_turn a.task b.task a.task e up)) | inr fails ↦ fails ] in
-    (
+    let not_above : above b.task a.task ≡ false = elim (cases_Bool (above b.task a.task)) [ inl up ↦ absurd (both_ways _ (rank.not_itself a.task) (rank.in_turn a.task b.task a.task e up)) | inr fails ↦ fails ] in (
       neither (above b.task a.task) (eqb b.task a.task) (arrives_before b a) not_above (ne_eqb b.task a.task (λ q. ne (sym q))),
       or_left _ _ e,
     )

@@ -1,6 +1,6 @@
 -- The late jobs of a level of servers, as the run goes on and as each is found.
-use Rattle.std.proofs.Common.{◌≡◌, ◌≢◌, ◌⊎◌, ℕ, zero, suc, ◌+◌, ◌-◌, ◌<◌, ◌≤◌, ◌&&◌, ◌||◌, nat_lt, nat_le, ◌==◌, min, Bool, true, false, cond, List, ◌++◌, length, get_or, Option, Some, None, MatchOption, IfSome, eqb, ltb, leb, refl, sym, ◌∙◌, ap, arith, subst, inl, inr, lt-ltb, le-ltb, ltb-true, le-leb, eq-eqb, ne_eqb}
-use Rattle.std.proofs.lemmas.Bool.{cases_eq, cases_lt, cases_Bool, both_ways, and_parts, and_from, or_left, or_right, cond-true, cond-false, lt-leb}
+use Rattle.std.proofs.Common.{◌≡◌, ◌≢◌, ◌⊎◌, ℕ, zero, suc, ◌+◌, ◌-◌, ◌<◌, ◌≤◌, ◌&&◌, ◌||◌, nat_lt, nat_le, min, Bool, true, false, cond, List, ◌++◌, length, get_or, Option, Some, None, MatchOption, IfSome, eqb, ltb, refl, sym, ◌∙◌, ap, arith, subst, inl, inr, lt-ltb, le-ltb, le-leb, eq-eqb, ne_eqb}
+use Rattle.std.proofs.lemmas.Bool.{cases_eq, cases_lt, both_ways, and_parts, and_from, or_left, or_right, cond-true, cond-false, lt-leb}
 use Rattle.std.proofs.lemmas.List.{get_or_append_left}
 use Rattle.slot_model.specs.declared.job.Job.{Job}
 use Rattle.slot_model.specs.declared.miss.Miss.{Miss}
@@ -11,9 +11,8 @@ use Rattle.slot_model.specs.Release.{synchronous}
 use Rattle.slot_model.specs.Run.{holds, service}
 use Rattle.slot_model.specs.Miss.{is_missed, miss_of, Missed, IsFirstMiss}
 use Rattle.slot_model.proofs.Sums.{sum_below-same, sum_below-suc}
-use Rattle.slot_model.proofs.FirstRuns.{none_some}
-use Rattle.slot_model.proofs.MissedJobs.{count_below-passes, count_below-fails, none_passes, missed_where_tested, tested_where_missed, none_where_zero}
-use Rattle.slot_model.proofs.Synchronous.{early_at, early_at-le, legal_synchronous, synchronous_early, synchronous_whole}
+use Rattle.slot_model.proofs.MissedJobs.{none_passes, missed_where_tested, tested_where_missed, none_where_zero}
+use Rattle.slot_model.proofs.Synchronous.{early_at-le, legal_synchronous, synchronous_early, synchronous_whole}
 use Rattle.server_sched.specs.declared.serving.Server.{Server}
 use Rattle.server_sched.specs.declared.tally.Late.{Late}
 use Rattle.server_sched.specs.Serving.{AreServerTasks, server_at, HasJob, AtRest, is_late, IsFirstLate, Tallies}
@@ -166,9 +165,9 @@ one_in_time sched T fits are n run x released servers m h i missed first none t 
     tallies_same T jobs run (is_late T jobs run x i) (is_late T jobs run x (i + 1)) missed first
     (λ k l. same_late (deadline_of T (job_at jobs k)) x (job_at jobs k).task i (nat_lt (service run k (deadline_of T (job_at jobs k))) (job_at jobs k).work)
     (λ e q.
-        let has = due_now sched T fits are n run x released servers m h k l e in
-        let done : (server_at servers i).left ≡ 0 = none (ap (λ (z : ℕ). (server_at servers z).next) (sym q) ∙ (has.due ∙ e)) in
-        le-ltb (service run k (deadline_of T (job_at jobs k))) (job_at jobs k).work (omega (arith, has.lacks, done, ap (λ (z : ℕ). (server_at servers z).left) q, ap (service run k) e))))
+    let has = due_now sched T fits are n run x released servers m h k l e in
+    let done : (server_at servers i).left ≡ 0 = none (ap (λ (z : ℕ). (server_at servers z).next) (sym q) ∙ (has.due ∙ e)) in
+    le-ltb (service run k (deadline_of T (job_at jobs k))) (job_at jobs k).work (omega (arith, has.lacks, done, ap (λ (z : ℕ). (server_at servers z).left) q, ap (service run k) e))))
     t
 
 abbrev miss_with : ℕ → ℕ → ℕ → ℕ → ℕ → Miss
@@ -261,7 +260,7 @@ tallies_longer sched T fits are n run x released next servers long h more missed
     let jobs = synchronous T 0 n in
     let same : (k : ℕ) → k < length jobs → is_late T jobs run next 0 k ≡ is_late T jobs (run ++ more) next 0 k
     = λ k l. longer_late (deadline_of T (job_at jobs k)) next (job_at jobs k).task (nat_lt (service run k (deadline_of T (job_at jobs k))) (job_at jobs k).work) (nat_lt (service (run ++ more) k (deadline_of T (job_at jobs k))) (job_at jobs k).work)
-        (λ d. ap (λ (s : ℕ). nat_lt s (job_at jobs k).work) (sym (service_longer run more k (deadline_of T (job_at jobs k)) (omega (arith, long, settled sched T fits are n run x released next servers h k l d))))) in
+    (λ d. ap (λ (s : ℕ). nat_lt s (job_at jobs k).work) (sym (service_longer run more k (deadline_of T (job_at jobs k)) (omega (arith, long, settled sched T fits are n run x released next servers h k l d))))) in
     retold first (tallies_same T jobs run (is_late T jobs run next 0) (is_late T jobs (run ++ more) next 0) missed first same t)
   where
     retold : (o : Option Late) → Tallies T (synchronous T 0 n) run (is_late T (synchronous T 0 n) (run ++ more) next 0) missed o → Tallies T (synchronous T 0 n) (run ++ more) (is_late T (synchronous T 0 n) (run ++ more) next 0) missed o
@@ -291,12 +290,15 @@ all_late T jobs run n p missed first long named t = tallies_same T jobs run (is_
 pub first_missed : (T : List SporadicTask) (jobs : List Job) (run : List (Option ℕ)) (missed : ℕ) (late : Late) → Tallies T jobs run (is_missed T jobs run) missed (Some late) → IsFirstMiss T jobs run (Some late.miss)
 first_missed T jobs run missed late h =
     let place : ℕ = late.place in
-    let of : (k : ℕ) → Missed T jobs run k → (deadline_of T (job_at jobs place) < deadline_of T (job_at jobs k)) ⊎ ((deadline_of T (job_at jobs place) ≡ deadline_of T (job_at jobs k)) × (place ≤ k)) = λ k m. h.some.least k m.is_job (tested_where_missed T jobs run k m) in
-    (place, record {
-      missed = missed_where_tested T jobs run place h.some.is_late;
-      least = λ k m. at_most (of k m);
-      first = λ k l m e. elim (of k m) [ inl a ↦ omega (arith, a, e) | inr b ↦ omega (arith, b.1, l) ];
-    }, h.some.told)
+    let of : (k : ℕ) → Missed T jobs run k → (deadline_of T (job_at jobs place) < deadline_of T (job_at jobs k)) ⊎ ((deadline_of T (job_at jobs place) ≡ deadline_of T (job_at jobs k)) × (place ≤ k)) = λ k m. h.some.least k m.is_job (tested_where_missed T jobs run k m) in (
+      place,
+      record {
+        missed = missed_where_tested T jobs run place h.some.is_late;
+        least = λ k m. at_most (of k m);
+        first = λ k l m e. elim (of k m) [ inl a ↦ omega (arith, a, e) | inr b ↦ omega (arith, b.1, l) ];
+      },
+      h.some.told,
+    )
   where
     at_most : {d e p q : ℕ} → (d < e) ⊎ ((d ≡ e) × (p ≤ q)) → d ≤ e
     at_most (inl a) = omega arith

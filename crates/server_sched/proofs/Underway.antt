@@ -1,17 +1,14 @@
 -- A level of servers whose first run is made up to a moment, one event more.
-use Rattle.std.proofs.Common.{◌≡◌, ℕ, ◌+◌, ◌-◌, ◌<◌, ◌≤◌, min, zero, suc, cond, Bool, true, false, List, [], ◌++◌, length, map, set, get_or, replicate, Option, Some, None, refl, sym, ◌∙◌, ap, arith, subst, inl, inr, Vec, Global}
-use Rattle.std.proofs.lemmas.Bool.{cases_Bool, cond-true, cond-false}
+use Rattle.std.proofs.Common.{◌≡◌, ℕ, ◌+◌, ◌-◌, ◌<◌, ◌≤◌, min, Bool, true, false, List, [], ◌++◌, length, map, set, get_or, replicate, Option, Some, None, refl, sym, ◌∙◌, ap, arith, subst, inl, inr, Vec, Global}
 use Rattle.std.proofs.lemmas.List.{get_or_append_left, get_or-append_right, get_or-replicate, length-replicate, length-map}
 use Rattle.slot_model.specs.declared.job.Job.{Job}
 use Rattle.slot_model.specs.declared.sched.Sched.{Sched}
 use Rattle.slot_model.specs.Task.{SporadicTask, AreConstrained, task_at, job_at}
 use Rattle.slot_model.specs.Order.{before_of}
-use Rattle.slot_model.specs.Slots.{count_below}
-use Rattle.slot_model.specs.Release.{synchronous, releases_at, releases_now}
-use Rattle.slot_model.specs.Run.{held, holds_task, service, server, FirstRunTo}
-use Rattle.slot_model.specs.Miss.{HoldsReleased, IsReleased}
+use Rattle.slot_model.specs.Release.{synchronous, releases_now}
+use Rattle.slot_model.specs.Run.{holds_task, service, server, FirstRunTo}
+use Rattle.slot_model.specs.Miss.{HoldsReleased}
 use Rattle.slot_model.proofs.FirstRuns.{none_some, same_some}
-use Rattle.slot_model.proofs.Sums.{sum_below-zero, sum_below-suc}
 use Rattle.slot_model.proofs.MissedJobs.{count_below-none}
 use Rattle.release_pattern.proofs.Moments.{no_task, no_moment}
 use Rattle.guest_sched.specs.declared.spans.Window.{Window}
@@ -114,20 +111,20 @@ job_served sched T fits are slots level new h k b l u m v given best enough wind
     let own = h.rest.active b (omega (arith, best.0, h.rest.one_each)) best.1 in
     let lists = map (λ (s : Vec Window Global). s.items) level.shares.items in
     let first : FirstRunTo server (before_of sched T) T jobs slots (level.time + k) later = span_run server (before_of sched T) T jobs slots true (Some p) k level.time h.run h.first
-        (steady_rest sched T fits n slots h.run level.time level.come.released level.come.next level.servers.items h.rest l m k u v given (Some p) (λ j q. omega (arith, own.job.lacks, enough, ap (λ (z : ℕ). (server_at level.servers.items z).left) own.own, ap (λ (z : ℕ). (job_at jobs z).work) (same_some p j q), ap (λ (z : ℕ). service h.run z level.time) (same_some p j q))))
-        (chosen_entry sched T fits n h.run level.time level.come.released level.come.next level.servers.items h.rest l m b best) in
+    (steady_rest sched T fits n slots h.run level.time level.come.released level.come.next level.servers.items h.rest l m k u v given (Some p) (λ j q. omega (arith, own.job.lacks, enough, ap (λ (z : ℕ). (server_at level.servers.items z).left) own.own, ap (λ (z : ℕ). (job_at jobs z).work) (same_some p j q), ap (λ (z : ℕ). service h.run z level.time) (same_some p j q))))
+    (chosen_entry sched T fits n h.run level.time level.come.released level.come.next level.servers.items h.rest l m b best) in
     let rest : AtRest sched T n later (level.time + k) level.come.released level.come.next (given_to level.servers.items b k) = rest_given sched T n h.run level.time level.come.released level.come.next level.servers.items h.first.long h.rest k b u best.0 best.1 enough in
     let shared : SharedTo jobs later (level.time + k) (length T) (set lists b window)
     = subst (λ (z : ℕ). SharedTo jobs later (level.time + k) (length T) (set lists z window)) own.own
-        (task_shared jobs later level.time (level.time + k) (length T) p lists window (to_shared jobs h.run (replicate k (Some p)) level.time (length T) lists h.first.long h.shares) (omega arith) (holds_more h.run level.time k (Some p) h.first.long) (omega (arith, own.own, best.0, h.rest.one_each))
-        (subst (λ (z : ℕ). AddsWindow (share_at lists z) level.time (level.time + k) window) (sym own.own) adds)) in
+    (task_shared jobs later level.time (level.time + k) (length T) p lists window (to_shared jobs h.run (replicate k (Some p)) level.time (length T) lists h.first.long h.shares) (omega arith) (holds_more h.run level.time k (Some p) h.first.long) (omega (arith, own.own, best.0, h.rest.one_each))
+    (subst (λ (z : ℕ). AddsWindow (share_at lists z) level.time (level.time + k) window) (sym own.own) adds)) in
     of_parts sched T slots new later n (sym same_slots) (
       (subst (λ (z : ℕ). FirstRunTo server (before_of sched T) T jobs slots z later) (sym time) first),
       (omega (arith, time, v)),
       (subst (λ (s : List Server). AtRest sched T n later new.time new.come.released new.come.next s) (sym servers) (subst (λ (c : Come). AtRest sched T n later new.time c.released c.next (given_to level.servers.items b k)) (sym come) (subst (λ (z : ℕ). AtRest sched T n later z level.come.released level.come.next (given_to level.servers.items b k)) (sym time) rest))),
       (subst (λ (s : List (List Window)). AreSharesTo jobs later new.time (length T) s) (sym shares) (subst (λ (z : ℕ). AreSharesTo jobs later z (length T) (set lists b window)) (sym time) (from_shared jobs later (level.time + k) (length T) (set lists b window) shared))),
       (subst (λ (w : Tally). Tallies T jobs later (is_late T jobs later new.come.next 0) w.missed w.first) (sym tally) (subst (λ (c : Come). Tallies T jobs later (is_late T jobs later c.next 0) level.tally.missed level.tally.first) (sym come)
-    (tallies_longer sched T fits are n h.run level.time level.come.released level.come.next level.servers.items h.first.long h.rest (replicate k (Some p)) level.tally.missed level.tally.first h.tallied))),
+          (tallies_longer sched T fits are n h.run level.time level.come.released level.come.next level.servers.items h.first.long h.rest (replicate k (Some p)) level.tally.missed level.tally.first h.tallied))),
     )
 
 -- what the numbers of such a level are at the most

@@ -9,17 +9,18 @@ ghost use Rattle.tree_model.specs.Tree.{IsNode, node_tasks, server_tasks, server
 ghost use Rattle.tree_model.specs.Releases.{AreReleases};
 ghost use Rattle.server_sched.specs.Shares.{share_at};
 ghost use Rattle.server_sched.specs.TreeSpans.{AreSupplies, AreFewJobs, supplies_of, parent_of};
-ghost use Rattle.server_sched.specs.CountedTree.{kept_of, IsServerKept, IsPartKept, AreCoresKept, ArePartsKept, AreFirstCounts, counts_kept, kept_at, kept_in, HasKeptShare, HasCores};
+ghost use Rattle.server_sched.specs.CountedTree.{kept_of, IsServerKept, IsLeafKept, IsPartKept, AreCoresKept, ArePartsKept, AreFirstCounts, counts_kept, kept_at, kept_in, HasKeptShare, HasCores};
 
 use crate::TreeCounts;
 use crate::node::NodeSpans;
-use crate::tree::{part_node, rank_of, room_for_tasks, server_node};
+use crate::served::serve_level;
+use crate::tree::{leaf_node, rank_of, room_for_tasks, sched_of};
 use guest_sched::Window;
 use slot_model::{Job, Task};
 use span_counts::Counts;
 use std::alloc::{AllocError, Global};
 use std::marker::Model;
-use tree_model::{Parent, Place, Plan, System};
+use tree_model::{Parent, Place, Plan, System, tasks_of};
 
 /// What is kept of the run of a node once it is counted: the windows that each child gets of it,
 /// one list a child in file order, and its counts.
@@ -63,6 +64,7 @@ pub fn count_tree(
     requires jobs { AreReleases sys.now (map (λ j. j.items) jobs.now) }
     requires windows { AreSupplies sys.now slots (map (λ g. g.items) given.now) }
     requires few { AreFewJobs sys.now plan.now slots (map (λ j. j.items) jobs.now) }
+    requires short { slots < 2 ^ 63 }
     ensures { let supplies = supplies_of (map (λ g. g.items) given.now) slots in
         IfOk result (λ counts. AreFirstCounts sys.now plan.now slots supplies
         (map (λ j. j.items) jobs.now) counts) }
@@ -89,6 +91,7 @@ fn cores_kept(
     requires windows { AreSupplies sys.now slots (map (λ g. g.items) given.now) }
     requires few { (c : ℕ) → c < length sys.now.cores →
         length (server_jobs sys.now budgets.now (AnyPlace.Core c) slots) < 2 ^ 32 }
+    requires short { slots < 2 ^ 63 }
     requires room { 512 ≤ length room.old }
     ensures system { IsSystem sys.now }
     ensures kept { IfOk result (λ kept. AreCoresKept sys.now budgets.now slots
@@ -117,6 +120,7 @@ fn parts_kept(
     requires jobs { AreReleases sys.now (map (λ j. j.items) jobs.now) }
     requires few { AreFewJobs sys.now budgets.now slots (map (λ j. j.items) jobs.now) }
     requires cores { HasCores sys.now budgets.now slots cores.now }
+    requires short { slots < 2 ^ 63 }
     requires room { 512 ≤ length room.old }
     ensures { (given : List (List AnyWindow)) →
         (h : AreCoresKept sys.now budgets.now slots given (length sys.now.cores) cores.now) →
@@ -166,11 +170,40 @@ fn part_kept(
         LegalRelease (own_tasks_at sys.now q) jobs.now }
     requires few_jobs { length jobs.now < 2 ^ 32 }
     requires windows { AreWindows given.now slots }
+    requires short { slots < 2 ^ 63 }
     requires room { 512 ≤ length room.old }
     ensures { IfOk result (λ kept. IsPartKept sys.now budgets.now slots q jobs.now
         (slots_of given.now slots) kept) }
 {
-    let node = part_node(alloc, sys, budgets, q, jobs, given, slots, room)?;
+    if sys.parts()[q as usize].is_leaf() {
+        leaf_kept(alloc, sys, budgets, q, jobs, given, slots, room)
+    } else {
+        server_kept(alloc, sys, budgets, Place::Part(q), given, slots, room)
+    }
+}
+
+/// What is kept of the run of a leaf's jobs.
+fn leaf_kept(
+    alloc: Global,
+    sys: &System,
+    budgets: &[u64],
+    q: u32,
+    jobs: &[Job],
+    given: &[Window],
+    slots: u64,
+    room: &mut [Task],
+) -> Result<Kept, AllocError>
+    requires is_part { q < length sys.now.parts }
+    requires leaf { is_leaf_at sys.now q ≡ true }
+    requires plan { IsPlan sys.now budgets.now }
+    requires legal { LegalRelease (own_tasks_at sys.now q) jobs.now }
+    requires few { length jobs.now < 2 ^ 32 }
+    requires windows { AreWindows given.now slots }
+    requires room { 512 ≤ length room.old }
+    ensures { IfOk result (λ kept. IsLeafKept sys.now slots q jobs.now
+        (slots_of given.now slots) kept) }
+{
+    let node = leaf_node(alloc, sys, budgets, q, jobs, given, slots, room)?;
     Ok(kept_of(node))
 }
 
@@ -190,12 +223,15 @@ fn server_kept(
     requires plan { IsPlan sys.now budgets.now }
     requires few { length (server_jobs sys.now budgets.now place slots) < 2 ^ 32 }
     requires windows { AreWindows given.now slots }
+    requires short { slots < 2 ^ 63 }
     requires room { 512 ≤ length room.old }
     ensures { IfOk result (λ kept. IsServerKept sys.now budgets.now slots place
         (slots_of given.now slots) kept) }
 {
-    let node = server_node(alloc, sys, budgets, place, given, slots, room)?;
-    Ok(kept_of(node))
+    let count = tasks_of(sys, budgets, place, room).unwrap();
+    let sched = sched_of(sys, place);
+    let kept = serve_level(alloc, sched, &room[..count], given, slots)?;
+    Ok(kept)
 }
 
 fn kept_of(node: NodeSpans) -> Kept

@@ -189,5 +189,9 @@ fn begin_of(given: &[Window], at: usize, end: u64) -> u64
     ensures begin { at < length given.now → result ≡ (window_at given.now at).from }
     ensures end { length given.now ≤ at → result ≡ end }
 {
-    if at < given.len() { given[at].from } else { end }
+    if at < given.len() {
+        given[at].from
+    } else {
+        end
+    }
 }

@@ -75,12 +75,12 @@ pub fn close(tally: Tally, servers: &[Server], tasks: &[Task], moment: u64) -> T
 fn late_of(task: Task, i: u32, server: Server) -> Late
     ensures place { result.place ≡ server.place }
     ensures miss { result.miss ≡ record {
-        task = i;
-        release = server.next - task.period;
-        deadline = server.next;
-        got = task.work - server.left;
-        work = task.work;
-        } }
+      task = i;
+      release = server.next - task.period;
+      deadline = server.next;
+      got = task.work - server.left;
+      work = task.work;
+    } }
 {
     Late {
         place: server.place,

@@ -157,7 +157,7 @@ pub(crate) fn rank_of(sys: &System, q: u32) -> usize
 }
 
 /// The run of a part over its windows.
-pub(crate) fn part_node(
+fn part_node(
     alloc: Global,
     sys: &System,
     budgets: &[u64],
@@ -187,7 +187,7 @@ pub(crate) fn part_node(
 }
 
 /// The run of a leaf's jobs.
-fn leaf_node(
+pub(crate) fn leaf_node(
     alloc: Global,
     sys: &System,
     budgets: &[u64],
@@ -221,7 +221,7 @@ fn leaf_node(
 }
 
 /// The run of a node's servers, and what each child gets of it.
-pub(crate) fn server_node(
+fn server_node(
     alloc: Global,
     sys: &System,
     budgets: &[u64],
@@ -255,7 +255,7 @@ pub(crate) fn server_node(
 }
 
 /// The scheduler of a node.
-fn sched_of(sys: &System, place: Place) -> Sched
+pub(crate) fn sched_of(sys: &System, place: Place) -> Sched
     requires { IsNode sys.now place }
     ensures { result ≡ node_sched sys.now place }
 {

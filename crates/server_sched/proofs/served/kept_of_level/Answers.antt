@@ -1,10 +1,9 @@
-use Rattle.std.proofs.Common.{◌≡◌, ℕ, List, Option, length, refl, subst, sym, ap, ◌∙◌, arith}
+use Rattle.std.proofs.Common.{ℕ, Option, refl, ap}
 use Rattle.slot_model.specs.Task.{sporadic_tasks}
 use Rattle.slot_model.specs.declared.miss.Miss.{Miss}
 use Rattle.span_counts.specs.declared.counts.Counts.{Counts}
 use Rattle.slot_model.proofs.Constrained.{are_constrained}
 use Rattle.guest_sched.specs.Spans.{slots_of}
-use Rattle.server_sched.specs.CountedTree.{KeptView}
 use Rattle.server_sched.proofs.LevelServed.{served}
 use Rattle.server_sched.proofs.served.kept_of_level.Goals as goal
 

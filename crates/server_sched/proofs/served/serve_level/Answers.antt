@@ -1,7 +1,6 @@
-use Rattle.std.proofs.Common.{◌≡◌, ℕ, ◌+◌, ◌<◌, ◌≤◌, ◌^◌, List, Option, length, refl, subst, sym, ap, ◌∙◌, arith, inl, inr}
+use Rattle.std.proofs.Common.{◌≡◌, ℕ, ◌<◌, length, subst, sym, ap, ◌∙◌, arith, inl, inr}
 use Rattle.std.proofs.lemmas.Bool.{cases_eq}
-use Rattle.std.proofs.lemmas.List.{length-map}
-use Rattle.slot_model.specs.Task.{sporadic_task, sporadic_tasks}
+use Rattle.slot_model.specs.Task.{sporadic_tasks}
 use Rattle.guest_sched.specs.Spans.{slots_of, window_at}
 use Rattle.server_sched.specs.Serving.{IsUnderway, IsServed}
 use Rattle.server_sched.proofs.Underway.{sound_in}

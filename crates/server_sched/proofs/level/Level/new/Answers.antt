@@ -1,4 +1,4 @@
-use Rattle.std.proofs.Common.{◌≡◌, ℕ, [], List, length, map, replicate, arith, ap, sym, ◌∙◌, refl}
+use Rattle.std.proofs.Common.{◌≡◌, ℕ, [], List, length, replicate, arith, ap, sym, ◌∙◌, refl}
 use Rattle.std.proofs.lemmas.List.{length-map}
 use Rattle.slot_model.specs.Task.{sporadic_task, sporadic_tasks}
 use Rattle.guest_sched.specs.declared.spans.Window.{Window}

@@ -1,16 +1,15 @@
-use Rattle.std.proofs.Common.{◌≡◌, ℕ, ◌-◌, ◌<◌, ◌≤◌, ◌^◌, Bool, List, length, refl, inl, inr, arith, ap, sym, ◌∙◌, subst}
+use Rattle.std.proofs.Common.{◌≡◌, ℕ, ◌<◌, ◌≤◌, List, length, inl, inr, arith, ◌∙◌}
 use Rattle.std.proofs.lemmas.Bool.{cases_lt}
 use Rattle.std.proofs.lemmas.List.{length-map}
 use Rattle.slot_model.specs.Task.{SporadicTask, AreConstrained, sporadic_task, sporadic_tasks}
 use Rattle.slot_model.specs.declared.sched.Sched.{Sched}
-use Rattle.slot_model.specs.Release.{synchronous}
 use Rattle.slot_model.proofs.Constrained.{are_constrained}
 use Rattle.guest_sched.specs.declared.spans.Window.{Window}
 use Rattle.guest_sched.specs.Spans.{AreWindows, slots_of, window_at}
 use Rattle.guest_sched.proofs.Given.{AreOver}
 use Rattle.server_sched.specs.declared.level.Level.{Level}
 use Rattle.server_sched.specs.Serving.{AreServerTasks, IsUnderway}
-use Rattle.server_sched.proofs.Underway.{IsSound, sound, sound_in, gap_passed}
+use Rattle.server_sched.proofs.Underway.{sound, sound_in, gap_passed}
 use Rattle.server_sched.proofs.level.Level.pass_to.Goals as goal
 
 -- how far the time may go by

@@ -1,14 +1,12 @@
 use Rattle.std.specs.Vec.{with_item}
-use Rattle.std.proofs.Common.{◌≡◌, ℕ, ◌+◌, ◌-◌, ◌<◌, ◌≤◌, min, List, [], Option, Some, None, length, map, set, get_or, refl, arith, ap, sym, ◌∙◌, subst, Vec, Global}
-use Rattle.std.proofs.lemmas.List.{get_or-map, length-map, map-set, get_or_read}
+use Rattle.std.proofs.Common.{◌≡◌, ℕ, ◌+◌, ◌-◌, ◌<◌, ◌≤◌, List, [], Some, None, length, map, set, get_or, refl, arith, ap, sym, ◌∙◌, subst, Vec, Global}
+use Rattle.std.proofs.lemmas.List.{get_or-map, map-set, get_or_read}
 use Rattle.guest_sched.specs.declared.spans.Window.{Window}
 use Rattle.guest_sched.specs.Spans.{AreWindows}
 use Rattle.guest_sched.specs.MoreWindows.{AddsWindow}
 use Rattle.server_sched.specs.declared.serving.Server.{Server}
-use Rattle.server_sched.specs.declared.level.Level.{Level}
 use Rattle.server_sched.specs.Shares.{share_at}
-use Rattle.server_sched.specs.Serving.{server_at, no_server, IsChosen, IsUnderway}
-use Rattle.server_sched.proofs.ServedRuns.{given_to}
+use Rattle.server_sched.specs.Serving.{server_at, no_server, IsChosen}
 use Rattle.server_sched.proofs.Underway.{no_job, job_served}
 use Rattle.server_sched.proofs.level.Level.step.Goals as goal
 

@@ -1,10 +1,9 @@
-use Rattle.std.proofs.Common.{◌≡◌, ℕ, ◌<◌, ◌≤◌, Bool, List, Option, length, arith, ap, sym, ◌∙◌, subst}
+use Rattle.std.proofs.Common.{◌≡◌, ℕ, ◌<◌, Bool, List, arith, sym, subst}
 use Rattle.std.proofs.lemmas.List.{with_items_is}
 use Rattle.slot_model.specs.Task.{sporadic_tasks}
 use Rattle.slot_model.specs.Release.{synchronous}
 use Rattle.slot_model.proofs.Constrained.{are_constrained}
 use Rattle.server_sched.specs.declared.serving.Server.{Server}
-use Rattle.server_sched.specs.declared.level.Level.{Level}
 use Rattle.server_sched.specs.Serving.{AtRest, AtMoment, Tallies, is_late, IsUnderway}
 use Rattle.server_sched.proofs.Underway.{made_released, at_moment}
 use Rattle.server_sched.proofs.Tallying.{next_late}
