@@ -1,4 +1,4 @@
 mod FewTasks
-mod Moments
+pub mod Moments
 mod Dues
 pub mod FewJobs

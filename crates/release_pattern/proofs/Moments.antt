@@ -34,7 +34,7 @@ some_wait tasks start x i (suc k) jobs h =
     ∙ one_waits tasks start x (i + k) jobs (h (i + k) (omega arith) (omega arith))
     ∙ some_wait tasks start x i k jobs (λ j a b. h j a (omega arith))
 
-next_moment : (tasks : List SporadicTask) (start x : ℕ) → synchronous tasks start (suc x) ≡ releases_at tasks start x (length tasks) (synchronous tasks start x)
+pub next_moment : (tasks : List SporadicTask) (start x : ℕ) → synchronous tasks start (suc x) ≡ releases_at tasks start x (length tasks) (synchronous tasks start x)
 unfolding synchronous
 next_moment tasks start x = refl
 
@@ -47,7 +47,7 @@ unfolding releases_at
 no_task tasks start x jobs = refl
 
 -- k moments at which no task releases
-quiet : (tasks : List SporadicTask) (start x k : ℕ) → NoneRelease tasks x (x + k) → synchronous tasks start (x + k) ≡ synchronous tasks start x
+pub quiet : (tasks : List SporadicTask) (start x k : ℕ) → NoneRelease tasks x (x + k) → synchronous tasks start (x + k) ≡ synchronous tasks start x
 quiet tasks start x zero h = ap (synchronous tasks start) (let q : x + 0 ≡ x = omega arith in q)
 quiet tasks start x (suc k) h =
     ap (synchronous tasks start) (let q : x + suc k ≡ suc (x + k) = omega arith in q)

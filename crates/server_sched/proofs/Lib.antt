@@ -1,6 +1,15 @@
+mod Choosing
+mod Releasing
+mod ServedRuns
+mod Renewing
+mod Tallying
+mod Underway
+mod LevelServed
+mod ServerKept
 mod Sharing
 mod Nodes
 mod TreeNodes
+mod KeptNodes
 pub mod Lists
 pub mod Counted
 mod Conforming

@@ -4,3 +4,5 @@ pub mod TreeCounts
 pub mod TreeSpans
 pub mod Patterns
 pub mod SlotCounts
+pub mod CountedTree
+pub mod Serving

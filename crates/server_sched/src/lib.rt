@@ -4,15 +4,21 @@
 //! parent's run holds one of its jobs.
 #![tactic(auto)]
 
+mod counted_tree;
+mod level;
 mod node;
+mod served;
 mod servers;
+mod serving;
 mod shares;
 mod slot_counts;
 mod slots;
 mod supplies;
+mod tally;
 mod tree;
 mod tree_counts;
 
+pub use counted_tree::count_tree;
 pub use guest_sched::{Span, Window, server_spans};
 pub use node::{NodeSpans, TreeSpans};
 pub use servers::{run_servers, server_jobs};

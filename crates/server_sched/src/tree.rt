@@ -187,7 +187,7 @@ fn part_node(
 }
 
 /// The run of a leaf's jobs.
-fn leaf_node(
+pub(crate) fn leaf_node(
     alloc: Global,
     sys: &System,
     budgets: &[u64],
@@ -255,7 +255,7 @@ fn server_node(
 }
 
 /// The scheduler of a node.
-fn sched_of(sys: &System, place: Place) -> Sched
+pub(crate) fn sched_of(sys: &System, place: Place) -> Sched
     requires { IsNode sys.now place }
     ensures { result ≡ node_sched sys.now place }
 {

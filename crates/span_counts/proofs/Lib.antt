@@ -1,4 +1,4 @@
-mod Counting
+pub mod Counting
 mod FirstMore
 mod Waiting
 mod PendingExamples

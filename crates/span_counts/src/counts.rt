@@ -90,7 +90,7 @@ pub fn first_miss(
 }
 
 /// The number of slots of windows.
-fn slots_given(windows: &[Window]) -> u64
+pub fn slots_given(windows: &[Window]) -> u64
     requires { AreWindows windows.now (2 ^ 64 - 1) }
     ensures { (n : ℕ) → AreWindows windows.now n →
         result ≡ slots_between (slots_of windows.now n) 0 n }

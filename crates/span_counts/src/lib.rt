@@ -5,7 +5,7 @@
 mod counts;
 mod pending;
 
-pub use counts::{Counts, count_level, first_miss, misses};
+pub use counts::{Counts, count_level, first_miss, misses, slots_given};
 pub use pending::count_pending;
 
 #[cfg(test)]

@@ -1,0 +1,16 @@
+use Rattle.std.proofs.Common.{◌≡◌, ℕ, [], List, length, replicate, arith, ap, sym, ◌∙◌, refl}
+use Rattle.std.proofs.lemmas.List.{length-map}
+use Rattle.slot_model.specs.Task.{sporadic_task, sporadic_tasks}
+use Rattle.guest_sched.specs.declared.spans.Window.{Window}
+use Rattle.server_sched.specs.Serving.{no_server}
+use Rattle.server_sched.proofs.Underway.{begun}
+use Rattle.server_sched.proofs.level.Level.new.Goals as goal
+
+pub returns-clause-state : goal.returns-clause-state
+returns-clause-state c = λ sched given.
+    let T = sporadic_tasks c.args.tasks.now in
+    let long : length T ≡ length c.args.tasks.now = length-map c.args.tasks.now sporadic_task in
+    begun sched T given _ refl refl
+    (c.in_ok-servers.ensures.items_if_clones_equal (λ y e. e) ∙ ap (λ (n : ℕ). replicate n no_server) (sym long))
+    (c.loop.invariant ∙ ap (λ (n : ℕ). replicate {A = List Window} n []) (let e : c.loop.counter ≡ length T = omega (arith, c.loop-test.false, c.loop.auto.counter-end, long) in e))
+    refl

@@ -1,0 +1,87 @@
+-- The first run of a tree of which the counts alone are kept.
+use Rattle.std.specs.Prelude.{◌≡◌, ℕ, ◌<◌, Bool, List, length, map, slice_index_or, Option}
+use Rattle.slot_model.specs.declared.job.Job.{Job}
+use Rattle.span_counts.specs.declared.counts.Counts.{Counts}
+use Rattle.guest_sched.specs.declared.spans.Window.{Window}
+use Rattle.tree_model.specs.declared.place.Place.{Place}
+use Rattle.tree_model.specs.declared.place.Place.TheVariants.{Core, Part}
+use Rattle.tree_model.specs.View.{SystemView}
+use Rattle.tree_model.specs.Tree.{rank_among}
+use Rattle.tree_model.specs.FirstTree.{FirstTree}
+use Rattle.server_sched.specs.NodeView.{NodeView}
+use Rattle.server_sched.specs.TreeCounts.{CountsView, AreTreeCounts}
+use Rattle.server_sched.specs.TreeSpans.{no_node, parent_of, IsServerNode, IsLeafNode, IsPartNode, AreCoreNodes, ArePartNodes}
+
+-- what is kept of a node: what each child gets of its run, and what is counted of it
+pub record KeptView : Type 0 where
+  pub shares : List (List Window)
+  pub counts : Counts
+
+abbrev pub kept_of : NodeView → KeptView
+kept_of node = record { shares = node.shares; counts = node.counts }
+
+-- this is kept of a node of servers, of a leaf, and of a part
+pub record IsServerKept (sys : SystemView) (budgets : List ℕ) (n : ℕ) (place : Place)
+    (slots : List Bool) (kept : KeptView) : Type 0 where
+  pub node : NodeView
+  pub is_node : IsServerNode sys budgets n place slots node
+  pub same : kept ≡ kept_of node
+
+pub record IsLeafKept (sys : SystemView) (n q : ℕ) (jobs : List Job) (slots : List Bool)
+    (kept : KeptView) : Type 0 where
+  pub node : NodeView
+  pub is_node : IsLeafNode sys n q jobs slots node
+  pub same : kept ≡ kept_of node
+
+pub record IsPartKept (sys : SystemView) (budgets : List ℕ) (n q : ℕ) (jobs : List Job)
+    (slots : List Bool) (kept : KeptView) : Type 0 where
+  pub node : NodeView
+  pub is_node : IsPartNode sys budgets n q jobs slots node
+  pub same : kept ≡ kept_of node
+
+-- and of the first m cores, and of the first m parts
+pub record AreCoresKept (sys : SystemView) (budgets : List ℕ) (n : ℕ)
+    (given : List (List Window)) (m : ℕ) (kept : List KeptView) : Type 0 where
+  pub nodes : List NodeView
+  pub are_nodes : AreCoreNodes sys budgets n given m nodes
+  pub same : kept ≡ map kept_of nodes
+
+pub record ArePartsKept (sys : SystemView) (budgets : List ℕ) (n : ℕ) (jobs : List (List Job))
+    (cores : List NodeView) (m : ℕ) (kept : List KeptView) : Type 0 where
+  pub nodes : List NodeView
+  pub are_nodes : ArePartNodes sys budgets n jobs cores m nodes
+  pub same : kept ≡ map kept_of nodes
+
+-- so it is with all cores, over some windows
+pub record HasCores (sys : SystemView) (budgets : List ℕ) (n : ℕ) (kept : List KeptView)
+    : Type 0 where
+  pub given : List (List Window)
+  pub cores : AreCoresKept sys budgets n given (length sys.cores) kept
+
+-- what is kept of the parent of part q, with windows for that part
+abbrev pub kept_at : List KeptView → ℕ → KeptView
+kept_at kept i = slice_index_or kept i (kept_of no_node)
+
+abbrev pub kept_in : List KeptView → List KeptView → Place → KeptView
+kept_in cores parts (Core c) = kept_at cores c
+kept_in cores parts (Part r) = kept_at parts r
+
+abbrev pub IsKept : List KeptView → List KeptView → Place → Type 0
+IsKept cores parts (Core c) = c < length cores
+IsKept cores parts (Part r) = r < length parts
+
+pub record HasKeptShare (sys : SystemView) (cores parts : List KeptView) (q : ℕ) : Type 0 where
+  pub parent : IsKept cores parts (parent_of sys q)
+  pub share : rank_among sys q < length (kept_in cores parts (parent_of sys q)).shares
+
+abbrev pub counts_kept : List KeptView → List Counts
+counts_kept kept = map (λ (one : KeptView). one.counts) kept
+
+-- the counts of the one first run of the tree
+pub record AreFirstCounts (sys : SystemView) (budgets : List ℕ) (n : ℕ)
+    (supplies : List (List Bool)) (jobs : List (List Job)) (counts : CountsView)
+    : Type 0 where
+  pub core_runs : List (List (Option ℕ))
+  pub part_runs : List (List (Option ℕ))
+  pub first : FirstTree sys budgets n supplies jobs core_runs part_runs
+  pub counted : AreTreeCounts sys budgets n supplies jobs core_runs part_runs counts

@@ -1,0 +1,254 @@
+ghost use Rattle.std.specs.Prelude.{◌≡◌, ℕ, ◌^◌, ◌<◌, ◌≤◌, true, List, length, map, IfOk};
+ghost use Rattle.guest_sched.specs.Spans.{AreWindows, slots_of};
+ghost use Rattle.guest_sched.specs.declared.spans.Window.{Window as AnyWindow};
+ghost use Rattle.slot_model.specs.Release.{LegalRelease};
+ghost use Rattle.tree_model.specs.declared.place.Place.{Place as AnyPlace};
+ghost use Rattle.tree_model.specs.Plans.{IsPlan};
+ghost use Rattle.tree_model.specs.System.{IsSystem, own_tasks_at, is_leaf_at};
+ghost use Rattle.tree_model.specs.Tree.{IsNode, node_tasks, server_tasks, server_jobs, rank_among};
+ghost use Rattle.tree_model.specs.Releases.{AreReleases};
+ghost use Rattle.server_sched.specs.Shares.{share_at};
+ghost use Rattle.server_sched.specs.TreeSpans.{AreSupplies, AreFewJobs, supplies_of, parent_of};
+ghost use Rattle.server_sched.specs.CountedTree.{kept_of, IsServerKept, IsLeafKept, IsPartKept, AreCoresKept, ArePartsKept, AreFirstCounts, counts_kept, kept_at, kept_in, HasKeptShare, HasCores};
+
+use crate::TreeCounts;
+use crate::node::NodeSpans;
+use crate::served::serve_level;
+use crate::tree::{leaf_node, rank_of, room_for_tasks, sched_of};
+use guest_sched::Window;
+use slot_model::{Job, Task};
+use span_counts::Counts;
+use std::alloc::{AllocError, Global};
+use std::marker::Model;
+use tree_model::{Parent, Place, Plan, System, tasks_of};
+
+/// What is kept of the run of a node once it is counted: the windows that each child gets of it,
+/// one list a child in file order, and its counts.
+#[derive(Drop)]
+pub struct Kept {
+    pub shares: Vec<Vec<Window>>,
+    pub counts: Counts,
+}
+
+impl Model for Kept {
+    ghost use Rattle.std.specs.Prelude.{map};
+    ghost use Rattle.server_sched.specs.CountedTree.{KeptView};
+
+    ghost Value = { KeptView };
+
+    ghost view = { λ k. record { shares = map (λ s. s.items) k.shares.items; counts = k.counts } };
+}
+
+impl Kept {
+    /// The windows that child `k` gets.
+    fn share(&self, k: usize) -> &[Window]
+        requires { k < length self.now.shares }
+        ensures { result.now ≡ share_at self.now.shares k }
+    {
+        &self.shares[k]
+    }
+}
+
+/// What is counted of the one first run of the tree over `slots` slots, of which each core has
+/// those of its windows. No run is kept once it is counted: its memory is that of one node's run
+/// and of the windows of all.
+pub fn count_tree(
+    alloc: Global,
+    sys: &System,
+    plan: &Plan,
+    jobs: &[Vec<Job>],
+    given: &[Vec<Window>],
+    slots: u64,
+) -> Result<TreeCounts, AllocError>
+    requires plan { IsPlan sys.now plan.now }
+    requires jobs { AreReleases sys.now (map (λ j. j.items) jobs.now) }
+    requires windows { AreSupplies sys.now slots (map (λ g. g.items) given.now) }
+    requires few { AreFewJobs sys.now plan.now slots (map (λ j. j.items) jobs.now) }
+    requires short { slots < 2 ^ 63 }
+    ensures { let supplies = supplies_of (map (λ g. g.items) given.now) slots in
+        IfOk result (λ counts. AreFirstCounts sys.now plan.now slots supplies
+        (map (λ j. j.items) jobs.now) counts) }
+{
+    let mut room = room_for_tasks(alloc)?;
+    let cores = cores_kept(alloc, sys, plan.budgets(), given, slots, &mut room)?;
+    let parts = parts_kept(alloc, sys, plan.budgets(), jobs, &cores, slots, &mut room)?;
+    Ok(TreeCounts {
+        cores: counts_kept(alloc, &cores)?,
+        parts: counts_kept(alloc, &parts)?,
+    })
+}
+
+/// What is kept of the runs of the cores. `room` is for the tasks of one node.
+fn cores_kept(
+    alloc: Global,
+    sys: &System,
+    budgets: &[u64],
+    given: &[Vec<Window>],
+    slots: u64,
+    room: &mut [Task],
+) -> Result<Vec<Kept>, AllocError>
+    requires plan { IsPlan sys.now budgets.now }
+    requires windows { AreSupplies sys.now slots (map (λ g. g.items) given.now) }
+    requires few { (c : ℕ) → c < length sys.now.cores →
+        length (server_jobs sys.now budgets.now (AnyPlace.Core c) slots) < 2 ^ 32 }
+    requires short { slots < 2 ^ 63 }
+    requires room { 512 ≤ length room.old }
+    ensures system { IsSystem sys.now }
+    ensures kept { IfOk result (λ kept. AreCoresKept sys.now budgets.now slots
+        (map (λ g. g.items) given.now) (length sys.now.cores) kept.items) }
+{
+    let mut kept = Vec::new(alloc);
+    for c in 0..sys.cores().len() as u32 {
+        let windows = &given[c as usize];
+        let core = server_kept(alloc, sys, budgets, Place::Core(c), windows, slots, room)?;
+        kept.push(core)?;
+    }
+    Ok(kept)
+}
+
+/// What is kept of the runs of the parts, after those of the cores.
+fn parts_kept(
+    alloc: Global,
+    sys: &System,
+    budgets: &[u64],
+    jobs: &[Vec<Job>],
+    cores: &[Kept],
+    slots: u64,
+    room: &mut [Task],
+) -> Result<Vec<Kept>, AllocError>
+    requires plan { IsPlan sys.now budgets.now }
+    requires jobs { AreReleases sys.now (map (λ j. j.items) jobs.now) }
+    requires few { AreFewJobs sys.now budgets.now slots (map (λ j. j.items) jobs.now) }
+    requires cores { HasCores sys.now budgets.now slots cores.now }
+    requires short { slots < 2 ^ 63 }
+    requires room { 512 ≤ length room.old }
+    ensures { (given : List (List AnyWindow)) →
+        (h : AreCoresKept sys.now budgets.now slots given (length sys.now.cores) cores.now) →
+        IfOk result (λ kept. ArePartsKept sys.now budgets.now slots (map (λ j. j.items) jobs.now)
+        h.nodes (length sys.now.parts) kept.items) }
+{
+    let mut kept = Vec::new(alloc);
+    for q in 0..sys.parts().len() as u32 {
+        let windows = kept_share(sys, cores, &kept, q);
+        let own = &jobs[q as usize];
+        let part = part_kept(alloc, sys, budgets, q, own, windows, slots, room)?;
+        kept.push(part)?;
+    }
+    Ok(kept)
+}
+
+/// The windows that a part gets of its parent.
+fn kept_share<'a>(sys: &System, cores: &'a [Kept], parts: &'a [Kept], q: u32) -> &'a [Window]
+    requires is_part { q < length sys.now.parts }
+    requires share { HasKeptShare sys.now cores.now parts.now q }
+    ensures { let parent = kept_in cores.now parts.now (parent_of sys.now q) in
+        result.now ≡ share_at parent.shares (rank_among sys.now q) }
+{
+    let rank = rank_of(sys, q);
+    match sys.parts()[q as usize].parent() {
+        Parent::Core(c) => cores[c as usize].share(rank),
+        Parent::Part(r) => parts[r as usize].share(rank),
+    }
+}
+
+/// What is kept of the run of a part over its windows.
+fn part_kept(
+    alloc: Global,
+    sys: &System,
+    budgets: &[u64],
+    q: u32,
+    jobs: &[Job],
+    given: &[Window],
+    slots: u64,
+    room: &mut [Task],
+) -> Result<Kept, AllocError>
+    requires is_part { q < length sys.now.parts }
+    requires plan { IsPlan sys.now budgets.now }
+    requires few_servers { let place = AnyPlace.Part q in
+        length (server_jobs sys.now budgets.now place slots) < 2 ^ 32 }
+    requires legal { is_leaf_at sys.now q ≡ true →
+        LegalRelease (own_tasks_at sys.now q) jobs.now }
+    requires few_jobs { length jobs.now < 2 ^ 32 }
+    requires windows { AreWindows given.now slots }
+    requires short { slots < 2 ^ 63 }
+    requires room { 512 ≤ length room.old }
+    ensures { IfOk result (λ kept. IsPartKept sys.now budgets.now slots q jobs.now
+        (slots_of given.now slots) kept) }
+{
+    if sys.parts()[q as usize].is_leaf() {
+        leaf_kept(alloc, sys, budgets, q, jobs, given, slots, room)
+    } else {
+        server_kept(alloc, sys, budgets, Place::Part(q), given, slots, room)
+    }
+}
+
+/// What is kept of the run of a leaf's jobs.
+fn leaf_kept(
+    alloc: Global,
+    sys: &System,
+    budgets: &[u64],
+    q: u32,
+    jobs: &[Job],
+    given: &[Window],
+    slots: u64,
+    room: &mut [Task],
+) -> Result<Kept, AllocError>
+    requires is_part { q < length sys.now.parts }
+    requires leaf { is_leaf_at sys.now q ≡ true }
+    requires plan { IsPlan sys.now budgets.now }
+    requires legal { LegalRelease (own_tasks_at sys.now q) jobs.now }
+    requires few { length jobs.now < 2 ^ 32 }
+    requires windows { AreWindows given.now slots }
+    requires room { 512 ≤ length room.old }
+    ensures { IfOk result (λ kept. IsLeafKept sys.now slots q jobs.now
+        (slots_of given.now slots) kept) }
+{
+    let node = leaf_node(alloc, sys, budgets, q, jobs, given, slots, room)?;
+    Ok(kept_of(node))
+}
+
+/// What is kept of the run of a node's servers.
+fn server_kept(
+    alloc: Global,
+    sys: &System,
+    budgets: &[u64],
+    place: Place,
+    given: &[Window],
+    slots: u64,
+    room: &mut [Task],
+) -> Result<Kept, AllocError>
+    requires node { IsNode sys.now place }
+    requires servers { node_tasks sys.now budgets.now place ≡
+        server_tasks sys.now budgets.now place }
+    requires plan { IsPlan sys.now budgets.now }
+    requires few { length (server_jobs sys.now budgets.now place slots) < 2 ^ 32 }
+    requires windows { AreWindows given.now slots }
+    requires short { slots < 2 ^ 63 }
+    requires room { 512 ≤ length room.old }
+    ensures { IfOk result (λ kept. IsServerKept sys.now budgets.now slots place
+        (slots_of given.now slots) kept) }
+{
+    let count = tasks_of(sys, budgets, place, room).unwrap();
+    let sched = sched_of(sys, place);
+    let kept = serve_level(alloc, sched, &room[..count], given, slots)?;
+    Ok(kept)
+}
+
+fn kept_of(node: NodeSpans) -> Kept
+    ensures { result ≡ kept_of node }
+{
+    Kept {
+        shares: node.shares,
+        counts: node.counts,
+    }
+}
+
+fn counts_kept(alloc: Global, kept: &[Kept]) -> Result<Vec<Counts>, AllocError>
+    ensures { IfOk result (λ counts. counts.items ≡ counts_kept kept.now) }
+{
+    let mut counts = Vec::with_capacity(alloc, kept.len())?;
+    for one in kept {
+        counts.push(one.counts)?;
+    }
+    Ok(counts)
+}
