@@ -1,12 +1,13 @@
 -- How csv's machine goes over a plain text, byte by byte.
-use Rattle.std.proofs.Common.{◌≡◌, ◌≢◌, ◌⊎◌, inl, inr, ◌==◌, ◌<◌, ◌≤◌, ◌+◌, ◌-◌, ℕ, false, List, [], ◌∷◌, ◌++◌, length, take, drop, get_or, Option, Some, None, refl, sym, ◌∙◌, ap, subst, arith, get_or-drop, length-drop}
-use Rattle.std.proofs.lemmas.List.{drop_all, drop_more, length-take, take_all, take_more}
+use Rattle.std.proofs.Common.{◌≡◌, ◌≢◌, ◌⊎◌, inl, inr, ◌==◌, ◌<◌, ◌≤◌, ◌+◌, ◌-◌, ℕ, false, Bor, List, [], ◌∷◌, ◌++◌, length, take, drop, get_or, Option, Some, None, refl, sym, ◌∙◌, ap, subst, arith, get_or-drop, length-drop}
+use Rattle.std.proofs.lemmas.List.{drop_all, drop_more, length-map, length-take, map-append, take_all, take_more}
 use Rattle.std.proofs.lemmas.Bool.{ne_eqb}
 use Rattle.csv.specs.Machine.{Read, next_record}
 use Rattle.csv.specs.Reading.{default_config, strip_bom}
 use Rattle.csv.specs.declared.parser.State.{State}
 use Rattle.csv.specs.declared.parser.State.TheVariants as st
 use Rattle.csv_rows.specs.PlainText.{IsPlainText}
+use Rattle.csv_rows.specs.Row.{texts_of}
 
 -- the state of the machine behind these fields and the bytes of the field at hand
 abbrev pub stands : List (List ℕ) → List ℕ → State
@@ -145,3 +146,11 @@ ends_record text fields now from i low e some pushed h =
 pub has_none : (text : List ℕ) (fields : List (List ℕ)) (from i : ℕ) → i ≡ length text → from ≡ length text → length fields ≡ 0 → Reads text fields from i → next_record default_config st.StartRecord [] [] text ≡ None
 has_none text fields from i e at_from none h =
     at_end text fields from i e h ∙ on_nothing fields (at_hand text from i) (ap length (ap (λ (k : ℕ). at_hand text k i) (at_from ∙ sym e) ∙ none_at text i)) none
+
+-- one field more
+pub pushed : (old now : List (Bor (List ℕ))) (x : Bor (List ℕ)) → now ≡ old ++ x ∷ [] → texts_of now ≡ texts_of old ++ x.now ∷ []
+pushed old now x e = ap texts_of e ∙ map-append (λ (f : Bor (List ℕ)). f.now) old (x ∷ [])
+
+-- as many fields as texts
+pub as_many : (fields : List (Bor (List ℕ))) → length (texts_of fields) ≡ length fields
+as_many fields = length-map fields (λ (f : Bor (List ℕ)). f.now)
