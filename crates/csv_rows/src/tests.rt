@@ -37,6 +37,26 @@ fn fields_may_stand_in_quotes(rt: HostRuntime) -> Result<(), Fail> {
     Ok(())
 }
 
+/// Two fields each, with empty lines, empty fields, and no line end at the end.
+const PLAIN: &str = "\n\nat,what\n\n7,\n,\n8,x";
+
+#[test]
+fn a_plain_text_is_split(rt: HostRuntime) -> Result<(), Fail> {
+    let alloc = rt.alloc();
+    let mut records = Records::new(alloc, PLAIN.as_bytes());
+    let read = [("at", "what"), ("7", ""), ("", ""), ("8", "x")];
+    for (first, second) in read {
+        assert!(rt; records.advance()?);
+        assert_eq!(rt; records.row().len(), 2);
+        assert_eq!(rt; records.row().get(0), Some(first.as_bytes()));
+        assert_eq!(rt; records.row().get(1), Some(second.as_bytes()));
+        assert_eq!(rt; records.row().get(2), None);
+    }
+    assert!(rt; !records.advance()?);
+    assert!(rt; !records.advance()?);
+    Ok(())
+}
+
 #[test]
 fn a_comma_at_the_end_leaves_an_empty_field(rt: HostRuntime) -> Result<(), Fail> {
     let alloc = rt.alloc();
