@@ -1,10 +1,10 @@
 ghost use Rattle.std.specs.Prelude.{◌≡◌, ◌<◌, [], length, slice_index_or, bytes_eq};
-ghost use Rattle.csv.specs.Records.{fields_of};
+ghost use Rattle.csv_rows.specs.Row.{fields_of};
 
-use csv::ByteRecord;
+use crate::Row;
 
-/// The field at a place of a record that has it.
-pub fn field(row: &ByteRecord, i: usize) -> &[u8]
+/// The field at a place of a row that has it.
+pub fn field<'r>(row: &Row<'r>, i: usize) -> &'r [u8]
     requires { i < length (fields_of row.now) }
     ensures { result.now ≡ slice_index_or (fields_of row.now) i [] }
 {

@@ -1,4 +1,6 @@
 use crate::{Plain, Records, RowWriter, is_plain, number, plain_number};
+use std::alloc::Global;
+use std::process::Abort;
 use std::test::Fail;
 
 #[test]
@@ -18,15 +20,15 @@ fn rows_are_read_as_they_were_written(rt: HostRuntime) -> Result<(), Fail> {
     Ok(())
 }
 
-/// Two fields each, with a mark at the front, an empty line, quotes, and no line end at the end.
-const QUOTED: &str = "\u{FEFF}a\"b,c\r\n\n\"x,\"\"y\"\"\r\n\",\"p\"q\n,z";
-
-#[test]
-fn fields_may_stand_in_quotes(rt: HostRuntime) -> Result<(), Fail> {
-    let alloc = rt.alloc();
-    let mut records = Records::new(alloc, QUOTED.as_bytes());
-    let read = [("a\"b", "c"), ("x,\"y\"\r\n", "pq"), ("", "z")];
-    for (first, second) in read {
+/// Whether the records of a text are these, of two fields each.
+fn are_pairs(
+    rt: &impl Abort,
+    alloc: Global,
+    text: &str,
+    pairs: &[(&str, &str)],
+) -> Result<(), Fail> {
+    let mut records = Records::new(alloc, text.as_bytes());
+    for (first, second) in pairs {
         assert!(rt; records.advance()?);
         assert_eq!(rt; records.row().len(), 2);
         assert_eq!(rt; records.row().get(0), Some(first.as_bytes()));
@@ -35,6 +37,24 @@ fn fields_may_stand_in_quotes(rt: HostRuntime) -> Result<(), Fail> {
     assert!(rt; !records.advance()?);
     assert!(rt; !records.advance()?);
     Ok(())
+}
+
+/// With a mark at the front, an empty line, quotes, and no line end at the end.
+const QUOTED: &str = "\u{FEFF}a\"b,c\r\n\n\"x,\"\"y\"\"\r\n\",\"p\"q\n,z";
+
+#[test]
+fn fields_may_stand_in_quotes(rt: HostRuntime) -> Result<(), Fail> {
+    let read = [("a\"b", "c"), ("x,\"y\"\r\n", "pq"), ("", "z")];
+    are_pairs(&rt, rt.alloc(), QUOTED, &read)
+}
+
+/// With empty lines, empty fields, and no line end at the end.
+const PLAIN: &str = "\n\nat,what\n\n7,\n,\n8,x";
+
+#[test]
+fn a_plain_text_is_split(rt: HostRuntime) -> Result<(), Fail> {
+    let read = [("at", "what"), ("7", ""), ("", ""), ("8", "x")];
+    are_pairs(&rt, rt.alloc(), PLAIN, &read)
 }
 
 #[test]

@@ -26,7 +26,7 @@ fn read_header(records: &mut Records) -> Result<Version, ReleaseFault>
         Ok(false) => return Err(ReleaseFault::BadHeader),
         Err(_) => return Err(ReleaseFault::NoMemory),
     }
-    match header_version(records.row()) {
+    match header_version(&records.row()) {
         Some(version) => Ok(version),
         None => Err(ReleaseFault::BadHeader),
     }

@@ -5,8 +5,7 @@ ghost use Rattle.release_file.specs.ReleasesTaken.{AreEmptyLeaves};
 use crate::ReleaseFault;
 use crate::leaf_rows::LeafRows;
 use crate::release_spelling::{Version, are_plain, release_fields};
-use csv::ByteRecord;
-use csv_rows::{RowRules, number as number_of};
+use csv_rows::{Row, RowRules, number as number_of};
 use slot_model::{Job, LIMIT};
 use std::alloc::{AllocError, Global};
 use trace_file::{Places, part_places};
@@ -39,7 +38,7 @@ impl<'s> RowRules for ReleaseRows<'s> {
 
     ghost is_memory = { λ fault. fault ≡ NoMemory };
 
-    fn take(&mut self, row: &ByteRecord, number: u64) -> Result<(), ReleaseFault> {
+    fn take(&mut self, row: &Row, number: u64) -> Result<(), ReleaseFault> {
         let Some(fields) = release_fields(self.version, row) else {
             return Err(ReleaseFault::BadRow(number));
         };

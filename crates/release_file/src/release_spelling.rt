@@ -1,10 +1,9 @@
 ghost use Rattle.std.specs.Prelude.{◌≡◌, ◌≢◌, length, if◌then◌else◌, Some, None, MatchOption};
-ghost use Rattle.csv.specs.Records.{fields_of};
+ghost use Rattle.csv_rows.specs.Row.{fields_of};
 ghost use Rattle.release_file.specs.ReleaseFile.{all_fields, is_release_row, are_names, header_version};
 ghost use Rattle.release_file.specs.ReleasesTaken.{fields_in};
 
-use csv::ByteRecord;
-use csv_rows::{field, is_plain, is_word};
+use csv_rows::{Row, field, is_plain, is_word};
 
 /// The version of a release file, which its header tells.
 #[derive(Clone, Copy, Debug, PartialEq, Eq)]
@@ -26,7 +25,7 @@ pub struct ReleaseFields<'r> {
 }
 
 /// The fields of a record of as many as its version has. In version 1 the job is not early.
-pub fn release_fields(version: Version, row: &ByteRecord) -> Option<ReleaseFields<'_>>
+pub fn release_fields<'r>(version: Version, row: &Row<'r>) -> Option<ReleaseFields<'r>>
     ensures { let fields = all_fields version (fields_of row.now) in
         MatchOption result (length fields ≢ 5) (λ f. fields ≡ fields_in f) }
 {
@@ -36,7 +35,7 @@ pub fn release_fields(version: Version, row: &ByteRecord) -> Option<ReleaseField
     }
 }
 
-fn four_fields(row: &ByteRecord) -> Option<ReleaseFields<'_>>
+fn four_fields<'r>(row: &Row<'r>) -> Option<ReleaseFields<'r>>
     ensures { let fields = all_fields Version.First (fields_of row.now) in
         MatchOption result (length fields ≢ 5) (λ f. fields ≡ fields_in f) }
 {
@@ -52,7 +51,7 @@ fn four_fields(row: &ByteRecord) -> Option<ReleaseFields<'_>>
     })
 }
 
-fn five_fields(row: &ByteRecord) -> Option<ReleaseFields<'_>>
+fn five_fields<'r>(row: &Row<'r>) -> Option<ReleaseFields<'r>>
     ensures { let fields = all_fields Version.Second (fields_of row.now) in
         MatchOption result (length fields ≢ 5) (λ f. fields ≡ fields_in f) }
 {
@@ -86,7 +85,7 @@ fn are_names(fields: &ReleaseFields) -> bool
 }
 
 /// The version that a header tells, where the record is one.
-pub fn header_version(row: &ByteRecord) -> Option<Version>
+pub fn header_version(row: &Row) -> Option<Version>
     ensures { result ≡ header_version (fields_of row.now) }
 {
     if let Some(fields) = four_fields(row) {

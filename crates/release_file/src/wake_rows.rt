@@ -4,8 +4,7 @@ ghost use Rattle.release_file.specs.WakesTaken.{stands_at};
 
 use crate::wake_spelling::{SpeltWake, spell_wake};
 use crate::{ReleaseFault, Wake, WakeKind};
-use csv::ByteRecord;
-use csv_rows::RowRules;
+use csv_rows::{Row, RowRules};
 use std::alloc::Global;
 use trace_file::{Places, is_vcpu, part_places};
 use tree_model::{MAX_PARTS, System};
@@ -37,7 +36,7 @@ impl<'s> RowRules for WakeRows<'s> {
 
     ghost is_memory = { λ fault. fault ≡ NoMemory };
 
-    fn take(&mut self, row: &ByteRecord, number: u64) -> Result<(), ReleaseFault> {
+    fn take(&mut self, row: &Row, number: u64) -> Result<(), ReleaseFault> {
         match spell_wake(self.sys, &self.parts, row) {
             SpeltWake::Bad => Err(ReleaseFault::BadRow(number)),
             SpeltWake::TooLate => Err(ReleaseFault::OutOfRange(number)),

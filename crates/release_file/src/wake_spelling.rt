@@ -1,12 +1,11 @@
 ghost use Rattle.std.specs.Prelude.{◌≡◌, ◌≢◌, length, MatchOption};
-ghost use Rattle.csv.specs.Records.{fields_of};
+ghost use Rattle.csv_rows.specs.Row.{fields_of};
 ghost use Rattle.trace_file.specs.File.{part_names};
 ghost use Rattle.release_file.specs.WorkloadFile.{is_kind, kind_of, is_wake_header};
 ghost use Rattle.release_file.specs.WakeSpelt.{IsSpeltWake, wake_fields};
 
 use crate::{Wake, WakeKind};
-use csv::ByteRecord;
-use csv_rows::{field, is_plain, is_word, number};
+use csv_rows::{Row, field, is_plain, is_word, number};
 use slot_model::LIMIT;
 use trace_file::{Places, part_place};
 use tree_model::System;
@@ -28,7 +27,7 @@ pub enum SpeltWake {
 }
 
 /// The fields of a record of three fields.
-fn three_fields(fields: &ByteRecord) -> Option<WakeRow<'_>>
+fn three_fields<'r>(fields: &Row<'r>) -> Option<WakeRow<'r>>
     ensures { let row = fields_of fields.now in
         MatchOption result (length row ≢ 3) (λ w. row ≡ wake_fields w) }
 {
@@ -84,7 +83,7 @@ fn spell_row(sys: &System, parts: &Places, row: &WakeRow) -> SpeltWake
 }
 
 /// What is made of a record.
-pub fn spell_wake(sys: &System, parts: &Places, fields: &ByteRecord) -> SpeltWake
+pub fn spell_wake(sys: &System, parts: &Places, fields: &Row) -> SpeltWake
     requires { parts.now ≡ part_names sys.now.parts }
     ensures { IsSpeltWake sys.now (fields_of fields.now) result }
 {
@@ -101,7 +100,7 @@ fn is_header_row(row: &WakeRow) -> bool
 }
 
 /// Whether a record is the header of a workload.
-pub fn is_wake_header(fields: &ByteRecord) -> bool
+pub fn is_wake_header(fields: &Row) -> bool
     ensures { result ≡ is_wake_header (fields_of fields.now) }
 {
     match three_fields(fields) {

@@ -25,7 +25,7 @@ fn read_header(records: &mut Records) -> Result<(), ReleaseFault>
         Ok(false) => return Err(ReleaseFault::BadHeader),
         Err(_) => return Err(ReleaseFault::NoMemory),
     }
-    if !is_wake_header(records.row()) {
+    if !is_wake_header(&records.row()) {
         return Err(ReleaseFault::BadHeader);
     }
     Ok(())

@@ -1,5 +1,5 @@
 use Rattle.std.proofs.Common.{◌∙◌, sym}
-use Rattle.csv.specs.Records.{fields_of}
+use Rattle.csv_rows.specs.Row.{fields_of}
 use Rattle.release_file.proofs.FieldCounts.{three}
 use Rattle.release_file.proofs.wake_spelling.three_fields.Goals as goal
 

@@ -16,3 +16,8 @@ returns-then-not-is_wake_header-clause-fault c text has =
     let (more, front) = has_front text (row_read c.advance.new.self ∷ []) c.advance.new.self all in
     let none = ap is_wake_header (sym c.row.ensures) ∙ (sym c.is_wake_header.ensures ∙ c.if-not-is_wake_header.true) in
     inr (refl, ap wake_rows front ∙ cond-false (is_wake_header (row_read c.advance.new.self)) (Some more) None none)
+
+pub returns-clause-header : goal.returns-clause-header
+returns-clause-header c text has =
+    let all = rw c.in-Ok-true.field-0-test at (c.in-Ok-true.ensures text [] has) in
+    (row_read c.advance.new.self, ap is_wake_header (sym c.row.ensures) ∙ (sym c.is_wake_header.ensures ∙ c.if-not-is_wake_header.false), all)

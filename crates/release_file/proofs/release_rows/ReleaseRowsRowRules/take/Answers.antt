@@ -1,7 +1,7 @@
 use Rattle.std.proofs.Common.{ℕ, List, length, refl, sym, arith, ap, ◌∙◌}
 use Rattle.std.proofs.lemmas.List.{length-map}
 use Rattle.tree_model.specs.View.{PartView}
-use Rattle.csv.specs.Records.{fields_of}
+use Rattle.csv_rows.specs.Row.{fields_of}
 use Rattle.release_file.proofs.ReleasesTaking.{took_release}
 use Rattle.release_file.proofs.release_rows.ReleaseRowsRowRules.take.Goals as goal
 

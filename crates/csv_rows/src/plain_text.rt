@@ -1,0 +1,70 @@
+ghost use Rattle.std.specs.Prelude.{◌≡◌, [], false, IsTrue, IfOk, IfSome, option_map};
+ghost use Rattle.csv.specs.Machine.{next_record};
+ghost use Rattle.csv.specs.Reading.{default_config, strip_bom};
+ghost use Rattle.csv.specs.declared.parser.State.TheVariants as st;
+ghost use Rattle.csv_rows.specs.PlainText.{IsPlainText};
+ghost use Rattle.csv_rows.specs.Row.{texts_of};
+
+use memchr::memchr2;
+use std::alloc::AllocError;
+
+/// Whether a text has no quote, no carriage return and no mark at its front. Then each comma ends
+/// a field, and each line feed a record.
+pub fn is_plain_text(text: &[u8]) -> bool
+    ensures plain { IsTrue result → IsPlainText text.now }
+    ensures no_mark { IsTrue result → strip_bom text.now ≡ text.now }
+{
+    memchr2(b'"', b'\r', text).is_none() && !may_have_mark(text)
+}
+
+/// Whether a text may begin with a byte order mark.
+fn may_have_mark(text: &[u8]) -> bool
+    ensures { result ≡ false → strip_bom text.now ≡ text.now }
+{
+    !text.is_empty() && text[0] == 0xEF
+}
+
+/// Whether a record has a byte before place `i`: so many fields, or one that begins at `from`.
+fn has_begun(fields: usize, from: usize, i: usize) -> bool
+    ensures begun { IsTrue result → from ≡ i → fields ≡ 0 → ⊥ }
+    ensures not_begun { result ≡ false → (from ≡ i) × (fields ≡ 0) }
+{
+    from != i || fields > 0
+}
+
+/// Splits the first record of a plain text into its fields, and answers what is left behind it.
+/// None where there is no record: the text is empty, or has empty lines alone.
+pub fn split_record<'b>(
+    text: &'b [u8],
+    fields: &mut Vec<&'b [u8]>,
+) -> Result<Option<&'b [u8]>, AllocError>
+    ensures first { IsPlainText text.now
+        → IfOk result (λ left. next_record default_config st.StartRecord [] [] text.now
+        ≡ option_map (λ rest. (texts_of fields.new.items, st.StartRecord, rest.now)) left) }
+    ensures plain { IsPlainText text.now
+        → IfOk result (λ left. IfSome left (λ rest. IsPlainText rest.now)) }
+{
+    fields.clear();
+    let mut from = 0;
+    for i in 0..text.len() {
+        let byte = text[i];
+        if byte > b',' {
+            continue;
+        }
+        if byte == b',' {
+            fields.push(&text[from..i])?;
+            from = i + 1;
+        } else if byte == b'\n' {
+            if has_begun(fields.len(), from, i) {
+                fields.push(&text[from..i])?;
+                return Ok(Some(&text[i + 1..]));
+            }
+            from = i + 1;
+        }
+    }
+    if !has_begun(fields.len(), from, text.len()) {
+        return Ok(None);
+    }
+    fields.push(&text[from..])?;
+    Ok(Some(&text[text.len()..]))
+}
