@@ -169,8 +169,9 @@ pub record HasRoom (sys : SystemView) (host : Host) : Type 0 where
   pub parts : (c v : ℕ) → c < length sys.cores → holder_at host.holders c ≡ Some v →
       v < length sys.parts
 
--- the keys and the ends of periods are those of the accounts, whose numbers are small, and the VCPUs
--- with a key are listed; what has a core stands on it, and goes first on it where the core is not stale
+-- the keys and the ends of periods are those of the accounts, whose numbers are small, the VCPUs
+-- with a key are listed, and the slots left are no more than those of the accounts; what has a core
+-- stands on it, and goes first on it where the core is not stale
 pub record IsReady (sys : SystemView) (budgets : List ℕ) (host : Host) : Type 0 where
   pub room : HasRoom sys host
   pub listed : AreQueues sys host.queues
