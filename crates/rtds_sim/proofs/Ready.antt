@@ -1,5 +1,5 @@
 -- Accounts and keys that are set.
-use Rattle.std.proofs.Common.{◌≡◌, ◌≢◌, ℕ, ◌+◌, ◌/◌, ◌<◌, ◌≤◌, not, ◌||◌, if◌then◌else◌, Bool, true, false, cond, ◌&&◌, ◌==◌, List, length, set, Option, Some, None, refl, sym, ◌∙◌, ap, arith, subst, inl, inr}
+use Rattle.std.proofs.Common.{◌≡◌, ◌≢◌, ℕ, ◌+◌, ◌*◌, ◌/◌, ◌<◌, ◌≤◌, not, ◌||◌, if◌then◌else◌, Bool, true, false, cond, ◌&&◌, ◌==◌, List, length, set, Option, Some, None, refl, sym, ◌∙◌, ap, arith, subst, inl, inr}
 use Rattle.std.proofs.lemmas.Bool.{cases_eq, cases_Bool, both_ways}
 use Rattle.std.proofs.lemmas.List.{get_or-set_same, get_or-set_other, length-set}
 use Rattle.slot_model.specs.Run.{holds}
@@ -33,6 +33,13 @@ at_set : (P : Account → Type 0) (accounts : List Account) (v u : ℕ) (a : Acc
 at_set P accounts v u a l new old = elim (cases_eq u v) [
   | inl e ↦ subst P (sym (ap (account_at (set accounts v a)) e ∙ account_here accounts v a l)) (new e)
   | inr ne ↦ subst P (sym (account_there accounts v u a ne)) old
+]
+
+-- what holds of the number that is set and of those before holds of all
+number_set : (P : ℕ → Type 0) (ns : List ℕ) (v u n : ℕ) → v < length ns → (u ≡ v → P n) → (u ≢ v → P (number_at ns u)) → P (number_at (set ns v n) u)
+number_set P ns v u n l new old = elim (cases_eq u v) [
+  | inl e ↦ subst P (sym (ap (number_at (set ns v n)) e ∙ get_or-set_same ns v n 0 l)) (new e)
+  | inr ne ↦ subst P (sym (get_or-set_other ns v u n 0 ne)) (old ne)
 ]
 
 pub key_here : (keys : List (Option Key)) (v : ℕ) (k : Option Key) → v < length keys → key_at (set keys v k) v ≡ k
@@ -96,12 +103,13 @@ first_set sys keys c n v key (Some w) l own other h = elim (cases_eq w v) [
 pub ready_one : (sys : SystemView) (budgets : List ℕ) (host : Host) (v : ℕ) (a : Account) (key : Option Key) (end c : ℕ) (b : Bool) → v < length sys.parts → c < length host.stale → IsReady sys budgets host → a.from ≤ host.time → a.used ≤ host.time → key ≡ key_of a (budget_at budgets v) (part_at sys v).extra (part_at sys v).period → end ≡ end_of a (part_at sys v).period → c ≡ core_of (part_at sys v).parent
     → (b ≡ false → is_stale host.stale c ≡ false) → (b ≡ false → ((u : ℕ) → holder_at host.holders c ≡ Some u → u ≡ v) → key ≡ key_at host.queues.keys v)
     → ((u : ℕ) → b ≡ false → holder_at host.holders c ≡ Some u → u ≢ v → comes_before (key_at host.queues.keys u) key ≡ true)
-    → (queues : Queues) → AreQueues sys queues → queues.keys ≡ set host.queues.keys v key → IsReady sys budgets (record host { accounts = set host.accounts v a; queues = queues; until = set host.until v end; stale = set host.stale c b })
-ready_one sys budgets host v a key end c b l lc h early few is ends its_core fresh_before own other queues listed its_keys = record {
+    → (queues : Queues) → AreQueues sys queues → queues.keys ≡ set host.queues.keys v key → (left : ℕ) → 1 ≤ left → left ≤ left_of a (budget_at budgets v) → IsReady sys budgets (record host { accounts = set host.accounts v a; queues = queues; until = set host.until v end; left = set host.left v left; stale = set host.stale c b })
+ready_one sys budgets host v a key end c b l lc h early few is ends its_core fresh_before own other queues listed its_keys left some_left few_left = record {
   room = record {
     all_vcpus = length-set host.accounts v a ∙ h.room.all_vcpus;
     all_keys = listed.all_keys;
     all_until = length-set host.until v end ∙ h.room.all_until;
+    all_left = length-set host.left v left ∙ h.room.all_left;
     all_cores = h.room.all_cores;
     all_ends = h.room.all_ends;
     all_stale = length-set host.stale c b ∙ h.room.all_stale;
@@ -122,6 +130,10 @@ ready_one sys budgets host v a key end c b l lc h early few is ends its_core fre
         (until_here host.until v end (omega (arith, l, h.room.all_until, h.room.few_parts)) ∙ (ends ∙ sym (ap (λ (z : Account). end_of z (part_at sys v).period) (account_here host.accounts v a room))))
     | inr ne ↦ until_there host.until v u end ne ∙ (h.until u lu ∙ sym (ap (λ (z : Account). end_of z (part_at sys u).period) (account_there host.accounts v u a ne)))
   ];
+  some_left = λ u lu. number_set (λ (z : ℕ). 1 ≤ z) host.left v u left (omega (arith, l, h.room.all_left, h.room.few_parts)) (λ e. some_left) (λ ne. h.some_left u lu);
+  left = λ u lu. number_set (λ (z : ℕ). z ≤ left_of (account_at (set host.accounts v a) u) (budget_at budgets u)) host.left v u left (omega (arith, l, h.room.all_left, h.room.few_parts))
+      (λ e. subst (λ (z : ℕ). left ≤ left_of (account_at (set host.accounts v a) z) (budget_at budgets z)) (sym e) (subst (λ (z : Account). left ≤ left_of z (budget_at budgets v)) (sym (account_here host.accounts v a room)) few_left))
+      (λ ne. subst (λ (z : Account). number_at host.left u ≤ left_of z (budget_at budgets u)) (sym (account_there host.accounts v u a ne)) (h.left u lu));
   on_core = h.on_core;
   named = λ d ld fresh. subst (λ (ks : List (Option Key)). IsFirstKey sys ks d (length sys.parts) (holder_at host.holders d)) (sym its_keys) (elim (cases_eq d c) [
     | inl e ↦ first_set sys host.queues.keys d (length sys.parts) v key (holder_at host.holders d) (omega (arith, l, h.room.all_keys, h.room.few_parts))
@@ -154,17 +166,21 @@ same_key a slots budget extra period some l =
     key : ℕ → Key
     key g = record { level = g; deadline = deadline_of a period }
 
--- where a VCPU has a key, the key tells its level
-pub level_told : (sys : SystemView) (budgets : List ℕ) (host : Host) (v : ℕ) (key : Key) → v < length sys.parts → IsReady sys budgets host → key_at host.queues.keys v ≡ Some key → key.level ≡ level_of (account_at host.accounts v) (budget_at budgets v)
-level_told sys budgets host v key l h is = told (account_eligible (account_at host.accounts v) (budget_at budgets v) (part_at sys v).extra) _ key (sym (h.keys v l) ∙ is)
+-- what a VCPU goes by tells its level
+pub level_told : (a : Account) (budget : ℕ) (extra : Bool) (period : ℕ) (key : Key) → key_of a budget extra period ≡ Some key → key.level ≡ level_of a budget
+level_told a budget extra period key is = told (account_eligible a budget extra) _ key is
   where
     told : (b : Bool) (k m : Key) → (if b then Some k else None) ≡ Some m → m.level ≡ k.level
     told true k m e = cc e
     told false k m e = absurd (cc e)
 
+-- and has as many slots left as before, but for those that it had
+fewer_left : (a : Account) (slots rest budget : ℕ) → 1 ≤ budget → slots < left_of a budget → rest + slots ≤ left_of a budget → rest ≤ left_of (record a { used = a.used + slots }) budget
+fewer_left a slots rest budget some l few = omega (arith, l, few, some, ap (λ (z : ℕ). z * budget) (same_quotient a.used slots budget some l))
+
 pub ready_few : (sys : SystemView) (budgets : List ℕ) (host : Host) (v slots : ℕ) → v < length sys.parts → 1 ≤ budget_at budgets v → IsReady sys budgets host → (account_at host.accounts v).used + slots ≤ host.time → slots < left_of (account_at host.accounts v) (budget_at budgets v)
-    → IsReady sys budgets (record host { accounts = set host.accounts v (record (account_at host.accounts v) { used = (account_at host.accounts v).used + slots }) })
-ready_few sys budgets host v slots l some h few left =
+    → (left : ℕ) → 1 ≤ left → left + slots ≤ left_of (account_at host.accounts v) (budget_at budgets v) → IsReady sys budgets (record host { accounts = set host.accounts v (record (account_at host.accounts v) { used = (account_at host.accounts v).used + slots }); left = set host.left v left })
+ready_few sys budgets host v slots l some h few left rest some_rest few_rest =
     let a : Account = record (account_at host.accounts v) { used = (account_at host.accounts v).used + slots } in
     let room : v < length host.accounts = omega (arith, l, h.room.all_vcpus, h.room.few_parts) in
     record {
@@ -172,6 +188,7 @@ ready_few sys budgets host v slots l some h few left =
         all_vcpus = length-set host.accounts v a ∙ h.room.all_vcpus;
         all_keys = h.room.all_keys;
         all_until = h.room.all_until;
+        all_left = length-set host.left v rest ∙ h.room.all_left;
         all_cores = h.room.all_cores;
         all_ends = h.room.all_ends;
         all_stale = h.room.all_stale;
@@ -187,6 +204,11 @@ ready_few sys budgets host v slots l some h few left =
           (h.keys v l ∙ same_key (account_at host.accounts v) slots (budget_at budgets v) (part_at sys v).extra (part_at sys v).period some left)) (h.keys u lu);
       until = λ u lu. at_set (λ (z : Account). number_at host.until u ≡ end_of z (part_at sys u).period) host.accounts v u a room
           (λ e. subst (λ (w : ℕ). number_at host.until w ≡ end_of a (part_at sys w).period) (sym e) (h.until v l)) (h.until u lu);
+      some_left = λ u lu. number_set (λ (z : ℕ). 1 ≤ z) host.left v u rest (omega (arith, l, h.room.all_left, h.room.few_parts)) (λ e. some_rest) (λ ne. h.some_left u lu);
+      left = λ u lu. number_set (λ (z : ℕ). z ≤ left_of (account_at (set host.accounts v a) u) (budget_at budgets u)) host.left v u rest (omega (arith, l, h.room.all_left, h.room.few_parts))
+          (λ e. subst (λ (z : ℕ). rest ≤ left_of (account_at (set host.accounts v a) z) (budget_at budgets z)) (sym e) (subst (λ (z : Account). rest ≤ left_of z (budget_at budgets v)) (sym (account_here host.accounts v a room))
+          (fewer_left (account_at host.accounts v) slots rest (budget_at budgets v) some left few_rest)))
+          (λ ne. subst (λ (z : Account). number_at host.left u ≤ left_of z (budget_at budgets u)) (sym (account_there host.accounts v u a ne)) (h.left u lu));
       on_core = h.on_core;
       named = h.named;
     }

@@ -43,6 +43,22 @@ pub switch_none : (o : Option ℕ) → switch_to o o ≡ None
 switch_none None = refl
 switch_none (Some v) = ap (λ (b : Bool). cond b None (Some (Run v))) (eq-eqb v v refl)
 
+not_true : (b : Bool) → not b ≡ true → b ≡ false
+not_true true e = cc
+not_true false e = refl
+
+-- where no row comes at x, what has a core when x comes is not blocked there
+pub none_blocks : (sys : SystemView) (budgets : List ℕ) (rows : List Row) (n : ℕ) (runs : List (List (Option ℕ))) → RtdsRun sys budgets rows n runs → (x k : ℕ) → AreBefore rows k x → AreBefore rows k (suc x) → x < n → (c : ℕ) → c < length sys.cores → is_blocked_one rows x (holder_before (run_at runs c) x) ≡ false
+none_blocks sys budgets rows n runs is zero k before after l c lc = refl
+none_blocks sys budgets rows n runs is (suc y) k before after l c lc = go (held (run_at runs c) y) refl
+  where
+    go : (o : Option ℕ) → held (run_at runs c) y ≡ o → is_blocked_one rows (suc y) o ≡ false
+    go None e = refl
+    go (Some v) e =
+        let h : can_run sys rows c v y ≡ true = eligible_runs sys budgets rows c (run_at runs c) v y (((is.cores c lc).each y (omega arith)).named v e) in
+        let q = and_parts (is_started_at rows v y) (not (is_blocked_at rows v y)) (and_parts _ (is_started_at rows v y && not (is_blocked_at rows v y)) h).1 in
+        blocked_by rows v (suc y) k after ∙ (sym (blocked_by rows v y k before) ∙ not_true (is_blocked_at rows v y) q.1)
+
 module _ (sys : SystemView) (system : IsSystem sys) (budgets : List ℕ) (plan : IsPlan sys budgets) (rows : List Row) (n : ℕ) (runs : List (List (Option ℕ))) (is : RtdsRun sys budgets rows n runs)
     (x k : ℕ) (accounts : List Account) (holders : List (Option ℕ)) (to : ℕ) (next : IsNext sys budgets rows runs x k accounts holders to) where
   -- who has a core at x is not blocked there, nor before `to`
@@ -52,10 +68,6 @@ module _ (sys : SystemView) (system : IsSystem sys) (budgets : List ℕ) (plan :
       let h : can_run sys rows c v x ≡ true = eligible_runs sys budgets rows c (run_at runs c) v x (((is.cores c lc).each x lx).named v e) in
       let q = and_parts (is_started_at rows v x) (not (is_blocked_at rows v x)) (and_parts _ (is_started_at rows v x && not (is_blocked_at rows v x)) h).1 in
       blocked_by rows v y k (taken_at sys system budgets plan rows n runs is x k accounts holders to next y a b) ∙ (sym (blocked_by rows v x k next.taken) ∙ not_true (is_blocked_at rows v x) q.1)
-    where
-      not_true : (b : Bool) → not b ≡ true → b ≡ false
-      not_true true e = cc
-      not_true false e = refl
 
   before_is : (c : ℕ) → c < length sys.cores → to ≤ n → (y : ℕ) → x < y → y < to → holder_before (run_at runs c) y ≡ held (run_at runs c) x
   before_is c lc fits zero a b = absurd (omega arith)
@@ -89,7 +101,7 @@ module _ (sys : SystemView) (budgets : List ℕ) (rows : List Row) (n : ℕ) (ru
   gives_up_is None h = refl
   gives_up_is (Some v) h = (are.each v (h v refl)).blocked ∙ sym (blocked_by rows v x host.taken taken)
 
-  gives_up_at : (c : ℕ) → c < length sys.cores → gives_up host.accounts (holder_at host.holders c) ≡ is_blocked_one rows x (holder_before (run_at runs c) x)
+  pub gives_up_at : (c : ℕ) → c < length sys.cores → gives_up host.accounts (holder_at host.holders c) ≡ is_blocked_one rows x (holder_before (run_at runs c) x)
   gives_up_at c lc = gives_up_is (holder_at host.holders c) (λ v e. room.parts c v lc e) ∙ ap (is_blocked_one rows x) (holders_are c lc)
 
   pub stops_are : gathered (stop_of host) (length sys.cores) ≡ gathered (stop_at rows runs x) (length sys.cores)

@@ -160,6 +160,7 @@ pub record HasRoom (sys : SystemView) (host : Host) : Type 0 where
   pub all_vcpus : length host.accounts ≡ 512
   pub all_keys : length host.queues.keys ≡ 512
   pub all_until : length host.until ≡ 512
+  pub all_left : length host.left ≡ 512
   pub all_cores : length host.holders ≡ 64
   pub all_ends : length host.ends ≡ 64
   pub all_stale : length host.stale ≡ 64
@@ -168,8 +169,9 @@ pub record HasRoom (sys : SystemView) (host : Host) : Type 0 where
   pub parts : (c v : ℕ) → c < length sys.cores → holder_at host.holders c ≡ Some v →
       v < length sys.parts
 
--- the keys and the ends of periods are those of the accounts, whose numbers are small, and the VCPUs
--- with a key are listed; what has a core stands on it, and goes first on it where the core is not stale
+-- the keys and the ends of periods are those of the accounts, whose numbers are small, the VCPUs
+-- with a key are listed, and the slots left are no more than those of the accounts; what has a core
+-- stands on it, and goes first on it where the core is not stale
 pub record IsReady (sys : SystemView) (budgets : List ℕ) (host : Host) : Type 0 where
   pub room : HasRoom sys host
   pub listed : AreQueues sys host.queues
@@ -180,6 +182,9 @@ pub record IsReady (sys : SystemView) (budgets : List ℕ) (host : Host) : Type 
       (part_at sys v).extra (part_at sys v).period
   pub until : (v : ℕ) → v < length sys.parts →
       number_at host.until v ≡ end_of (account_at host.accounts v) (part_at sys v).period
+  pub some_left : (v : ℕ) → v < length sys.parts → 1 ≤ number_at host.left v
+  pub left : (v : ℕ) → v < length sys.parts →
+      number_at host.left v ≤ left_of (account_at host.accounts v) (budget_at budgets v)
   pub on_core : (c v : ℕ) → c < length sys.cores → holder_at host.holders c ≡ Some v →
       is_child sys (Core c) v ≡ true
   pub named : (c : ℕ) → c < length sys.cores → is_stale host.stale c ≡ false →

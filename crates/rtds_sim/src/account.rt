@@ -70,6 +70,19 @@ impl Account {
         budget - (self.used - level * budget)
     }
 
+    /// The same, where this is what it goes by, and one slot where it is not eligible.
+    pub fn left_by(self, budget: u64, key: Option<Key>) -> u64
+        requires some { 1 ≤ budget }
+        requires level { (k : Key) → key ≡ Some k → k.level ≡ level_of self budget }
+        ensures within { result ≤ left_of self budget }
+        ensures some { 1 ≤ result }
+    {
+        match key {
+            Some(key) => self.left(budget, key.level),
+            None => 1,
+        }
+    }
+
     /// How often it has had its budget.
     fn level(self, budget: u64) -> u64
         requires { 1 ≤ budget }

@@ -29,6 +29,8 @@ pub struct Host {
     pub queues: Queues,
     /// The slot at which its period ends, and one past all where it is not started.
     pub until: [u64; MAX_PARTS],
+    /// Some of the slots until it has had its budget once more, at least one.
+    pub left: [u64; MAX_PARTS],
     /// For each core the VCPU that has it.
     pub holders: [Option<u32>; MAX_CORES],
     /// For each core a slot before which no period of its VCPUs ends.
@@ -142,6 +144,7 @@ impl Host {
             accounts: [Account::new(); MAX_PARTS],
             queues: Queues::new(sys),
             until: [PAST_ALL; MAX_PARTS],
+            left: [1; MAX_PARTS],
             holders: [None; MAX_CORES],
             ends: [PAST_ALL; MAX_CORES],
             stale: [true; MAX_CORES],
@@ -170,6 +173,7 @@ impl Host {
     }
 
     /// Sets an account, its key and the end of its period.
+    #[inline(always)]
     fn set(&mut self, sys: &System, plan: &Plan, v: u32, account: Account)
         requires plan { IsPlan sys.now plan.now }
         requires ready { IsReady sys.now plan.now self.old }
@@ -185,13 +189,16 @@ impl Host {
         ensures ends { self.new.ends ≡ self.old.ends }
     {
         let part = &sys.parts()[v as usize];
-        let key = account.key(budget_of(plan, v), part.extra(), part.period());
+        let budget = budget_of(plan, v);
+        let key = account.key(budget, part.extra(), part.period());
+        let left = account.left_by(budget, key);
         let end = account.end(part.period());
         let core = core_of(sys, v) as usize;
         let stale = self.is_stale_with(core, v, key);
         self.accounts[v as usize] = account;
         self.queues.set(sys, v, key);
         self.until[v as usize] = end;
+        self.left[v as usize] = left;
         self.stale[core] = stale;
     }
 
@@ -315,16 +322,19 @@ impl Host {
         }
     }
 
-    /// Stops the cores whose VCPUs block.
+    /// Stops the cores whose VCPUs block, where `before` rows had been taken before the slot.
     pub fn stop_blocked(
         &mut self,
         sys: &System,
         plan: &Plan,
+        before: usize,
         events: &mut Vec<Event>,
     ) -> Result<(), AllocError>
         requires plan { IsPlan sys.now plan.now }
         requires ready { IsReady sys.now plan.now self.old }
         requires in_limit { self.old.time ≤ LIMIT }
+        requires awake { before ≡ self.old.taken → (c : ℕ) → c < length sys.now.cores
+            → gives_up self.old.accounts (holder_at self.old.holders c) ≡ false }
         ensures events { OnOk result
             (events.new.items ≡ events.old.items
             ++ gathered (stop_of self.old) (length sys.now.cores)) }
@@ -337,6 +347,9 @@ impl Host {
         ensures taken { self.new.taken ≡ self.old.taken }
         ensures time { self.new.time ≡ self.old.time }
     {
+        if before == self.taken {
+            return Ok(());
+        }
         for c in 0..sys.cores().len() {
             if self.gives_up(c) {
                 events.push(self.stop_event(c))?;
@@ -439,23 +452,8 @@ impl Host {
         ensures later { self.now.time < slots → self.now.time < result }
     {
         match self.holders[core] {
-            Some(v) => self.time + self.left(sys, plan, v),
+            Some(v) => self.time + self.left[v as usize],
             None => slots,
-        }
-    }
-
-    /// The slots until VCPU `v` has had its budget once more, and one where it is not eligible.
-    fn left(&self, sys: &System, plan: &Plan, v: u32) -> u64
-        requires plan { IsPlan sys.now plan.now }
-        requires ready { IsReady sys.now plan.now self.now }
-        requires is_part { v < length sys.now.parts }
-        ensures within { result
-            ≤ left_of (account_at self.now.accounts v) (budget_at plan.now v) }
-        ensures some { 1 ≤ result }
-    {
-        match self.queues.keys[v as usize] {
-            Some(key) => account_of(&self.accounts, v).left(budget_of(plan, v), key.level),
-            None => 1,
         }
     }
 
@@ -512,8 +510,10 @@ impl Host {
             let account = account_of(&self.accounts, v);
             let used = account.used + slots;
             let account = Account { used, ..account };
-            if slots < self.left(sys, plan, v) {
+            let left = self.left[v as usize];
+            if slots < left {
                 self.accounts[v as usize] = account;
+                self.left[v as usize] = left - slots;
                 return;
             }
             self.set(sys, plan, v, account);

@@ -17,7 +17,7 @@ impl Queues {
     ghost use Rattle.tree_model.specs.Tree.{is_child};
     ghost use Rattle.rtds_sim.specs.declared.key.Key.{Key};
     ghost use Rattle.rtds_sim.specs.Keys.{key_at};
-    ghost use Rattle.rtds_sim.specs.Queues.{IsLast, AreListed, AreQueues, is_queued};
+    ghost use Rattle.rtds_sim.specs.Queues.{IsLastBelow, AreListed, AreQueues, is_queued};
 
     /// Where no VCPU is eligible.
     pub fn new(sys: &System) -> Queues
@@ -69,7 +69,7 @@ impl Queues {
         requires are { AreQueues sys.now self.now }
         requires is_core { core < length sys.now.cores }
         requires is_part { v < length sys.now.parts }
-        ensures { IsLast (is_queued sys.now self.now.keys core) v result }
+        ensures { IsLastBelow (is_queued sys.now self.now.keys core) v result }
     {
         prove!(sys.parts().len() <= MAX_PARTS);
         let mut last = None;

@@ -109,7 +109,7 @@ fn simulated(
     while host.time < slots {
         let first = host.taken;
         host.take_rows(sys, plan, wakes);
-        host.stop_blocked(sys, plan, &mut events)?;
+        host.stop_blocked(sys, plan, first, &mut events)?;
         print_rows(sys, wakes, first, host.taken, &mut events)?;
         host.switch_all(sys, plan, &mut events)?;
         let next = host.next_slot(sys, plan, wakes, slots);

@@ -1,14 +1,13 @@
 -- The endings of rows, and a row as its moment and its ending.
-use Rattle.std.proofs.Common.{◌≡◌, ◌<◌, ◌+◌, ◌^◌, ◌==◌, ℕ, zero, suc, Bool, true, false, not, cond, ◌&&◌, ◌||◌, List, [], ◌∷◌, ◌++◌, length, get_or, set, Option, Some, None, refl, sym, ◌∙◌, ap, arith, subst, inl, inr, append-nil, append_assoc}
-use Rattle.std.specs.Prelude.{decimal, slice_index_or}
+use Rattle.std.proofs.Common.{◌≡◌, ◌<◌, ◌^◌, ℕ, zero, suc, Bool, true, false, cond, ◌||◌, List, [], ◌∷◌, ◌++◌, length, get_or, set, Option, Some, None, refl, sym, ◌∙◌, ap, arith, subst, inl, inr, append_assoc}
+use Rattle.std.specs.Prelude.{decimal}
 use Rattle.std.specs.Char.{is_ascii_digit}
-use Rattle.std.specs.List.{list_all, list_any}
-use Rattle.std.proofs.lemmas.Bool.{cases_eq, cases_lt, and_parts}
+use Rattle.std.specs.List.{list_all}
+use Rattle.std.proofs.lemmas.Bool.{cases_eq, and_parts}
 use Rattle.std.proofs.lemmas.Bool.Decides.{nat_tests}
 use Rattle.std.proofs.lemmas.List.{get_or-set_same, get_or-set_other}
-use Rattle.slot_model.proofs.FirstRuns.{same_some}
 use Rattle.csv.specs.Quoting.{needs_byte}
-use Rattle.csv.specs.Writing.{default_writer, row_text, fields_text, is_blank, needs_quotes, field_text, quoted, end_text}
+use Rattle.csv.specs.Writing.{default_writer, row_text, fields_text, is_blank, needs_quotes, quoted, end_text}
 use Rattle.tree_model.specs.View.{SystemView}
 use Rattle.trace_file.specs.declared.endings.Ending.{Ending}
 use Rattle.trace_file.specs.Endings.{IsEnding, AreEndings}

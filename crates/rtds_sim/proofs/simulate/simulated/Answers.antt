@@ -11,13 +11,13 @@ use Rattle.rtds_sim.specs.declared.account.Account.{Account}
 use Rattle.release_file.specs.Workload.{row_at}
 use Rattle.rtds_sim.specs.Rtds.{RtdsRun}
 use Rattle.rtds_sim.specs.Printed.{printed_below, gathered, core_of}
-use Rattle.rtds_sim.specs.Accounts.{account_at, holder_at, number_at, left_of, gone_on, switch_of, IsChoice, IsEnd}
+use Rattle.rtds_sim.specs.Accounts.{account_at, holder_at, number_at, left_of, gone_on, switch_of, AreBefore, IsChoice, IsEnd}
 use Rattle.rtds_sim.proofs.Runs.{rtds_run, rtds_run-is}
 use Rattle.rtds_sim.proofs.Keeping.{OnCore}
 use Rattle.rtds_sim.proofs.Steady.{IsNext, core_in}
 use Rattle.rtds_sim.proofs.Entering.{child_core}
 use Rattle.rtds_sim.proofs.Ready.{not_held, not_gone}
-use Rattle.rtds_sim.proofs.Visits.{next_is, visited}
+use Rattle.rtds_sim.proofs.Visits.{gives_up_at, next_is, none_blocks, visited}
 use Rattle.rtds_sim.proofs.Standing.{Visit, standing_start, standing_next, visit_rows, next_later, started_core}
 use Rattle.release_file.proofs.Rows.{ordered}
 use Rattle.rtds_sim.proofs.simulate.simulated.Goals as goal
@@ -31,6 +31,22 @@ loop-host-init c =
       ends = made.ends;
       in_slots = omega (arith, made.time);
     }
+
+-- where no row was taken, no VCPU that has a core is blocked
+pub stop_blocked-requires-clause-awake : goal.stop_blocked-requires-clause-awake
+stop_blocked-requires-clause-awake c same d l =
+    let sys = c.args.sys.now in
+    let budgets = c.args.plan.now in
+    let rows = c.args.wakes.now in
+    let runs = rtds_run sys budgets rows c.args.slots in
+    let is : RtdsRun sys budgets rows c.args.slots runs = rtds_run-is sys budgets rows c.args.slots in
+    let took = c.take_rows.ensures in
+    let host = c.take_rows.new.self in
+    let visit : Visit sys rows runs host c.loop-host.events.items = visit_rows sys c.new-host.ensures.system rows c.requires.workload runs c.loop-host.host host c.loop-host.events.items c.loop-host.invariant.stands took.time took.holders took.ready.room took.in_rows took.later took.now took.no_more took.accounts in
+    let within : host.time < c.args.slots = omega (arith, took.time, c.loop-host-test.true) in
+    let before : AreBefore rows host.taken host.time = subst (λ (k : ℕ). AreBefore rows k host.time) same (subst (AreBefore rows c.loop-host.host.taken) (sym took.time) c.loop-host.invariant.stands.before) in
+    gives_up_at sys budgets rows c.args.slots runs is host within visit.taken visit.are visit.room visit.holders_are d l
+    ∙ none_blocks sys budgets rows c.args.slots runs is host.time host.taken before visit.taken within d l
 
 pub go_on-requires-clause-ends : goal.go_on-requires-clause-ends
 go_on-requires-clause-ends c = record {

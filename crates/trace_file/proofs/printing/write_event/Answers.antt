@@ -4,7 +4,6 @@ use Rattle.csv.specs.Writing.{default_writer, row_text}
 use Rattle.trace_file.specs.Endings.{ending_text}
 use Rattle.trace_file.specs.Printing.{word_of, core_field, vcpu_field, event_row}
 use Rattle.trace_file.specs.Rules.{named}
-use Rattle.trace_file.specs.Unit.{scale}
 use Rattle.trace_file.proofs.EndingRows.{row_split}
 use Rattle.trace_file.proofs.printing.write_event.Goals as goal
 

@@ -1,4 +1,4 @@
-use Rattle.std.proofs.Common.{◌≡◌, ◌<◌, ℕ, suc, true, length, None, Some, sym, subst, ap, arith, refl}
+use Rattle.std.proofs.Common.{◌≡◌, ◌<◌, ℕ, suc, true, length, None, sym, subst, arith, refl}
 use Rattle.slot_model.proofs.FirstRuns.{none_some, same_some}
 use Rattle.rtds_sim.specs.Members.{place_at}
 use Rattle.rtds_sim.specs.Queues.{IsLeast, is_queued}

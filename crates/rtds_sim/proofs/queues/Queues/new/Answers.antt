@@ -1,4 +1,4 @@
-use Rattle.std.proofs.Common.{ℕ, length, Option, None, ap, List}
+use Rattle.std.proofs.Common.{length, Option, None, ap, List}
 use Rattle.tree_model.specs.View.{PartView}
 use Rattle.rtds_sim.specs.declared.key.Key.{Key}
 use Rattle.rtds_sim.proofs.Queueing.{alike, no_queues}

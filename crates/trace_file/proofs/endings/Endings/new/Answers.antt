@@ -1,5 +1,4 @@
-use Rattle.std.proofs.Common.{◌≡◌, ◌∙◌, ap, refl, sym, List, Option, None, get_or, ℕ}
-use Rattle.std.proofs.lemmas.Bool.{false≢true}
+use Rattle.std.proofs.Common.{◌∙◌, ap, sym, List, Option, None, get_or}
 use Rattle.trace_file.specs.declared.endings.Ending.{Ending}
 use Rattle.trace_file.proofs.EndingRows.{none_push}
 use Rattle.trace_file.proofs.endings.Endings.new.Goals as goal

@@ -1,4 +1,4 @@
-use Rattle.std.proofs.Common.{◌<◌, length, arith}
+use Rattle.std.proofs.Common.{arith}
 use Rattle.trace_file.proofs.EndingRows.{kept_more}
 use Rattle.trace_file.proofs.endings.Endings.write.Goals as goal
 
