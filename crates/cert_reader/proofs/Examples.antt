@@ -23,6 +23,11 @@ no_text : certificate_of (0xff ∷ []) ≡ Err NotJson
 unfolding serde_json_on_literals is_utf8 chars certificate_of
 no_text = refl
 
+-- {"K":1}, where K is no text
+a_key_that_is_no_text : certificate_of (123 ∷ 34 ∷ 0xff ∷ 34 ∷ 58 ∷ 49 ∷ 125 ∷ []) ≡ Err NotJson
+unfolding serde_json_on_literals is_utf8 chars certificate_of
+a_key_that_is_no_text = refl
+
 another_format : certificate_of (codes "{\"format\":2,\"nodes\":[]}") ≡ Err BadNumber
 unfolding serde_json_on_literals is_utf8 chars certificate_of
 another_format = refl
