@@ -1,11 +1,10 @@
 -- Certificates worked out by the checker: good ones, and refused ones with the fault that counts
 -- first.
-use Rattle.std.specs.Prelude.{◌≡◌, ◌-◌, ◌^◌, ℕ, codes, List, [], ◌∷◌, Ok, Err, Some, None, true, false, refl}
+use Rattle.std.specs.Prelude.{◌≡◌, ◌-◌, ◌^◌, ℕ, codes, [], ◌∷◌, Ok, Err, Some, None, true, false, refl}
 use Rattle.std.specs.Str.{is_utf8, chars}
 use Rattle.serde_json.proofs.OnLiterals.{serde_json_on_literals}
 use Rattle.serde_json.specs.Data.{Data, null, boolean, number, unsigned, string, array, object, Items, no_items, item, no_members, member}
 use Rattle.tree_model.specs.declared.place.Place.TheVariants.{Core, Part}
-use Rattle.tree_model.specs.CertificateView.{NodeView}
 use Rattle.cert_reader.specs.declared.fault.CertFault.TheVariants.{NotJson, WrongShape, BadNumber}
 use Rattle.cert_reader.specs.Document.{decimal_of, kind_named}
 use Rattle.cert_reader.specs.CertificateFile.{certificate_of, certificate_of_value}
@@ -22,6 +21,11 @@ no_json = refl
 no_text : certificate_of (0xff ∷ []) ≡ Err NotJson
 unfolding serde_json_on_literals is_utf8 chars certificate_of
 no_text = refl
+
+-- {"K":1}, where K is no text
+a_key_that_is_no_text : certificate_of (123 ∷ 34 ∷ 0xff ∷ 34 ∷ 58 ∷ 49 ∷ 125 ∷ []) ≡ Err NotJson
+unfolding serde_json_on_literals is_utf8 chars certificate_of
+a_key_that_is_no_text = refl
 
 another_format : certificate_of (codes "{\"format\":2,\"nodes\":[]}") ≡ Err BadNumber
 unfolding serde_json_on_literals is_utf8 chars certificate_of

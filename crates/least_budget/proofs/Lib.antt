@@ -7,3 +7,4 @@ mod Between
 mod ByTask
 mod CommonHit
 pub mod OneAnswer
+mod AnswerExamples

@@ -21,7 +21,7 @@ use Rattle.release_file.specs.declared.workload.Wake.{Wake}
 use Rattle.release_file.specs.ReleaseFile.{SpellsReleases}
 use Rattle.release_file.specs.WorkloadFile.{SpellsWorkload}
 use Rattle.rtds_sim.specs.Rtds.{RtdsRun}
-use Rattle.rtds_sim.specs.Fault.{AllRtds, IsFirstOther}
+use Rattle.rtds_sim.specs.Fault.{IsFirstOther}
 use Rattle.rtds_sim.specs.Giving.{AlwaysRunnable, ServersFit, GivesBudgets, NoneOver}
 use Rattle.bulk_host.specs.Host.{bulk_host}
 use Rattle.server_sched.specs.declared.supplies.Pattern.{Pattern}

@@ -1,6 +1,6 @@
 -- What RTDS gives and never gives, and when it does not run, over the host of the worked runs. A
 -- definition that says less breaks one of these.
-use Rattle.std.proofs.Common.{ℕ, ◌<◌, ◌≤◌, false, Option, None, List, [], ◌∷◌, length, refl, arith, lit<, lit≤}
+use Rattle.std.proofs.Common.{◌≡◌, ℕ, ◌<◌, ◌≤◌, true, false, Option, None, List, [], ◌∷◌, length, refl, arith, lit<, lit≤}
 use Rattle.slot_model.specs.Slots.{sum_below}
 use Rattle.tree_model.specs.View.{SystemView}
 use Rattle.trace_file.specs.declared.event.Event.{Event}
@@ -8,8 +8,10 @@ use Rattle.trace_file.specs.Periods.{IsOver}
 use Rattle.release_file.specs.declared.workload.Wake.{Wake}
 use Rattle.release_file.specs.Workload.{last_row}
 use Rattle.rtds_sim.specs.declared.fault.RtdsFault.TheVariants.{NotRtds, NoMemory}
+use Rattle.slot_model.specs.Run.{held, holds}
+use Rattle.rtds_sim.specs.Rtds.{is_rtds}
 use Rattle.rtds_sim.specs.Fault.{AllRtds, IsFirstOther, IsRtdsFault}
-use Rattle.rtds_sim.specs.Giving.{IsStartedOn, AlwaysRunnable, ServersFit, AlwaysServed, GivesBudgets, NeverOver, NoneOver}
+use Rattle.rtds_sim.specs.Giving.{slots_got, IsStartedOn, AlwaysRunnable, ServersFit, AlwaysServed, GivesBudgets, NeverOver, NoneOver}
 use Rattle.rtds_sim.proofs.Examples.{host, budgets, both_start, B}
 
 -- B has no extra time and a budget of 4 slots in 10
@@ -25,6 +27,14 @@ so_they_are_in_the_second_period : NeverOver (host false) budgets both_start (No
 unfolding sum_below last_row
 so_they_are_in_the_second_period never = let few : 5 ≤ 4 = never 1 1 (lit< tt) refl in omega arith
 
+-- the slots of a period are those of no other
+abbrev two_of_b_and_five : List (Option ℕ)
+two_of_b_and_five = B ∷ B ∷ None ∷ None ∷ None ∷ None ∷ None ∷ None ∷ None ∷ None ∷ five_of_b
+
+slots_of_each_period : (slots_got (λ x. holds (held two_of_b_and_five x) 1) 10 0 0 ≡ 2) × (slots_got (λ x. holds (held two_of_b_and_five x) 1) 10 0 1 ≡ 5) × (slots_got (λ x. holds (held two_of_b_and_five x) 1) 10 1 0 ≡ 2)
+unfolding sum_below
+slots_of_each_period = (refl, refl, refl)
+
 -- A starts on the core, which gives it none of its 3 slots in ten
 a_starts_there : IsStartedOn (host false) both_start 0 0
 unfolding last_row
@@ -38,6 +48,9 @@ no_slot_does_not_give_the_budgets gives = let some : 3 ≤ 0 = gives 0 0 a_start
 -- only where there is none
 the_faults_of_a_run : (sys : SystemView) (c : ℕ) → (IsRtdsFault sys (NotRtds c) → IsFirstOther sys c) × (IsRtdsFault sys NoMemory → AllRtds sys (length sys.cores))
 the_faults_of_a_run sys c = (λ h. h, λ h. h)
+
+before_the_first_other_core_there_is_none : (sys : SystemView) (c b : ℕ) → IsFirstOther sys c → b < c → is_rtds sys b ≡ true
+before_the_first_other_core_there_is_none sys c b other before = other.before b before
 
 -- all that is to be served, on each core
 always_served : (sys : SystemView) (budgets : List ℕ) (rows : List Wake) → ((c : ℕ) → c < length sys.cores → AlwaysRunnable sys rows c) → ((c : ℕ) → c < length sys.cores → ServersFit sys budgets c) → AlwaysServed sys budgets rows
