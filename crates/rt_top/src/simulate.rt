@@ -19,7 +19,7 @@ use crate::two_files::read_two;
 use outside::Store;
 use release_file::{ReleaseFault, read_releases};
 use rt_report::{FileFault, counts_text};
-use server_sched::{Pattern, core_supplies, span_tree};
+use server_sched::{Pattern, core_supplies, count_tree};
 use slot_model::Job;
 use std::alloc::{AllocError, Global};
 use tree_model::{Plan, System};
@@ -98,8 +98,7 @@ fn simulated(
     ensures status { IfOk result (λ a. (a.status ≡ Status.Yes) ⊎ (a.status ≡ Status.No)) }
 {
     let given = core_supplies(alloc, sys, pattern, slots.count)?;
-    let tree = span_tree(alloc, sys, plan, jobs, &given, slots.count)?;
-    let counts = tree.counts(alloc)?;
+    let counts = count_tree(alloc, sys, plan, jobs, &given, slots.count)?;
     Ok(Answer {
         status: kept_status(counts.is_kept()),
         text: counts_text(alloc, sys, &counts)?,

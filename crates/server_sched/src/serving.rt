@@ -15,7 +15,7 @@ pub struct Server {
     pub next: u64,
     /// The place of its job among all jobs.
     pub place: u64,
-    /// Of two servers that of the smaller key goes first, and of equal keys that of the smaller tie.
+    /// The server with the smaller key goes first, and of equal keys that with the smaller tie.
     pub key: u64,
     pub tie: u64,
 }

@@ -2,7 +2,9 @@ ghost use Rattle.std.specs.Prelude.{◌≡◌, ◌∷◌, [], ◌≤◌, true, l
 ghost use Rattle.tree_model.specs.Plans.{IsPlan};
 ghost use Rattle.tree_model.specs.System.{IsSystem};
 
-use crate::{Pattern, TreeCounts, TreeSpans, core_supplies, count_run, run_tree, span_tree};
+use crate::{
+    Pattern, TreeCounts, TreeSpans, core_supplies, count_run, count_tree, run_tree, span_tree,
+};
 use guest_sched::Window;
 use slot_model::{Job, Miss, Name, Sched, Task};
 use span_counts::Counts;
@@ -118,6 +120,24 @@ fn idle_tree(
     Ok(Some(span_tree(alloc, sys, plan, &jobs, &given, slots)?))
 }
 
+/// Its counts, of a run that is not kept.
+fn idle_counts(
+    alloc: Global,
+    sys: &System,
+    plan: &Plan,
+    slots: u64,
+) -> Result<Option<TreeCounts>, AllocError>
+    requires some { 1 ≤ slots }
+    requires short { slots ≤ 1000000 }
+{
+    if !is_plan(sys, plan) {
+        return Ok(None);
+    }
+    let jobs = no_jobs(alloc, sys)?;
+    let given = all_slots(alloc, sys, slots)?;
+    Ok(Some(count_tree(alloc, sys, plan, &jobs, &given, slots)?))
+}
+
 /// The same slot by slot, over 10 slots that the core of a system of one core has, and its counts.
 fn idle_run(
     alloc: Global,
@@ -166,6 +186,9 @@ fn the_second_of_two_servers_misses(rt: HostRuntime) -> Result<(), Fail> {
     assert!(rt; !counts.is_kept());
     assert_eq!(rt; counts.cores(), [core].as_slice());
     assert_eq!(rt; counts.parts(), [idle(6), idle(4)].as_slice());
+    let counts = idle_counts(alloc, &sys, &plan, 10)?.expect(&rt, "a plan");
+    assert_eq!(rt; counts.cores(), [core].as_slice());
+    assert_eq!(rt; counts.parts(), [idle(6), idle(4)].as_slice());
     let (run, counts) = idle_run(alloc, &sys, &plan)?.expect(&rt, "a plan");
     assert_eq!(rt; counts.cores(), [core].as_slice());
     assert_eq!(rt; counts.parts(), [idle(6), idle(4)].as_slice());
@@ -198,6 +221,11 @@ fn a_group_gives_to_its_children(rt: HostRuntime) -> Result<(), Fail> {
     };
     let counts = tree.counts(alloc)?;
     assert!(rt; counts.is_kept());
+    assert_eq!(rt;
+        counts.parts(),
+        [group, idle(6), idle(4), idle(4)].as_slice()
+    );
+    let counts = idle_counts(alloc, &sys, &plan, 20)?.expect(&rt, "a plan");
     assert_eq!(rt;
         counts.parts(),
         [group, idle(6), idle(4), idle(4)].as_slice()
