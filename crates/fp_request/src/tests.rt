@@ -1,9 +1,10 @@
 ghost use Rattle.std.specs.Prelude.{◌≡◌, ◌<◌, ◌≤◌, length};
 ghost use Rattle.slot_model.specs.Task.{sporadic_tasks, task_at};
 
-use crate::{Fixed, higher, request};
+use crate::{Fixed, gather, gather_above, higher, request, request_by};
 use slot_model::{Job, Order, Sched, Task};
 use std::test::Fail;
+use window_terms::Term;
 
 const OUT: &str = "out of range";
 
@@ -53,6 +54,36 @@ fn requests_with_jitter(rt: HostRuntime) -> Result<(), Fail> {
     ];
     let most = u128::MAX / 1_000_000_000 + 3;
     assert_eq!(rt; request(Sched::Listed, &long, 1, u128::MAX), Some(most));
+    Ok(())
+}
+
+#[test]
+fn requests_by_terms(rt: HostRuntime) -> Result<(), Fail> {
+    let tasks = [
+        Task::new(50, 50, 7).ok_or(OUT)?,
+        Task::with_jitter(75, 75, 9, 5).ok_or(OUT)?,
+        Task::new(200, 200, 20).ok_or(OUT)?,
+    ];
+    let mut room = [Term::none(); 3];
+    let count = gather(&tasks, &mut room);
+    let mut terms = [Term::none(); 3];
+    let above = gather_above(Sched::Rm, &tasks, &room[..count], 2, &mut terms);
+    assert!(rt; above.is_some());
+    for (t, want) in [
+        (0, 29),
+        (1, 36),
+        (50, 36),
+        (51, 43),
+        (70, 43),
+        (71, 52),
+        (10_000_000_000, 2_600_000_026),
+    ] {
+        assert_eq!(rt;
+            request_by(Sched::Rm, &tasks, 2, &terms, above, t),
+            Some(want),
+            "at {t}"
+        );
+    }
     Ok(())
 }
 

@@ -1,11 +1,11 @@
-use Rattle.std.proofs.Common.{ℕ, ◌^◌, ◌<◌, Some, None, ◌-◌, Bool, List, ap, arith}
+use Rattle.std.proofs.Common.{ℕ, ◌^◌, ◌<◌, ◌-◌, Bool, List, ap, arith}
 use Rattle.slot_model.specs.declared.task.Task.{Task}
 use Rattle.slot_model.specs.Task.{SporadicTask, AreConstrained, room_of, task_at, sporadic_tasks}
 use Rattle.slot_model.specs.Order.{ranks_above}
 use Rattle.slot_model.proofs.Constrained.{are_constrained}
 use Rattle.fp_request.proofs.Parts.{sporadic_tasks-length}
 use Rattle.fp_test.proofs.Jumps.{bound-le, passed_first, passed_more, passed_hit, passed_late, passed_wide, before_reach}
-use Rattle.fp_test.proofs.Answer.{IsAnswer, none_answer, answer_in_time, answer_late, room-is, room_fits}
+use Rattle.fp_test.proofs.Answer.{none_answer, room-is, room_fits}
 use Rattle.fp_test.proofs.hits.hit_in.Goals as goal
 
 pub returns-in_err-asked : goal.returns-in_err-asked

@@ -1,4 +1,4 @@
-use Rattle.std.proofs.Common.{◌≡◌, ℕ, ◌+◌, ◌-◌, ◌*◌, ◌/◌, ◌^◌, ◌≤◌, ap, subst, ◌∙◌, arith}
+use Rattle.std.proofs.Common.{◌≡◌, ℕ, ◌+◌, ◌*◌, ◌/◌, ◌^◌, ◌≤◌, ap, subst, ◌∙◌, arith}
 use Rattle.window_terms.specs.declared.term.Term.{Term}
 use Rattle.window_terms.specs.Asked.{IsNear}
 use Rattle.window_terms.proofs.Quotients.{near_quotient}
