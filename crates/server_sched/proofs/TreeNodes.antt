@@ -1,5 +1,5 @@
 -- The nodes of a tree, one after the other, and the first run of the tree that they spell.
-use Rattle.std.proofs.Common.{◌≡◌, ℕ, suc, ◌<◌, ◌≤◌, Bool, List, [], ◌∷◌, ◌++◌, length, get_or, sym, ◌∙◌, ap, arith, subst, inl, inr}
+use Rattle.std.proofs.Common.{◌≡◌, ℕ, suc, ◌<◌, ◌≤◌, Bool, List, [], ◌∷◌, ◌++◌, length, get_or, refl, sym, ◌∙◌, ap, arith, subst, inl, inr}
 use Rattle.std.proofs.lemmas.Bool.{cases_eq, cases_Bool}
 use Rattle.std.proofs.lemmas.List.{get_or_append_left, get_or_push, length_push, length-map, get_or-map}
 use Rattle.slot_model.specs.declared.job.Job.{Job}
@@ -40,6 +40,9 @@ run_earlier : (nodes : List NodeView) (x : NodeView) (i : ℕ) → i < length no
 run_earlier nodes x i l = run_here nodes i l ∙ (ap (λ (node : NodeView). run_of node.spans) (sym (get_or_append_left nodes (x ∷ []) nothing i l)) ∙ sym (run_here (nodes ++ x ∷ []) i (omega (arith, length_push nodes x))))
 
 -- one core more
+pub no_cores : (sys : SystemView) (budgets : List ℕ) (n : ℕ) (given : List (List Window)) → AreCoreNodes sys budgets n given 0 []
+no_cores sys budgets n given = record { long = refl; each = λ c l. absurd (omega arith) }
+
 pub one_core : (sys : SystemView) (budgets : List ℕ) (n : ℕ) (given : List (List Window)) (m : ℕ) (nodes : List NodeView) → AreCoreNodes sys budgets n given m nodes → (x : NodeView) → IsServerNode sys budgets n (Core m) (slots_of (given_at given m) n) x → AreCoreNodes sys budgets n given (suc m) (nodes ++ x ∷ [])
 one_core sys budgets n given m nodes h x new = record {
   long = omega (arith, length_push nodes x, h.long);
@@ -49,7 +52,13 @@ one_core sys budgets n given m nodes h x new = record {
   ];
 }
 
+pub cores_give : (sys : SystemView) (budgets : List ℕ) (n : ℕ) (given : List (List Window)) (nodes : List NodeView) → AreCoreNodes sys budgets n given (length sys.cores) nodes → CoresGive sys budgets n nodes
+cores_give sys budgets n given nodes h = record { long = h.long; each = λ c l. record { spans = (h.each c l).spans; shares = (h.each c l).shares } }
+
 -- one part more
+pub no_part_nodes : (sys : SystemView) (budgets : List ℕ) (n : ℕ) (jobs : List (List Job)) (cores : List NodeView) → ArePartNodes sys budgets n jobs cores 0 []
+no_part_nodes sys budgets n jobs cores = record { long = refl; each = λ c l. absurd (omega arith) }
+
 pub one_part : (sys : SystemView) (budgets : List ℕ) (n : ℕ) (jobs : List (List Job)) (cores : List NodeView) → IsSystem sys → (m : ℕ) → m < length sys.parts → (nodes : List NodeView) → ArePartNodes sys budgets n jobs cores m nodes → (x : NodeView)
     → IsPartNode sys budgets n m (jobs_at jobs m) (supply_of sys budgets n (runs_of cores) (runs_of nodes) m) x → ArePartNodes sys budgets n jobs cores (suc m) (nodes ++ x ∷ [])
 one_part sys budgets n jobs cores fits m l nodes h x new =
