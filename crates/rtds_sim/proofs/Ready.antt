@@ -19,7 +19,7 @@ use Rattle.rtds_sim.proofs.Keys.{one_way}
 use Rattle.rtds_sim.proofs.Steady.{same_quotient, lt_same}
 use Rattle.rtds_sim.specs.Keys.{comes_before, key_at, key_of_one, IsFirstKey}
 use Rattle.rtds_sim.specs.Queues.{AreQueues}
-use Rattle.rtds_sim.specs.Accounts.{no_account, account_at, holder_at, number_at, account_eligible, level_of, left_of, deadline_of, key_of, end_of, is_stale, gone_on, used_more, period_ended, IsReady}
+use Rattle.rtds_sim.specs.Accounts.{no_account, account_at, holder_at, number_at, account_eligible, left_of, deadline_of, key_of, end_of, is_stale, gone_on, used_more, period_ended, IsReady}
 
 -- one account is set
 pub account_here : (accounts : List Account) (v : ℕ) (a : Account) → v < length accounts → account_at (set accounts v a) v ≡ a
@@ -165,14 +165,6 @@ same_key a slots budget extra period some l =
   where
     key : ℕ → Key
     key g = record { level = g; deadline = deadline_of a period }
-
--- what a VCPU goes by tells its level
-pub level_told : (a : Account) (budget : ℕ) (extra : Bool) (period : ℕ) (key : Key) → key_of a budget extra period ≡ Some key → key.level ≡ level_of a budget
-level_told a budget extra period key is = told (account_eligible a budget extra) _ key is
-  where
-    told : (b : Bool) (k m : Key) → (if b then Some k else None) ≡ Some m → m.level ≡ k.level
-    told true k m e = cc e
-    told false k m e = absurd (cc e)
 
 -- and has as many slots left as before, but for those that it had
 fewer_left : (a : Account) (slots rest budget : ℕ) → 1 ≤ budget → slots < left_of a budget → rest + slots ≤ left_of a budget → rest ≤ left_of (record a { used = a.used + slots }) budget

@@ -41,9 +41,6 @@ tallies_same T jobs run late now missed (Some first) same h = record {
 }
 
 -- one job more that is late
-sooner : ℕ → ℕ → ℕ → ℕ → Type 0
-sooner d p e q = (d < e) ⊎ ((d ≡ e) × (p ≤ q))
-
 sooner_turn : (d p e q f r : ℕ) → (d < e) ⊎ ((d ≡ e) × (p ≤ q)) → (e < f) ⊎ ((e ≡ f) × (q ≤ r)) → (d < f) ⊎ ((d ≡ f) × (p ≤ r))
 sooner_turn d p e q f r h g = grind arith
 

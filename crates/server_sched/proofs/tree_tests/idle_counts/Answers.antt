@@ -1,4 +1,4 @@
-use Rattle.std.proofs.Common.{◌≡◌, List, map, sym, ◌∙◌, ap, subst, Vec, Global}
+use Rattle.std.proofs.Common.{List, map, sym, ◌∙◌, ap, subst, Vec, Global}
 use Rattle.slot_model.specs.declared.job.Job.{Job}
 use Rattle.guest_sched.specs.declared.spans.Window.{Window}
 use Rattle.tree_model.specs.Releases.{AreReleases}
