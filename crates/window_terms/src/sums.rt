@@ -8,6 +8,7 @@ use crate::term::Term;
 pub fn near(terms: &[Term], most: u64) -> u64
     ensures near { All (λ term. IsNear term result) terms.now }
     ensures within { result ≤ most }
+    ensures longest { (t : ℕ) → t ≤ most → All (λ term. IsNear term t) terms.now → t ≤ result }
 {
     let mut near = most;
     for term in terms {

@@ -15,7 +15,7 @@ pub struct Term {
 }
 
 impl Term {
-    ghost use Rattle.std.specs.Prelude.{◌+◌, IfSome};
+    ghost use Rattle.std.specs.Prelude.{◌+◌, MatchOption};
 
     /// The term that asks for nothing, with which room for terms begins.
     pub fn none() -> Term
@@ -45,7 +45,7 @@ impl Term {
 
     /// One task more, where the sum of the works fits.
     pub fn with(self, work: u64) -> Option<Term>
-        ensures { IfSome result (λ longer.
+        ensures { MatchOption result (2 ^ 64 ≤ self.work + work) (λ longer.
             (longer.period ≡ self.period) × (longer.slack ≡ self.slack)
             × (longer.work ≡ self.work + work)) }
     {

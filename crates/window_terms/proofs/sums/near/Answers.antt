@@ -16,6 +16,7 @@ pub loop-term-preserved : goal.loop-term-preserved
 loop-term-preserved c = record {
   near = λ k d l. near_next c.args.terms.now c.loop-term.term-index c.min-near.result c.term-item.result c.loop-term-test.true c.term-item.is (omega arith) (λ j e m. let before : IsNear (get_or c.args.terms.now j e) c.loop-term.near = c.loop-term.invariant.near j e m in omega arith) k d (omega arith);
   within = omega arith;
+  longest = λ t low all. let before : t ≤ c.loop-term.near = c.loop-term.invariant.longest t low all in let here : IsNear c.term-item.result t = subst (λ (x : Term). IsNear x t) (sym c.term-item.is) (all c.loop-term.term-index c.term-item.result c.loop-term-test.true) in omega (arith, before, here);
 }
 
 pub returns-clause-near : goal.returns-clause-near
