@@ -5,6 +5,9 @@ ghost use Rattle.cert_reader.specs.Text.{quoted_number};
 /// The greatest number that takes one digit more within 128 bits, whichever digit it is.
 const MOST: u128 = (u128::MAX - 9) / 10;
 
+/// The same within 64 bits.
+const MOST_SHORT: u64 = (u64::MAX - 9) / 10;
+
 /// The place behind a word that stands at a place.
 pub fn behind_word(bytes: &[u8], at: usize, word: &[u8]) -> Option<usize>
     ensures { IfSome result (λ to. Stands bytes.now at to word.now) }
@@ -62,8 +65,9 @@ fn more_digits(bytes: &[u8], at: usize, first: u8) -> Option<(u128, usize)>
     requires within { at < length bytes.now }
     ensures { IfSome result (λ p. Stands bytes.now at p.1 (decimal p.0)) }
 {
-    let mut number = first as u128;
-    let mut to = at + 1;
+    let (short, behind) = short_digits(bytes, at, first);
+    let mut number = short as u128;
+    let mut to = behind;
     while let Some(digit) = digit_at(bytes, to) {
         if number > MOST {
             return None;
@@ -72,6 +76,28 @@ fn more_digits(bytes: &[u8], at: usize, first: u8) -> Option<(u128, usize)>
         to += 1;
     }
     Some((number, to))
+}
+
+/// The number of as many digits as surely fit 64 bits, and the place behind them.
+fn short_digits(bytes: &[u8], at: usize, first: u8) -> (u64, usize)
+    requires some { 1 ≤ first }
+    requires digit { first < 10 }
+    requires here { Stands bytes.now at (at + 1) ((48 + first) ∷ []) }
+    requires within { at < length bytes.now }
+    ensures some { 1 ≤ result.0 }
+    ensures text { Stands bytes.now at result.1 (decimal result.0) }
+    ensures within { result.1 ≤ length bytes.now }
+{
+    let mut number = first as u64;
+    let mut to = at + 1;
+    while let Some(digit) = digit_at(bytes, to) {
+        if number > MOST_SHORT {
+            return (number, to);
+        }
+        number = 10 * number + digit as u64;
+        to += 1;
+    }
+    (number, to)
 }
 
 /// The same below 2^64.

@@ -1,15 +1,9 @@
-use Rattle.std.proofs.Common.{ℕ, List, ◌+◌, arith, sym, subst}
-use Rattle.std.proofs.lemmas.Fmt.{decimal_digit}
-use Rattle.cert_reader.specs.Steps.{Stands}
+use Rattle.std.proofs.Common.{arith}
 use Rattle.cert_reader.proofs.Standing.{digit_more}
 use Rattle.cert_reader.proofs.numerals.more_digits.Goals as goal
 
 pub loop-digit-init : goal.loop-digit-init
-loop-digit-init c = record {
-  some = c.requires.some;
-  stands = subst (λ (s : List ℕ). Stands c.args.bytes.now c.args.at (c.args.at + 1) s) (sym (decimal_digit c.args.first c.requires.digit)) c.requires.here;
-  within = omega (arith, c.requires.within);
-}
+loop-digit-init c = record { some = c.short_digits-short.ensures.some; stands = c.short_digits-short.ensures.text; within = c.short_digits-short.ensures.within }
 
 pub loop-digit-preserved : goal.loop-digit-preserved
 loop-digit-preserved c = record {
