@@ -3,7 +3,7 @@ ghost use Rattle.cert_reader.specs.CertificateFile.{certificate_of};
 ghost use Rattle.cert_reader.specs.Printed.{certificate_text, place_number, AreBelow, IsBelow, IsInRange, AreInRange};
 ghost use Rattle.cert_reader.specs.Text.{behind, listed, quoted_number, witness_text, flag_text, place_text, node_text};
 
-use itoa::Buffer;
+use itoa::{Buffer, write_digits};
 use std::alloc::{AllocError, Global};
 use tree_model::{Certificate, Node, Place};
 
@@ -40,7 +40,7 @@ impl Listed for u64 {
     ghost in_range = { λ n. n < 2 ^ 64 };
 
     fn write(&self, text: &mut Vec<u8>) -> Result<(), AllocError> {
-        write_number(text, *self as u128)
+        write_number(text, *self)
     }
 }
 
@@ -93,7 +93,7 @@ fn write_node(text: &mut Vec<u8>, node: &Node) -> Result<(), AllocError>
 {
     let (budget, period) = (node.budget, node.period);
     text.extend_from_slice(b"{\"budget\":")?;
-    write_number(text, budget as u128)?;
+    write_number(text, budget)?;
     text.extend_from_slice(b",\"computed\":")?;
     text.extend_from_slice(flag(node.computed))?;
     text.extend_from_slice(b",\"falls\":[")?;
@@ -133,9 +133,9 @@ fn write_kind(text: &mut Vec<u8>, kind: &[u8], period: u64, place: u32) -> Resul
 {
     text.extend_from_slice(kind)?;
     text.extend_from_slice(b"\",\"period\":")?;
-    write_number(text, period as u128)?;
+    write_number(text, period)?;
     text.extend_from_slice(b",\"place\":")?;
-    write_number(text, place as u128)
+    write_number(text, place as u64)
 }
 
 fn write_witness(text: &mut Vec<u8>, witness: Option<u128>) -> Result<(), AllocError>
@@ -151,13 +151,26 @@ fn write_witness(text: &mut Vec<u8>, witness: Option<u128>) -> Result<(), AllocE
 fn write_quoted(text: &mut Vec<u8>, number: u128) -> Result<(), AllocError>
     ensures { OnOk result (text.new.items ≡ text.old.items ++ quoted_number number) }
 {
+    if number <= u64::MAX as u128 {
+        return write_short(text, number as u64);
+    }
+    let mut digits = Buffer::new();
     text.push(b'"')?;
-    write_number(text, number)?;
+    text.extend_from_slice(digits.format(number).as_bytes())?;
     text.push(b'"')?;
     Ok(())
 }
 
-fn write_number(text: &mut Vec<u8>, number: u128) -> Result<(), AllocError>
+/// The same of a number of at most 20 digits, at once.
+fn write_short(text: &mut Vec<u8>, number: u64) -> Result<(), AllocError>
+    ensures { OnOk result (text.new.items ≡ text.old.items ++ quoted_number number) }
+{
+    let mut quoted = [b'"'; 22];
+    let start = write_digits(number, &mut quoted, 21);
+    text.extend_from_slice(&quoted[start - 1..])
+}
+
+fn write_number(text: &mut Vec<u8>, number: u64) -> Result<(), AllocError>
     ensures { OnOk result (text.new.items ≡ text.old.items ++ decimal number) }
 {
     let mut digits = Buffer::new();
