@@ -3,3 +3,4 @@ pub mod Nodes
 pub mod Hits
 pub mod Listing
 pub mod OneCertificate
+mod Quotes
