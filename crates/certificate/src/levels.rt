@@ -43,8 +43,10 @@ fn points_of<S: Supply>(alloc: Global, tasks: &[Task], s: &S) -> Result<Vec<u128
         IfOk result (λ points. IsBackwardCover T (S.bound s.now) (S.cycle_of s.now) points.items) }
 {
     let h = horizon(tasks, s.cycle()).unwrap();
-    let points = cover(alloc, tasks, s, h)?;
-    Ok(points.unwrap())
+    let mut points = cover(alloc, tasks, s, h)?.unwrap();
+    // the text of all points finds room in what the lists do not use
+    points.shrink_to_fit();
+    Ok(points)
 }
 
 /// The least hit of each task.
