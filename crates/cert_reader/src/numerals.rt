@@ -5,8 +5,8 @@ ghost use Rattle.cert_reader.specs.Text.{quoted_number};
 /// The greatest number that takes one digit more within 128 bits, whichever digit it is.
 const MOST: u128 = (u128::MAX - 9) / 10;
 
-/// The same within 64 bits.
-const MOST_SHORT: u64 = (u64::MAX - 9) / 10;
+/// So many digits fit 64 bits.
+const SHORT: usize = 19;
 
 /// The place behind a word that stands at a place.
 pub fn behind_word(bytes: &[u8], at: usize, word: &[u8]) -> Option<usize>
@@ -78,7 +78,9 @@ fn more_digits(bytes: &[u8], at: usize, first: u8) -> Option<(u128, usize)>
     Some((number, to))
 }
 
-/// The number of as many digits as surely fit 64 bits, and the place behind them.
+/// The number of as many digits as surely fit 64 bits, and the place behind them. It stands apart,
+/// so that the loop keeps all that it needs in registers.
+#[inline(never)]
 fn short_digits(bytes: &[u8], at: usize, first: u8) -> (u64, usize)
     requires some { 1 ≤ first }
     requires digit { first < 10 }
@@ -88,12 +90,13 @@ fn short_digits(bytes: &[u8], at: usize, first: u8) -> (u64, usize)
     ensures text { Stands bytes.now at result.1 (decimal result.0) }
     ensures within { result.1 ≤ length bytes.now }
 {
+    let end = bytes.len().min(at + SHORT);
     let mut number = first as u64;
     let mut to = at + 1;
-    while let Some(digit) = digit_at(bytes, to) {
-        if number > MOST_SHORT {
+    while to < end {
+        let Some(digit) = digit_at(bytes, to) else {
             return (number, to);
-        }
+        };
         number = 10 * number + digit as u64;
         to += 1;
     }

@@ -1,19 +1,40 @@
-use Rattle.std.proofs.Common.{ℕ, List, ◌+◌, arith, sym, subst}
+use Rattle.std.proofs.Common.{◌≡◌, ℕ, suc, ◌+◌, ◌-◌, ◌*◌, ◌≤◌, ◌<◌, ◌^◌, List, arith, sym, subst}
 use Rattle.std.proofs.lemmas.Fmt.{decimal_digit}
 use Rattle.cert_reader.specs.Steps.{Stands}
-use Rattle.cert_reader.proofs.Standing.{digit_more}
+use Rattle.cert_reader.proofs.Standing.{digit_more, more_below, more_fits}
 use Rattle.cert_reader.proofs.numerals.short_digits.Goals as goal
 
-pub loop-digit-init : goal.loop-digit-init
-loop-digit-init c = record {
-  some = c.requires.some;
-  stands = subst (λ (s : List ℕ). Stands c.args.bytes.now c.args.at (c.args.at + 1) s) (sym (decimal_digit c.args.first c.requires.digit)) c.requires.here;
-  within = omega (arith, c.requires.within);
-}
+pub loop-to-init : goal.loop-to-init
+loop-to-init c =
+    let one : c.args.at + 1 - c.args.at ≡ 1 = omega arith in
+    record {
+      some = c.requires.some;
+      stands = subst (λ (s : List ℕ). Stands c.args.bytes.now c.args.at (c.args.at + 1) s) (sym (decimal_digit c.args.first c.requires.digit)) c.requires.here;
+      within = omega (arith, c.requires.within);
+      ahead = omega arith;
+      below = subst (λ (k : ℕ). c.args.first < 10 ^ k) (sym one) c.requires.digit;
+    }
 
-pub loop-digit-preserved : goal.loop-digit-preserved
-loop-digit-preserved c = record {
-  some = omega (arith, c.loop-digit.invariant.some);
-  stands = digit_more c.args.bytes.now c.args.at c.loop-digit.to c.loop-digit.number c.in-Some.digit c.loop-digit.invariant.some c.in-Some.ensures.digit (omega (arith, c.if-number-gt-MOST_SHORT.false, c.in-Some.ensures.digit)) c.loop-digit.invariant.stands c.in-Some.ensures.text;
-  within = omega (arith, c.in-Some.ensures.within);
-}
+pub overflow_mul-number : goal.overflow_mul-number
+overflow_mul-number c =
+    let few : c.loop-to.to - c.args.at ≤ 18 = omega (arith, c.loop-to-test.true, c.min-end.ensures) in
+    omega (arith, more_fits c.loop-to.number c.in-Some.digit (c.loop-to.to - c.args.at) c.loop-to.invariant.below c.in-Some.ensures.digit few)
+
+pub overflow_add-number : goal.overflow_add-number
+overflow_add-number c =
+    let few : c.loop-to.to - c.args.at ≤ 18 = omega (arith, c.loop-to-test.true, c.min-end.ensures) in
+    omega (arith, more_fits c.loop-to.number c.in-Some.digit (c.loop-to.to - c.args.at) c.loop-to.invariant.below c.in-Some.ensures.digit few)
+
+pub loop-to-preserved : goal.loop-to-preserved
+loop-to-preserved c =
+    let number : ℕ = c.loop-to.number in
+    let k : ℕ = c.loop-to.to - c.args.at in
+    let few : k ≤ 18 = omega (arith, c.loop-to-test.true, c.min-end.ensures) in
+    let next : suc k ≡ c.loop-to.to + 1 - c.args.at = omega (arith, c.loop-to.invariant.ahead) in
+    record {
+      some = omega (arith, c.loop-to.invariant.some);
+      stands = digit_more c.args.bytes.now c.args.at c.loop-to.to number c.in-Some.digit c.loop-to.invariant.some c.in-Some.ensures.digit (omega (arith, more_fits number c.in-Some.digit k c.loop-to.invariant.below c.in-Some.ensures.digit few)) c.loop-to.invariant.stands c.in-Some.ensures.text;
+      within = omega (arith, c.in-Some.ensures.within);
+      ahead = omega (arith, c.loop-to.invariant.ahead);
+      below = subst (λ (j : ℕ). 10 * number + c.in-Some.digit < 10 ^ j) next (more_below number c.in-Some.digit k c.loop-to.invariant.below c.in-Some.ensures.digit);
+    }
