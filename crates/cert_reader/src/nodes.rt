@@ -8,9 +8,11 @@ ghost use Rattle.cert_reader.specs.declared.flaw.Flaw.{Flaw as AnyFlaw};
 
 use crate::Flaw;
 use crate::claims::check_claims;
+use crate::rooms::Rooms;
 use slot_model::Task;
 use supply_bound::{Full, Periodic};
 use tree_model::{Certificate, MAX_PARTS, Node, Place, System, tasks_of};
+use window_terms::Term;
 
 /// Whether the certificate proves that the system is admitted under its budgets, or its first flaw.
 /// It trusts nothing that the certificate says, and takes no memory.
@@ -118,14 +120,24 @@ fn check_nodes(sys: &System, budgets: &[u64], nodes: &[Node]) -> Result<(), Flaw
         FirstNode nodes.now (NodeProves sys.now budgets.now) (NodeFails sys.now budgets.now flaw)) }
 {
     let mut room = [Task::least(); MAX_PARTS];
+    let mut rooms = Rooms {
+        all: [Term::none(); MAX_PARTS],
+        above: [Term::none(); MAX_PARTS],
+    };
     for node in nodes {
-        check_node(sys, budgets, node, &mut room)?;
+        check_node(sys, budgets, node, &mut room, &mut rooms)?;
     }
     Ok(())
 }
 
-/// Checks what one node claims. `room` is for its tasks.
-fn check_node(sys: &System, budgets: &[u64], node: &Node, room: &mut [Task]) -> Result<(), Flaw>
+/// Checks what one node claims. `room` is for its tasks, and `rooms` for their terms.
+fn check_node(
+    sys: &System,
+    budgets: &[u64],
+    node: &Node,
+    room: &mut [Task],
+    rooms: &mut Rooms,
+) -> Result<(), Flaw>
     requires is_node { IsNode sys.now node.now.place }
     requires has { HasBudget sys.now node.now }
     requires one_each { length budgets.now ≡ length sys.now.parts }
@@ -143,14 +155,15 @@ fn check_node(sys: &System, budgets: &[u64], node: &Node, room: &mut [Task]) -> 
                 period: part.period(),
                 budget: budgets[q as usize],
             };
-            check_claims(part.sched(), tasks, &supply, node)
+            check_claims(rooms, part.sched(), tasks, &supply, node)
         }
         Place::Core(c) => {
             let core = &sys.cores()[c as usize];
             match core.supply {
-                None => check_claims(core.sched, tasks, &Full, node),
+                None => check_claims(rooms, core.sched, tasks, &Full, node),
                 Some((period, budget)) => {
-                    check_claims(core.sched, tasks, &Periodic { period, budget }, node)
+                    let supply = Periodic { period, budget };
+                    check_claims(rooms, core.sched, tasks, &supply, node)
                 }
             }
         }

@@ -1,19 +1,25 @@
-ghost use Rattle.std.specs.Prelude.{◌≡◌, ◌≢◌, ◌↔◌, ◌-◌, ◌<◌, ◌≤◌, IsTrue, length};
+ghost use Rattle.std.specs.Prelude.{◌≡◌, ◌≢◌, ◌↔◌, ◌-◌, ◌<◌, ◌≤◌, IsTrue, length, IfSome};
 ghost use Rattle.slot_model.specs.Task.{sporadic_tasks};
 ghost use Rattle.slot_model.specs.Order.{ranks_above};
 ghost use Rattle.slot_model.specs.Bound.{dbf, rbf, IsHit};
 ghost use Rattle.slot_model.specs.Points.{IsCover, IsChain};
 ghost use Rattle.edf_demand.specs.Terms.{IsGathered};
+ghost use Rattle.fp_request.specs.Terms.{AreTerms, IsAbove};
 
 use edf_demand::{Gathered, demand, demand_by, gather};
-use fp_request::request;
+use fp_request::{Above, gather_above, request_by};
 use slot_model::{Sched, Task};
 use supply_bound::Supply;
-use tree_model::MAX_PARTS;
 use window_terms::Term;
 
-/// Whether the points are a cover of all windows up to `h`.
-pub fn is_cover<S: Supply>(tasks: &[Task], s: &S, h: u128, points: &[u128]) -> bool
+/// Whether the points are a cover of all windows up to `h`. `room` is for the tasks' terms.
+pub fn is_cover<S: Supply>(
+    room: &mut [Term],
+    tasks: &[Task],
+    s: &S,
+    h: u128,
+    points: &[u128],
+) -> bool
     ensures { IsTrue result ↔ IsCover (sporadic_tasks tasks.now) (S.bound s.now) h points.now }
 {
     if points.is_empty() || points[0] < 1 {
@@ -22,10 +28,9 @@ pub fn is_cover<S: Supply>(tasks: &[Task], s: &S, h: u128, points: &[u128]) -> b
     if !asks_nothing(tasks, points[0] - 1) {
         return false;
     }
-    let mut terms = [Term::none(); MAX_PARTS];
-    let gathered = gather(tasks, &mut terms);
+    let gathered = gather(tasks, room);
     for j in 0..points.len() - 1 {
-        if !covers(tasks, &terms, gathered, s, points[j], points[j + 1]) {
+        if !covers(tasks, room, gathered, s, points[j], points[j + 1]) {
             return false;
         }
     }
@@ -64,10 +69,20 @@ fn covers<S: Supply>(
     }
 }
 
-/// Whether the falls are a chain for task `i`, so that it has no hit.
-pub fn is_chain<S: Supply>(sched: Sched, tasks: &[Task], i: u32, s: &S, falls: &[u64]) -> bool
+/// Whether the falls are a chain for task `i`, so that it has no hit. The terms were gathered of
+/// the tasks, and `room` is for those of the tasks that rank above.
+pub fn is_chain<S: Supply>(
+    room: &mut [Term],
+    sched: Sched,
+    tasks: &[Task],
+    terms: &[Term],
+    i: u32,
+    s: &S,
+    falls: &[u64],
+) -> bool
     requires fixed { sched ≢ Sched.Edf }
     requires i_named { i < length tasks.now }
+    requires terms { AreTerms terms.now tasks.now }
     ensures { let T = sporadic_tasks tasks.now in
         IsTrue result ↔ IsChain (ranks_above sched T) T (S.bound s.now) i falls.now }
 {
@@ -76,8 +91,9 @@ pub fn is_chain<S: Supply>(sched: Sched, tasks: &[Task], i: u32, s: &S, falls: &
     if falls.is_empty() || falls[0] != 1 {
         return false;
     }
+    let above = gather_above(sched, tasks, terms, i, room);
     for j in 0..falls.len() - 1 {
-        if !falls_short(sched, tasks, i, s, falls[j], falls[j + 1]) {
+        if !falls_short(sched, tasks, i, room, above, s, falls[j], falls[j + 1]) {
             return false;
         }
     }
@@ -85,10 +101,21 @@ pub fn is_chain<S: Supply>(sched: Sched, tasks: &[Task], i: u32, s: &S, falls: &
 }
 
 /// Whether what is requested for task `i` at a point is more than the supply gives in every window
-/// below the next.
-fn falls_short<S: Supply>(sched: Sched, tasks: &[Task], i: u32, s: &S, from: u64, to: u64) -> bool
+/// below the next. The terms were gathered of the tasks that rank above.
+fn falls_short<S: Supply>(
+    sched: Sched,
+    tasks: &[Task],
+    i: u32,
+    terms: &[Term],
+    above: Option<Above>,
+    s: &S,
+    from: u64,
+    to: u64,
+) -> bool
     requires fixed { sched ≢ Sched.Edf }
     requires i_named { i < length tasks.now }
+    requires gathered { let T = sporadic_tasks tasks.now in
+        IfSome above (λ a. IsAbove (ranks_above sched T) T i a terms.now) }
     ensures { let T = sporadic_tasks tasks.now in
         IsTrue result ↔
         ((from < to) × (S.bound s.now (to - 1) < rbf (ranks_above sched T) T i from)) }
@@ -97,17 +124,27 @@ fn falls_short<S: Supply>(sched: Sched, tasks: &[Task], i: u32, s: &S, from: u64
         return false;
     }
     let given = s.least(to as u128 - 1);
-    match request(sched, tasks, i, from as u128) {
+    match request_by(sched, tasks, i, terms, above, from as u128) {
         Some(asked) => given < asked,
         None => true,
     }
 }
 
 /// Whether a window is a hit of task `i`: within what its deadline leaves past its jitter, and
-/// enough for all that is requested there.
-pub fn is_hit<S: Supply>(sched: Sched, tasks: &[Task], i: u32, s: &S, t: u64) -> bool
+/// enough for all that is requested there. The terms were gathered of the tasks, and `room` is for
+/// those of the tasks that rank above.
+pub fn is_hit<S: Supply>(
+    room: &mut [Term],
+    sched: Sched,
+    tasks: &[Task],
+    terms: &[Term],
+    i: u32,
+    s: &S,
+    t: u64,
+) -> bool
     requires fixed { sched ≢ Sched.Edf }
     requires i_named { i < length tasks.now }
+    requires terms { AreTerms terms.now tasks.now }
     ensures { let T = sporadic_tasks tasks.now in
         IsTrue result ↔ IsHit (ranks_above sched T) T (S.bound s.now) i t }
 {
@@ -116,7 +153,8 @@ pub fn is_hit<S: Supply>(sched: Sched, tasks: &[Task], i: u32, s: &S, t: u64) ->
         return false;
     }
     let given = s.least(t as u128);
-    match request(sched, tasks, i, t as u128) {
+    let above = gather_above(sched, tasks, terms, i, room);
+    match request_by(sched, tasks, i, room, above, t as u128) {
         Some(asked) => asked <= given,
         None => false,
     }
