@@ -1,4 +1,4 @@
-use Rattle.std.proofs.Common.{◌≡◌, ℕ, List, ◌-◌, take, drop, length, sym, rules, arith}
+use Rattle.std.proofs.Common.{◌≡◌, ℕ, List, ◌-◌, take, drop, sym, rules, arith}
 use Rattle.std.proofs.lemmas.Fmt.{length-decimal-le}
 use Rattle.cert_reader.specs.Text.{quoted_number}
 use Rattle.certificate.proofs.Quotes.{from_the_quote}
