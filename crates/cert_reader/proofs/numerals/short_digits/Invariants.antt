@@ -1,4 +1,4 @@
-use Rattle.std.proofs.Common.{ℕ, ◌≤◌, ◌<◌, ◌-◌, ◌^◌, length, decimal}
+use Rattle.std.proofs.Common.{◌≤◌, ◌<◌, ◌-◌, ◌^◌, length, decimal}
 use Rattle.cert_reader.specs.Steps.{Stands}
 use Rattle.cert_reader.proofs.numerals.short_digits.Given as goal
 
