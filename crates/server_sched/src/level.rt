@@ -4,9 +4,9 @@ ghost use Rattle.slot_model.specs.declared.sched.Sched.{Sched as AnySched};
 ghost use Rattle.slot_model.specs.Task.{SporadicTask, AreConstrained, sporadic_tasks};
 ghost use Rattle.slot_model.specs.Release.{synchronous};
 ghost use Rattle.server_sched.specs.Shares.{share_at};
-ghost use Rattle.server_sched.specs.Serving.{AreServerTasks, IsUnderway};
+ghost use Rattle.server_sched.specs.Serving.{AreServerTasks, IsChosen, IsUnderway};
 
-use crate::serving::{Come, Server, choose, renew};
+use crate::serving::{Come, Server, choose, first_after, renew};
 use crate::tally::{Tally, close};
 use guest_sched::{Window, add_window};
 use slot_model::{Sched, Task};
@@ -22,6 +22,8 @@ pub struct Level {
     /// How many jobs have come, and before when no further one does.
     pub come: Come,
     pub servers: Vec<Server>,
+    /// The server that goes first, where the job of one lacks slots.
+    pub best: Option<usize>,
     /// The windows that each child gets.
     pub shares: Vec<Vec<Window>>,
     /// The late jobs among those that are due before the next one comes.
@@ -57,6 +59,7 @@ impl Level {
             self.time,
             self.come.released,
         );
+        self.best = choose(&self.servers);
     }
 
     /// Gives slots up to `until` to the server that goes first, as far as its job lacks them and no
@@ -64,6 +67,7 @@ impl Level {
     pub fn step(&mut self, until: u64) -> Result<(), AllocError>
         requires later { self.old.time < until }
         requires before_next { self.old.time < self.old.come.next }
+        requires chosen { IsChosen self.old.servers.items self.old.best }
         requires one_each { length self.old.shares.items ≡ length self.old.servers.items }
         requires fit { (k : ℕ) → k < length self.old.shares.items →
             AreWindows (share_at (map (λ s. s.items) self.old.shares.items) k) self.old.time }
@@ -77,7 +81,7 @@ impl Level {
             OnOk result (IsUnderway sched tasks slots self.new) }
     {
         let until = until.min(self.come.next);
-        match choose(&self.servers) {
+        match self.best {
             None => {
                 self.time = until;
             }
@@ -86,6 +90,7 @@ impl Level {
                 let end = self.time + given;
                 add_window(&mut self.shares[best], self.time, end)?;
                 self.servers[best].left -= given;
+                self.best = first_after(&self.servers, best);
                 self.time = end;
             }
         }
@@ -119,6 +124,7 @@ impl Level {
                 next: 0,
             },
             servers,
+            best: None,
             shares,
             tally: Tally {
                 missed: 0,

@@ -13,4 +13,4 @@ returns-clause-state c = λ sched given.
     begun sched T given _ refl refl
     (c.in_ok-servers.ensures.items_if_clones_equal (λ y e. e) ∙ ap (λ (n : ℕ). replicate n no_server) (sym long))
     (c.loop.invariant ∙ ap (λ (n : ℕ). replicate {A = List Window} n []) (let e : c.loop.counter ≡ length T = omega (arith, c.loop-test.false, c.loop.auto.counter-end, long) in e))
-    refl
+    refl refl
