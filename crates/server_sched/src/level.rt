@@ -51,7 +51,7 @@ impl Level {
         if self.come.next != self.time {
             return;
         }
-        self.tally = close(self.tally, &self.servers, tasks, self.time);
+        self.tally = close(self.tally, self.best, &self.servers, tasks, self.time);
         self.come = renew(
             &mut self.servers,
             tasks,

@@ -27,7 +27,7 @@ returns-clause-run c = λ slots m h.
     let jobs = synchronous T 0 level.slots in
     let rest : AtRest c.args.sched T level.slots h.run level.time level.come.released level.time level.servers.items = subst (λ (z : ℕ). AtRest c.args.sched T level.slots h.run level.time level.come.released z level.servers.items) e h.rest in
     let tallied : Tallies T jobs h.run (is_late T jobs h.run level.time 0) level.tally.missed level.tally.first = subst (λ (z : ℕ). Tallies T jobs h.run (is_late T jobs h.run z 0) level.tally.missed level.tally.first) e h.tallied in
-    let closed = c.close-self.ensures c.args.sched level.slots h.run level.come.released (omega (arith, m)) (subst (λ (s : List Server). AtRest c.args.sched T level.slots h.run level.time level.come.released level.time s) (sym c.deref.ensures.value) rest) tallied in
+    let closed = c.close-self.ensures c.args.sched level.slots h.run level.come.released (omega (arith, m)) (subst (λ (s : List Server). IsChosen s level.best) (sym c.deref.ensures.value) h.chosen) (subst (λ (s : List Server). AtRest c.args.sched T level.slots h.run level.time level.come.released level.time s) (sym c.deref.ensures.value) rest) tallied in
     let now = renewed c slots e m h in
     record {
       run = h.run;
