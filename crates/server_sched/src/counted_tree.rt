@@ -73,7 +73,15 @@ pub fn count_tree(
 {
     let mut room = room_for_tasks(alloc)?;
     let mut cores = cores_kept(alloc, sys, plan.budgets(), given, slots, &mut room)?;
-    let parts = parts_kept(alloc, sys, plan.budgets(), jobs, &mut cores, slots, &mut room)?;
+    let parts = parts_kept(
+        alloc,
+        sys,
+        plan.budgets(),
+        jobs,
+        &mut cores,
+        slots,
+        &mut room,
+    )?;
     Ok(TreeCounts {
         cores: counts_kept(alloc, &cores)?,
         parts: counts_kept(alloc, &parts)?,

@@ -12,6 +12,9 @@ use guest_sched::{Window, add_window};
 use slot_model::{Sched, Task};
 use std::alloc::{AllocError, Global};
 
+/// A child's list has room for no more windows than these to begin with, 2 MiB.
+const MOST_ROOM: u64 = 131_072;
+
 /// A level of servers between two events.
 #[derive(Drop)]
 pub struct Level {
@@ -97,8 +100,13 @@ impl Level {
         Ok(())
     }
 
-    /// Before the first slot.
-    pub fn new(alloc: Global, tasks: &[Task], slots: u64) -> Result<Level, AllocError>
+    /// Before the first slot. `windows` is how many the level has.
+    pub fn new(
+        alloc: Global,
+        tasks: &[Task],
+        windows: usize,
+        slots: u64,
+    ) -> Result<Level, AllocError>
         ensures slots { IfOk result (λ level. level.slots ≡ slots) }
         ensures time { IfOk result (λ level. level.time ≡ 0) }
         ensures state { (sched : AnySched) (given : List Bool) →
@@ -113,8 +121,9 @@ impl Level {
         };
         let servers = vec![in alloc; none; tasks.len()]?;
         let mut shares = Vec::with_capacity(alloc, tasks.len())?;
-        for _ in 0..tasks.len() {
-            shares.push(Vec::new(alloc))?;
+        for task in tasks {
+            let room = first_room(*task, windows / tasks.len(), slots);
+            shares.push(Vec::with_capacity(alloc, room)?)?;
         }
         Ok(Level {
             slots,
@@ -200,4 +209,13 @@ fn begin_of(given: &[Window], at: usize, end: u64) -> u64
     } else {
         end
     }
+}
+
+/// For how many windows a child's list has room to begin with: one for each of its periods, and as
+/// many as there are to cut its slots. The list grows where it gets more.
+fn first_room(task: Task, cuts: usize, slots: u64) -> usize
+    ensures { result ≤ 131072 }
+{
+    let periods = slots.div_ceil(task.period);
+    periods.saturating_add(cuts as u64).min(MOST_ROOM) as usize
 }
