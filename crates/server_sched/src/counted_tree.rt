@@ -12,6 +12,7 @@ ghost use Rattle.server_sched.specs.TreeSpans.{AreSupplies, AreFewJobs, supplies
 ghost use Rattle.server_sched.specs.CountedTree.{kept_of, IsServerKept, IsLeafKept, IsPartKept, AreCoresKept, ArePartsRun, AreFirstCounts, counts_kept, kept_in, taken, cores_after, parts_after, HasKeptShare, HasCores};
 
 use crate::TreeCounts;
+use crate::level::MOST_ROOM;
 use crate::node::NodeSpans;
 use crate::served::serve_level;
 use crate::tree::{leaf_node, rank_of, room_for_tasks, sched_of};
@@ -71,6 +72,9 @@ pub fn count_tree(
         IfOk result (λ counts. AreFirstCounts sys.now plan.now slots supplies
         (map (λ j. j.items) jobs.now) counts) }
 {
+    // The C library keeps what is let go for the next list where it is no larger than a block that
+    // was let go before; what is larger it has anew each time, page by page.
+    drop(Vec::<Window>::with_capacity(alloc, MOST_ROOM as usize));
     let mut room = room_for_tasks(alloc)?;
     let mut cores = cores_kept(alloc, sys, plan.budgets(), given, slots, &mut room)?;
     let parts = parts_kept(

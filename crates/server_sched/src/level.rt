@@ -13,7 +13,7 @@ use slot_model::{Sched, Task};
 use std::alloc::{AllocError, Global};
 
 /// A child's list has room for no more windows than these to begin with, 2 MiB.
-const MOST_ROOM: u64 = 131_072;
+pub const MOST_ROOM: u64 = 131_072;
 
 /// A level of servers between two events.
 #[derive(Drop)]
