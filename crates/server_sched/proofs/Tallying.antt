@@ -1,5 +1,5 @@
 -- The late jobs of a level of servers, as the run goes on and as each is found.
-use Rattle.std.proofs.Common.{◌≡◌, ◌≢◌, ◌⊎◌, ℕ, zero, suc, ◌+◌, ◌-◌, ◌<◌, ◌≤◌, ◌&&◌, ◌||◌, nat_lt, nat_le, min, Bool, true, false, cond, List, ◌++◌, length, get_or, Option, Some, None, MatchOption, IfSome, eqb, ltb, refl, sym, ◌∙◌, ap, arith, subst, inl, inr, lt-ltb, le-ltb, le-leb, eq-eqb, ne_eqb}
+use Rattle.std.proofs.Common.{◌≡◌, ◌≢◌, ◌⊎◌, ℕ, zero, suc, ◌+◌, ◌-◌, ◌<◌, ◌≤◌, ◌&&◌, ◌||◌, nat_lt, nat_le, min, Bool, true, false, cond, List, ◌++◌, length, get_or, Option, Some, None, MatchOption, IfSome, eqb, ltb, refl, sym, ◌∙◌, ap, arith, subst, inl, inr, lt-ltb, le-ltb, le-leb, eq-eqb, ne_eqb, add-one}
 use Rattle.std.proofs.lemmas.Bool.{cases_eq, cases_lt, both_ways, and_parts, and_from, or_left, or_right, cond-true, cond-false, lt-leb}
 use Rattle.std.proofs.lemmas.List.{get_or_append_left}
 use Rattle.slot_model.specs.declared.job.Job.{Job}
@@ -195,6 +195,14 @@ one_late sched T fits are n run x released servers m h i missed first found new 
     (λ k l ne. same_late (deadline_of T (job_at jobs k)) x (job_at jobs k).task i (nat_lt (service run k (deadline_of T (job_at jobs k))) (job_at jobs k).work)
     (λ d q. absurd (ne (sym (due_now sched T fits are n run x released servers m h k l d).there ∙ ap (λ (z : ℕ). (server_at servers z).place) q))))
     place told e t
+
+-- where no job lacks slots, all are
+pub all_in_time : (sched : Sched) (T : List SporadicTask) → AreConstrained T → AreServerTasks T → (n : ℕ) (run : List (Option ℕ)) (x released : ℕ) (servers : List Server) → x ≤ n → AtRest sched T n run x released x servers → ((i : ℕ) → i < length servers → (server_at servers i).left ≡ 0) → (missed : ℕ) (first : Option Late) (p : ℕ) → p ≤ length T
+    → Tallies T (synchronous T 0 n) run (is_late T (synchronous T 0 n) run x 0) missed first → Tallies T (synchronous T 0 n) run (is_late T (synchronous T 0 n) run x p) missed first
+all_in_time sched T fits are n run x released servers m h none missed first zero l t = t
+all_in_time sched T fits are n run x released servers m h none missed first (suc p) l t =
+    subst (λ (q : ℕ). Tallies T (synchronous T 0 n) run (is_late T (synchronous T 0 n) run x q) missed first) (add-one p)
+    (one_in_time sched T fits are n run x released servers m h p missed first (λ e. none p (omega (arith, l, h.one_each))) (all_in_time sched T fits are n run x released servers m h none missed first p (omega arith) t))
 
 -- after the last server, up to the next release
 by_now : (d x t p : ℕ) → t < p → d ≤ x → (ltb d x || (eqb d x && ltb t p)) ≡ true

@@ -70,6 +70,7 @@ idle_on sched T fits are slots level new h k u v e first = subst (IsUnderway sch
   first = first;
   in_slots = v;
   rest = rest_idle sched T level.slots h.run level.time level.come.released level.come.next level.servers.items h.first.long h.rest k u;
+  chosen = h.chosen;
   shares = from_shared (synchronous T 0 level.slots) (h.run ++ replicate k None) (level.time + k) (length T) (lists level)
       (idle_shared (synchronous T 0 level.slots) (h.run ++ replicate k None) level.time (level.time + k) (length T) (lists level) (to_shared (synchronous T 0 level.slots) h.run (replicate k None) level.time (length T) (lists level) h.first.long h.shares) (omega arith) (holds_more h.run level.time k None h.first.long));
   tallied = tallies_longer sched T fits are level.slots h.run level.time level.come.released level.come.next level.servers.items h.first.long h.rest (replicate k None) level.tally.missed level.tally.first h.tallied;
@@ -95,15 +96,15 @@ Parts sched T slots new later n =
     × AreSharesTo (synchronous T 0 n) later new.time (length T) (map (λ (s : Vec Window Global). s.items) new.shares.items)
     × Tallies T (synchronous T 0 n) later (is_late T (synchronous T 0 n) later new.come.next 0) new.tally.missed new.tally.first
 
-of_parts : (sched : Sched) (T : List SporadicTask) (slots : List Bool) (new : Level) (later : List (Option ℕ)) (n : ℕ) → n ≡ new.slots → Parts sched T slots new later n → IsUnderway sched T slots new
-of_parts sched T slots new later n e h = let p : Parts sched T slots new later new.slots = subst (Parts sched T slots new later) e h in record { run = later; first = p.0; in_slots = p.1; rest = p.2; shares = p.3; tallied = p.4 }
+of_parts : (sched : Sched) (T : List SporadicTask) (slots : List Bool) (new : Level) (later : List (Option ℕ)) (n : ℕ) → n ≡ new.slots → IsChosen new.servers.items new.best → Parts sched T slots new later n → IsUnderway sched T slots new
+of_parts sched T slots new later n e chosen h = let p : Parts sched T slots new later new.slots = subst (Parts sched T slots new later) e h in record { run = later; first = p.0; in_slots = p.1; rest = p.2; chosen = chosen; shares = p.3; tallied = p.4 }
 
 -- slots for the job of the server that goes first
 pub job_served : (sched : Sched) (T : List SporadicTask) → AreConstrained T → AreServerTasks T → (slots : List Bool) (level new : Level) → IsUnderway sched T slots level → (k b : ℕ) → level.time < level.come.next → level.time + k ≤ level.come.next → level.time < level.slots → level.time + k ≤ level.slots → ((y : ℕ) → level.time ≤ y → y < level.time + k → get_or slots y false ≡ true)
     → IsChosen level.servers.items (Some b) → k ≤ (server_at level.servers.items b).left → (window : List Window) → AddsWindow (share_at (map (λ (s : Vec Window Global). s.items) level.shares.items) b) level.time (level.time + k) window
     → new.slots ≡ level.slots → new.time ≡ level.time + k → new.come ≡ level.come → new.servers.items ≡ given_to level.servers.items b k → map (λ (s : Vec Window Global). s.items) new.shares.items ≡ set (map (λ (s : Vec Window Global). s.items) level.shares.items) b window → new.tally ≡ level.tally
-    → IsUnderway sched T slots new
-job_served sched T fits are slots level new h k b l u m v given best enough window adds same_slots time come servers shares tally =
+    → IsChosen new.servers.items new.best → IsUnderway sched T slots new
+job_served sched T fits are slots level new h k b l u m v given best enough window adds same_slots time come servers shares tally chosen =
     let n : ℕ = level.slots in
     let jobs = synchronous T 0 n in
     let p : ℕ = (server_at level.servers.items b).place in
@@ -118,7 +119,7 @@ job_served sched T fits are slots level new h k b l u m v given best enough wind
     = subst (λ (z : ℕ). SharedTo jobs later (level.time + k) (length T) (set lists z window)) own.own
     (task_shared jobs later level.time (level.time + k) (length T) p lists window (to_shared jobs h.run (replicate k (Some p)) level.time (length T) lists h.first.long h.shares) (omega arith) (holds_more h.run level.time k (Some p) h.first.long) (omega (arith, own.own, best.0, h.rest.one_each))
     (subst (λ (z : ℕ). AddsWindow (share_at lists z) level.time (level.time + k) window) (sym own.own) adds)) in
-    of_parts sched T slots new later n (sym same_slots) (
+    of_parts sched T slots new later n (sym same_slots) chosen (
       (subst (λ (z : ℕ). FirstRunTo server (before_of sched T) T jobs slots z later) (sym time) first),
       (omega (arith, time, v)),
       (subst (λ (s : List Server). AtRest sched T n later new.time new.come.released new.come.next s) (sym servers) (subst (λ (c : Come). AtRest sched T n later new.time c.released c.next (given_to level.servers.items b k)) (sym come) (subst (λ (z : ℕ). AtRest sched T n later z level.come.released level.come.next (given_to level.servers.items b k)) (sym time) rest))),
@@ -148,10 +149,10 @@ pub sound_in : (sched : Sched) (T : List SporadicTask) (slots : List Bool) (n : 
 sound_in sched T slots n level h same = subst (λ (m : ℕ). IsSound T m level) same (sound sched T slots level h)
 
 -- before the first slot
-pub begun : (sched : Sched) (T : List SporadicTask) (slots : List Bool) (level : Level) → level.time ≡ 0 → level.come ≡ record { released = 0; next = 0 } → level.servers.items ≡ replicate (length T) no_server → map (λ (s : Vec Window Global). s.items) level.shares.items ≡ replicate (length T) [] → level.tally ≡ record { missed = 0; first = None } → IsUnderway sched T slots level
-begun sched T slots level time come servers shares tally =
+pub begun : (sched : Sched) (T : List SporadicTask) (slots : List Bool) (level : Level) → level.time ≡ 0 → level.come ≡ record { released = 0; next = 0 } → level.servers.items ≡ replicate (length T) no_server → map (λ (s : Vec Window Global). s.items) level.shares.items ≡ replicate (length T) [] → level.tally ≡ record { missed = 0; first = None } → level.best ≡ None → IsUnderway sched T slots level
+begun sched T slots level time come servers shares tally best =
     let jobs = synchronous T 0 level.slots in
-    of_parts sched T slots level [] level.slots refl (
+    of_parts sched T slots level [] level.slots refl (subst (IsChosen level.servers.items) (sym best) (subst (λ (s : List Server). IsChosen s None) (sym servers) none_lacks)) (
       subst (λ (z : ℕ). FirstRunTo server (before_of sched T) T jobs slots z []) (sym time) (record { long = refl; each = λ x l. absurd (omega arith) }),
       omega (arith, time),
       subst (λ (s : List Server). AtRest sched T level.slots [] level.time level.come.released level.come.next s) (sym servers) (subst (λ (c : Come). AtRest sched T level.slots [] level.time c.released c.next (replicate (length T) no_server)) (sym come) (subst (λ (z : ℕ). AtRest sched T level.slots [] z 0 0 (replicate (length T) no_server)) (sym time) (none_come level.slots))),
@@ -159,6 +160,9 @@ begun sched T slots level time come servers shares tally =
       subst (λ (w : Tally). Tallies T jobs [] (is_late T jobs [] level.come.next 0) w.missed w.first) (sym tally) (subst (λ (c : Come). Tallies T jobs [] (is_late T jobs [] c.next 0) 0 None) (sym come) (record { count = sym (count_below-none (is_late T jobs [] 0 0) (length jobs) (λ k l. none_late T jobs [] 0 k (omega arith))); some = tt; none = λ e. refl })),
     )
   where
+    none_lacks : IsChosen (replicate (length T) no_server) None
+    none_lacks i l = ap (λ (s : Server). s.left) (get_or-replicate (length T) i no_server no_server (omega (arith, l, length-replicate (length T) no_server)))
+
     none_come : (n : ℕ) → AtRest sched T n [] 0 0 0 (replicate (length T) no_server)
     none_come n = record {
       in_time = omega arith;

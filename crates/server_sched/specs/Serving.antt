@@ -149,6 +149,7 @@ pub record IsUnderway (sched : Sched) (tasks : List SporadicTask) (slots : List 
       level.servers.items
   pub shares : AreSharesTo (synchronous tasks 0 level.slots) run level.time (length tasks)
       (map (λ s. s.items) level.shares.items)
+  pub chosen : IsChosen level.servers.items level.best
   pub tallied : Tallies tasks (synchronous tasks 0 level.slots) run
       (is_late tasks (synchronous tasks 0 level.slots) run level.come.next 0)
       level.tally.missed level.tally.first

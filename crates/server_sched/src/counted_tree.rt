@@ -9,9 +9,10 @@ ghost use Rattle.tree_model.specs.Tree.{IsNode, node_tasks, server_tasks, server
 ghost use Rattle.tree_model.specs.Releases.{AreReleases};
 ghost use Rattle.server_sched.specs.Shares.{share_at};
 ghost use Rattle.server_sched.specs.TreeSpans.{AreSupplies, AreFewJobs, supplies_of, parent_of};
-ghost use Rattle.server_sched.specs.CountedTree.{kept_of, IsServerKept, IsLeafKept, IsPartKept, AreCoresKept, ArePartsKept, AreFirstCounts, counts_kept, kept_at, kept_in, HasKeptShare, HasCores};
+ghost use Rattle.server_sched.specs.CountedTree.{kept_of, IsServerKept, IsLeafKept, IsPartKept, AreCoresKept, ArePartsRun, AreFirstCounts, counts_kept, kept_in, taken, cores_after, parts_after, HasKeptShare, HasCores};
 
 use crate::TreeCounts;
+use crate::level::MOST_ROOM;
 use crate::node::NodeSpans;
 use crate::served::serve_level;
 use crate::tree::{leaf_node, rank_of, room_for_tasks, sched_of};
@@ -20,6 +21,7 @@ use slot_model::{Job, Task};
 use span_counts::Counts;
 use std::alloc::{AllocError, Global};
 use std::marker::Model;
+use std::mem::replace;
 use tree_model::{Parent, Place, Plan, System, tasks_of};
 
 /// What is kept of the run of a node once it is counted: the windows that each child gets of it,
@@ -40,18 +42,19 @@ impl Model for Kept {
 }
 
 impl Kept {
-    /// The windows that child `k` gets.
-    fn share(&self, k: usize) -> &[Window]
-        requires { k < length self.now.shares }
-        ensures { result.now ≡ share_at self.now.shares k }
+    /// Takes the windows that child `k` gets: the child runs but once.
+    fn take_share(&mut self, alloc: Global, k: usize) -> Vec<Window>
+        requires { k < length self.old.shares }
+        ensures windows { result.items ≡ share_at self.old.shares k }
+        ensures rest { self.new ≡ taken self.old k }
     {
-        &self.shares[k]
+        replace(&mut self.shares[k], Vec::new(alloc))
     }
 }
 
 /// What is counted of the one first run of the tree over `slots` slots, of which each core has
-/// those of its windows. No run is kept once it is counted: its memory is that of one node's run
-/// and of the windows of all.
+/// those of its windows. No run is kept once it is counted, and no windows once their part has run:
+/// its memory is that of one node's run and of the windows of the parts that are still to run.
 pub fn count_tree(
     alloc: Global,
     sys: &System,
@@ -69,9 +72,20 @@ pub fn count_tree(
         IfOk result (λ counts. AreFirstCounts sys.now plan.now slots supplies
         (map (λ j. j.items) jobs.now) counts) }
 {
+    // The C library keeps what is let go for the next list where it is no larger than a block that
+    // was let go before; what is larger it has anew each time, page by page.
+    drop(Vec::<Window>::with_capacity(alloc, MOST_ROOM as usize));
     let mut room = room_for_tasks(alloc)?;
-    let cores = cores_kept(alloc, sys, plan.budgets(), given, slots, &mut room)?;
-    let parts = parts_kept(alloc, sys, plan.budgets(), jobs, &cores, slots, &mut room)?;
+    let mut cores = cores_kept(alloc, sys, plan.budgets(), given, slots, &mut room)?;
+    let parts = parts_kept(
+        alloc,
+        sys,
+        plan.budgets(),
+        jobs,
+        &mut cores,
+        slots,
+        &mut room,
+    )?;
     Ok(TreeCounts {
         cores: counts_kept(alloc, &cores)?,
         parts: counts_kept(alloc, &parts)?,
@@ -106,48 +120,58 @@ fn cores_kept(
     Ok(kept)
 }
 
-/// What is kept of the runs of the parts, after those of the cores.
+/// What is kept of the runs of the parts, after those of the cores. Each takes its windows.
 fn parts_kept(
     alloc: Global,
     sys: &System,
     budgets: &[u64],
     jobs: &[Vec<Job>],
-    cores: &[Kept],
+    cores: &mut [Kept],
     slots: u64,
     room: &mut [Task],
 ) -> Result<Vec<Kept>, AllocError>
     requires plan { IsPlan sys.now budgets.now }
     requires jobs { AreReleases sys.now (map (λ j. j.items) jobs.now) }
     requires few { AreFewJobs sys.now budgets.now slots (map (λ j. j.items) jobs.now) }
-    requires cores { HasCores sys.now budgets.now slots cores.now }
+    requires cores { HasCores sys.now budgets.now slots cores.old }
     requires short { slots < 2 ^ 63 }
     requires room { 512 ≤ length room.old }
     ensures { (given : List (List AnyWindow)) →
-        (h : AreCoresKept sys.now budgets.now slots given (length sys.now.cores) cores.now) →
-        IfOk result (λ kept. ArePartsKept sys.now budgets.now slots (map (λ j. j.items) jobs.now)
-        h.nodes (length sys.now.parts) kept.items) }
+        (h : AreCoresKept sys.now budgets.now slots given (length sys.now.cores) cores.old) →
+        IfOk result (λ kept. ArePartsRun sys.now budgets.now slots (map (λ j. j.items) jobs.now)
+        h.nodes (length sys.now.parts) cores.new kept.items) }
 {
     let mut kept = Vec::new(alloc);
     for q in 0..sys.parts().len() as u32 {
-        let windows = kept_share(sys, cores, &kept, q);
+        let windows = taken_share(alloc, sys, cores, &mut kept, q);
         let own = &jobs[q as usize];
-        let part = part_kept(alloc, sys, budgets, q, own, windows, slots, room)?;
+        let part = part_kept(alloc, sys, budgets, q, own, &windows, slots, room)?;
         kept.push(part)?;
     }
     Ok(kept)
 }
 
-/// The windows that a part gets of its parent.
-fn kept_share<'a>(sys: &System, cores: &'a [Kept], parts: &'a [Kept], q: u32) -> &'a [Window]
+/// The windows that a part gets of its parent, which has them no more.
+fn taken_share(
+    alloc: Global,
+    sys: &System,
+    cores: &mut [Kept],
+    parts: &mut [Kept],
+    q: u32,
+) -> Vec<Window>
     requires is_part { q < length sys.now.parts }
-    requires share { HasKeptShare sys.now cores.now parts.now q }
-    ensures { let parent = kept_in cores.now parts.now (parent_of sys.now q) in
-        result.now ≡ share_at parent.shares (rank_among sys.now q) }
+    requires share { HasKeptShare sys.now cores.old parts.old q }
+    ensures windows { let parent = kept_in cores.old parts.old (parent_of sys.now q) in
+        result.items ≡ share_at parent.shares (rank_among sys.now q) }
+    ensures cores { cores.new ≡ cores_after cores.old (parent_of sys.now q)
+        (rank_among sys.now q) }
+    ensures parts { parts.new ≡ parts_after parts.old (parent_of sys.now q)
+        (rank_among sys.now q) }
 {
     let rank = rank_of(sys, q);
     match sys.parts()[q as usize].parent() {
-        Parent::Core(c) => cores[c as usize].share(rank),
-        Parent::Part(r) => parts[r as usize].share(rank),
+        Parent::Core(c) => cores[c as usize].take_share(alloc, rank),
+        Parent::Part(r) => parts[r as usize].take_share(alloc, rank),
     }
 }
 

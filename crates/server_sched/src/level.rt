@@ -4,13 +4,16 @@ ghost use Rattle.slot_model.specs.declared.sched.Sched.{Sched as AnySched};
 ghost use Rattle.slot_model.specs.Task.{SporadicTask, AreConstrained, sporadic_tasks};
 ghost use Rattle.slot_model.specs.Release.{synchronous};
 ghost use Rattle.server_sched.specs.Shares.{share_at};
-ghost use Rattle.server_sched.specs.Serving.{AreServerTasks, IsUnderway};
+ghost use Rattle.server_sched.specs.Serving.{AreServerTasks, IsChosen, IsUnderway};
 
-use crate::serving::{Come, Server, choose, renew};
+use crate::serving::{Come, Server, choose, first_after, renew};
 use crate::tally::{Tally, close};
 use guest_sched::{Window, add_window};
 use slot_model::{Sched, Task};
 use std::alloc::{AllocError, Global};
+
+/// A child's list has room for no more windows than these to begin with, 2 MiB.
+pub const MOST_ROOM: u64 = 131_072;
 
 /// A level of servers between two events.
 #[derive(Drop)]
@@ -22,6 +25,8 @@ pub struct Level {
     /// How many jobs have come, and before when no further one does.
     pub come: Come,
     pub servers: Vec<Server>,
+    /// The server that goes first, where the job of one lacks slots.
+    pub best: Option<usize>,
     /// The windows that each child gets.
     pub shares: Vec<Vec<Window>>,
     /// The late jobs among those that are due before the next one comes.
@@ -49,7 +54,7 @@ impl Level {
         if self.come.next != self.time {
             return;
         }
-        self.tally = close(self.tally, &self.servers, tasks, self.time);
+        self.tally = close(self.tally, self.best, &self.servers, tasks, self.time);
         self.come = renew(
             &mut self.servers,
             tasks,
@@ -57,6 +62,7 @@ impl Level {
             self.time,
             self.come.released,
         );
+        self.best = choose(&self.servers);
     }
 
     /// Gives slots up to `until` to the server that goes first, as far as its job lacks them and no
@@ -64,6 +70,7 @@ impl Level {
     pub fn step(&mut self, until: u64) -> Result<(), AllocError>
         requires later { self.old.time < until }
         requires before_next { self.old.time < self.old.come.next }
+        requires chosen { IsChosen self.old.servers.items self.old.best }
         requires one_each { length self.old.shares.items ≡ length self.old.servers.items }
         requires fit { (k : ℕ) → k < length self.old.shares.items →
             AreWindows (share_at (map (λ s. s.items) self.old.shares.items) k) self.old.time }
@@ -77,7 +84,7 @@ impl Level {
             OnOk result (IsUnderway sched tasks slots self.new) }
     {
         let until = until.min(self.come.next);
-        match choose(&self.servers) {
+        match self.best {
             None => {
                 self.time = until;
             }
@@ -86,14 +93,20 @@ impl Level {
                 let end = self.time + given;
                 add_window(&mut self.shares[best], self.time, end)?;
                 self.servers[best].left -= given;
+                self.best = first_after(&self.servers, best);
                 self.time = end;
             }
         }
         Ok(())
     }
 
-    /// Before the first slot.
-    pub fn new(alloc: Global, tasks: &[Task], slots: u64) -> Result<Level, AllocError>
+    /// Before the first slot. `windows` is how many the level has.
+    pub fn new(
+        alloc: Global,
+        tasks: &[Task],
+        windows: usize,
+        slots: u64,
+    ) -> Result<Level, AllocError>
         ensures slots { IfOk result (λ level. level.slots ≡ slots) }
         ensures time { IfOk result (λ level. level.time ≡ 0) }
         ensures state { (sched : AnySched) (given : List Bool) →
@@ -108,8 +121,9 @@ impl Level {
         };
         let servers = vec![in alloc; none; tasks.len()]?;
         let mut shares = Vec::with_capacity(alloc, tasks.len())?;
-        for _ in 0..tasks.len() {
-            shares.push(Vec::new(alloc))?;
+        for task in tasks {
+            let room = first_room(*task, windows / tasks.len(), slots);
+            shares.push(Vec::with_capacity(alloc, room)?)?;
         }
         Ok(Level {
             slots,
@@ -119,6 +133,7 @@ impl Level {
                 next: 0,
             },
             servers,
+            best: None,
             shares,
             tally: Tally {
                 missed: 0,
@@ -194,4 +209,13 @@ fn begin_of(given: &[Window], at: usize, end: u64) -> u64
     } else {
         end
     }
+}
+
+/// For how many windows a child's list has room to begin with: one for each of its periods, and as
+/// many as there are to cut its slots. The list grows where it gets more.
+fn first_room(task: Task, cuts: usize, slots: u64) -> usize
+    ensures { result ≤ 131072 }
+{
+    let periods = slots.div_ceil(task.period);
+    periods.saturating_add(cuts as u64).min(MOST_ROOM) as usize
 }

@@ -31,7 +31,7 @@ pub fn serve_level(
     requires windows { AreWindows given.now slots }
     ensures { IfOk result (λ kept. IsServed sched (sporadic_tasks tasks.now) given.now slots kept) }
 {
-    let mut level = Level::new(alloc, tasks, slots)?;
+    let mut level = Level::new(alloc, tasks, given.len(), slots)?;
     for at in 0..given.len() {
         level.pass_to(sched, tasks, given, at);
         level.serve(sched, tasks, given, at)?;
@@ -77,7 +77,7 @@ fn whole_tally(level: &Level, tasks: &[Task]) -> Tally
         (is_missed T (synchronous T 0 level.now.slots) h.run) result.missed result.first }
 {
     if level.come.next == level.slots {
-        close(level.tally, &level.servers, tasks, level.slots)
+        close(level.tally, level.best, &level.servers, tasks, level.slots)
     } else {
         level.tally
     }

@@ -33,6 +33,19 @@ pub fn choose(servers: &[Server]) -> Option<usize>
     best
 }
 
+/// The server whose job goes first, once the one that went first has had slots.
+pub fn first_after(servers: &[Server], best: usize) -> Option<usize>
+    requires inside { best < length servers.now }
+    requires first { (i : ℕ) → i < length servers.now → 0 < (server_at servers.now i).left →
+        goes_first (server_at servers.now best) (server_at servers.now i) }
+    ensures { IsChosen servers.now result }
+{
+    if servers[best].left > 0 {
+        return Some(best);
+    }
+    choose(servers)
+}
+
 /// Whether the best server so far goes before another.
 fn stays_first(servers: &[Server], best: Option<usize>, i: usize) -> bool
     requires best { IfSome best (λ b. b < length servers.now) }

@@ -2,7 +2,7 @@ ghost use Rattle.std.specs.Prelude.{◌≡◌, ◌⊎◌, ℕ, ◌-◌, ◌^◌,
 ghost use Rattle.slot_model.specs.declared.sched.Sched.{Sched as AnySched};
 ghost use Rattle.slot_model.specs.Task.{sporadic_tasks};
 ghost use Rattle.slot_model.specs.Release.{synchronous};
-ghost use Rattle.server_sched.specs.Serving.{AreServerTasks, AtRest, is_late, Tallies};
+ghost use Rattle.server_sched.specs.Serving.{AreServerTasks, IsChosen, AtRest, is_late, Tallies};
 
 use crate::serving::Server;
 use slot_model::{Miss, Task};
@@ -46,19 +46,29 @@ fn goes_before(old: Late, late: Late) -> bool
 }
 
 /// The tally with the jobs that are late at a moment: those that are due then, and lack slots.
-pub fn close(tally: Tally, servers: &[Server], tasks: &[Task], moment: u64) -> Tally
+/// There are none where no server goes first, since then no job lacks any.
+pub fn close(
+    tally: Tally,
+    best: Option<usize>,
+    servers: &[Server],
+    tasks: &[Task],
+    moment: u64,
+) -> Tally
     requires tasks { AreServerTasks (sporadic_tasks tasks.now) }
     requires one_each { length servers.now ≡ length tasks.now }
     requires few_tasks { length tasks.now < 2 ^ 32 }
     requires few { tally.missed < 2 ^ 32 }
     ensures { let T = sporadic_tasks tasks.now in
         (sched : AnySched) (n : ℕ) (run : List (Option ℕ)) (released : ℕ) → moment ≤ n →
-        AtRest sched T n run moment released moment servers.now →
+        IsChosen servers.now best → AtRest sched T n run moment released moment servers.now →
         Tallies T (synchronous T 0 n) run (is_late T (synchronous T 0 n) run moment 0)
         tally.missed tally.first →
         Tallies T (synchronous T 0 n) run (is_late T (synchronous T 0 n) run moment (length T))
         result.missed result.first }
 {
+    if best.is_none() {
+        return tally;
+    }
     let mut tally = tally;
     for i in 0..servers.len() {
         let server = servers[i];

@@ -1,5 +1,5 @@
 use Rattle.std.proofs.Common.{◌≡◌, [], map, replicate}
 use Rattle.server_sched.proofs.level.Level.new.Given as goal
 
-abbrev pub invariant-loop : goal.invariant-loop
-invariant-loop l = map (λ s. s.items) l.shares.items ≡ replicate l.counter []
+abbrev pub invariant-loop-task : goal.invariant-loop-task
+invariant-loop-task l = map (λ s. s.items) l.shares.items ≡ replicate l.task-index []

@@ -31,6 +31,9 @@ turned c = c.turn.ensures.run (slots_of c.args.given.now c.args.self.now.slots) 
 pub step-requires-clause-before_next : goal.step-requires-clause-before_next
 step-requires-clause-before_next c = c.turn.ensures.next (slots_of c.args.given.now c.args.self.now.slots) (in_slots c) c.loop-self.invariant.state
 
+pub step-requires-clause-chosen : goal.step-requires-clause-chosen
+step-requires-clause-chosen c = (turned c).chosen
+
 pub step-requires-clause-one_each : goal.step-requires-clause-one_each
 step-requires-clause-one_each c =
     let s = sound_in c.args.sched (sporadic_tasks c.args.tasks.now) (slots_of c.args.given.now c.args.self.now.slots) c.turn.new.self.slots c.turn.new.self (turned c) refl in

@@ -4,13 +4,13 @@ use Rattle.slot_model.specs.Task.{sporadic_tasks}
 use Rattle.slot_model.specs.Release.{synchronous}
 use Rattle.slot_model.proofs.Constrained.{are_constrained}
 use Rattle.server_sched.specs.declared.serving.Server.{Server}
-use Rattle.server_sched.specs.Serving.{AtRest, AtMoment, Tallies, is_late, IsUnderway}
+use Rattle.server_sched.specs.Serving.{AtRest, AtMoment, IsChosen, Tallies, is_late, IsUnderway}
 use Rattle.server_sched.proofs.Underway.{made_released, at_moment}
 use Rattle.server_sched.proofs.Tallying.{next_late}
 use Rattle.server_sched.proofs.level.Level.turn.Goals as goal
 
 -- the moment's rest, as the next jobs have come
-renewed : (c : goal.After-self-3-1) → (slots : List Bool) → c.args.self.now.come.next ≡ c.args.self.now.time → c.args.self.now.time < c.args.self.now.slots → (h : IsUnderway c.args.sched (sporadic_tasks c.args.tasks.now) slots c.args.self.now)
+renewed : (c : goal.After-self-4-1) → (slots : List Bool) → c.args.self.now.come.next ≡ c.args.self.now.time → c.args.self.now.time < c.args.self.now.slots → (h : IsUnderway c.args.sched (sporadic_tasks c.args.tasks.now) slots c.args.self.now)
     → (AtRest c.args.sched (sporadic_tasks c.args.tasks.now) c.args.self.now.slots h.run c.args.self.now.time c.renew-self.result.released c.renew-self.result.next c.renew-self.new.servers) × (c.args.self.now.time < c.renew-self.result.next)
 renewed c slots e m h =
     let T = sporadic_tasks c.args.tasks.now in
@@ -27,13 +27,14 @@ returns-clause-run c = λ slots m h.
     let jobs = synchronous T 0 level.slots in
     let rest : AtRest c.args.sched T level.slots h.run level.time level.come.released level.time level.servers.items = subst (λ (z : ℕ). AtRest c.args.sched T level.slots h.run level.time level.come.released z level.servers.items) e h.rest in
     let tallied : Tallies T jobs h.run (is_late T jobs h.run level.time 0) level.tally.missed level.tally.first = subst (λ (z : ℕ). Tallies T jobs h.run (is_late T jobs h.run z 0) level.tally.missed level.tally.first) e h.tallied in
-    let closed = c.close-self.ensures c.args.sched level.slots h.run level.come.released (omega (arith, m)) (subst (λ (s : List Server). AtRest c.args.sched T level.slots h.run level.time level.come.released level.time s) (sym c.deref.ensures.value) rest) tallied in
+    let closed = c.close-self.ensures c.args.sched level.slots h.run level.come.released (omega (arith, m)) (subst (λ (s : List Server). IsChosen s level.best) (sym c.deref.ensures.value) h.chosen) (subst (λ (s : List Server). AtRest c.args.sched T level.slots h.run level.time level.come.released level.time s) (sym c.deref.ensures.value) rest) tallied in
     let now = renewed c slots e m h in
     record {
       run = h.run;
       first = h.first;
       in_slots = h.in_slots;
       rest = subst (λ (s : List Server). AtRest c.args.sched T level.slots h.run level.time c.renew-self.result.released c.renew-self.result.next s) (sym (with_items_is level.servers c.renew-self.new.servers (omega (arith, now.0.one_each, h.rest.one_each, level.servers.ok.0)))) now.0;
+      chosen = subst (λ (s : List Server). IsChosen s c.choose-self.result) c.deref-2.ensures.value c.choose-self.ensures;
       shares = h.shares;
       tallied = next_late c.args.sched T (are_constrained c.args.tasks.now) c.requires.tasks level.slots h.run level.time c.renew-self.result.released c.renew-self.result.next c.renew-self.new.servers now.1 now.0 c.close-self.result.missed c.close-self.result.first closed;
     }
