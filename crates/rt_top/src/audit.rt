@@ -1,7 +1,10 @@
-ghost use Rattle.std.specs.Prelude.{◌≡◌, Some, IfOk, IfErr};
+ghost use Rattle.std.specs.Prelude.{◌≡◌, ◌⊎◌, List, ℕ, Some, IfOk, IfErr};
 ghost use Rattle.csv_rows.specs.Reading.{records_of};
-ghost use Rattle.trace_file.specs.File.{Spells};
-ghost use Rattle.trace_file.specs.Rules.{Kept};
+ghost use Rattle.tree_model.specs.View.{SystemView};
+ghost use Rattle.tree_model.specs.Plans.{IsPlan};
+ghost use Rattle.trace_file.specs.declared.fault.TraceFault.TheVariants.{NoMemory};
+ghost use Rattle.trace_file.specs.File.{IsFileFault, IsTraceText, rows_of};
+ghost use Rattle.auditor.specs.Finding.{IsFindingOf};
 ghost use Rattle.rt_top.specs.Attempt.{IsRefused};
 ghost use Rattle.rt_top.specs.Audit.{tracing, finding_status, AuditsBytes};
 ghost use Rattle.rt_top.specs.Command.{audit};
@@ -13,12 +16,12 @@ use crate::answer::{Answer, Ending};
 use crate::file::bad_file;
 use crate::refusing::assigned;
 use crate::two_files::read_two;
-use auditor::Finding;
+use auditor::{Finding, audit_bytes};
 use outside::Store;
 use rt_report::{FileFault, audit_text};
 use std::alloc::Global;
-use trace_file::{Trace, TraceFault, read_trace};
-use tree_model::System;
+use trace_file::{TraceFault, check_trace};
+use tree_model::{Plan, System};
 
 /// `audit FILE TRACE`: whether the trace gives each VCPU its budget in every period throughout
 /// which it could run, and never more without extra time.
@@ -37,32 +40,69 @@ pub fn audit<S: Store>(
     judge(alloc, &sys, &bytes)
 }
 
+// The trace is read to its end or its first fault also where no budgets are assigned: a fault of it
+// goes before their refusal.
 fn judge(alloc: Global, sys: &System, bytes: &[u8]) -> Result<Answer, Ending>
     ensures answer { IfAnswered (ending_of result) (λ a.
         AuditsBytes sys.now bytes.now a.status a.text.items) }
     ensures judged { EndsJudged (ending_of result) }
 {
-    let trace = spelled_trace(alloc, sys, bytes)?;
-    let plan = assigned(alloc, sys)?;
-    let finding = auditor::audit(sys, &plan, &trace);
-    Ok(Answer {
-        status: status_of(finding),
-        text: audit_text(alloc, sys, &plan, &finding)?,
-    })
+    match assigned(alloc, sys) {
+        Ok(plan) => {
+            let finding = found(alloc, sys, &plan, bytes)?;
+            Ok(Answer {
+                status: status_of(finding),
+                text: audit_text(alloc, sys, &plan, &finding)?,
+            })
+        }
+        Err(refused) => {
+            spelled(alloc, sys, bytes)?;
+            Err(refused)
+        }
+    }
 }
 
-// The events that the bytes of the second file word spell. It stops where they are refused.
-fn spelled_trace(alloc: Global, sys: &System, bytes: &[u8]) -> Result<Trace, Ending>
-    ensures spelled { IfOk result (λ trace. Spells sys.now (records_of bytes.now) trace) }
-    ensures kept { IfOk result (λ trace. Kept sys.now trace) }
+// What is found of the trace that the bytes of the second file word spell. It stops where they are
+// refused.
+fn found(alloc: Global, sys: &System, plan: &Plan, bytes: &[u8]) -> Result<Finding, Ending>
+    requires { IsPlan sys.now plan.now }
+    ensures found { IfOk result (IsFindingOf sys.now plan.now bytes.now) }
     ensures refused { IfErr result (λ stop. IfAnswered stop (λ a.
         IsRefused (tracing sys.now bytes.now) a.status a.text.items)) }
     ensures judged { IfErr result (λ stop. EndsJudged stop) }
 {
-    match read_trace(alloc, sys, bytes) {
-        Ok(trace) => Ok(trace),
-        Err(TraceFault::NoMemory) => Err(Ending::NoMemory),
-        Err(fault) => Err(Ending::Answered(bad_file(alloc, FileFault::Trace(fault), 2)?)),
+    match audit_bytes(alloc, sys, plan, bytes) {
+        Ok(finding) => Ok(finding),
+        Err(fault) => Err(refuse(alloc, fault)),
+    }
+}
+
+// The bytes of the second file word spell a trace. It stops where they are refused.
+fn spelled(alloc: Global, sys: &System, bytes: &[u8]) -> Result<(), Ending>
+    ensures spelled { IfOk result (λ done. IsTraceText sys.now bytes.now) }
+    ensures refused { IfErr result (λ stop. IfAnswered stop (λ a.
+        IsRefused (tracing sys.now bytes.now) a.status a.text.items)) }
+    ensures judged { IfErr result (λ stop. EndsJudged stop) }
+{
+    match check_trace(alloc, sys, bytes) {
+        Ok(()) => Ok(()),
+        Err(fault) => Err(refuse(alloc, fault)),
+    }
+}
+
+// The answer to a fault of the second file word.
+fn refuse(alloc: Global, fault: TraceFault) -> Ending
+    ensures refused { (sys : SystemView) (bytes : List ℕ)
+        → (fault ≡ NoMemory) ⊎ IsFileFault sys (rows_of (records_of bytes)) fault
+        → IfAnswered result (λ a. IsRefused (tracing sys bytes) a.status a.text.items) }
+    ensures judged { EndsJudged result }
+{
+    if fault == TraceFault::NoMemory {
+        return Ending::NoMemory;
+    }
+    match bad_file(alloc, FileFault::Trace(fault), 2) {
+        Ok(answer) => Ending::Answered(answer),
+        Err(_) => Ending::NoMemory,
     }
 }
 
