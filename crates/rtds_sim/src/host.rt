@@ -1,4 +1,5 @@
-ghost use Rattle.std.specs.Prelude.{◌≡◌, ◌≢◌, ℕ, ◌≤◌, ◌<◌, ◌+◌, ◌++◌, ◌^◌, Some, true, false, length, OnOk};
+ghost use Rattle.std.specs.Prelude.{◌≡◌, ◌≢◌, ℕ, ◌≤◌, ◌<◌, ◌+◌, ◌++◌, ◌^◌, Some, true, false, [], length, OnOk};
+ghost use Rattle.trace_file.specs.Taker.{Took};
 ghost use Rattle.slot_model.specs.declared.task.TheConstants.{LIMIT};
 ghost use Rattle.tree_model.specs.System.{part_at};
 ghost use Rattle.release_file.specs.Workload.{row_at};
@@ -14,7 +15,7 @@ use crate::queues::Queues;
 use release_file::{Wake, WakeKind};
 use slot_model::LIMIT;
 use std::alloc::AllocError;
-use trace_file::{Event, What};
+use trace_file::{Event, EventTaker, What};
 use tree_model::{MAX_CORES, MAX_PARTS, Parent, Plan, System};
 
 /// What the VCPUs and cores have come to.
@@ -118,6 +119,7 @@ impl Host {
     ghost use Rattle.tree_model.specs.Plans.{IsPlan};
     ghost use Rattle.release_file.specs.declared.workload.WakeKind.TheVariants.{Start};
     ghost use Rattle.release_file.specs.Workload.{row_at, IsWorkload};
+    ghost use Rattle.trace_file.specs.Taker.{Took};
     ghost use Rattle.trace_file.specs.declared.event.What.TheVariants.{Stop};
     ghost use Rattle.rtds_sim.specs.Printed.{core_of, gathered, on_at, on_core_at, switch_to};
     ghost use Rattle.tree_model.specs.System.{IsSystem};
@@ -323,21 +325,20 @@ impl Host {
     }
 
     /// Stops the cores whose VCPUs block, where `before` rows had been taken before the slot.
-    pub fn stop_blocked(
+    pub fn stop_blocked<T: EventTaker>(
         &mut self,
         sys: &System,
         plan: &Plan,
         before: usize,
-        events: &mut Vec<Event>,
+        events: &mut T,
     ) -> Result<(), AllocError>
         requires plan { IsPlan sys.now plan.now }
         requires ready { IsReady sys.now plan.now self.old }
         requires in_limit { self.old.time ≤ LIMIT }
         requires awake { before ≡ self.old.taken → (c : ℕ) → c < length sys.now.cores
             → gives_up self.old.accounts (holder_at self.old.holders c) ≡ false }
-        ensures events { OnOk result
-            (events.new.items ≡ events.old.items
-            ++ gathered (stop_of self.old) (length sys.now.cores)) }
+        ensures events { OnOk result (Took T.has_taken events.old events.new
+            (gathered (stop_of self.old) (length sys.now.cores))) }
         ensures left { OnOk result
             ((c : ℕ) → c < length sys.now.cores →
             holder_at self.new.holders c ≡ left_at self.old.accounts self.old.holders c) }
@@ -352,7 +353,7 @@ impl Host {
         }
         for c in 0..sys.cores().len() {
             if self.gives_up(c) {
-                events.push(self.stop_event(c))?;
+                events.take(self.stop_event(c))?;
                 self.holders[c] = None;
             }
         }
@@ -360,19 +361,18 @@ impl Host {
     }
 
     /// Gives each core to the VCPU of the next slot.
-    pub fn switch_all(
+    pub fn switch_all<T: EventTaker>(
         &mut self,
         sys: &System,
         plan: &Plan,
-        events: &mut Vec<Event>,
+        events: &mut T,
     ) -> Result<(), AllocError>
         requires plan { IsPlan sys.now plan.now }
         requires ready { IsReady sys.now plan.now self.old }
         requires in_limit { self.old.time ≤ LIMIT }
-        ensures events { OnOk result
-            (events.new.items ≡ events.old.items
-            ++ gathered (switch_of self.old.holders self.new.holders self.old.time)
-            (length sys.now.cores)) }
+        ensures events { OnOk result (Took T.has_taken events.old events.new
+            (gathered (switch_of self.old.holders self.new.holders self.old.time)
+            (length sys.now.cores))) }
         ensures chosen { OnOk result
             ((c : ℕ) → c < length sys.now.cores
             → IsChoice sys.now plan.now self.old.accounts c (holder_at self.new.holders c)) }
@@ -597,23 +597,23 @@ impl Host {
     }
 }
 
-/// Adds an event, if there is one.
-fn push_some(events: &mut Vec<Event>, event: Option<Event>) -> Result<(), AllocError>
-    ensures { OnOk result (events.new.items ≡ push_some events.old.items event) }
+/// Takes an event, if there is one.
+fn push_some<T: EventTaker>(events: &mut T, event: Option<Event>) -> Result<(), AllocError>
+    ensures { OnOk result (Took T.has_taken events.old events.new (push_some [] event)) }
 {
     if let Some(event) = event {
-        events.push(event)?;
+        events.take(event)?;
     }
     Ok(())
 }
 
-/// Adds the events of some rows, which are those at one slot.
-pub fn print_rows(
+/// Takes the events of some rows, which are those at one slot.
+pub fn print_rows<T: EventTaker>(
     sys: &System,
     rows: &[Wake],
     from: usize,
     until: usize,
-    events: &mut Vec<Event>,
+    events: &mut T,
 ) -> Result<(), AllocError>
     requires in_rows { until ≤ length rows.now }
     requires in_turn { from ≤ until }
@@ -623,11 +623,11 @@ pub fn print_rows(
     ensures { (x : ℕ) → ((i : ℕ) → i < from → (row_at rows.now i).at < x) →
         ((i : ℕ) → from ≤ i → i < until → (row_at rows.now i).at ≡ x) →
         ((i : ℕ) → until ≤ i → i < length rows.now → x < (row_at rows.now i).at) →
-        OnOk result (events.new.items
-        ≡ events.old.items ++ gathered (row_event_at sys.now rows.now x) (length rows.now)) }
+        OnOk result (Took T.has_taken events.old events.new
+        (gathered (row_event_at sys.now rows.now x) (length rows.now))) }
 {
     for i in from..until {
-        events.push(event_of(sys, row_at(rows, i)))?;
+        events.take(event_of(sys, row_at(rows, i)))?;
     }
     Ok(())
 }
