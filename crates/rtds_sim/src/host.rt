@@ -123,7 +123,7 @@ impl Host {
     ghost use Rattle.trace_file.specs.declared.event.What.TheVariants.{Stop};
     ghost use Rattle.rtds_sim.specs.Printed.{core_of, gathered, on_at, on_core_at, switch_to};
     ghost use Rattle.tree_model.specs.System.{IsSystem};
-    ghost use Rattle.rtds_sim.specs.Members.{AreMembersFrom};
+    ghost use Rattle.rtds_sim.specs.Members.{AreMembers};
     ghost use Rattle.rtds_sim.specs.Keys.{comes_before, key_at, IsFirstKey};
     ghost use Rattle.rtds_sim.specs.Accounts.{no_account, account_at, holder_at, is_stale, number_at, row_taken, gone_on, used_more, period_ended, left_of, left_at, gives_up, stop_of, switch_of, IsChoice, IsAccount, AreAccounts, AreBefore, HasRoom, IsReady, IsEnd, AreEnds};
 
@@ -459,7 +459,7 @@ impl Host {
 
     /// Goes on to a later slot, before which nothing changes.
     pub fn go_on(&mut self, sys: &System, plan: &Plan, members: &Members, to: u64)
-        requires members { AreMembersFrom sys.now 0 members.now }
+        requires members { AreMembers sys.now members.now }
         requires plan { IsPlan sys.now plan.now }
         requires ready { IsReady sys.now plan.now self.old }
         requires ends { AreEnds sys.now self.old }
@@ -522,7 +522,7 @@ impl Host {
 
     /// Begins the periods that begin now on core `core`.
     fn end_periods(&mut self, sys: &System, plan: &Plan, members: &Members, core: usize)
-        requires members { AreMembersFrom sys.now 0 members.now }
+        requires members { AreMembers sys.now members.now }
         requires plan { IsPlan sys.now plan.now }
         requires ready { IsReady sys.now plan.now self.old }
         requires is_core { core < length sys.now.cores }
@@ -545,16 +545,13 @@ impl Host {
         ensures holders { self.new.holders ≡ self.old.holders }
         ensures taken { self.new.taken ≡ self.old.taken }
     {
-        prove!(sys.parts().len() <= MAX_PARTS);
         if self.time < self.ends[core] {
             return;
         }
-        let none = sys.parts().len() as u32;
+        let vcpus = members.of(sys, core);
         let mut end = PAST_ALL;
-        let mut v = members.first[core];
-        while v < none {
-            end = end.min(self.begin(sys, plan, v));
-            v = members.next[v as usize];
+        for i in 0..vcpus.len() {
+            end = end.min(self.begin(sys, plan, vcpus[i]));
         }
         self.ends[core] = end;
     }

@@ -137,7 +137,7 @@ fn simulated(
     ensures system { IsSystem sys.now }
 {
     let mut events = Vec::new(alloc);
-    tell_run(sys, plan, wakes, slots, &mut events)?;
+    tell_run(alloc, sys, plan, wakes, slots, &mut events)?;
     Ok(events)
 }
 
@@ -156,12 +156,13 @@ fn printed(
         (λ text. IsRunText sys.now plan.now wakes.now slots text.items) }
 {
     let mut rows = TracePrinter::new(alloc, sys, Unit::Microseconds)?;
-    tell_run(sys, plan, wakes, slots, &mut rows)?;
+    tell_run(alloc, sys, plan, wakes, slots, &mut rows)?;
     Ok(rows.finish())
 }
 
 /// Tells the events of a workload over some slots, one by one.
 fn tell_run<T: EventTaker>(
+    alloc: Global,
     sys: &System,
     plan: &Plan,
     wakes: &[Wake],
@@ -177,7 +178,7 @@ fn tell_run<T: EventTaker>(
     ensures system { IsSystem sys.now }
 {
     let mut host = Host::new(sys, plan);
-    let members = Members::new(sys);
+    let members = Members::new(alloc, sys)?;
     while host.time < slots {
         let first = host.taken;
         host.take_rows(sys, plan, wakes);
