@@ -26,12 +26,14 @@ returns c =
     let whole : unit_for told ≡ Microseconds = ap unit_for events ∙ whole_unit sys rows runs n in
     let printed : HasPrinted sys (unit_for told) told c.tell_run.new.events = subst (λ (u : Unit). HasPrinted sys u told c.tell_run.new.events) (sym whole) all in
     let kept : Kept sys told = subst (λ (es : List Event). Kept sys es) (sym events) (printed_keeps sys system rows c.requires.workload budgets n runs is (omega (arith, c.requires.short))) in
-    record { text = record {
-      events = told;
-      trace = trace;
-      kept = kept;
-      told = c.finish.ensures.text sys told printed;
-      reads_back = c.finish.ensures.reads_back sys told printed system kept;
-      none_over = subst (λ (es : List Event). NoneOver sys budgets es) (sym events) (none_over sys system budgets c.requires.plan rows c.requires.workload n runs is (omega (arith, c.requires.short)));
-      satisfied = λ served. subst (λ (es : List Event). Satisfied sys budgets es) (sym events) (satisfied sys system budgets c.requires.plan rows c.requires.workload n runs is (omega (arith, c.requires.short)) served);
-    } }
+    record {
+      text = record {
+        events = told;
+        trace = trace;
+        kept = kept;
+        told = c.finish.ensures.text sys told printed;
+        reads_back = c.finish.ensures.reads_back sys told printed system kept;
+        none_over = subst (λ (es : List Event). NoneOver sys budgets es) (sym events) (none_over sys system budgets c.requires.plan rows c.requires.workload n runs is (omega (arith, c.requires.short)));
+        satisfied = λ served. subst (λ (es : List Event). Satisfied sys budgets es) (sym events) (satisfied sys system budgets c.requires.plan rows c.requires.workload n runs is (omega (arith, c.requires.short)) served);
+      };
+    }

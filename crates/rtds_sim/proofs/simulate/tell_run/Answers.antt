@@ -167,7 +167,9 @@ returns-clause-trace g c =
     let runs = rtds_run sys c.args.plan.now rows c.args.slots in
     let end : c.loop-host.host.time ≡ c.args.slots = omega (arith, c.loop-host.invariant.in_slots, c.loop-host-test.false) in
     let below : List Event = printed_below sys rows runs c.args.slots in
-    let ended : Took g.T.EventTaker.has_taken c.loop-host.events c.take.new.self (on_at 0 c.args.slots End ∷ []) = subst (λ (m : ℕ). Took g.T.EventTaker.has_taken c.loop-host.events c.take.new.self (record { at = m; core = 0; what = End } ∷ [])) c.moment_of_slot.ensures c.in_ok-take.ensures in
-    (printed sys rows runs c.args.slots, (runs, rtds_run-is sys c.args.plan.now rows c.args.slots, refl),
-    took_more g.T.EventTaker.has_taken c.args.events.now c.loop-host.events c.take.new.self below (on_at 0 c.args.slots End ∷ [])
-    (subst (λ (y : ℕ). Took g.T.EventTaker.has_taken c.args.events.now c.loop-host.events (printed_below sys rows runs y)) end c.loop-host.invariant.told) ended)
+    let ended : Took g.T.EventTaker.has_taken c.loop-host.events c.take.new.self (on_at 0 c.args.slots End ∷ []) = subst (λ (m : ℕ). Took g.T.EventTaker.has_taken c.loop-host.events c.take.new.self (record { at = m; core = 0; what = End } ∷ [])) c.moment_of_slot.ensures c.in_ok-take.ensures in (
+      printed sys rows runs c.args.slots,
+      (runs, rtds_run-is sys c.args.plan.now rows c.args.slots, refl),
+      took_more g.T.EventTaker.has_taken c.args.events.now c.loop-host.events c.take.new.self below (on_at 0 c.args.slots End ∷ [])
+          (subst (λ (y : ℕ). Took g.T.EventTaker.has_taken c.args.events.now c.loop-host.events (printed_below sys rows runs y)) end c.loop-host.invariant.told) ended,
+    )
