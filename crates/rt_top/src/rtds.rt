@@ -1,13 +1,14 @@
 ghost use Rattle.std.specs.Prelude.{◌≡◌, ◌<◌, Some, IfOk, IfErr, length};
 ghost use Rattle.csv_rows.specs.Reading.{records_of};
 ghost use Rattle.tree_model.specs.Plans.{IsPlan};
-ghost use Rattle.trace_file.specs.Rules.{Kept};
 ghost use Rattle.release_file.specs.Workload.{IsWorkload};
 ghost use Rattle.release_file.specs.WorkloadFile.{SpellsWorkload};
 ghost use Rattle.rt_report.specs.declared.fault.FileFault.TheVariants.{NotRtds};
 ghost use Rattle.rt_report.specs.Fault.{fault_text};
 ghost use Rattle.rt_top.specs.Attempt.{IsRefused};
-ghost use Rattle.rt_top.specs.Rtds.{waking, running, IsTraceOf, RunsBytes};
+ghost use Rattle.rtds_sim.specs.Fault.{AllRtds};
+ghost use Rattle.rtds_sim.specs.RunText.{IsRunText};
+ghost use Rattle.rt_top.specs.Rtds.{waking, running, RunsBytes};
 ghost use Rattle.rt_top.specs.Command.{rtds};
 ghost use Rattle.rt_top.specs.Report.{IsAnswer};
 ghost use Rattle.rt_top.specs.Steps.{counts_of, ending_of, IfAnswered, Explains, EndsJudged};
@@ -21,9 +22,8 @@ use crate::two_files::read_two;
 use outside::Store;
 use release_file::{ReleaseFault, Wake, read_workload};
 use rt_report::{FileFault, fault_text};
-use rtds_sim::{RtdsFault, run_rtds};
+use rtds_sim::{RtdsFault, print_rtds};
 use std::alloc::{AllocError, Global};
-use trace_file::{Trace, print_trace};
 use tree_model::{Plan, System};
 
 /// `rtds FILE WORKLOAD SLOTS`: the trace of the workload over so many slots, where each part that
@@ -52,10 +52,10 @@ fn judge(alloc: Global, sys: &System, bytes: &[u8], slots: Slots) -> Result<Answ
 {
     let wakes = spelled_workload(alloc, sys, bytes)?;
     let plan = assigned(alloc, sys)?;
-    let trace = trace_of(alloc, sys, &plan, &wakes, slots)?;
+    let text = run_text(alloc, sys, &plan, &wakes, slots)?;
     Ok(Answer {
         status: Status::Yes,
-        text: print_trace(alloc, sys, &trace)?,
+        text,
     })
 }
 
@@ -75,26 +75,26 @@ fn spelled_workload(alloc: Global, sys: &System, bytes: &[u8]) -> Result<Vec<Wak
     }
 }
 
-// The trace of the workload. It stops at the first core that is not full or not under earliest
-// deadline first.
-fn trace_of(
+// The text of the trace of the workload. It stops at the first core that is not full or not under
+// earliest deadline first.
+fn run_text(
     alloc: Global,
     sys: &System,
     plan: &Plan,
     wakes: &[Wake],
     slots: Slots,
-) -> Result<Trace, Ending>
+) -> Result<Vec<u8>, Ending>
     requires plan { IsPlan sys.now plan.now }
     requires workload { IsWorkload sys.now wakes.now }
-    ensures trace { IfOk result
-        (λ trace. IsTraceOf sys.now plan.now wakes.now slots.count trace) }
-    ensures kept { IfOk result (λ trace. Kept sys.now trace) }
+    ensures text { IfOk result
+        (λ text. IsRunText sys.now plan.now wakes.now slots.count text.items) }
+    ensures rtds { IfOk result (λ text. AllRtds sys.now (length sys.now.cores)) }
     ensures refused { IfErr result (λ stop. IfAnswered stop (λ a.
         IsRefused (running sys.now plan.now wakes.now slots.count) a.status a.text.items)) }
     ensures judged { IfErr result (λ stop. EndsJudged stop) }
 {
-    match run_rtds(alloc, sys, plan, wakes, slots.count()) {
-        Ok(trace) => Ok(trace),
+    match print_rtds(alloc, sys, plan, wakes, slots.count()) {
+        Ok(text) => Ok(text),
         Err(RtdsFault::NoMemory) => Err(Ending::NoMemory),
         Err(RtdsFault::NotRtds(core)) => Err(Ending::Answered(not_rtds(alloc, sys, core)?)),
     }

@@ -1,6 +1,7 @@
 -- What the trace of a run says at each moment is what the run holds at the slot of the moment, so
 -- what the run gives the VCPUs in slots the trace gives them in nanoseconds.
-use Rattle.std.proofs.Common.{◌≡◌, ℕ, zero, suc, min, ◌+◌, ◌-◌, ◌*◌, ◌/◌, ◌<◌, ◌≤◌, Bool, true, false, cond, leb, ◌&&◌, List, [], ◌∷◌, ◌++◌, length, Option, Some, None, refl, sym, ◌∙◌, ap, arith, subst, inl, inr, append_assoc, leb-true, eqb-true}
+use Rattle.std.proofs.Common.{◌≡◌, ℕ, zero, suc, min, ◌+◌, ◌-◌, ◌*◌, ◌/◌, ◌<◌, ◌≤◌, Bool, true, false, cond, leb, ◌&&◌, List, [], ◌∷◌, ◌++◌, length, Option, Some, None, refl, sym, ◌∙◌, ap, arith, subst, inl, inr, append_assoc, leb-true, eqb-true, eq-eqb, ◌==◌, ◌%◌}
+use Rattle.std.specs.List.{list_all}
 use Rattle.std.proofs.lemmas.Bool.{cases_Bool, cases_lt, and_from, and_parts, false≢true}
 use Rattle.std.proofs.lemmas.Option.{none-some, same_Some}
 use Rattle.std.proofs.lemmas.List.{get_or_append_left, get_or-append_right, get_or_push, length_push, length-append}
@@ -16,6 +17,8 @@ use Rattle.tree_model.specs.Tree.{budget_at, run_at}
 use Rattle.trace_file.specs.declared.event.Event.{Event}
 use Rattle.trace_file.specs.declared.event.What.TheVariants.{End}
 use Rattle.trace_file.specs.Events.{event_at, last_among, last_by, starts as starts_event, switches, runner_of, has_core_at, moment_of, start_of as trace_start, end_of}
+use Rattle.trace_file.specs.declared.unit.Unit.TheVariants.{Microseconds, Nanoseconds}
+use Rattle.trace_file.specs.Printing.{is_whole, unit_for}
 use Rattle.trace_file.specs.Periods.{begins, count_between, period_of, running, Satisfied}
 use Rattle.trace_file.proofs.Among.{last_among-zero, last_among-suc}
 use Rattle.trace_file.proofs.Prefix.{last_same}
@@ -212,3 +215,19 @@ module _ (sys : SystemView) (system : IsSystem sys) (budgets : List ℕ) (plan :
       ap (λ (z : ℕ). count_between (running sys events v) z (min (begins (period_of sys v) f (suc k)) (end_of events))) from ∙ (ap (λ (z : ℕ). count_between (running sys events v) (begins P F k * 1000) z) until ∙ got v (begins P F k) E s.core ends) in
       let enough : budget_at budgets v ≤ slots_got p P F k = gives_budgets sys budgets plan rows n c (run_at runs c) (is.cores c s.core.is_core) (served.runnable c s.core.is_core) (served.fit c s.core.is_core) v k (record { is_part = h.period.is_part; on_core = s.core.child; started = s.started }) ends in
       absurd (omega (arith, h.short, time, enough))
+
+-- each moment of the trace is a whole number of microseconds
+all_whole : (es : List Event) → AllOf (λ e. is_whole e ≡ true) es → list_all is_whole es ≡ true
+all_whole [] h = refl
+all_whole (e ∷ es) h = and_from (is_whole e) (list_all is_whole es) (h 0 (omega arith)) (all_whole es (λ i l. h (suc i) (omega (arith, l))))
+
+whole_moment : (x : ℕ) → (x * 1000 % 1000 == 0) ≡ true
+whole_moment x = eq-eqb (x * 1000 % 1000) 0 (omega arith)
+
+pub whole_unit : (sys : SystemView) (rows : List Row) (runs : List (List (Option ℕ))) (n : ℕ) → unit_for (printed sys rows runs n) ≡ Microseconds
+whole_unit sys rows runs n =
+    let P : Event → Type 0 = λ e. is_whole e ≡ true in
+    ap (λ (b : Bool). cond b Microseconds Nanoseconds) (all_whole (printed sys rows runs n)
+    (all_append P (printed_below sys rows runs n) (on_at 0 n End ∷ [])
+    (told_below P sys rows runs n (λ x l. record { stops = λ c. whole_moment x; runs_on = λ c v. whole_moment x; of_row = λ i m e. whole_moment (row_at rows i).at }))
+    (all_one P (on_at 0 n End) (whole_moment n))))

@@ -1,5 +1,5 @@
 -- What a visit of a slot tells, and that nothing is told until the next one.
-use Rattle.std.proofs.Common.{◌≡◌, ℕ, zero, suc, ◌<◌, ◌≤◌, Bool, true, false, not, cond, if◌then◌else◌, ◌&&◌, List, [], ◌++◌, length, Option, Some, None, refl, sym, ◌∙◌, ap, arith, inl, inr, append_assoc, append-nil, eq-eqb}
+use Rattle.std.proofs.Common.{◌≡◌, ℕ, zero, suc, ◌<◌, ◌≤◌, Bool, true, false, not, cond, if◌then◌else◌, ◌&&◌, List, [], ◌++◌, length, Option, Some, None, refl, sym, ◌∙◌, ap, arith, inl, inr, append-nil, eq-eqb}
 use Rattle.std.proofs.lemmas.Bool.{cases_eq, cases_lt, and_parts}
 use Rattle.slot_model.specs.Run.{held}
 use Rattle.tree_model.specs.View.{SystemView}
@@ -118,15 +118,9 @@ module _ (sys : SystemView) (budgets : List ℕ) (rows : List Row) (n : ℕ) (ru
   switches_are left next hl hn = gathered-same (switch_of left next x) (switch_at rows runs x) (length sys.cores) (λ c lc.
       ap (λ (o : Option ℕ). on_core_at c x (switch_to o (holder_at next c))) (hl c lc ∙ left_is c lc) ∙ ap (λ (o : Option ℕ). on_core_at c x (switch_to (holder_left rows (run_at runs c) x) o)) (next_is c lc (holder_at next c) (hn c lc)))
 
-  pub visited : (left next : List (Option ℕ)) (events one two three : List Event) → events ≡ printed_below sys rows runs x → ((c : ℕ) → c < length sys.cores → holder_at left c ≡ left_at host.accounts host.holders c) → ((c : ℕ) → c < length sys.cores → IsChoice sys budgets host.accounts c (holder_at next c)) →
-      one ≡ events ++ gathered (stop_of host) (length sys.cores) → two ≡ one ++ gathered (row_event_at sys rows x) (length rows) → three ≡ two ++ gathered (switch_of left next x) (length sys.cores) → three ≡ printed_below sys rows runs (suc x)
-  visited left next events one two three e hl hn e1 e2 e3 =
-      let a : List Event = gathered (stop_at rows runs x) (length sys.cores) in
-      let b : List Event = gathered (row_event_at sys rows x) (length rows) in
-      let c : List Event = gathered (switch_at rows runs x) (length sys.cores) in
-      let p : List Event = printed_below sys rows runs x in
-      let q1 : one ≡ p ++ a = e1 ∙ (ap (λ (ys : List Event). ys ++ gathered (stop_of host) (length sys.cores)) e ∙ ap (λ (ys : List Event). p ++ ys) stops_are) in
-      let q2 : two ≡ (p ++ a) ++ b = e2 ∙ ap (λ (ys : List Event). ys ++ b) q1 in
-      let q3 : three ≡ ((p ++ a) ++ b) ++ c = e3 ∙ (ap (λ (ys : List Event). ys ++ gathered (switch_of left next x) (length sys.cores)) q2 ∙ ap (λ (ys : List Event). ((p ++ a) ++ b) ++ ys) (switches_are left next hl hn)) in
-      let r : ((p ++ a) ++ b) ++ c ≡ p ++ (a ++ (b ++ c)) = append_assoc (p ++ a) b c ∙ append_assoc p a (b ++ c) in
-      q3 ∙ (r ∙ sym (printed_below-suc sys rows runs x))
+  pub visited : (left next : List (Option ℕ)) → ((c : ℕ) → c < length sys.cores → holder_at left c ≡ left_at host.accounts host.holders c) → ((c : ℕ) → c < length sys.cores → IsChoice sys budgets host.accounts c (holder_at next c)) →
+      gathered (stop_of host) (length sys.cores) ++ (gathered (row_event_at sys rows x) (length rows) ++ gathered (switch_of left next x) (length sys.cores)) ≡ printed_at sys rows runs x
+  visited left next hl hn =
+      let told : List Event = gathered (row_event_at sys rows x) (length rows) in
+      ap (λ (ys : List Event). ys ++ (told ++ gathered (switch_of left next x) (length sys.cores))) stops_are
+      ∙ ap (λ (ys : List Event). gathered (stop_at rows runs x) (length sys.cores) ++ (told ++ ys)) (switches_are left next hl hn)

@@ -7,3 +7,4 @@ pub mod Queues
 pub mod Accounts
 pub mod Members
 pub mod Fault
+pub mod RunText

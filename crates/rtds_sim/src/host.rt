@@ -1,4 +1,5 @@
-ghost use Rattle.std.specs.Prelude.{◌≡◌, ◌≢◌, ℕ, ◌≤◌, ◌<◌, ◌+◌, ◌++◌, ◌^◌, Some, true, false, length, OnOk};
+ghost use Rattle.std.specs.Prelude.{◌≡◌, ◌≢◌, ℕ, ◌≤◌, ◌<◌, ◌+◌, ◌++◌, ◌^◌, Some, true, false, [], length, OnOk};
+ghost use Rattle.trace_file.specs.Taker.{Took};
 ghost use Rattle.slot_model.specs.declared.task.TheConstants.{LIMIT};
 ghost use Rattle.tree_model.specs.System.{part_at};
 ghost use Rattle.release_file.specs.Workload.{row_at};
@@ -14,7 +15,7 @@ use crate::queues::Queues;
 use release_file::{Wake, WakeKind};
 use slot_model::LIMIT;
 use std::alloc::AllocError;
-use trace_file::{Event, What};
+use trace_file::{Event, EventTaker, What};
 use tree_model::{MAX_CORES, MAX_PARTS, Parent, Plan, System};
 
 /// What the VCPUs and cores have come to.
@@ -118,10 +119,11 @@ impl Host {
     ghost use Rattle.tree_model.specs.Plans.{IsPlan};
     ghost use Rattle.release_file.specs.declared.workload.WakeKind.TheVariants.{Start};
     ghost use Rattle.release_file.specs.Workload.{row_at, IsWorkload};
+    ghost use Rattle.trace_file.specs.Taker.{Took};
     ghost use Rattle.trace_file.specs.declared.event.What.TheVariants.{Stop};
     ghost use Rattle.rtds_sim.specs.Printed.{core_of, gathered, on_at, on_core_at, switch_to};
     ghost use Rattle.tree_model.specs.System.{IsSystem};
-    ghost use Rattle.rtds_sim.specs.Members.{AreMembersFrom};
+    ghost use Rattle.rtds_sim.specs.Members.{AreMembers};
     ghost use Rattle.rtds_sim.specs.Keys.{comes_before, key_at, IsFirstKey};
     ghost use Rattle.rtds_sim.specs.Accounts.{no_account, account_at, holder_at, is_stale, number_at, row_taken, gone_on, used_more, period_ended, left_of, left_at, gives_up, stop_of, switch_of, IsChoice, IsAccount, AreAccounts, AreBefore, HasRoom, IsReady, IsEnd, AreEnds};
 
@@ -323,21 +325,20 @@ impl Host {
     }
 
     /// Stops the cores whose VCPUs block, where `before` rows had been taken before the slot.
-    pub fn stop_blocked(
+    pub fn stop_blocked<T: EventTaker>(
         &mut self,
         sys: &System,
         plan: &Plan,
         before: usize,
-        events: &mut Vec<Event>,
+        events: &mut T,
     ) -> Result<(), AllocError>
         requires plan { IsPlan sys.now plan.now }
         requires ready { IsReady sys.now plan.now self.old }
         requires in_limit { self.old.time ≤ LIMIT }
         requires awake { before ≡ self.old.taken → (c : ℕ) → c < length sys.now.cores
             → gives_up self.old.accounts (holder_at self.old.holders c) ≡ false }
-        ensures events { OnOk result
-            (events.new.items ≡ events.old.items
-            ++ gathered (stop_of self.old) (length sys.now.cores)) }
+        ensures events { OnOk result (Took T.has_taken events.old events.new
+            (gathered (stop_of self.old) (length sys.now.cores))) }
         ensures left { OnOk result
             ((c : ℕ) → c < length sys.now.cores →
             holder_at self.new.holders c ≡ left_at self.old.accounts self.old.holders c) }
@@ -352,7 +353,7 @@ impl Host {
         }
         for c in 0..sys.cores().len() {
             if self.gives_up(c) {
-                events.push(self.stop_event(c))?;
+                events.take(self.stop_event(c))?;
                 self.holders[c] = None;
             }
         }
@@ -360,19 +361,18 @@ impl Host {
     }
 
     /// Gives each core to the VCPU of the next slot.
-    pub fn switch_all(
+    pub fn switch_all<T: EventTaker>(
         &mut self,
         sys: &System,
         plan: &Plan,
-        events: &mut Vec<Event>,
+        events: &mut T,
     ) -> Result<(), AllocError>
         requires plan { IsPlan sys.now plan.now }
         requires ready { IsReady sys.now plan.now self.old }
         requires in_limit { self.old.time ≤ LIMIT }
-        ensures events { OnOk result
-            (events.new.items ≡ events.old.items
-            ++ gathered (switch_of self.old.holders self.new.holders self.old.time)
-            (length sys.now.cores)) }
+        ensures events { OnOk result (Took T.has_taken events.old events.new
+            (gathered (switch_of self.old.holders self.new.holders self.old.time)
+            (length sys.now.cores))) }
         ensures chosen { OnOk result
             ((c : ℕ) → c < length sys.now.cores
             → IsChoice sys.now plan.now self.old.accounts c (holder_at self.new.holders c)) }
@@ -459,7 +459,7 @@ impl Host {
 
     /// Goes on to a later slot, before which nothing changes.
     pub fn go_on(&mut self, sys: &System, plan: &Plan, members: &Members, to: u64)
-        requires members { AreMembersFrom sys.now 0 members.now }
+        requires members { AreMembers sys.now members.now }
         requires plan { IsPlan sys.now plan.now }
         requires ready { IsReady sys.now plan.now self.old }
         requires ends { AreEnds sys.now self.old }
@@ -522,7 +522,7 @@ impl Host {
 
     /// Begins the periods that begin now on core `core`.
     fn end_periods(&mut self, sys: &System, plan: &Plan, members: &Members, core: usize)
-        requires members { AreMembersFrom sys.now 0 members.now }
+        requires members { AreMembers sys.now members.now }
         requires plan { IsPlan sys.now plan.now }
         requires ready { IsReady sys.now plan.now self.old }
         requires is_core { core < length sys.now.cores }
@@ -545,16 +545,13 @@ impl Host {
         ensures holders { self.new.holders ≡ self.old.holders }
         ensures taken { self.new.taken ≡ self.old.taken }
     {
-        prove!(sys.parts().len() <= MAX_PARTS);
         if self.time < self.ends[core] {
             return;
         }
-        let none = sys.parts().len() as u32;
+        let vcpus = members.of(sys, core);
         let mut end = PAST_ALL;
-        let mut v = members.first[core];
-        while v < none {
-            end = end.min(self.begin(sys, plan, v));
-            v = members.next[v as usize];
+        for i in 0..vcpus.len() {
+            end = end.min(self.begin(sys, plan, vcpus[i]));
         }
         self.ends[core] = end;
     }
@@ -597,23 +594,23 @@ impl Host {
     }
 }
 
-/// Adds an event, if there is one.
-fn push_some(events: &mut Vec<Event>, event: Option<Event>) -> Result<(), AllocError>
-    ensures { OnOk result (events.new.items ≡ push_some events.old.items event) }
+/// Takes an event, if there is one.
+fn push_some<T: EventTaker>(events: &mut T, event: Option<Event>) -> Result<(), AllocError>
+    ensures { OnOk result (Took T.has_taken events.old events.new (push_some [] event)) }
 {
     if let Some(event) = event {
-        events.push(event)?;
+        events.take(event)?;
     }
     Ok(())
 }
 
-/// Adds the events of some rows, which are those at one slot.
-pub fn print_rows(
+/// Takes the events of some rows, which are those at one slot.
+pub fn print_rows<T: EventTaker>(
     sys: &System,
     rows: &[Wake],
     from: usize,
     until: usize,
-    events: &mut Vec<Event>,
+    events: &mut T,
 ) -> Result<(), AllocError>
     requires in_rows { until ≤ length rows.now }
     requires in_turn { from ≤ until }
@@ -623,11 +620,11 @@ pub fn print_rows(
     ensures { (x : ℕ) → ((i : ℕ) → i < from → (row_at rows.now i).at < x) →
         ((i : ℕ) → from ≤ i → i < until → (row_at rows.now i).at ≡ x) →
         ((i : ℕ) → until ≤ i → i < length rows.now → x < (row_at rows.now i).at) →
-        OnOk result (events.new.items
-        ≡ events.old.items ++ gathered (row_event_at sys.now rows.now x) (length rows.now)) }
+        OnOk result (Took T.has_taken events.old events.new
+        (gathered (row_event_at sys.now rows.now x) (length rows.now))) }
 {
     for i in from..until {
-        events.push(event_of(sys, row_at(rows, i)))?;
+        events.take(event_of(sys, row_at(rows, i)))?;
     }
     Ok(())
 }

@@ -13,7 +13,7 @@ mod queues;
 mod simulate;
 
 pub use fault::RtdsFault;
-pub use simulate::run_rtds;
+pub use simulate::{print_rtds, run_rtds};
 
 #[cfg(test)]
 mod tests;

@@ -1,50 +1,70 @@
-ghost use Rattle.std.specs.Prelude.{◌≡◌, ℕ, suc, ◌<◌, length};
-ghost use Rattle.tree_model.specs.System.{IsSystem};
-ghost use Rattle.rtds_sim.specs.Members.{AreMembersFrom};
+ghost use Rattle.std.specs.Prelude.{◌≡◌, ◌<◌, length, IfOk};
+ghost use Rattle.slot_model.specs.Slots.{places_where};
+ghost use Rattle.tree_model.specs.declared.place.Place.TheVariants.{Core};
+ghost use Rattle.tree_model.specs.Tree.{is_child};
+ghost use Rattle.rtds_sim.specs.Members.{AreMembers};
 
+use std::alloc::{AllocError, Global};
 use tree_model::{MAX_CORES, MAX_PARTS, Parent, System};
 
-/// The VCPUs of each core in the order of the file: the first one, and behind each the next. Where
-/// none is left stands the number of parts.
+/// The VCPUs of each core, in the order of the file.
 #[derive(Drop)]
 pub struct Members {
-    pub first: [u32; MAX_CORES],
-    pub next: [u32; MAX_PARTS],
+    lists: Vec<Vec<u32>>,
 }
 
 impl Members {
-    ghost use Rattle.std.specs.Prelude.{◌≡◌, ℕ, suc, ◌<◌, length};
-    ghost use Rattle.tree_model.specs.System.{IsSystem};
-    ghost use Rattle.rtds_sim.specs.Members.{AreMembersFrom};
+    ghost use Rattle.std.specs.Prelude.{◌≡◌, ◌<◌, length, IfOk};
+    ghost use Rattle.slot_model.specs.Slots.{places_where};
+    ghost use Rattle.tree_model.specs.declared.place.Place.TheVariants.{Core};
+    ghost use Rattle.tree_model.specs.Tree.{is_child};
+    ghost use Rattle.rtds_sim.specs.Members.{AreMembers};
 
     /// Of a system.
-    pub fn new(sys: &System) -> Members
-        ensures { AreMembersFrom sys.now 0 result }
+    pub fn new(alloc: Global, sys: &System) -> Result<Members, AllocError>
+        ensures { IfOk result (AreMembers sys.now) }
     {
-        let parts = sys.parts();
-        prove!(parts.len() <= MAX_PARTS);
-        let none = parts.len() as u32;
-        let mut members = Members {
-            first: [none; MAX_CORES],
-            next: [none; MAX_PARTS],
-        };
-        for i in 0..parts.len() {
-            members.put(sys, parts.len() - 1 - i);
+        prove!(sys.cores().len() <= MAX_CORES);
+        let mut lists = Vec::new(alloc);
+        for c in 0..sys.cores().len() {
+            lists.push(members_of(alloc, sys, c as u32)?)?;
         }
-        members
+        Ok(Members { lists })
     }
 
-    /// Puts a part before those behind it.
-    fn put(&mut self, sys: &System, v: usize)
-        requires is_part { v < length sys.now.parts }
-        requires behind { AreMembersFrom sys.now (suc v) self.old }
-        ensures { AreMembersFrom sys.now v self.new }
+    /// Those of core `core`.
+    pub fn of(&self, sys: &System, core: usize) -> &[u32]
+        requires are { AreMembers sys.now self.now }
+        requires is_core { core < length sys.now.cores }
+        ensures { result.now
+            ≡ places_where (is_child sys.now (Core core)) (length sys.now.parts) }
     {
-        prove!(sys.parts().len() <= MAX_PARTS);
-        prove!(sys.cores().len() <= MAX_CORES);
-        if let Parent::Core(c) = sys.parts()[v].parent() {
-            self.next[v] = self.first[c as usize];
-            self.first[c as usize] = v as u32;
+        &self.lists[core]
+    }
+}
+
+/// The VCPUs of core `core`.
+fn members_of(alloc: Global, sys: &System, core: u32) -> Result<Vec<u32>, AllocError>
+    ensures { IfOk result (λ list. list.items
+        ≡ places_where (is_child sys.now (Core core)) (length sys.now.parts)) }
+{
+    prove!(sys.parts().len() <= MAX_PARTS);
+    let mut list = Vec::new(alloc);
+    for v in 0..sys.parts().len() {
+        if stands_on(sys, v, core) {
+            list.push(v as u32)?;
         }
+    }
+    Ok(list)
+}
+
+/// Whether a part stands on core `core`.
+fn stands_on(sys: &System, v: usize, core: u32) -> bool
+    requires { v < length sys.now.parts }
+    ensures { result ≡ is_child sys.now (Core core) v }
+{
+    match sys.parts()[v].parent() {
+        Parent::Core(c) => c == core,
+        Parent::Part(_) => false,
     }
 }

@@ -1,12 +1,17 @@
-ghost use Rattle.std.specs.Prelude.{◌≡◌, ℕ, ◌≤◌, ◌<◌, ◌&&◌, List, Option, length, IfOk, IfErr, MatchOption};
+ghost use Rattle.std.specs.Prelude.{◌≡◌, ℕ, ◌≤◌, ◌<◌, ◌&&◌, List, Option, length, IfOk, IfErr, OnOk, MatchOption};
+ghost use Rattle.csv_rows.specs.Printing.{text_of};
 ghost use Rattle.tree_model.specs.System.{IsSystem};
 ghost use Rattle.tree_model.specs.Tree.{run_at};
+ghost use Rattle.trace_file.specs.declared.event.Event.{Event as EventView};
+ghost use Rattle.trace_file.specs.Printing.{printed_rows};
+ghost use Rattle.trace_file.specs.Taker.{Took};
 ghost use Rattle.trace_file.specs.Rules.{Kept};
 ghost use Rattle.trace_file.specs.Periods.{Satisfied};
 ghost use Rattle.tree_model.specs.Plans.{IsPlan};
 ghost use Rattle.release_file.specs.Workload.{IsWorkload};
 ghost use Rattle.rtds_sim.specs.Rtds.{is_full, is_edf, RtdsRun};
 ghost use Rattle.rtds_sim.specs.Printed.{printed, IsRtdsTrace};
+ghost use Rattle.rtds_sim.specs.RunText.{IsRunText};
 ghost use Rattle.rtds_sim.specs.Fault.{AllRtds, IsFirstOther, IsRtdsFault};
 ghost use Rattle.rtds_sim.specs.Giving.{AlwaysRunnable, ServersFit, AlwaysServed, GivesBudgets, NeverOver, NoneOver};
 
@@ -17,7 +22,7 @@ use crate::moment::moment_of_slot;
 use release_file::Wake;
 use slot_model::Sched;
 use std::alloc::{AllocError, Global};
-use trace_file::{Event, Trace, What};
+use trace_file::{Event, EventTaker, Trace, TracePrinter, Unit, What};
 use tree_model::{Core, Plan, System};
 
 /// The trace of a workload under RTDS over some slots. The run goes from one change to the next: a
@@ -68,6 +73,34 @@ pub fn run_rtds(
     }
 }
 
+/// The text of that trace, as `print_trace` makes it. No list of its events is kept.
+pub fn print_rtds(
+    alloc: Global,
+    sys: &System,
+    plan: &Plan,
+    wakes: &[Wake],
+    slots: u64,
+) -> Result<Vec<u8>, RtdsFault>
+    requires plan { IsPlan sys.now plan.now }
+    requires workload { IsWorkload sys.now wakes.now }
+    requires some { 1 ≤ slots }
+    requires short { slots ≤ 1000000 }
+    ensures text { IfOk result (λ text. IsRunText sys.now plan.now wakes.now slots text.items) }
+    ensures only { IfOk result (λ text. (runs : List (List (Option ℕ))) →
+        RtdsRun sys.now plan.now wakes.now slots runs →
+        text.items ≡ text_of (printed_rows sys.now (printed sys.now wakes.now runs slots))) }
+    ensures rtds { IfOk result (λ text. AllRtds sys.now (length sys.now.cores)) }
+    ensures fault { IfErr result (IsRtdsFault sys.now) }
+{
+    if let Some(core) = other_core(sys) {
+        return Err(RtdsFault::NotRtds(core));
+    }
+    match printed(alloc, sys, plan, wakes, slots) {
+        Ok(text) => Ok(text),
+        Err(_) => Err(RtdsFault::NoMemory),
+    }
+}
+
 /// The first core that is not full or not under earliest deadline first.
 fn other_core(sys: &System) -> Option<u32>
     ensures { MatchOption result (AllRtds sys.now (length sys.now.cores)) (IsFirstOther sys.now) }
@@ -104,21 +137,61 @@ fn simulated(
     ensures system { IsSystem sys.now }
 {
     let mut events = Vec::new(alloc);
+    tell_run(alloc, sys, plan, wakes, slots, &mut events)?;
+    Ok(events)
+}
+
+/// The text of them.
+fn printed(
+    alloc: Global,
+    sys: &System,
+    plan: &Plan,
+    wakes: &[Wake],
+    slots: u64,
+) -> Result<Vec<u8>, AllocError>
+    requires plan { IsPlan sys.now plan.now }
+    requires workload { IsWorkload sys.now wakes.now }
+    requires short { slots ≤ 1000000 }
+    ensures text { IfOk result
+        (λ text. IsRunText sys.now plan.now wakes.now slots text.items) }
+{
+    let mut rows = TracePrinter::new(alloc, sys, Unit::Microseconds)?;
+    tell_run(alloc, sys, plan, wakes, slots, &mut rows)?;
+    Ok(rows.finish())
+}
+
+/// Tells the events of a workload over some slots, one by one.
+fn tell_run<T: EventTaker>(
+    alloc: Global,
+    sys: &System,
+    plan: &Plan,
+    wakes: &[Wake],
+    slots: u64,
+    events: &mut T,
+) -> Result<(), AllocError>
+    requires plan { IsPlan sys.now plan.now }
+    requires workload { IsWorkload sys.now wakes.now }
+    requires short { slots ≤ 1000000 }
+    ensures trace { OnOk result
+        ((told : List EventView) × IsRtdsTrace sys.now plan.now wakes.now slots told
+        × Took T.has_taken events.old events.new told) }
+    ensures system { IsSystem sys.now }
+{
     let mut host = Host::new(sys, plan);
-    let members = Members::new(sys);
+    let members = Members::new(alloc, sys)?;
     while host.time < slots {
         let first = host.taken;
         host.take_rows(sys, plan, wakes);
-        host.stop_blocked(sys, plan, first, &mut events)?;
-        print_rows(sys, wakes, first, host.taken, &mut events)?;
-        host.switch_all(sys, plan, &mut events)?;
+        host.stop_blocked(sys, plan, first, events)?;
+        print_rows(sys, wakes, first, host.taken, events)?;
+        host.switch_all(sys, plan, events)?;
         let next = host.next_slot(sys, plan, wakes, slots);
         host.go_on(sys, plan, &members, next);
     }
-    events.push(Event {
+    events.take(Event {
         at: moment_of_slot(slots),
         core: 0,
         what: What::End,
     })?;
-    Ok(events)
+    Ok(())
 }

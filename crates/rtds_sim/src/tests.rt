@@ -4,13 +4,13 @@ ghost use Rattle.tree_model.specs.Plans.{IsPlan};
 ghost use Rattle.release_file.specs.Workload.{IsWorkload, row_at, last_row, is_of, may_follow};
 ghost use Rattle.rtds_sim.specs.RowFit.{IsRowFit, NoneAt};
 
-use crate::{RtdsFault, run_rtds};
+use crate::{RtdsFault, print_rtds, run_rtds};
 use release_file::{Wake, WakeKind};
 use slot_model::{LIMIT, Name, Sched, Task};
 use std::alloc::{AllocError, Global};
 use std::process::Abort;
 use std::test::Fail;
-use trace_file::{Event, Trace, What, check_events};
+use trace_file::{Event, Trace, What, check_events, print_trace};
 use tree_model::{Core, Named, Parent, Part, Plan, System};
 
 fn name(rt: &impl Abort, alloc: Global, bytes: &[u8]) -> Result<Name, AllocError> {
@@ -198,7 +198,14 @@ fn ran(
     assert!(rt; is_plan(sys, &plan));
     assert!(rt; is_workload(sys, &wakes));
     assert!(rt; 1 <= slots && slots <= 1_000_000);
-    Ok(run_rtds(alloc, sys, &plan, &wakes, slots))
+    let run = run_rtds(alloc, sys, &plan, &wakes, slots);
+    let text = print_rtds(alloc, sys, &plan, &wakes, slots);
+    match (&run, &text) {
+        (Ok(trace), Ok(text)) => assert!(rt; *text == print_trace(alloc, sys, trace)?),
+        (Err(fault), Err(other)) => assert_eq!(rt; fault, other),
+        _ => assert!(rt; false),
+    }
+    Ok(run)
 }
 
 fn is_trace(
@@ -310,6 +317,32 @@ fn cores_run_side_by_side(rt: HostRuntime) -> Result<(), Fail> {
         (7_000, 0, What::End),
     ];
     assert!(rt; is_trace(&rt, rt.alloc(), false, &rows, 7, &wanted)?);
+    Ok(())
+}
+
+#[test]
+fn text_has_a_row_for_each_event(rt: HostRuntime) -> Result<(), Fail> {
+    let alloc = rt.alloc();
+    let sys = host(&rt, alloc, false, Sched::Edf)?;
+    let mut budgets = Vec::new(alloc);
+    budgets.push(3)?;
+    budgets.push(4)?;
+    budgets.push(1)?;
+    let plan = Plan { budgets };
+    let mut wakes = Vec::new(alloc);
+    wakes.push(Wake {
+        at: 2,
+        vcpu: C,
+        what: WakeKind::Start,
+    })?;
+    assert!(rt; is_plan(&sys, &plan));
+    assert!(rt; is_workload(&sys, &wakes));
+    let text = print_rtds(alloc, &sys, &plan, &wakes, 7)
+        .ok()
+        .expect(&rt, "a text");
+    let wanted =
+        "at,core,what,vcpu\n2,cpu1,start,C\n2,cpu1,run,C\n3,cpu1,stop,\n6,cpu1,run,C\n7,,end,\n";
+    assert!(rt; text.as_slice() == wanted.as_bytes());
     Ok(())
 }
 

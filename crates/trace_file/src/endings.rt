@@ -109,9 +109,10 @@ impl<'s> Endings<'s> {
 
     /// The ending at this place, where it is that of this event.
     fn kept(&self, place: usize, core: u32, what: What) -> Option<&[u8]>
-        requires { AreEndings self.now.sys.now self.now.made.items }
-        ensures text { IfSome result (λ text. text.now ≡ ending_text self.now.sys.now core what) }
-        ensures named { IfSome result (λ text. is_known self.now.sys.now core what ≡ true
+        ensures text { AreEndings self.now.sys.now self.now.made.items
+            → IfSome result (λ text. text.now ≡ ending_text self.now.sys.now core what) }
+        ensures named { AreEndings self.now.sys.now self.now.made.items
+            → IfSome result (λ text. is_known self.now.sys.now core what ≡ true
             → fits_word (core_field self.now.sys.now core what) (word_of what)
             (vcpu_field self.now.sys.now (named what)) ≡ true) }
     {
@@ -126,12 +127,13 @@ impl<'s> Endings<'s> {
 
     /// Adds what the row of an event has behind its moment.
     pub fn write(&mut self, text: &mut Vec<u8>, core: u32, what: What) -> Result<(), AllocError>
-        requires { AreEndings self.old.sys.now self.old.made.items }
-        ensures are { OnOk result (AreEndings self.new.sys.now self.new.made.items) }
+        ensures are { AreEndings self.old.sys.now self.old.made.items
+            → OnOk result (AreEndings self.new.sys.now self.new.made.items) }
         ensures sys { self.new.sys ≡ self.old.sys }
-        ensures text { OnOk result
+        ensures text { AreEndings self.old.sys.now self.old.made.items → OnOk result
             (text.new.items ≡ text.old.items ++ ending_text self.old.sys.now core what) }
-        ensures named { OnOk result (is_known self.old.sys.now core what ≡ true
+        ensures named { AreEndings self.old.sys.now self.old.made.items
+            → OnOk result (is_known self.old.sys.now core what ≡ true
             → fits_word (core_field self.old.sys.now core what) (word_of what)
             (vcpu_field self.old.sys.now (named what)) ≡ true) }
     {

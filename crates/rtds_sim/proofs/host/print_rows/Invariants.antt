@@ -1,9 +1,10 @@
-use Rattle.std.proofs.Common.{◌≡◌, ℕ, ◌≤◌, ◌<◌, ◌++◌, length}
+use Rattle.std.proofs.Common.{◌≡◌, ℕ, ◌≤◌, ◌<◌, length}
 use Rattle.release_file.specs.Workload.{row_at}
+use Rattle.trace_file.specs.Taker.{Took}
 use Rattle.rtds_sim.specs.Printed.{gathered, row_event_at}
 use Rattle.rtds_sim.proofs.host.print_rows.Given as goal
 
 -- the events of the rows so far
 abbrev pub invariant-loop-i : goal.invariant-loop-i
-invariant-loop-i l = (x : ℕ) → ((i : ℕ) → i < l.from → (row_at l.rows i).at < x) → ((i : ℕ) → l.from ≤ i → i < l.until → (row_at l.rows i).at ≡ x) → ((i : ℕ) → l.until ≤ i → i < length l.rows → x < (row_at l.rows i).at) →
-    l.events.items ≡ l.initial.events.items ++ gathered (row_event_at l.sys l.rows x) l.i
+invariant-loop-i g l = (x : ℕ) → ((i : ℕ) → i < l.from → (row_at l.rows i).at < x) → ((i : ℕ) → l.from ≤ i → i < l.until → (row_at l.rows i).at ≡ x) → ((i : ℕ) → l.until ≤ i → i < length l.rows → x < (row_at l.rows i).at) →
+    Took g.T.EventTaker.has_taken l.initial.events l.events (gathered (row_event_at l.sys l.rows x) l.i)

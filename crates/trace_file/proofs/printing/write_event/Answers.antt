@@ -8,7 +8,7 @@ use Rattle.trace_file.proofs.EndingRows.{row_split}
 use Rattle.trace_file.proofs.printing.write_event.Goals as goal
 
 pub returns-clause-written : goal.returns-clause-written
-returns-clause-written c =
+returns-clause-written c are =
     let sys = c.args.endings.now.sys.now in
     let e = c.args.event in
     let old : List ℕ = c.args.text.now.items in
@@ -19,4 +19,4 @@ returns-clause-written c =
     let whole : (old ++ decimal n) ++ ending ≡ old ++ row_text default_writer (event_row sys c.args.unit e) =
     append_assoc old (decimal n) ending ∙ (ap (λ (z : List ℕ). old ++ z) (row_split n (core_field sys e.core e.what) (word_of e.what) (vcpu_field sys (named e.what)) (omega arith))
     ∙ ap (λ (z : ℕ). old ++ row_text default_writer (decimal z ∷ core_field sys e.core e.what ∷ word_of e.what ∷ vcpu_field sys (named e.what) ∷ [])) c.in_unit.ensures) in
-    subst (λ (z : List ℕ). OnOk c.write.result (c.write.new.text.items ≡ z)) (ap (λ (z : List ℕ). z ++ ending) before ∙ whole) c.write.ensures.text
+    subst (λ (z : List ℕ). OnOk c.write.result (c.write.new.text.items ≡ z)) (ap (λ (z : List ℕ). z ++ ending) before ∙ whole) (c.write.ensures.text are)

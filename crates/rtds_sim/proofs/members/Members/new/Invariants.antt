@@ -1,7 +1,12 @@
-use Rattle.std.proofs.Common.{◌-◌, length}
-use Rattle.rtds_sim.specs.Members.{AreMembersFrom}
+use Rattle.std.proofs.Common.{◌≡◌, ◌<◌, ℕ, length, slice_index_or, Vec, Global}
+use Rattle.slot_model.specs.Slots.{places_where}
+use Rattle.tree_model.specs.declared.place.Place.TheVariants.{Core}
+use Rattle.tree_model.specs.Tree.{is_child}
 use Rattle.rtds_sim.proofs.members.Members.new.Given as goal
 
--- the parts from some place on are put
-abbrev pub invariant-loop-i : goal.invariant-loop-i
-invariant-loop-i l = AreMembersFrom l.sys (length l.sys.parts - l.i) l.members
+-- the cores so far have their lists
+abbrev pub invariant-loop-c : goal.invariant-loop-c
+invariant-loop-c l = record {
+  one_each : length l.lists.items ≡ l.c;
+  lists : (d : ℕ) (list : Vec ℕ Global) → d < l.c → list ≡ slice_index_or l.lists.items d list → list.items ≡ places_where (is_child l.sys (Core d)) (length l.sys.parts);
+}

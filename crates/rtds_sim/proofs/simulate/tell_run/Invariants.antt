@@ -1,0 +1,20 @@
+use Rattle.std.proofs.Common.{◌-◌, ◌≤◌}
+use Rattle.trace_file.specs.Taker.{Took}
+use Rattle.rtds_sim.specs.Printed.{printed_below}
+use Rattle.rtds_sim.specs.Accounts.{IsReady, AreEnds}
+use Rattle.rtds_sim.proofs.Runs.{rtds_run}
+use Rattle.rtds_sim.proofs.Standing.{Standing}
+use Rattle.rtds_sim.proofs.simulate.tell_run.Given as goal
+
+-- the state is that of the run so far
+abbrev pub invariant-loop-host : goal.invariant-loop-host
+invariant-loop-host g l = record {
+  stands : Standing l.sys l.wakes (rtds_run l.sys l.plan l.wakes l.slots) l.host;
+  told : Took g.T.EventTaker.has_taken l.initial.events l.events (printed_below l.sys l.wakes (rtds_run l.sys l.plan l.wakes l.slots) l.host.time);
+  ready : IsReady l.sys l.plan l.host;
+  ends : AreEnds l.sys l.host;
+  in_slots : l.host.time ≤ l.slots;
+}
+
+abbrev pub decreases-loop-host : goal.decreases-loop-host
+decreases-loop-host g l = l.slots - l.host.time
