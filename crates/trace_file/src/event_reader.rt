@@ -64,6 +64,7 @@ impl<'b, 's> EventReader<'b, 's> {
     }
 
     /// The next event, and none where the trace has ended.
+    #[inline(always)]
     pub fn advance(&mut self) -> Result<Option<Event>, TraceFault>
         requires { (sys : SystemView) × (text : List ℕ) × (events : List EventView)
             × HasGiven sys text events self.old }
@@ -106,6 +107,7 @@ impl<'b, 's> EventReader<'b, 's> {
     }
 
     /// The event of the row that was read last.
+    #[inline(always)]
     fn spelled(&self) -> Result<Event, TraceFault>
         requires { AreNames self.now.sys.now self.now.names }
         ensures event { (rows : List (List (List ℕ))) → IsBehindRows rows self.now
@@ -127,6 +129,7 @@ impl<'b, 's> EventReader<'b, 's> {
     }
 
     /// Takes an event that keeps the rules.
+    #[inline(always)]
     fn keep(&mut self, event: Event) -> Result<(), TraceFault>
         requires { IsSystem self.old.sys.now }
         ensures same { IsSameFile self.old self.new }
