@@ -11,6 +11,7 @@ mod Admitting
 mod Certifying
 mod Checking
 mod Auditing
+mod SlotEach
 mod Simulating
 mod HostAnswers
 mod Running

@@ -2,8 +2,9 @@ ghost use Rattle.std.specs.Prelude.{◌≡◌, ◌⊎◌, List, ℕ, Some, IfOk,
 ghost use Rattle.csv_rows.specs.Reading.{records_of};
 ghost use Rattle.tree_model.specs.View.{SystemView};
 ghost use Rattle.tree_model.specs.Plans.{IsPlan};
+ghost use Rattle.tree_model.specs.System.{IsSystem};
 ghost use Rattle.trace_file.specs.declared.fault.TraceFault.TheVariants.{NoMemory};
-ghost use Rattle.trace_file.specs.File.{IsFileFault, IsTraceText, rows_of};
+ghost use Rattle.trace_file.specs.File.{IsFileFault, rows_of};
 ghost use Rattle.auditor.specs.Finding.{IsFindingOf};
 ghost use Rattle.rt_top.specs.Attempt.{IsRefused};
 ghost use Rattle.rt_top.specs.Audit.{tracing, finding_status, AuditsBytes};
@@ -19,8 +20,8 @@ use crate::two_files::read_two;
 use auditor::{Finding, audit_bytes};
 use outside::Store;
 use rt_report::{FileFault, audit_text};
-use std::alloc::Global;
-use trace_file::{TraceFault, check_trace};
+use std::alloc::{AllocError, Global};
+use trace_file::TraceFault;
 use tree_model::{Plan, System};
 
 /// `audit FILE TRACE`: whether the trace gives each VCPU its budget in every period throughout
@@ -56,7 +57,8 @@ fn judge(alloc: Global, sys: &System, bytes: &[u8]) -> Result<Answer, Ending>
             })
         }
         Err(refused) => {
-            spelled(alloc, sys, bytes)?;
+            let plan = one_slot_each(alloc, sys)?;
+            found(alloc, sys, &plan, bytes)?;
             Err(refused)
         }
     }
@@ -77,17 +79,15 @@ fn found(alloc: Global, sys: &System, plan: &Plan, bytes: &[u8]) -> Result<Findi
     }
 }
 
-// The bytes of the second file word spell a trace. It stops where they are refused.
-fn spelled(alloc: Global, sys: &System, bytes: &[u8]) -> Result<(), Ending>
-    ensures spelled { IfOk result (λ done. IsTraceText sys.now bytes.now) }
-    ensures refused { IfErr result (λ stop. IfAnswered stop (λ a.
-        IsRefused (tracing sys.now bytes.now) a.status a.text.items)) }
-    ensures judged { IfErr result (λ stop. EndsJudged stop) }
+#[tactic(auto, using(crate::proofs::SlotEach::is_plan))]
+// A budget of one slot for each part: enough to look for the faults of a trace.
+fn one_slot_each(alloc: Global, sys: &System) -> Result<Plan, AllocError>
+    ensures plan { IfOk result (IsPlan sys.now) }
+    ensures system { IsSystem sys.now }
 {
-    match check_trace(alloc, sys, bytes) {
-        Ok(()) => Ok(()),
-        Err(fault) => Err(refuse(alloc, fault)),
-    }
+    Ok(Plan {
+        budgets: vec![in alloc; 1; sys.parts().len()]?,
+    })
 }
 
 // The answer to a fault of the second file word.
