@@ -1,4 +1,4 @@
-use crate::{Event, TraceFault, What, check_events, check_trace, print_trace, read_trace};
+use crate::{Event, TraceFault, What, check_events, print_trace, read_trace};
 use slot_model::{Name, Sched, Task};
 use std::alloc::{AllocError, Global};
 use std::process::Abort;
@@ -74,7 +74,6 @@ fn both_versions_tell_the_same(rt: HostRuntime) -> Result<(), Fail> {
             .ok()
             .expect(&rt, "a trace");
         assert_eq!(rt; trace.events(), shared.as_slice());
-        assert_eq!(rt; check_trace(alloc, &sys, text.as_bytes()), Ok(()));
         assert_eq!(rt; check_events(alloc, &sys, trace.events()), Ok(()));
         let printed = print_trace(alloc, &sys, &trace)?;
         assert_eq!(rt; printed.as_slice(), MICROSECONDS.as_bytes());
@@ -137,7 +136,6 @@ fn the_first_fault_is_told(rt: HostRuntime) -> Result<(), Fail> {
     for (text, fault) in cases {
         let refused = read_trace(alloc, &sys, text.as_bytes()).err();
         assert_eq!(rt; refused, Some(fault));
-        assert_eq!(rt; check_trace(alloc, &sys, text.as_bytes()), Err(fault));
     }
     Ok(())
 }
