@@ -1,9 +1,7 @@
 -- Worked rows and events over two cores, on which the rules of a trace and the order in which they
 -- are tried are computed: A stands on the first core, B on the second, and N in A.
-use Rattle.std.proofs.Common.{◌≡◌, ℕ, Bool, true, false, Option, Some, None, List, [], ◌∷◌, ⊥, map, codes, refl, arith}
-use Rattle.std.proofs.lemmas.Bool.{true≢false}
+use Rattle.std.proofs.Common.{◌≡◌, ℕ, true, false, Some, None, List, [], ◌∷◌, map, codes, refl, arith}
 use Rattle.slot_model.specs.Task.{plain_task}
-use Rattle.slot_model.specs.Slots.{sum_below}
 use Rattle.slot_model.specs.declared.sched.Sched.TheVariants.{Edf}
 use Rattle.tree_model.specs.declared.pinned_core.Core.{Core as CoreView}
 use Rattle.tree_model.specs.declared.place.Parent.{Parent}
@@ -12,9 +10,7 @@ use Rattle.tree_model.specs.View.{PartView, SystemView}
 use Rattle.trace_file.specs.declared.event.Event.{Event}
 use Rattle.trace_file.specs.declared.event.What.{What}
 use Rattle.trace_file.specs.declared.event.What.TheVariants.{Start, Wake, Block, Run, Stop, End}
-use Rattle.trace_file.specs.declared.fault.TraceFault.{TraceFault}
 use Rattle.trace_file.specs.declared.fault.TraceFault.TheVariants.{TimeFalls, NotRunnable, NotStarted, OutOfRange, Unknown, WrongCore, BadRow, NoEnd}
-use Rattle.trace_file.specs.declared.unit.Unit.{Unit}
 use Rattle.trace_file.specs.declared.unit.Unit.TheVariants.{Microseconds, Nanoseconds}
 use Rattle.trace_file.specs.Events.{last_among, holder, has_core_at}
 use Rattle.trace_file.specs.Rules.{row_fault}
