@@ -1,0 +1,118 @@
+-- What stands in a plain line, as the grammar of TOML reads it.
+use Rattle.std.proofs.Common.{◌≡◌, ℕ, ℤ, IsUtf8, rules, ◌-◌, ◌<◌, ◌≤◌, Bool, true, false, cond, ◌&&◌, ◌||◌, ◌==◌, List, [], ◌∷◌, ◌++◌, length, take, drop, slice_index, Option, Some, None, refl, sym, ap, ◌∙◌, inl, inr, arith, append-nil}
+use Rattle.std.proofs.lemmas.Bool.{cases_Bool}
+use Rattle.std.proofs.lemmas.Bool.Decides.{nat_tests}
+use Rattle.std.proofs.lemmas.Grind.{common_steps}
+use Rattle.std.specs.List.{prefix_len}
+use Rattle.toml_parser.specs.Lexical.{first, split_while, skip_ws, is_ws, is_bare, is_word}
+use Rattle.toml_parser.specs.Strings.{Key, key, key_after, simple_key, starts_string, is_plain, special, prepend, quoted, one_line, body}
+use Rattle.toml_parser.specs.Numbers.{unquoted}
+use Rattle.toml_parser.specs.declared.scalar.Scalar.{Scalar}
+use Rattle.toml_parser.proofs.LexicalLemmas.{skip_ws_none, IsCharBoundary-ascii_run, IsCharBoundary-wide_run}
+use Rattle.toml_parser.proofs.StringsLemmas.{after_special, body_run, key_after_turn}
+use Rattle.toml.specs.Data.{Data, string, integer, boolean}
+use Rattle.toml.specs.Tables.{key_value, array_table}
+use Rattle.toml.specs.Parse.{after_byte, key_equals, keyval, scalar_data, atom, val, header_key, expression, ends_line, line}
+use Rattle.std.specs.Borrow.{Bor}
+use Rattle.std.specs.Str.{IsCharBoundary}
+use Rattle.toml_items.specs.Item.{item_view}
+use Rattle.toml_items.specs.declared.item.Item.{Text, Number, Flag, the_lemmas}
+use Rattle.toml.proofs.Turns.{keyval_ok, val_atom}
+
+pub item_view-Text : (s : Bor (List ℕ)) → item_view (Text s) ≡ string s.now
+item_view-Text s = search (rules, the_lemmas)
+
+pub item_view-Number : (z : ℤ) → item_view (Number z) ≡ integer z
+item_view-Number z = search (rules, the_lemmas)
+
+pub item_view-Flag : (b : Bool) → item_view (Flag b) ≡ boolean b
+item_view-Flag b = search (rules, the_lemmas)
+
+-- a run of bytes in a text ends where a character does
+pub bare_boundary : (text : List ℕ) → IsUtf8 text → IsCharBoundary text (prefix_len is_bare text)
+bare_boundary text utf8 = IsCharBoundary-ascii_run is_bare text utf8 (λ c e. grind (arith, nat_tests))
+
+pub plain_boundary : (text : List ℕ) → IsCharBoundary text (prefix_len (is_plain 34 false) text)
+plain_boundary text = IsCharBoundary-wide_run (is_plain 34 false) text (λ c e. grind (arith, nat_tests))
+
+-- a bare key
+pub simple_key-bare : (text : List ℕ) → is_bare (first text) ≡ true → simple_key text ≡ Some (split_while is_bare text)
+unfolding simple_key
+simple_key-bare text bare =
+    let other : starts_string text ≡ false = grind (arith, nat_tests) in
+    rw (other, bare)
+
+pub key-one : (text k rest : List ℕ) → simple_key text ≡ Some (k, rest) → (first (skip_ws rest) == 46) ≡ false
+    → key text ≡ Some (([], k), skip_ws rest)
+key-one text k rest read stop = key_after_turn 80 [] text (omega arith) ∙ rw (read, stop)
+
+pub key-two : (text k rest next l end : List ℕ) → simple_key text ≡ Some (k, rest) → (first (skip_ws rest) == 46) ≡ true
+    → skip_ws (drop 1 (skip_ws rest)) ≡ next → simple_key next ≡ Some (l, end) → (first (skip_ws end) == 46) ≡ false
+    → key text ≡ Some ((k ∷ [], l), skip_ws end)
+key-two text k rest next l end read dot at_next read_next stop =
+    key_after_turn 80 [] text (omega arith) ∙ rw (read, dot, at_next) (key_after_turn 79 (k ∷ []) next (omega arith) ∙ rw (read_next, stop))
+
+pub key_equals-one : (text k rest : List ℕ) → simple_key text ≡ Some (k, rest) → (first (skip_ws rest) == 61) ≡ true
+    → key_equals text ≡ Some (([], k), skip_ws (drop 1 (skip_ws rest)))
+unfolding key_equals
+key_equals-one text k rest read found =
+    let stop : (first (skip_ws rest) == 46) ≡ false = grind (arith, nat_tests) in
+    rw (key-one text k rest read stop, found)
+
+-- a string of plain bytes
+some_plain : (p : ℕ → Bool) (text content end : List ℕ) → (content, end) ≡ split_while p text → 0 < length content → p (first text) ≡ true
+some_plain p [] content end parts some = absurd (omega (arith, ap (λ q. length q.0) parts))
+some_plain p (c ∷ cs) content end parts some =
+    elim (cases_Bool (p c)) [
+      | inl plain ↦ plain
+      | inr other ↦
+          let none : length content ≡ length (split_while p (c ∷ cs)).0 = ap (λ q. length q.0) parts in
+          let empty = rw other at none in
+          absurd (omega arith)
+    ]
+
+closed-string : (m : ℕ) (content end : List ℕ) → (first end == 34) ≡ true → prepend content (after_special 34 false m end) ≡ Some (content, drop 1 end)
+unfolding special
+closed-string m content end closed = rw (closed, append-nil content)
+
+quoted-run : (text content end : List ℕ) → (content, end) ≡ split_while (is_plain 34 false) text → 0 < length content
+    → (first end == 34) ≡ true → quoted (34 ∷ text) ≡ Some (content, drop 1 end)
+unfolding quoted one_line
+quoted-run text content end parts some closed =
+    let plain = some_plain (is_plain 34 false) text content end parts some in
+    let other : (first text == 34) ≡ false = grind (arith, nat_tests) in
+    let (m, room, run) = body_run 34 false text (length (34 ∷ text)) (omega arith) in
+    let front : content ≡ (split_while (is_plain 34 false) text).0 = ap (λ q. q.0) parts in
+    let back : end ≡ (split_while (is_plain 34 false) text).1 = ap (λ q. q.1) parts in
+    rw other (run ∙ rw (← front, ← back) (closed-string m content end closed))
+
+pub quoted-plain : (text content end : List ℕ) → first text ≡ 34 → (content, end) ≡ split_while (is_plain 34 false) (drop 1 text)
+    → 0 < length content → (first end == 34) ≡ true → quoted text ≡ Some (content, drop 1 end)
+quoted-plain [] content end quote parts some closed = absurd (omega (arith, quote))
+quoted-plain (c ∷ cs) content end quote parts some closed = rw quote (quoted-run cs content end parts some closed)
+
+pub val-text : (text content rest : List ℕ) → first text ≡ 34 → quoted text ≡ Some (content, rest) → val 80 text ≡ Some (string content, rest)
+unfolding atom
+val-text text content rest quote read =
+    rw (val_atom 80 text (rw quote refl) (rw quote refl)) (rw (quote, read))
+
+pub val-word : (text : List ℕ) (x : Scalar) (rest : List ℕ) → is_word (first text) ≡ true → unquoted text ≡ Some (x, rest) → val 80 text ≡ Some (scalar_data x, rest)
+unfolding atom
+val-word text x rest word read =
+    let other : starts_string text ≡ false = grind (arith, nat_tests) in
+    rw (val_atom 80 text (grind (arith, nat_tests)) (grind (arith, nat_tests)), other, read)
+
+pub line-pair : (text k at_value : List ℕ) (d : Data) (rest : List ℕ) → is_bare (first text) ≡ true → key_equals text ≡ Some (([], k), at_value)
+    → val 80 at_value ≡ Some (d, rest) → ends_line (skip_ws rest) ≡ true → line text ≡ Some ((([], k), key_value d), rest)
+unfolding line expression
+line-pair text k at_value d rest bare read value ends =
+    let other : (first text == 91) ≡ false = grind (arith, nat_tests) in
+    rw (other, keyval_ok (val 80) text at_value rest ([], k) d read value, ends)
+
+pub line-array : (text : List ℕ) (k : Key) (rest : List ℕ) → (first text == 91) ≡ true → (slice_index text 1 == 91) ≡ true
+    → is_bare (first (drop 2 text)) ≡ true → key (drop 2 text) ≡ Some (k, rest) → (first rest == 93) ≡ true → (first (drop 1 rest) == 93) ≡ true
+    → ends_line (skip_ws (drop 1 (drop 1 rest))) ≡ true → line text ≡ Some ((k, array_table), drop 1 (drop 1 rest))
+unfolding line expression header_key
+line-array text k rest one two bare read close_one close_two ends =
+    let not_ws : is_ws (first (drop 2 text)) ≡ false = grind (arith, nat_tests) in
+    rw (one, two, skip_ws_none (drop 2 text) not_ws, read, close_one, close_two, ends)
