@@ -1,5 +1,5 @@
 -- What stands in a plain line, as the grammar of TOML reads it.
-use Rattle.std.proofs.Common.{◌≡◌, ℕ, ℤ, IsUtf8, rules, ◌-◌, ◌<◌, ◌≤◌, Bool, true, false, cond, ◌&&◌, ◌||◌, ◌==◌, List, [], ◌∷◌, ◌++◌, length, take, drop, slice_index, Option, Some, None, refl, sym, ap, ◌∙◌, inl, inr, arith, append-nil}
+use Rattle.std.proofs.Common.{◌≡◌, ℕ, ℤ, IsUtf8, rules, ◌-◌, ◌<◌, ◌≤◌, Bool, true, false, cond, ◌&&◌, ◌||◌, ◌==◌, List, [], ◌∷◌, ◌++◌, length, take, drop, slice_index, Option, Some, None, refl, sym, ap, ◌∙◌, inl, inr, arith, append-nil, get_or-drop, drop-drop}
 use Rattle.std.proofs.lemmas.Bool.{cases_Bool}
 use Rattle.std.proofs.lemmas.Bool.Decides.{nat_tests}
 use Rattle.std.proofs.lemmas.Grind.{common_steps}
@@ -46,18 +46,31 @@ pub key-one : (text k rest : List ℕ) → simple_key text ≡ Some (k, rest) �
     → key text ≡ Some (([], k), skip_ws rest)
 key-one text k rest read stop = key_after_turn 80 [] text (omega arith) ∙ rw (read, stop)
 
-pub key-two : (text k rest next l end : List ℕ) → simple_key text ≡ Some (k, rest) → (first (skip_ws rest) == 46) ≡ true
-    → skip_ws (drop 1 (skip_ws rest)) ≡ next → simple_key next ≡ Some (l, end) → (first (skip_ws end) == 46) ≡ false
-    → key text ≡ Some ((k ∷ [], l), skip_ws end)
-key-two text k rest next l end read dot at_next read_next stop =
-    key_after_turn 80 [] text (omega arith) ∙ rw (read, dot, at_next) (key_after_turn 79 (k ∷ []) next (omega arith) ∙ rw (read_next, stop))
+-- the keys of a header, at the bracket behind them
+pub keys-one : (text k rest : List ℕ) → simple_key text ≡ Some (k, rest) → first rest ≡ 93 → key text ≡ Some (([], k), rest)
+keys-one text k rest read closed =
+    let here : skip_ws rest ≡ rest = skip_ws_none rest (rw closed refl) in
+    let stop : (first (skip_ws rest) == 46) ≡ false = rw (here, closed) refl in
+    key-one text k rest read stop ∙ rw here refl
 
-pub key_equals-one : (text k rest : List ℕ) → simple_key text ≡ Some (k, rest) → (first (skip_ws rest) == 61) ≡ true
+pub keys-two : (text k rest l end : List ℕ) → simple_key text ≡ Some (k, rest) → first rest ≡ 46 → is_bare (first (drop 1 rest)) ≡ true
+    → simple_key (drop 1 rest) ≡ Some (l, end) → first end ≡ 93 → key text ≡ Some ((k ∷ [], l), end)
+keys-two text k rest l end read dot bare more closed =
+    let here : skip_ws rest ≡ rest = skip_ws_none rest (rw dot refl) in
+    let next : skip_ws (drop 1 rest) ≡ drop 1 rest = skip_ws_none (drop 1 rest) (grind (arith, nat_tests)) in
+    let at_end : skip_ws end ≡ end = skip_ws_none end (rw closed refl) in
+    let found : (first rest == 46) ≡ true = rw dot refl in
+    let stop : (first end == 46) ≡ false = rw closed refl in
+    key_after_turn 80 [] text (omega arith)
+    ∙ rw (read, here, found, next) (key_after_turn 79 (k ∷ []) (drop 1 rest) (omega arith) ∙ rw (more, at_end, stop))
+
+pub key_equals-one : (text k rest : List ℕ) → simple_key text ≡ Some (k, rest) → first (skip_ws rest) ≡ 61
     → key_equals text ≡ Some (([], k), skip_ws (drop 1 (skip_ws rest)))
 unfolding key_equals
 key_equals-one text k rest read found =
-    let stop : (first (skip_ws rest) == 46) ≡ false = grind (arith, nat_tests) in
-    rw (key-one text k rest read stop, found)
+    let stop : (first (skip_ws rest) == 46) ≡ false = rw found refl in
+    let equals : (first (skip_ws rest) == 61) ≡ true = rw found refl in
+    rw (key-one text k rest read stop, equals)
 
 -- a string of plain bytes
 some_plain : (p : ℕ → Bool) (text content end : List ℕ) → (content, end) ≡ split_while p text → 0 < length content → p (first text) ≡ true
@@ -87,9 +100,9 @@ quoted-run text content end parts some closed =
     rw other (run ∙ rw (← front, ← back) (closed-string m content end closed))
 
 pub quoted-plain : (text content end : List ℕ) → first text ≡ 34 → (content, end) ≡ split_while (is_plain 34 false) (drop 1 text)
-    → 0 < length content → (first end == 34) ≡ true → quoted text ≡ Some (content, drop 1 end)
+    → 0 < length content → first end ≡ 34 → quoted text ≡ Some (content, drop 1 end)
 quoted-plain [] content end quote parts some closed = absurd (omega (arith, quote))
-quoted-plain (c ∷ cs) content end quote parts some closed = rw quote (quoted-run cs content end parts some closed)
+quoted-plain (c ∷ cs) content end quote parts some closed = rw quote (quoted-run cs content end parts some (rw closed refl))
 
 pub val-text : (text content rest : List ℕ) → first text ≡ 34 → quoted text ≡ Some (content, rest) → val 80 text ≡ Some (string content, rest)
 unfolding atom
@@ -109,10 +122,16 @@ line-pair text k at_value d rest bare read value ends =
     let other : (first text == 91) ≡ false = grind (arith, nat_tests) in
     rw (other, keyval_ok (val 80) text at_value rest ([], k) d read value, ends)
 
-pub line-array : (text : List ℕ) (k : Key) (rest : List ℕ) → (first text == 91) ≡ true → (slice_index text 1 == 91) ≡ true
-    → is_bare (first (drop 2 text)) ≡ true → key (drop 2 text) ≡ Some (k, rest) → (first rest == 93) ≡ true → (first (drop 1 rest) == 93) ≡ true
-    → ends_line (skip_ws (drop 1 (drop 1 rest))) ≡ true → line text ≡ Some ((k, array_table), drop 1 (drop 1 rest))
+pub line-array : (text : List ℕ) (k : Key) (rest : List ℕ) → first text ≡ 91 → slice_index text 1 ≡ 91
+    → is_bare (first (drop 2 text)) ≡ true → key (drop 2 text) ≡ Some (k, rest) → first rest ≡ 93 → slice_index rest 1 ≡ 93
+    → ends_line (skip_ws (drop 2 rest)) ≡ true → line text ≡ Some ((k, array_table), drop 2 rest)
 unfolding line expression header_key
 line-array text k rest one two bare read close_one close_two ends =
     let not_ws : is_ws (first (drop 2 text)) ≡ false = grind (arith, nat_tests) in
-    rw (one, two, skip_ws_none (drop 2 text) not_ws, read, close_one, close_two, ends)
+    let open_one : (first text == 91) ≡ true = rw one refl in
+    let open_two : (slice_index text 1 == 91) ≡ true = rw two refl in
+    let closed : (first rest == 93) ≡ true = rw close_one refl in
+    let next : first (drop 1 rest) ≡ slice_index rest 1 = get_or-drop 1 rest 0 0 in
+    let closed_again : (first (drop 1 rest) == 93) ≡ true = rw (next, close_two) refl in
+    let behind : drop 1 (drop 1 rest) ≡ drop 2 rest = drop-drop 1 1 rest in
+    rw (open_one, open_two, skip_ws_none (drop 2 text) not_ws, read, closed, closed_again, behind, ends)

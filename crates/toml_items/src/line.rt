@@ -1,7 +1,7 @@
 ghost use Rattle.std.specs.Prelude.{◌≡◌, ◌+◌, ◌<◌, ◌≤◌, true, false, [], ◌∷◌, Some, length, slice_index, IfSome};
 ghost use Rattle.std.specs.List.{prefix_len};
 ghost use Rattle.toml.specs.Tables.{key_value, array_table};
-ghost use Rattle.toml.specs.Parse.{line, key_equals, val, ends_line};
+ghost use Rattle.toml.specs.Parse.{line, key_equals, scalar_data, val, ends_line};
 ghost use Rattle.toml_parser.specs.Lexical as lexical;
 ghost use Rattle.toml_parser.specs.Strings as strings;
 ghost use Rattle.toml_items.specs.Item.{item_view};
@@ -133,8 +133,19 @@ fn word_at(alloc: Global, text: &str) -> Option<(Item<'_>, &str)>
     ensures shorter { IfSome result (λ p. length p.1.now < length text.now) }
 {
     match unquoted(alloc, text) {
-        Ok((Scalar::Integer(number), rest)) => Some((Item::Number(number), rest)),
-        Ok((Scalar::Boolean(flag), rest)) => Some((Item::Flag(flag), rest)),
+        Ok((scalar, rest)) => Some((scalar_item(scalar)?, rest)),
+        Err(_) => None,
+    }
+}
+
+/// A whole number or a truth value as an item.
+#[inline]
+fn scalar_item<'t>(scalar: Scalar) -> Option<Item<'t>>
+    ensures { IfSome result (λ item. item_view item ≡ scalar_data scalar) }
+{
+    match scalar {
+        Scalar::Integer(number) => Some(Item::Number(number)),
+        Scalar::Boolean(flag) => Some(Item::Flag(flag)),
         _ => None,
     }
 }
