@@ -1,7 +1,6 @@
 -- A new entry at its place among the entries of a table.
-use Rattle.std.proofs.Common.{◌≡◌, ℕ, zero, suc, ◌+◌, ◌-◌, ◌<◌, ◌≤◌, List, [], ◌∷◌, length, get_or, drop, Option, None, Ordering, Less, Equal, Greater, nat_cmp, refl, sym, ap, ◌∙◌, arith}
+use Rattle.std.proofs.Common.{◌≡◌, ℕ, suc, ◌+◌, ◌-◌, ◌<◌, ◌≤◌, List, ◌∷◌, length, get_or, drop, None, Greater, nat_cmp, ap, arith}
 use Rattle.std.proofs.lemmas.List.{drop_more}
-use Rattle.std.proofs.Math.Seq.{drop-length}
 use Rattle.std.specs.Borrow.{Bor}
 use Rattle.std.specs.List.{insert}
 use Rattle.std.specs.Cmp.Lexicographic.{slice_cmp}
@@ -18,36 +17,21 @@ abbrev pub IsPlace : List ℕ → List Entry → ℕ → Type 0
 IsPlace key entries place = record {
   new : get_member key (entries_view entries) ≡ None;
   within : place ≤ length entries;
-  put : (k : Bor (List ℕ)) → k.now ≡ key → (item : Item) → insert_member key (item_view item) (entries_view entries) ≡ entries_view (insert entries place (k, item))
+  put : (k : Bor (List ℕ)) → k.now ≡ key → (item : Item) →
+      insert_member key (item_view item) (entries_view entries)
+      ≡ entries_view (insert entries place (k, item));
 }
-
-IsPlace-end : (key : List ℕ) → IsPlace key [] 0
-IsPlace-end key = record { new = refl; within = omega arith; put = λ k same item. rw same refl }
-
-IsPlace-before : (key : List ℕ) (e : Entry) (es : List Entry) (place : ℕ) → slice_cmp nat_cmp key e.0.now ≡ Less → IsPlace key es place → IsPlace key (e ∷ es) 0
-IsPlace-before key e es place less h = record { new = rw less h.new; within = omega arith; put = λ k same item. rw (less, same) refl }
 
 IsPlace-behind : (key : List ℕ) (e : Entry) (es : List Entry) (place : ℕ) → slice_cmp nat_cmp key e.0.now ≡ Greater → IsPlace key es place → IsPlace key (e ∷ es) (suc place)
 IsPlace-behind key e es place greater h = record {
   new = rw greater h.new;
   within = omega (arith, h.within);
-  put = λ k same item. rw greater (ap (member e.0.now (item_view e.1)) (h.put k same item))
+  put = λ k same item. rw greater (ap (member e.0.now (item_view e.1)) (h.put k same item));
 }
 
 -- the same among the entries from an index on
 abbrev pub IsPlaceFrom : ℕ → List ℕ → List Entry → ℕ → Type 0
 IsPlaceFrom at key entries place = (at ≤ place) × IsPlace key (drop at entries) (place - at)
-
-pub IsPlaceFrom-end : (key : List ℕ) (entries : List Entry) → IsPlaceFrom (length entries) key entries (length entries)
-IsPlaceFrom-end key entries =
-    let none : length entries - length entries ≡ 0 = omega arith in
-    (omega arith, rw (none, drop-length entries) (IsPlace-end key))
-
-pub IsPlaceFrom-before : (key : List ℕ) (entries : List Entry) (at place : ℕ) (d : Entry) → at < length entries → slice_cmp nat_cmp key (get_or entries at d).0.now ≡ Less
-    → IsPlaceFrom (at + 1) key entries place → IsPlaceFrom at key entries at
-IsPlaceFrom-before key entries at place d within less h =
-    let none : at - at ≡ 0 = omega arith in
-    (omega arith, rw (none, drop_more entries at d within) (IsPlace-before key (get_or entries at d) (drop (at + 1) entries) (place - (at + 1)) less h.1))
 
 pub IsPlaceFrom-behind : (key : List ℕ) (entries : List Entry) (at place : ℕ) (d : Entry) → at < length entries → slice_cmp nat_cmp key (get_or entries at d).0.now ≡ Greater
     → IsPlaceFrom (at + 1) key entries place → IsPlaceFrom at key entries place

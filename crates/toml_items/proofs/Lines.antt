@@ -1,32 +1,19 @@
 -- What stands in a plain line, as the grammar of TOML reads it.
-use Rattle.std.proofs.Common.{◌≡◌, ℕ, ℤ, IsUtf8, rules, ◌-◌, ◌<◌, ◌≤◌, Bool, true, false, cond, ◌&&◌, ◌||◌, ◌==◌, List, [], ◌∷◌, ◌++◌, length, take, drop, slice_index, Option, Some, None, refl, sym, ap, ◌∙◌, inl, inr, arith, append-nil, get_or-drop, drop-drop}
+use Rattle.std.proofs.Common.{◌≡◌, ℕ, IsUtf8, ◌<◌, Bool, true, false, ◌==◌, List, [], ◌∷◌, length, drop, slice_index, Some, refl, ap, ◌∙◌, inl, inr, arith, append-nil, get_or-drop, drop-drop}
 use Rattle.std.proofs.lemmas.Bool.{cases_Bool}
 use Rattle.std.proofs.lemmas.Bool.Decides.{nat_tests}
-use Rattle.std.proofs.lemmas.Grind.{common_steps}
 use Rattle.std.specs.List.{prefix_len}
 use Rattle.toml_parser.specs.Lexical.{first, split_while, skip_ws, is_ws, is_bare, is_word}
-use Rattle.toml_parser.specs.Strings.{Key, key, key_after, simple_key, starts_string, is_plain, special, prepend, quoted, one_line, body}
+use Rattle.toml_parser.specs.Strings.{Key, key, simple_key, starts_string, is_plain, special, prepend, quoted, one_line}
 use Rattle.toml_parser.specs.Numbers.{unquoted}
 use Rattle.toml_parser.specs.declared.scalar.Scalar.{Scalar}
 use Rattle.toml_parser.proofs.LexicalLemmas.{skip_ws_none, IsCharBoundary-ascii_run, IsCharBoundary-wide_run}
 use Rattle.toml_parser.proofs.StringsLemmas.{after_special, body_run, key_after_turn}
-use Rattle.toml.specs.Data.{Data, string, integer, boolean}
+use Rattle.toml.specs.Data.{Data, string}
 use Rattle.toml.specs.Tables.{key_value, array_table}
-use Rattle.toml.specs.Parse.{after_byte, key_equals, keyval, scalar_data, atom, val, header_key, expression, ends_line, line}
-use Rattle.std.specs.Borrow.{Bor}
+use Rattle.toml.specs.Parse.{key_equals, scalar_data, atom, val, header_key, expression, ends_line, line}
 use Rattle.std.specs.Str.{IsCharBoundary}
-use Rattle.toml_items.specs.Item.{item_view}
-use Rattle.toml_items.specs.declared.item.Item.{Text, Number, Flag, the_lemmas}
 use Rattle.toml.proofs.Turns.{keyval_ok, val_atom}
-
-pub item_view-Text : (s : Bor (List ℕ)) → item_view (Text s) ≡ string s.now
-item_view-Text s = search (rules, the_lemmas)
-
-pub item_view-Number : (z : ℤ) → item_view (Number z) ≡ integer z
-item_view-Number z = search (rules, the_lemmas)
-
-pub item_view-Flag : (b : Bool) → item_view (Flag b) ≡ boolean b
-item_view-Flag b = search (rules, the_lemmas)
 
 -- a run of bytes in a text ends where a character does
 pub bare_boundary : (text : List ℕ) → IsUtf8 text → IsCharBoundary text (prefix_len is_bare text)

@@ -15,7 +15,8 @@ pub fn put_entry<'t>(
     key: &'t str,
     item: Item<'t>,
 ) -> Result<bool, AllocError>
-    ensures new { OnOk result (result ≡ Ok true → get_member key.now (entries_view entries.old.items) ≡ None) }
+    ensures new { OnOk result (result ≡ Ok true →
+        get_member key.now (entries_view entries.old.items) ≡ None) }
     ensures put { OnOk result (result ≡ Ok true → entries_view entries.new.items
         ≡ insert_member key.now (item_view item.entry) (entries_view entries.old.items)) }
 {

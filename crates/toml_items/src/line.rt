@@ -61,7 +61,11 @@ pub fn header_at(text: &str) -> Option<Header<'_>>
     if !ends_here(rest) {
         return None;
     }
-    Some(Header { parent: keys.parent, key: keys.key, rest })
+    Some(Header {
+        parent: keys.parent,
+        key: keys.key,
+        rest,
+    })
 }
 
 /// Whether the line ends behind spaces and tabs.
@@ -82,13 +86,21 @@ fn keys_at(text: &str) -> Option<Header<'_>>
 {
     let (key, rest) = bare_key(text)?;
     match first(rest) {
-        b']' => Some(Header { parent: None, key, rest }),
+        b']' => Some(Header {
+            parent: None,
+            key,
+            rest,
+        }),
         b'.' => {
             let (last, end) = bare_key(skip(rest, 1))?;
             if first(end) != b']' {
                 return None;
             }
-            Some(Header { parent: Some(key), key: last, rest: end })
+            Some(Header {
+                parent: Some(key),
+                key: last,
+                rest: end,
+            })
         }
         _ => None,
     }

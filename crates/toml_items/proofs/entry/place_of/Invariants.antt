@@ -1,4 +1,4 @@
-use Rattle.std.proofs.Common.{◌≡◌, ◌≤◌, length}
+use Rattle.std.proofs.Common.{◌≤◌, length}
 use Rattle.toml_items.proofs.Entries.{IsPlaceFrom}
 use Rattle.toml_items.proofs.entry.place_of.Given as goal
 

@@ -1,5 +1,4 @@
-use Rattle.std.proofs.Common.{◌≡◌, ◌<◌, length, refl, sym, ◌∙◌, arith, rules}
-use Rattle.std.proofs.lemmas.Bool.Decides.{nat_tests}
+use Rattle.std.proofs.Common.{sym, ◌∙◌}
 use Rattle.toml_items.proofs.Lines.{simple_key-bare}
 use Rattle.toml_items.proofs.line.bare_key.Goals as goal
 

@@ -1,4 +1,3 @@
-use Rattle.std.proofs.Common.{◌≡◌}
 use Rattle.toml_items.proofs.Lines.{val-word}
 use Rattle.toml_items.proofs.line.word_at.Goals as goal
 
