@@ -1,6 +1,6 @@
 -- What stands in a plain line, as the grammar of TOML reads it.
-use Rattle.std.proofs.Common.{◌≡◌, ℕ, IsUtf8, ◌<◌, Bool, true, false, ◌==◌, List, [], ◌∷◌, length, drop, slice_index, Some, refl, ap, ◌∙◌, inl, inr, arith, append-nil, get_or-drop, drop-drop}
-use Rattle.std.proofs.lemmas.Bool.{cases_Bool}
+use Rattle.std.proofs.Common.{◌≡◌, ℕ, suc, ◌+◌, IsUtf8, ◌<◌, Bool, true, false, ◌==◌, List, [], ◌∷◌, length, drop, slice_index, Some, refl, ap, ◌∙◌, inl, inr, arith, append-nil, get_or-drop, drop-drop}
+use Rattle.std.proofs.lemmas.Bool.{cases_Bool, false≢true}
 use Rattle.std.proofs.lemmas.Bool.Decides.{nat_tests}
 use Rattle.std.specs.List.{prefix_len}
 use Rattle.toml_parser.specs.Lexical.{first, split_while, skip_ws, is_ws, is_bare, is_word}
@@ -21,6 +21,13 @@ bare_boundary text utf8 = IsCharBoundary-ascii_run is_bare text utf8 (λ c e. gr
 
 pub plain_boundary : (text : List ℕ) → IsCharBoundary text (prefix_len (is_plain 34 false) text)
 plain_boundary text = IsCharBoundary-wide_run (is_plain 34 false) text (λ c e. grind (arith, nat_tests))
+
+pub skip_ws-one : (text : List ℕ) → is_ws (first text) ≡ true → skip_ws text ≡ skip_ws (drop 1 text)
+unfolding skip_ws
+skip_ws-one [] ws = absurd (false≢true ws)
+skip_ws-one (c ∷ cs) ws =
+    let more : 1 + prefix_len is_ws cs ≡ suc (prefix_len is_ws cs) = omega arith in
+    rw (ws, more) refl
 
 -- a bare key
 pub simple_key-bare : (text : List ℕ) → is_bare (first text) ≡ true → simple_key text ≡ Some (split_while is_bare text)

@@ -9,7 +9,7 @@ ghost use Rattle.toml_items.specs.Plain.{path_of};
 
 use crate::Item;
 use std::alloc::Global;
-use toml_parser::bytes::{is_bare, is_non_eol, is_word};
+use toml_parser::bytes::{is_bare, is_non_eol, is_word, is_ws};
 use toml_parser::text::{byte_at, first, skip, skip_ws};
 use toml_parser::{Scalar, unquoted};
 
@@ -68,12 +68,29 @@ pub fn header_at(text: &str) -> Option<Header<'_>>
     })
 }
 
+/// After spaces and tabs. Mostly none or one stands there.
+#[inline]
+fn after_ws(text: &str) -> &str
+    ensures rest { result.now ≡ lexical.skip_ws text.now }
+    ensures within { length result.now ≤ length text.now }
+{
+    if !is_ws(first(text)) {
+        return text;
+    }
+    let rest = skip(text, 1);
+    if is_ws(first(rest)) {
+        skip_ws(rest)
+    } else {
+        rest
+    }
+}
+
 /// Whether the line ends behind spaces and tabs.
 #[inline]
 fn ends_here(text: &str) -> bool
     ensures { result ≡ ends_line (lexical.skip_ws text.now) }
 {
-    let rest = skip_ws(text);
+    let rest = after_ws(text);
     rest.is_empty() || matches!(first(rest), b'#' | b'\n' | b'\r')
 }
 
@@ -113,11 +130,11 @@ fn key_at(text: &str) -> Option<(&str, &str)>
     ensures shorter { IfSome result (λ p. length p.1.now < length text.now) }
 {
     let (key, behind) = bare_key(text)?;
-    let at_equals = skip_ws(behind);
+    let at_equals = after_ws(behind);
     if first(at_equals) != b'=' {
         return None;
     }
-    Some((key, skip_ws(skip(at_equals, 1))))
+    Some((key, after_ws(skip(at_equals, 1))))
 }
 
 /// A plain value, and the text behind it.
