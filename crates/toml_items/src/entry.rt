@@ -9,7 +9,11 @@ use crate::{Entry, Item};
 use std::alloc::AllocError;
 use std::cmp::Ordering;
 
-/// Puts a key that is new with its item at its place, and says whether it was new.
+/// The most keys of a table that is read from a plain text: each new key is compared with all.
+const MOST: usize = 64;
+
+/// Puts a key that is new with its item at its place. It says whether it did: not where the key is
+/// there already, and not where the table has the most keys.
 pub fn put_entry<'t>(
     entries: &mut Vec<Entry<'t>>,
     key: &'t str,
@@ -20,6 +24,9 @@ pub fn put_entry<'t>(
     ensures put { OnOk result (result ≡ Ok true → entries_view entries.new.items
         ≡ insert_member key.now (item_view item.entry) (entries_view entries.old.items)) }
 {
+    if entries.len() >= MOST {
+        return Ok(false);
+    }
     match place_of(entries, key) {
         Some(place) => {
             entries.insert(place, (key, item))?;
