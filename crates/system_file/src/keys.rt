@@ -19,7 +19,7 @@ pub fn find<'e, 't>(table: &'e [Entry<'t>], key: &str) -> Option<&'e Item<'t>>
     ensures { option_map (λ v. item_view v.now) result ≡ get_member key.now (entries_view table.now) }
 {
     for (name, item) in table {
-        if *name == key {
+        if key == *name {
             return Some(item);
         }
     }
