@@ -1,12 +1,12 @@
 -- An item, level by level, and lists of them.
-use Rattle.std.proofs.Common.{◌≡◌, ℕ, ℤ, ◌<◌, ◌+◌, Bool, List, [], ◌∷◌, ◌++◌, map, length, take, get_or, String, string_bytes, Vec, Global, Bor, refl, sym, ap, rules}
+use Rattle.std.proofs.Common.{◌≡◌, ℕ, ℤ, Float as FloatValue, ◌<◌, ◌+◌, Bool, List, [], ◌∷◌, ◌++◌, map, length, take, get_or, String, string_bytes, Vec, Global, Bor, refl, sym, ap, rules}
 use Rattle.std.proofs.lemmas.List.{map-append, take_more}
 use Rattle.std.specs.Map.Iter.{deref_pair}
-use Rattle.toml.specs.Data.{item, member, string, integer, boolean, array, table, push_item}
+use Rattle.toml.specs.Data.{item, member, string, integer, float, boolean, array, table, push_item}
 use Rattle.toml.specs.View.{view, items_view, members_view}
 use Rattle.toml.specs.declared.value.Value.{Value}
 use Rattle.toml.proofs.Views.{with_last, items_view-push, members_view-last}
-use Rattle.toml_items.specs.declared.item.Item.{Item, Text, Number, Flag, List as ListCase, Table, Other, the_lemmas}
+use Rattle.toml_items.specs.declared.item.Item.{Item, Text, Number, Flag, List as ListCase, Table, Float, the_lemmas}
 use Rattle.toml_items.specs.Item.{item_view, list_view, entries_view}
 
 abbrev pub Entry : Type 0
@@ -27,8 +27,8 @@ item_view-List v = search (rules, the_lemmas)
 pub item_view-Table : (v : Vec Entry Global) → item_view (Table v) ≡ table (entries_view v.items)
 item_view-Table v = search (rules, the_lemmas)
 
-pub item_view-Other : (v : Bor Value) → item_view (Other v) ≡ view v.now
-item_view-Other v = search (rules, the_lemmas)
+pub item_view-Float : (x : FloatValue) → item_view (Float x) ≡ float x
+item_view-Float x = search (rules, the_lemmas)
 
 -- one more item at the end
 pub list_view-push : (items : List Item) (x : Item) → list_view (items ++ x ∷ []) ≡ push_item (list_view items) (item_view x)

@@ -43,6 +43,7 @@ fn item_of<'t>(alloc: Global, value: &'t Value) -> Result<Item<'t>, AllocError>
         Value::Boolean(flag) => Ok(Item::Flag(*flag)),
         Value::Array(values) => Ok(Item::List(array_items(alloc, values)?)),
         Value::Table(table) => Ok(Item::Table(table_entries(alloc, table)?)),
-        Value::Float(_) | Value::Datetime(_) => Ok(Item::Other(value)),
+        Value::Float(number) => Ok(Item::Float(*number)),
+        Value::Datetime(date) => Ok(Item::Date(date)),
     }
 }
