@@ -1,4 +1,4 @@
-ghost use Rattle.std.specs.Prelude.{◌≡◌, ℕ, ◌≤◌, pos, true, false, List, [], length, map, codes, bytes_eq, string_bytes, Option, Some, None, option_map, IfOk, IfErr};
+ghost use Rattle.std.specs.Prelude.{◌≡◌, ℕ, ◌≤◌, pos, true, false, List, [], length, map, codes, bytes_eq, string_bytes, Option, Some, None, option_map, IfOk, IfErr, IsOkAnd};
 ghost use Rattle.toml.specs.Data.{string, integer, array, table, get_member, as_table, as_array};
 ghost use Rattle.toml_items.specs.Item.{item_view, list_view, entries_view};
 ghost use Rattle.tree_model.specs.System.{IsGivenBudget};
@@ -16,7 +16,8 @@ use toml_items::{Entry, Item};
 
 /// The value at a key.
 pub fn find<'e, 't>(table: &'e [Entry<'t>], key: &str) -> Option<&'e Item<'t>>
-    ensures { option_map (λ v. item_view v.now) result ≡ get_member key.now (entries_view table.now) }
+    ensures { option_map (λ v. item_view v.now) result
+        ≡ get_member key.now (entries_view table.now) }
 {
     for (name, item) in table {
         if key == *name {
@@ -32,7 +33,8 @@ pub fn value_at<'e, 't>(
     key: &str,
     spot: Spot,
 ) -> Result<&'e Item<'t>, SystemFault>
-    ensures ok { IfOk result (λ v. get_member key.now (entries_view table.now) ≡ Some (item_view v.now)) }
+    ensures ok { IfOk result (λ v.
+        get_member key.now (entries_view table.now) ≡ Some (item_view v.now)) }
     ensures fault { IfErr result (λ fault. (get_member key.now (entries_view table.now) ≡ None)
         × (fault ≡ SystemFault.MissingKey spot)) }
 {
@@ -122,7 +124,8 @@ pub fn number_at(
     spot: Spot,
 ) -> Result<u64, SystemFault>
     ensures ok { IfOk result (λ n.
-        (required spot (range_faults spot highest) (get_member key.now (entries_view table.now)) ≡ [])
+        (required spot (range_faults spot highest) (get_member key.now (entries_view table.now))
+        ≡ [])
         × (get_member key.now (entries_view table.now) ≡ Some (integer (pos n))) × (1 ≤ n)
         × (n ≤ highest)) }
     ensures fault { IfErr result (λ fault.
@@ -145,7 +148,8 @@ pub fn given_number_at(
         × (n ≡ given_number (get_member key.now (entries_view table.now)))
         × IsGivenBudget highest n) }
     ensures fault { IfErr result (λ fault.
-        first_of (optional (range_faults spot highest) (get_member key.now (entries_view table.now)))
+        first_of
+        (optional (range_faults spot highest) (get_member key.now (entries_view table.now)))
         ≡ Some fault) }
 {
     match find(table, key) {
@@ -227,6 +231,13 @@ pub fn few_of<'e, 't>(
     Ok(elements)
 }
 
+/// The elements of an array that is left out.
+fn no_elements<'e, 't>() -> Result<&'e [Item<'t>], SystemFault>
+    ensures { IsOkAnd result (λ xs. xs.now ≡ []) }
+{
+    Ok(&[])
+}
+
 /// The elements at a key that may be left out, at most so many.
 pub fn elements_at<'e, 't>(
     table: &'e [Entry<'t>],
@@ -244,7 +255,7 @@ pub fn elements_at<'e, 't>(
 {
     match find(table, key) {
         Some(value) => few_of(value, most, spot),
-        None => Ok(&[]),
+        None => no_elements(),
     }
 }
 

@@ -71,7 +71,8 @@ fn read_part<'t>(
         (core_elements before later : List Data) →
         Known core_elements before (item_view value.now ∷ later) cores names.old earlier.now →
         (part_faults format core_elements before (item_view value.now) ≡ [])
-        × (part ≡ spelled_part core_elements (before ++ item_view value.now ∷ later) (item_view value.now))
+        × (part ≡ spelled_part core_elements (before ++ item_view value.now ∷ later)
+        (item_view value.now))
         × HaveNames (core_elements ++ (before ++ item_view value.now ∷ [])) names.new) }
     ensures fault { IfErr result (λ fault. fault ≢ NoMemory →
         (core_elements before later : List Data) →
