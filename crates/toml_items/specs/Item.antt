@@ -1,8 +1,8 @@
 -- The data that items stand for.
 use Rattle.std.specs.Prelude.{ℕ, List, [], ◌∷◌, map}
 use Rattle.std.specs.Borrow.{Bor}
-use Rattle.toml.specs.Data.{Data, string, integer, boolean, array, table, Items, Members, no_members, member}
-use Rattle.toml.specs.View.{view, items_of}
+use Rattle.toml.specs.Data.{Data, string, integer, float, boolean, datetime, array, table, Items, Members, no_members, member}
+use Rattle.toml.specs.View.{items_of}
 use Rattle.toml_items.specs.declared.item.Item.{Item, fold-Item}
 use Rattle.toml_items.specs.declared.item.Item.TheOpen.{Item-F}
 
@@ -18,7 +18,8 @@ item_step (Item-F.Number z) = integer z
 item_step (Item-F.Flag b) = boolean b
 item_step (Item-F.List v) = array (items_of v.items)
 item_step (Item-F.Table v) = table (members_of v.items)
-item_step (Item-F.Other v) = view v.now
+item_step (Item-F.Float x) = float x
+item_step (Item-F.Date d) = datetime d.now
 
 -- the data of an item
 abbrev pub item_view : Item → Data

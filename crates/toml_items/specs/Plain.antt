@@ -3,7 +3,7 @@ use Rattle.std.specs.Prelude.{◌≡◌, ℕ, ◌<◌, List, [], ◌∷◌, leng
 use Rattle.std.specs.Borrow.{Bor}
 use Rattle.std.specs.Ordering.{nat_cmp, match_ordering}
 use Rattle.std.specs.Cmp.Lexicographic.{slice_cmp}
-use Rattle.toml.specs.Data.{Data, array, table, Items, Members, no_members, member, push_item}
+use Rattle.toml.specs.Data.{Data, table, Items, Members, no_members, member, push_item}
 use Rattle.toml.specs.Tables.{Nodes, no_nodes, get_node, insert, open_array, close, Edit, along_header, Document}
 use Rattle.toml.specs.Parse.{lines}
 

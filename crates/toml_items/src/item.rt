@@ -1,4 +1,4 @@
-use toml::Value;
+use toml::value::Datetime;
 
 /// What stands at a key of a table, or at a place of an array.
 #[derive(Drop)]
@@ -8,8 +8,8 @@ pub enum Item<'t> {
     Flag(bool),
     List(Vec<Item<'t>>),
     Table(Vec<Entry<'t>>),
-    /// A float or a date.
-    Other(&'t Value),
+    Float(f64),
+    Date(&'t Datetime),
 }
 
 /// A key of a table with its item. The entries of a table stand in the order of their keys' bytes.
