@@ -1,7 +1,7 @@
 -- How runs of plain lines join.
 use Rattle.std.proofs.Common.{◌≡◌, ◌==◌, ℕ, zero, suc, ◌-◌, ◌<◌, ◌≤◌, false, List, [], ◌∷◌, ◌++◌, length, Option, Some, None, refl, sym, ap, ◌∙◌, arith}
 use Rattle.std.proofs.lemmas.Bool.Decides.{nat_tests}
-use Rattle.toml_parser.specs.Lexical.{skip_blank}
+use Rattle.toml_parser.specs.Lexical.{first, skip_blank}
 use Rattle.toml.specs.Data.{Data, array, table, Items, no_items, Members, no_members, push_item, get_member}
 use Rattle.toml.specs.Tables.{Nodes, no_nodes, value, open_array, insert, close, close_node, key_value, array_table, Expression, Document, define}
 use Rattle.toml.specs.Parse.{lines, skip_bom, parse_document}
@@ -113,13 +113,17 @@ one_more_element path k text here rest behind items ms reads element read root_o
     rw (← same)
     (joined text (begun, path ++ k ∷ []) rest (before, later) behind (after, path ++ k ∷ []) goes next)
 
+without_mark : (text : List ℕ) → (first text == 0xEF) ≡ false → skip_bom text ≡ text
+unfolding skip_bom
+without_mark text other = rw other
+
 -- A text that the top table takes to its end is a document.
-pub whole_document : (text rest : List ℕ) (ms : Members) → skip_bom text ≡ text →
+pub whole_document : (text rest : List ℕ) (ms : Members) → (first text == 0xEF) ≡ false →
     ReadsTable [] text ms rest → length (skip_blank rest) ≡ 0 →
     parse_document text ≡ Some ms
-whole_document text rest ms no_mark reads ended =
+whole_document text rest ms other reads ended =
     let (ns, section, same, goes) = reads (λ x. x) top_place in
     let (m, room, e) = goes (suc (length text)) (omega arith) in
     let over = lines_end m (ns, section) rest (omega arith) ended in
-    let all : lines (suc (length text)) (no_nodes, []) (skip_bom text) ≡ Some (ns, section) = rw no_mark (e ∙ over) in
+    let all : lines (suc (length text)) (no_nodes, []) (skip_bom text) ≡ Some (ns, section) = rw (without_mark text other) (e ∙ over) in
     document_some text (ns, section) all ∙ ap Some same
