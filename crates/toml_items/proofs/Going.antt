@@ -1,9 +1,9 @@
 -- How runs of plain lines join.
-use Rattle.std.proofs.Common.{◌≡◌, ◌==◌, ℕ, zero, suc, ◌-◌, ◌<◌, ◌≤◌, false, List, [], ◌∷◌, ◌++◌, length, Option, Some, None, refl, sym, ap, ◌∙◌, arith}
+use Rattle.std.proofs.Common.{◌≡◌, ◌==◌, ℕ, suc, ◌-◌, false, List, [], ◌∷◌, ◌++◌, length, Some, None, refl, ap, ◌∙◌, arith}
 use Rattle.std.proofs.lemmas.Bool.Decides.{nat_tests}
 use Rattle.toml_parser.specs.Lexical.{first, skip_blank}
 use Rattle.toml.specs.Data.{Data, array, table, Items, no_items, Members, no_members, push_item, get_member}
-use Rattle.toml.specs.Tables.{Nodes, no_nodes, value, open_array, insert, close, close_node, key_value, array_table, Expression, Document, define}
+use Rattle.toml.specs.Tables.{Nodes, no_nodes, value, open_array, insert, close, key_value, array_table, Expression, Document, define}
 use Rattle.toml.specs.Parse.{lines, skip_bom, parse_document}
 use Rattle.toml.proofs.Blanks.{skip_within}
 use Rattle.toml.proofs.Turns.{lines_more, lines_end, document_some}
@@ -95,7 +95,7 @@ last_element path k text here rest items ms reads element root_of place ns =
       later,
       ap (λ ms. push_item items (table ms)) same,
       joined text (begun, path ++ k ∷ []) here (inner no_nodes, path ++ k ∷ []) rest (inner last, later)
-      (reads root_of place ns) goes,
+          (reads root_of place ns) goes,
     )
 
 pub one_more_element : (path : List (List ℕ)) (k text here rest behind : List ℕ) (items : Items) (ms : Members) →

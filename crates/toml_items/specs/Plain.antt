@@ -21,8 +21,8 @@ path_of None = []
 path_of (Some k) = k.now ∷ []
 
 -- The text begins with this line, behind blank ones, and goes on with the rest.
-pub record IsLine (text : List ℕ) (e : Expression) (rest : List ℕ) : Type 0 where
-  pub is : line (skip_blank text) ≡ Some (e, rest)
+pub record IsLine (text : List ℕ) (found : Expression) (rest : List ℕ) : Type 0 where
+  pub is : line (skip_blank text) ≡ Some (found, rest)
   pub shorter : length rest < length (skip_blank text)
 
 -- At the end of this path stands a table whose nodes can be any, in a root that they make.

@@ -44,7 +44,7 @@ struct Elements<'t> {
     rest: &'t str,
 }
 
-/// The top table, or the element at whose header this key stands, with the arrays in it.
+/// The top table, or an element of the array at this key there, with the arrays in it.
 #[cycle(table)]
 fn table<'t>(
     alloc: Global,
@@ -53,7 +53,8 @@ fn table<'t>(
 ) -> Result<Option<Entries<'t>>, AllocError>
     ensures reads { IfOk result (λ found. IfSome found (λ t.
         ReadsTable (path_of key.entry) text.now (entries_view t.entries.items) t.rest.now)) }
-    ensures within { IfOk result (λ found. IfSome found (λ t. length t.rest.now ≤ length text.now)) }
+    ensures within { IfOk result (λ found. IfSome found (λ t.
+        length t.rest.now ≤ length text.now)) }
 {
     let Some(
         Entries {
@@ -76,11 +77,12 @@ fn table<'t>(
     Ok(Some(Entries { entries, rest }))
 }
 
-/// The array of tables that begins with this header.
+/// The array of tables that begins behind this header.
 #[cycle(table)]
 fn array<'t>(alloc: Global, header: Header<'t>) -> Result<Option<Elements<'t>>, AllocError>
-    ensures reads { IfOk result (λ found. IfSome found (λ a. ReadsArray (path_of header.entry.parent)
-        header.entry.key.now header.entry.rest.now (list_view a.items.items) a.rest.now)) }
+    ensures reads { IfOk result (λ found. IfSome found (λ a.
+        ReadsArray (path_of header.entry.parent) header.entry.key.now header.entry.rest.now
+        (list_view a.items.items) a.rest.now)) }
     ensures within { IfOk result (λ found. IfSome found (λ a.
         length a.rest.now ≤ length header.entry.rest.now)) }
 {
@@ -113,7 +115,8 @@ fn element<'t>(
     ensures reads { IfOk result (λ found. IfSome found (λ t.
         ReadsTable (path_of header.entry.parent ++ header.entry.key.now ∷ [])
         text.now (entries_view t.entries.items) t.rest.now)) }
-    ensures within { IfOk result (λ found. IfSome found (λ t. length t.rest.now ≤ length text.now)) }
+    ensures within { IfOk result (λ found. IfSome found (λ t.
+        length t.rest.now ≤ length text.now)) }
 {
     match header.parent {
         None => table(alloc, Some(header.key), text),
@@ -125,7 +128,8 @@ fn element<'t>(
 fn pairs(alloc: Global, text: &str) -> Result<Option<Entries<'_>>, AllocError>
     ensures reads { IfOk result (λ found. IfSome found (λ t. (path : List (List ℕ)) →
         ReadsTable path text.now (entries_view t.entries.items) t.rest.now)) }
-    ensures within { IfOk result (λ found. IfSome found (λ t. length t.rest.now ≤ length text.now)) }
+    ensures within { IfOk result (λ found. IfSome found (λ t.
+        length t.rest.now ≤ length text.now)) }
 {
     let mut entries = Vec::new(alloc);
     let mut rest = text;
@@ -144,7 +148,7 @@ fn pairs(alloc: Global, text: &str) -> Result<Option<Entries<'_>>, AllocError>
     }
 }
 
-/// The header at the front, if its array stands in the table of this key.
+/// The header at the front, if its array stands in the table at this key, or in the top one.
 fn header_in<'t>(key: Option<&'t str>, text: &'t str) -> Option<Header<'t>>
     ensures path { IfSome result (λ h. path_of h.parent ≡ path_of key.entry) }
     ensures line { IfSome result (λ h.
@@ -173,7 +177,7 @@ fn header_again<'t>(header: Header<'t>, text: &'t str) -> Option<&'t str>
     }
 }
 
-/// Whether arrays with these keys before their own stand in one table.
+/// Whether both are the top table, or at the same key.
 fn is_same_path(a: Option<&str>, b: Option<&str>) -> bool
     ensures { IsTrue result → path_of a.entry ≡ path_of b.entry }
 {

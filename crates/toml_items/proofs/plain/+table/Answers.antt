@@ -1,5 +1,4 @@
-use Rattle.std.proofs.Common.{◌≡◌, Ok, ap, ◌∙◌, le_refl, rules, arith}
-use Rattle.toml.specs.Tables.{array_table}
+use Rattle.std.proofs.Common.{Ok, ap, le_refl, rules, arith}
 use Rattle.toml_items.specs.Item.{list_view, entries_view}
 use Rattle.toml_items.specs.Plain.{path_of}
 use Rattle.toml_items.proofs.Entries.{item_view-List, item_view-Table, list_view-push}
@@ -11,7 +10,7 @@ array-elements-init t c = record {
   is_text = search rules;
   within = le_refl _;
   reads = rw c.new-items.ensures.items
-  (no_elements (path_of c.args.header.parent) c.args.header.key.now c.args.header.rest.now);
+      (no_elements (path_of c.args.header.parent) c.args.header.key.now c.args.header.rest.now);
 }
 
 pub array-elements-preserved : goal.array-elements-preserved
@@ -26,9 +25,9 @@ array-elements-preserved t c =
       is_text = search rules;
       within = omega (arith, l.invariant.within, within, c.in-Some-header_again.ensures.shorter);
       reads = rw (c.in_ok-push.ensures.items, list_view-push l.items.items, item_view-Table found.entries)
-      (one_more_element (path_of header.parent) header.key.now header.rest.now l.rest.now
-      found.rest.now behind.now (list_view l.items.items) (entries_view found.entries.items)
-      l.invariant.reads reads c.in-Some-header_again.ensures.line);
+          (one_more_element (path_of header.parent) header.key.now header.rest.now l.rest.now
+          found.rest.now behind.now (list_view l.items.items) (entries_view found.entries.items)
+          l.invariant.reads reads c.in-Some-header_again.ensures.line);
     }
 
 pub array-returns-in-None-clause-reads : goal.array-returns-in-None-clause-reads
@@ -58,8 +57,8 @@ table-arrays-preserved t c =
       is_text = search rules;
       within = omega (arith, l.invariant.within, within, c.in-Some-header_in.ensures.shorter);
       reads = rw (c.in_ok-put_entry.ensures.put was_new, item_view-List elements.items)
-      (one_more_array path c.args.text.now l.rest.now header.rest.now elements.rest.now
-      header.key.now (entries_view l.entries.items) (list_view elements.items.items)
-      l.invariant.reads c.in-Some-header_in.ensures.line reads
-      (c.in_ok-put_entry.ensures.new was_new));
+          (one_more_array path c.args.text.now l.rest.now header.rest.now elements.rest.now
+          header.key.now (entries_view l.entries.items) (list_view elements.items.items)
+          l.invariant.reads c.in-Some-header_in.ensures.line reads
+          (c.in_ok-put_entry.ensures.new was_new));
     }

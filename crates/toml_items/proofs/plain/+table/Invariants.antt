@@ -21,7 +21,7 @@ invariant-array-elements l = record {
   is_text : shadow (Utf8 l.rest);
   within : length l.rest ≤ length l.header.rest.now;
   reads : ReadsElements (path_of l.header.parent) l.header.key.now l.header.rest.now
-  (list_view l.items.items) l.rest;
+      (list_view l.items.items) l.rest;
 }
 
 abbrev pub decreases-array-elements : goal.decreases-array-elements

@@ -1,5 +1,4 @@
-use Rattle.std.proofs.Common.{◌≡◌, ◌≤◌, [], length, None, Ok, ap, le_refl, rules, arith}
-use Rattle.toml.specs.Data.{get_member}
+use Rattle.std.proofs.Common.{[], Ok, ap, le_refl, rules, arith}
 use Rattle.toml.specs.Tables.{key_value}
 use Rattle.toml_items.specs.Item.{item_view, entries_view}
 use Rattle.toml_items.specs.Plain.{IsLine}
@@ -29,5 +28,5 @@ pairs-preserved c =
       is_text = search rules;
       within = omega (arith, l.invariant.within, c.skip_blank-start.ensures.within, c.in-Some.ensures.shorter);
       reads = rw (c.in_ok-put_entry.ensures.put was_new) (one_more_pair c.args.text.now l.rest.now
-      pair.rest.now pair.key.now _ _ l.invariant.reads read (c.in_ok-put_entry.ensures.new was_new));
+          pair.rest.now pair.key.now _ _ l.invariant.reads read (c.in_ok-put_entry.ensures.new was_new));
     }
