@@ -56,25 +56,19 @@ fn table<'t>(
     ensures within { IfOk result (λ found. IfSome found (λ t.
         length t.rest.now ≤ length text.now)) }
 {
-    let Some(
-        Entries {
-            mut entries,
-            mut rest,
-        },
-    ) = pairs(alloc, text)?
-    else {
+    let Some(mut found) = pairs(alloc, text)? else {
         return Ok(None);
     };
-    'arrays: while let Some(header) = header_in(key, rest) {
+    'arrays: while let Some(header) = header_in(key, found.rest) {
         let Some(elements) = array(alloc, header)? else {
             return Ok(None);
         };
-        if !put_entry(&mut entries, header.key, Item::List(elements.items))? {
+        if !put_entry(&mut found.entries, header.key, Item::List(elements.items))? {
             return Ok(None);
         }
-        rest = elements.rest;
+        found.rest = elements.rest;
     }
-    Ok(Some(Entries { entries, rest }))
+    Ok(Some(found))
 }
 
 /// The array of tables that begins behind this header.

@@ -57,8 +57,8 @@ table-arrays-preserved t c =
       is_text = search rules;
       within = omega (arith, l.invariant.within, within, c.in-Some-header_in.ensures.shorter);
       reads = rw (c.in_ok-put_entry.ensures.put was_new, item_view-List elements.items)
-          (one_more_array path c.args.text.now l.rest.now header.rest.now elements.rest.now
-          header.key.now (entries_view l.entries.items) (list_view elements.items.items)
+          (one_more_array path c.args.text.now l.found.rest.now header.rest.now elements.rest.now
+          header.key.now (entries_view l.found.entries.items) (list_view elements.items.items)
           l.invariant.reads c.in-Some-header_in.ensures.line reads
           (c.in_ok-put_entry.ensures.new was_new));
     }

@@ -29,10 +29,10 @@ decreases-array-elements l = length l.rest
 
 abbrev pub invariant-table-arrays : goal.invariant-table-arrays
 invariant-table-arrays l = record {
-  is_text : shadow (Utf8 l.rest);
-  within : length l.rest ≤ length l.fn.text;
-  reads : ReadsTable (path_of l.key) l.fn.text (entries_view l.entries.items) l.rest;
+  is_text : shadow (Utf8 l.found.rest.now);
+  within : length l.found.rest.now ≤ length l.fn.text;
+  reads : ReadsTable (path_of l.key) l.fn.text (entries_view l.found.entries.items) l.found.rest.now;
 }
 
 abbrev pub decreases-table-arrays : goal.decreases-table-arrays
-decreases-table-arrays l = length l.rest
+decreases-table-arrays l = length l.found.rest.now
