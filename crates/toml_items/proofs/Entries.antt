@@ -8,7 +8,8 @@ use Rattle.toml_items.specs.Item.{item_view, list_view, entries_view}
 pub item_view-List : (v : Vec Item Global) → item_view (ItemList v) ≡ array (list_view v.items)
 item_view-List v = search (rules, the_lemmas)
 
-pub item_view-Table : (v : Vec (Bor (List ℕ) × Item) Global) → item_view (ItemTable v) ≡ table (entries_view v.items)
+pub item_view-Table : (v : Vec (Bor (List ℕ) × Item) Global) →
+    item_view (ItemTable v) ≡ table (entries_view v.items)
 item_view-Table v = search (rules, the_lemmas)
 
 pub list_view-push : (items : List Item) (x : Item) →

@@ -13,7 +13,8 @@ use Rattle.toml_items.proofs.Places.{close-insert, new_node-at, top_place, eleme
 stays : (text : List ℕ) (doc : Document) → GoesOn text doc text doc
 stays text doc n room = (n, room, refl)
 
-joined : (a : List ℕ) (first : Document) (b : List ℕ) (second : Document) (c : List ℕ) (third : Document) →
+joined : (a : List ℕ) (first : Document) (b : List ℕ) (second : Document)
+    (c : List ℕ) (third : Document) →
     GoesOn a first b second → GoesOn b second c third → GoesOn a first c third
 joined a first b second c third front back n room =
     let (m, some, e) = front n room in
@@ -42,11 +43,14 @@ pub one_more_pair : (text here rest k : List ℕ) (ms : Members) (d : Data) →
 one_more_pair text here rest k ms d reads read none path root_of place =
     let (ns, same, goes) = reads path root_of place in
     let more = insert k (value d) ns in
-    let step = define_pair path root_of k d ns place (new_node-at k ns (ap (get_member k) same ∙ none)) in
-    let next = a_line here (root_of ns, path) (([], k), key_value d) rest (root_of more, path) read step in (
+    let step = define_pair path root_of k d ns place
+    (new_node-at k ns (ap (get_member k) same ∙ none)) in
+    let next = a_line here (root_of ns, path) (([], k), key_value d) rest
+    (root_of more, path) read step in (
       more,
       close-insert k (value d) ns ∙ ap (insert_member k d) same,
-      joined text (root_of no_nodes, path) here (root_of ns, path) rest (root_of more, path) goes next,
+      joined text (root_of no_nodes, path) here (root_of ns, path) rest
+          (root_of more, path) goes next,
     )
 
 pub table_of_pairs : (path : List (List ℕ)) (text : List ℕ) (ms : Members) (rest : List ℕ) →
@@ -55,7 +59,8 @@ table_of_pairs path text ms rest reads root_of place =
     let (ns, same, goes) = reads path root_of place in
     (ns, path, same, goes)
 
-pub one_more_array : (path : List (List ℕ)) (text here behind rest k : List ℕ) (ms : Members) (items : Items) →
+pub one_more_array : (path : List (List ℕ)) (text here behind rest k : List ℕ)
+    (ms : Members) (items : Items) →
     ReadsTable path text ms here → IsLine here ((path, k), array_table) behind →
     ReadsArray path k behind items rest → get_member k ms ≡ None →
     ReadsTable path text (insert_member k (array items) ms) rest
@@ -64,26 +69,33 @@ one_more_array path text here behind rest k ms items reads read elements none ro
     let (done, last, later, all, further) = elements root_of place ns in
     let begun = root_of (insert k (open_array no_items no_nodes) ns) in
     let more = insert k (open_array done last) ns in
-    let step = define_array path root_of k ns section place (new_node-at k ns (ap (get_member k) same ∙ none)) in
-    let next = a_line here (root_of ns, section) ((path, k), array_table) behind (begun, path ++ k ∷ []) read step in
-    let front = joined text (root_of no_nodes, path) here (root_of ns, section) behind (begun, path ++ k ∷ []) goes next in (
+    let step = define_array path root_of k ns section place
+    (new_node-at k ns (ap (get_member k) same ∙ none)) in
+    let next = a_line here (root_of ns, section) ((path, k), array_table) behind
+    (begun, path ++ k ∷ []) read step in
+    let front = joined text (root_of no_nodes, path) here (root_of ns, section) behind
+    (begun, path ++ k ∷ []) goes next in (
       more,
       later,
       close-insert k (open_array done last) ns ∙ rw (all, same),
-      joined text (root_of no_nodes, path) behind (begun, path ++ k ∷ []) rest (root_of more, later) front further,
+      joined text (root_of no_nodes, path) behind (begun, path ++ k ∷ []) rest
+          (root_of more, later) front further,
     )
 
 -- The elements of an array before a header of it, from behind the first one to behind that one.
 abbrev pub ReadsElements : List (List ℕ) → List ℕ → List ℕ → Items → List ℕ → Type 0
-ReadsElements path k text items rest = (root_of : Nodes → Nodes) → IsPlace path root_of → (ns : Nodes) →
-    GoesOn text (root_of (insert k (open_array no_items no_nodes) ns), path ++ k ∷ [])
-    rest (root_of (insert k (open_array items no_nodes) ns), path ++ k ∷ [])
+ReadsElements path k text items rest = (root_of : Nodes → Nodes) → IsPlace path root_of →
+    (ns : Nodes) → GoesOn text
+    (root_of (insert k (open_array no_items no_nodes) ns), path ++ k ∷ [])
+    rest
+    (root_of (insert k (open_array items no_nodes) ns), path ++ k ∷ [])
 
 pub no_elements : (path : List (List ℕ)) (k text : List ℕ) → ReadsElements path k text no_items text
 no_elements path k text root_of place ns =
     stays text (root_of (insert k (open_array no_items no_nodes) ns), path ++ k ∷ [])
 
-pub last_element : (path : List (List ℕ)) (k text here rest : List ℕ) (items : Items) (ms : Members) →
+pub last_element : (path : List (List ℕ)) (k text here rest : List ℕ)
+    (items : Items) (ms : Members) →
     ReadsElements path k text items here → ReadsTable (path ++ k ∷ []) here ms rest →
     ReadsArray path k text (push_item items (table ms)) rest
 last_element path k text here rest items ms reads element root_of place ns =
@@ -94,11 +106,13 @@ last_element path k text here rest items ms reads element root_of place ns =
       last,
       later,
       ap (λ ms. push_item items (table ms)) same,
-      joined text (begun, path ++ k ∷ []) here (inner no_nodes, path ++ k ∷ []) rest (inner last, later)
+      joined text (begun, path ++ k ∷ []) here (inner no_nodes, path ++ k ∷ []) rest
+          (inner last, later)
           (reads root_of place ns) goes,
     )
 
-pub one_more_element : (path : List (List ℕ)) (k text here rest behind : List ℕ) (items : Items) (ms : Members) →
+pub one_more_element : (path : List (List ℕ)) (k text here rest behind : List ℕ)
+    (items : Items) (ms : Members) →
     ReadsElements path k text items here → ReadsTable (path ++ k ∷ []) here ms rest →
     IsLine rest ((path, k), array_table) behind →
     ReadsElements path k text (push_item items (table ms)) behind
@@ -109,7 +123,8 @@ one_more_element path k text here rest behind items ms reads element read root_o
     let before = root_of (insert k (open_array done last) ns) in
     let after = root_of (insert k (open_array (push_item done (table (close last))) no_nodes) ns) in
     let step = define_element path root_of k done last ns later place in
-    let next = a_line rest (before, later) ((path, k), array_table) behind (after, path ++ k ∷ []) read step in
+    let next = a_line rest (before, later) ((path, k), array_table) behind
+    (after, path ++ k ∷ []) read step in
     rw (← same)
     (joined text (begun, path ++ k ∷ []) rest (before, later) behind (after, path ++ k ∷ []) goes next)
 
@@ -125,5 +140,6 @@ whole_document text rest ms other reads ended =
     let (ns, section, same, goes) = reads (λ x. x) top_place in
     let (m, room, e) = goes (suc (length text)) (omega arith) in
     let over = lines_end m (ns, section) rest (omega arith) ended in
-    let all : lines (suc (length text)) (no_nodes, []) (skip_bom text) ≡ Some (ns, section) = rw (without_mark text other) (e ∙ over) in
+    let all : lines (suc (length text)) (no_nodes, []) (skip_bom text) ≡ Some (ns, section) =
+    rw (without_mark text other) (e ∙ over) in
     document_some text (ns, section) all ∙ ap Some same

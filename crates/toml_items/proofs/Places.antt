@@ -29,7 +29,8 @@ found_or Less x rest d e = e
 found_or Equal x rest d e = refl
 found_or Greater x rest d e = e
 
-close-get : (k : List ℕ) (ns : Nodes) → option_map close_node (get_node k ns) ≡ get_member k (close ns)
+close-get : (k : List ℕ) (ns : Nodes) →
+    option_map close_node (get_node k ns) ≡ get_member k (close ns)
 close-get k no_nodes = refl
 close-get k (node l x ns) = found_or (slice_cmp nat_cmp k l) x _ _ (close-get k ns)
 
@@ -49,7 +50,8 @@ pub top_place : IsPlace [] (λ ns. ns)
 unfolding along_header
 top_place edit ns = map_same (edit ns)
 
-map_inner : (root_of : Nodes → Nodes) (k : List ℕ) (done : Items) (x base : Nodes) (o : Option Nodes) →
+map_inner : (root_of : Nodes → Nodes) (k : List ℕ) (done : Items) (x base : Nodes)
+    (o : Option Nodes) →
     option_map root_of (option_map (λ y. replace k y (insert k (open_array done x) base))
     (option_map (open_array done) o))
     ≡ option_map (λ y. root_of (insert k (open_array done y) base)) o
@@ -58,8 +60,10 @@ map_inner root_of k done x base (Some y) =
     ap (λ z. Some (root_of z)) (replace-insert k (open_array done x) (open_array done y) base)
 
 -- the last element of an array
-pub element_place : (path : List (List ℕ)) (root_of : Nodes → Nodes) (k : List ℕ) (done : Items) (base : Nodes) →
-    IsPlace path root_of → IsPlace (path ++ k ∷ []) (λ x. root_of (insert k (open_array done x) base))
+pub element_place : (path : List (List ℕ)) (root_of : Nodes → Nodes) (k : List ℕ)
+    (done : Items) (base : Nodes) →
+    IsPlace path root_of →
+    IsPlace (path ++ k ∷ []) (λ x. root_of (insert k (open_array done x) base))
 unfolding along_header
 element_place path root_of k done base place edit x =
     let made = insert k (open_array done x) base in
@@ -68,7 +72,8 @@ element_place path root_of k done base place edit x =
     (along_found k [] edit made (open_array done x) (get_node-insert k (open_array done x) base))
     ∙ map_inner root_of k done x base (edit x)
 
-pub define_pair : (path : List (List ℕ)) (root_of : Nodes → Nodes) (k : List ℕ) (d : Data) (ns : Nodes) →
+pub define_pair : (path : List (List ℕ)) (root_of : Nodes → Nodes) (k : List ℕ)
+    (d : Data) (ns : Nodes) →
     IsPlace path root_of → get_node k ns ≡ None →
     define (root_of ns, path) (([], k), key_value d) ≡ Some (root_of (insert k (value d) ns), path)
 unfolding define along_dots
@@ -76,7 +81,8 @@ define_pair path root_of k d ns place none =
     ap (option_map (λ root. (root, path)))
     (place (put ([], k) d) ns ∙ ap (option_map root_of) (at_key_new k (key_value d) ns none))
 
-pub define_array : (path : List (List ℕ)) (root_of : Nodes → Nodes) (k : List ℕ) (ns : Nodes) (section : List (List ℕ)) →
+pub define_array : (path : List (List ℕ)) (root_of : Nodes → Nodes) (k : List ℕ)
+    (ns : Nodes) (section : List (List ℕ)) →
     IsPlace path root_of → get_node k ns ≡ None →
     define (root_of ns, section) ((path, k), array_table)
     ≡ Some (root_of (insert k (open_array no_items no_nodes) ns), path ++ k ∷ [])
@@ -85,10 +91,14 @@ define_array path root_of k ns section place none =
     ap (option_map (λ root. (root, path ++ k ∷ [])))
     (place (at_key k array_table) ns ∙ ap (option_map root_of) (at_key_new k array_table ns none))
 
-pub define_element : (path : List (List ℕ)) (root_of : Nodes → Nodes) (k : List ℕ) (done : Items) (last ns : Nodes) (section : List (List ℕ)) →
+pub define_element : (path : List (List ℕ)) (root_of : Nodes → Nodes) (k : List ℕ)
+    (done : Items) (last ns : Nodes) (section : List (List ℕ)) →
     IsPlace path root_of →
     define (root_of (insert k (open_array done last) ns), section) ((path, k), array_table)
-    ≡ Some (root_of (insert k (open_array (push_item done (table (close last))) no_nodes) ns), path ++ k ∷ [])
+    ≡ Some (
+      root_of (insert k (open_array (push_item done (table (close last))) no_nodes) ns),
+      path ++ k ∷ [],
+    )
 unfolding define
 define_element path root_of k done last ns section place =
     let old : Node = open_array done last in

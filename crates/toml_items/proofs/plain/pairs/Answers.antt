@@ -14,7 +14,8 @@ pairs-init c = record {
 
 pub returns-then-is_empty-clause-reads : goal.returns-then-is_empty-clause-reads
 returns-then-is_empty-clause-reads c path =
-    table_of_pairs path c.args.text.now (entries_view c.pairs.entries.items) c.pairs.rest.now c.pairs.invariant.reads
+    let l = c.pairs in
+    table_of_pairs path c.args.text.now (entries_view l.entries.items) l.rest.now l.invariant.reads
 
 pub pairs-preserved : goal.pairs-preserved
 pairs-preserved c =
@@ -22,11 +23,18 @@ pairs-preserved c =
     let pair = c.in-Some.pair in
     let line_is = rw c.skip_blank-start.ensures.rest at c.in-Some.ensures.line in
     let shorter = rw c.skip_blank-start.ensures.rest at c.in-Some.ensures.shorter in
-    let read : IsLine l.rest.now (([], pair.key.now), key_value (item_view pair.item)) pair.rest.now = record { is = line_is; shorter = shorter } in
+    let read : IsLine l.rest.now (([], pair.key.now), key_value (item_view pair.item)) pair.rest.now =
+    record { is = line_is; shorter = shorter } in
     let was_new = ap Ok c.if-not-branch.false in
     record {
       is_text = search rules;
-      within = omega (arith, l.invariant.within, c.skip_blank-start.ensures.within, c.in-Some.ensures.shorter);
+      within = omega (
+        arith,
+        l.invariant.within,
+        c.skip_blank-start.ensures.within,
+        c.in-Some.ensures.shorter,
+      );
       reads = rw (c.in_ok-put_entry.ensures.put was_new) (one_more_pair c.args.text.now l.rest.now
-          pair.rest.now pair.key.now _ _ l.invariant.reads read (c.in_ok-put_entry.ensures.new was_new));
+          pair.rest.now pair.key.now _ _ l.invariant.reads read
+          (c.in_ok-put_entry.ensures.new was_new));
     }
