@@ -1,7 +1,8 @@
 -- How runs of plain lines join.
-use Rattle.std.proofs.Common.{◌≡◌, ◌==◌, ℕ, suc, ◌-◌, false, List, [], ◌∷◌, ◌++◌, length, Some, None, refl, ap, ◌∙◌, arith}
+use Rattle.std.proofs.Common.{◌≡◌, ◌==◌, ℕ, zero, suc, ◌-◌, Bool, true, false, is_some, unwrap_or, inl, inr, List, [], ◌∷◌, ◌++◌, length, Some, None, refl, ap, ◌∙◌, arith}
+use Rattle.std.proofs.lemmas.Bool.{cases_Bool}
 use Rattle.std.proofs.lemmas.Bool.Decides.{nat_tests}
-use Rattle.toml_parser.specs.Lexical.{first, skip_blank}
+use Rattle.toml_parser.specs.Lexical.{first, skip_turn, skip_from, skip_blank}
 use Rattle.toml.specs.Data.{Data, array, table, Items, no_items, Members, no_members, push_item, get_member}
 use Rattle.toml.specs.Tables.{Nodes, no_nodes, value, open_array, insert, close, key_value, array_table, Expression, Document, define}
 use Rattle.toml.specs.Parse.{lines, skip_bom, parse_document}
@@ -53,11 +54,46 @@ one_more_pair text here rest k ms d reads read none path root_of place =
           (root_of more, path) goes next,
     )
 
+comment_ends : (c next : ℕ) → is_some (skip_turn true true c next) ≡ false →
+    is_some (skip_turn true false c next) ≡ false
+comment_ends c next stop = grind (arith, nat_tests)
+
+stops_again : (inside : Bool) (c next : ℕ) → is_some (skip_turn true inside c next) ≡ false →
+    is_some (skip_turn true false c next) ≡ false
+stops_again false c next stop = stop
+stops_again true c next stop = comment_ends c next stop
+
+-- What stops the skipping of blanks stops it again.
+skip_again : (inside : Bool) (text : List ℕ) →
+    skip_blank (skip_from true inside text) ≡ skip_from true inside text
+unfolding skip_from
+skip_again inside [] = refl
+skip_again inside (c ∷ cs) =
+    elim (cases_Bool (is_some (skip_turn true inside c (first cs)))) [
+      | inl more ↦ rw more (skip_again (unwrap_or (skip_turn true inside c (first cs)) false) cs)
+      | inr stop ↦
+          rw (stop, stops_again inside c (first cs) stop)
+    ]
+
+lines_skipped : (m : ℕ) (doc : Document) (text : List ℕ) →
+    lines m doc text ≡ lines m doc (skip_blank text)
+unfolding lines
+lines_skipped zero doc text = refl
+lines_skipped (suc m) doc text = rw (skip_again false text)
+
+-- the pairs, and the blanks behind them
 pub table_of_pairs : (path : List (List ℕ)) (text : List ℕ) (ms : Members) (rest : List ℕ) →
-    ReadsPairs text ms rest → ReadsTable path text ms rest
+    ReadsPairs text ms rest → ReadsTable path text ms (skip_blank rest)
 table_of_pairs path text ms rest reads root_of place =
-    let (ns, same, goes) = reads path root_of place in
-    (ns, path, same, goes)
+    let (ns, same, goes) = reads path root_of place in (
+      ns,
+      path,
+      same,
+      λ n room.
+          let (m, some, e) = goes n room in
+          let within = skip_within rest in
+          (m, omega arith, e ∙ lines_skipped m (root_of ns, path) rest),
+    )
 
 pub one_more_array : (path : List (List ℕ)) (text here behind rest k : List ℕ)
     (ms : Members) (items : Items) →

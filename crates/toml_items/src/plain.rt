@@ -118,7 +118,7 @@ fn element<'t>(
     }
 }
 
-/// The pairs up to a header or the end.
+/// The pairs up to a header or the end, and the text from there.
 fn pairs(alloc: Global, text: &str) -> Result<Option<Entries<'_>>, AllocError>
     ensures reads { IfOk result (λ found. IfSome found (λ t. (path : List (List ℕ)) →
         ReadsTable path text.now (entries_view t.entries.items) t.rest.now)) }
@@ -130,7 +130,10 @@ fn pairs(alloc: Global, text: &str) -> Result<Option<Entries<'_>>, AllocError>
     'pairs: loop {
         let start = skip_blank(rest, true);
         if start.is_empty() || first(start) == b'[' {
-            return Ok(Some(Entries { entries, rest }));
+            return Ok(Some(Entries {
+                entries,
+                rest: start,
+            }));
         }
         let Some(pair) = pair_at(alloc, start) else {
             return Ok(None);
