@@ -162,7 +162,8 @@ one_more_element path k text here rest behind items ms reads element read root_o
     let next = a_line rest (before, later) ((path, k), array_table) behind
     (after, path ++ k ∷ []) read step in
     rw (← same)
-    (joined text (begun, path ++ k ∷ []) rest (before, later) behind (after, path ++ k ∷ []) goes next)
+    (joined text (begun, path ++ k ∷ []) rest (before, later) behind (after, path ++ k ∷ [])
+    goes next)
 
 without_mark : (text : List ℕ) → (first text == 0xEF) ≡ false → skip_bom text ≡ text
 unfolding skip_bom

@@ -71,7 +71,7 @@ fn table<'t>(
     Ok(Some(found))
 }
 
-/// The array of tables that begins behind this header.
+/// The array of tables whose first element begins behind this header.
 #[cycle(table)]
 fn array<'t>(alloc: Global, header: Header<'t>) -> Result<Option<Elements<'t>>, AllocError>
     ensures reads { IfOk result (λ found. IfSome found (λ a.
@@ -99,7 +99,7 @@ fn array<'t>(alloc: Global, header: Header<'t>) -> Result<Option<Elements<'t>>, 
     }
 }
 
-/// An element of the array of this header. One that is two arrays deep has no arrays in it.
+/// An element of the array of this header. Two arrays deep it has no array in it.
 #[cycle(table)]
 fn element<'t>(
     alloc: Global,
@@ -145,7 +145,8 @@ fn pairs(alloc: Global, text: &str) -> Result<Option<Entries<'_>>, AllocError>
     }
 }
 
-/// The header at the front, if its array stands in the table at this key, or in the top one.
+/// The header at the front, if its array stands in the table at this key, or without one in the
+/// top table.
 fn header_in<'t>(key: Option<&'t str>, text: &'t str) -> Option<Header<'t>>
     ensures path { IfSome result (λ h. path_of h.parent ≡ path_of key.entry) }
     ensures line { IfSome result (λ h.

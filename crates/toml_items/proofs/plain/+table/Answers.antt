@@ -24,7 +24,11 @@ array-elements-preserved t c =
     record {
       is_text = search rules;
       within = omega (arith, l.invariant.within, within, c.in-Some-header_again.ensures.shorter);
-      reads = rw (c.in_ok-push.ensures.items, list_view-push l.items.items, item_view-Table found.entries)
+      reads = rw (
+        c.in_ok-push.ensures.items,
+        list_view-push l.items.items,
+        item_view-Table found.entries,
+      )
           (one_more_element (path_of header.parent) header.key.now header.rest.now l.rest.now
           found.rest.now behind.now (list_view l.items.items) (entries_view found.entries.items)
           l.invariant.reads reads c.in-Some-header_again.ensures.line);

@@ -31,7 +31,8 @@ abbrev pub invariant-table-arrays : goal.invariant-table-arrays
 invariant-table-arrays l = record {
   is_text : shadow (Utf8 l.found.rest.now);
   within : length l.found.rest.now ≤ length l.fn.text;
-  reads : ReadsTable (path_of l.key) l.fn.text (entries_view l.found.entries.items) l.found.rest.now;
+  reads : ReadsTable (path_of l.key) l.fn.text (entries_view l.found.entries.items)
+      l.found.rest.now;
 }
 
 abbrev pub decreases-table-arrays : goal.decreases-table-arrays

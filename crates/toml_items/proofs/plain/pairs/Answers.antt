@@ -16,7 +16,8 @@ pub returns-then-is_empty-clause-reads : goal.returns-then-is_empty-clause-reads
 returns-then-is_empty-clause-reads c path =
     let l = c.pairs in
     rw c.skip_blank-start.ensures.rest
-    (table_of_pairs path c.args.text.now (entries_view l.entries.items) l.rest.now l.invariant.reads)
+    (table_of_pairs path c.args.text.now (entries_view l.entries.items) l.rest.now
+    l.invariant.reads)
 
 pub pairs-preserved : goal.pairs-preserved
 pairs-preserved c =
