@@ -11,3 +11,6 @@ mod table;
 pub use item::{Entry, Item};
 pub use plain::plain_entries;
 pub use table::table_entries;
+
+#[cfg(test)]
+mod tests;
