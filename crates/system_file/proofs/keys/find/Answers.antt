@@ -1,4 +1,4 @@
-use Rattle.std.proofs.Common.{◌≡◌, ◌+◌, Some, cond, drop, sym, ap, ◌∙◌, arith}
+use Rattle.std.proofs.Common.{◌+◌, Some, cond, drop, sym, ap, ◌∙◌, arith}
 use Rattle.toml.specs.Data.{get_member}
 use Rattle.toml_items.specs.Item.{item_view, entries_view}
 use Rattle.system_file.proofs.Elements.{looked_at}
