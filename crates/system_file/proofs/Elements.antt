@@ -40,7 +40,9 @@ abbrev pub Entry : Type 0
 Entry = Bor (List ℕ) × Item
 
 -- the keys of a table, and the listed keys as a slice of texts has them
-pub only_listed : (listed : List (Bor (List ℕ))) (es : List Entry) → has_only (map (λ l. l.now) listed) (entries_view es) ≡ list_all (λ (e : Entry). list_any (λ l. bytes_eq e.0.now l.now) listed) es
+pub only_listed : (listed : List (Bor (List ℕ))) (es : List Entry)
+    → has_only (map (λ l. l.now) listed) (entries_view es)
+    ≡ list_all (λ (e : Entry). list_any (λ l. bytes_eq e.0.now l.now) listed) es
 only_listed listed [] = refl
 only_listed listed (e ∷ es) = rw (list_any_map (bytes_eq e.0.now) (λ l. l.now) listed, only_listed listed es)
 
@@ -50,13 +52,15 @@ at_equal Equal x y = refl
 at_equal Greater x y = refl
 
 -- a look-up among the entries from a place on
-pub looked_at : (k : List ℕ) (es : List Entry) (i : ℕ) (e : Entry) → i < length es → e ≡ get_or es i e
-    → get_member k (entries_view (drop i es)) ≡ cond (bytes_eq k e.0.now) (Some (item_view e.1)) (get_member k (entries_view (drop (i + 1) es)))
+pub looked_at : (k : List ℕ) (es : List Entry) (i : ℕ) (e : Entry)
+    → i < length es → e ≡ get_or es i e → get_member k (entries_view (drop i es))
+    ≡ cond (bytes_eq k e.0.now) (Some (item_view e.1)) (get_member k (entries_view (drop (i + 1) es)))
 looked_at k es i e h is =
     ap (λ t. get_member k (entries_view t)) (drop_more es i e h)
     ∙ ap (λ t. get_member k (entries_view (t ∷ drop (i + 1) es))) (sym is)
     ∙ at_equal (slice_cmp nat_cmp k e.0.now) (Some (item_view e.1)) _
-    ∙ ap (λ b. cond b (Some (item_view e.1)) (get_member k (entries_view (drop (i + 1) es)))) (is_eq-slice_cmp k e.0.now)
+    ∙ ap (λ b. cond b (Some (item_view e.1)) (get_member k (entries_view (drop (i + 1) es))))
+    (is_eq-slice_cmp k e.0.now)
 
 -- a new name goes to the end of a set
 pub added_name : (keys : List (Bor (List ℕ))) (name : Bor (List ℕ)) → list_any (bytes_eq name.now) (map (λ k. k.now) keys) ≡ false

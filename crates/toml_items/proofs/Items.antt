@@ -31,22 +31,29 @@ pub item_view-Float : (x : FloatValue) → item_view (Float x) ≡ float x
 item_view-Float x = search (rules, the_lemmas)
 
 -- one more item at the end
-pub list_view-push : (items : List Item) (x : Item) → list_view (items ++ x ∷ []) ≡ push_item (list_view items) (item_view x)
+pub list_view-push : (items : List Item) (x : Item)
+    → list_view (items ++ x ∷ []) ≡ push_item (list_view items) (item_view x)
 list_view-push [] x = refl
 list_view-push (y ∷ items) x = ap (item (item_view y)) (list_view-push items x)
 
-pub list_view-more : (items : List Item) (x : Item) (vs : List Value) (i : ℕ) (v : Value) → i < length vs → v ≡ get_or vs i v
-    → list_view items ≡ items_view (take i vs) → item_view x ≡ view v → list_view (items ++ x ∷ []) ≡ items_view (take (i + 1) vs)
+pub list_view-more : (items : List Item) (x : Item) (vs : List Value) (i : ℕ) (v : Value)
+    → i < length vs → v ≡ get_or vs i v → list_view items ≡ items_view (take i vs)
+    → item_view x ≡ view v → list_view (items ++ x ∷ []) ≡ items_view (take (i + 1) vs)
 list_view-more items x vs i v h is so_far same =
-    rw (list_view-push items x, so_far, same, take_more vs i v h, ← is) (sym (items_view-push (take i vs) v))
+    rw (list_view-push items x, so_far, same, take_more vs i v h, ← is)
+    (sym (items_view-push (take i vs) v))
 
 -- one more entry at the end
-pub entries_view-push : (entries : List Entry) (e : Entry) → entries_view (entries ++ e ∷ []) ≡ with_last (entries_view entries) e.0.now (item_view e.1)
+pub entries_view-push : (entries : List Entry) (e : Entry)
+    → entries_view (entries ++ e ∷ []) ≡ with_last (entries_view entries) e.0.now (item_view e.1)
 entries_view-push [] e = refl
-entries_view-push (x ∷ entries) e = ap (member x.0.now (item_view x.1)) (entries_view-push entries e)
+entries_view-push (x ∷ entries) e =
+    ap (member x.0.now (item_view x.1)) (entries_view-push entries e)
 
-pub entries_view-more : (entries : List Entry) (k : Bor (List ℕ)) (x : Item) (seen : List (Bor (String Global) × Bor Value)) (p : Bor (String Global) × Bor Value)
-    → entries_view entries ≡ members_view (map deref_pair seen) → k.now ≡ string_bytes p.0.now → item_view x ≡ view p.1.now
+pub entries_view-more : (entries : List Entry) (k : Bor (List ℕ)) (x : Item)
+    (seen : List (Bor (String Global) × Bor Value)) (p : Bor (String Global) × Bor Value)
+    → entries_view entries ≡ members_view (map deref_pair seen)
+    → k.now ≡ string_bytes p.0.now → item_view x ≡ view p.1.now
     → entries_view (entries ++ (k, x) ∷ []) ≡ members_view (map deref_pair (seen ++ p ∷ []))
 entries_view-more entries k x seen p so_far key same =
     rw (entries_view-push entries (k, x), so_far, key, same, map-append deref_pair seen (p ∷ []))
