@@ -1,13 +1,16 @@
 -- Lists that are seen through a map: the names of a set, and the arrays and the tables of a
 -- document.
-use Rattle.std.proofs.lemmas.List.{map-append, length-map}
-use Rattle.std.proofs.Common.{◌≡◌, ℕ, ◌+◌, Bool, false, not, cond, ◌||◌, ◌++◌, List, [], ◌∷◌, map, length, String, Global, string_bytes, refl, ap, Bor}
+use Rattle.std.proofs.lemmas.List.{map-append, length-map, drop_more}
+use Rattle.std.proofs.lemmas.Map.Text.{is_eq-slice_cmp}
+use Rattle.std.specs.Cmp.Lexicographic.{slice_cmp}
+use Rattle.std.specs.Ordering.{match_ordering}
+use Rattle.std.proofs.Common.{◌≡◌, ℕ, ◌+◌, Bool, false, not, cond, ◌||◌, ◌++◌, List, [], ◌∷◌, map, length, ◌<◌, get_or, drop, Option, Some, Ordering, Less, Equal, Greater, nat_cmp, is_eq, refl, sym, ap, ◌∙◌, Bor}
 use Rattle.std.specs.Prelude.{position, bytes_eq}
 use Rattle.std.specs.List.{list_any, list_all, prefix_len}
-use Rattle.std.specs.Map.{keys_of}
 use Rattle.indexmap.specs.IndexSet.{insert_key}
-use Rattle.toml.specs.View.{view, items_view, members_view}
-use Rattle.toml.specs.declared.value.Value.{Value}
+use Rattle.toml.specs.Data.{Data, get_member}
+use Rattle.toml_items.specs.Item.{item_view, list_view, entries_view}
+use Rattle.toml_items.specs.declared.item.Item.{Item}
 use Rattle.system_file.specs.Document.{elements_of}
 use Rattle.system_file.specs.Faults.{has_only}
 
@@ -29,14 +32,35 @@ pub position_map : {A B : Type 0} (p : B → Bool) (f : A → B) (xs : List A) �
 position_map p f xs = rw (prefix_len-map (λ x. not (p x)) f xs, length_map f xs)
 
 -- the elements of an array are the views of its values
-pub elements_view : (vs : List Value) → elements_of (items_view vs) ≡ map view vs
+pub elements_view : (vs : List Item) → elements_of (list_view vs) ≡ map item_view vs
 elements_view [] = refl
-elements_view (v ∷ vs) = ap (λ ds. view v ∷ ds) (elements_view vs)
+elements_view (v ∷ vs) = ap (λ ds. item_view v ∷ ds) (elements_view vs)
 
--- the keys of a table, as its map lists them, and the listed keys as a slice of texts has them
-pub only_listed : (listed : List (Bor (List ℕ))) (es : List (String Global × Value)) → has_only (map (λ l. l.now) listed) (members_view es) ≡ list_all (λ k. list_any (λ l. bytes_eq (string_bytes k) l.now) listed) (keys_of es)
+abbrev pub Entry : Type 0
+Entry = Bor (List ℕ) × Item
+
+-- the keys of a table, and the listed keys as a slice of texts has them
+pub only_listed : (listed : List (Bor (List ℕ))) (es : List Entry)
+    → has_only (map (λ l. l.now) listed) (entries_view es)
+    ≡ list_all (λ (e : Entry). list_any (λ l. bytes_eq e.0.now l.now) listed) es
 only_listed listed [] = refl
-only_listed listed (e ∷ es) = rw (list_any_map (bytes_eq (string_bytes e.0)) (λ l. l.now) listed, only_listed listed es)
+only_listed listed (e ∷ es) = rw (list_any_map (bytes_eq e.0.now) (λ l. l.now) listed, only_listed listed es)
+
+at_equal : (o : Ordering) (x y : Option Data) → match_ordering o y x y ≡ cond (is_eq o) x y
+at_equal Less x y = refl
+at_equal Equal x y = refl
+at_equal Greater x y = refl
+
+-- a look-up among the entries from a place on
+pub looked_at : (k : List ℕ) (es : List Entry) (i : ℕ) (e : Entry)
+    → i < length es → e ≡ get_or es i e → get_member k (entries_view (drop i es))
+    ≡ cond (bytes_eq k e.0.now) (Some (item_view e.1)) (get_member k (entries_view (drop (i + 1) es)))
+looked_at k es i e h is =
+    ap (λ t. get_member k (entries_view t)) (drop_more es i e h)
+    ∙ ap (λ t. get_member k (entries_view (t ∷ drop (i + 1) es))) (sym is)
+    ∙ at_equal (slice_cmp nat_cmp k e.0.now) (Some (item_view e.1)) _
+    ∙ ap (λ b. cond b (Some (item_view e.1)) (get_member k (entries_view (drop (i + 1) es))))
+    (is_eq-slice_cmp k e.0.now)
 
 -- a new name goes to the end of a set
 pub added_name : (keys : List (Bor (List ℕ))) (name : Bor (List ℕ)) → list_any (bytes_eq name.now) (map (λ k. k.now) keys) ≡ false

@@ -1,6 +1,6 @@
 ghost use Rattle.std.specs.Prelude.{◌≡◌, ◌≢◌, ◌≤◌, List, [], ◌∷◌, ◌++◌, length, map, codes, IfOk, IfErr};
 ghost use Rattle.toml.specs.Data.{Data, get_member};
-ghost use Rattle.toml.specs.View.{view, table_view};
+ghost use Rattle.toml_items.specs.Item.{item_view, entries_view};
 ghost use Rattle.system_file.specs.declared.fault.SystemFault.TheVariants.{NoMemory};
 ghost use Rattle.system_file.specs.Document.{spelled_core, supply_of};
 ghost use Rattle.system_file.specs.Faults.{supply_faults, core_keys, core_key_faults, core_faults, table_faults, in_order};
@@ -11,18 +11,18 @@ use crate::names::{Names, new_name};
 use crate::{Spot, SystemFault};
 use slot_model::LIMIT;
 use std::alloc::Global;
-use toml::{Table, Value};
+use toml_items::{Entry, Item};
 use tree_model::Core;
 
 /// The supply of a core: both keys or neither.
-fn supply_at(table: &Table, spot: Spot) -> Result<Option<(u64, u64)>, SystemFault>
+fn supply_at(table: &[Entry<'_>], spot: Spot) -> Result<Option<(u64, u64)>, SystemFault>
     ensures ok { IfOk result (λ supply.
-        let period = get_member (codes "supply_period") (table_view table.now) in
-        let budget = get_member (codes "supply_budget") (table_view table.now) in
+        let period = get_member (codes "supply_period") (entries_view table.now) in
+        let budget = get_member (codes "supply_budget") (entries_view table.now) in
         (supply_faults spot period budget ≡ []) × (supply ≡ supply_of period budget)) }
     ensures fault { IfErr result (λ fault.
-        let period = get_member (codes "supply_period") (table_view table.now) in
-        let budget = get_member (codes "supply_budget") (table_view table.now) in
+        let period = get_member (codes "supply_period") (entries_view table.now) in
+        let budget = get_member (codes "supply_budget") (entries_view table.now) in
         first_of (supply_faults spot period budget) ≡ Some fault) }
 {
     match find(table, "supply_period") {
@@ -41,18 +41,18 @@ fn supply_at(table: &Table, spot: Spot) -> Result<Option<(u64, u64)>, SystemFaul
 /// A core, whose name is put behind the names of the cores before it.
 fn read_core<'t>(
     alloc: Global,
-    value: &'t Value,
+    value: &Item<'t>,
     spot: Spot,
     names: &mut Names<'t>,
 ) -> Result<Core, SystemFault>
     ensures ok { IfOk result (λ core. (earlier : List Data) → HaveNames earlier names.old →
-        (table_faults spot core_keys (core_key_faults spot earlier (view value.now))
-        (view value.now) ≡ [])
-        × (core ≡ spelled_core (view value.now))
-        × HaveNames (earlier ++ view value.now ∷ []) names.new) }
+        (table_faults spot core_keys (core_key_faults spot earlier (item_view value.now))
+        (item_view value.now) ≡ [])
+        × (core ≡ spelled_core (item_view value.now))
+        × HaveNames (earlier ++ item_view value.now ∷ []) names.new) }
     ensures fault { IfErr result (λ fault. fault ≢ NoMemory → (earlier : List Data) →
         HaveNames earlier names.old →
-        let d = view value.now in
+        let d = item_view value.now in
         first_of (table_faults spot core_keys (core_key_faults spot earlier d) d) ≡ Some fault) }
 {
     let table = table_of(value, spot)?;
@@ -76,16 +76,16 @@ fn read_core<'t>(
 /// The cores of the file, whose names are put into an empty set.
 pub fn read_cores<'t>(
     alloc: Global,
-    values: &'t [Value],
+    values: &[Item<'t>],
     names: &mut Names<'t>,
 ) -> Result<Vec<Core>, SystemFault>
     requires few { length values.now ≤ 64 }
     requires no_names { names.old ≡ [] }
-    ensures ok { IfOk result (λ cores. (in_order core_faults [] (map view values.now) ≡ [])
-        × (cores.items ≡ map spelled_core (map view values.now))
-        × HaveNames (map view values.now) names.new) }
+    ensures ok { IfOk result (λ cores. (in_order core_faults [] (map item_view values.now) ≡ [])
+        × (cores.items ≡ map spelled_core (map item_view values.now))
+        × HaveNames (map item_view values.now) names.new) }
     ensures fault { IfErr result (λ fault. fault ≢ NoMemory →
-        first_of (in_order core_faults [] (map view values.now)) ≡ Some fault) }
+        first_of (in_order core_faults [] (map item_view values.now)) ≡ Some fault) }
 {
     let mut cores = Vec::with_capacity(alloc, values.len())?;
     for (place, value) in values.iter().enumerate() {

@@ -1,9 +1,8 @@
-ghost use Rattle.std.specs.Prelude.{◌≡◌, ℕ, ◌≤◌, pos, true, false, List, [], length, map, codes, bytes_eq, string_bytes, Option, Some, None, option_map, IfOk, IfErr};
+ghost use Rattle.std.specs.Prelude.{◌≡◌, ℕ, ◌≤◌, pos, true, false, List, [], length, map, codes, bytes_eq, string_bytes, Option, Some, None, option_map, IfOk, IfErr, IsOkAnd};
 ghost use Rattle.toml.specs.Data.{string, integer, array, table, get_member, as_table, as_array};
-ghost use Rattle.toml.specs.View.{view, items_view, table_view};
+ghost use Rattle.toml_items.specs.Item.{item_view, list_view, entries_view};
 ghost use Rattle.tree_model.specs.System.{IsGivenBudget};
 ghost use Rattle.std.specs.List.{list_any, list_all};
-ghost use Rattle.std.specs.BTreeMap.{keys};
 ghost use Rattle.system_file.specs.declared.fault.Spot.{Spot};
 ghost use Rattle.system_file.specs.declared.fault.SystemFault.{SystemFault};
 ghost use Rattle.system_file.specs.Document.{format_at as format_in, number_of as number_in, given_number, flag_of, sched_named, array_of as elements};
@@ -13,19 +12,30 @@ ghost use Rattle.system_file.specs.Reading.{first_of};
 use crate::format::Format;
 use crate::{Spot, SystemFault};
 use slot_model::Sched;
-use toml::{Table, Value};
+use toml_items::{Entry, Item};
 
 /// The value at a key.
-pub fn find<'t>(table: &'t Table, key: &str) -> Option<&'t Value>
-    ensures { option_map (λ v. view v.now) result ≡ get_member key.now (table_view table.now) }
+pub fn find<'e, 't>(table: &'e [Entry<'t>], key: &str) -> Option<&'e Item<'t>>
+    ensures { option_map (λ v. item_view v.now) result
+        ≡ get_member key.now (entries_view table.now) }
 {
-    table.get(key)
+    for (name, item) in table {
+        if key == *name {
+            return Some(item);
+        }
+    }
+    None
 }
 
 /// The value at a key that has to be there.
-pub fn value_at<'t>(table: &'t Table, key: &str, spot: Spot) -> Result<&'t Value, SystemFault>
-    ensures ok { IfOk result (λ v. get_member key.now (table_view table.now) ≡ Some (view v.now)) }
-    ensures fault { IfErr result (λ fault. (get_member key.now (table_view table.now) ≡ None)
+pub fn value_at<'e, 't>(
+    table: &'e [Entry<'t>],
+    key: &str,
+    spot: Spot,
+) -> Result<&'e Item<'t>, SystemFault>
+    ensures ok { IfOk result (λ v.
+        get_member key.now (entries_view table.now) ≡ Some (item_view v.now)) }
+    ensures fault { IfErr result (λ fault. (get_member key.now (entries_view table.now) ≡ None)
         × (fault ≡ SystemFault.MissingKey spot)) }
 {
     match find(table, key) {
@@ -35,28 +45,28 @@ pub fn value_at<'t>(table: &'t Table, key: &str, spot: Spot) -> Result<&'t Value
 }
 
 /// The table that a value has to be.
-pub fn table_of(value: &Value, spot: Spot) -> Result<&Table, SystemFault>
-    ensures ok { IfOk result (λ t. view value.now ≡ table (table_view t.now)) }
+pub fn table_of<'e, 't>(value: &'e Item<'t>, spot: Spot) -> Result<&'e [Entry<'t>], SystemFault>
+    ensures ok { IfOk result (λ t. item_view value.now ≡ table (entries_view t.now)) }
     ensures fault { IfErr result (λ fault. (fault ≡ SystemFault.WrongKind spot)
-        × (as_table (view value.now) ≡ None)) }
+        × (as_table (item_view value.now) ≡ None)) }
 {
     match value {
-        Value::Table(table) => Ok(table),
+        Item::Table(entries) => Ok(entries.as_slice()),
         _ => Err(SystemFault::WrongKind(spot)),
     }
 }
 
 /// The text at a key that has to be there.
-pub fn text_at<'t>(table: &'t Table, key: &str, spot: Spot) -> Result<&'t str, SystemFault>
+pub fn text_at<'t>(table: &[Entry<'t>], key: &str, spot: Spot) -> Result<&'t str, SystemFault>
     ensures ok { IfOk result (λ s.
-        get_member key.now (table_view table.now) ≡ Some (string s.now)) }
+        get_member key.now (entries_view table.now) ≡ Some (string s.now)) }
     ensures fault { IfErr result (λ fault. (at_text : List ℕ → List SystemFault) →
         first_of
-        (required spot (text_faults spot at_text) (get_member key.now (table_view table.now)))
+        (required spot (text_faults spot at_text) (get_member key.now (entries_view table.now)))
         ≡ Some fault) }
 {
     match value_at(table, key, spot)? {
-        Value::String(text) => Ok(text.as_str()),
+        Item::Text(text) => Ok(*text),
         _ => Err(SystemFault::WrongKind(spot)),
     }
 }
@@ -81,14 +91,14 @@ pub fn sched_of(text: &str, spot: Spot) -> Result<Sched, SystemFault>
 }
 
 /// The whole number from 1 to the highest that a value has to be.
-pub fn number_of(value: &Value, highest: u64, spot: Spot) -> Result<u64, SystemFault>
-    ensures ok { IfOk result (λ n. (range_faults spot highest (view value.now) ≡ [])
-        × (view value.now ≡ integer (pos n)) × (1 ≤ n) × (n ≤ highest)) }
+pub fn number_of(value: &Item<'_>, highest: u64, spot: Spot) -> Result<u64, SystemFault>
+    ensures ok { IfOk result (λ n. (range_faults spot highest (item_view value.now) ≡ [])
+        × (item_view value.now ≡ integer (pos n)) × (1 ≤ n) × (n ≤ highest)) }
     ensures fault { IfErr result (λ fault.
-        first_of (range_faults spot highest (view value.now)) ≡ Some fault) }
+        first_of (range_faults spot highest (item_view value.now)) ≡ Some fault) }
 {
     match value {
-        Value::Integer(n) => ranged(*n, highest, spot),
+        Item::Number(n) => ranged(*n, highest, spot),
         _ => Err(SystemFault::WrongKind(spot)),
     }
 }
@@ -107,14 +117,20 @@ fn ranged(n: i64, highest: u64, spot: Spot) -> Result<u64, SystemFault>
 }
 
 /// The number at a key that has to be there.
-pub fn number_at(table: &Table, key: &str, highest: u64, spot: Spot) -> Result<u64, SystemFault>
+pub fn number_at(
+    table: &[Entry<'_>],
+    key: &str,
+    highest: u64,
+    spot: Spot,
+) -> Result<u64, SystemFault>
     ensures ok { IfOk result (λ n.
-        (required spot (range_faults spot highest) (get_member key.now (table_view table.now)) ≡ [])
-        × (get_member key.now (table_view table.now) ≡ Some (integer (pos n))) × (1 ≤ n)
+        (required spot (range_faults spot highest) (get_member key.now (entries_view table.now))
+        ≡ [])
+        × (get_member key.now (entries_view table.now) ≡ Some (integer (pos n))) × (1 ≤ n)
         × (n ≤ highest)) }
     ensures fault { IfErr result (λ fault.
         first_of
-        (required spot (range_faults spot highest) (get_member key.now (table_view table.now)))
+        (required spot (range_faults spot highest) (get_member key.now (entries_view table.now)))
         ≡ Some fault) }
 {
     number_of(value_at(table, key, spot)?, highest, spot)
@@ -122,17 +138,18 @@ pub fn number_at(table: &Table, key: &str, highest: u64, spot: Spot) -> Result<u
 
 /// The number at a key that may be left out.
 pub fn given_number_at(
-    table: &Table,
+    table: &[Entry<'_>],
     key: &str,
     highest: u64,
     spot: Spot,
 ) -> Result<Option<u64>, SystemFault>
     ensures ok { IfOk result (λ n.
-        (optional (range_faults spot highest) (get_member key.now (table_view table.now)) ≡ [])
-        × (n ≡ given_number (get_member key.now (table_view table.now)))
+        (optional (range_faults spot highest) (get_member key.now (entries_view table.now)) ≡ [])
+        × (n ≡ given_number (get_member key.now (entries_view table.now)))
         × IsGivenBudget highest n) }
     ensures fault { IfErr result (λ fault.
-        first_of (optional (range_faults spot highest) (get_member key.now (table_view table.now)))
+        first_of
+        (optional (range_faults spot highest) (get_member key.now (entries_view table.now)))
         ≡ Some fault) }
 {
     match find(table, key) {
@@ -142,14 +159,14 @@ pub fn given_number_at(
 }
 
 /// The number from 0 on and below a bound at a key that may be left out, and is then 0.
-pub fn below_at(table: &Table, key: &str, bound: u64, spot: Spot) -> Result<u64, SystemFault>
-    ensures ok { IfOk result (λ n. let at = get_member key.now (table_view table.now) in
+pub fn below_at(table: &[Entry<'_>], key: &str, bound: u64, spot: Spot) -> Result<u64, SystemFault>
+    ensures ok { IfOk result (λ n. let at = get_member key.now (entries_view table.now) in
         (optional (below_faults spot bound) at ≡ []) × (n ≡ number_in at)) }
-    ensures fault { IfErr result (λ fault. let at = get_member key.now (table_view table.now) in
+    ensures fault { IfErr result (λ fault. let at = get_member key.now (entries_view table.now) in
         first_of (optional (below_faults spot bound) at) ≡ Some fault) }
 {
     match find(table, key) {
-        Some(Value::Integer(n)) => below(*n, bound, spot),
+        Some(Item::Number(n)) => below(*n, bound, spot),
         Some(_) => Err(SystemFault::WrongKind(spot)),
         None => Ok(0),
     }
@@ -168,40 +185,44 @@ fn below(n: i64, bound: u64, spot: Spot) -> Result<u64, SystemFault>
 }
 
 /// The truth value at a key that may be left out, and is then false.
-pub fn flag_at(table: &Table, key: &str, spot: Spot) -> Result<bool, SystemFault>
+pub fn flag_at(table: &[Entry<'_>], key: &str, spot: Spot) -> Result<bool, SystemFault>
     ensures ok { IfOk result (λ flag.
-        (optional (flag_faults spot) (get_member key.now (table_view table.now)) ≡ [])
-        × (flag ≡ flag_of (get_member key.now (table_view table.now)))) }
+        (optional (flag_faults spot) (get_member key.now (entries_view table.now)) ≡ [])
+        × (flag ≡ flag_of (get_member key.now (entries_view table.now)))) }
     ensures fault { IfErr result (λ fault.
-        first_of (optional (flag_faults spot) (get_member key.now (table_view table.now)))
+        first_of (optional (flag_faults spot) (get_member key.now (entries_view table.now)))
         ≡ Some fault) }
 {
     match find(table, key) {
-        Some(Value::Boolean(flag)) => Ok(*flag),
+        Some(Item::Flag(flag)) => Ok(*flag),
         Some(_) => Err(SystemFault::WrongKind(spot)),
         None => Ok(false),
     }
 }
 
 /// The elements of the array that a value has to be.
-pub fn array_of(value: &Value, spot: Spot) -> Result<&[Value], SystemFault>
-    ensures ok { IfOk result (λ xs. view value.now ≡ array (items_view xs.now)) }
+pub fn array_of<'e, 't>(value: &'e Item<'t>, spot: Spot) -> Result<&'e [Item<'t>], SystemFault>
+    ensures ok { IfOk result (λ xs. item_view value.now ≡ array (list_view xs.now)) }
     ensures fault { IfErr result (λ fault. (fault ≡ SystemFault.WrongKind spot)
-        × (as_array (view value.now) ≡ None)) }
+        × (as_array (item_view value.now) ≡ None)) }
 {
     match value {
-        Value::Array(elements) => Ok(elements.as_slice()),
+        Item::List(elements) => Ok(elements.as_slice()),
         _ => Err(SystemFault::WrongKind(spot)),
     }
 }
 
 #[tactic(auto, using(crate::proofs::Elements::elements_view, crate::proofs::Elements::length_map))]
 /// The elements of an array, at most so many.
-pub fn few_of(value: &Value, most: usize, spot: Spot) -> Result<&[Value], SystemFault>
-    ensures ok { IfOk result (λ xs. (array_faults spot most (view value.now) ≡ [])
-        × (map view xs.now ≡ elements (Some (view value.now))) × (length xs.now ≤ most)) }
+pub fn few_of<'e, 't>(
+    value: &'e Item<'t>,
+    most: usize,
+    spot: Spot,
+) -> Result<&'e [Item<'t>], SystemFault>
+    ensures ok { IfOk result (λ xs. (array_faults spot most (item_view value.now) ≡ [])
+        × (map item_view xs.now ≡ elements (Some (item_view value.now))) × (length xs.now ≤ most)) }
     ensures fault { IfErr result (λ fault.
-        first_of (array_faults spot most (view value.now)) ≡ Some fault) }
+        first_of (array_faults spot most (item_view value.now)) ≡ Some fault) }
 {
     let elements = array_of(value, spot)?;
     if elements.len() > most {
@@ -210,36 +231,43 @@ pub fn few_of(value: &Value, most: usize, spot: Spot) -> Result<&[Value], System
     Ok(elements)
 }
 
+/// The elements of an array that is left out.
+fn no_elements<'e, 't>() -> Result<&'e [Item<'t>], SystemFault>
+    ensures { IsOkAnd result (λ xs. xs.now ≡ []) }
+{
+    Ok(&[])
+}
+
 /// The elements at a key that may be left out, at most so many.
-pub fn elements_at<'t>(
-    table: &'t Table,
+pub fn elements_at<'e, 't>(
+    table: &'e [Entry<'t>],
     key: &str,
     most: usize,
     spot: Spot,
-) -> Result<&'t [Value], SystemFault>
+) -> Result<&'e [Item<'t>], SystemFault>
     ensures ok { IfOk result (λ xs.
-        (optional (array_faults spot most) (get_member key.now (table_view table.now)) ≡ [])
-        × (map view xs.now ≡ elements (get_member key.now (table_view table.now)))
+        (optional (array_faults spot most) (get_member key.now (entries_view table.now)) ≡ [])
+        × (map item_view xs.now ≡ elements (get_member key.now (entries_view table.now)))
         × (length xs.now ≤ most)) }
     ensures fault { IfErr result (λ fault.
-        first_of (optional (array_faults spot most) (get_member key.now (table_view table.now)))
+        first_of (optional (array_faults spot most) (get_member key.now (entries_view table.now)))
         ≡ Some fault) }
 {
     match find(table, key) {
         Some(value) => few_of(value, most, spot),
-        None => Ok(&[]),
+        None => no_elements(),
     }
 }
 
 #[tactic(auto, using(crate::proofs::Elements::elements_view, crate::proofs::Elements::length_map))]
 /// The cores of the top table: 1 to 64.
-pub fn cores_at(table: &Table) -> Result<&[Value], SystemFault>
+pub fn cores_at<'e, 't>(table: &'e [Entry<'t>]) -> Result<&'e [Item<'t>], SystemFault>
     ensures ok { IfOk result (λ xs.
-        let at = get_member (codes "core") (table_view table.now) in
-        (required Spot.Top core_array_faults at ≡ []) × (map view xs.now ≡ elements at)
+        let at = get_member (codes "core") (entries_view table.now) in
+        (required Spot.Top core_array_faults at ≡ []) × (map item_view xs.now ≡ elements at)
         × (length xs.now ≤ 64)) }
     ensures fault { IfErr result (λ fault.
-        let at = get_member (codes "core") (table_view table.now) in
+        let at = get_member (codes "core") (entries_view table.now) in
         first_of (required Spot.Top core_array_faults at) ≡ Some fault) }
 {
     let elements = array_of(value_at(table, "core", Spot::Top)?, Spot::Top)?;
@@ -253,29 +281,29 @@ pub fn cores_at(table: &Table) -> Result<&[Value], SystemFault>
 }
 
 /// The format of the file.
-pub fn format_at(table: &Table) -> Result<Format, SystemFault>
+pub fn format_at(table: &[Entry<'_>]) -> Result<Format, SystemFault>
     ensures ok { IfOk result (λ format.
-        let at = get_member (codes "format") (table_view table.now) in
+        let at = get_member (codes "format") (entries_view table.now) in
         (required Spot.Top format_faults at ≡ []) × (format ≡ format_in at)) }
     ensures fault { IfErr result (λ fault.
-        let at = get_member (codes "format") (table_view table.now) in
+        let at = get_member (codes "format") (entries_view table.now) in
         first_of (required Spot.Top format_faults at) ≡ Some fault) }
 {
     match value_at(table, "format", Spot::Top)? {
-        Value::Integer(1) => Ok(Format::One),
-        Value::Integer(2) => Ok(Format::Two),
-        Value::Integer(_) => Err(SystemFault::OutOfRange(Spot::Top)),
+        Item::Number(1) => Ok(Format::One),
+        Item::Number(2) => Ok(Format::Two),
+        Item::Number(_) => Err(SystemFault::OutOfRange(Spot::Top)),
         _ => Err(SystemFault::WrongKind(Spot::Top)),
     }
 }
 
 #[tactic(auto, using(crate::proofs::Elements::only_listed))]
 /// Every key of a table has to be listed.
-pub fn check_keys(table: &Table, listed: &[&str], spot: Spot) -> Result<(), SystemFault>
+pub fn check_keys(table: &[Entry<'_>], listed: &[&str], spot: Spot) -> Result<(), SystemFault>
     ensures ok { IfOk result (λ _.
-        has_only (map (λ key. key.now) listed.now) (table_view table.now) ≡ true) }
+        has_only (map (λ key. key.now) listed.now) (entries_view table.now) ≡ true) }
     ensures fault { IfErr result (λ fault.
-        (has_only (map (λ key. key.now) listed.now) (table_view table.now) ≡ false)
+        (has_only (map (λ key. key.now) listed.now) (entries_view table.now) ≡ false)
         × (fault ≡ SystemFault.UnknownKey spot)) }
 {
     if all_listed(table, listed) {
@@ -285,11 +313,11 @@ pub fn check_keys(table: &Table, listed: &[&str], spot: Spot) -> Result<(), Syst
     }
 }
 
-fn all_listed(table: &Table, listed: &[&str]) -> bool
-    ensures { result ≡ list_all (λ key.
-        list_any (λ l. bytes_eq (string_bytes key) l.now) listed.now) (keys table.now) }
+fn all_listed(table: &[Entry<'_>], listed: &[&str]) -> bool
+    ensures { result ≡ list_all (λ e.
+        list_any (λ l. bytes_eq e.0.now l.now) listed.now) table.now }
 {
-    table.keys().all(|key| is_listed(key.as_str(), listed))
+    table.iter().all(|entry| is_listed(entry.0, listed))
 }
 
 fn is_listed(key: &str, listed: &[&str]) -> bool

@@ -1,6 +1,6 @@
 ghost use Rattle.std.specs.Prelude.{◌≡◌, ◌≢◌, ℕ, ◌≤◌, ◌<◌, ◌+◌, List, [], ◌∷◌, ◌++◌, true, false, length, map, slice_index_or, Some, IfOk, IfErr, OnOk, MatchOption};
 ghost use Rattle.toml.specs.Data.{Data};
-ghost use Rattle.toml.specs.View.{view};
+ghost use Rattle.toml_items.specs.Item.{item_view};
 ghost use Rattle.system_file.specs.declared.fault.SystemFault.TheVariants.{NoMemory};
 ghost use Rattle.system_file.specs.Document.{parent_named, spelled_part};
 ghost use Rattle.system_file.specs.Faults.{parent_faults, part_faults, in_order};
@@ -15,7 +15,7 @@ use crate::tasks::read_tasks;
 use crate::{Spot, SystemFault};
 use slot_model::LIMIT;
 use std::alloc::{AllocError, Global};
-use toml::Value;
+use toml_items::Item;
 use tree_model::{Parent, Part};
 
 /// The core or the earlier part without tasks that a text names.
@@ -56,7 +56,7 @@ fn parent_of(
 /// set for the names of its tasks.
 fn read_part<'t>(
     alloc: Global,
-    value: &'t Value,
+    value: &Item<'t>,
     format: Format,
     cores: usize,
     earlier: &[Part],
@@ -69,14 +69,15 @@ fn read_part<'t>(
     ensures named { OnOk result (length names.new ≡ length names.old + 1) }
     ensures ok { IfOk result (λ part.
         (core_elements before later : List Data) →
-        Known core_elements before (view value.now ∷ later) cores names.old earlier.now →
-        (part_faults format core_elements before (view value.now) ≡ [])
-        × (part ≡ spelled_part core_elements (before ++ view value.now ∷ later) (view value.now))
-        × HaveNames (core_elements ++ (before ++ view value.now ∷ [])) names.new) }
+        Known core_elements before (item_view value.now ∷ later) cores names.old earlier.now →
+        (part_faults format core_elements before (item_view value.now) ≡ [])
+        × (part ≡ spelled_part core_elements (before ++ item_view value.now ∷ later)
+        (item_view value.now))
+        × HaveNames (core_elements ++ (before ++ item_view value.now ∷ [])) names.new) }
     ensures fault { IfErr result (λ fault. fault ≢ NoMemory →
         (core_elements before later : List Data) →
-        Known core_elements before (view value.now ∷ later) cores names.old earlier.now →
-        first_of (part_faults format core_elements before (view value.now)) ≡ Some fault) }
+        Known core_elements before (item_view value.now ∷ later) cores names.old earlier.now →
+        first_of (part_faults format core_elements before (item_view value.now)) ≡ Some fault) }
 {
     let place = earlier.len() as u32;
     let spot = Spot::Part(place);
@@ -114,7 +115,7 @@ fn read_part<'t>(
 /// The parts of the file, over the names of its cores.
 pub fn read_parts<'t>(
     alloc: Global,
-    values: &'t [Value],
+    values: &[Item<'t>],
     format: Format,
     cores: usize,
     names: &mut Names<'t>,
@@ -124,12 +125,12 @@ pub fn read_parts<'t>(
     requires names { length names.old ≡ cores }
     ensures ok { IfOk result (λ parts. (core_elements : List Data) →
         length core_elements ≡ cores → HaveNames core_elements names.old →
-        let elements = map view values.now in
+        let elements = map item_view values.now in
         (in_order (part_faults format core_elements) [] elements ≡ [])
         × (parts.items ≡ map (spelled_part core_elements elements) elements)) }
     ensures fault { IfErr result (λ fault. fault ≢ NoMemory → (core_elements : List Data) →
         length core_elements ≡ cores → HaveNames core_elements names.old →
-        let elements = map view values.now in
+        let elements = map item_view values.now in
         first_of (in_order (part_faults format core_elements) [] elements) ≡ Some fault) }
 {
     let mut parts = Vec::with_capacity(alloc, values.len())?;

@@ -1,7 +1,7 @@
 ghost use Rattle.std.specs.Prelude.{◌≡◌, ◌≢◌, [], Ok, Err, IfOk, IfErr};
 ghost use Rattle.toml.specs.Data.{table as toml_table};
 ghost use Rattle.toml.specs.Parse.{parse_document};
-ghost use Rattle.toml.specs.View.{table_view};
+ghost use Rattle.toml_items.specs.Item.{entries_view};
 ghost use Rattle.tree_model.specs.View.{SystemView};
 ghost use Rattle.system_file.specs.declared.fault.SystemFault.TheVariants.{NoMemory};
 ghost use Rattle.system_file.specs.Document.{spelled_system};
@@ -17,15 +17,15 @@ use crate::parts::{first_empty, read_parts};
 use crate::{Spot, SystemFault};
 use std::alloc::Global;
 use std::str;
-use toml::Table;
+use toml_items::{Entry, plain_entries, table_entries};
 use tree_model::System;
 
 /// The system of a TOML document, or its first fault.
-fn read_document(alloc: Global, table: &Table) -> Result<System, SystemFault>
-    ensures ok { IfOk result (λ sys. (faults (toml_table (table_view table.now)) ≡ [])
-        × (sys ≡ spelled_system (toml_table (table_view table.now)))) }
+fn read_document(alloc: Global, table: &[Entry<'_>]) -> Result<System, SystemFault>
+    ensures ok { IfOk result (λ sys. (faults (toml_table (entries_view table.now)) ≡ [])
+        × (sys ≡ spelled_system (toml_table (entries_view table.now)))) }
     ensures fault { IfErr result (λ fault. fault ≢ NoMemory →
-        first_of (faults (toml_table (table_view table.now))) ≡ Some fault) }
+        first_of (faults (toml_table (entries_view table.now))) ≡ Some fault) }
 {
     check_keys(table, &["format", "core", "part"], Spot::Top)?;
     let format = format_at(table)?;
@@ -40,13 +40,29 @@ fn read_document(alloc: Global, table: &Table) -> Result<System, SystemFault>
     }
 }
 
+/// The system of a text's document, or its first fault.
 fn read_text(alloc: Global, text: &str) -> Result<System, SystemFault>
     ensures spelled { IfOk result (λ sys. system_of_document (parse_document text.now) ≡ Ok sys) }
     ensures fault { IfErr result (λ fault. fault ≢ NoMemory →
         system_of_document (parse_document text.now) ≡ Err fault) }
 {
+    match plain_entries(alloc, text)? {
+        Some(entries) => read_document(alloc, &entries),
+        None => read_other(alloc, text),
+    }
+}
+
+/// The same of a text that is not plain.
+fn read_other(alloc: Global, text: &str) -> Result<System, SystemFault>
+    ensures spelled { IfOk result (λ sys. system_of_document (parse_document text.now) ≡ Ok sys) }
+    ensures fault { IfErr result (λ fault. fault ≢ NoMemory →
+        system_of_document (parse_document text.now) ≡ Err fault) }
+{
     match toml::table_from_str(alloc, text) {
-        Ok(table) => read_document(alloc, &table),
+        Ok(table) => {
+            let entries = table_entries(alloc, &table)?;
+            read_document(alloc, &entries)
+        }
         Err(error) => {
             if error.is_memory() {
                 Err(SystemFault::NoMemory)

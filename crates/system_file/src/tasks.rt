@@ -1,7 +1,7 @@
 ghost use Rattle.std.specs.Prelude.{◌≡◌, ◌≢◌, ◌≤◌, List, [], ◌∷◌, ◌++◌, length, map, IfOk, IfErr};
 ghost use Rattle.slot_model.specs.Task.{sporadic_task};
 ghost use Rattle.toml.specs.Data.{Data, table as toml_table};
-ghost use Rattle.toml.specs.View.{view, table_view};
+ghost use Rattle.toml_items.specs.Item.{item_view, entries_view};
 ghost use Rattle.system_file.specs.declared.fault.SystemFault.TheVariants.{NoMemory};
 ghost use Rattle.system_file.specs.Document.{spelled_task};
 ghost use Rattle.system_file.specs.Faults.{task_number_faults, task_keys as keys, task_key_faults, task_faults, table_faults, in_order};
@@ -13,14 +13,14 @@ use crate::names::{Names, new_name};
 use crate::{Spot, SystemFault};
 use slot_model::{LIMIT, Task};
 use std::alloc::Global;
-use toml::{Table, Value};
+use toml_items::{Entry, Item};
 use tree_model::Named;
 
 /// The numbers of a task, whose deadline is its period and whose jitter is 0 where none is given.
-fn numbers_at(table: &Table, spot: Spot) -> Result<Task, SystemFault>
-    ensures ok { IfOk result (λ t. let d = toml_table (table_view table.now) in
+fn numbers_at(table: &[Entry<'_>], spot: Spot) -> Result<Task, SystemFault>
+    ensures ok { IfOk result (λ t. let d = toml_table (entries_view table.now) in
         (task_number_faults spot d ≡ []) × (sporadic_task t ≡ (spelled_task d).task)) }
-    ensures fault { IfErr result (λ fault. let d = toml_table (table_view table.now) in
+    ensures fault { IfErr result (λ fault. let d = toml_table (entries_view table.now) in
         first_of (task_number_faults spot d) ≡ Some fault) }
 {
     let period = number_at(table, "period", LIMIT, spot)?;
@@ -36,18 +36,18 @@ fn numbers_at(table: &Table, spot: Spot) -> Result<Task, SystemFault>
 /// A task, whose name is put behind the names of the tasks before it.
 fn read_task<'t>(
     alloc: Global,
-    value: &'t Value,
+    value: &Item<'t>,
     format: Format,
     spot: Spot,
     names: &mut Names<'t>,
 ) -> Result<Named, SystemFault>
     ensures ok { IfOk result (λ named.
-        (earlier : List Data) → HaveNames earlier names.old → let d = view value.now in
+        (earlier : List Data) → HaveNames earlier names.old → let d = item_view value.now in
         (table_faults spot (keys format) (task_key_faults spot earlier d) d ≡ [])
         × (named ≡ spelled_task d)
         × HaveNames (earlier ++ d ∷ []) names.new) }
     ensures fault { IfErr result (λ fault. fault ≢ NoMemory →
-        (earlier : List Data) → HaveNames earlier names.old → let d = view value.now in
+        (earlier : List Data) → HaveNames earlier names.old → let d = item_view value.now in
         let found = table_faults spot (keys format) (task_key_faults spot earlier d) d in
         first_of found ≡ Some fault) }
 {
@@ -63,17 +63,17 @@ fn read_task<'t>(
 /// The tasks of a part. The names, which are those of another part's tasks before, become theirs.
 pub fn read_tasks<'t>(
     alloc: Global,
-    values: &'t [Value],
+    values: &[Item<'t>],
     format: Format,
     part: u32,
     names: &mut Names<'t>,
 ) -> Result<Vec<Named>, SystemFault>
     requires few { length values.now ≤ 256 }
     ensures ok { IfOk result (λ tasks.
-        (in_order (task_faults format part) [] (map view values.now) ≡ [])
-        × (tasks.items ≡ map spelled_task (map view values.now))) }
+        (in_order (task_faults format part) [] (map item_view values.now) ≡ [])
+        × (tasks.items ≡ map spelled_task (map item_view values.now))) }
     ensures fault { IfErr result (λ fault. fault ≢ NoMemory →
-        first_of (in_order (task_faults format part) [] (map view values.now)) ≡ Some fault) }
+        first_of (in_order (task_faults format part) [] (map item_view values.now)) ≡ Some fault) }
 {
     names.clear();
     let mut tasks = Vec::with_capacity(alloc, values.len())?;

@@ -1,7 +1,7 @@
 use Rattle.std.proofs.Common.{◌+◌, [], ◌∷◌, ◌++◌, List, map, length-append, sym, ap, subst, ◌∙◌, refl, arith}
 use Rattle.std.proofs.lemmas.Result.{err_from_is_err_and}
 use Rattle.toml.specs.Data.{Data}
-use Rattle.toml.specs.View.{view}
+use Rattle.toml_items.specs.Item.{item_view}
 use Rattle.tree_model.specs.View.{PartView}
 use Rattle.system_file.specs.Document.{spelled_part}
 use Rattle.system_file.specs.Faults.{part_faults}
@@ -16,7 +16,7 @@ returns-in_err-part-clause-fault c =
     let so_far = c.loop-value.invariant.2 cores counted have in
     let known = subst (λ (rest : List Data). Known cores (before c.args.values.now c.loop-value.value-index) rest c.args.cores c.loop-value.names c.loop-value.parts.items)
     (from_more c.args.values.now c.loop-value.value-index c.value-item.result (omega arith) c.value-item.is) so_far.0 in
-    let seen = subst (λ (parts : List PartView). Known cores (before c.args.values.now c.loop-value.value-index) (view c.value-item.result ∷ from c.args.values.now (c.loop-value.value-index + 1)) c.args.cores c.loop-value.names parts)
+    let seen = subst (λ (parts : List PartView). Known cores (before c.args.values.now c.loop-value.value-index) (item_view c.value-item.result ∷ from c.args.values.now (c.loop-value.value-index + 1)) c.args.cores c.loop-value.names parts)
     (sym c.deref.ensures.value) known in
     faulty (part_faults c.args.format cores) c.args.values.now c.loop-value.value-index c.value-item.result _ (omega arith) c.value-item.is so_far.1
     (c.in_err-part.ensures.fault memory cores (before c.args.values.now c.loop-value.value-index) (from c.args.values.now (c.loop-value.value-index + 1)) seen))
@@ -34,7 +34,7 @@ loop-value-preserved c = (
       let so_far = c.loop-value.invariant.2 cores counted have in
       let known = subst (λ (rest : List Data). Known cores (before c.args.values.now c.loop-value.value-index) rest c.args.cores c.loop-value.names c.loop-value.parts.items)
       (from_more c.args.values.now c.loop-value.value-index c.value-item.result (omega arith) c.value-item.is) so_far.0 in
-      let seen = subst (λ (parts : List PartView). Known cores (before c.args.values.now c.loop-value.value-index) (view c.value-item.result ∷ from c.args.values.now (c.loop-value.value-index + 1)) c.args.cores c.loop-value.names parts)
+      let seen = subst (λ (parts : List PartView). Known cores (before c.args.values.now c.loop-value.value-index) (item_view c.value-item.result ∷ from c.args.values.now (c.loop-value.value-index + 1)) c.args.cores c.loop-value.names parts)
       (sym c.deref.ensures.value) known in
       let ok = c.in_ok-part.ensures.ok cores (before c.args.values.now c.loop-value.value-index) (from c.args.values.now (c.loop-value.value-index + 1)) seen in (
         record {
@@ -43,7 +43,7 @@ loop-value-preserved c = (
           spelled =
               c.in_ok-push.ensures.items
               ∙ ap (λ parts. parts ++ c.in_ok-part.part ∷ []) known.spelled
-              ∙ spelled_more (spelled_part cores (before c.args.values.now c.loop-value.value-index ++ view c.value-item.result ∷ from c.args.values.now (c.loop-value.value-index + 1)))
+              ∙ spelled_more (spelled_part cores (before c.args.values.now c.loop-value.value-index ++ item_view c.value-item.result ∷ from c.args.values.now (c.loop-value.value-index + 1)))
               c.args.values.now c.loop-value.value-index c.value-item.result c.in_ok-part.part (omega arith) c.value-item.is ok.1
               ∙ ap (λ all. map (spelled_part cores all) (before c.args.values.now (c.loop-value.value-index + 1)))
               (all_values c.args.values.now c.loop-value.value-index c.value-item.result (omega arith) c.value-item.is);

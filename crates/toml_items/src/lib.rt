@@ -1,0 +1,16 @@
+//! A TOML document as items whose texts stay where they are: of a table of the kit's `toml`, and of
+//! a text that is plain, without one.
+#![tactic(auto)]
+
+mod entry;
+mod item;
+mod line;
+mod plain;
+mod table;
+
+pub use item::{Entry, Item};
+pub use plain::plain_entries;
+pub use table::table_entries;
+
+#[cfg(test)]
+mod tests;

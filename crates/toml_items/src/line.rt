@@ -1,0 +1,250 @@
+ghost use Rattle.std.specs.Prelude.{◌≡◌, ◌+◌, ◌<◌, ◌≤◌, true, false, [], ◌∷◌, Some, length, slice_index, IfSome};
+ghost use Rattle.std.specs.List.{prefix_len};
+ghost use Rattle.toml.specs.Tables.{key_value, array_table};
+ghost use Rattle.toml.specs.Parse.{line, key_equals, scalar_data, val, ends_line};
+ghost use Rattle.toml_parser.specs.Lexical as lexical;
+ghost use Rattle.toml_parser.specs.Strings as strings;
+ghost use Rattle.toml_items.specs.Item.{item_view};
+ghost use Rattle.toml_items.specs.Plain.{path_of};
+
+use crate::Item;
+use std::alloc::Global;
+use toml_parser::bytes::{is_bare, is_non_eol, is_word, is_ws};
+use toml_parser::text::{byte_at, first, skip, skip_ws};
+use toml_parser::{Scalar, unquoted};
+
+/// A line of a bare key and a plain value, and the text behind it.
+#[derive(Drop)]
+pub struct Pair<'t> {
+    pub key: &'t str,
+    pub item: Item<'t>,
+    pub rest: &'t str,
+}
+
+/// The header of an element of an array of tables, and the text behind it.
+#[derive(Clone, Copy, Drop)]
+pub struct Header<'t> {
+    /// The key of the table in which the array stands, where it is not the top one.
+    pub parent: Option<&'t str>,
+    pub key: &'t str,
+    pub rest: &'t str,
+}
+
+/// The pair at the front of a text, if a plain one stands there.
+pub fn pair_at(alloc: Global, text: &str) -> Option<Pair<'_>>
+    ensures line { IfSome result (λ p.
+        line text.now ≡ Some ((([], p.key.now), key_value (item_view p.item)), p.rest.now)) }
+    ensures shorter { IfSome result (λ p. length p.rest.now < length text.now) }
+{
+    let (key, value_text) = key_at(text)?;
+    let (item, rest) = value_at(alloc, value_text)?;
+    if !ends_here(rest) {
+        return None;
+    }
+    Some(Pair { key, item, rest })
+}
+
+/// The header at the front of a text, if one of one or two bare keys stands there.
+pub fn header_at(text: &str) -> Option<Header<'_>>
+    ensures line { IfSome result (λ h.
+        line text.now ≡ Some (((path_of h.parent, h.key.now), array_table), h.rest.now)) }
+    ensures shorter { IfSome result (λ h. length h.rest.now < length text.now) }
+{
+    if first(text) != b'[' || byte_at(text, 1) != b'[' {
+        return None;
+    }
+    let keys = keys_at(skip(text, 2))?;
+    if first(keys.rest) != b']' || byte_at(keys.rest, 1) != b']' {
+        return None;
+    }
+    let rest = skip(keys.rest, 2);
+    if !ends_here(rest) {
+        return None;
+    }
+    Some(Header {
+        parent: keys.parent,
+        key: keys.key,
+        rest,
+    })
+}
+
+/// After spaces and tabs. Mostly none or one stands there.
+#[inline]
+fn after_ws(text: &str) -> &str
+    ensures rest { result.now ≡ lexical.skip_ws text.now }
+    ensures within { length result.now ≤ length text.now }
+{
+    if !is_ws(first(text)) {
+        return text;
+    }
+    let rest = skip(text, 1);
+    if is_ws(first(rest)) {
+        skip_ws(rest)
+    } else {
+        rest
+    }
+}
+
+/// Whether the line ends behind spaces and tabs.
+#[inline]
+fn ends_here(text: &str) -> bool
+    ensures { result ≡ ends_line (lexical.skip_ws text.now) }
+{
+    let rest = after_ws(text);
+    rest.is_empty() || matches!(first(rest), b'#' | b'\n' | b'\r')
+}
+
+/// One or two bare keys, with a dot between them, and the text behind them.
+fn keys_at(text: &str) -> Option<Header<'_>>
+    ensures keys { IfSome result (λ h.
+        strings.key text.now ≡ Some ((path_of h.parent, h.key.now), h.rest.now)) }
+    ensures bare { IfSome result (λ _. lexical.is_bare (lexical.first text.now) ≡ true) }
+    ensures within { IfSome result (λ h. length h.rest.now ≤ length text.now) }
+{
+    let (key, rest) = bare_key(text)?;
+    match first(rest) {
+        b']' => Some(Header {
+            parent: None,
+            key,
+            rest,
+        }),
+        b'.' => {
+            let (last, end) = bare_key(skip(rest, 1))?;
+            if first(end) != b']' {
+                return None;
+            }
+            Some(Header {
+                parent: Some(key),
+                key: last,
+                rest: end,
+            })
+        }
+        _ => None,
+    }
+}
+
+/// A bare key, and the text behind `=` and the white space after it.
+fn key_at(text: &str) -> Option<(&str, &str)>
+    ensures key { IfSome result (λ p. key_equals text.now ≡ Some (([], p.0.now), p.1.now)) }
+    ensures bare { IfSome result (λ _. lexical.is_bare (lexical.first text.now) ≡ true) }
+    ensures shorter { IfSome result (λ p. length p.1.now < length text.now) }
+{
+    let (key, behind) = bare_key(text)?;
+    let at_equals = after_ws(behind);
+    if first(at_equals) != b'=' {
+        return None;
+    }
+    Some((key, after_ws(skip(at_equals, 1))))
+}
+
+/// A plain value, and the text behind it.
+fn value_at(alloc: Global, text: &str) -> Option<(Item<'_>, &str)>
+    ensures value { IfSome result (λ p.
+        val strings.recursion_limit text.now ≡ Some (item_view p.0, p.1.now)) }
+    ensures shorter { IfSome result (λ p. length p.1.now < length text.now) }
+{
+    let byte = first(text);
+    if byte == b'"' {
+        let (content, rest) = plain_text(text)?;
+        Some((Item::Text(content), rest))
+    } else if is_word(byte) {
+        word_at(alloc, text)
+    } else {
+        None
+    }
+}
+
+/// A whole number or a truth value at a byte of a word, and the text behind it.
+fn word_at(alloc: Global, text: &str) -> Option<(Item<'_>, &str)>
+    requires word { lexical.is_word (lexical.first text.now) ≡ true }
+    ensures value { IfSome result (λ p.
+        val strings.recursion_limit text.now ≡ Some (item_view p.0, p.1.now)) }
+    ensures shorter { IfSome result (λ p. length p.1.now < length text.now) }
+{
+    match unquoted(alloc, text) {
+        Ok((scalar, rest)) => Some((scalar_item(scalar)?, rest)),
+        Err(_) => None,
+    }
+}
+
+/// A whole number or a truth value as an item.
+#[inline]
+fn scalar_item<'t>(scalar: Scalar) -> Option<Item<'t>>
+    ensures { IfSome result (λ item. item_view item ≡ scalar_data scalar) }
+{
+    match scalar {
+        Scalar::Integer(number) => Some(Item::Number(number)),
+        Scalar::Boolean(flag) => Some(Item::Flag(flag)),
+        _ => None,
+    }
+}
+
+/// The content of a string at its quote, where it is not empty and stands for itself, and the
+/// text behind it.
+fn plain_text(text: &str) -> Option<(&str, &str)>
+    requires quote { lexical.first text.now ≡ lexical.quote }
+    ensures value { IfSome result (λ p. strings.quoted text.now ≡ Some (p.0.now, p.1.now)) }
+    ensures shorter { IfSome result (λ p. length p.1.now < length text.now) }
+{
+    let (content, end) = split_plain(skip(text, 1));
+    if content.is_empty() || first(end) != b'"' {
+        return None;
+    }
+    Some((content, skip(end, 1)))
+}
+
+/// A bare key, and the text behind it.
+#[inline]
+fn bare_key(text: &str) -> Option<(&str, &str)>
+    ensures key { IfSome result (λ p. strings.simple_key text.now ≡ Some (p.0.now, p.1.now)) }
+    ensures bare { IfSome result (λ _. lexical.is_bare (lexical.first text.now) ≡ true) }
+    ensures within { IfSome result (λ p. length p.1.now ≤ length text.now) }
+{
+    if !is_bare(first(text)) {
+        return None;
+    }
+    Some(split_bare(text))
+}
+
+/// The bytes of a bare key at the front, and the text behind them.
+#[inline]
+fn split_bare(text: &str) -> (&str, &str)
+    ensures parts { (result.0.now, result.1.now) ≡ lexical.split_while lexical.is_bare text.now }
+    ensures lens { length result.0.now + length result.1.now ≡ length text.now }
+{
+    text.split_at(bare_len(text.as_bytes()))
+}
+
+#[inline]
+fn bare_len(bytes: &[u8]) -> usize
+    ensures len { result ≡ prefix_len lexical.is_bare bytes.now }
+    ensures within { result ≤ length bytes.now }
+{
+    bytes.iter().take_while(|b| is_bare(**b)).count()
+}
+
+/// The bytes that stand for themselves in a string, and the text behind them.
+#[inline]
+fn split_plain(text: &str) -> (&str, &str)
+    ensures parts { (result.0.now, result.1.now)
+        ≡ lexical.split_while (strings.is_plain lexical.quote false) text.now }
+    ensures lens { length result.0.now + length result.1.now ≡ length text.now }
+{
+    text.split_at(plain_len(text.as_bytes()))
+}
+
+#[inline]
+fn plain_len(bytes: &[u8]) -> usize
+    ensures len { result ≡ prefix_len (strings.is_plain lexical.quote false) bytes.now }
+    ensures within { result ≤ length bytes.now }
+{
+    bytes.iter().take_while(|b| is_plain(**b)).count()
+}
+
+/// Whether a byte stands for itself in a string on one line.
+#[inline]
+fn is_plain(byte: u8) -> bool
+    ensures { result ≡ strings.is_plain lexical.quote false byte }
+{
+    byte != b'"' && byte != b'\\' && is_non_eol(byte)
+}
