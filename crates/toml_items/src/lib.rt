@@ -5,6 +5,7 @@
 mod entry;
 mod item;
 mod line;
+mod number;
 mod plain;
 mod table;
 

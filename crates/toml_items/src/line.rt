@@ -8,6 +8,7 @@ ghost use Rattle.toml_items.specs.Item.{item_view};
 ghost use Rattle.toml_items.specs.Plain.{path_of};
 
 use crate::Item;
+use crate::number::whole_number;
 use std::alloc::Global;
 use toml_parser::bytes::{is_bare, is_non_eol, is_word, is_ws};
 use toml_parser::text::{byte_at, first, skip, skip_ws};
@@ -161,6 +162,9 @@ fn word_at(alloc: Global, text: &str) -> Option<(Item<'_>, &str)>
         val strings.recursion_limit text.now ≡ Some (item_view p.0, p.1.now)) }
     ensures shorter { IfSome result (λ p. length p.1.now < length text.now) }
 {
+    if let Some((number, rest)) = whole_number(text) {
+        return Some((Item::Number(number), rest));
+    }
     match unquoted(alloc, text) {
         Ok((scalar, rest)) => Some((scalar_item(scalar)?, rest)),
         Err(_) => None,
