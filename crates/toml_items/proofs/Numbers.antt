@@ -1,8 +1,6 @@
 -- Digits at the front of a text, as the number that TOML reads.
-use Rattle.std.proofs.Common.{◌≡◌, ℕ, suc, ◌+◌, ◌-◌, ◌*◌, ◌/◌, ◌%◌, ◌^◌, ◌<◌, ◌≤◌, true, false, ◌==◌, pos, List, [], ◌∷◌, ◌++◌, length, drop, get_or, slice_index, decimal, Some, refl, sym, ap, ◌∙◌, subst, arith, add-one, append_assoc, drop-cons}
+use Rattle.std.proofs.Common.{◌≡◌, ℕ, suc, ◌+◌, ◌*◌, ◌/◌, ◌%◌, ◌^◌, ◌<◌, ◌≤◌, false, ◌==◌, pos, List, [], ◌∷◌, ◌++◌, length, drop, get_or, decimal, Some, refl, sym, ap, ◌∙◌, subst, arith, add-one, append_assoc, drop-cons}
 use Rattle.std.proofs.Math.Nat.{pow-suc, pow-le-pow_right}
-use Rattle.std.specs.Char.{is_ascii_digit}
-use Rattle.std.proofs.lemmas.Bool.Decides.{nat_tests}
 use Rattle.std.proofs.lemmas.Fmt.{decimal_digit, decimal_step}
 use Rattle.toml_parser.specs.declared.scalar.Scalar.TheVariants.{Integer}
 use Rattle.toml_parser.specs.Lexical.{first, is_word}

@@ -1,7 +1,6 @@
-use Rattle.std.proofs.Common.{◌≡◌, ◌++◌, ◌<◌, ◌^◌, ◌==◌, false, List, ℕ, Some, decimal, refl, sym, ap, ◌∙◌, subst, arith, ne_eqb}
+use Rattle.std.proofs.Common.{◌≡◌, ◌++◌, ◌<◌, ◌^◌, ◌==◌, false, List, ℕ, decimal, sym, ap, ◌∙◌, arith, ne_eqb}
 use Rattle.std.proofs.lemmas.Int.{to_z_pos}
 use Rattle.std.specs.Int.{w64}
-use Rattle.toml_parser.specs.declared.scalar.Scalar.TheVariants.{Integer}
 use Rattle.toml_parser.specs.Lexical.{first, is_word}
 use Rattle.toml_items.proofs.Numbers.{unquoted-digits}
 use Rattle.toml_items.proofs.number.whole_number.Goals as goal
