@@ -4,7 +4,7 @@ use Rattle.std.proofs.lemmas.List.{map-append, length-map, drop_more}
 use Rattle.std.proofs.lemmas.Map.Text.{is_eq-slice_cmp}
 use Rattle.std.specs.Cmp.Lexicographic.{slice_cmp}
 use Rattle.std.specs.Ordering.{match_ordering}
-use Rattle.std.proofs.Common.{◌≡◌, ℕ, ◌+◌, Bool, false, not, cond, ◌||◌, ◌++◌, List, [], ◌∷◌, map, length, ◌<◌, get_or, drop, Option, Some, Ordering, Less, Equal, Greater, nat_cmp, is_eq, refl, sym, ap, ◌∙◌, Bor}
+use Rattle.std.proofs.Common.{◌≡◌, ℕ, ◌+◌, Bool, true, false, not, cond, ◌||◌, ◌++◌, List, [], ◌∷◌, map, length, ◌<◌, get_or, drop, Option, Some, Ordering, Less, Equal, Greater, nat_cmp, is_eq, refl, sym, ap, ◌∙◌, Bor}
 use Rattle.std.specs.Prelude.{position, bytes_eq}
 use Rattle.std.specs.List.{list_any, list_all, prefix_len}
 use Rattle.indexmap.specs.IndexSet.{insert_key}
@@ -62,7 +62,18 @@ looked_at k es i e h is =
     ∙ ap (λ b. cond b (Some (item_view e.1)) (get_member k (entries_view (drop (i + 1) es))))
     (is_eq-slice_cmp k e.0.now)
 
--- a new name goes to the end of a set
-pub added_name : (keys : List (Bor (List ℕ))) (name : Bor (List ℕ)) → list_any (bytes_eq name.now) (map (λ k. k.now) keys) ≡ false
-    → map (λ k. k.now) (insert_key (λ x y. bytes_eq x.now y.now) keys name) ≡ map (λ k. k.now) keys ++ name.now ∷ []
-added_name keys name new = rw (← list_any_map (bytes_eq name.now) (λ k. k.now) keys, new) (map-append (λ (k : Bor (List ℕ)). k.now) keys (name ∷ []))
+put_step : (taken : Bool) (keys : List (Bor (List ℕ))) (name : Bor (List ℕ))
+    → map (λ k. k.now) (cond taken keys (keys ++ name ∷ []))
+    ≡ cond (not taken) (map (λ k. k.now) keys ++ name.now ∷ []) (map (λ k. k.now) keys)
+put_step true keys name = refl
+put_step false keys name = map-append (λ (k : Bor (List ℕ)). k.now) keys (name ∷ [])
+
+-- a name that is put goes to the end of a set where it is new
+pub put_name : (keys : List (Bor (List ℕ))) (name : Bor (List ℕ))
+    → map (λ k. k.now) (insert_key (λ x y. bytes_eq x.now y.now) keys name)
+    ≡ cond (not (list_any (bytes_eq name.now) (map (λ k. k.now) keys)))
+    (map (λ k. k.now) keys ++ name.now ∷ []) (map (λ k. k.now) keys)
+put_name keys name =
+    put_step (list_any (λ k. bytes_eq name.now k.now) keys) keys name
+    ∙ ap (λ b. cond (not b) (map (λ (k : Bor (List ℕ)). k.now) keys ++ name.now ∷ []) (map (λ (k : Bor (List ℕ)). k.now) keys))
+    (sym (list_any_map (bytes_eq name.now) (λ k. k.now) keys))
