@@ -51,14 +51,11 @@ impl<'t> Names<'t> {
     {
         let place = self.find(name)?;
         let last = self.names.len() - 1;
-        if place < last {
-            Some(place)
-        } else {
-            None
-        }
+        if place < last { Some(place) } else { None }
     }
 
     /// Puts a name at the end where it is new, and tells whether it was.
+    #[tactic(auto, using(crate::proofs::Elements::list_any_map))]
     pub fn put(&mut self, name: &'t str) -> Result<bool, AllocError>
         ensures is_new { IfOk result (λ is_new.
             is_new ≡ not (list_any (bytes_eq name.now) self.old)) }

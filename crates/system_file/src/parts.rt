@@ -18,8 +18,8 @@ use std::alloc::{AllocError, Global};
 use toml_items::Item;
 use tree_model::{Parent, Part};
 
-/// The core or the earlier part without tasks that a text names. The last of the names is the part's
-/// own.
+/// The core or the earlier part without tasks that a text names. Behind their names stands the
+/// part's own, which names no parent.
 fn parent_of(
     text: &str,
     names: &Names,
