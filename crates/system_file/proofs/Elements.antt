@@ -1,13 +1,12 @@
 -- Lists that are seen through a map: the names of a set, and the arrays and the tables of a
 -- document.
-use Rattle.std.proofs.lemmas.List.{map-append, length-map, drop_more}
+use Rattle.std.proofs.lemmas.List.{length-map, drop_more}
 use Rattle.std.proofs.lemmas.Map.Text.{is_eq-slice_cmp}
 use Rattle.std.specs.Cmp.Lexicographic.{slice_cmp}
 use Rattle.std.specs.Ordering.{match_ordering}
-use Rattle.std.proofs.Common.{◌≡◌, ℕ, ◌+◌, Bool, false, not, cond, ◌||◌, ◌++◌, List, [], ◌∷◌, map, length, ◌<◌, get_or, drop, Option, Some, Ordering, Less, Equal, Greater, nat_cmp, is_eq, refl, sym, ap, ◌∙◌, Bor}
+use Rattle.std.proofs.Common.{◌≡◌, ℕ, ◌+◌, Bool, not, cond, ◌||◌, List, [], ◌∷◌, map, length, ◌<◌, get_or, drop, Option, Some, Ordering, Less, Equal, Greater, nat_cmp, is_eq, refl, sym, ap, ◌∙◌, Bor}
 use Rattle.std.specs.Prelude.{position, bytes_eq}
 use Rattle.std.specs.List.{list_any, list_all, prefix_len}
-use Rattle.indexmap.specs.IndexSet.{insert_key}
 use Rattle.toml.specs.Data.{Data, get_member}
 use Rattle.toml_items.specs.Item.{item_view, list_view, entries_view}
 use Rattle.toml_items.specs.declared.item.Item.{Item}
@@ -61,8 +60,3 @@ looked_at k es i e h is =
     ∙ at_equal (slice_cmp nat_cmp k e.0.now) (Some (item_view e.1)) _
     ∙ ap (λ b. cond b (Some (item_view e.1)) (get_member k (entries_view (drop (i + 1) es))))
     (is_eq-slice_cmp k e.0.now)
-
--- a new name goes to the end of a set
-pub added_name : (keys : List (Bor (List ℕ))) (name : Bor (List ℕ)) → list_any (bytes_eq name.now) (map (λ k. k.now) keys) ≡ false
-    → map (λ k. k.now) (insert_key (λ x y. bytes_eq x.now y.now) keys name) ≡ map (λ k. k.now) keys ++ name.now ∷ []
-added_name keys name new = rw (← list_any_map (bytes_eq name.now) (λ k. k.now) keys, new) (map-append (λ (k : Bor (List ℕ)). k.now) keys (name ∷ []))

@@ -65,7 +65,6 @@ fn read_core<'t>(
     let name = new_name(alloc, text, names, spot)?;
     let sched = sched_of(text_at(table, "sched", spot)?, spot)?;
     let supply = supply_at(table, spot)?;
-    names.add(text)?;
     Ok(Core {
         name,
         sched,

@@ -1,4 +1,4 @@
-ghost use Rattle.std.specs.Prelude.{◌≡◌, ◌≢◌, ◌<◌, [], ◌∷◌, ◌++◌, false, length, IfOk, IfErr, OnOk, IfSome, position, bytes_eq};
+ghost use Rattle.std.specs.Prelude.{◌≡◌, ◌≢◌, ℕ, ◌<◌, ◌+◌, List, [], ◌∷◌, ◌++◌, false, not, if◌then◌else◌, length, IfOk, IfErr, OnOk, IfSome, position, bytes_eq};
 ghost use Rattle.std.specs.List.{list_any};
 ghost use Rattle.system_file.specs.declared.fault.SystemFault.TheVariants.{NoMemory};
 ghost use Rattle.system_file.specs.Faults.{name_faults};
@@ -35,28 +35,35 @@ impl<'t> Names<'t> {
 
     /// The place of a name, counted from 0.
     #[tactic(auto, using(crate::proofs::Elements::position_map, crate::proofs::Elements::length_map))]
-    pub fn find(&self, name: &str) -> Option<usize>
+    fn find(&self, name: &str) -> Option<usize>
         ensures place { result ≡ position (bytes_eq name.now) self.now }
         ensures within { IfSome result (λ i. i < length self.now) }
     {
         self.names.get_index_of(name)
     }
 
-    #[tactic(auto, using(crate::proofs::Elements::list_any_map))]
-    pub fn has(&self, name: &str) -> bool
-        ensures { result ≡ list_any (bytes_eq name.now) self.now }
+    /// The place of a name among all names but the last.
+    #[tactic(auto, using(crate::proofs::Elements::length_map))]
+    pub fn find_before_last(&self, name: &str) -> Option<usize>
+        ensures place { (before : List (List ℕ)) (last : List ℕ) →
+            self.now ≡ before ++ last ∷ [] → result ≡ position (bytes_eq name.now) before }
+        ensures within { IfSome result (λ i. i + 1 < length self.now) }
     {
-        self.names.contains(name)
+        let place = self.find(name)?;
+        let last = self.names.len() - 1;
+        if place < last { Some(place) } else { None }
     }
 
-    /// Puts a new name at the end.
+    /// Puts a name at the end where it is new, and tells whether it was.
     #[tactic(auto, using(crate::proofs::Elements::list_any_map))]
-    pub fn add(&mut self, name: &'t str) -> Result<(), AllocError>
-        requires { list_any (bytes_eq name.now) self.old ≡ false }
-        ensures { OnOk result (self.new ≡ self.old ++ name.now ∷ []) }
+    pub fn put(&mut self, name: &'t str) -> Result<bool, AllocError>
+        ensures is_new { IfOk result (λ is_new.
+            is_new ≡ not (list_any (bytes_eq name.now) self.old)) }
+        ensures names { IfOk result (λ is_new.
+            self.new ≡ (if is_new then self.old ++ name.now ∷ [] else self.old)) }
     {
-        self.names.insert(name)?;
-        Ok(())
+        let is_new = self.names.insert(name)?;
+        Ok(is_new)
     }
 
     pub fn clear(&mut self)
@@ -66,21 +73,28 @@ impl<'t> Names<'t> {
     }
 }
 
-/// The name that a text spells, where it is not taken.
-pub fn new_name(alloc: Global, text: &str, taken: &Names, spot: Spot) -> Result<Name, SystemFault>
+/// The name that a text spells, put behind the names where it is none of them.
+pub fn new_name<'t>(
+    alloc: Global,
+    text: &'t str,
+    names: &mut Names<'t>,
+    spot: Spot,
+) -> Result<Name, SystemFault>
     ensures ok { IfOk result (λ name.
-        (name_faults spot (list_any (bytes_eq text.now) taken.now) text.now ≡ [])
-        × (name ≡ text.now) × (list_any (bytes_eq text.now) taken.now ≡ false)) }
+        (name_faults spot (list_any (bytes_eq text.now) names.old) text.now ≡ [])
+        × (name ≡ text.now) × (list_any (bytes_eq text.now) names.old ≡ false)) }
+    ensures put { OnOk result (names.new ≡ names.old ++ text.now ∷ []) }
     ensures fault { IfErr result (λ fault. fault ≢ NoMemory →
-        first_of (name_faults spot (list_any (bytes_eq text.now) taken.now) text.now)
+        first_of (name_faults spot (list_any (bytes_eq text.now) names.old) text.now)
         ≡ Some fault) }
 {
     match Name::new(alloc, text.as_bytes())? {
         Some(name) => {
-            if taken.has(text) {
-                return Err(SystemFault::NameTaken(spot));
+            if names.put(text)? {
+                Ok(name)
+            } else {
+                Err(SystemFault::NameTaken(spot))
             }
-            Ok(name)
         }
         None => Err(SystemFault::BadName(spot)),
     }

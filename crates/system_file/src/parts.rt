@@ -18,7 +18,8 @@ use std::alloc::{AllocError, Global};
 use toml_items::Item;
 use tree_model::{Parent, Part};
 
-/// The core or the earlier part without tasks that a text names.
+/// The core or the earlier part without tasks that a text names. Behind their names stands the
+/// part's own, which names no parent.
 fn parent_of(
     text: &str,
     names: &Names,
@@ -28,16 +29,18 @@ fn parent_of(
 ) -> Result<Parent, SystemFault>
     requires few_cores { cores ≤ 64 }
     requires few_parts { length earlier.now < 512 }
-    requires names { length names.now ≡ cores + length earlier.now }
+    requires names { length names.now ≡ cores + (length earlier.now + 1) }
     ensures ok { IfOk result (λ parent. (core_elements before later : List Data) →
-        Known core_elements before later cores names.now earlier.now →
+        (known : List (List ℕ)) (own : List ℕ) → names.now ≡ known ++ own ∷ [] →
+        Known core_elements before later cores known earlier.now →
         (parent_faults spot core_elements before text.now ≡ [])
         × (parent_named core_elements before text.now ≡ Some parent)) }
     ensures fault { IfErr result (λ fault. (core_elements before later : List Data) →
-        Known core_elements before later cores names.now earlier.now →
+        (known : List (List ℕ)) (own : List ℕ) → names.now ≡ known ++ own ∷ [] →
+        Known core_elements before later cores known earlier.now →
         first_of (parent_faults spot core_elements before text.now) ≡ Some fault) }
 {
-    match names.find(text) {
+    match names.find_before_last(text) {
         Some(place) => {
             if place < cores {
                 return Ok(Parent::Core(place as u32));
@@ -100,7 +103,6 @@ fn read_part<'t>(
     let extra = flag_at(table, "extra", spot)?;
     let elements = elements_at(table, "task", 256, spot)?;
     let tasks = read_tasks(alloc, elements, format, place, tasks)?;
-    names.add(text)?;
     Ok(Part {
         name,
         parent,

@@ -56,7 +56,6 @@ fn read_task<'t>(
     let text = text_at(table, "name", spot)?;
     let name = new_name(alloc, text, names, spot)?;
     let task = numbers_at(table, spot)?;
-    names.add(text)?;
     Ok(Named { name, task })
 }
 

@@ -28,5 +28,5 @@ returns-clause-ok c = λ earlier have. (
   rw (c.in_ok-table.ensures.ok, ← c.task_keys.ensures, c.in_ok-check_keys.ensures.ok, c.in_ok-text.ensures.ok, taken_is earlier c.args.names.now c.in_ok-text.text.now have)
       (none_both _ _ c.in_ok-name.ensures.ok.0 c.in_ok-task.ensures.ok.0),
   rw (c.in_ok-table.ensures.ok, c.in_ok-text.ensures.ok, c.in_ok-name.ensures.ok.1, c.in_ok-task.ensures.ok.1),
-  rw c.in_ok-add.ensures (more_names earlier c.args.names.now _ c.in_ok-text.text.now have (rw c.in_ok-table.ensures.ok c.in_ok-text.ensures.ok)),
+  rw c.in_ok-name.ensures.put (more_names earlier c.args.names.now _ c.in_ok-text.text.now have (rw c.in_ok-table.ensures.ok c.in_ok-text.ensures.ok)),
 )
