@@ -17,11 +17,11 @@ use crate::parts::{first_empty, read_parts};
 use crate::{Spot, SystemFault};
 use std::alloc::Global;
 use std::str;
-use toml_items::{Entry, plain_entries, table_entries};
+use toml_items::{Document, DocumentFault, Entry, read_document, table_entries};
 use tree_model::System;
 
-/// The system of a TOML document, or its first fault.
-fn read_document(alloc: Global, table: &[Entry<'_>]) -> Result<System, SystemFault>
+/// The system of a document's entries, or its first fault.
+fn system_in(alloc: Global, table: &[Entry<'_>]) -> Result<System, SystemFault>
     ensures ok { IfOk result (λ sys. (faults (toml_table (entries_view table.now)) ≡ [])
         × (sys ≡ spelled_system (toml_table (entries_view table.now)))) }
     ensures fault { IfErr result (λ fault. fault ≢ NoMemory →
@@ -46,30 +46,14 @@ fn read_text(alloc: Global, text: &str) -> Result<System, SystemFault>
     ensures fault { IfErr result (λ fault. fault ≢ NoMemory →
         system_of_document (parse_document text.now) ≡ Err fault) }
 {
-    match plain_entries(alloc, text)? {
-        Some(entries) => read_document(alloc, &entries),
-        None => read_other(alloc, text),
-    }
-}
-
-/// The same of a text that is not plain.
-fn read_other(alloc: Global, text: &str) -> Result<System, SystemFault>
-    ensures spelled { IfOk result (λ sys. system_of_document (parse_document text.now) ≡ Ok sys) }
-    ensures fault { IfErr result (λ fault. fault ≢ NoMemory →
-        system_of_document (parse_document text.now) ≡ Err fault) }
-{
-    match toml::table_from_str(alloc, text) {
-        Ok(table) => {
+    match read_document(alloc, text) {
+        Ok(Document::Entries(entries)) => system_in(alloc, &entries),
+        Ok(Document::Table(table)) => {
             let entries = table_entries(alloc, &table)?;
-            read_document(alloc, &entries)
+            system_in(alloc, &entries)
         }
-        Err(error) => {
-            if error.is_memory() {
-                Err(SystemFault::NoMemory)
-            } else {
-                Err(SystemFault::NotToml)
-            }
-        }
+        Err(DocumentFault::NotToml) => Err(SystemFault::NotToml),
+        Err(DocumentFault::NoMemory) => Err(SystemFault::NoMemory),
     }
 }
 

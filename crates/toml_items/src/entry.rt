@@ -14,7 +14,7 @@ const MOST: usize = 64;
 
 /// Puts a key that is new with its item at its place. It says whether it did: not where the key is
 /// there already, and not where the table has the most keys.
-pub fn put_entry<'t>(
+pub(crate) fn put_entry<'t>(
     entries: &mut Vec<Entry<'t>>,
     key: &'t str,
     item: Item<'t>,

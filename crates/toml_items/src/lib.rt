@@ -2,6 +2,7 @@
 //! a text that is plain, without one.
 #![tactic(auto)]
 
+mod document;
 mod entry;
 mod item;
 mod line;
@@ -9,8 +10,8 @@ mod number;
 mod plain;
 mod table;
 
+pub use document::{Document, DocumentFault, read_document};
 pub use item::{Entry, Item};
-pub use plain::plain_entries;
 pub use table::table_entries;
 
 #[cfg(test)]

@@ -32,7 +32,7 @@ pub struct Header<'t> {
 }
 
 /// The pair at the front of a text, if a plain one stands there.
-pub fn pair_at(alloc: Global, text: &str) -> Option<Pair<'_>>
+pub(crate) fn pair_at(alloc: Global, text: &str) -> Option<Pair<'_>>
     ensures line { IfSome result (λ p.
         line text.now ≡ Some ((([], p.key.now), key_value (item_view p.item)), p.rest.now)) }
     ensures shorter { IfSome result (λ p. length p.rest.now < length text.now) }
@@ -46,7 +46,7 @@ pub fn pair_at(alloc: Global, text: &str) -> Option<Pair<'_>>
 }
 
 /// The header at the front of a text, if one of one or two bare keys stands there.
-pub fn header_at(text: &str) -> Option<Header<'_>>
+pub(crate) fn header_at(text: &str) -> Option<Header<'_>>
     ensures line { IfSome result (λ h.
         line text.now ≡ Some (((path_of h.parent, h.key.now), array_table), h.rest.now)) }
     ensures shorter { IfSome result (λ h. length h.rest.now < length text.now) }

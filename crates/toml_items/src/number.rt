@@ -11,7 +11,7 @@ const MOST_DIGITS: usize = 18;
 
 /// The plain digits at the front as a number above 0, and the text behind them. None also where
 /// the number may go on.
-pub fn whole_number(text: &str) -> Option<(i64, &str)>
+pub(crate) fn whole_number(text: &str) -> Option<(i64, &str)>
     ensures number { IfSome result (λ p. unquoted text.now ≡ Some (Integer p.0, p.1.now)) }
     ensures shorter { IfSome result (λ p. length p.1.now < length text.now) }
 {

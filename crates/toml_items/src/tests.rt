@@ -1,4 +1,5 @@
-use crate::{Entry, Item, plain_entries, table_entries};
+use crate::plain::plain_entries;
+use crate::{Document, DocumentFault, Entry, Item, read_document, table_entries};
 use std::test::Fail;
 
 const PLAIN: &str = "# a host
@@ -129,6 +130,49 @@ fn these_texts_are_not(rt: HostRuntime) -> Result<(), Fail> {
     ];
     for text in texts {
         assert!(rt; plain_entries(rt.alloc(), text)?.is_none());
+    }
+    Ok(())
+}
+
+#[test]
+fn a_plain_text_needs_no_table(rt: HostRuntime) -> Result<(), Fail> {
+    match read_document(rt.alloc(), PLAIN) {
+        Ok(Document::Entries(entries)) => assert_eq!(rt; entries.len(), 3),
+        Ok(Document::Table(_table)) => assert!(rt; false),
+        Err(_fault) => assert!(rt; false),
+    }
+    Ok(())
+}
+
+#[test]
+fn any_other_is_read_by_the_kit(rt: HostRuntime) -> Result<(), Fail> {
+    match read_document(rt.alloc(), "a = 'b'\n[c]\nd = 1.5") {
+        Ok(Document::Table(table)) => {
+            let entries = table_entries(rt.alloc(), &table)?;
+            assert_eq!(rt; entries.len(), 2);
+            assert_eq!(rt; text_at(&entries, "a"), Some("b"));
+        }
+        Ok(Document::Entries(_entries)) => assert!(rt; false),
+        Err(_fault) => assert!(rt; false),
+    }
+    Ok(())
+}
+
+#[test]
+fn what_is_no_document_is_refused(rt: HostRuntime) -> Result<(), Fail> {
+    let texts = [
+        "a = 1\na = 2",
+        "a",
+        "[[a]",
+        "a = 1\n[[a]]",
+        "a = \"b",
+        "a = 1 b = 2",
+    ];
+    for text in texts {
+        match read_document(rt.alloc(), text) {
+            Err(fault) => assert_eq!(rt; fault, DocumentFault::NotToml),
+            Ok(_) => assert!(rt; false),
+        }
     }
     Ok(())
 }

@@ -10,7 +10,7 @@ use Rattle.system_file.specs.Reading.{is_empty_part, part_in, ParentsAmong}
 use Rattle.system_file.proofs.Elements.{length_map}
 use Rattle.system_file.proofs.First.{none_both}
 use Rattle.system_file.proofs.Systems.{parents_among, none_empty, first_is_empty, faultless_is_system, fault_in_parts, fault_in_tree, no_fault, spelled_from}
-use Rattle.system_file.proofs.read.read_document.Goals as goal
+use Rattle.system_file.proofs.read.system_in.Goals as goal
 
 pub returns-in_err-parts-clause-fault : goal.returns-in_err-parts-clause-fault
 returns-in_err-parts-clause-fault c =
