@@ -13,11 +13,12 @@ use miss_witness::witness;
 use slot_model::{Sched, Task};
 use std::alloc::{AllocError, Global};
 use supply_bound::{Periodic, Supply};
-use window_terms::{FEW, KEPT, Term};
+use window_terms::Term;
 
-/// The points and the hits that show that a level passes.
+/// The points and the hits that show that a level passes. `room` is for the terms of its tasks.
 pub fn pass_lists<S: Supply>(
     alloc: Global,
+    room: &mut [Term],
     sched: Sched,
     tasks: &[Task],
     s: &S,
@@ -31,7 +32,7 @@ pub fn pass_lists<S: Supply>(
 {
     match sched {
         Sched::Edf => Ok((points_of(alloc, tasks, s)?, Vec::new(alloc))),
-        _ => Ok((Vec::new(alloc), hits_of(alloc, sched, tasks, s)?)),
+        _ => Ok((Vec::new(alloc), hits_of(alloc, room, sched, tasks, s)?)),
     }
 }
 
@@ -49,47 +50,8 @@ fn points_of<S: Supply>(alloc: Global, tasks: &[Task], s: &S) -> Result<Vec<u128
     Ok(points)
 }
 
-/// The least hit of each task.
+/// The least hit of each task. `room` is for their terms.
 fn hits_of<S: Supply>(
-    alloc: Global,
-    sched: Sched,
-    tasks: &[Task],
-    s: &S,
-) -> Result<Vec<u64>, AllocError>
-    requires fixed { sched ≢ Sched.Edf }
-    requires few { length tasks.now < 2 ^ 32 }
-    requires all_hit { let T = sporadic_tasks tasks.now in
-        AllHit (ranks_above sched T) T (S.bound s.now) }
-    ensures { let T = sporadic_tasks tasks.now in
-        IfOk result (λ hits. AreLeastHits (ranks_above sched T) T (S.bound s.now) hits.items) }
-{
-    if tasks.len() <= FEW {
-        hits_in(alloc, &mut [Term::none(); FEW], sched, tasks, s)
-    } else {
-        hits_of_many(alloc, sched, tasks, s)
-    }
-}
-
-/// The same apart, since a function pays at its entry for all the room that it may need.
-#[inline(never)]
-fn hits_of_many<S: Supply>(
-    alloc: Global,
-    sched: Sched,
-    tasks: &[Task],
-    s: &S,
-) -> Result<Vec<u64>, AllocError>
-    requires fixed { sched ≢ Sched.Edf }
-    requires few { length tasks.now < 2 ^ 32 }
-    requires all_hit { let T = sporadic_tasks tasks.now in
-        AllHit (ranks_above sched T) T (S.bound s.now) }
-    ensures { let T = sporadic_tasks tasks.now in
-        IfOk result (λ hits. AreLeastHits (ranks_above sched T) T (S.bound s.now) hits.items) }
-{
-    hits_in(alloc, &mut [Term::none(); KEPT], sched, tasks, s)
-}
-
-/// The same, where the tasks' terms are gathered in this room.
-fn hits_in<S: Supply>(
     alloc: Global,
     room: &mut [Term],
     sched: Sched,

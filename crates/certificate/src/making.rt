@@ -16,6 +16,7 @@ use slot_model::Task;
 use std::alloc::{AllocError, Global};
 use supply_bound::{Full, Periodic};
 use tree_model::{Certificate, Core, MAX_PARTS, Node, Part, Place, Refusal, System, tasks_of};
+use window_terms::Term;
 
 /// The certificate of a system that is admitted, or the first refusal. Under earliest deadline
 /// first a node's points are those of the walk backwards from its horizon, under a fixed rank its
@@ -47,24 +48,26 @@ fn make_nodes(alloc: Global, sys: &System, budgets: &[u64]) -> Result<Vec<Node>,
         IfOk result (λ nodes. AreMade sys.now budgets.now nodes.items count) }
 {
     let mut room = vec![in alloc; Task::least(); MAX_PARTS]?;
+    let mut terms = vec![in alloc; Term::none(); MAX_PARTS]?;
     let parts = sys.parts().len();
     let mut nodes = Vec::with_capacity(alloc, parts + sys.cores().len())?;
     for q in 0..parts as u32 {
-        nodes.push(part_node(alloc, sys, budgets, q, &mut room)?)?;
+        nodes.push(part_node(alloc, sys, budgets, q, &mut room, &mut terms)?)?;
     }
     for c in 0..sys.cores().len() as u32 {
-        nodes.push(core_node(alloc, sys, budgets, c, &mut room)?)?;
+        nodes.push(core_node(alloc, sys, budgets, c, &mut room, &mut terms)?)?;
     }
     Ok(nodes)
 }
 
-/// The node of a part. `room` is for its tasks.
+/// The node of a part. `room` is for its tasks, and `terms` for theirs.
 fn part_node(
     alloc: Global,
     sys: &System,
     budgets: &[u64],
     q: u32,
     room: &mut [Task],
+    terms: &mut [Term],
 ) -> Result<Node, AllocError>
     requires is_part { q < length sys.now.parts }
     requires admitted { Admitted sys.now budgets.now }
@@ -77,7 +80,13 @@ fn part_node(
     let count = tasks_of(sys, budgets, place, room).unwrap();
     let tasks = &room[..count];
     let (period, budget) = (part.period(), budgets[q as usize]);
-    let (points, hits) = pass_lists(alloc, part.sched(), tasks, &Periodic { period, budget })?;
+    let (points, hits) = pass_lists(
+        alloc,
+        terms,
+        part.sched(),
+        tasks,
+        &Periodic { period, budget },
+    )?;
     let (witness, falls) = least_lists(alloc, part, tasks, budget)?;
     Ok(Node {
         place,
@@ -116,13 +125,14 @@ fn least_lists(
     short_lists(alloc, part.sched(), tasks, part.period(), budget)
 }
 
-/// The node of a core. `room` is for its tasks.
+/// The node of a core. `room` is for its tasks, and `terms` for theirs.
 fn core_node(
     alloc: Global,
     sys: &System,
     budgets: &[u64],
     c: u32,
     room: &mut [Task],
+    terms: &mut [Term],
 ) -> Result<Node, AllocError>
     requires is_core { c < length sys.now.cores }
     requires admitted { Admitted sys.now budgets.now }
@@ -132,7 +142,7 @@ fn core_node(
     let core = &sys.cores()[c as usize];
     let place = Place::Core(c);
     let count = tasks_of(sys, budgets, place, room).unwrap();
-    let (points, hits) = core_lists(alloc, core, &room[..count])?;
+    let (points, hits) = core_lists(alloc, terms, core, &room[..count])?;
     let (period, budget) = core.supply.unwrap_or((1, 1));
     Ok(Node {
         place,
@@ -146,9 +156,11 @@ fn core_node(
     })
 }
 
-/// The points and the hits that show that the server tasks of a core pass.
+/// The points and the hits that show that the server tasks of a core pass. `terms` is room for
+/// theirs.
 fn core_lists(
     alloc: Global,
+    terms: &mut [Term],
     core: &Core,
     tasks: &[Task],
 ) -> Result<(Vec<u128>, Vec<u64>), AllocError>
@@ -165,9 +177,10 @@ fn core_lists(
         lists.0.items lists.1.items) }
 {
     match core.supply {
-        None => pass_lists(alloc, core.sched, tasks, &Full),
+        None => pass_lists(alloc, terms, core.sched, tasks, &Full),
         Some((period, budget)) => pass_lists(
             alloc,
+            terms,
             core.sched,
             tasks,
             &Periodic { period, budget },

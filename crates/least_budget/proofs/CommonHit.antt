@@ -7,7 +7,7 @@ use Rattle.slot_model.specs.Order.{IsRank}
 use Rattle.slot_model.specs.Bound.{request_of, rbf, IsHit}
 use Rattle.slot_model.proofs.Sums.{sum_below-lt}
 use Rattle.fp_request.specs.Parts.{part_of}
-use Rattle.fp_test.proofs.Answer.{IsAnswer}
+use Rattle.fp_test.specs.Hits.{AnswersLeastHit}
 use Rattle.least_budget.specs.CommonHit.{IsLowest, IsCommon}
 
 -- a task asks for its work in every window
@@ -39,6 +39,6 @@ common_of_lowest above tasks ranks fits bound low t lowest h i li room = elim (c
 ]
 
 -- so an answer of the lowest task's test tells one
-pub common_answer : (above : ℕ → ℕ → Bool) (tasks : List SporadicTask) → IsRank above → AreConstrained tasks → (bound : ℕ → ℕ) (low : ℕ) → IsLowest above (length tasks) low → (answer : Option ℕ) → IsAnswer above tasks bound low answer → IfSome answer (λ t. IsCommon above tasks bound t)
+pub common_answer : (above : ℕ → ℕ → Bool) (tasks : List SporadicTask) → IsRank above → AreConstrained tasks → (bound : ℕ → ℕ) (low : ℕ) → IsLowest above (length tasks) low → (answer : Option ℕ) → AnswersLeastHit above tasks bound low answer → IfSome answer (λ t. IsCommon above tasks bound t)
 common_answer above tasks ranks fits bound low lowest None h = tt
 common_answer above tasks ranks fits bound low lowest (Some t) h = common_of_lowest above tasks ranks fits bound low t lowest h.0

@@ -4,11 +4,10 @@ use Rattle.std.proofs.lemmas.List.{map-append, take_more}
 use Rattle.toml.specs.Data.{Data}
 use Rattle.toml_items.specs.Item.{item_view}
 use Rattle.toml_items.specs.declared.item.Item.{Item}
+use Rattle.tree_model.specs.Lists.{first_of}
+use Rattle.tree_model.proofs.Lists.{length_map, first_here}
 use Rattle.system_file.specs.declared.fault.SystemFault.{SystemFault}
 use Rattle.system_file.specs.Faults.{in_order}
-use Rattle.system_file.specs.Reading.{first_of}
-use Rattle.system_file.proofs.Elements.{length_map}
-use Rattle.system_file.proofs.First.{first_here}
 
 abbrev pub before : List Item → ℕ → List Data
 before vs i = map item_view (take i vs)

@@ -1,34 +1,17 @@
--- Lists that are seen through a map: the names of a set, and the arrays and the tables of a
--- document.
-use Rattle.std.proofs.lemmas.List.{length-map, drop_more}
+-- The arrays and the tables of a document, which are seen through a map.
+use Rattle.std.proofs.lemmas.List.{drop_more}
 use Rattle.std.proofs.lemmas.Map.Text.{is_eq-slice_cmp}
 use Rattle.std.specs.Cmp.Lexicographic.{slice_cmp}
 use Rattle.std.specs.Ordering.{match_ordering}
-use Rattle.std.proofs.Common.{◌≡◌, ℕ, ◌+◌, Bool, not, cond, ◌||◌, List, [], ◌∷◌, map, length, ◌<◌, get_or, drop, Option, Some, Ordering, Less, Equal, Greater, nat_cmp, is_eq, refl, sym, ap, ◌∙◌, Bor}
-use Rattle.std.specs.Prelude.{position, bytes_eq}
-use Rattle.std.specs.List.{list_any, list_all, prefix_len}
+use Rattle.std.proofs.Common.{◌≡◌, ℕ, ◌+◌, cond, List, [], ◌∷◌, map, length, ◌<◌, get_or, drop, Option, Some, Ordering, Less, Equal, Greater, nat_cmp, is_eq, refl, sym, ap, ◌∙◌, Bor}
+use Rattle.std.specs.Prelude.{bytes_eq}
+use Rattle.std.specs.List.{list_any, list_all}
 use Rattle.toml.specs.Data.{Data, get_member}
 use Rattle.toml_items.specs.Item.{item_view, list_view, entries_view}
 use Rattle.toml_items.specs.declared.item.Item.{Item}
+use Rattle.tree_model.proofs.Lists.{list_any_map}
 use Rattle.system_file.specs.Document.{elements_of}
 use Rattle.system_file.specs.Faults.{has_only}
-
--- a test of the images of a list
-pub list_any_map : {A B : Type 0} (p : B → Bool) (f : A → B) (xs : List A) → list_any p (map f xs) ≡ list_any (λ x. p (f x)) xs
-list_any_map p f [] = refl
-list_any_map p f (x ∷ xs) = ap (λ b. p (f x) || b) (list_any_map p f xs)
-
-prefix_len-map : {A B : Type 0} (p : B → Bool) (f : A → B) (xs : List A) → prefix_len p (map f xs) ≡ prefix_len (λ x. p (f x)) xs
-prefix_len-map p f [] = refl
-prefix_len-map p f (x ∷ xs) = ap (λ n. cond {A = ℕ} (p (f x)) (1 + n) 0) (prefix_len-map p f xs)
-
--- `length-map`, under a name that an attribute can cite
-pub length_map : {A B : Type 0} (f : A → B) (xs : List A) → length (map f xs) ≡ length xs
-length_map f xs = length-map xs f
-
--- the place of the first image that passes
-pub position_map : {A B : Type 0} (p : B → Bool) (f : A → B) (xs : List A) → position p (map f xs) ≡ position (λ x. p (f x)) xs
-position_map p f xs = rw (prefix_len-map (λ x. not (p x)) f xs, length_map f xs)
 
 -- the elements of an array are the views of its values
 pub elements_view : (vs : List Item) → elements_of (list_view vs) ≡ map item_view vs

@@ -4,10 +4,10 @@ use Rattle.std.proofs.lemmas.List.{append-nil}
 use Rattle.std.specs.Prelude.{position}
 use Rattle.std.specs.List.{list_any}
 use Rattle.toml.specs.Data.{Data}
+use Rattle.tree_model.specs.Lists.{first_of}
+use Rattle.tree_model.proofs.Lists.{first_here}
 use Rattle.system_file.specs.declared.fault.SystemFault.{SystemFault}
 use Rattle.system_file.specs.Faults.{in_order}
-use Rattle.system_file.specs.Reading.{first_of}
-use Rattle.system_file.proofs.First.{first_here}
 use Rattle.system_file.proofs.Places.{position_cons}
 
 cons_false : {A : Type 0} (p : A → Bool) (x : A) (xs : List A) (o : Option ℕ) → p x ≡ false → position p xs ≡ o → position p (x ∷ xs) ≡ option_map suc o

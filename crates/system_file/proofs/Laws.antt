@@ -14,6 +14,7 @@ use Rattle.tree_model.specs.declared.place.Parent.{Parent}
 use Rattle.tree_model.specs.declared.place.Parent.TheVariants.{Core as on_core, Part as on_part}
 use Rattle.tree_model.specs.View.{NamedTask, PartView, SystemView}
 use Rattle.tree_model.specs.System.{IsSystem, IsPart, IsCoreSupply, Stands, AreDistinct, is_leaf, own_tasks}
+use Rattle.tree_model.proofs.Lists.{length_map, none_both}
 use Rattle.system_file.specs.declared.format.Format.{Format}
 use Rattle.system_file.specs.declared.fault.Spot.{Spot}
 use Rattle.system_file.specs.declared.fault.Spot.TheVariants.{Top, Core, Part, Task}
@@ -23,9 +24,7 @@ use Rattle.system_file.specs.Document.{format_of, elements_of, array_of, text_of
 use Rattle.system_file.specs.Faults.{required, optional, format_faults, text_faults, parent_faults, is_parent_faults, core_array_faults, array_faults, top_faults, top_keys, in_order, core_faults, core_keys, core_key_faults, task_faults, task_keys, task_key_faults, part_faults, part_keys, part_key_faults, empty_faults, has_tasks, is_parent, faults}
 use Rattle.system_file.specs.SystemFile.{system_of, system_of_document, document_of, first_fault_or}
 use Rattle.system_file.specs.Written.{IsNameText, IsParentText, IsArray, There, element, IsWrittenTask, IsWrittenCore, IsWrittenPart, IsWritten, Spells}
-use Rattle.system_file.proofs.Elements.{length_map}
 use Rattle.std.proofs.lemmas.Slice.Eq.{bytes_eq-Decides}
-use Rattle.system_file.proofs.First.{none_both}
 use Rattle.system_file.proofs.Places.{joined, position_append, leaf_tasks}
 use Rattle.system_file.proofs.Found.{position_holds, none_in_order}
 use Rattle.system_file.proofs.Systems.{core_names, part_names, sys, spelled, part_spelled, faultless_is_system}

@@ -1,7 +1,7 @@
 pub mod Elements
 pub mod Along
 pub mod Faultless
-pub mod First
+pub mod Named
 pub mod Fits
 pub mod WrittenKinds
 pub mod Laws

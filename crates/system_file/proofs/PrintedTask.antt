@@ -9,6 +9,7 @@ use Rattle.slot_model.specs.declared.task.TheConstants.{LIMIT}
 use Rattle.slot_model.specs.Task.{room_of, IsConstrained}
 use Rattle.toml.specs.Data.{Data, string, Members, no_members, get, get_member, same_key}
 use Rattle.tree_model.specs.View.{NamedTask}
+use Rattle.tree_model.proofs.Lists.{none_both}
 use Rattle.system_file.specs.declared.format.Format.{Format}
 use Rattle.system_file.specs.declared.format.Format.TheVariants.{One, Two}
 use Rattle.system_file.specs.Document.{number_of, given_number, is_named, spelled_task}
@@ -17,7 +18,6 @@ use Rattle.system_file.specs.SystemFile.{has_jitter}
 use Rattle.system_file.specs.Printed.{with_member, with_some, number, other_number, task_members, printed_task}
 use Rattle.system_file.specs.declared.fault.Spot.{Spot}
 use Rattle.system_file.specs.declared.fault.Spot.TheVariants.{Task}
-use Rattle.system_file.proofs.First.{none_both}
 use Rattle.system_file.proofs.PrintedMembers.{other_key, own_key, listed_key}
 use Rattle.system_file.proofs.PrintedKeys.{range_ok, new_name_ok}
 

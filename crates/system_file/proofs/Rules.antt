@@ -11,14 +11,13 @@ use Rattle.tree_model.specs.declared.place.Parent.{Parent}
 use Rattle.tree_model.specs.declared.place.Parent.TheVariants.{Core as on_core, Part as on_part}
 use Rattle.tree_model.specs.View.{NamedTask}
 use Rattle.tree_model.specs.System.{IsPart, IsCoreSupply, AreDistinct, own_tasks}
+use Rattle.tree_model.proofs.Lists.{length_map, none_left, none_right}
 use Rattle.system_file.specs.declared.format.Format.{Format}
 use Rattle.system_file.specs.declared.fault.Spot.{Spot}
 use Rattle.system_file.specs.declared.fault.Spot.TheVariants.{Core, Part, Task}
 use Rattle.system_file.specs.declared.fault.SystemFault.{SystemFault}
 use Rattle.system_file.specs.Document.{text_of, number_of, is_text, is_named, parent_named, spelled_core, spelled_task, spelled_part, tasks_of, deadline_of}
 use Rattle.system_file.specs.Faults.{in_order, core_faults, core_keys, core_key_faults, task_faults, task_keys, task_key_faults, task_number_faults, part_faults, part_keys, part_key_faults, is_parent_faults, parent_faults, has_tasks, server_faults, required, optional, text_faults, new_name_faults, sched_faults, range_faults, below_faults, flag_faults}
-use Rattle.system_file.proofs.Elements.{length_map}
-use Rattle.system_file.proofs.First.{none_left, none_right}
 use Rattle.system_file.proofs.Faultless.{not_wrong, table_inside, text_there, NewName, new_name_there, required_number, optional_number, number_or, below_there, supply_there, few_there}
 
 -- no element of an array has a fault

@@ -6,11 +6,11 @@ use Rattle.std.proofs.lemmas.Str.{IsUtf8-from_is_utf8, is_utf8-from_IsUtf8}
 use Rattle.toml.specs.Data.{Members, table}
 use Rattle.toml.specs.Parse.{parse_document}
 use Rattle.tree_model.specs.View.{SystemView}
+use Rattle.tree_model.specs.Lists.{first_of}
 use Rattle.system_file.specs.declared.fault.SystemFault.{SystemFault}
 use Rattle.system_file.specs.declared.fault.SystemFault.TheVariants.{NotToml, NoMemory}
 use Rattle.system_file.specs.Document.{spelled_system}
 use Rattle.system_file.specs.Faults.{faults}
-use Rattle.system_file.specs.Reading.{first_of}
 use Rattle.system_file.specs.SystemFile.{system_of, system_of_document, first_fault_or}
 
 pub system_none : (bytes : List ℕ) → (IsUtf8 bytes → ⊥) → system_of bytes ≡ Err NotToml

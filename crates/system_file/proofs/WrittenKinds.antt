@@ -5,6 +5,7 @@ use Rattle.std.specs.List.{list_any}
 use Rattle.slot_model.specs.Name.{is_name}
 use Rattle.slot_model.specs.declared.task.TheConstants.{LIMIT}
 use Rattle.slot_model.specs.Task.{room_of}
+use Rattle.tree_model.proofs.Lists.{none_left, none_right}
 use Rattle.toml.specs.Data.{Data, string, integer, float, boolean, datetime, array, table, get}
 use Rattle.system_file.specs.declared.format.Format.{Format}
 use Rattle.system_file.specs.declared.fault.Spot.{Spot}
@@ -14,7 +15,6 @@ use Rattle.system_file.specs.declared.fault.SystemFault.TheVariants.{BadName, Na
 use Rattle.system_file.specs.Document.{number_of, format_of, is_named, cores_of, parts_of, tasks_of, deadline_of, spelled_task}
 use Rattle.system_file.specs.Faults.{fault_if, required, optional, text_faults, new_name_faults, sched_faults, parent_faults, format_faults, range_faults, below_faults, flag_faults, array_faults, core_array_faults, supply_faults, table_faults, in_order, core_keys, core_key_faults, core_faults, task_keys, task_key_faults, task_number_faults, task_faults, part_keys, part_key_faults, part_faults, top_keys, top_faults, faults}
 use Rattle.system_file.specs.Written.{IsTableOf, IsFormatNumber, IsNameText, IsSchedText, IsWhole, IsFlag, IsArray, There, MayBe, BothOrNeither, IsWrittenTask, IsWrittenCore, IsWrittenPart, IsWritten}
-use Rattle.system_file.proofs.First.{none_left, none_right}
 use Rattle.system_file.proofs.Places.{parent_kept}
 use Rattle.system_file.proofs.Faultless.{not_wrong, table_inside, text_there}
 use Rattle.system_file.proofs.Rules.{each, part_keys_none, part_server, part_parent}

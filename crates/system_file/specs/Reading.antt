@@ -8,11 +8,6 @@ use Rattle.tree_model.specs.View.{PartView}
 use Rattle.tree_model.specs.System.{is_leaf, no_part}
 use Rattle.system_file.specs.Document.{spelled_part}
 
--- the first of a list
-abbrev pub first_of : {A : Type 0} → List A → Option A
-first_of [] = None
-first_of (x ∷ later) = Some x
-
 -- these elements have these names, one each
 abbrev pub HaveNames : List Data → List (List ℕ) → Type 0
 HaveNames elements names =

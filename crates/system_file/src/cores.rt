@@ -1,10 +1,11 @@
 ghost use Rattle.std.specs.Prelude.{◌≡◌, ◌≢◌, ◌≤◌, List, [], ◌∷◌, ◌++◌, length, map, codes, IfOk, IfErr};
 ghost use Rattle.toml.specs.Data.{Data, get_member};
 ghost use Rattle.toml_items.specs.Item.{item_view, entries_view};
+ghost use Rattle.tree_model.specs.Lists.{first_of};
 ghost use Rattle.system_file.specs.declared.fault.SystemFault.TheVariants.{NoMemory};
 ghost use Rattle.system_file.specs.Document.{spelled_core, supply_of};
 ghost use Rattle.system_file.specs.Faults.{supply_faults, core_keys, core_key_faults, core_faults, table_faults, in_order};
-ghost use Rattle.system_file.specs.Reading.{first_of, HaveNames};
+ghost use Rattle.system_file.specs.Reading.{HaveNames};
 
 use crate::keys::{check_keys, find, number_at, number_of, sched_of, table_of, text_at};
 use crate::names::{Names, new_name};

@@ -2,12 +2,12 @@ ghost use Rattle.std.specs.Prelude.{◌≡◌, ℕ, ◌≤◌, pos, true, false,
 ghost use Rattle.toml.specs.Data.{string, integer, array, table, get_member, as_table, as_array};
 ghost use Rattle.toml_items.specs.Item.{item_view, list_view, entries_view};
 ghost use Rattle.tree_model.specs.System.{IsGivenBudget};
+ghost use Rattle.tree_model.specs.Lists.{first_of};
 ghost use Rattle.std.specs.List.{list_any, list_all};
 ghost use Rattle.system_file.specs.declared.fault.Spot.{Spot};
 ghost use Rattle.system_file.specs.declared.fault.SystemFault.{SystemFault};
 ghost use Rattle.system_file.specs.Document.{format_at as format_in, number_of as number_in, given_number, flag_of, sched_named, array_of as elements};
 ghost use Rattle.system_file.specs.Faults.{required, optional, text_faults, sched_faults, range_faults, below_faults, format_faults, flag_faults, array_faults, core_array_faults, has_only};
-ghost use Rattle.system_file.specs.Reading.{first_of};
 
 use crate::format::Format;
 use crate::{Spot, SystemFault};
@@ -212,7 +212,7 @@ pub fn array_of<'e, 't>(value: &'e Item<'t>, spot: Spot) -> Result<&'e [Item<'t>
     }
 }
 
-#[tactic(auto, using(crate::proofs::Elements::elements_view, crate::proofs::Elements::length_map))]
+#[tactic(auto, using(crate::proofs::Elements::elements_view, tree_model::proofs::Lists::length_map))]
 /// The elements of an array, at most so many.
 pub fn few_of<'e, 't>(
     value: &'e Item<'t>,
@@ -259,7 +259,7 @@ pub fn elements_at<'e, 't>(
     }
 }
 
-#[tactic(auto, using(crate::proofs::Elements::elements_view, crate::proofs::Elements::length_map))]
+#[tactic(auto, using(crate::proofs::Elements::elements_view, tree_model::proofs::Lists::length_map))]
 /// The cores of the top table: 1 to 64.
 pub fn cores_at<'e, 't>(table: &'e [Entry<'t>]) -> Result<&'e [Item<'t>], SystemFault>
     ensures ok { IfOk result (λ xs.

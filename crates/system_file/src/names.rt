@@ -1,8 +1,8 @@
 ghost use Rattle.std.specs.Prelude.{◌≡◌, ◌≢◌, ℕ, ◌<◌, ◌+◌, List, [], ◌∷◌, ◌++◌, false, not, if◌then◌else◌, length, IfOk, IfErr, OnOk, IfSome, position, bytes_eq};
 ghost use Rattle.std.specs.List.{list_any};
+ghost use Rattle.tree_model.specs.Lists.{first_of};
 ghost use Rattle.system_file.specs.declared.fault.SystemFault.TheVariants.{NoMemory};
 ghost use Rattle.system_file.specs.Faults.{name_faults};
-ghost use Rattle.system_file.specs.Reading.{first_of};
 
 use crate::{Spot, SystemFault};
 use indexmap::IndexSet;
@@ -34,7 +34,7 @@ impl<'t> Names<'t> {
     }
 
     /// The place of a name, counted from 0.
-    #[tactic(auto, using(crate::proofs::Elements::position_map, crate::proofs::Elements::length_map))]
+    #[tactic(auto, using(tree_model::proofs::Lists::position_map, tree_model::proofs::Lists::length_map))]
     fn find(&self, name: &str) -> Option<usize>
         ensures place { result ≡ position (bytes_eq name.now) self.now }
         ensures within { IfSome result (λ i. i < length self.now) }
@@ -43,7 +43,7 @@ impl<'t> Names<'t> {
     }
 
     /// The place of a name among all names but the last.
-    #[tactic(auto, using(crate::proofs::Elements::length_map))]
+    #[tactic(auto, using(tree_model::proofs::Lists::length_map))]
     pub fn find_before_last(&self, name: &str) -> Option<usize>
         ensures place { (before : List (List ℕ)) (last : List ℕ) →
             self.now ≡ before ++ last ∷ [] → result ≡ position (bytes_eq name.now) before }
@@ -55,7 +55,7 @@ impl<'t> Names<'t> {
     }
 
     /// Puts a name at the end where it is new, and tells whether it was.
-    #[tactic(auto, using(crate::proofs::Elements::list_any_map))]
+    #[tactic(auto, using(tree_model::proofs::Lists::list_any_map))]
     pub fn put(&mut self, name: &'t str) -> Result<bool, AllocError>
         ensures is_new { IfOk result (λ is_new.
             is_new ≡ not (list_any (bytes_eq name.now) self.old)) }

@@ -1,10 +1,11 @@
 ghost use Rattle.std.specs.Prelude.{◌≡◌, ◌≢◌, ℕ, ◌≤◌, ◌<◌, ◌+◌, List, [], ◌∷◌, ◌++◌, true, false, length, map, slice_index_or, Some, IfOk, IfErr, OnOk, MatchOption};
 ghost use Rattle.toml.specs.Data.{Data};
 ghost use Rattle.toml_items.specs.Item.{item_view};
+ghost use Rattle.tree_model.specs.Lists.{first_of};
 ghost use Rattle.system_file.specs.declared.fault.SystemFault.TheVariants.{NoMemory};
 ghost use Rattle.system_file.specs.Document.{parent_named, spelled_part};
 ghost use Rattle.system_file.specs.Faults.{parent_faults, part_faults, in_order};
-ghost use Rattle.system_file.specs.Reading.{first_of, HaveNames, Known, has_child, is_empty_part, part_in, ParentsAmong};
+ghost use Rattle.system_file.specs.Reading.{HaveNames, Known, has_child, is_empty_part, part_in, ParentsAmong};
 
 use crate::format::Format;
 use crate::keys::{

@@ -3,11 +3,11 @@ ghost use Rattle.toml.specs.Data.{table as toml_table};
 ghost use Rattle.toml.specs.Parse.{parse_document};
 ghost use Rattle.toml_items.specs.Item.{entries_view};
 ghost use Rattle.tree_model.specs.View.{SystemView};
+ghost use Rattle.tree_model.specs.Lists.{first_of};
 ghost use Rattle.system_file.specs.declared.fault.SystemFault.TheVariants.{NoMemory};
 ghost use Rattle.system_file.specs.Document.{spelled_system};
 ghost use Rattle.system_file.specs.Faults.{faults};
 ghost use Rattle.system_file.specs.SystemFile.{system_of, system_of_document};
-ghost use Rattle.system_file.specs.Reading.{first_of};
 ghost use Rattle.system_file.specs.Written.{Spells};
 
 use crate::cores::read_cores;

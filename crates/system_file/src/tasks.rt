@@ -1,11 +1,12 @@
 ghost use Rattle.std.specs.Prelude.{◌≡◌, ◌≢◌, ◌≤◌, List, [], ◌∷◌, ◌++◌, length, map, IfOk, IfErr};
 ghost use Rattle.slot_model.specs.Task.{sporadic_task};
+ghost use Rattle.tree_model.specs.Lists.{first_of};
 ghost use Rattle.toml.specs.Data.{Data, table as toml_table};
 ghost use Rattle.toml_items.specs.Item.{item_view, entries_view};
 ghost use Rattle.system_file.specs.declared.fault.SystemFault.TheVariants.{NoMemory};
 ghost use Rattle.system_file.specs.Document.{spelled_task};
 ghost use Rattle.system_file.specs.Faults.{task_number_faults, task_keys as keys, task_key_faults, task_faults, table_faults, in_order};
-ghost use Rattle.system_file.specs.Reading.{first_of, HaveNames};
+ghost use Rattle.system_file.specs.Reading.{HaveNames};
 
 use crate::format::{Format, task_keys};
 use crate::keys::{below_at, check_keys, given_number_at, number_at, table_of, text_at};

@@ -7,3 +7,4 @@ pub mod CertificateView
 pub mod TreeRunView
 pub mod Plans
 pub mod Releases
+pub mod Lists

@@ -1,6 +1,7 @@
 use Rattle.std.proofs.lemmas.Result.{err_from_is_err_and}
+use Rattle.tree_model.proofs.Lists.{first_here, first_later, none_both}
 use Rattle.system_file.specs.Faults.{new_name_faults, sched_faults}
-use Rattle.system_file.proofs.First.{first_here, first_later, none_both, taken_is, more_names}
+use Rattle.system_file.proofs.Named.{taken_is, more_names}
 use Rattle.system_file.proofs.cores.read_core.Goals as goal
 
 pub returns-in_err-text-clause-fault : goal.returns-in_err-text-clause-fault

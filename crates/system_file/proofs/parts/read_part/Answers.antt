@@ -1,10 +1,11 @@
 use Rattle.std.proofs.Common.{[], ◌∷◌, ◌++◌, length, sym, ap, ◌∙◌, append_assoc}
 use Rattle.std.proofs.lemmas.Result.{err_from_is_err_and}
 use Rattle.toml_items.specs.Item.{item_view}
+use Rattle.tree_model.specs.Lists.{first_of}
+use Rattle.tree_model.proofs.Lists.{first_here, first_later, none_both}
 use Rattle.system_file.specs.Faults.{new_name_faults, parent_faults, sched_faults, task_faults, in_order}
-use Rattle.system_file.specs.Reading.{first_of}
+use Rattle.system_file.proofs.Named.{taken_is, more_names}
 use Rattle.system_file.specs.declared.fault.Spot.TheVariants.{Part}
-use Rattle.system_file.proofs.First.{first_here, first_later, none_both, taken_is, more_names}
 use Rattle.system_file.proofs.Places.{parent_kept, as_many}
 use Rattle.system_file.proofs.parts.read_part.Goals as goal
 

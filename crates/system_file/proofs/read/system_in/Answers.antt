@@ -4,11 +4,10 @@ use Rattle.toml.specs.Data.{table}
 use Rattle.toml_items.specs.Item.{item_view, entries_view}
 use Rattle.tree_model.specs.View.{PartView}
 use Rattle.tree_model.specs.System.{IsSystem}
+use Rattle.tree_model.proofs.Lists.{length_map, none_both}
 use Rattle.system_file.specs.Document.{spelled_part}
 use Rattle.system_file.specs.Faults.{top_faults}
 use Rattle.system_file.specs.Reading.{is_empty_part, part_in, ParentsAmong}
-use Rattle.system_file.proofs.Elements.{length_map}
-use Rattle.system_file.proofs.First.{none_both}
 use Rattle.system_file.proofs.Systems.{parents_among, none_empty, first_is_empty, faultless_is_system, fault_in_parts, fault_in_tree, no_fault, spelled_from}
 use Rattle.system_file.proofs.read.system_in.Goals as goal
 

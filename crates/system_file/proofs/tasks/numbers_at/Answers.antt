@@ -1,6 +1,6 @@
 use Rattle.std.proofs.Common.{ap, ◌∙◌, unwrap_or}
 use Rattle.std.proofs.lemmas.Result.{err_from_is_err_and}
-use Rattle.system_file.proofs.First.{first_here, first_later}
+use Rattle.tree_model.proofs.Lists.{first_here, first_later}
 use Rattle.system_file.proofs.tasks.numbers_at.Goals as goal
 
 pub returns-in_err-jitter-clause-fault : goal.returns-in_err-jitter-clause-fault

@@ -3,7 +3,7 @@ use Rattle.slot_model.specs.Task.{SporadicTask, sporadic_tasks}
 use Rattle.slot_model.specs.Order.{ranks_above}
 use Rattle.fp_request.proofs.Parts.{sporadic_tasks-length}
 use Rattle.certificate.proofs.Hits.{HitsTo, has_hit, least_of, hits_more}
-use Rattle.certificate.proofs.levels.hits_in.Goals as goal
+use Rattle.certificate.proofs.levels.hits_of.Goals as goal
 
 pub unwrap-requires : goal.unwrap-requires
 unwrap-requires g c =

@@ -1,33 +1,11 @@
--- The first fault of a list that is put together from several, and names that are looked for among
--- elements.
+-- Names that are looked for among elements.
 use Rattle.std.proofs.lemmas.List.{map-append}
 use Rattle.std.proofs.Common.{◌≡◌, ℕ, ◌||◌, List, [], ◌∷◌, ◌++◌, map, Some, refl, sym, ap, ◌∙◌, codes}
 use Rattle.std.specs.Prelude.{bytes_eq}
 use Rattle.std.specs.List.{list_any}
 use Rattle.toml.specs.Data.{Data, string, get}
 use Rattle.system_file.specs.Document.{is_text, is_named}
-use Rattle.system_file.specs.Reading.{first_of, HaveNames}
-
--- the first of a list stays the first where more comes behind
-pub first_here : {A : Type 0} (a b : List A) (x : A) → first_of a ≡ Some x → first_of (a ++ b) ≡ Some x
-first_here [] b x h = cc
-first_here (y ∷ a) b x h = h
-
--- nothing before leaves the first as it is
-pub first_later : {A : Type 0} (a b : List A) (x : A) → a ≡ [] → first_of b ≡ Some x → first_of (a ++ b) ≡ Some x
-first_later a b x none h = rw none h
-
-pub none_both : {A : Type 0} (a b : List A) → a ≡ [] → b ≡ [] → a ++ b ≡ []
-none_both a b no_a no_b = rw (no_a, no_b)
-
--- and what is nothing has no parts
-pub none_left : {A : Type 0} (a b : List A) → a ++ b ≡ [] → a ≡ []
-none_left [] b h = refl
-none_left (x ∷ a) b h = cc
-
-pub none_right : {A : Type 0} (a b : List A) → a ++ b ≡ [] → b ≡ []
-none_right [] b h = h
-none_right (x ∷ a) b h = cc
+use Rattle.system_file.specs.Reading.{HaveNames}
 
 named_by : (s : List ℕ) (ds : List Data) → list_any (is_named s) ds ≡ list_any (is_text s) (map (λ d. get (codes "name") d) ds)
 named_by s [] = refl

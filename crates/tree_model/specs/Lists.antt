@@ -1,0 +1,7 @@
+-- The first of a list.
+use Rattle.std.specs.Prelude.{List, [], ◌∷◌, Option, Some, None}
+
+-- the first of a list, if it has one
+abbrev pub first_of : {A : Type 0} → List A → Option A
+first_of [] = None
+first_of (x ∷ later) = Some x
