@@ -1,5 +1,5 @@
 -- Words for the steps of a reader.
-use Rattle.std.specs.Prelude.{◌≡◌, ℕ, ◌<◌, ◌==◌, Bool, false, not, ◌&&◌, List, [], ◌∷◌, ◌++◌, map, length, slice_index_or, codes, Option, Some, None}
+use Rattle.std.specs.Prelude.{◌≡◌, ℕ, ◌<◌, ◌==◌, Bool, false, not, ◌&&◌, List, ◌++◌, map, length, slice_index_or, codes, Some}
 use Rattle.std.specs.List.{list_any}
 use Rattle.toml.specs.Data.{Data, string, get}
 use Rattle.tree_model.specs.declared.place.Parent.{Parent}
