@@ -1,5 +1,5 @@
 -- What the accounts say at a slot whose rows are taken: who is eligible, and who goes first.
-use Rattle.std.proofs.Common.{◌≡◌, ℕ, zero, suc, ◌/◌, ◌<◌, ◌≤◌, nat_lt, Bool, true, false, not, ◌&&◌, ◌||◌, List, length, Option, sym, ◌∙◌, ap, arith, subst, inl, inr, eqb-true, ltb-true, lt-ltb, le-leb}
+use Rattle.std.proofs.Common.{◌≡◌, ℕ, zero, suc, ◌/◌, ◌<◌, ◌≤◌, nat_lt, Bool, true, false, not, ◌&&◌, ◌||◌, List, length, Option, sym, ◌∙◌, ap, arith, inl, inr, eqb-true, ltb-true, lt-ltb, le-leb}
 use Rattle.std.specs.Prelude.{is_some}
 use Rattle.std.proofs.lemmas.Bool.{cases_eq, cases_Bool, both_ways, and_parts, lt-leb}
 use Rattle.tree_model.specs.declared.place.Parent.{Parent}
@@ -7,13 +7,14 @@ use Rattle.tree_model.specs.declared.place.Parent.TheVariants.{Core as on_core, 
 use Rattle.tree_model.specs.declared.place.Place.TheVariants.{Core}
 use Rattle.tree_model.specs.View.{SystemView}
 use Rattle.tree_model.specs.System.{part_at}
-use Rattle.tree_model.specs.Tree.{is_child, place_of, same_place, budget_at, run_at}
+use Rattle.tree_model.specs.Tree.{is_child, place_of, same_place, budget_at}
 use Rattle.rtds_sim.specs.declared.account.Account.{Account}
 use Rattle.release_file.specs.declared.workload.Wake.{Wake as Row}
 use Rattle.release_file.specs.Workload.{row_at, last_row, is_by, is_of, starts, blocks, started_after, blocked_after, is_started_at, is_blocked_at}
 use Rattle.rtds_sim.specs.Rtds.{used, level_at, deadline_at, can_run, is_eligible, goes_first, goes_before, RtdsEntry}
 use Rattle.rtds_sim.specs.Printed.{core_of}
-use Rattle.rtds_sim.specs.Accounts.{account_at, account_eligible, level_of, deadline_of, ranked, ranks_before, IsChoice, IsInPeriod, IsAccount, AreAccounts, AreBefore}
+use Rattle.rtds_sim.specs.Running.{AreOn}
+use Rattle.rtds_sim.specs.Accounts.{account_at, account_eligible, level_of, deadline_of, ranked, ranks_before, IsChoice, IsInPeriod, IsAccount, AreBefore}
 use Rattle.release_file.proofs.Rows.{last_row-zero, last_row-yes, last_row-no}
 
 -- a part on core c
@@ -54,15 +55,12 @@ started_by rows v x k h = ap is_some (by_slot (starts v) rows x k h)
 pub blocked_by : (rows : List Row) (v x k : ℕ) → AreBefore rows k (suc x) → is_blocked_at rows v x ≡ blocked_after rows k v
 blocked_by rows v x k h = ap blocks (by_slot (is_of v) rows x k h)
 
-module _ (sys : SystemView) (budgets : List ℕ) (rows : List Row) (runs : List (List (Option ℕ))) (x k : ℕ) (taken : AreBefore rows k (suc x)) (accounts : List Account) (are : AreAccounts sys rows runs x k accounts) (c : ℕ) where
-  abbrev run : List (Option ℕ)
-  run = run_at runs c
-
+module _ (sys : SystemView) (budgets : List ℕ) (rows : List Row) (c : ℕ) (run : List (Option ℕ)) (x k : ℕ) (taken : AreBefore rows k (suc x)) (accounts : List Account) (are : AreOn sys rows c run x k accounts) where
   abbrev on_this : ℕ → Type 0
   on_this v = (v < length sys.parts) × (is_child sys (Core c) v ≡ true)
 
   account_on : (v : ℕ) → on_this v → IsAccount sys rows run v x k (account_at accounts v)
-  account_on v on = subst (λ (d : ℕ). IsAccount sys rows (run_at runs d) v x k (account_at accounts v)) (child_core sys c v on.1) (are.each v on.0)
+  account_on v on = are v on.0 on.1
 
   -- Bool algebra
   eligible_same : (p child started blocked left extra started' blocked' left' : Bool) → p ≡ true → child ≡ true → started ≡ started' → blocked ≡ blocked' → (started ≡ true → left ≡ left') →

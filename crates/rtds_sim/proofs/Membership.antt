@@ -1,8 +1,8 @@
 -- The VCPUs of each core, and the part that stands at a place.
-use Rattle.std.proofs.Common.{◌≡◌, ◌∙◌, ◌+◌, ◌<◌, ℕ, zero, suc, Bool, true, false, cond, List, length, slice_index_or, get_or, sym, ap, arith, subst, inl, inr}
+use Rattle.std.proofs.Common.{◌≡◌, ◌∙◌, ◌<◌, ℕ, zero, suc, Bool, true, cond, List, length, slice_index_or, get_or, sym, ap, arith, subst, inl, inr}
 use Rattle.std.proofs.lemmas.Bool.{cases_lt, cases_Bool}
 use Rattle.std.proofs.lemmas.List.{get_or_default}
-use Rattle.slot_model.specs.Slots.{count_below, push_if, places_where}
+use Rattle.slot_model.specs.Slots.{count_below, places_where}
 use Rattle.slot_model.proofs.Places.{length-push_if, push_if-kept, push_if-last, length-places_where}
 use Rattle.tree_model.specs.View.{PartView, SystemView}
 use Rattle.tree_model.specs.System.{part_at}

@@ -1,25 +1,24 @@
 -- The state of a simulation before a slot: its accounts and its holders are those of the run so
 -- far.
-use Rattle.std.proofs.Common.{◌≡◌, ◌≢◌, ℕ, zero, suc, ◌-◌, ◌<◌, ◌≤◌, true, List, length, Option, None, refl, sym, ◌∙◌, ap, arith, subst, inl, inr, eqb-true}
+use Rattle.std.proofs.Common.{◌≡◌, ◌≢◌, ℕ, suc, ◌<◌, ◌≤◌, true, false, List, length, Option, None, sym, ◌∙◌, ap, arith, subst, inl, inr, eqb-true}
 use Rattle.std.specs.Prelude.{is_some}
-use Rattle.std.proofs.lemmas.Bool.{cases_lt, and_parts, false≢true}
-use Rattle.slot_model.specs.Run.{held, holds}
+use Rattle.std.proofs.lemmas.Bool.{cases_lt, cases_Bool, both_ways, and_parts, false≢true}
+use Rattle.tree_model.specs.declared.place.Place.TheVariants.{Core}
 use Rattle.tree_model.specs.View.{SystemView}
 use Rattle.tree_model.specs.System.{part_at, IsSystem}
-use Rattle.tree_model.specs.Tree.{run_at}
+use Rattle.tree_model.specs.Tree.{is_child, run_at}
 use Rattle.rtds_sim.specs.declared.account.Account.{Account}
 use Rattle.rtds_sim.specs.declared.host.Host.{Host}
 use Rattle.release_file.specs.declared.workload.Wake.{Wake as Row}
-use Rattle.tree_model.specs.Plans.{IsPlan}
 use Rattle.release_file.specs.Workload.{row_at, starts, is_of, is_start, blocks, IsWorkload}
-use Rattle.rtds_sim.specs.Rtds.{RtdsRun}
-use Rattle.rtds_sim.specs.Printed.{core_of, holder_before, printed_below}
-use Rattle.rtds_sim.specs.Accounts.{no_account, account_at, holder_at, gone_on, AreAccounts, AreBefore, number_at, HasRoom, AreEnds, IsAccount, run_of_part}
+use Rattle.rtds_sim.specs.Printed.{core_of, holder_before}
+use Rattle.rtds_sim.specs.Running.{RowsFrom, AreOn}
+use Rattle.rtds_sim.proofs.Entering.{child_core}
+use Rattle.rtds_sim.specs.Accounts.{no_account, account_at, holder_at, AreAccounts, AreBefore, HasRoom, IsAccount, run_of_part}
 use Rattle.release_file.proofs.Rows.{last_row-zero, ordered, some_found}
 use Rattle.trace_file.specs.Rules.{is_vcpu}
 use Rattle.rtds_sim.proofs.Keeping.{OnCore, vcpu_core}
-use Rattle.rtds_sim.proofs.Steady.{IsNext, alike, gone_accounts}
-use Rattle.rtds_sim.proofs.Visits.{printed_on, quiet}
+use Rattle.rtds_sim.proofs.Steady.{core_in}
 
 pub record Standing (sys : SystemView) (rows : List Row) (runs : List (List (Option ℕ))) (host : Host) : Type 0 where
   pub before : AreBefore rows host.taken host.time
@@ -55,28 +54,57 @@ taken_rows sys rows w x k j b l h now no_more = record {
       omega (arith, ordered sys rows w j i m q);
 }
 
--- the next slot
-pub standing_next : (sys : SystemView) → IsSystem sys → (budgets : List ℕ) → IsPlan sys budgets → (rows : List Row) (n : ℕ) (runs : List (List (Option ℕ))) → RtdsRun sys budgets rows n runs
-    → (x k : ℕ) (accounts : List Account) (holders : List (Option ℕ)) (to : ℕ) → IsNext sys budgets rows runs x k accounts holders to → to ≤ n
-    → (host : Host) → host.time ≡ to → host.taken ≡ k → host.holders ≡ holders → HasRoom sys host
-    → ((v : ℕ) → v < length sys.parts → account_at host.accounts v ≡ gone_on (account_at accounts v) (holds (holder_at holders (core_of (part_at sys v).parent)) v) (to - x) (part_at sys v).period to)
-    → Standing sys rows runs host
-standing_next sys system budgets plan rows n runs is x k accounts holders to next fits host t h same room each = record {
-  before = record { in_rows = omega (arith, next.taken.in_rows); past = λ i l. omega (arith, next.taken.past i (omega arith), next.later); to_come = λ i a b. omega (arith, next.rows_later i (omega arith) b) };
-  are = subst (λ (y : ℕ). AreAccounts sys rows runs y host.taken host.accounts) (sym t) (subst (λ (j : ℕ). AreAccounts sys rows runs to j host.accounts) (sym h)
-      (gone_accounts sys system budgets plan rows n runs is x k accounts holders to next fits host.accounts room.all_vcpus each));
-  holders_are = λ c l. ap (λ (hs : List (Option ℕ)). holder_at hs c) same ∙ (next.holders_are c l ∙ sym (ap (holder_before (run_at runs c)) t ∙ last c l to refl));
-  room = room;
+-- an account that is not started stays what it is
+idle_account : (sys : SystemView) (rows : List Row) (run : List (Option ℕ)) (v x to k : ℕ) (a : Account) → a.started ≡ false → x ≤ to → IsAccount sys rows run v x k a → IsAccount sys rows run v to k a
+idle_account sys rows run v x to k a off l h = record {
+  started = h.started;
+  blocked = h.blocked;
+  early = omega (arith, h.early, l);
+  few = omega (arith, h.few, l);
+  in_period = λ on. absurd (both_ways a.started off on);
 }
-  where
-    last : (c : ℕ) → c < length sys.cores → (y : ℕ) → y ≡ to → holder_before (run_at runs c) y ≡ held (run_at runs c) x
-    last c l zero e = absurd (omega (arith, next.later))
-    last c l (suc y) e = alike sys system budgets plan rows n runs is x k accounts holders to next c l fits y (omega (arith, next.later)) (omega arith)
 
--- nothing is told between a visit and the next slot
-pub told_until : (sys : SystemView) → IsSystem sys → (budgets : List ℕ) → IsPlan sys budgets → (rows : List Row) (n : ℕ) (runs : List (List (Option ℕ))) → RtdsRun sys budgets rows n runs
-    → (x k : ℕ) (accounts : List Account) (holders : List (Option ℕ)) (to : ℕ) → IsNext sys budgets rows runs x k accounts holders to → to ≤ n → printed_below sys rows runs to ≡ printed_below sys rows runs (suc x)
-told_until sys system budgets plan rows n runs is x k accounts holders to next fits = printed_on sys rows runs (suc x) to (omega (arith, next.later)) (λ y a b. quiet sys system budgets plan rows n runs is x k accounts holders to next fits y (omega arith) b)
+-- a VCPU that is started stands on a core
+pub started_core : (sys : SystemView) → IsSystem sys → (rows : List Row) → IsWorkload sys rows → (runs : List (List (Option ℕ))) (x k : ℕ) (accounts : List Account) → k ≤ length rows → AreAccounts sys rows runs x k accounts → (v : ℕ) → v < length sys.parts → (account_at accounts v).started ≡ true → OnCore sys v
+started_core sys system rows w runs x k accounts in_rows are v l on =
+    let f = some_found (starts v) rows k (sym (are.each v l).started ∙ on) in
+    let its : f.0.vcpu ≡ v = eqb-true f.0.vcpu v (and_parts (is_of v f.0) (is_start f.0.what) f.2.passes).0 in
+    vcpu_core sys system v (subst (λ (u : ℕ). is_vcpu sys u ≡ true) (ap (λ (r : Row). r.vcpu) f.2.is ∙ its) (w.known f.2.place (omega (arith, f.2.within, in_rows))))
+
+-- the next slot, once each core has run up to it
+module _ (sys : SystemView) (system : IsSystem sys) (rows : List Row) (w : IsWorkload sys rows) (runs : List (List (Option ℕ))) (x k : ℕ) (accounts : List Account) (are : AreAccounts sys rows runs x k accounts) (taken : AreBefore rows k (suc x)) (to : ℕ) (later : x < to) (rows_later : RowsFrom rows k to) where
+  on_no_core : (v : ℕ) → is_child sys (Core (core_of (part_at sys v).parent)) v ≡ false → (c : ℕ) → c < length sys.cores → is_child sys (Core c) v ≡ false
+  on_no_core v none c l = elim (cases_Bool (is_child sys (Core c) v)) [
+    | inr b ↦ b
+    | inl b ↦ absurd (both_ways _ none (subst (λ (z : ℕ). is_child sys (Core z) v ≡ true) (sym (child_core sys c v b)) b))
+  ]
+
+  pub standing_next : (host : Host) → host.time ≡ to → host.taken ≡ k → HasRoom sys host
+      → ((c : ℕ) → c < length sys.cores → AreOn sys rows c (run_at runs c) to k host.accounts)
+      → ((c : ℕ) → c < length sys.cores → holder_at host.holders c ≡ holder_before (run_at runs c) to)
+      → ((v : ℕ) → v < length sys.parts → ((c : ℕ) → c < length sys.cores → is_child sys (Core c) v ≡ false) → account_at host.accounts v ≡ account_at accounts v)
+      → Standing sys rows runs host
+  standing_next host t h room own holders others = record {
+    before = record { in_rows = omega (arith, taken.in_rows, h); past = λ i l. omega (arith, taken.past i (omega (arith, l, h)), later, t); to_come = λ i a b. omega (arith, rows_later i (omega (arith, a, h)) b, t) };
+    are = subst (λ (y : ℕ). AreAccounts sys rows runs y host.taken host.accounts) (sym t) (subst (λ (j : ℕ). AreAccounts sys rows runs to j host.accounts) (sym h) (record {
+      all_vcpus = room.all_vcpus;
+      each = λ v l.
+          let d : ℕ = core_of (part_at sys v).parent in
+          elim (cases_Bool (is_child sys (Core d) v)) [
+            | inl b ↦ own d (core_in sys system v l) v l b
+            | inr b ↦ subst (IsAccount sys rows (run_at runs d) v to k) (sym (others v l (on_no_core v b)))
+                (idle_account sys rows (run_at runs d) v x to k (account_at accounts v) (not_started v l b) (omega (arith, later)) (are.each v l))
+          ];
+    }));
+    holders_are = λ c l. holders c l ∙ sym (ap (holder_before (run_at runs c)) t);
+    room = room;
+  }
+    where
+      not_started : (v : ℕ) → v < length sys.parts → is_child sys (Core (core_of (part_at sys v).parent)) v ≡ false → (account_at accounts v).started ≡ false
+      not_started v l b = elim (cases_Bool (account_at accounts v).started) [
+        | inr off ↦ off
+        | inl on ↦ absurd (both_ways _ b (started_core sys system rows w runs x k accounts taken.in_rows are v l on).child)
+      ]
 
 -- in the middle of a visit: the rows at the slot are taken, and the cores are as before
 pub record Visit (sys : SystemView) (rows : List Row) (runs : List (List (Option ℕ))) (host : Host) : Type 0 where
@@ -99,19 +127,3 @@ visit_rows sys system rows w runs old host s t hs room in_rows later now no_more
   holders_are = λ c l. ap (λ (xs : List (Option ℕ)). holder_at xs c) hs ∙ (s.holders_are c l ∙ sym (ap (holder_before (run_at runs c)) t));
   room = room;
 }
-
--- the next slot is later
-pub next_later : (sys : SystemView) (rows : List Row) (runs : List (List (Option ℕ))) (host : Host) → Visit sys rows runs host → AreEnds sys host → (other : Host) (slots next : ℕ) → other.time ≡ host.time → other.taken ≡ host.taken → other.ends ≡ host.ends → host.time < slots
-    → (other.time < slots → (other.taken < length rows → other.time < (row_at rows other.taken).at) → ((c : ℕ) → c < length sys.cores → other.time < number_at other.ends c) → other.time < next)
-    → host.time < next
-next_later sys rows runs host h ends other slots next t k e l later =
-    subst (λ (x : ℕ). x < next) t (later (omega arith)
-    (λ m. omega (arith, h.taken.to_come other.taken (omega arith) m))
-    (λ c p. omega (arith, ends.later c p, ap (λ (xs : List ℕ). number_at xs c) e)))
-
--- a VCPU that is started stands on a core
-pub started_core : (sys : SystemView) → IsSystem sys → (rows : List Row) → IsWorkload sys rows → (runs : List (List (Option ℕ))) (x k : ℕ) (accounts : List Account) → k ≤ length rows → AreAccounts sys rows runs x k accounts → (v : ℕ) → v < length sys.parts → (account_at accounts v).started ≡ true → OnCore sys v
-started_core sys system rows w runs x k accounts in_rows are v l on =
-    let f = some_found (starts v) rows k (sym (are.each v l).started ∙ on) in
-    let its : f.0.vcpu ≡ v = eqb-true f.0.vcpu v (and_parts (is_of v f.0) (is_start f.0.what) f.2.passes).0 in
-    vcpu_core sys system v (subst (λ (u : ℕ). is_vcpu sys u ≡ true) (ap (λ (r : Row). r.vcpu) f.2.is ∙ its) (w.known f.2.place (omega (arith, f.2.within, in_rows))))

@@ -11,18 +11,19 @@ use Rattle.tree_model.specs.declared.place.Parent.TheVariants.{Core as on_core, 
 use Rattle.tree_model.specs.declared.place.Place.TheVariants.{Core}
 use Rattle.tree_model.specs.View.{SystemView}
 use Rattle.tree_model.specs.System.{part_at, IsSystem, Stands}
-use Rattle.tree_model.specs.Tree.{is_child, budget_at, run_at}
+use Rattle.tree_model.specs.Tree.{is_child, budget_at}
 use Rattle.trace_file.specs.Periods.{begins, count_between}
 use Rattle.rtds_sim.specs.declared.account.Account.{Account}
 use Rattle.release_file.specs.declared.workload.Wake.{Wake as Row}
 use Rattle.tree_model.specs.Plans.{IsPlan}
-use Rattle.release_file.specs.Workload.{row_at, is_started_at, is_blocked_at, start_of}
-use Rattle.rtds_sim.specs.Rtds.{period_number, period_from, used, level_at, deadline_at, can_run, is_eligible, goes_first, goes_before, RtdsEntry, RtdsRun}
+use Rattle.release_file.specs.Workload.{is_started_at, is_blocked_at, start_of}
+use Rattle.rtds_sim.specs.Rtds.{period_number, period_from, used, level_at, deadline_at, can_run, is_eligible, goes_first, goes_before, RtdsEntry, CoreRun}
 use Rattle.rtds_sim.specs.Printed.{core_of}
-use Rattle.rtds_sim.specs.Accounts.{account_at, holder_at, gone_on, left_of, IsInPeriod, IsAccount, AreAccounts, AreBefore}
+use Rattle.rtds_sim.specs.Accounts.{account_at, gone_on, left_of, IsInPeriod, IsAccount, AreBefore, IsEnd}
+use Rattle.rtds_sim.specs.Running.{RowsFrom, AreOn}
 use Rattle.rtds_sim.proofs.Runs.{entry_unique}
 use Rattle.rtds_sim.proofs.Taking.{none_between}
-use Rattle.rtds_sim.proofs.Entering.{child_core, started_by, blocked_by}
+use Rattle.rtds_sim.proofs.Entering.{started_by, blocked_by}
 
 -- a count over slots that are all alike
 pub count_alike : (p : ℕ → Bool) (a x m : ℕ) (b : Bool) → a ≤ x → ((z : ℕ) → x ≤ z → z < x + m → p z ≡ b) → count_between p a (x + m) ≡ count_between p a x + cond b m 0
@@ -75,131 +76,132 @@ core_in sys is v l = go (part_at sys v).parent (is.parents v l)
     go (on_core c) s = s
     go (on_part q) s = omega (arith, is.some_core)
 
--- what is known at slot x, whose rows are taken and whose cores have their VCPUs, and of a later
+-- what is known of core c at slot x, whose rows are taken and whose VCPU has it, and of a later
 -- slot
-pub record IsNext (sys : SystemView) (budgets : List ℕ) (rows : List Row) (runs : List (List (Option ℕ))) (x k : ℕ) (accounts : List Account) (holders : List (Option ℕ)) (to : ℕ) : Type 0 where
+pub record IsNext (sys : SystemView) (budgets : List ℕ) (rows : List Row) (c : ℕ) (run : List (Option ℕ)) (x k : ℕ) (accounts : List Account) (holder : Option ℕ) (to : ℕ) : Type 0 where
   pub taken : AreBefore rows k (suc x)
-  pub are : AreAccounts sys rows runs x k accounts
-  pub holders_are : (c : ℕ) → c < length sys.cores → holder_at holders c ≡ held (run_at runs c) x
+  pub are : AreOn sys rows c run x k accounts
+  pub holder_is : holder ≡ held run x
   pub later : x < to
-  pub rows_later : (i : ℕ) → k ≤ i → i < length rows → to ≤ (row_at rows i).at
-  pub in_period : (v : ℕ) → v < length sys.parts → (account_at accounts v).started ≡ true → to ≤ (account_at accounts v).from + (part_at sys v).period
-  pub in_budget : (c v : ℕ) → c < length sys.cores → holder_at holders c ≡ Some v → to ≤ x + left_of (account_at accounts v) (budget_at budgets v)
+  pub rows_later : RowsFrom rows k to
+  pub in_period : IsEnd sys accounts c to
+  pub in_budget : (v : ℕ) → holder ≡ Some v → to ≤ x + left_of (account_at accounts v) (budget_at budgets v)
 
-module _ (sys : SystemView) (system : IsSystem sys) (budgets : List ℕ) (plan : IsPlan sys budgets) (rows : List Row) (n : ℕ) (runs : List (List (Option ℕ))) (is : RtdsRun sys budgets rows n runs)
-    (x k : ℕ) (accounts : List Account) (holders : List (Option ℕ)) (to : ℕ) (next : IsNext sys budgets rows runs x k accounts holders to) where
-  pub taken_at : (y : ℕ) → x ≤ y → y < to → AreBefore rows k (suc y)
-  taken_at y l m = record { in_rows = next.taken.in_rows; past = λ i h. omega (arith, next.taken.past i h); to_come = λ i a b. omega (arith, next.rows_later i a b) }
+-- no row comes from slot x on and before a later one
+pub taken_by : (rows : List Row) (k x to y : ℕ) → AreBefore rows k (suc x) → RowsFrom rows k to → x ≤ y → y < to → AreBefore rows k (suc y)
+taken_by rows k x to y taken rows_later l m = record { in_rows = taken.in_rows; past = λ i h. omega (arith, taken.past i h); to_come = λ i a b. omega (arith, rows_later i a b) }
 
-  module _ (c : ℕ) (is_core : c < length sys.cores) where
-    abbrev run : List (Option ℕ)
-    run = run_at runs c
+module _ (sys : SystemView) (budgets : List ℕ) (plan : IsPlan sys budgets) (rows : List Row) (n c : ℕ) (run : List (Option ℕ)) (is : CoreRun sys budgets rows n c run)
+    (x k : ℕ) (accounts : List Account) (holder : Option ℕ) (to : ℕ) (next : IsNext sys budgets rows c run x k accounts holder to) where
+  taken_at : (y : ℕ) → x ≤ y → y < to → AreBefore rows k (suc y)
+  taken_at y l m = taken_by rows k x to y next.taken next.rows_later l m
 
-    -- the run holds at each slot from x on and before y what it holds at x
-    abbrev AlikeTo : ℕ → Type 0
-    AlikeTo y = (z : ℕ) → x ≤ z → z < y → held run z ≡ held run x
+  -- the run holds at each slot from x on and before y what it holds at x
+  abbrev AlikeTo : ℕ → Type 0
+  AlikeTo y = (z : ℕ) → x ≤ z → z < y → held run z ≡ held run x
 
-    runs_same : (v y : ℕ) → x ≤ y → y < to → can_run sys rows c v y ≡ can_run sys rows c v x
-    runs_same v y l m =
-        let s : is_started_at rows v y ≡ is_started_at rows v x = started_by rows v y k (taken_at y l m) ∙ sym (started_by rows v x k next.taken) in
-        let b : is_blocked_at rows v y ≡ is_blocked_at rows v x = blocked_by rows v y k (taken_at y l m) ∙ sym (blocked_by rows v x k next.taken) in
-        ap (λ (s : Bool). (nat_lt v (length sys.parts) && is_child sys (Core c) v) && (s && not (is_blocked_at rows v y))) s ∙ ap (λ (b : Bool). (nat_lt v (length sys.parts) && is_child sys (Core c) v) && (is_started_at rows v x && not b)) b
+  runs_same : (v y : ℕ) → x ≤ y → y < to → can_run sys rows c v y ≡ can_run sys rows c v x
+  runs_same v y l m =
+      let s : is_started_at rows v y ≡ is_started_at rows v x = started_by rows v y k (taken_at y l m) ∙ sym (started_by rows v x k next.taken) in
+      let b : is_blocked_at rows v y ≡ is_blocked_at rows v x = blocked_by rows v y k (taken_at y l m) ∙ sym (blocked_by rows v x k next.taken) in
+      ap (λ (s : Bool). (nat_lt v (length sys.parts) && is_child sys (Core c) v) && (s && not (is_blocked_at rows v y))) s ∙ ap (λ (b : Bool). (nat_lt v (length sys.parts) && is_child sys (Core c) v) && (is_started_at rows v x && not b)) b
 
-    -- a VCPU that can run, and its account
-    record Runs (v : ℕ) : Type 0 where
-      is_part : v < length sys.parts
-      started : (account_at accounts v).started ≡ true
-      in_period : IsInPeriod sys rows run v x (account_at accounts v)
+  -- a VCPU that can run, and its account
+  record Runs (v : ℕ) : Type 0 where
+    is_part : v < length sys.parts
+    child : is_child sys (Core c) v ≡ true
+    started : (account_at accounts v).started ≡ true
+    in_period : IsInPeriod sys rows run v x (account_at accounts v)
 
-    runs_is : (v : ℕ) → can_run sys rows c v x ≡ true → Runs v
-    runs_is v h =
-        let p = and_parts (nat_lt v (length sys.parts) && is_child sys (Core c) v) (is_started_at rows v x && not (is_blocked_at rows v x)) h in
-        let q = and_parts (nat_lt v (length sys.parts)) (is_child sys (Core c) v) p.0 in
-        let l : v < length sys.parts = ltb-true v (length sys.parts) q.0 in
-        let a : IsAccount sys rows run v x k (account_at accounts v) = subst (λ (d : ℕ). IsAccount sys rows (run_at runs d) v x k (account_at accounts v)) (child_core sys c v q.1) (next.are.each v l) in
-        let s : (account_at accounts v).started ≡ true = a.started ∙ (sym (started_by rows v x k next.taken) ∙ (and_parts (is_started_at rows v x) (not (is_blocked_at rows v x)) p.1).0) in
-        record { is_part = l; started = s; in_period = a.in_period s }
+  runs_is : (v : ℕ) → can_run sys rows c v x ≡ true → Runs v
+  runs_is v h =
+      let p = and_parts (nat_lt v (length sys.parts) && is_child sys (Core c) v) (is_started_at rows v x && not (is_blocked_at rows v x)) h in
+      let q = and_parts (nat_lt v (length sys.parts)) (is_child sys (Core c) v) p.0 in
+      let l : v < length sys.parts = ltb-true v (length sys.parts) q.0 in
+      let a : IsAccount sys rows run v x k (account_at accounts v) = next.are v l q.1 in
+      let s : (account_at accounts v).started ≡ true = a.started ∙ (sym (started_by rows v x k next.taken) ∙ (and_parts (is_started_at rows v x) (not (is_blocked_at rows v x)) p.1).0) in
+      record { is_part = l; child = q.1; started = s; in_period = a.in_period s }
 
-    from_same : (v y : ℕ) → x ≤ y → y < to → Runs v → period_number (part_at sys v).period (start_of rows v) y ≡ period_number (part_at sys v).period (start_of rows v) x
-    from_same v y l m r = number_same (part_at sys v).period (start_of rows v) x y (omega (arith, r.in_period.from_is, r.in_period.begun)) l (omega (arith, r.in_period.from_is, next.in_period v r.is_part r.started))
+  from_same : (v y : ℕ) → x ≤ y → y < to → Runs v → period_number (part_at sys v).period (start_of rows v) y ≡ period_number (part_at sys v).period (start_of rows v) x
+  from_same v y l m r = number_same (part_at sys v).period (start_of rows v) x y (omega (arith, r.in_period.from_is, r.in_period.begun)) l (omega (arith, r.in_period.from_is, next.in_period v r.is_part r.child r.started))
 
-    -- what it had by y
-    used_is : (v y : ℕ) → x ≤ y → y < to → AlikeTo y → Runs v → used sys rows run v y ≡ used sys rows run v x + cond (holds (held run x) v) (y - x) 0
-    used_is v y l m alike r =
-        let e : x + (y - x) ≡ y = omega arith in
-        let p : ℕ → Bool = λ z. holds (held run z) v in
-        ap (λ (q : ℕ). count_between p (begins (part_at sys v).period (start_of rows v) q) y) (from_same v y l m r)
-        ∙ (ap (λ (z : ℕ). count_between p (period_from sys rows v x) z) (sym e)
-        ∙ count_alike p (period_from sys rows v x) x (y - x) (holds (held run x) v) (omega (arith, r.in_period.from_is, r.in_period.begun)) (λ z i j. ap (λ (o : Option ℕ). holds o v) (alike z i (omega arith))))
+  -- what it had by y
+  used_is : (v y : ℕ) → x ≤ y → y < to → AlikeTo y → Runs v → used sys rows run v y ≡ used sys rows run v x + cond (holds (held run x) v) (y - x) 0
+  used_is v y l m alike r =
+      let e : x + (y - x) ≡ y = omega arith in
+      let p : ℕ → Bool = λ z. holds (held run z) v in
+      ap (λ (q : ℕ). count_between p (begins (part_at sys v).period (start_of rows v) q) y) (from_same v y l m r)
+      ∙ (ap (λ (z : ℕ). count_between p (period_from sys rows v x) z) (sym e)
+      ∙ count_alike p (period_from sys rows v x) x (y - x) (holds (held run x) v) (omega (arith, r.in_period.from_is, r.in_period.begun)) (λ z i j. ap (λ (o : Option ℕ). holds o v) (alike z i (omega arith))))
 
-    record Same (v y : ℕ) : Type 0 where
-      level : level_at sys budgets rows run v y ≡ level_at sys budgets rows run v x
-      deadline : deadline_at sys rows v y ≡ deadline_at sys rows v x
-      left : nat_lt (used sys rows run v y) (budget_at budgets v) ≡ nat_lt (used sys rows run v x) (budget_at budgets v)
+  record Same (v y : ℕ) : Type 0 where
+    level : level_at sys budgets rows run v y ≡ level_at sys budgets rows run v x
+    deadline : deadline_at sys rows v y ≡ deadline_at sys rows v x
+    left : nat_lt (used sys rows run v y) (budget_at budgets v) ≡ nat_lt (used sys rows run v x) (budget_at budgets v)
 
-    same_by : (v y m : ℕ) → x ≤ y → y < to → Runs v → used sys rows run v y ≡ used sys rows run v x + m → m < budget_at budgets v - used sys rows run v x % budget_at budgets v → Same v y
-    same_by v y m l t r e left = record {
-      level = ap (λ (g : ℕ). g / budget_at budgets v) e ∙ same_quotient (used sys rows run v x) m (budget_at budgets v) (plan.some_budget v r.is_part) left;
-      deadline = ap (λ (q : ℕ). begins (part_at sys v).period (start_of rows v) (suc q)) (from_same v y l t r);
-      left = ap (λ (g : ℕ). nat_lt g (budget_at budgets v)) e ∙ lt_same (used sys rows run v x) m (budget_at budgets v) (plan.some_budget v r.is_part) left;
-    }
+  same_by : (v y m : ℕ) → x ≤ y → y < to → Runs v → used sys rows run v y ≡ used sys rows run v x + m → m < budget_at budgets v - used sys rows run v x % budget_at budgets v → Same v y
+  same_by v y m l t r e left = record {
+    level = ap (λ (g : ℕ). g / budget_at budgets v) e ∙ same_quotient (used sys rows run v x) m (budget_at budgets v) (plan.some_budget v r.is_part) left;
+    deadline = ap (λ (q : ℕ). begins (part_at sys v).period (start_of rows v) (suc q)) (from_same v y l t r);
+    left = ap (λ (g : ℕ). nat_lt g (budget_at budgets v)) e ∙ lt_same (used sys rows run v x) m (budget_at budgets v) (plan.some_budget v r.is_part) left;
+  }
 
-    same_at : (v y : ℕ) → x ≤ y → y < to → AlikeTo y → Runs v → Same v y
-    same_at v y l t alike r = elim (cases_Bool (holds (held run x) v)) [
-      | inl b ↦
-          let left : to ≤ x + left_of (account_at accounts v) (budget_at budgets v) = next.in_budget c v is_core (next.holders_are c is_core ∙ holds-is (held run x) v b) in
-          let g : (account_at accounts v).used % budget_at budgets v ≡ used sys rows run v x % budget_at budgets v = ap (λ (z : ℕ). z % budget_at budgets v) r.in_period.used_is in
-          same_by v y (y - x) l t r (used_is v y l t alike r ∙ ap (λ (z : ℕ). used sys rows run v x + z) (cond-true {A = ℕ} (holds (held run x) v) (y - x) 0 b)) (omega arith)
-      | inr b ↦
-          let some : 1 ≤ budget_at budgets v = plan.some_budget v r.is_part in
-          same_by v y 0 l t r (used_is v y l t alike r ∙ ap (λ (z : ℕ). used sys rows run v x + z) (cond-false {A = ℕ} (holds (held run x) v) (y - x) 0 b)) (omega arith)
-    ]
+  same_at : (v y : ℕ) → x ≤ y → y < to → AlikeTo y → Runs v → Same v y
+  same_at v y l t alike r = elim (cases_Bool (holds (held run x) v)) [
+    | inl b ↦
+        let left : to ≤ x + left_of (account_at accounts v) (budget_at budgets v) = next.in_budget v (next.holder_is ∙ holds-is (held run x) v b) in
+        let g : (account_at accounts v).used % budget_at budgets v ≡ used sys rows run v x % budget_at budgets v = ap (λ (z : ℕ). z % budget_at budgets v) r.in_period.used_is in
+        same_by v y (y - x) l t r (used_is v y l t alike r ∙ ap (λ (z : ℕ). used sys rows run v x + z) (cond-true {A = ℕ} (holds (held run x) v) (y - x) 0 b)) (omega arith)
+    | inr b ↦
+        let some : 1 ≤ budget_at budgets v = plan.some_budget v r.is_part in
+        same_by v y 0 l t r (used_is v y l t alike r ∙ ap (λ (z : ℕ). used sys rows run v x + z) (cond-false {A = ℕ} (holds (held run x) v) (y - x) 0 b)) (omega arith)
+  ]
 
-    eligible_same : (v y : ℕ) → x ≤ y → y < to → AlikeTo y → is_eligible sys budgets rows c run v y ≡ is_eligible sys budgets rows c run v x
-    eligible_same v y l t alike = elim (cases_Bool (can_run sys rows c v x)) [
-      | inr b ↦
-          ap (λ (q : Bool). q && (nat_lt (used sys rows run v y) (budget_at budgets v) || (part_at sys v).extra)) (runs_same v y l t ∙ b)
-          ∙ sym (ap (λ (q : Bool). q && (nat_lt (used sys rows run v x) (budget_at budgets v) || (part_at sys v).extra)) b)
-      | inl b ↦
-          let s : Same v y = same_at v y l t alike (runs_is v b) in
-          ap (λ (q : Bool). q && (nat_lt (used sys rows run v y) (budget_at budgets v) || (part_at sys v).extra)) (runs_same v y l t)
-          ∙ ap (λ (q : Bool). can_run sys rows c v x && (q || (part_at sys v).extra)) s.left
-    ]
+  eligible_same : (v y : ℕ) → x ≤ y → y < to → AlikeTo y → is_eligible sys budgets rows c run v y ≡ is_eligible sys budgets rows c run v x
+  eligible_same v y l t alike = elim (cases_Bool (can_run sys rows c v x)) [
+    | inr b ↦
+        ap (λ (q : Bool). q && (nat_lt (used sys rows run v y) (budget_at budgets v) || (part_at sys v).extra)) (runs_same v y l t ∙ b)
+        ∙ sym (ap (λ (q : Bool). q && (nat_lt (used sys rows run v x) (budget_at budgets v) || (part_at sys v).extra)) b)
+    | inl b ↦
+        let s : Same v y = same_at v y l t alike (runs_is v b) in
+        ap (λ (q : Bool). q && (nat_lt (used sys rows run v y) (budget_at budgets v) || (part_at sys v).extra)) (runs_same v y l t)
+        ∙ ap (λ (q : Bool). can_run sys rows c v x && (q || (part_at sys v).extra)) s.left
+  ]
 
-    before_same : (u v y : ℕ) → Same u y → Same v y → goes_before sys budgets rows run y u v ≡ goes_before sys budgets rows run x u v
-    before_same u v y a b =
-        ap (λ (l : ℕ). goes_first l (deadline_at sys rows u y) u (level_at sys budgets rows run v y) (deadline_at sys rows v y) v) a.level
-        ∙ (ap (λ (d : ℕ). goes_first (level_at sys budgets rows run u x) d u (level_at sys budgets rows run v y) (deadline_at sys rows v y) v) a.deadline
-        ∙ (ap (λ (l : ℕ). goes_first (level_at sys budgets rows run u x) (deadline_at sys rows u x) u l (deadline_at sys rows v y) v) b.level
-        ∙ ap (λ (d : ℕ). goes_first (level_at sys budgets rows run u x) (deadline_at sys rows u x) u (level_at sys budgets rows run v x) d v) b.deadline))
+  before_same : (u v y : ℕ) → Same u y → Same v y → goes_before sys budgets rows run y u v ≡ goes_before sys budgets rows run x u v
+  before_same u v y a b =
+      ap (λ (l : ℕ). goes_first l (deadline_at sys rows u y) u (level_at sys budgets rows run v y) (deadline_at sys rows v y) v) a.level
+      ∙ (ap (λ (d : ℕ). goes_first (level_at sys budgets rows run u x) d u (level_at sys budgets rows run v y) (deadline_at sys rows v y) v) a.deadline
+      ∙ (ap (λ (l : ℕ). goes_first (level_at sys budgets rows run u x) (deadline_at sys rows u x) u l (deadline_at sys rows v y) v) b.level
+      ∙ ap (λ (d : ℕ). goes_first (level_at sys budgets rows run u x) (deadline_at sys rows u x) u (level_at sys budgets rows run v x) d v) b.deadline))
 
-    eligible_runs : (v : ℕ) → is_eligible sys budgets rows c run v x ≡ true → Runs v
-    eligible_runs v h = runs_is v (and_parts (can_run sys rows c v x) (nat_lt (used sys rows run v x) (budget_at budgets v) || (part_at sys v).extra) h).0
+  eligible_runs : (v : ℕ) → is_eligible sys budgets rows c run v x ≡ true → Runs v
+  eligible_runs v h = runs_is v (and_parts (can_run sys rows c v x) (nat_lt (used sys rows run v x) (budget_at budgets v) || (part_at sys v).extra) h).0
 
-    entry_same : (y : ℕ) → x ≤ y → y < to → AlikeTo y → (o : Option ℕ) → RtdsEntry sys budgets rows c run x o → RtdsEntry sys budgets rows c run y o
-    entry_same y l t alike o e = record {
-      idle = λ q v. eligible_same v y l t alike ∙ e.idle q v;
-      named = λ v q. eligible_same v y l t alike ∙ e.named v q;
-      first = λ u v q h.
-          let eu : is_eligible sys budgets rows c run u x ≡ true = sym (eligible_same u y l t alike) ∙ h in
-          before_same u v y (same_at u y l t alike (eligible_runs u eu)) (same_at v y l t alike (eligible_runs v (e.named v q))) ∙ e.first u v q eu;
-    }
+  entry_same : (y : ℕ) → x ≤ y → y < to → AlikeTo y → (o : Option ℕ) → RtdsEntry sys budgets rows c run x o → RtdsEntry sys budgets rows c run y o
+  entry_same y l t alike o e = record {
+    idle = λ q v. eligible_same v y l t alike ∙ e.idle q v;
+    named = λ v q. eligible_same v y l t alike ∙ e.named v q;
+    first = λ u v q h.
+        let eu : is_eligible sys budgets rows c run u x ≡ true = sym (eligible_same u y l t alike) ∙ h in
+        before_same u v y (same_at u y l t alike (eligible_runs u eu)) (same_at v y l t alike (eligible_runs v (e.named v q))) ∙ e.first u v q eu;
+  }
 
-    alike_to : to ≤ n → (m : ℕ) → x + m ≤ to → AlikeTo (x + m)
-    alike_to fits zero l z a b = absurd (omega arith)
-    alike_to fits (suc m) l z a b = elim (cases_lt z (x + m)) [
-      | inl h ↦ alike_to fits m (omega arith) z a h
-      | inr h ↦
-          let e : z ≡ x + m = omega arith in
-          let before : AlikeTo (x + m) = alike_to fits m (omega arith) in
-          let entry : RtdsEntry sys budgets rows c run x (held run x) = (is.cores c is_core).each x (omega (arith, next.later)) in
-          subst (λ (y : ℕ). held run y ≡ held run x) (sym e)
-          (entry_unique sys budgets rows c run (x + m) (held run (x + m)) (held run x) ((is.cores c is_core).each (x + m) (omega arith)) (entry_same (x + m) (omega arith) (omega arith) before (held run x) entry))
-    ]
+  alike_to : to ≤ n → (m : ℕ) → x + m ≤ to → AlikeTo (x + m)
+  alike_to fits zero l z a b = absurd (omega arith)
+  alike_to fits (suc m) l z a b = elim (cases_lt z (x + m)) [
+    | inl h ↦ alike_to fits m (omega arith) z a h
+    | inr h ↦
+        let e : z ≡ x + m = omega arith in
+        let before : AlikeTo (x + m) = alike_to fits m (omega arith) in
+        let entry : RtdsEntry sys budgets rows c run x (held run x) = is.each x (omega (arith, next.later)) in
+        subst (λ (y : ℕ). held run y ≡ held run x) (sym e)
+        (entry_unique sys budgets rows c run (x + m) (held run (x + m)) (held run x) (is.each (x + m) (omega arith)) (entry_same (x + m) (omega arith) (omega arith) before (held run x) entry))
+  ]
 
-    -- the core keeps its VCPU
-    pub alike : to ≤ n → (z : ℕ) → x ≤ z → z < to → held run z ≡ held run x
-    alike fits z a b = alike_to fits (to - x) (omega (arith, next.later)) z a (omega (arith, next.later))
+  -- the core keeps its VCPU
+  pub alike : to ≤ n → (z : ℕ) → x ≤ z → z < to → held run z ≡ held run x
+  alike fits z a b = alike_to fits (to - x) (omega (arith, next.later)) z a (omega (arith, next.later))
 
   -- the account of a VCPU at the next slot, by whether its period ends there and whether it has its
   -- core
@@ -269,12 +271,7 @@ module _ (sys : SystemView) (system : IsSystem sys) (budgets : List ℕ) (plan :
         ]))
   ]
 
-  pub gone_accounts : to ≤ n → (new : List Account) → length new ≡ 512 → ((v : ℕ) → v < length sys.parts → account_at new v ≡ gone_on (account_at accounts v) (holds (holder_at holders (core_of (part_at sys v).parent)) v) (to - x) (part_at sys v).period to) → AreAccounts sys rows runs to k new
-  gone_accounts fits new long each = record {
-    all_vcpus = long;
-    each = λ v l.
-        let c : ℕ = core_of (part_at sys v).parent in
-        let lc : c < length sys.cores = core_in sys system v l in
-        subst (λ (z : Account). IsAccount sys rows (run_at runs c) v to k z) (sym (each v l))
-        (gone_account v l (run_at runs c) (alike c lc fits) (account_at accounts v) (holds (holder_at holders c) v) (ap (λ (o : Option ℕ). holds o v) (next.holders_are c lc)) (next.are.each v l) (next.in_period v l));
-  }
+  -- the accounts of the core at the next slot
+  pub gone_accounts : to ≤ n → (new : List Account) → ((v : ℕ) → v < length sys.parts → is_child sys (Core c) v ≡ true → account_at new v ≡ gone_on (account_at accounts v) (holds holder v) (to - x) (part_at sys v).period to) → AreOn sys rows c run to k new
+  gone_accounts fits new each v l child = subst (λ (z : Account). IsAccount sys rows run v to k z) (sym (each v l child))
+      (gone_account v l run (alike fits) (account_at accounts v) (holds holder v) (ap (λ (o : Option ℕ). holds o v) next.holder_is) (next.are v l child) (next.in_period v l child))

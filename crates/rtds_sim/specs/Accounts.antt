@@ -1,5 +1,5 @@
 -- What is kept of VCPUs and cores between two events.
-use Rattle.std.specs.Prelude.{◌≡◌, ℕ, ◌+◌, ◌-◌, ◌/◌, ◌%◌, ◌<◌, ◌≤◌, ◌==◌, Bool, true, false, not, ◌&&◌, ◌||◌, nat_lt, if◌then◌else◌, List, length, slice_index_or, Option, Some, None}
+use Rattle.std.specs.Prelude.{◌≡◌, ℕ, suc, ◌+◌, ◌-◌, ◌/◌, ◌%◌, ◌<◌, ◌≤◌, ◌==◌, Bool, true, false, not, ◌&&◌, ◌||◌, nat_lt, if◌then◌else◌, is_some, List, length, slice_index_or, Option, Some, None}
 use Rattle.tree_model.specs.declared.place.Place.TheVariants.{Core}
 use Rattle.tree_model.specs.View.{SystemView}
 use Rattle.tree_model.specs.System.{part_at}
@@ -15,9 +15,9 @@ use Rattle.release_file.specs.declared.workload.WakeKind.{WakeKind}
 use Rattle.release_file.specs.declared.workload.WakeKind.TheVariants.{Start, Wake, Block}
 use Rattle.release_file.specs.Workload.{row_at, started_after, blocked_after}
 use Rattle.rtds_sim.specs.Rtds.{period_from, used, goes_first}
-use Rattle.rtds_sim.specs.Keys.{key_at, IsFirstKey}
+use Rattle.rtds_sim.specs.Keys.{key_at}
 use Rattle.rtds_sim.specs.Queues.{AreQueues}
-use Rattle.rtds_sim.specs.Printed.{core_of, on_at, on_core_at, switch_to}
+use Rattle.rtds_sim.specs.Printed.{core_of, on_at}
 
 abbrev pub no_account : Account
 no_account = record { started = false; blocked = false; from = 0; used = 0 }
@@ -107,15 +107,11 @@ abbrev pub left_at : List Account → List (Option ℕ) → ℕ → Option ℕ
 left_at accounts holders c =
     if gives_up accounts (holder_at holders c) then None else holder_at holders c
 
--- what is told of core c when blocked VCPUs give their cores up, and when the cores go on to other
--- VCPUs
+-- what is told of core c when blocked VCPUs give their cores up
 abbrev pub stop_of : Host → ℕ → Option Event
 stop_of host c =
     if gives_up host.accounts (holder_at host.holders c) then Some (on_at c host.time Stop)
     else None
-
-abbrev pub switch_of : List (Option ℕ) → List (Option ℕ) → ℕ → ℕ → Option Event
-switch_of holders next x c = on_core_at c x (switch_to (holder_at holders c) (holder_at next c))
 
 -- the account of VCPU v at slot x, after the first k rows: whether it is started and blocked, and
 -- where it is, where its period begins and the slots that it had in it before x
@@ -151,9 +147,21 @@ pub record AreBefore (rows : List Row) (k x : ℕ) : Type 0 where
   pub past : (i : ℕ) → i < k → (row_at rows i).at < x
   pub to_come : (i : ℕ) → k ≤ i → i < length rows → x ≤ (row_at rows i).at
 
--- whether the VCPU of core c that goes first may be another than the one that has it
-abbrev pub is_stale : List Bool → ℕ → Bool
-is_stale stale c = slice_index_or stale c false
+-- what is kept of the slots until a VCPU has had its budget once more: just these where it has a
+-- key, and else some of them
+pub record IsLeft (key : Option Key) (left most : ℕ) : Type 0 where
+  pub some : 1 ≤ left
+  pub within : left ≤ most
+  pub exact : is_some key ≡ true → left ≡ most
+
+-- what a VCPU goes by once it has had its budget once more, and the slots left until it has again
+abbrev pub next_key : Option Key → Bool → Option Key
+next_key None extra = None
+next_key (Some key) extra = if extra then Some (record key { level = suc key.level }) else None
+
+abbrev pub left_by : Option Key → ℕ → ℕ
+left_by None budget = 1
+left_by (Some key) budget = budget
 
 -- there is room for each VCPU and each core, and what has a core is a part
 pub record HasRoom (sys : SystemView) (host : Host) : Type 0 where
@@ -163,15 +171,13 @@ pub record HasRoom (sys : SystemView) (host : Host) : Type 0 where
   pub all_left : length host.left ≡ 512
   pub all_cores : length host.holders ≡ 64
   pub all_ends : length host.ends ≡ 64
-  pub all_stale : length host.stale ≡ 64
   pub few_parts : length sys.parts ≤ 512
   pub few_cores : length sys.cores ≤ 64
   pub parts : (c v : ℕ) → c < length sys.cores → holder_at host.holders c ≡ Some v →
       v < length sys.parts
 
 -- the keys and the ends of periods are those of the accounts, whose numbers are small, the VCPUs
--- with a key are listed, and the slots left are no more than those of the accounts; what has a core
--- stands on it, and goes first on it where the core is not stale
+-- with a key are queued, and the slots left are those of the accounts; what has a core stands on it
 pub record IsReady (sys : SystemView) (budgets : List ℕ) (host : Host) : Type 0 where
   pub room : HasRoom sys host
   pub listed : AreQueues sys host.queues
@@ -182,13 +188,11 @@ pub record IsReady (sys : SystemView) (budgets : List ℕ) (host : Host) : Type 
       (part_at sys v).extra (part_at sys v).period
   pub until : (v : ℕ) → v < length sys.parts →
       number_at host.until v ≡ end_of (account_at host.accounts v) (part_at sys v).period
-  pub some_left : (v : ℕ) → v < length sys.parts → 1 ≤ number_at host.left v
   pub left : (v : ℕ) → v < length sys.parts →
-      number_at host.left v ≤ left_of (account_at host.accounts v) (budget_at budgets v)
+      IsLeft (key_at host.queues.keys v) (number_at host.left v)
+      (left_of (account_at host.accounts v) (budget_at budgets v))
   pub on_core : (c v : ℕ) → c < length sys.cores → holder_at host.holders c ≡ Some v →
       is_child sys (Core c) v ≡ true
-  pub named : (c : ℕ) → c < length sys.cores → is_stale host.stale c ≡ false →
-      IsFirstKey sys host.queues.keys c (length sys.parts) (holder_at host.holders c)
 
 -- on no core does a period end before the slot that is kept of it
 abbrev pub IsEnd : SystemView → List Account → ℕ → ℕ → Type 0

@@ -8,3 +8,6 @@ pub mod Accounts
 pub mod Members
 pub mod Fault
 pub mod RunText
+pub mod Telling
+pub mod Soonest
+pub mod Running

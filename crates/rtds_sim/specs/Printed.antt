@@ -85,9 +85,11 @@ abbrev pub on_core_at : ℕ → ℕ → Option What → Option Event
 on_core_at c x None = None
 on_core_at c x (Some what) = Some (on_at c x what)
 
+abbrev pub switch_on : List Row → List (Option ℕ) → ℕ → ℕ → Option Event
+switch_on rows run x c = on_core_at c x (switch_to (holder_left rows run x) (held run x))
+
 abbrev pub switch_at : List Row → List (List (Option ℕ)) → ℕ → ℕ → Option Event
-switch_at rows runs x c =
-    on_core_at c x (switch_to (holder_left rows (run_at runs c) x) (held (run_at runs c) x))
+switch_at rows runs x c = switch_on rows (run_at runs c) x c
 
 -- the events at slot x
 abbrev pub printed_at : SystemView → List Row → List (List (Option ℕ)) → ℕ → List Event

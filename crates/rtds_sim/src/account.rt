@@ -1,5 +1,5 @@
-ghost use Rattle.std.specs.Prelude.{◌≡◌, ◌≤◌, ◌<◌, ◌+◌, ◌^◌};
-ghost use Rattle.rtds_sim.specs.Accounts.{no_account, account_eligible, key_of, end_of, level_of, left_of, row_taken};
+ghost use Rattle.std.specs.Prelude.{◌≡◌, ◌≤◌, ◌<◌, ◌+◌, ◌^◌, Some, length};
+ghost use Rattle.rtds_sim.specs.Accounts.{no_account, account_at, account_eligible, key_of, end_of, level_of, left_of, row_taken, IsLeft};
 
 use crate::key::Key;
 use release_file::{Wake, WakeKind};
@@ -7,6 +7,14 @@ use slot_model::LIMIT;
 
 /// Past the last slot of each run.
 pub const PAST_ALL: u64 = LIMIT + 1;
+
+/// The account of VCPU `v`.
+pub fn account_of(accounts: &[Account], v: u32) -> Account
+    requires { v < length accounts.now }
+    ensures { result ≡ account_at accounts.now v }
+{
+    accounts[v as usize]
+}
 
 /// What is kept of a VCPU between two events.
 #[derive(Clone, Copy, Debug, PartialEq, Eq)]
@@ -74,8 +82,7 @@ impl Account {
     pub fn left_by(self, budget: u64, key: Option<Key>) -> u64
         requires some { 1 ≤ budget }
         requires level { (k : Key) → key ≡ Some k → k.level ≡ level_of self budget }
-        ensures within { result ≤ left_of self budget }
-        ensures some { 1 ≤ result }
+        ensures { IsLeft key result (left_of self budget) }
     {
         match key {
             Some(key) => self.left(budget, key.level),

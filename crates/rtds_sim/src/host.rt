@@ -3,13 +3,10 @@ ghost use Rattle.trace_file.specs.Taker.{Took};
 ghost use Rattle.slot_model.specs.declared.task.TheConstants.{LIMIT};
 ghost use Rattle.tree_model.specs.System.{part_at};
 ghost use Rattle.release_file.specs.Workload.{row_at};
-ghost use Rattle.rtds_sim.specs.Keys.{comes_before, key_at};
-ghost use Rattle.rtds_sim.specs.Printed.{core_of, event_of, switch_to, gathered, push_some, row_event_at};
+ghost use Rattle.rtds_sim.specs.Printed.{core_of, event_of, gathered, row_event_at};
 
-use crate::account::{Account, PAST_ALL};
-use crate::choice::{account_of, budget_of, first_key};
-use crate::key::{Key, comes_before};
-use crate::members::Members;
+use crate::account::{Account, PAST_ALL, account_of};
+use crate::levels::budget_of;
 use crate::moment::moment_of_slot;
 use crate::queues::Queues;
 use release_file::{Wake, WakeKind};
@@ -18,10 +15,13 @@ use std::alloc::AllocError;
 use trace_file::{Event, EventTaker, What};
 use tree_model::{MAX_CORES, MAX_PARTS, Parent, Plan, System};
 
+/// How many slots the cores are run by themselves at most: the switches at so many are kept.
+const STRETCH: u64 = 4_096;
+
 /// What the VCPUs and cores have come to.
 #[derive(Drop)]
 pub struct Host {
-    /// The next slot.
+    /// The next slot, and while the cores run by themselves the one up to which they do.
     pub time: u64,
     /// How many rows of the workload have been taken.
     pub taken: usize,
@@ -30,14 +30,12 @@ pub struct Host {
     pub queues: Queues,
     /// The slot at which its period ends, and one past all where it is not started.
     pub until: [u64; MAX_PARTS],
-    /// Some of the slots until it has had its budget once more, at least one.
+    /// The slots until it has had its budget once more, and one where it is not eligible.
     pub left: [u64; MAX_PARTS],
     /// For each core the VCPU that has it.
     pub holders: [Option<u32>; MAX_CORES],
     /// For each core a slot before which no period of its VCPUs ends.
     pub ends: [u64; MAX_CORES],
-    /// Whether the VCPU of the core that goes first may be another than the one that has it.
-    pub stale: [bool; MAX_CORES],
 }
 
 /// The core on which a part stands.
@@ -69,37 +67,6 @@ fn event_of(sys: &System, row: Wake) -> Event
     }
 }
 
-/// What is to be told where a core goes from one VCPU to another, if anything.
-fn switch_to(holder: Option<u32>, next: Option<u32>) -> Option<What>
-    ensures { result ≡ switch_to holder next }
-{
-    match (holder, next) {
-        (None, None) => None,
-        (Some(_), None) => Some(What::Stop),
-        (None, Some(v)) => Some(What::Run(v)),
-        (Some(u), Some(v)) if u == v => None,
-        (Some(_), Some(v)) => Some(What::Run(v)),
-    }
-}
-
-/// Whether the VCPU of a core, if it has one, may not be the one that goes first, once VCPU `v`
-/// goes by `key`.
-fn may_leave(keys: &[Option<Key>], holder: Option<u32>, v: u32, key: Option<Key>) -> bool
-    requires is_vcpu { v < length keys.now }
-    requires holder { (u : ℕ) → holder ≡ Some u → u < length keys.now }
-    ensures own { result ≡ false → ((u : ℕ) → holder ≡ Some u → u ≡ v)
-        → key ≡ key_at keys.now v }
-    ensures other { (u : ℕ) → result ≡ false → holder ≡ Some u → u ≢ v
-        → comes_before (key_at keys.now u) key ≡ true }
-{
-    if let Some(u) = holder {
-        if u != v {
-            return !comes_before(keys[u as usize], key);
-        }
-    }
-    key != keys[v as usize]
-}
-
 /// Row `i` of a workload.
 fn row_at(rows: &[Wake], i: usize) -> Wake
     requires { i < length rows.now }
@@ -121,11 +88,10 @@ impl Host {
     ghost use Rattle.release_file.specs.Workload.{row_at, IsWorkload};
     ghost use Rattle.trace_file.specs.Taker.{Took};
     ghost use Rattle.trace_file.specs.declared.event.What.TheVariants.{Stop};
-    ghost use Rattle.rtds_sim.specs.Printed.{core_of, gathered, on_at, on_core_at, switch_to};
+    ghost use Rattle.rtds_sim.specs.Printed.{core_of, gathered, on_at};
     ghost use Rattle.tree_model.specs.System.{IsSystem};
     ghost use Rattle.rtds_sim.specs.Members.{AreMembers};
-    ghost use Rattle.rtds_sim.specs.Keys.{comes_before, key_at, IsFirstKey};
-    ghost use Rattle.rtds_sim.specs.Accounts.{no_account, account_at, holder_at, is_stale, number_at, row_taken, gone_on, used_more, period_ended, left_of, left_at, gives_up, stop_of, switch_of, IsChoice, IsAccount, AreAccounts, AreBefore, HasRoom, IsReady, IsEnd, AreEnds};
+    ghost use Rattle.rtds_sim.specs.Accounts.{no_account, account_at, holder_at, number_at, row_taken, left_at, gives_up, stop_of, IsAccount, AreAccounts, AreBefore, HasRoom, IsReady, AreEnds};
 
     /// Before the first slot.
     pub fn new(sys: &System, plan: &Plan) -> Host
@@ -149,34 +115,12 @@ impl Host {
             left: [1; MAX_PARTS],
             holders: [None; MAX_CORES],
             ends: [PAST_ALL; MAX_CORES],
-            stale: [true; MAX_CORES],
         }
-    }
-
-    /// Whether the VCPU of core `core` may not be the one that goes first, once VCPU `v` goes by
-    /// `key`.
-    fn is_stale_with(&self, core: usize, v: u32, key: Option<Key>) -> bool
-        requires is_core { core < length self.now.stale }
-        requires has_holder { core < length self.now.holders }
-        requires is_vcpu { v < length self.now.queues.keys }
-        requires holder { (u : ℕ) → holder_at self.now.holders core ≡ Some u
-            → u < length self.now.queues.keys }
-        ensures stale { result ≡ false → is_stale self.now.stale core ≡ false }
-        ensures own { result ≡ false
-            → ((u : ℕ) → holder_at self.now.holders core ≡ Some u → u ≡ v)
-            → key ≡ key_at self.now.queues.keys v }
-        ensures other { (u : ℕ) → result ≡ false → holder_at self.now.holders core ≡ Some u
-            → u ≢ v → comes_before (key_at self.now.queues.keys u) key ≡ true }
-    {
-        if self.stale[core] {
-            return true;
-        }
-        may_leave(&self.queues.keys, self.holders[core], v, key)
     }
 
     /// Sets an account, its key and the end of its period.
     #[inline(always)]
-    fn set(&mut self, sys: &System, plan: &Plan, v: u32, account: Account)
+    pub fn set(&mut self, sys: &System, plan: &Plan, v: u32, account: Account)
         requires plan { IsPlan sys.now plan.now }
         requires ready { IsReady sys.now plan.now self.old }
         requires is_part { v < length sys.now.parts }
@@ -195,13 +139,10 @@ impl Host {
         let key = account.key(budget, part.extra(), part.period());
         let left = account.left_by(budget, key);
         let end = account.end(part.period());
-        let core = core_of(sys, v) as usize;
-        let stale = self.is_stale_with(core, v, key);
         self.accounts[v as usize] = account;
         self.queues.set(sys, v, key);
         self.until[v as usize] = end;
         self.left[v as usize] = left;
-        self.stale[core] = stale;
     }
 
     /// Before which slot no period ends on core `core`, once a row of its VCPUs is taken.
@@ -306,24 +247,6 @@ impl Host {
         }
     }
 
-    /// What is told where core `core` goes to `next`.
-    fn switch_event(&self, core: usize, next: Option<u32>) -> Option<Event>
-        requires is_core { core < length self.now.holders }
-        requires few { core < 64 }
-        requires in_limit { self.now.time ≤ LIMIT }
-        ensures { result
-            ≡ on_core_at core self.now.time (switch_to (holder_at self.now.holders core) next) }
-    {
-        match switch_to(self.holders[core], next) {
-            Some(what) => Some(Event {
-                at: moment_of_slot(self.time),
-                core: core as u32,
-                what,
-            }),
-            None => None,
-        }
-    }
-
     /// Stops the cores whose VCPUs block, where `before` rows had been taken before the slot.
     pub fn stop_blocked<T: EventTaker>(
         &mut self,
@@ -360,70 +283,10 @@ impl Host {
         Ok(())
     }
 
-    /// Gives each core to the VCPU of the next slot.
-    pub fn switch_all<T: EventTaker>(
-        &mut self,
-        sys: &System,
-        plan: &Plan,
-        events: &mut T,
-    ) -> Result<(), AllocError>
-        requires plan { IsPlan sys.now plan.now }
-        requires ready { IsReady sys.now plan.now self.old }
-        requires in_limit { self.old.time ≤ LIMIT }
-        ensures events { OnOk result (Took T.has_taken events.old events.new
-            (gathered (switch_of self.old.holders self.new.holders self.old.time)
-            (length sys.now.cores))) }
-        ensures chosen { OnOk result
-            ((c : ℕ) → c < length sys.now.cores
-            → IsChoice sys.now plan.now self.old.accounts c (holder_at self.new.holders c)) }
-        ensures ready { OnOk result (IsReady sys.now plan.now self.new) }
-        ensures accounts { self.new.accounts ≡ self.old.accounts }
-        ensures ends { self.new.ends ≡ self.old.ends }
-        ensures taken { self.new.taken ≡ self.old.taken }
-        ensures time { self.new.time ≡ self.old.time }
-    {
-        for c in 0..sys.cores().len() {
-            if self.stale[c] {
-                let next = first_key(sys, &self.queues, c as u32);
-                push_some(events, self.switch_event(c, next))?;
-                self.holders[c] = next;
-                self.stale[c] = false;
-            }
-        }
-        Ok(())
-    }
-
-    /// The slot at which something may change next: a row comes, a period ends, or a VCPU has had
-    /// its budget once more.
-    pub fn next_slot(&self, sys: &System, plan: &Plan, rows: &[Wake], slots: u64) -> u64
-        requires plan { IsPlan sys.now plan.now }
-        requires ready { IsReady sys.now plan.now self.now }
+    /// The slot up to which the cores are run by themselves: no row comes before it, and it is not
+    /// past `slots`.
+    pub fn next_row(&self, rows: &[Wake], slots: u64) -> u64
         requires in_limit { self.now.time ≤ LIMIT }
-        ensures in_slots { result ≤ slots }
-        ensures row { self.now.taken < length rows.now
-            → result ≤ (row_at rows.now self.now.taken).at }
-        ensures period { (c : ℕ) → c < length sys.now.cores
-            → result ≤ number_at self.now.ends c }
-        ensures budget { (c v : ℕ) → c < length sys.now.cores
-            → holder_at self.now.holders c ≡ Some v
-            → result ≤ self.now.time + left_of (account_at self.now.accounts v)
-            (budget_at plan.now v) }
-        ensures later { self.now.time < slots →
-            (self.now.taken < length rows.now
-            → self.now.time < (row_at rows.now self.now.taken).at) →
-            ((c : ℕ) → c < length sys.now.cores → self.now.time < number_at self.now.ends c)
-            → self.now.time < result }
-    {
-        let mut next = self.next_row(rows, slots);
-        for c in 0..sys.cores().len() {
-            next = next.min(self.ends[c]);
-            next = next.min(self.budget_end(sys, plan, c, slots));
-        }
-        next
-    }
-
-    /// The slot of the next row, and `slots` where there is none before.
-    fn next_row(&self, rows: &[Wake], slots: u64) -> u64
         ensures in_slots { result ≤ slots }
         ensures row { self.now.taken < length rows.now
             → result ≤ (row_at rows.now self.now.taken).at }
@@ -432,176 +295,12 @@ impl Host {
             → self.now.time < (row_at rows.now self.now.taken).at)
             → self.now.time < result }
     {
+        let next = slots.min(self.time + STRETCH);
         if self.taken < rows.len() {
-            return row_at(rows, self.taken).at.min(slots);
+            return row_at(rows, self.taken).at.min(next);
         }
-        slots
+        next
     }
-
-    /// A slot up to which the VCPU of core `core` has not had its budget once more, and `slots`
-    /// where none has the core.
-    fn budget_end(&self, sys: &System, plan: &Plan, core: usize, slots: u64) -> u64
-        requires plan { IsPlan sys.now plan.now }
-        requires ready { IsReady sys.now plan.now self.now }
-        requires is_core { core < length sys.now.cores }
-        requires in_limit { self.now.time ≤ LIMIT }
-        requires system { IsSystem sys.now }
-        ensures budget { (v : ℕ) → holder_at self.now.holders core ≡ Some v
-            → result
-            ≤ self.now.time + left_of (account_at self.now.accounts v) (budget_at plan.now v) }
-        ensures later { self.now.time < slots → self.now.time < result }
-    {
-        match self.holders[core] {
-            Some(v) => self.time + self.left[v as usize],
-            None => slots,
-        }
-    }
-
-    /// Goes on to a later slot, before which nothing changes.
-    pub fn go_on(&mut self, sys: &System, plan: &Plan, members: &Members, to: u64)
-        requires members { AreMembers sys.now members.now }
-        requires plan { IsPlan sys.now plan.now }
-        requires ready { IsReady sys.now plan.now self.old }
-        requires ends { AreEnds sys.now self.old }
-        requires later { self.old.time ≤ to }
-        requires in_limit { to ≤ LIMIT }
-        requires in_time { (c : ℕ) → c < length sys.now.cores → to ≤ number_at self.old.ends c }
-        ensures ready { IsReady sys.now plan.now self.new }
-        ensures ends { AreEnds sys.now self.new }
-        ensures own { (c v : ℕ) → c < length sys.now.cores → v < length sys.now.parts
-            → is_child sys.now (Core c) v ≡ true
-            → account_at self.new.accounts v
-            ≡ gone_on (account_at self.old.accounts v) (holds (holder_at self.old.holders c) v)
-            (to - self.old.time) (part_at sys.now v).period to }
-        ensures others { (v : ℕ) → v < length sys.now.parts
-            → ((c : ℕ) → c < length sys.now.cores → is_child sys.now (Core c) v ≡ false)
-            → account_at self.new.accounts v ≡ account_at self.old.accounts v }
-        ensures time { self.new.time ≡ to }
-        ensures holders { self.new.holders ≡ self.old.holders }
-        ensures taken { self.new.taken ≡ self.old.taken }
-    {
-        let slots = to - self.time;
-        self.time = to;
-        for c in 0..sys.cores().len() {
-            self.use_slots(sys, plan, c, slots);
-            self.end_periods(sys, plan, members, c);
-        }
-    }
-
-    /// Counts some slots, which the VCPU of core `core` had.
-    fn use_slots(&mut self, sys: &System, plan: &Plan, core: usize, slots: u64)
-        requires plan { IsPlan sys.now plan.now }
-        requires ready { IsReady sys.now plan.now self.old }
-        requires is_core { core < length sys.now.cores }
-        requires in_limit { self.old.time ≤ LIMIT }
-        requires few { (v : ℕ) → holder_at self.old.holders core ≡ Some v
-            → (account_at self.old.accounts v).used + slots ≤ self.old.time }
-        ensures ready { IsReady sys.now plan.now self.new }
-        ensures accounts { (v : ℕ) → v < length sys.now.parts
-            → account_at self.new.accounts v
-            ≡ used_more (account_at self.old.accounts v)
-            (holds (holder_at self.old.holders core) v) slots }
-        ensures time { self.new.time ≡ self.old.time }
-        ensures holders { self.new.holders ≡ self.old.holders }
-        ensures taken { self.new.taken ≡ self.old.taken }
-        ensures ends { self.new.ends ≡ self.old.ends }
-    {
-        if let Some(v) = self.holders[core] {
-            let account = account_of(&self.accounts, v);
-            let used = account.used + slots;
-            let account = Account { used, ..account };
-            let left = self.left[v as usize];
-            if slots < left {
-                self.accounts[v as usize] = account;
-                self.left[v as usize] = left - slots;
-                return;
-            }
-            self.set(sys, plan, v, account);
-        }
-    }
-
-    /// Begins the periods that begin now on core `core`.
-    fn end_periods(&mut self, sys: &System, plan: &Plan, members: &Members, core: usize)
-        requires members { AreMembers sys.now members.now }
-        requires plan { IsPlan sys.now plan.now }
-        requires ready { IsReady sys.now plan.now self.old }
-        requires is_core { core < length sys.now.cores }
-        requires in_limit { self.old.time ≤ LIMIT }
-        requires bound { IsEnd sys.now self.old.accounts core (number_at self.old.ends core) }
-        requires in_time { self.old.time ≤ number_at self.old.ends core }
-        ensures ready { IsReady sys.now plan.now self.new }
-        ensures own { (v : ℕ) → v < length sys.now.parts → is_child sys.now (Core core) v ≡ true
-            → account_at self.new.accounts v
-            ≡ period_ended (account_at self.old.accounts v) (part_at sys.now v).period
-            self.old.time }
-        ensures others { (v : ℕ) → v < length sys.now.parts
-            → is_child sys.now (Core core) v ≡ false
-            → account_at self.new.accounts v ≡ account_at self.old.accounts v }
-        ensures bound { IsEnd sys.now self.new.accounts core (number_at self.new.ends core) }
-        ensures later { self.old.time < number_at self.new.ends core }
-        ensures ends { (d : ℕ) → d ≢ core
-            → number_at self.new.ends d ≡ number_at self.old.ends d }
-        ensures time { self.new.time ≡ self.old.time }
-        ensures holders { self.new.holders ≡ self.old.holders }
-        ensures taken { self.new.taken ≡ self.old.taken }
-    {
-        if self.time < self.ends[core] {
-            return;
-        }
-        let vcpus = members.of(sys, core);
-        let mut end = PAST_ALL;
-        for i in 0..vcpus.len() {
-            end = end.min(self.begin(sys, plan, vcpus[i]));
-        }
-        self.ends[core] = end;
-    }
-
-    /// Begins the period of VCPU `v` that begins now, if one does. Gives a slot before which its
-    /// period does not end.
-    fn begin(&mut self, sys: &System, plan: &Plan, v: u32) -> u64
-        requires plan { IsPlan sys.now plan.now }
-        requires ready { IsReady sys.now plan.now self.old }
-        requires is_part { v < length sys.now.parts }
-        requires in_limit { self.old.time ≤ LIMIT }
-        requires in_time { (account_at self.old.accounts v).started ≡ true
-            → self.old.time ≤ (account_at self.old.accounts v).from + (part_at sys.now v).period }
-        ensures ready { IsReady sys.now plan.now self.new }
-        ensures account { account_at self.new.accounts v
-            ≡ period_ended (account_at self.old.accounts v) (part_at sys.now v).period
-            self.old.time }
-        ensures others { (u : ℕ) → u ≢ v
-            → account_at self.new.accounts u ≡ account_at self.old.accounts u }
-        ensures end { (account_at self.new.accounts v).started ≡ true
-            → result ≤ (account_at self.new.accounts v).from + (part_at sys.now v).period }
-        ensures later { self.old.time < result }
-        ensures time { self.new.time ≡ self.old.time }
-        ensures holders { self.new.holders ≡ self.old.holders }
-        ensures taken { self.new.taken ≡ self.old.taken }
-        ensures ends { self.new.ends ≡ self.old.ends }
-    {
-        let end = self.until[v as usize];
-        if end != self.time {
-            return end;
-        }
-        let account = account_of(&self.accounts, v);
-        let begun = Account {
-            from: self.time,
-            used: 0,
-            ..account
-        };
-        self.set(sys, plan, v, begun);
-        self.time + sys.parts()[v as usize].period()
-    }
-}
-
-/// Takes an event, if there is one.
-fn push_some<T: EventTaker>(events: &mut T, event: Option<Event>) -> Result<(), AllocError>
-    ensures { OnOk result (Took T.has_taken events.old events.new (push_some [] event)) }
-{
-    if let Some(event) = event {
-        events.take(event)?;
-    }
-    Ok(())
 }
 
 /// Takes the events of some rows, which are those at one slot.

@@ -1,5 +1,5 @@
-ghost use Rattle.std.specs.Prelude.{◌≡◌, false};
-ghost use Rattle.rtds_sim.specs.Keys.{is_sooner, comes_before};
+ghost use Rattle.std.specs.Prelude.{◌≡◌, ◌↔◌, IsTrue};
+ghost use Rattle.rtds_sim.specs.Rtds.{goes_first};
 
 /// What an eligible VCPU goes by: its level, and at one level its deadline.
 #[derive(Clone, Copy, Debug, PartialEq, Eq)]
@@ -8,23 +8,25 @@ pub struct Key {
     pub deadline: u64,
 }
 
-impl Key {
-    /// Whether it is the sooner one.
-    fn is_sooner(self, other: Key) -> bool
-        ensures { result ≡ is_sooner self other }
-    {
-        self.level < other.level || self.level == other.level && self.deadline < other.deadline
-    }
+/// Whether VCPU `u`, which goes by `key`, goes before VCPU `v`, which goes by `other`: by the least
+/// level, then by the least deadline, then as the first in the file.
+#[inline(always)]
+pub fn goes_ahead(key: Key, u: u32, other: Key, v: u32) -> bool
+    ensures { result ≡ goes_first key.level key.deadline u other.level other.deadline v }
+{
+    key.level < other.level
+        || key.level == other.level
+            && (key.deadline < other.deadline || key.deadline == other.deadline && u < v)
 }
 
-/// Whether the VCPU of a key goes before that of another, whatever their places: the sooner one
-/// does, and an eligible VCPU before one that is not.
-pub fn comes_before(key: Option<Key>, other: Option<Key>) -> bool
-    ensures { result ≡ comes_before key other }
+/// Whether both are one key, or both none.
+#[inline(always)]
+pub fn is_same(key: Option<Key>, other: Option<Key>) -> bool
+    ensures { IsTrue result ↔ (key ≡ other) }
 {
     match (key, other) {
-        (None, _) => false,
-        (Some(_), None) => true,
-        (Some(key), Some(other)) => key.is_sooner(other),
+        (None, None) => true,
+        (Some(key), Some(other)) => key.level == other.level && key.deadline == other.deadline,
+        _ => false,
     }
 }

@@ -3,14 +3,16 @@
 #![tactic(auto)]
 
 mod account;
-mod choice;
 mod fault;
 mod host;
 mod key;
+mod levels;
 mod members;
 mod moment;
 mod queues;
+mod running;
 mod simulate;
+mod switches;
 
 pub use fault::RtdsFault;
 pub use simulate::{print_rtds, run_rtds};

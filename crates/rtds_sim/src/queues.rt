@@ -1,23 +1,22 @@
-use crate::key::Key;
+use crate::key::{Key, goes_ahead, is_same};
 use tree_model::{MAX_CORES, MAX_PARTS, Parent, System};
 
 /// What each VCPU goes by, where it is eligible, and of each core the VCPUs that are, in the order
-/// of the file: the first one, and behind each the next. Where none is left stands the number of
-/// parts.
+/// in which they go: the first one, and behind each the next. Where none is left stands the number
+/// of parts.
 #[derive(Drop)]
 pub struct Queues {
     pub keys: [Option<Key>; MAX_PARTS],
-    pub first: [u32; MAX_CORES],
-    pub next: [u32; MAX_PARTS],
+    first: [u32; MAX_CORES],
+    next: [u32; MAX_PARTS],
 }
 
 impl Queues {
-    ghost use Rattle.std.specs.Prelude.{◌≡◌, ℕ, ◌<◌, true, is_some, Option, None, length, slice_set};
+    ghost use Rattle.std.specs.Prelude.{◌≡◌, ℕ, ◌<◌, ◌&&◌, true, Some, None, length, slice_set};
     ghost use Rattle.tree_model.specs.declared.place.Place.TheVariants.{Core};
     ghost use Rattle.tree_model.specs.Tree.{is_child};
-    ghost use Rattle.rtds_sim.specs.declared.key.Key.{Key};
-    ghost use Rattle.rtds_sim.specs.Keys.{key_at};
-    ghost use Rattle.rtds_sim.specs.Queues.{IsLastBelow, AreListed, AreQueues, is_queued};
+    ghost use Rattle.rtds_sim.specs.Keys.{goes_ahead, key_at, is_queued, IsFirstQueued};
+    ghost use Rattle.rtds_sim.specs.Queues.{IsLastOf, is_ahead, AreQueues};
 
     /// Where no VCPU is eligible.
     pub fn new(sys: &System) -> Queues
@@ -34,6 +33,20 @@ impl Queues {
         }
     }
 
+    /// The VCPU of core `core` that goes first, if one of them is eligible.
+    pub fn first_of(&self, sys: &System, core: usize) -> Option<u32>
+        requires are { AreQueues sys.now self.now }
+        requires is_core { core < length sys.now.cores }
+        ensures { IsFirstQueued sys.now self.now.keys core result }
+    {
+        let v = self.first[core];
+        if (v as usize) < sys.parts().len() {
+            Some(v)
+        } else {
+            None
+        }
+    }
+
     /// Sets what VCPU `v` goes by.
     pub fn set(&mut self, sys: &System, v: u32, key: Option<Key>)
         requires are { AreQueues sys.now self.old }
@@ -41,58 +54,69 @@ impl Queues {
         ensures are { AreQueues sys.now self.new }
         ensures keys { self.new.keys ≡ slice_set self.old.keys v key }
     {
-        self.list(sys, v, key);
-        self.keys[v as usize] = key;
-    }
-
-    /// Lists VCPU `v` where it is to go by a key, and no more where it is to go by none.
-    fn list(&mut self, sys: &System, v: u32, key: Option<Key>)
-        requires are { AreQueues sys.now self.old }
-        requires is_part { v < length sys.now.parts }
-        ensures listed { AreListed (is_queued sys.now (slice_set self.old.keys v key)) sys.now
-            self.new }
-        ensures keys { self.new.keys ≡ self.old.keys }
-    {
         prove!(sys.parts().len() <= MAX_PARTS);
+        if is_same(self.keys[v as usize], key) {
+            return;
+        }
         if let Parent::Core(core) = sys.parts()[v as usize].parent() {
-            let was = self.keys[v as usize].is_some();
-            if key.is_some() && !was {
-                self.enter(sys, core, v);
-            } else if was && key.is_none() {
-                self.leave(sys, core, v);
+            self.leave(sys, core, v);
+            if let Some(key) = key {
+                self.enter(sys, core, v, key);
             }
+        } else {
+            self.keys[v as usize] = key;
         }
     }
 
-    /// The last eligible VCPU of core `core` before VCPU `v`, if there is one.
-    fn last_before(&self, sys: &System, core: u32, v: u32) -> Option<u32>
+    /// The last eligible VCPU of core `core` that goes before VCPU `v` where that goes by `key`, if
+    /// there is one.
+    fn last_ahead(&self, sys: &System, core: u32, v: u32, key: Key) -> Option<u32>
         requires are { AreQueues sys.now self.now }
         requires is_core { core < length sys.now.cores }
-        requires is_part { v < length sys.now.parts }
-        ensures { IsLastBelow (is_queued sys.now self.now.keys core) v result }
+        ensures { IsLastOf
+            (λ u. is_queued sys.now self.now.keys core u
+            && goes_ahead (key_at self.now.keys u) u (Some key) v)
+            (is_ahead self.now.keys) (length sys.now.parts) result }
     {
         prove!(sys.parts().len() <= MAX_PARTS);
+        let end = sys.parts().len() as u32;
         let mut last = None;
         let mut at = self.first[core as usize];
-        while at < v {
+        while at < end {
+            if !self.is_before(at, v, key) {
+                return last;
+            }
             last = Some(at);
             at = self.next[at as usize];
         }
         last
     }
 
-    /// Lists VCPU `v` of core `core`.
-    fn enter(&mut self, sys: &System, core: u32, v: u32)
+    /// Whether VCPU `u` goes before VCPU `v` where that goes by `key`.
+    #[inline(always)]
+    fn is_before(&self, u: u32, v: u32, key: Key) -> bool
+        requires is_part { u < length self.now.keys }
+        ensures { result ≡ goes_ahead (key_at self.now.keys u) u (Some key) v }
+    {
+        match self.keys[u as usize] {
+            None => false,
+            Some(its) => goes_ahead(its, u, key, v),
+        }
+    }
+
+    /// Lets VCPU `v` of core `core`, which goes by none, go by `key`.
+    fn enter(&mut self, sys: &System, core: u32, v: u32, key: Key)
         requires are { AreQueues sys.now self.old }
         requires is_core { core < length sys.now.cores }
         requires is_part { v < length sys.now.parts }
         requires on_core { is_child sys.now (Core core) v ≡ true }
         requires out { key_at self.old.keys v ≡ None }
-        ensures listed { (key : Option Key) → is_some key ≡ true
-            → AreListed (is_queued sys.now (slice_set self.old.keys v key)) sys.now self.new }
-        ensures keys { self.new.keys ≡ self.old.keys }
+        ensures are { AreQueues sys.now self.new }
+        ensures keys { self.new.keys ≡ slice_set self.old.keys v (Some key) }
     {
-        match self.last_before(sys, core, v) {
+        let ahead = self.last_ahead(sys, core, v, key);
+        self.keys[v as usize] = Some(key);
+        match ahead {
             None => {
                 self.next[v as usize] = self.first[core as usize];
                 self.first[core as usize] = v;
@@ -104,20 +128,22 @@ impl Queues {
         }
     }
 
-    /// Lists VCPU `v` of core `core` no more.
+    /// Lets VCPU `v` of core `core` go by no key.
     fn leave(&mut self, sys: &System, core: u32, v: u32)
         requires are { AreQueues sys.now self.old }
         requires is_core { core < length sys.now.cores }
         requires is_part { v < length sys.now.parts }
         requires on_core { is_child sys.now (Core core) v ≡ true }
-        requires listed { is_some (key_at self.old.keys v) ≡ true }
-        ensures listed { AreListed (is_queued sys.now (slice_set self.old.keys v None)) sys.now
-            self.new }
-        ensures keys { self.new.keys ≡ self.old.keys }
+        ensures are { AreQueues sys.now self.new }
+        ensures keys { self.new.keys ≡ slice_set self.old.keys v None }
     {
-        match self.last_before(sys, core, v) {
-            None => self.first[core as usize] = self.next[v as usize],
-            Some(u) => self.next[u as usize] = self.next[v as usize],
+        if let Some(key) = self.keys[v as usize] {
+            let ahead = self.last_ahead(sys, core, v, key);
+            self.keys[v as usize] = None;
+            match ahead {
+                None => self.first[core as usize] = self.next[v as usize],
+                Some(u) => self.next[u as usize] = self.next[v as usize],
+            }
         }
     }
 }

@@ -19,6 +19,7 @@ use crate::RtdsFault;
 use crate::host::{Host, print_rows};
 use crate::members::Members;
 use crate::moment::moment_of_slot;
+use crate::switches::Switches;
 use release_file::Wake;
 use slot_model::Sched;
 use std::alloc::{AllocError, Global};
@@ -179,14 +180,15 @@ fn tell_run<T: EventTaker>(
 {
     let mut host = Host::new(sys, plan);
     let members = Members::new(alloc, sys)?;
+    let mut switches = Switches::new(alloc, sys)?;
     while host.time < slots {
         let first = host.taken;
         host.take_rows(sys, plan, wakes);
         host.stop_blocked(sys, plan, first, events)?;
         print_rows(sys, wakes, first, host.taken, events)?;
-        host.switch_all(sys, plan, events)?;
-        let next = host.next_slot(sys, plan, wakes, slots);
-        host.go_on(sys, plan, &members, next);
+        let next = host.next_row(wakes, slots);
+        host.run_on(sys, plan, &members, next, &mut switches)?;
+        switches.tell(events)?;
     }
     events.take(Event {
         at: moment_of_slot(slots),

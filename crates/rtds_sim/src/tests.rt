@@ -4,6 +4,7 @@ ghost use Rattle.tree_model.specs.Plans.{IsPlan};
 ghost use Rattle.release_file.specs.Workload.{IsWorkload, row_at, last_row, is_of, may_follow};
 ghost use Rattle.rtds_sim.specs.RowFit.{IsRowFit, NoneAt};
 
+use crate::switches::Switches;
 use crate::{RtdsFault, print_rtds, run_rtds};
 use release_file::{Wake, WakeKind};
 use slot_model::{LIMIT, Name, Sched, Task};
@@ -317,6 +318,85 @@ fn cores_run_side_by_side(rt: HostRuntime) -> Result<(), Fail> {
         (7_000, 0, What::End),
     ];
     assert!(rt; is_trace(&rt, rt.alloc(), false, &rows, 7, &wanted)?);
+    Ok(())
+}
+
+#[test]
+fn cores_go_on_past_a_stretch(rt: HostRuntime) -> Result<(), Fail> {
+    let alloc = rt.alloc();
+    let mut wanted = Vec::new(alloc);
+    wanted.push((0, 1, What::Start(C)))?;
+    for period in 0..1_025u64 {
+        wanted.push((4_000 * period, 1, What::Run(C)))?;
+        wanted.push((4_000 * period + 1_000, 1, What::Stop))?;
+    }
+    wanted.push((4_100_000, 0, What::End))?;
+    assert!(rt;
+        is_trace(
+            &rt,
+            alloc,
+            false,
+            &[(0, C, WakeKind::Start)],
+            4_100,
+            &wanted
+        )?
+    );
+    Ok(())
+}
+
+#[test]
+fn cores_wait_past_a_stretch_for_a_row(rt: HostRuntime) -> Result<(), Fail> {
+    let wanted = [
+        (8_999_000, 1, What::Start(C)),
+        (8_999_000, 1, What::Run(C)),
+        (9_000_000, 1, What::Stop),
+        (9_001_000, 0, What::End),
+    ];
+    assert!(rt;
+        is_trace(
+            &rt,
+            rt.alloc(),
+            false,
+            &[(8_999, C, WakeKind::Start)],
+            9_001,
+            &wanted
+        )?
+    );
+    Ok(())
+}
+
+/// A run on core `core` from a slot on.
+fn run_at(slot: u64, core: u32) -> Event
+    requires { slot ≤ 1000 }
+{
+    Event {
+        at: slot * 1_000,
+        core,
+        what: What::Run(core),
+    }
+}
+
+#[test]
+fn switches_are_told_slot_by_slot_and_core_by_core(rt: HostRuntime) -> Result<(), Fail> {
+    let alloc = rt.alloc();
+    let mut lists = Vec::new(alloc);
+    lists.push(Vec::from_slice(alloc, &[run_at(2, 0), run_at(5, 0)])?)?;
+    lists.push(Vec::new(alloc))?;
+    lists.push(Vec::from_slice(alloc, &[run_at(1, 2), run_at(2, 2), run_at(3, 2)])?)?;
+    let mut switches = Switches { lists };
+    let mut events = Vec::new(alloc);
+    assert_eq!(rt; switches.lists.len(), 3);
+    switches.tell(&mut events)?;
+    let wanted = [
+        run_at(1, 2),
+        run_at(2, 0),
+        run_at(2, 2),
+        run_at(3, 2),
+        run_at(5, 0),
+    ];
+    assert_eq!(rt; events.as_slice(), wanted.as_slice());
+    switches.tell(&mut events)?;
+    assert_eq!(rt; events.len(), 5);
     Ok(())
 }
 

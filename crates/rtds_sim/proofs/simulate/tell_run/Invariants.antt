@@ -1,7 +1,8 @@
-use Rattle.std.proofs.Common.{◌-◌, ◌≤◌}
+use Rattle.std.proofs.Common.{◌≡◌, ℕ, ◌-◌, ◌≤◌, [], length}
 use Rattle.trace_file.specs.Taker.{Took}
 use Rattle.rtds_sim.specs.Printed.{printed_below}
 use Rattle.rtds_sim.specs.Accounts.{IsReady, AreEnds}
+use Rattle.rtds_sim.specs.Telling.{list_at}
 use Rattle.rtds_sim.proofs.Runs.{rtds_run}
 use Rattle.rtds_sim.proofs.Standing.{Standing}
 use Rattle.rtds_sim.proofs.simulate.tell_run.Given as goal
@@ -14,6 +15,8 @@ invariant-loop-host g l = record {
   ready : IsReady l.sys l.plan l.host;
   ends : AreEnds l.sys l.host;
   in_slots : l.host.time ≤ l.slots;
+  one_each : length l.switches.lists.items ≡ length l.sys.cores;
+  empty : (c : ℕ) → list_at l.switches.lists.items c ≡ [];
 }
 
 abbrev pub decreases-loop-host : goal.decreases-loop-host

@@ -21,13 +21,13 @@ listed passes n list i e l = subst (λ (xs : List ℕ). IsPlace passes n i (its 
 pub begin-requires-clause-is_part : goal.begin-requires-clause-is_part
 begin-requires-clause-is_part c = (listed (is_child c.args.sys.now (Core c.args.core)) (length c.args.sys.now.parts) c.of-vcpus.result.now c.loop-i.i c.of-vcpus.ensures c.loop-i-test.true).within
 
-pub begin-requires-clause-in_time : goal.begin-requires-clause-in_time
-begin-requires-clause-in_time c on =
+pub begin-requires-clause-in_period : goal.begin-requires-clause-in_period
+begin-requires-clause-in_period c on =
     let so_far = c.loop-i.invariant in
     let v : ℕ = its c.of-vcpus.result.now c.loop-i.i in
     let here = listed (is_child c.args.sys.now (Core c.args.core)) (length c.args.sys.now.parts) c.of-vcpus.result.now c.loop-i.i c.of-vcpus.ensures c.loop-i-test.true in
     let same : account_at c.loop-i.self.accounts v ≡ account_at c.args.self.now.accounts v = so_far.same v here.within here.passes_it (omega (arith, here.counted)) in
-    omega (arith, c.requires.in_time, so_far.time, c.requires.bound v here.within here.passes_it (sym (ap (λ (a : Account). a.started) same) ∙ on), ap (λ (a : Account). a.from) same)
+    omega (arith, c.requires.in_period, c.requires.bound v here.within here.passes_it (sym (ap (λ (a : Account). a.started) same) ∙ on), ap (λ (a : Account). a.from) same)
 
 pub loop-i-preserved : goal.loop-i-preserved
 loop-i-preserved c =
@@ -39,22 +39,23 @@ loop-i-preserved c =
     let v : ℕ = its list i in
     let here = listed child (length sys.parts) list i c.of-vcpus.ensures c.loop-i-test.true in
     let old = c.args.self.now in
-    let begun = c.begin.ensures in
+    let at : ℕ = c.args.at in
+    let begun = c.begin.ensures.begun in
     let accounts : List Account = c.begin.new.self.accounts in
     -- the VCPU that stands at this place
     let only : (u : ℕ) → u < length sys.parts → child u ≡ true → count_below child u ≡ i → u ≡ v = λ u lu cu e.
     sym (stands_at child u (length sys.parts) 0 lu cu) ∙ (ap (its (places_where child (length sys.parts))) e ∙ ap (λ (xs : List ℕ). its xs i) (sym c.of-vcpus.ensures)) in
     record {
-      ready = begun.ready;
+      ready = c.begin.ensures.ready;
       done = λ u lu cu few. elim (cases_eq u v) [
-        | inl e ↦ subst (λ (z : ℕ). account_at accounts z ≡ period_ended (account_at old.accounts z) (part_at sys z).period old.time) (sym e)
-            (begun.account ∙ (ap (λ (a : Account). period_ended a (part_at sys v).period c.loop-i.self.time) (so_far.same v here.within here.passes_it (omega (arith, here.counted))) ∙ ap (period_ended (account_at old.accounts v) (part_at sys v).period) so_far.time))
+        | inl e ↦ subst (λ (z : ℕ). account_at accounts z ≡ period_ended (account_at old.accounts z) (part_at sys z).period at) (sym e)
+            (begun.account ∙ ap (λ (a : Account). period_ended a (part_at sys v).period at) (so_far.same v here.within here.passes_it (omega (arith, here.counted))))
         | inr ne ↦ begun.others u ne ∙ so_far.done u lu cu (elim (cases_eq (count_below child u) i) [ inl e ↦ absurd (ne (only u lu cu e)) | inr other ↦ omega (arith, other, few) ])
       ];
       same = λ u lu cu many. begun.others u (λ e. omega (arith, many, here.counted, ap (count_below child) e)) ∙ so_far.same u lu cu (omega (arith, many));
       others = λ u lu other. begun.others u (λ e. both_ways _ other (ap child e ∙ here.passes_it)) ∙ so_far.others u lu other;
       first = λ u lu cu few on. elim (cases_eq u v) [
-        | inl e ↦ omega (arith, c.min-end.ensures, begun.end (sym (ap (λ (z : ℕ). (account_at accounts z).started) e) ∙ on), ap (λ (z : ℕ). (account_at accounts z).from) e, ap (λ (z : ℕ). (part_at sys z).period) e)
+        | inl e ↦ omega (arith, c.min-end.ensures, begun.in_period (sym (ap (λ (z : ℕ). (account_at accounts z).started) e) ∙ on), ap (λ (z : ℕ). (account_at accounts z).from) e, ap (λ (z : ℕ). (part_at sys z).period) e)
         | inr ne ↦ omega (
           arith,
           c.min-end.ensures,
@@ -62,7 +63,7 @@ loop-i-preserved c =
           ap (λ (a : Account). a.from) (begun.others u ne),
         )
       ];
-      later = omega (arith, c.min-end.ensures, begun.later, so_far.later, so_far.time);
+      later = omega (arith, c.min-end.ensures, begun.later, so_far.later);
       ends = begun.ends ∙ so_far.ends;
       time = begun.time ∙ so_far.time;
       holders = begun.holders ∙ so_far.holders;

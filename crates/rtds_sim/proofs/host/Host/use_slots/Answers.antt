@@ -4,6 +4,12 @@ use Rattle.rtds_sim.specs.Accounts.{account_at, number_at, IsReady}
 use Rattle.rtds_sim.proofs.Ready.{ready_few}
 use Rattle.rtds_sim.proofs.host.Host.use_slots.Goals as goal
 
+pub use_up-requires-clause-exact : goal.use_up-requires-clause-exact
+use_up-requires-clause-exact c is =
+    let v : ℕ = c.in-Some.v in
+    let part : v < length c.args.sys.now.parts = c.requires.ready.room.parts c.args.core v c.requires.is_core c.in-Some.is in
+    omega (arith, (c.requires.ready.left v part).exact is, c.requires.in_budget v c.in-Some.is, c.if-slots-left.false)
+
 pub returns-then-slots-left-clause-ready : goal.returns-then-slots-left-clause-ready
 returns-then-slots-left-clause-ready c =
     let sys = c.args.sys.now in
@@ -13,5 +19,4 @@ returns-then-slots-left-clause-ready c =
     let is : c.account_of-account.result ≡ account_at old.accounts v = c.account_of-account.ensures in
     let left : ℕ = number_at old.left v in
     subst (λ (a : Account). IsReady sys c.args.plan.now (record old { accounts = set old.accounts v (record a { used = a.used + c.args.slots }); left = set old.left v (left - c.args.slots) })) (sym is)
-    (ready_few sys c.args.plan.now old v c.args.slots part (c.requires.plan.some_budget v part) c.requires.ready (c.requires.few v c.in-Some.is)
-    (omega (arith, c.if-slots-left.true, c.requires.ready.left v part)) (left - c.args.slots) (omega (arith, c.if-slots-left.true)) (omega (arith, c.if-slots-left.true, c.requires.ready.left v part)))
+    (ready_few sys c.args.plan.now old v c.args.slots part (c.requires.plan.some_budget v part) c.requires.ready (c.requires.few v c.in-Some.is) c.if-slots-left.true)

@@ -1,0 +1,20 @@
+use Rattle.std.proofs.Common.{◌≡◌, ◌<◌, length, sym, ◌∙◌, arith, subst}
+use Rattle.rtds_sim.specs.Accounts.{holder_at, IsChoice}
+use Rattle.rtds_sim.proofs.Choices.{first_choice}
+use Rattle.rtds_sim.proofs.Stopping.{set_here}
+use Rattle.rtds_sim.proofs.Visits.{no_switch}
+use Rattle.rtds_sim.proofs.host.Host.switch.Goals as goal
+
+pub returns-in_ok-push-clause-chosen : goal.returns-in_ok-push-clause-chosen
+returns-in_ok-push-clause-chosen c =
+    let old = c.args.self.now in
+    let room : c.args.core < length old.holders = omega (arith, c.requires.is_core, c.requires.ready.room.all_cores, c.requires.ready.room.few_cores) in
+    subst (IsChoice c.args.sys.now c.args.plan.now old.accounts c.args.core) (sym (set_here old.holders c.args.core c.first_of-next.result room))
+    (first_choice c.args.sys.now c.args.plan.now old c.requires.ready c.args.core c.first_of-next.result c.first_of-next.ensures)
+
+pub returns-in_default-clause-chosen : goal.returns-in_default-clause-chosen
+returns-in_default-clause-chosen c =
+    let old = c.args.self.now in
+    let keeps : holder_at old.holders c.args.core ≡ c.first_of-next.result = no_switch c.args.core c.args.at (holder_at old.holders c.args.core) c.first_of-next.result (sym c.switch_event.ensures ∙ c.in_default.is) in
+    subst (IsChoice c.args.sys.now c.args.plan.now old.accounts c.args.core) (sym keeps)
+    (first_choice c.args.sys.now c.args.plan.now old c.requires.ready c.args.core c.first_of-next.result c.first_of-next.ensures)
