@@ -74,7 +74,7 @@ pub fn run_rtds(
     }
 }
 
-/// The text of that trace, as `print_trace` makes it. No list of its events is kept.
+/// The text of that trace, as `print_trace` makes it. No list of all its events is kept.
 pub fn print_rtds(
     alloc: Global,
     sys: &System,
