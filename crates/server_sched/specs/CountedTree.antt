@@ -11,7 +11,7 @@ use Rattle.tree_model.specs.FirstTree.{FirstTree}
 use Rattle.server_sched.specs.NodeView.{NodeView, counts_of}
 use Rattle.server_sched.specs.Shares.{share_at}
 use Rattle.server_sched.specs.TreeCounts.{CountsView, AreTreeCounts}
-use Rattle.server_sched.specs.TreeSpans.{no_node, node_of, parent_of, HasShare, IsServerNode, IsLeafNode, IsPartNode, AreCoreNodes, ArePartNodes}
+use Rattle.server_sched.specs.TreeSpans.{no_node, node_of, parent_of, HasShare, IsServerNode, IsPartNode, AreCoreNodes, ArePartNodes}
 
 -- what is kept of a node: what each child gets of its run, and what is counted of it
 pub record KeptView : Type 0 where
@@ -21,24 +21,17 @@ pub record KeptView : Type 0 where
 abbrev pub kept_of : NodeView → KeptView
 kept_of node = record { shares = node.shares; counts = node.counts }
 
--- this is kept of a node of servers, of a leaf, and of a part
-pub record IsServerKept (sys : SystemView) (budgets : List ℕ) (n : ℕ) (place : Place)
-    (slots : List Bool) (kept : KeptView) : Type 0 where
+-- this is kept of some node that is of a kind: a node of servers, or a part
+pub record IsKeptOf (Is : NodeView → Type 0) (kept : KeptView) : Type 0 where
   pub node : NodeView
-  pub is_node : IsServerNode sys budgets n place slots node
+  pub is_node : Is node
   pub same : kept ≡ kept_of node
 
-pub record IsLeafKept (sys : SystemView) (n q : ℕ) (jobs : List Job) (slots : List Bool)
-    (kept : KeptView) : Type 0 where
-  pub node : NodeView
-  pub is_node : IsLeafNode sys n q jobs slots node
-  pub same : kept ≡ kept_of node
+abbrev pub IsServerKept : SystemView → List ℕ → ℕ → Place → List Bool → KeptView → Type 0
+IsServerKept sys budgets n place slots kept = IsKeptOf (IsServerNode sys budgets n place slots) kept
 
-pub record IsPartKept (sys : SystemView) (budgets : List ℕ) (n q : ℕ) (jobs : List Job)
-    (slots : List Bool) (kept : KeptView) : Type 0 where
-  pub node : NodeView
-  pub is_node : IsPartNode sys budgets n q jobs slots node
-  pub same : kept ≡ kept_of node
+abbrev pub IsPartKept : SystemView → List ℕ → ℕ → ℕ → List Job → List Bool → KeptView → Type 0
+IsPartKept sys budgets n q jobs slots kept = IsKeptOf (IsPartNode sys budgets n q jobs slots) kept
 
 -- and of the first m cores
 pub record AreCoresKept (sys : SystemView) (budgets : List ℕ) (n : ℕ)

@@ -9,7 +9,7 @@ ghost use Rattle.tree_model.specs.Tree.{IsNode, node_tasks, server_tasks, server
 ghost use Rattle.tree_model.specs.Releases.{AreReleases};
 ghost use Rattle.server_sched.specs.Shares.{share_at};
 ghost use Rattle.server_sched.specs.TreeSpans.{AreSupplies, AreFewJobs, supplies_of, parent_of};
-ghost use Rattle.server_sched.specs.CountedTree.{kept_of, IsServerKept, IsLeafKept, IsPartKept, AreCoresKept, ArePartsRun, AreFirstCounts, counts_kept, kept_in, taken, cores_after, parts_after, HasKeptShare, HasCores};
+ghost use Rattle.server_sched.specs.CountedTree.{kept_of, IsServerKept, IsPartKept, AreCoresKept, ArePartsRun, AreFirstCounts, counts_kept, kept_in, taken, cores_after, parts_after, HasKeptShare, HasCores};
 
 use crate::TreeCounts;
 use crate::level::MOST_ROOM;
@@ -200,35 +200,11 @@ fn part_kept(
         (slots_of given.now slots) kept) }
 {
     if sys.parts()[q as usize].is_leaf() {
-        leaf_kept(alloc, sys, budgets, q, jobs, given, slots, room)
+        let node = leaf_node(alloc, sys, budgets, q, jobs, given, slots, room)?;
+        Ok(kept_of(node))
     } else {
         server_kept(alloc, sys, budgets, Place::Part(q), given, slots, room)
     }
-}
-
-/// What is kept of the run of a leaf's jobs.
-fn leaf_kept(
-    alloc: Global,
-    sys: &System,
-    budgets: &[u64],
-    q: u32,
-    jobs: &[Job],
-    given: &[Window],
-    slots: u64,
-    room: &mut [Task],
-) -> Result<Kept, AllocError>
-    requires is_part { q < length sys.now.parts }
-    requires leaf { is_leaf_at sys.now q ≡ true }
-    requires plan { IsPlan sys.now budgets.now }
-    requires legal { LegalRelease (own_tasks_at sys.now q) jobs.now }
-    requires few { length jobs.now < 2 ^ 32 }
-    requires windows { AreWindows given.now slots }
-    requires room { 512 ≤ length room.old }
-    ensures { IfOk result (λ kept. IsLeafKept sys.now slots q jobs.now
-        (slots_of given.now slots) kept) }
-{
-    let node = leaf_node(alloc, sys, budgets, q, jobs, given, slots, room)?;
-    Ok(kept_of(node))
 }
 
 /// What is kept of the run of a node's servers.
