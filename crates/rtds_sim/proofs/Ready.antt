@@ -1,5 +1,5 @@
 -- Accounts and keys that are set.
-use Rattle.std.proofs.Common.{◌≡◌, ◌≢◌, ℕ, ◌+◌, ◌*◌, ◌/◌, ◌<◌, ◌≤◌, not, ◌||◌, if◌then◌else◌, Bool, true, false, cond, ◌&&◌, ◌==◌, List, length, set, Option, Some, None, refl, sym, ◌∙◌, ap, arith, subst, inl, inr, suc, ◌-◌, ltb-true, ltb-false, nat_lt}
+use Rattle.std.proofs.Common.{◌≡◌, ◌≢◌, ℕ, ◌+◌, ◌*◌, ◌/◌, ◌<◌, ◌≤◌, not, ◌||◌, if◌then◌else◌, Bool, true, false, cond, ◌&&◌, List, length, set, Option, Some, None, refl, sym, ◌∙◌, ap, arith, subst, inl, inr, suc, ◌-◌, ltb-true, ltb-false, nat_lt}
 use Rattle.std.proofs.lemmas.Bool.{cases_eq, cases_Bool, both_ways, false≢true}
 use Rattle.std.proofs.lemmas.List.{get_or-set_same, get_or-set_other, length-set}
 use Rattle.slot_model.specs.Run.{holds}
@@ -199,10 +199,6 @@ not_held sys budgets host c v l h other = elim (cases_Bool (holds (holder_at hos
 pub not_used : (a : Account) (has : Bool) (slots : ℕ) → has ≡ false → used_more a has slots ≡ a
 not_used a true slots e = cc
 not_used a false slots e = refl
-
--- so is an account of no core as it was
-pub not_gone : (a : Account) (has : Bool) (slots period to : ℕ) → a.started ≡ false → has ≡ false → a ≡ gone_on a has slots period to
-not_gone a has slots period to off e = sym (ap (λ (b : Bool). cond (b && (to == (a.from + period))) (record a { from = to; used = 0 }) (used_more a has slots)) off ∙ not_used a has slots e)
 
 pub started_more : (a : Account) (has : Bool) (slots : ℕ) → (used_more a has slots).started ≡ a.started
 started_more a true slots = refl

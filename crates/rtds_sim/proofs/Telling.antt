@@ -1,5 +1,5 @@
 -- What is told by each core in the order of its slots, and slot by slot by all of them.
-use Rattle.std.proofs.Common.{◌≡◌, ℕ, zero, suc, ◌+◌, ◌-◌, ◌<◌, ◌≤◌, List, [], ◌++◌, length, Option, None, refl, sym, ◌∙◌, ap, arith, append_assoc}
+use Rattle.std.proofs.Common.{◌≡◌, ℕ, zero, suc, ◌+◌, ◌-◌, ◌<◌, ◌≤◌, List, [], ◌++◌, length, Option, None, sym, ◌∙◌, ap, arith, append_assoc}
 use Rattle.tree_model.specs.View.{SystemView}
 use Rattle.tree_model.specs.Tree.{run_at}
 use Rattle.trace_file.specs.declared.event.Event.{Event}
