@@ -1,5 +1,5 @@
 -- Accounts and keys that are set.
-use Rattle.std.proofs.Common.{◌≡◌, ◌≢◌, ℕ, ◌+◌, ◌*◌, ◌/◌, ◌<◌, ◌≤◌, not, ◌||◌, if◌then◌else◌, Bool, true, false, cond, ◌&&◌, List, length, set, Option, Some, None, refl, sym, ◌∙◌, ap, arith, subst, inl, inr, suc, ◌-◌, ltb-true, ltb-false, nat_lt}
+use Rattle.std.proofs.Common.{◌≡◌, ◌≢◌, ℕ, ◌+◌, ◌*◌, ◌/◌, ◌%◌, ◌<◌, ◌≤◌, not, ◌||◌, if◌then◌else◌, Bool, true, false, cond, ◌&&◌, List, length, set, Option, Some, None, refl, sym, ◌∙◌, ap, arith, subst, inl, inr, suc, ◌-◌, ltb-true, ltb-false, lt-ltb, nat_lt}
 use Rattle.std.proofs.lemmas.Bool.{cases_eq, cases_Bool, both_ways, false≢true}
 use Rattle.std.proofs.lemmas.List.{get_or-set_same, get_or-set_other, length-set}
 use Rattle.slot_model.specs.Run.{holds}
@@ -9,16 +9,18 @@ use Rattle.tree_model.specs.View.{SystemView}
 use Rattle.tree_model.specs.System.{part_at}
 use Rattle.tree_model.specs.Tree.{is_child, budget_at}
 use Rattle.rtds_sim.specs.declared.account.Account.{Account}
+use Rattle.rtds_sim.specs.declared.account.TheConstants.{PAST_ALL}
 use Rattle.rtds_sim.specs.declared.key.Key.{Key}
 use Rattle.rtds_sim.specs.declared.host.Host.{Host}
 use Rattle.rtds_sim.specs.declared.queues.Queues.{Queues}
 use Rattle.rtds_sim.proofs.Entering.{child_core}
 use Rattle.rtds_sim.proofs.Steady.{same_quotient, lt_same}
 use Rattle.std.specs.Prelude.{is_some}
+use Rattle.std.proofs.Math.Nat.{zero-div}
 use Rattle.std.proofs.lemmas.Nat.{div-mul-add}
 use Rattle.rtds_sim.specs.Keys.{key_at}
 use Rattle.rtds_sim.specs.Queues.{AreQueues}
-use Rattle.rtds_sim.specs.Accounts.{no_account, account_at, holder_at, number_at, account_eligible, left_of, deadline_of, key_of, end_of, next_key, left_by, gone_on, used_more, period_ended, IsLeft, IsReady}
+use Rattle.rtds_sim.specs.Accounts.{no_account, account_at, holder_at, number_at, account_eligible, left_of, deadline_of, key_of, first_key, end_of, next_key, left_by, gone_on, used_more, period_ended, IsLeft, IsReady}
 
 -- one account is set
 pub account_here : (accounts : List Account) (v : ℕ) (a : Account) → v < length accounts → account_at (set accounts v a) v ≡ a
@@ -176,6 +178,46 @@ ready_next sys budgets host v slots queues l some h few exact listed its_keys =
     (λ u ne. ap (λ (ks : List (Option Key)). key_at ks u) its_keys ∙ key_there host.queues.keys v u (next_key key extra) ne)
     h.room.all_until (h.until v l) (λ u ne. refl)
     (subst (λ (k : Option Key). IsLeft k (left_by (next_key key extra) (budget_at budgets v)) (left_of (record a { used = a.used + slots }) (budget_at budgets v))) (sym its) (next_left key a slots (budget_at budgets v) some exact extra))
+
+-- at the begin of a period a VCPU that is started has no slots used
+begun_key : (a : Account) (at budget : ℕ) (extra : Bool) (period : ℕ) → a.started ≡ true → 1 ≤ budget → first_key a (at + period) ≡ key_of (record a { from = at; used = 0 }) budget extra period
+begun_key a at budget extra period on some = go a.started a.blocked extra (nat_lt 0 budget) on (lt-ltb 0 budget some)
+  where
+    key : ℕ → Key
+    key g = record { level = g; deadline = at + period }
+
+    go : (started blocked extra left : Bool) → started ≡ true → left ≡ true → (if blocked then None else Some (key 0)) ≡ (if (started && not blocked) && (left || extra) then Some (key (0 / budget)) else None)
+    go true true extra true e f = refl
+    go true false extra true e f = ap (λ (g : ℕ). Some (key g)) (sym (zero-div budget))
+    go false blocked extra left e f = absurd (false≢true e)
+    go true blocked extra false e f = absurd (false≢true f)
+
+-- what has ended has been started
+pub ended_started : (a : Account) (period at : ℕ) → end_of a period ≡ at → at < PAST_ALL → a.started ≡ true
+ended_started a period at e l = elim (cases_Bool a.started) [
+  | inl on ↦ on
+  | inr off ↦ absurd (omega (arith, l, e, sym (ap (λ (b : Bool). if b then deadline_of a period else PAST_ALL) off)))
+]
+
+pub ready_begun : (sys : SystemView) (budgets : List ℕ) (host : Host) (v at : ℕ) (queues : Queues) → v < length sys.parts → 1 ≤ budget_at budgets v → IsReady sys budgets host → at ≤ host.time → (account_at host.accounts v).started ≡ true
+    → AreQueues sys queues → queues.keys ≡ set host.queues.keys v (first_key (account_at host.accounts v) (at + (part_at sys v).period))
+    → IsReady sys budgets (record host { accounts = set host.accounts v (record (account_at host.accounts v) { from = at; used = 0 }); queues = queues; until = set host.until v (at + (part_at sys v).period); left = set host.left v (budget_at budgets v) })
+ready_begun sys budgets host v at queues l some h early on listed its_keys =
+    let a : Account = account_at host.accounts v in
+    let begun : Account = record a { from = at; used = 0 } in
+    let end : ℕ = at + (part_at sys v).period in
+    let budget : ℕ = budget_at budgets v in
+    let its : key_at queues.keys v ≡ first_key a end = ap (λ (ks : List (Option Key)). key_at ks v) its_keys ∙ key_here host.queues.keys v (first_key a end) (omega (arith, l, h.room.all_keys, h.room.few_parts)) in
+    ready_set sys budgets host v begun queues (set host.until v end) budget l h early (omega arith) listed
+    (its ∙ begun_key a at budget (part_at sys v).extra (part_at sys v).period on some)
+    (λ u ne. ap (λ (ks : List (Option Key)). key_at ks u) its_keys ∙ key_there host.queues.keys v u (first_key a end) ne)
+    (length-set host.until v end ∙ h.room.all_until)
+    (number_here host.until v end (omega (arith, l, h.room.all_until, h.room.few_parts)) ∙ sym (ap (λ (b : Bool). if b then end else PAST_ALL) on))
+    (λ u ne. number_there host.until v u end ne)
+    (record { some = some; within = omega (arith, whole_left budget some); exact = λ is. sym (whole_left budget some) })
+  where
+    whole_left : (budget : ℕ) → 1 ≤ budget → budget - 0 % budget ≡ budget
+    whole_left budget some = omega (arith, some)
 
 -- an account that has gone on is one with the slots that it had, whose period may have ended
 pub gone_is : (a : Account) (has : Bool) (slots period to : ℕ) → period_ended (used_more a has slots) period to ≡ gone_on a has slots period to

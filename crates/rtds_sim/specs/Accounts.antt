@@ -66,6 +66,11 @@ key_of account budget extra period =
     })
     else None
 
+-- what a VCPU that is started goes by where a period of it begins that ends at slot `end`
+abbrev pub first_key : Account → ℕ → Option Key
+first_key account end =
+    if account.blocked then None else Some (record { level = 0; deadline = end })
+
 -- the slot at which its period ends, and one past all where it is not started
 abbrev pub end_of : Account → ℕ → ℕ
 end_of account period = if account.started then deadline_of account period else PAST_ALL

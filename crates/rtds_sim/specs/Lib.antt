@@ -3,6 +3,7 @@ pub mod Rtds
 pub mod Printed
 pub mod Giving
 pub mod Keys
+pub mod KeyTable
 pub mod Queues
 pub mod Accounts
 pub mod Members

@@ -1,5 +1,5 @@
 ghost use Rattle.std.specs.Prelude.{◌≡◌, ◌≤◌, ◌<◌, ◌+◌, ◌^◌, Some, length};
-ghost use Rattle.rtds_sim.specs.Accounts.{no_account, account_at, account_eligible, key_of, end_of, level_of, left_of, row_taken, IsLeft};
+ghost use Rattle.rtds_sim.specs.Accounts.{no_account, account_at, account_eligible, key_of, first_key, end_of, level_of, left_of, row_taken, IsLeft};
 
 use crate::key::Key;
 use release_file::{Wake, WakeKind};
@@ -113,6 +113,19 @@ impl Account {
         Some(Key {
             level: self.level(budget),
             deadline: self.from + period,
+        })
+    }
+
+    /// What it goes by where a period of it begins that ends at slot `end`, once it is started.
+    pub fn first_key(self, end: u64) -> Option<Key>
+        ensures { result ≡ first_key self end }
+    {
+        if self.blocked {
+            return None;
+        }
+        Some(Key {
+            level: 0,
+            deadline: end,
         })
     }
 

@@ -2,6 +2,7 @@ ghost use Rattle.std.specs.Prelude.{◌≡◌, ◌≢◌, ℕ, ◌≤◌, ◌<�
 ghost use Rattle.trace_file.specs.Taker.{Took};
 ghost use Rattle.slot_model.specs.declared.task.TheConstants.{LIMIT};
 ghost use Rattle.tree_model.specs.System.{part_at};
+ghost use Rattle.release_file.specs.declared.workload.WakeKind.TheVariants.{Start};
 ghost use Rattle.release_file.specs.Workload.{row_at};
 ghost use Rattle.rtds_sim.specs.Printed.{core_of, event_of, gathered, row_event_at};
 
@@ -67,6 +68,20 @@ fn event_of(sys: &System, row: Wake) -> Event
     }
 }
 
+/// Before which slot no period ends on a core, once `row` of a VCPU with this period is taken, where
+/// none ended before slot `end`.
+fn end_with(end: u64, period: u64, row: Wake) -> u64
+    requires { row.at + period < 2 ^ 64 }
+    ensures within { result ≤ end }
+    ensures start { row.what ≡ Start → result ≤ row.at + period }
+    ensures later { 1 ≤ period → row.at < end → row.at < result }
+{
+    match row.what {
+        WakeKind::Start => end.min(row.at + period),
+        _ => end,
+    }
+}
+
 /// Row `i` of a workload.
 fn row_at(rows: &[Wake], i: usize) -> Wake
     requires { i < length rows.now }
@@ -84,7 +99,6 @@ impl Host {
     ghost use Rattle.tree_model.specs.System.{part_at};
     ghost use Rattle.tree_model.specs.Tree.{is_child, budget_at};
     ghost use Rattle.tree_model.specs.Plans.{IsPlan};
-    ghost use Rattle.release_file.specs.declared.workload.WakeKind.TheVariants.{Start};
     ghost use Rattle.release_file.specs.Workload.{row_at, IsWorkload};
     ghost use Rattle.trace_file.specs.Taker.{Took};
     ghost use Rattle.trace_file.specs.declared.event.What.TheVariants.{Stop};
@@ -145,24 +159,6 @@ impl Host {
         self.left[v as usize] = left;
     }
 
-    /// Before which slot no period ends on core `core`, once a row of its VCPUs is taken.
-    fn end_with(&self, sys: &System, core: usize, row: Wake) -> u64
-        requires is_core { core < length self.now.ends }
-        requires is_part { row.vcpu < length sys.now.parts }
-        requires in_limit { row.at ≤ LIMIT }
-        ensures within { result ≤ number_at self.now.ends core }
-        ensures start { row.what ≡ Start → result ≤ row.at + (part_at sys.now row.vcpu).period }
-        ensures later { row.at < number_at self.now.ends core → row.at < result }
-        ensures system { IsSystem sys.now }
-    {
-        let end = self.ends[core];
-        let period = sys.parts()[row.vcpu as usize].period();
-        match row.what {
-            WakeKind::Start => end.min(row.at + period),
-            _ => end,
-        }
-    }
-
     /// Takes one row.
     fn take(&mut self, sys: &System, plan: &Plan, row: Wake)
         requires plan { IsPlan sys.now plan.now }
@@ -183,7 +179,7 @@ impl Host {
     {
         let v = row.vcpu;
         let core = core_of(sys, v) as usize;
-        let end = self.end_with(sys, core, row);
+        let end = end_with(self.ends[core], sys.parts()[v as usize].period(), row);
         let account = account_of(&self.accounts, v).taking(row);
         self.ends[core] = end;
         self.taken += 1;

@@ -1,4 +1,4 @@
-ghost use Rattle.std.specs.Prelude.{◌≡◌, ◌↔◌, IsTrue};
+ghost use Rattle.std.specs.Prelude.{◌≡◌};
 ghost use Rattle.rtds_sim.specs.Rtds.{goes_first};
 
 /// What an eligible VCPU goes by: its level, and at one level its deadline.
@@ -17,16 +17,4 @@ pub fn goes_ahead(key: Key, u: u32, other: Key, v: u32) -> bool
     key.level < other.level
         || key.level == other.level
             && (key.deadline < other.deadline || key.deadline == other.deadline && u < v)
-}
-
-/// Whether both are one key, or both none.
-#[inline(always)]
-pub fn is_same(key: Option<Key>, other: Option<Key>) -> bool
-    ensures { IsTrue result ↔ (key ≡ other) }
-{
-    match (key, other) {
-        (None, None) => true,
-        (Some(key), Some(other)) => key.level == other.level && key.deadline == other.deadline,
-        _ => false,
-    }
 }

@@ -6,6 +6,7 @@ mod account;
 mod fault;
 mod host;
 mod key;
+mod key_table;
 mod levels;
 mod members;
 mod moment;

@@ -1,4 +1,5 @@
-use crate::key::{Key, goes_ahead, is_same};
+use crate::key::{Key, goes_ahead};
+use crate::key_table::KeyTable;
 use tree_model::{MAX_CORES, MAX_PARTS, Parent, System};
 
 /// What each VCPU goes by, where it is eligible, and of each core the VCPUs that are, in the order
@@ -6,7 +7,7 @@ use tree_model::{MAX_CORES, MAX_PARTS, Parent, System};
 /// of parts.
 #[derive(Drop)]
 pub struct Queues {
-    pub keys: [Option<Key>; MAX_PARTS],
+    pub keys: KeyTable,
     first: [u32; MAX_CORES],
     next: [u32; MAX_PARTS],
 }
@@ -27,7 +28,7 @@ impl Queues {
         prove!(sys.cores().len() <= MAX_CORES);
         let none = sys.parts().len() as u32;
         Queues {
-            keys: [None; MAX_PARTS],
+            keys: KeyTable::new(),
             first: [none; MAX_CORES],
             next: [none; MAX_PARTS],
         }
@@ -55,21 +56,32 @@ impl Queues {
         ensures keys { self.new.keys ≡ slice_set self.old.keys v key }
     {
         prove!(sys.parts().len() <= MAX_PARTS);
-        if is_same(self.keys[v as usize], key) {
-            return;
+        match (sys.parts()[v as usize].parent(), key) {
+            (Parent::Core(core), key) => self.set_on(sys, core, v, key),
+            (Parent::Part(_), Some(key)) => self.keys.put(v, key),
+            (Parent::Part(_), None) => self.keys.clear(v),
         }
-        if let Parent::Core(core) = sys.parts()[v as usize].parent() {
-            self.leave(sys, core, v);
-            if let Some(key) = key {
-                self.enter(sys, core, v, key);
-            }
-        } else {
-            self.keys[v as usize] = key;
+    }
+
+    /// Sets what VCPU `v` of core `core` goes by.
+    #[inline(always)]
+    pub fn set_on(&mut self, sys: &System, core: u32, v: u32, key: Option<Key>)
+        requires are { AreQueues sys.now self.old }
+        requires is_core { core < length sys.now.cores }
+        requires is_part { v < length sys.now.parts }
+        requires on_core { is_child sys.now (Core core) v ≡ true }
+        ensures are { AreQueues sys.now self.new }
+        ensures keys { self.new.keys ≡ slice_set self.old.keys v key }
+    {
+        self.leave(sys, core, v);
+        if let Some(key) = key {
+            self.enter(sys, core, v, key);
         }
     }
 
     /// The last eligible VCPU of core `core` that goes before VCPU `v` where that goes by `key`, if
     /// there is one.
+    #[inline(always)]
     fn last_ahead(&self, sys: &System, core: u32, v: u32, key: Key) -> Option<u32>
         requires are { AreQueues sys.now self.now }
         requires is_core { core < length sys.now.cores }
@@ -92,19 +104,37 @@ impl Queues {
         last
     }
 
+    /// The same for VCPU `v` of the core, which goes by `key`.
+    #[inline(always)]
+    fn ahead_of(&self, sys: &System, core: u32, v: u32, key: Key) -> Option<u32>
+        requires are { AreQueues sys.now self.now }
+        requires is_core { core < length sys.now.cores }
+        requires its { key_at self.now.keys v ≡ Some key }
+        ensures { IsLastOf
+            (λ u. is_queued sys.now self.now.keys core u
+            && goes_ahead (key_at self.now.keys u) u (Some key) v)
+            (is_ahead self.now.keys) (length sys.now.parts) result }
+    {
+        if self.first[core as usize] == v {
+            return None;
+        }
+        self.last_ahead(sys, core, v, key)
+    }
+
     /// Whether VCPU `u` goes before VCPU `v` where that goes by `key`.
     #[inline(always)]
     fn is_before(&self, u: u32, v: u32, key: Key) -> bool
         requires is_part { u < length self.now.keys }
         ensures { result ≡ goes_ahead (key_at self.now.keys u) u (Some key) v }
     {
-        match self.keys[u as usize] {
+        match self.keys.get(u) {
             None => false,
             Some(its) => goes_ahead(its, u, key, v),
         }
     }
 
     /// Lets VCPU `v` of core `core`, which goes by none, go by `key`.
+    #[inline(always)]
     fn enter(&mut self, sys: &System, core: u32, v: u32, key: Key)
         requires are { AreQueues sys.now self.old }
         requires is_core { core < length sys.now.cores }
@@ -115,7 +145,7 @@ impl Queues {
         ensures keys { self.new.keys ≡ slice_set self.old.keys v (Some key) }
     {
         let ahead = self.last_ahead(sys, core, v, key);
-        self.keys[v as usize] = Some(key);
+        self.keys.put(v, key);
         match ahead {
             None => {
                 self.next[v as usize] = self.first[core as usize];
@@ -129,6 +159,7 @@ impl Queues {
     }
 
     /// Lets VCPU `v` of core `core` go by no key.
+    #[inline(always)]
     fn leave(&mut self, sys: &System, core: u32, v: u32)
         requires are { AreQueues sys.now self.old }
         requires is_core { core < length sys.now.cores }
@@ -137,9 +168,9 @@ impl Queues {
         ensures are { AreQueues sys.now self.new }
         ensures keys { self.new.keys ≡ slice_set self.old.keys v None }
     {
-        if let Some(key) = self.keys[v as usize] {
-            let ahead = self.last_ahead(sys, core, v, key);
-            self.keys[v as usize] = None;
+        if let Some(key) = self.keys.get(v) {
+            let ahead = self.ahead_of(sys, core, v, key);
+            self.keys.clear(v);
             match ahead {
                 None => self.first[core as usize] = self.next[v as usize],
                 Some(u) => self.next[u as usize] = self.next[v as usize],

@@ -279,16 +279,18 @@ impl Host {
                 self.accounts[v as usize] = Account { used, ..account };
                 self.left[v as usize] = left - slots;
             } else {
-                self.use_up(sys, plan, v, slots);
+                self.use_up(sys, plan, core, v, slots);
             }
         }
     }
 
     /// Counts the slots with which VCPU `v` has had its budget once more.
-    fn use_up(&mut self, sys: &System, plan: &Plan, v: u32, slots: u64)
+    fn use_up(&mut self, sys: &System, plan: &Plan, core: usize, v: u32, slots: u64)
         requires plan { IsPlan sys.now plan.now }
         requires ready { IsReady sys.now plan.now self.old }
+        requires is_core { core < length sys.now.cores }
         requires is_part { v < length sys.now.parts }
+        requires on_core { is_child sys.now (Core core) v ≡ true }
         requires in_limit { self.old.time ≤ LIMIT }
         requires few { (account_at self.old.accounts v).used + slots ≤ self.old.time }
         requires exact { is_some (key_at self.old.queues.keys v) ≡ true
@@ -303,13 +305,10 @@ impl Host {
     {
         let account = account_of(&self.accounts, v);
         let used = account.used + slots;
-        let key = next_key(
-            self.queues.keys[v as usize],
-            sys.parts()[v as usize].extra(),
-        );
+        let key = next_key(self.queues.keys.get(v), sys.parts()[v as usize].extra());
         let left = next_left(key, budget_of(plan, v));
         self.accounts[v as usize] = Account { used, ..account };
-        self.queues.set(sys, v, key);
+        self.queues.set_on(sys, core as u32, v, key);
         self.left[v as usize] = left;
     }
 
@@ -344,17 +343,19 @@ impl Host {
         let vcpus = members.of(sys, core);
         let mut end = PAST_ALL;
         for i in 0..vcpus.len() {
-            end = end.min(self.begin(sys, plan, vcpus[i], at));
+            end = end.min(self.begin(sys, plan, core, vcpus[i], at));
         }
         self.ends[core] = end;
     }
 
     /// Begins the period of VCPU `v` that begins at slot `at`, if one does. Gives a slot before
     /// which its period does not end.
-    fn begin(&mut self, sys: &System, plan: &Plan, v: u32, at: u64) -> u64
+    fn begin(&mut self, sys: &System, plan: &Plan, core: usize, v: u32, at: u64) -> u64
         requires plan { IsPlan sys.now plan.now }
         requires ready { IsReady sys.now plan.now self.old }
+        requires is_core { core < length sys.now.cores }
         requires is_part { v < length sys.now.parts }
+        requires on_core { is_child sys.now (Core core) v ≡ true }
         requires in_limit { self.old.time ≤ LIMIT }
         requires in_time { at ≤ self.old.time }
         requires in_period { (account_at self.old.accounts v).started ≡ true
@@ -366,16 +367,17 @@ impl Host {
         if end != at {
             return end;
         }
-        self.renew(sys, plan, v, at)
+        self.renew(sys, plan, core, v, at)
     }
 
     /// Begins the period of VCPU `v` at slot `at`, at which the one before ends. Gives the slot at
     /// which it ends.
-    #[inline(never)]
-    fn renew(&mut self, sys: &System, plan: &Plan, v: u32, at: u64) -> u64
+    fn renew(&mut self, sys: &System, plan: &Plan, core: usize, v: u32, at: u64) -> u64
         requires plan { IsPlan sys.now plan.now }
         requires ready { IsReady sys.now plan.now self.old }
+        requires is_core { core < length sys.now.cores }
         requires is_part { v < length sys.now.parts }
+        requires on_core { is_child sys.now (Core core) v ≡ true }
         requires in_limit { self.old.time ≤ LIMIT }
         requires in_time { at ≤ self.old.time }
         requires ended { number_at self.old.until v ≡ at }
@@ -384,13 +386,18 @@ impl Host {
         ensures ready { IsReady sys.now plan.now self.new }
         ensures begun { HasBegun sys.now v at self.old self.new result }
     {
+        let end = at + sys.parts()[v as usize].period();
         let account = account_of(&self.accounts, v);
         let begun = Account {
             from: at,
             used: 0,
             ..account
         };
-        self.set(sys, plan, v, begun);
-        at + sys.parts()[v as usize].period()
+        self.accounts[v as usize] = begun;
+        self.queues
+            .set_on(sys, core as u32, v, account.first_key(end));
+        self.until[v as usize] = end;
+        self.left[v as usize] = budget_of(plan, v);
+        end
     }
 }

@@ -21,6 +21,9 @@ listed passes n list i e l = subst (λ (xs : List ℕ). IsPlace passes n i (its 
 pub begin-requires-clause-is_part : goal.begin-requires-clause-is_part
 begin-requires-clause-is_part c = (listed (is_child c.args.sys.now (Core c.args.core)) (length c.args.sys.now.parts) c.of-vcpus.result.now c.loop-i.i c.of-vcpus.ensures c.loop-i-test.true).within
 
+pub begin-requires-clause-on_core : goal.begin-requires-clause-on_core
+begin-requires-clause-on_core c = (listed (is_child c.args.sys.now (Core c.args.core)) (length c.args.sys.now.parts) c.of-vcpus.result.now c.loop-i.i c.of-vcpus.ensures c.loop-i-test.true).passes_it
+
 pub begin-requires-clause-in_period : goal.begin-requires-clause-in_period
 begin-requires-clause-in_period c on =
     let so_far = c.loop-i.invariant in
