@@ -68,7 +68,7 @@ fn event_of(sys: &System, row: Wake) -> Event
     }
 }
 
-/// Before which slot no period ends on a core, once `row` of a VCPU with this period is taken, where
+/// Before which slot no period ends on a core once `row` of a VCPU with this period is taken, where
 /// none ended before slot `end`.
 fn end_with(end: u64, period: u64, row: Wake) -> u64
     requires { row.at + period < 2 ^ 64 }
