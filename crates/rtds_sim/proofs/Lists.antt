@@ -7,14 +7,14 @@ use Rattle.slot_model.specs.Slots.{sum_below}
 use Rattle.slot_model.proofs.Sums.{sum_below-lt}
 use Rattle.trace_file.specs.declared.event.Event.{Event}
 use Rattle.rtds_sim.specs.declared.switches.TheConstants.{NEVER}
-use Rattle.rtds_sim.specs.Telling.{list_at}
+use Rattle.rtds_sim.specs.Lists.{list_at}
 use Rattle.rtds_sim.specs.Soonest.{moment_of, next_moment}
 use Rattle.rtds_sim.proofs.Merging.{AreMoments}
 use Rattle.rtds_sim.proofs.Queueing.{alike}
 
 -- what is read at a core is its list
-pub list_read : (lists : List (Vec Event Global)) (c : ℕ) (own : Vec Event Global) → c < length lists → own ≡ get_or lists c own → list_at lists c ≡ own.items
-list_read lists c own l r = get_or-map (λ (s : Vec Event Global). s.items) lists c own [] l ∙ ap (λ (s : Vec Event Global). s.items) (sym r)
+pub list_read : {X : Type 0} (lists : List (Vec X Global)) (c : ℕ) (own : Vec X Global) → c < length lists → own ≡ get_or lists c own → list_at lists c ≡ own.items
+list_read {X} lists c own l r = get_or-map (λ (s : Vec X Global). s.items) lists c own [] l ∙ ap (λ (s : Vec X Global). s.items) (sym r)
 
 -- lists that are all empty
 pub all_empty : (lists : List (Vec Event Global)) (n : ℕ) → map (λ (s : Vec Event Global). s.items) lists ≡ replicate n [] → (c : ℕ) → list_at lists c ≡ []
@@ -24,11 +24,11 @@ pub empty_count : (lists : List (Vec Event Global)) (n : ℕ) → map (λ (s : V
 empty_count lists n e = sym (length-map lists (λ (s : Vec Event Global). s.items)) ∙ (ap (λ (ls : List (List Event)). length ls) e ∙ length-replicate n [])
 
 -- one list is written
-pub list_here : (lists : List (Vec Event Global)) (i : ℕ) (new : Vec Event Global) → i < length lists → list_at (set lists i new) i ≡ new.items
-list_here lists i new l = ap (λ (es : List (List Event)). get_or es i []) (map-set (λ (s : Vec Event Global). s.items) lists i new) ∙ get_or-set_same (map (λ (s : Vec Event Global). s.items) lists) i new.items [] (omega (arith, l, length-map lists (λ (s : Vec Event Global). s.items)))
+pub list_here : {X : Type 0} (lists : List (Vec X Global)) (i : ℕ) (new : Vec X Global) → i < length lists → list_at (set lists i new) i ≡ new.items
+list_here {X} lists i new l = ap (λ (es : List (List X)). get_or es i []) (map-set (λ (s : Vec X Global). s.items) lists i new) ∙ get_or-set_same (map (λ (s : Vec X Global). s.items) lists) i new.items [] (omega (arith, l, length-map lists (λ (s : Vec X Global). s.items)))
 
-pub list_there : (lists : List (Vec Event Global)) (i d : ℕ) (new : Vec Event Global) → d ≢ i → list_at (set lists i new) d ≡ list_at lists d
-list_there lists i d new ne = ap (λ (es : List (List Event)). get_or es d []) (map-set (λ (s : Vec Event Global). s.items) lists i new) ∙ get_or-set_other (map (λ (s : Vec Event Global). s.items) lists) i d new.items [] ne
+pub list_there : {X : Type 0} (lists : List (Vec X Global)) (i d : ℕ) (new : Vec X Global) → d ≢ i → list_at (set lists i new) d ≡ list_at lists d
+list_there {X} lists i d new ne = ap (λ (es : List (List X)). get_or es d []) (map-set (λ (s : Vec X Global). s.items) lists i new) ∙ get_or-set_other (map (λ (s : Vec X Global). s.items) lists) i d new.items [] ne
 
 -- one list more is emptied
 pub empty_more : (lists : List (Vec Event Global)) (i : ℕ) (new : Vec Event Global) → i < length lists → new.items ≡ [] → ((c : ℕ) → c < i → list_at lists c ≡ []) → (c : ℕ) → c < i + 1 → list_at (set lists i new) c ≡ []

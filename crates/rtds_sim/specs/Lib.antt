@@ -6,7 +6,9 @@ pub mod Keys
 pub mod KeyTable
 pub mod Queues
 pub mod Accounts
+pub mod Lists
 pub mod Members
+pub mod ByEnd
 pub mod Fault
 pub mod RunText
 pub mod Telling

@@ -1,18 +1,25 @@
 -- The VCPUs of each core.
-use Rattle.std.specs.Prelude.{◌≡◌, ℕ, ◌<◌, List, length, slice_index_or}
-use Rattle.std.specs.Global.{Vec}
-use Rattle.slot_model.specs.Slots.{places_where}
+use Rattle.std.specs.Prelude.{◌≡◌, ℕ, ◌<◌, Bool, true, List, length, slice_index_or}
 use Rattle.tree_model.specs.declared.place.Place.TheVariants.{Core}
 use Rattle.tree_model.specs.View.{SystemView}
 use Rattle.tree_model.specs.Tree.{is_child}
 use Rattle.rtds_sim.specs.declared.members.Members.{Members}
+use Rattle.rtds_sim.specs.Lists.{list_at}
 
 abbrev pub place_at : List ℕ → ℕ → ℕ
 place_at places i = slice_index_or places i 0
 
--- of each core the VCPUs that stand on it, in the order of the file
+-- a list has just the numbers below n that pass, each once, in any order
+pub record AreAll (passes : ℕ → Bool) (n : ℕ) (list : List ℕ) : Type 0 where
+  pub within : (i : ℕ) → i < length list → place_at list i < n
+  pub passing : (i : ℕ) → i < length list → passes (place_at list i) ≡ true
+  pub all : (u : ℕ) → u < n → passes u ≡ true →
+      (i : ℕ) × (i < length list) × (place_at list i ≡ u)
+  pub once : (i j : ℕ) → i < length list → j < length list →
+      place_at list i ≡ place_at list j → i ≡ j
+
+-- of each core the VCPUs that stand on it
 pub record AreMembers (sys : SystemView) (members : Members) : Type 0 where
   pub one_each : length members.lists.items ≡ length sys.cores
-  pub lists : (c : ℕ) (list : Vec ℕ) → c < length sys.cores →
-      list ≡ slice_index_or members.lists.items c list →
-      list.items ≡ places_where (is_child sys (Core c)) (length sys.parts)
+  pub lists : (c : ℕ) → c < length sys.cores →
+      AreAll (is_child sys (Core c)) (length sys.parts) (list_at members.lists.items c)

@@ -1,7 +1,8 @@
 -- What several cores tell, each in the order of its slots, and all of them slot by slot.
-use Rattle.std.specs.Prelude.{◌≡◌, ℕ, zero, suc, ◌+◌, ◌<◌, List, [], ◌++◌, map, slice_index_or, Option, Some}
+use Rattle.std.specs.Prelude.{◌≡◌, ℕ, zero, suc, ◌+◌, ◌<◌, List, [], ◌++◌, Option, Some}
 use Rattle.std.specs.Global.{Vec}
 use Rattle.trace_file.specs.declared.event.Event.{Event}
+use Rattle.rtds_sim.specs.Lists.{list_at}
 use Rattle.rtds_sim.specs.Printed.{gathered, moment_of_slot}
 
 -- what is told at the m slots from x on, where f tells what is at each, if anything
@@ -16,10 +17,6 @@ told_by f x n (suc m) = told_by f x n m ++ gathered (f (x + m)) n
 -- each event stands at its slot
 abbrev pub AreAtSlots : (ℕ → ℕ → Option Event) → Type 0
 AreAtSlots f = (y c : ℕ) (event : Event) → f y c ≡ Some event → event.at ≡ moment_of_slot y
-
--- the list of core c
-abbrev pub list_at : List (Vec Event) → ℕ → List Event
-list_at lists c = slice_index_or (map (λ (list : Vec Event). list.items) lists) c []
 
 -- each of n lists is what its core tells
 abbrev pub AreTold : (ℕ → ℕ → Option Event) → ℕ → ℕ → ℕ → List (Vec Event) → Type 0

@@ -3,6 +3,7 @@
 #![tactic(auto)]
 
 mod account;
+mod by_end;
 mod fault;
 mod host;
 mod key;

@@ -7,10 +7,10 @@ ghost use Rattle.rtds_sim.specs.Members.{AreMembers};
 use std::alloc::{AllocError, Global};
 use tree_model::{MAX_CORES, MAX_PARTS, Parent, System};
 
-/// The VCPUs of each core, in the order of the file.
+/// The VCPUs of each core, in any order.
 #[derive(Drop)]
 pub struct Members {
-    lists: Vec<Vec<u32>>,
+    pub lists: Vec<Vec<u32>>,
 }
 
 impl Members {
@@ -30,16 +30,6 @@ impl Members {
             lists.push(members_of(alloc, sys, c as u32)?)?;
         }
         Ok(Members { lists })
-    }
-
-    /// Those of core `core`.
-    pub fn of(&self, sys: &System, core: usize) -> &[u32]
-        requires are { AreMembers sys.now self.now }
-        requires is_core { core < length sys.now.cores }
-        ensures { result.now
-            ≡ places_where (is_child sys.now (Core core)) (length sys.now.parts) }
-    {
-        &self.lists[core]
     }
 }
 

@@ -3,6 +3,7 @@ ghost use Rattle.slot_model.specs.declared.task.TheConstants.{LIMIT};
 ghost use Rattle.rtds_sim.specs.Printed.{on_core_at, switch_to};
 
 use crate::account::{Account, PAST_ALL, account_of};
+use crate::by_end::{sink, sort};
 use crate::host::Host;
 use crate::levels::{budget_of, next_key, next_left};
 use crate::members::Members;
@@ -52,11 +53,12 @@ impl Host {
     ghost use Rattle.tree_model.specs.Plans.{IsPlan};
     ghost use Rattle.release_file.specs.declared.workload.Wake.{Wake as RowView};
     ghost use Rattle.rtds_sim.specs.Keys.{key_at};
-    ghost use Rattle.rtds_sim.specs.Members.{AreMembers};
+    ghost use Rattle.rtds_sim.specs.ByEnd.{InOrder, first_end};
+    ghost use Rattle.rtds_sim.specs.Members.{place_at, AreAll, AreMembers};
     ghost use Rattle.rtds_sim.specs.Printed.{push_some, on_core_at, switch_to};
     ghost use Rattle.rtds_sim.specs.Accounts.{account_at, holder_at, number_at, gone_on, used_more, period_ended, left_of, IsChoice, IsReady, IsEnd, AreEnds};
     ghost use Rattle.rtds_sim.specs.Running.{IsUnderway, HasRun, HasBegun};
-    ghost use Rattle.rtds_sim.specs.Telling.{list_at};
+    ghost use Rattle.rtds_sim.specs.Lists.{list_at};
 
     /// Runs each core by itself up to slot `to`, before which no row comes, and keeps what it
     /// tells.
@@ -64,11 +66,11 @@ impl Host {
         &mut self,
         sys: &System,
         plan: &Plan,
-        members: &Members,
+        members: &mut Members,
         to: u64,
         switches: &mut Switches,
     ) -> Result<(), AllocError>
-        requires members { AreMembers sys.now members.now }
+        requires members { AreMembers sys.now members.old }
         requires plan { IsPlan sys.now plan.now }
         requires ready { IsReady sys.now plan.now self.old }
         requires ends { AreEnds sys.now self.old }
@@ -76,6 +78,7 @@ impl Host {
         requires in_limit { to ≤ LIMIT }
         requires one_each { length switches.old.lists.items ≡ length sys.now.cores }
         requires empty { (c : ℕ) → list_at switches.old.lists.items c ≡ [] }
+        ensures members { OnOk result (AreMembers sys.now members.new) }
         ensures ready { OnOk result (IsReady sys.now plan.now self.new) }
         ensures ends { OnOk result (AreEnds sys.now self.new) }
         ensures run { OnOk result ((rows : List RowView) (n k c : ℕ) (run : List (Option ℕ)) →
@@ -95,7 +98,8 @@ impl Host {
         let from = self.time;
         self.time = to;
         for c in 0..sys.cores().len() {
-            self.run_core(sys, plan, members, c, from, &mut switches.lists[c])?;
+            let vcpus = &mut members.lists[c];
+            self.run_core(sys, plan, vcpus, c, from, &mut switches.lists[c])?;
         }
         Ok(())
     }
@@ -105,12 +109,12 @@ impl Host {
         &mut self,
         sys: &System,
         plan: &Plan,
-        members: &Members,
+        vcpus: &mut [u32],
         core: usize,
         from: u64,
         told: &mut Vec<Event>,
     ) -> Result<(), AllocError>
-        requires members { AreMembers sys.now members.now }
+        requires vcpus { AreAll (is_child sys.now (Core core)) (length sys.now.parts) vcpus.old }
         requires plan { IsPlan sys.now plan.now }
         requires ready { IsReady sys.now plan.now self.old }
         requires is_core { core < length sys.now.cores }
@@ -121,6 +125,8 @@ impl Host {
         requires bound { IsEnd sys.now self.old.accounts core (number_at self.old.ends core) }
         requires in_time { from < number_at self.old.ends core }
         requires system { IsSystem sys.now }
+        ensures vcpus { OnOk result
+            (AreAll (is_child sys.now (Core core)) (length sys.now.parts) vcpus.new) }
         ensures ready { OnOk result (IsReady sys.now plan.now self.new) }
         ensures run { OnOk result ((rows : List RowView) (n k : ℕ) (run : List (Option ℕ)) →
             IsUnderway sys.now plan.now rows n core run from self.old.time k self.old →
@@ -139,11 +145,12 @@ impl Host {
         ensures time { OnOk result (self.new.time ≡ self.old.time) }
         ensures taken { OnOk result (self.new.taken ≡ self.old.taken) }
     {
+        sort(vcpus, &self.until);
         let mut at = from;
         while at < self.time {
             self.switch(sys, plan, core, at, told)?;
             let next = self.next_change(sys, plan, core, at);
-            self.bring(sys, plan, members, core, at, next);
+            self.bring(sys, plan, vcpus, core, at, next);
             at = next;
         }
         Ok(())
@@ -174,6 +181,7 @@ impl Host {
         ensures accounts { self.new.accounts ≡ self.old.accounts }
         ensures ends { self.new.ends ≡ self.old.ends }
         ensures taken { self.new.taken ≡ self.old.taken }
+        ensures until { self.new.until ≡ self.old.until }
         ensures time { self.new.time ≡ self.old.time }
     {
         let next = self.queues.first_of(sys, core);
@@ -213,12 +221,13 @@ impl Host {
         &mut self,
         sys: &System,
         plan: &Plan,
-        members: &Members,
+        vcpus: &mut [u32],
         core: usize,
         from: u64,
         to: u64,
     )
-        requires members { AreMembers sys.now members.now }
+        requires vcpus { AreAll (is_child sys.now (Core core)) (length sys.now.parts) vcpus.old }
+        requires order { InOrder self.old.until vcpus.old 0 }
         requires plan { IsPlan sys.now plan.now }
         requires ready { IsReady sys.now plan.now self.old }
         requires is_core { core < length sys.now.cores }
@@ -231,6 +240,8 @@ impl Host {
         requires in_period { to ≤ number_at self.old.ends core }
         requires in_budget { (v : ℕ) → holder_at self.old.holders core ≡ Some v → to
             ≤ from + left_of (account_at self.old.accounts v) (budget_at plan.now v) }
+        ensures vcpus { AreAll (is_child sys.now (Core core)) (length sys.now.parts) vcpus.new }
+        ensures order { InOrder self.new.until vcpus.new 0 }
         ensures ready { IsReady sys.now plan.now self.new }
         ensures own { (v : ℕ) → v < length sys.now.parts → is_child sys.now (Core core) v ≡ true
             → account_at self.new.accounts v
@@ -248,7 +259,7 @@ impl Host {
         ensures taken { self.new.taken ≡ self.old.taken }
     {
         self.use_slots(sys, plan, core, to - from);
-        self.end_periods(sys, plan, members, core, to);
+        self.end_periods(sys, plan, vcpus, core, to);
     }
 
     /// Counts some slots, which the VCPU of core `core` had.
@@ -266,6 +277,7 @@ impl Host {
             → account_at self.new.accounts v
             ≡ used_more (account_at self.old.accounts v)
             (holds (holder_at self.old.holders core) v) slots }
+        ensures until { self.new.until ≡ self.old.until }
         ensures time { self.new.time ≡ self.old.time }
         ensures holders { self.new.holders ≡ self.old.holders }
         ensures taken { self.new.taken ≡ self.old.taken }
@@ -298,6 +310,7 @@ impl Host {
         ensures ready { IsReady sys.now plan.now self.new }
         ensures accounts { self.new.accounts ≡ slice_set self.old.accounts v
             (used_more (account_at self.old.accounts v) true slots) }
+        ensures until { self.new.until ≡ self.old.until }
         ensures time { self.new.time ≡ self.old.time }
         ensures holders { self.new.holders ≡ self.old.holders }
         ensures taken { self.new.taken ≡ self.old.taken }
@@ -313,8 +326,9 @@ impl Host {
     }
 
     /// Begins the periods that begin at slot `at` on core `core`.
-    fn end_periods(&mut self, sys: &System, plan: &Plan, members: &Members, core: usize, at: u64)
-        requires members { AreMembers sys.now members.now }
+    fn end_periods(&mut self, sys: &System, plan: &Plan, vcpus: &mut [u32], core: usize, at: u64)
+        requires vcpus { AreAll (is_child sys.now (Core core)) (length sys.now.parts) vcpus.old }
+        requires order { InOrder self.old.until vcpus.old 0 }
         requires plan { IsPlan sys.now plan.now }
         requires ready { IsReady sys.now plan.now self.old }
         requires is_core { core < length sys.now.cores }
@@ -322,6 +336,8 @@ impl Host {
         requires in_time { at ≤ self.old.time }
         requires bound { IsEnd sys.now self.old.accounts core (number_at self.old.ends core) }
         requires in_period { at ≤ number_at self.old.ends core }
+        ensures vcpus { AreAll (is_child sys.now (Core core)) (length sys.now.parts) vcpus.new }
+        ensures order { InOrder self.new.until vcpus.new 0 }
         ensures ready { IsReady sys.now plan.now self.new }
         ensures own { (v : ℕ) → v < length sys.now.parts → is_child sys.now (Core core) v ≡ true
             → account_at self.new.accounts v
@@ -340,34 +356,23 @@ impl Host {
         if at < self.ends[core] {
             return;
         }
-        let vcpus = members.of(sys, core);
-        let mut end = PAST_ALL;
-        for i in 0..vcpus.len() {
-            end = end.min(self.begin(sys, plan, core, vcpus[i], at));
+        while self.first_end(vcpus) == at {
+            self.renew(sys, plan, core, vcpus[0], at);
+            sink(vcpus, &self.until, 0);
         }
-        self.ends[core] = end;
+        self.ends[core] = self.first_end(vcpus);
     }
 
-    /// Begins the period of VCPU `v` that begins at slot `at`, if one does. Gives a slot before
-    /// which its period does not end.
-    fn begin(&mut self, sys: &System, plan: &Plan, core: usize, v: u32, at: u64) -> u64
-        requires plan { IsPlan sys.now plan.now }
-        requires ready { IsReady sys.now plan.now self.old }
-        requires is_core { core < length sys.now.cores }
-        requires is_part { v < length sys.now.parts }
-        requires on_core { is_child sys.now (Core core) v ≡ true }
-        requires in_limit { self.old.time ≤ LIMIT }
-        requires in_time { at ≤ self.old.time }
-        requires in_period { (account_at self.old.accounts v).started ≡ true
-            → at ≤ (account_at self.old.accounts v).from + (part_at sys.now v).period }
-        ensures ready { IsReady sys.now plan.now self.new }
-        ensures begun { HasBegun sys.now v at self.old self.new result }
+    /// Where the period of the first of some VCPUs ends, and one past all where there is none.
+    #[inline(always)]
+    fn first_end(&self, vcpus: &[u32]) -> u64
+        requires { (i : ℕ) → i < length vcpus.now → place_at vcpus.now i < 512 }
+        ensures { result ≡ first_end self.now.until vcpus.now }
     {
-        let end = self.until[v as usize];
-        if end != at {
-            return end;
+        if vcpus.len() == 0 {
+            return PAST_ALL;
         }
-        self.renew(sys, plan, core, v, at)
+        self.until[vcpus[0] as usize]
     }
 
     /// Begins the period of VCPU `v` at slot `at`, at which the one before ends. Gives the slot at
@@ -385,6 +390,7 @@ impl Host {
             → at ≤ (account_at self.old.accounts v).from + (part_at sys.now v).period }
         ensures ready { IsReady sys.now plan.now self.new }
         ensures begun { HasBegun sys.now v at self.old self.new result }
+        ensures until { self.new.until ≡ slice_set self.old.until v result }
     {
         let end = at + sys.parts()[v as usize].period();
         let account = account_of(&self.accounts, v);

@@ -179,7 +179,7 @@ fn tell_run<T: EventTaker>(
     ensures system { IsSystem sys.now }
 {
     let mut host = Host::new(sys, plan);
-    let members = Members::new(alloc, sys)?;
+    let mut members = Members::new(alloc, sys)?;
     let mut switches = Switches::new(alloc, sys)?;
     while host.time < slots {
         let first = host.taken;
@@ -187,7 +187,7 @@ fn tell_run<T: EventTaker>(
         host.stop_blocked(sys, plan, first, events)?;
         print_rows(sys, wakes, first, host.taken, events)?;
         let next = host.next_row(wakes, slots);
-        host.run_on(sys, plan, &members, next, &mut switches)?;
+        host.run_on(sys, plan, &mut members, next, &mut switches)?;
         switches.tell(events)?;
     }
     events.take(Event {

@@ -14,7 +14,8 @@ use Rattle.trace_file.specs.Taker.{Took}
 use Rattle.rtds_sim.specs.Printed.{moment_of_slot, printed_below, gathered, row_event_at, stop_at, switch_at, switch_to, on_core_at, holder_left, on_at, printed}
 use Rattle.rtds_sim.specs.Accounts.{account_at, number_at, stop_of, AreBefore, IsAccount, IsEnd}
 use Rattle.rtds_sim.specs.Running.{RowsFrom, HasRun}
-use Rattle.rtds_sim.specs.Telling.{told_by, list_at, AreAtSlots}
+use Rattle.rtds_sim.specs.Lists.{list_at}
+use Rattle.rtds_sim.specs.Telling.{told_by, AreAtSlots}
 use Rattle.rtds_sim.proofs.Runs.{rtds_run, rtds_run-is}
 use Rattle.rtds_sim.proofs.Entering.{child_core}
 use Rattle.rtds_sim.proofs.Gathered.{took_nothing, took_same, took_more}
@@ -31,6 +32,7 @@ loop-host-init g c =
       stands = standing_start c.args.sys.now c.args.wakes.now (rtds_run c.args.sys.now c.args.plan.now c.args.wakes.now c.args.slots) c.new-host.result made.time made.taken made.ready.room made.accounts made.holders;
       told = took_same g.T.EventTaker.has_taken c.args.events.now c.args.events.now [] (printed_below c.args.sys.now c.args.wakes.now (rtds_run c.args.sys.now c.args.plan.now c.args.wakes.now c.args.slots) c.new-host.result.time) (sym (ap (printed_below c.args.sys.now c.args.wakes.now (rtds_run c.args.sys.now c.args.plan.now c.args.wakes.now c.args.slots)) made.time ∙ printed_below-zero c.args.sys.now c.args.wakes.now (rtds_run c.args.sys.now c.args.plan.now c.args.wakes.now c.args.slots))) (took_nothing g.T.EventTaker.has_taken c.args.events.now);
       ready = made.ready;
+      members = c.in_ok-members.ensures;
       ends = made.ends;
       in_slots = omega (arith, made.time);
       one_each = c.in_ok-switches.ensures.one_each;
@@ -156,6 +158,7 @@ loop-host-preserved g c =
           (took_more has_taken c.args.events.now c.loop-host.events c.tell.new.events (printed_below sys rows runs x) ((stops ++ of_rows) ++ switches)
           (subst (λ (y : ℕ). Took has_taken c.args.events.now c.loop-host.events (printed_below sys rows runs y)) (sym took.time) c.loop-host.invariant.told) told_all));
       ready = c.in_ok-run_on.ensures.ready;
+      members = c.in_ok-run_on.ensures.members;
       ends = c.in_ok-run_on.ensures.ends;
       in_slots = omega (arith, c.in_ok-run_on.ensures.time, c.next_row-next.ensures.in_slots);
       one_each = c.in_ok-tell.ensures.one_each ∙ each_told;

@@ -1,5 +1,5 @@
 use Rattle.std.proofs.Common.{◌≡◌, ℕ, ◌<◌, length, get_or}
-use Rattle.rtds_sim.specs.Telling.{list_at}
+use Rattle.rtds_sim.specs.Lists.{list_at}
 use Rattle.rtds_sim.specs.Soonest.{next_moment}
 use Rattle.rtds_sim.proofs.switches.first_moments.Given as goal
 

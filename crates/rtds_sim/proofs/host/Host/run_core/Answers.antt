@@ -1,7 +1,8 @@
 use Rattle.std.proofs.Common.{◌≡◌, ℕ, ◌-◌, ◌<◌, ◌≤◌, List, length, Option, refl, ◌∙◌, ap, arith}
 use Rattle.slot_model.specs.Run.{holds}
+use Rattle.tree_model.specs.declared.place.Place.TheVariants.{Core}
 use Rattle.tree_model.specs.System.{part_at}
-use Rattle.tree_model.specs.Tree.{budget_at}
+use Rattle.tree_model.specs.Tree.{is_child, budget_at}
 use Rattle.rtds_sim.specs.declared.account.Account.{Account}
 use Rattle.rtds_sim.specs.Accounts.{account_at, holder_at, number_at, left_of, gone_on}
 use Rattle.rtds_sim.proofs.CoreRuns.{stands_first, stands_last, stands_on, gone_few}
@@ -11,6 +12,8 @@ pub loop-at-init : goal.loop-at-init
 loop-at-init c = record {
   run = λ rows n k run u. stands_first c.args.sys.now c.args.plan.now rows n c.args.core run c.args.from c.args.self.now.time k c.args.self.now c.args.self.now c.args.told.now.items refl refl u;
   ready = c.requires.ready;
+  vcpus = c.sort.ensures.all (is_child c.args.sys.now (Core c.args.core)) (length c.args.sys.now.parts) c.requires.vcpus;
+  order = c.sort.ensures.order;
   since = omega arith;
   in_time = omega (arith, c.requires.later);
   few = c.requires.few;
@@ -47,6 +50,8 @@ loop-at-preserved c =
           (λ v e. omega (arith, c.next_change-next.ensures.budget v e, ap (λ (xs : List Account). left_of (account_at xs v) (budget_at budgets v)) same))
           new c.switch.new.told.items gone (ap (λ (hs : List (Option ℕ)). holder_at hs core) brought.holders) on.told;
       ready = brought.ready;
+      vcpus = brought.vcpus;
+      order = brought.order;
       since = omega (arith, so_far.since, c.next_change-next.ensures.later);
       in_time = in_time;
       few = λ v l child. omega (arith, gone_few (account_at old.accounts v) (holds holder v) at next (part_at sys v).period (so_far.few v l child) c.next_change-next.ensures.later, ap (λ (a : Account). a.used) (gone v l child));

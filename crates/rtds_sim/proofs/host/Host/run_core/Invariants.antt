@@ -3,6 +3,8 @@ use Rattle.tree_model.specs.declared.place.Place.TheVariants.{Core}
 use Rattle.tree_model.specs.Tree.{is_child}
 use Rattle.release_file.specs.declared.workload.Wake.{Wake as Row}
 use Rattle.rtds_sim.specs.Accounts.{account_at, holder_at, number_at, IsReady, IsEnd}
+use Rattle.rtds_sim.specs.ByEnd.{InOrder}
+use Rattle.rtds_sim.specs.Members.{AreAll}
 use Rattle.rtds_sim.specs.Running.{IsUnderway}
 use Rattle.rtds_sim.proofs.CoreRuns.{StandsAt}
 use Rattle.rtds_sim.proofs.host.Host.run_core.Given as goal
@@ -12,6 +14,8 @@ abbrev pub invariant-loop-at : goal.invariant-loop-at
 invariant-loop-at l = record {
   run : (rows : List Row) (n k : ℕ) (run : List (Option ℕ)) → IsUnderway l.sys l.plan rows n l.core run l.from l.initial.self.time k l.initial.self → StandsAt l.sys rows l.core run l.from l.initial.self.time k l.at l.self l.initial.told.items l.told.items;
   ready : IsReady l.sys l.plan l.self;
+  vcpus : AreAll (is_child l.sys (Core l.core)) (length l.sys.parts) l.vcpus;
+  order : InOrder l.self.until l.vcpus 0;
   since : l.from ≤ l.at;
   in_time : l.at ≤ l.initial.self.time;
   few : (v : ℕ) → v < length l.sys.parts → is_child l.sys (Core l.core) v ≡ true → (account_at l.self.accounts v).used ≤ l.at;

@@ -1,6 +1,7 @@
 use Rattle.std.proofs.Common.{◌≡◌, ◌≢◌, ℕ, ◌<◌, true, List, [], length, set, Vec, Global, refl, sym, ◌∙◌, ap, arith, subst, inl, inr}
+use Rattle.std.specs.Vec.{with_items}
 use Rattle.std.proofs.lemmas.Bool.{cases_eq}
-use Rattle.std.proofs.lemmas.List.{length-set}
+use Rattle.std.proofs.lemmas.List.{length-set, with_items_is}
 use Rattle.tree_model.specs.declared.pinned_core.Core.{Core as CoreView}
 use Rattle.tree_model.specs.declared.place.Place.TheVariants.{Core}
 use Rattle.tree_model.specs.Tree.{is_child}
@@ -8,8 +9,9 @@ use Rattle.trace_file.specs.declared.event.Event.{Event}
 use Rattle.rtds_sim.specs.declared.account.Account.{Account}
 use Rattle.rtds_sim.specs.declared.host.Host.{Host}
 use Rattle.rtds_sim.specs.Accounts.{account_at, number_at, IsEnd}
+use Rattle.rtds_sim.specs.Members.{AreAll}
 use Rattle.rtds_sim.specs.Running.{IsUnderway, HasRun}
-use Rattle.rtds_sim.specs.Telling.{list_at}
+use Rattle.rtds_sim.specs.Lists.{list_at}
 use Rattle.rtds_sim.proofs.Lists.{list_read, list_here, list_there}
 use Rattle.rtds_sim.proofs.Ready.{on_one_core, ready_later}
 use Rattle.rtds_sim.proofs.CoreRuns.{underway_same, has_run_same, end_same}
@@ -19,6 +21,7 @@ pub loop-c-init : goal.loop-c-init
 loop-c-init c = record {
   run = λ rows n k d run l. absurd (omega (arith, l));
   ready = ready_later c.args.sys.now c.args.plan.now c.args.self.now c.args.to (omega (arith, c.requires.later)) c.requires.ready;
+  members = c.requires.members;
   bound = λ d l. absurd (omega (arith, l));
   later = λ d l. absurd (omega (arith, l));
   same = λ v l none. refl;
@@ -29,6 +32,14 @@ loop-c-init c = record {
   time = refl;
   taken = refl;
 }
+
+pub run_core-requires-clause-vcpus : goal.run_core-requires-clause-vcpus
+run_core-requires-clause-vcpus c =
+    let i : ℕ = c.loop-c.c in
+    let within : i < length c.args.sys.now.cores = omega (arith, c.loop-c-test.true, ap (λ (xs : List CoreView). length xs) c.cores-c-end.ensures.cores) in
+    subst (AreAll (is_child c.args.sys.now (Core i)) (length c.args.sys.now.parts))
+    (list_read c.loop-c.members.lists.items i c.index_mut-vcpus.result.now (omega (arith, within, c.loop-c.invariant.members.one_each)) c.index_mut-vcpus.ensures.value ∙ sym c.deref_mut.ensures.value)
+    (c.loop-c.invariant.members.lists i within)
 
 pub run_core-requires-clause-few : goal.run_core-requires-clause-few
 run_core-requires-clause-few c v l child =
@@ -59,6 +70,8 @@ loop-c-preserved c =
     let old = c.loop-c.self in
     let new = c.run_core.new.self in
     let ran = c.in_ok-run_core.ensures in
+    let vcpus : List (Vec ℕ Global) = c.loop-c.members.lists.items in
+    let vcpus_run : Vec ℕ Global = with_items c.index_mut-vcpus.result.now c.run_core.new.vcpus in
     let lists : List (Vec Event Global) = c.loop-c.switches.lists.items in
     let room : i < length lists = omega (arith, within, so_far.one_each) in
     let own : List Event = c.index_mut.result.now.items in
@@ -78,6 +91,15 @@ loop-c-preserved c =
         | inr ne ↦ has_run_same sys rows d run first.time c.args.to k old new [] (list_at lists d) (list_at (set lists i c.run_core.new.told) d) (stays d ne) (ran.holders d ne) (list_there lists i d c.run_core.new.told ne) (so_far.run rows n k d run (omega (arith, l, ne)) u)
       ];
       ready = ran.ready;
+      members = record {
+        one_each = length-set vcpus i vcpus_run ∙ so_far.members.one_each;
+        lists = λ d l. elim (cases_eq d i) [
+          | inl e ↦ subst (λ (z : ℕ). AreAll (is_child sys (Core z)) (length sys.parts) (list_at (set vcpus i vcpus_run) z)) (sym e)
+              (subst (AreAll (is_child sys (Core i)) (length sys.parts)) (sym (list_here vcpus i vcpus_run (omega (arith, within, so_far.members.one_each))))
+              (subst (AreAll (is_child sys (Core i)) (length sys.parts)) (sym (with_items_is c.index_mut-vcpus.result.now c.run_core.new.vcpus (omega (arith, c.run_core.auto.vcpus, c.deref_mut.ensures.len)))) ran.vcpus))
+          | inr ne ↦ subst (AreAll (is_child sys (Core d)) (length sys.parts)) (sym (list_there vcpus i d vcpus_run ne)) (so_far.members.lists d l)
+        ];
+      };
       bound = λ d l. elim (cases_eq d i) [
         | inl e ↦ subst (λ (z : ℕ). IsEnd sys new.accounts z (number_at new.ends z)) (sym e) ran.bound
         | inr ne ↦ end_same sys old.accounts new.accounts d (number_at old.ends d) (number_at new.ends d) (ran.ends d ne) (stays d ne) (so_far.bound d (omega (arith, l, ne)))

@@ -1,12 +1,13 @@
-use Rattle.std.proofs.Common.{◌≡◌, ◌<◌, ℕ, length, slice_index_or, Vec, Global}
+use Rattle.std.proofs.Common.{◌≡◌, ◌<◌, ℕ, length}
 use Rattle.slot_model.specs.Slots.{places_where}
 use Rattle.tree_model.specs.declared.place.Place.TheVariants.{Core}
 use Rattle.tree_model.specs.Tree.{is_child}
+use Rattle.rtds_sim.specs.Lists.{list_at}
 use Rattle.rtds_sim.proofs.members.Members.new.Given as goal
 
 -- the cores so far have their lists
 abbrev pub invariant-loop-c : goal.invariant-loop-c
 invariant-loop-c l = record {
   one_each : length l.lists.items ≡ l.c;
-  lists : (d : ℕ) (list : Vec ℕ Global) → d < l.c → list ≡ slice_index_or l.lists.items d list → list.items ≡ places_where (is_child l.sys (Core d)) (length l.sys.parts);
+  lists : (d : ℕ) → d < l.c → list_at l.lists.items d ≡ places_where (is_child l.sys (Core d)) (length l.sys.parts);
 }
