@@ -3,7 +3,7 @@ ghost use Rattle.slot_model.specs.declared.task.TheConstants.{LIMIT};
 ghost use Rattle.rtds_sim.specs.Printed.{on_core_at, switch_to};
 
 use crate::account::{Account, PAST_ALL, account_of};
-use crate::by_end::{sink, sort};
+use crate::by_end::{settle, sort};
 use crate::host::Host;
 use crate::levels::{budget_of, next_key, next_left};
 use crate::members::Members;
@@ -358,7 +358,7 @@ impl Host {
         }
         while self.first_end(vcpus) == at {
             self.renew(sys, plan, core, vcpus[0], at);
-            sink(vcpus, &self.until, 0);
+            settle(vcpus, &self.until);
         }
         self.ends[core] = self.first_end(vcpus);
     }

@@ -83,8 +83,8 @@ loop-self-preserved c =
     let at : ℕ = c.args.at in
     record {
       ready = c.renew.ensures.ready;
-      vcpus = c.sink.ensures.all (is_child sys (Core c.args.core)) (length sys.parts) so_far.vcpus;
-      order = c.sink.ensures.order;
+      vcpus = c.settle.ensures.all (is_child sys (Core c.args.core)) (length sys.parts) so_far.vcpus;
+      order = c.settle.ensures.order;
       same = λ u l its e. let ne : u ≢ v = other c u e in begun.others u ne ∙ so_far.same u l its (sym (there c u ne) ∙ e);
       done = λ u l its ne. elim (cases_eq u v) [
         | inl e ↦ ap (account_at c.renew.new.self.accounts) e ∙ (begun.account ∙ (ap (λ (a : Account). period_ended a (part_at sys v).period at) (so_far.same v (within c) (on_core c) (ended c)) ∙ ap (λ (z : ℕ). period_ended (account_at c.args.self.now.accounts z) (part_at sys z).period at) (sym e)))
