@@ -1,4 +1,4 @@
-use Rattle.std.proofs.Common.{◌≡◌, ◌≢◌, ℕ, ◌≤◌, ◌<◌, Bool, true, false, ◌&&◌, length}
+use Rattle.std.proofs.Common.{◌≡◌, ◌≢◌, ℕ, ◌≤◌, ◌<◌, true, false, ◌&&◌, length}
 use Rattle.std.specs.Prelude.{nat_eq}
 use Rattle.slot_model.specs.Slots.{count_below}
 use Rattle.tree_model.specs.declared.place.Place.TheVariants.{Core}

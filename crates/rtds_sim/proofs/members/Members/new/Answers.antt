@@ -1,4 +1,4 @@
-use Rattle.std.proofs.Common.{ℕ, ◌<◌, List, length, sym, ◌∙◌, ap, arith, subst}
+use Rattle.std.proofs.Common.{List, length, sym, ap, arith, subst}
 use Rattle.tree_model.specs.declared.pinned_core.Core.{Core as CoreView}
 use Rattle.tree_model.specs.declared.place.Place.TheVariants.{Core}
 use Rattle.tree_model.specs.Tree.{is_child}
