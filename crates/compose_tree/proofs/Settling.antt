@@ -1,10 +1,9 @@
 -- One step of a composition: a part settled after all later ones, a core tested after all parts.
-use Rattle.std.proofs.Common.{◌≡◌, ℕ, suc, ◌<◌, ◌≤◌, List, length, set, take, drop, ◌++◌, get_or, Option, Some, None, IfSome, sym, ◌∙◌, ap, arith, subst, inl, inr, length-set, get_or-set_other, get_or-set_same}
+use Rattle.std.proofs.Common.{◌≡◌, ℕ, suc, ◌<◌, ◌≤◌, List, length, set, take, drop, ◌++◌, get_or, Option, None, sym, ◌∙◌, ap, arith, subst, inl, inr, length-set, get_or-set_other, get_or-set_same}
 use Rattle.std.proofs.Math.Seq.{take-append_seam}
 use Rattle.std.proofs.lemmas.Bool.{cases_eq}
 use Rattle.std.proofs.lemmas.List.{get_or_default}
-use Rattle.slot_model.specs.Task.{SporadicTask, sporadic_tasks}
-use Rattle.slot_model.specs.declared.task.Task.{Task}
+use Rattle.slot_model.specs.Task.{SporadicTask}
 use Rattle.slot_model.specs.Bound.{sbf, IsSmall, TestPasses, TestFails}
 use Rattle.tree_model.specs.declared.place.Place.{Place}
 use Rattle.tree_model.specs.declared.place.Place.TheVariants.{Core, Part}
@@ -116,10 +115,6 @@ node_unassigned sys budgets node h computed assigned tasks same (Wide place) ref
     subst (λ (p : Place). FirstUnassigned sys (Wide p)) (sym refuses.0)
     (record { is_node = h; computed = computed; budgets = budgets; assigned = assigned; cause = subst (λ (ts : List SporadicTask). IsSmall (node_sched sys node) ts (node_cycle sys node) → ⊥) same refuses.1 })
 node_unassigned sys budgets node h computed assigned tasks same NoMemory refuses = absurd refuses
-
--- the tasks that are read for a node are its tasks
-pub tasks_read : (sys : SystemView) (budgets : List ℕ) (node : Place) (into : List Task) (answer : Option ℕ) (n : ℕ) → answer ≡ Some n → IfSome answer (λ k. sporadic_tasks (take k into) ≡ node_tasks sys budgets node) → sporadic_tasks (take n into) ≡ node_tasks sys budgets node
-tasks_read sys budgets node into answer n is read = subst (λ (o : Option ℕ). IfSome o (λ k. sporadic_tasks (take k into) ≡ node_tasks sys budgets node)) is read
 
 -- the core that a walk of the cores has come to
 pub core_here : (sys : SystemView) (cores : List CoreView) (c : ℕ) (core : CoreView) → cores ≡ sys.cores → c < length cores → core ≡ get_or cores c core → core ≡ core_at sys c
