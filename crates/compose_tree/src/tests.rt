@@ -56,28 +56,6 @@ fn system(
     }
 }
 
-/// What `compose` answers for them.
-fn answer(
-    rt: &impl Abort,
-    alloc: Global,
-    supply: Option<(u64, u64)>,
-    parts: Vec<Part>,
-) -> Result<Result<Plan, Refusal>, AllocError> {
-    let sys = system(rt, alloc, supply, parts)?;
-    Ok(compose(alloc, &sys))
-}
-
-/// What `assign` answers for them.
-fn assigned(
-    rt: &impl Abort,
-    alloc: Global,
-    supply: Option<(u64, u64)>,
-    parts: Vec<Part>,
-) -> Result<Result<Plan, Refusal>, AllocError> {
-    let sys = system(rt, alloc, supply, parts)?;
-    Ok(assign(alloc, &sys))
-}
-
 fn assert_plan(rt: &impl Abort, answer: Result<Plan, Refusal>, budgets: &[u64]) {
     match answer {
         Ok(plan) => assert_eq!(rt; plan.budgets(), budgets),
@@ -86,7 +64,7 @@ fn assert_plan(rt: &impl Abort, answer: Result<Plan, Refusal>, budgets: &[u64]) 
 }
 
 /// Two leaves with these budgets, in slots.
-fn two_leaves(rt: &impl Abort, alloc: Global, budgets: [u64; 2]) -> Result<Vec<Part>, AllocError> {
+fn two_leaves(rt: &impl Abort, alloc: Global, budgets: [u64; 2]) -> Result<System, AllocError> {
     let mut first = part(rt, alloc, b"A", Parent::Core(0), 10, &[(40, 40, 5)])?;
     first.budget = Some(budgets[0]);
     let mut second = part(rt, alloc, b"B", Parent::Core(0), 20, &[(100, 100, 10)])?;
@@ -94,17 +72,17 @@ fn two_leaves(rt: &impl Abort, alloc: Global, budgets: [u64; 2]) -> Result<Vec<P
     let mut parts = Vec::new(alloc);
     parts.push(first)?;
     parts.push(second)?;
-    Ok(parts)
+    system(rt, alloc, None, parts)
 }
 
 #[test]
 fn given_budgets_stand_where_they_pass(rt: HostRuntime) -> Result<(), Fail> {
     let alloc = rt.alloc();
-    let parts = two_leaves(&rt, alloc, [5, 10])?;
-    assert_plan(&rt, answer(&rt, alloc, None, parts)?, &[5, 10]);
-    let parts = two_leaves(&rt, alloc, [5, 11])?;
+    let sys = two_leaves(&rt, alloc, [5, 10])?;
+    assert_plan(&rt, compose(alloc, &sys), &[5, 10]);
+    let sys = two_leaves(&rt, alloc, [5, 11])?;
     assert_eq!(rt;
-        answer(&rt, alloc, None, parts)?.err(),
+        compose(alloc, &sys).err(),
         Some(Refusal::Overfull(Place::Core(0), Short::At(20)))
     );
     Ok(())
@@ -113,12 +91,13 @@ fn given_budgets_stand_where_they_pass(rt: HostRuntime) -> Result<(), Fail> {
 #[test]
 fn a_core_without_parts_has_an_empty_plan(rt: HostRuntime) -> Result<(), Fail> {
     let alloc = rt.alloc();
-    assert_plan(&rt, answer(&rt, alloc, None, Vec::new(alloc))?, &[]);
+    let sys = system(&rt, alloc, None, Vec::new(alloc))?;
+    assert_plan(&rt, compose(alloc, &sys), &[]);
     Ok(())
 }
 
-/// A middle server on the core, and two leaves on it.
-fn three_levels(rt: &impl Abort, alloc: Global) -> Result<Vec<Part>, AllocError> {
+/// A middle server on a core of this supply, and two leaves on it.
+fn three_levels(rt: &impl Abort, alloc: Global, supply: (u64, u64)) -> Result<System, AllocError> {
     let mut middle = part(rt, alloc, b"mid", Parent::Core(0), 50, &[])?;
     middle.sched = Sched::Rm;
     let video = [(500, 500, 70), (750, 750, 90)];
@@ -126,21 +105,17 @@ fn three_levels(rt: &impl Abort, alloc: Global) -> Result<Vec<Part>, AllocError>
     parts.push(middle)?;
     parts.push(part(rt, alloc, b"video", Parent::Part(0), 100, &video)?)?;
     parts.push(part(rt, alloc, b"ctl", Parent::Part(0), 200, &[(400, 400, 40)])?)?;
-    Ok(parts)
+    system(rt, alloc, Some(supply), parts)
 }
 
 #[test]
 fn least_budgets_go_up_the_tree(rt: HostRuntime) -> Result<(), Fail> {
     let alloc = rt.alloc();
-    let parts = three_levels(&rt, alloc)?;
-    assert_plan(
-        &rt,
-        answer(&rt, alloc, Some((20, 16)), parts)?,
-        &[30, 28, 40],
-    );
-    let parts = three_levels(&rt, alloc)?;
+    let sys = three_levels(&rt, alloc, (20, 16))?;
+    assert_plan(&rt, compose(alloc, &sys), &[30, 28, 40]);
+    let sys = three_levels(&rt, alloc, (20, 14))?;
     assert_eq!(rt;
-        answer(&rt, alloc, Some((20, 14)), parts)?.err(),
+        compose(alloc, &sys).err(),
         Some(Refusal::Overfull(Place::Core(0), Short::At(50)))
     );
     Ok(())
@@ -149,34 +124,29 @@ fn least_budgets_go_up_the_tree(rt: HostRuntime) -> Result<(), Fail> {
 #[test]
 fn assigned_budgets_are_not_tested(rt: HostRuntime) -> Result<(), Fail> {
     let alloc = rt.alloc();
-    let parts = two_leaves(&rt, alloc, [1, 10])?;
-    assert_plan(&rt, assigned(&rt, alloc, None, parts)?, &[1, 10]);
-    let parts = two_leaves(&rt, alloc, [5, 11])?;
-    assert_plan(&rt, assigned(&rt, alloc, None, parts)?, &[5, 11]);
-    let parts = three_levels(&rt, alloc)?;
-    assert_plan(
-        &rt,
-        assigned(&rt, alloc, Some((20, 14)), parts)?,
-        &[30, 28, 40],
-    );
+    let sys = two_leaves(&rt, alloc, [1, 10])?;
+    assert_plan(&rt, assign(alloc, &sys), &[1, 10]);
+    let sys = two_leaves(&rt, alloc, [5, 11])?;
+    assert_plan(&rt, assign(alloc, &sys), &[5, 11]);
+    let sys = three_levels(&rt, alloc, (20, 14))?;
+    assert_plan(&rt, assign(alloc, &sys), &[30, 28, 40]);
     Ok(())
 }
 
 /// A leaf whose tasks ask for more than every slot.
-fn overfull_leaf(rt: &impl Abort, alloc: Global) -> Result<Vec<Part>, AllocError> {
+fn overfull_leaf(rt: &impl Abort, alloc: Global) -> Result<System, AllocError> {
     let numbers = [(2, 2, 2), (3, 3, 1)];
     let mut parts = Vec::new(alloc);
     parts.push(part(rt, alloc, b"A", Parent::Core(0), 10, &numbers)?)?;
-    Ok(parts)
+    system(rt, alloc, None, parts)
 }
 
 #[test]
 fn a_leaf_that_no_budget_serves_refuses(rt: HostRuntime) -> Result<(), Fail> {
     let alloc = rt.alloc();
     let refusal = Some(Refusal::Overfull(Place::Part(0), Short::At(4)));
-    let parts = overfull_leaf(&rt, alloc)?;
-    assert_eq!(rt; answer(&rt, alloc, None, parts)?.err(), refusal);
-    let parts = overfull_leaf(&rt, alloc)?;
-    assert_eq!(rt; assigned(&rt, alloc, None, parts)?.err(), refusal);
+    let sys = overfull_leaf(&rt, alloc)?;
+    assert_eq!(rt; compose(alloc, &sys).err(), refusal);
+    assert_eq!(rt; assign(alloc, &sys).err(), refusal);
     Ok(())
 }
