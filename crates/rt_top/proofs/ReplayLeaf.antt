@@ -1,6 +1,5 @@
 -- What an admission says of a computed leaf, and what is seen when its defeat is run.
 use Rattle.std.proofs.Common.{◌≡◌, ℕ, ◌+◌, ◌-◌, ◌<◌, ◌≤◌, Bool, true, List, length, Option, Some, None, is_none, arith, refl, sym, ◌∙◌, subst}
-use Rattle.std.specs.Prelude.{IfSome}
 use Rattle.std.proofs.lemmas.Bool.{and_parts}
 use Rattle.slot_model.specs.declared.sched.Sched.{Sched}
 use Rattle.slot_model.specs.declared.job.Job.{Job}
@@ -91,10 +90,6 @@ pub record LeafRead (sys : SystemView) (budgets : List ℕ) (q : ℕ) (sched : S
   pub tasks_are : tasks ≡ own_tasks (part_at sys q)
   pub period_is : period ≡ (part_at sys q).period
   pub least_is : least ≡ budget_at budgets q
-
--- the tasks of a computed leaf as they are written
-pub leaf_tasks_read : (sys : SystemView) (budgets : List ℕ) (q : ℕ) → is_computed_leaf (part_at sys q) ≡ true → (count : ℕ) (answer : Option ℕ) (Tasks : ℕ → List SporadicTask) → answer ≡ Some count → IfSome answer (λ n. Tasks n ≡ node_tasks sys budgets (Part q)) → Tasks count ≡ own_tasks (part_at sys q)
-leaf_tasks_read sys budgets q computed count answer Tasks e h = subst (λ (o : Option ℕ). IfSome o (λ n. Tasks n ≡ node_tasks sys budgets (Part q))) e h ∙ leaf_tasks sys budgets q (and_parts _ _ computed).1
 
 -- its budget is the least of what was read, and 1 or more
 pub read_least : (sys : SystemView) → IsSystem sys → (budgets : List ℕ) → Admitted sys budgets → (q : ℕ) → q < length sys.parts → is_computed_leaf (part_at sys q) ≡ true

@@ -1,15 +1,14 @@
 use Rattle.std.proofs.Common.{◌≡◌, ℕ, List, length, take, get_or, arith, sym, ◌∙◌, ap, subst}
 use Rattle.slot_model.specs.declared.sched.Sched.{Sched}
 use Rattle.rt_report.specs.Replay.{IsReplayed}
-use Rattle.std.specs.Prelude.{IfSome}
+use Rattle.std.proofs.lemmas.Bool.{and_parts}
 use Rattle.slot_model.specs.Task.{SporadicTask, sporadic_tasks}
 use Rattle.tree_model.specs.System.{part_at}
-use Rattle.tree_model.specs.Tree.{node_tasks}
 use Rattle.tree_model.specs.declared.place.Place.TheVariants.{Part}
 use Rattle.tree_model.specs.View.{PartView}
-use Rattle.tree_model.proofs.NodeTasks.{part_here}
+use Rattle.tree_model.proofs.NodeTasks.{part_here, leaf_tasks, tasks_read}
 use Rattle.tree_model.proofs.InRange.{admitted_in_period}
-use Rattle.rt_top.proofs.ReplayLeaf.{LeafRead, leaf_tasks_read, none_smaller, read_least, read_replay}
+use Rattle.rt_top.proofs.ReplayLeaf.{LeafRead, none_smaller, read_least, read_replay}
 use Rattle.rt_top.proofs.replays.replay_leaf.Goals as goal
 
 pub witness-witness-requires-clause-some_budget : goal.witness-witness-requires-clause-some_budget
@@ -23,8 +22,7 @@ witness-witness-requires-clause-falls_short c =
     let read : LeafRead c.args.sys.now c.args.plan.now c.args.q c.sched.result tasks c.period.result least =
     record {
       sched_is = c.sched.ensures ∙ ap (λ (p : PartView). p.sched) here;
-      tasks_are = leaf_tasks_read c.args.sys.now c.args.plan.now c.args.q c.requires.computed c.unwrap-count.result c.tasks_of.result (λ n. sporadic_tasks (take n c.tasks_of.new.into)) c.unwrap-count.ensures
-          (subst (λ (bs : List ℕ). IfSome c.tasks_of.result (λ n. sporadic_tasks (take n c.tasks_of.new.into) ≡ node_tasks c.args.sys.now bs (Part c.args.q))) c.budgets-budgets.ensures c.tasks_of.ensures.tasks);
+      tasks_are = tasks_read c.args.sys.now c.budgets-budgets.result.now (Part c.args.q) c.tasks_of.new.into _ c.unwrap-count.result c.unwrap-count.ensures c.tasks_of.ensures.tasks ∙ leaf_tasks c.args.sys.now c.budgets-budgets.result.now c.args.q (and_parts _ _ c.requires.computed).1;
       period_is = c.period.ensures ∙ ap (λ (p : PartView). p.period) here;
       least_is = ap (λ (bs : List ℕ). get_or bs c.args.q 0) c.budgets-budgets.ensures;
     } in
@@ -38,8 +36,7 @@ returns c =
     let read : LeafRead c.args.sys.now c.args.plan.now c.args.q c.sched.result tasks c.period.result least =
     record {
       sched_is = c.sched.ensures ∙ ap (λ (p : PartView). p.sched) here;
-      tasks_are = leaf_tasks_read c.args.sys.now c.args.plan.now c.args.q c.requires.computed c.unwrap-count.result c.tasks_of.result (λ n. sporadic_tasks (take n c.tasks_of.new.into)) c.unwrap-count.ensures
-          (subst (λ (bs : List ℕ). IfSome c.tasks_of.result (λ n. sporadic_tasks (take n c.tasks_of.new.into) ≡ node_tasks c.args.sys.now bs (Part c.args.q))) c.budgets-budgets.ensures c.tasks_of.ensures.tasks);
+      tasks_are = tasks_read c.args.sys.now c.budgets-budgets.result.now (Part c.args.q) c.tasks_of.new.into _ c.unwrap-count.result c.unwrap-count.ensures c.tasks_of.ensures.tasks ∙ leaf_tasks c.args.sys.now c.budgets-budgets.result.now c.args.q (and_parts _ _ c.requires.computed).1;
       period_is = c.period.ensures ∙ ap (λ (p : PartView). p.period) here;
       least_is = ap (λ (bs : List ℕ). get_or bs c.args.q 0) c.budgets-budgets.ensures;
     } in
