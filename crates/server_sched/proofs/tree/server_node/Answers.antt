@@ -1,4 +1,4 @@
-use Rattle.std.proofs.Common.{◌≡◌, ℕ, List, Option, length, take, map, Vec, Global, sym, ◌∙◌, subst, IfSome}
+use Rattle.std.proofs.Common.{◌≡◌, ℕ, List, length, take, map, Vec, Global, sym, ◌∙◌, subst}
 use Rattle.slot_model.specs.Task.{SporadicTask, sporadic_tasks}
 use Rattle.slot_model.specs.Order.{before_of}
 use Rattle.slot_model.specs.Run.{server, FirstRun}
@@ -8,7 +8,8 @@ use Rattle.slot_model.specs.declared.task.Task.{Task}
 use Rattle.guest_sched.specs.declared.spans.Span.{Span}
 use Rattle.guest_sched.specs.declared.spans.Window.{Window}
 use Rattle.guest_sched.specs.Spans.{AreSpans, slots_of, run_of}
-use Rattle.tree_model.specs.Tree.{server_tasks, node_tasks}
+use Rattle.tree_model.specs.Tree.{server_tasks}
+use Rattle.tree_model.proofs.NodeTasks.{tasks_read}
 use Rattle.fp_request.proofs.Parts.{sporadic_tasks-length}
 use Rattle.span_counts.specs.Counts.{AreCounts}
 use Rattle.server_sched.specs.Shares.{AreShares}
@@ -45,7 +46,7 @@ pub returns : goal.returns
 returns c =
     let tasks : List Task = take c.unwrap-count.result c.tasks_of.new.into in
     let T : List SporadicTask = sporadic_tasks tasks in
-    let same : T ≡ server_tasks c.args.sys.now c.args.budgets.now c.args.place = subst (λ (o : Option ℕ). IfSome o (λ n. sporadic_tasks (take n c.tasks_of.new.into) ≡ node_tasks c.args.sys.now c.args.budgets.now c.args.place)) c.unwrap-count.ensures c.tasks_of.ensures.tasks ∙ c.requires.servers in
+    let same : T ≡ server_tasks c.args.sys.now c.args.budgets.now c.args.place = tasks_read c.args.sys.now c.args.budgets.now c.args.place c.tasks_of.new.into _ c.unwrap-count.result c.unwrap-count.ensures c.tasks_of.ensures.tasks ∙ c.requires.servers in
     let shares : List (List Window) = map (λ (s : Vec Window Global). s.items) c.in_ok-shares.shares.items in
     server_node_made c.args.sys.now c.args.budgets.now c.args.slots c.args.place c.args.given.now c.in_ok-spans.spans.items shares T c.in_ok-jobs.jobs.items c.sched_of-sched.result (length tasks)
     same c.in_ok-jobs.ensures.exact c.sched_of-sched.ensures (sym (sporadic_tasks-length tasks)) c.in_ok-spans.ensures.spans
