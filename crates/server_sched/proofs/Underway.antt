@@ -1,9 +1,10 @@
 -- A level of servers whose first run is made up to a moment, one event more.
-use Rattle.std.proofs.Common.{◌≡◌, ℕ, ◌+◌, ◌-◌, ◌<◌, ◌≤◌, min, Bool, true, false, List, [], ◌++◌, length, map, set, get_or, replicate, Option, Some, None, refl, sym, ◌∙◌, ap, arith, subst, inl, inr, Vec, Global}
+use Rattle.std.proofs.Common.{◌≡◌, ℕ, ◌+◌, ◌-◌, ◌^◌, ◌<◌, ◌≤◌, min, Bool, true, false, List, [], ◌++◌, length, map, set, get_or, replicate, Option, Some, None, refl, sym, ◌∙◌, ap, arith, subst, inl, inr, Vec, Global}
 use Rattle.std.proofs.lemmas.List.{get_or_append_left, get_or-append_right, get_or-replicate, length-replicate, length-map}
 use Rattle.slot_model.specs.declared.job.Job.{Job}
 use Rattle.slot_model.specs.declared.sched.Sched.{Sched}
-use Rattle.slot_model.specs.Task.{SporadicTask, AreConstrained, task_at, job_at}
+use Rattle.slot_model.specs.declared.task.Task.{Task}
+use Rattle.slot_model.specs.Task.{SporadicTask, AreConstrained, sporadic_task, sporadic_tasks, task_at, job_at}
 use Rattle.slot_model.specs.Order.{before_of}
 use Rattle.slot_model.specs.Release.{synchronous, releases_now}
 use Rattle.slot_model.specs.Run.{holds_task, service, server, FirstRunTo}
@@ -147,6 +148,19 @@ sound sched T slots level h = record {
 
 pub sound_in : (sched : Sched) (T : List SporadicTask) (slots : List Bool) (n : ℕ) (level : Level) → IsUnderway sched T slots level → level.slots ≡ n → IsSound T n level
 sound_in sched T slots n level h same = subst (λ (m : ℕ). IsSound T m level) same (sound sched T slots level h)
+
+-- such a level on its way to a moment, in a walk of windows that it is in since an older one
+pub record UnderwayTo (sched : Sched) (T : List SporadicTask) (windows : List Window) (n old until : ℕ) (level : Level) : Type 0 where
+  pub state : IsUnderway sched T (slots_of windows n) level
+  pub slots : level.slots ≡ n
+  pub later : old ≤ level.time
+  pub in_time : level.time ≤ until
+
+-- what a turn of it asks
+pub may_turn : (sched : Sched) (tasks : List Task) (windows : List Window) (n old until : ℕ) (level : Level) → UnderwayTo sched (sporadic_tasks tasks) windows n old until level → length (synchronous (sporadic_tasks tasks) 0 n) < 2 ^ 32 → (level.come.released < 2 ^ 32) × (level.tally.missed < 2 ^ 32) × (length level.servers.items ≡ length tasks)
+may_turn sched tasks windows n old until level h few =
+    let s = sound_in sched (sporadic_tasks tasks) (slots_of windows n) n level h.state h.slots in
+    (omega (arith, s.released, few), omega (arith, s.missed, few), omega (arith, s.one_each, length-map tasks sporadic_task))
 
 -- before the first slot
 pub begun : (sched : Sched) (T : List SporadicTask) (slots : List Bool) (level : Level) → level.time ≡ 0 → level.come ≡ record { released = 0; next = 0 } → level.servers.items ≡ replicate (length T) no_server → map (λ (s : Vec Window Global). s.items) level.shares.items ≡ replicate (length T) [] → level.tally ≡ record { missed = 0; first = None } → level.best ≡ None → IsUnderway sched T slots level

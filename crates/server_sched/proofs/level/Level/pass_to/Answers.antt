@@ -1,7 +1,6 @@
 use Rattle.std.proofs.Common.{◌≡◌, ℕ, ◌<◌, ◌≤◌, List, length, inl, inr, arith, ◌∙◌}
 use Rattle.std.proofs.lemmas.Bool.{cases_lt}
-use Rattle.std.proofs.lemmas.List.{length-map}
-use Rattle.slot_model.specs.Task.{SporadicTask, AreConstrained, sporadic_task, sporadic_tasks}
+use Rattle.slot_model.specs.Task.{SporadicTask, AreConstrained, sporadic_tasks}
 use Rattle.slot_model.specs.declared.sched.Sched.{Sched}
 use Rattle.slot_model.proofs.Constrained.{are_constrained}
 use Rattle.guest_sched.specs.declared.spans.Window.{Window}
@@ -9,7 +8,7 @@ use Rattle.guest_sched.specs.Spans.{AreWindows, slots_of, window_at}
 use Rattle.guest_sched.proofs.Given.{AreOver}
 use Rattle.server_sched.specs.declared.level.Level.{Level}
 use Rattle.server_sched.specs.Serving.{AreServerTasks, IsUnderway}
-use Rattle.server_sched.proofs.Underway.{sound, sound_in, gap_passed}
+use Rattle.server_sched.proofs.Underway.{sound, may_turn, gap_passed}
 use Rattle.server_sched.proofs.level.Level.pass_to.Goals as goal
 
 -- how far the time may go by
@@ -22,19 +21,17 @@ passed sched T fits are windows n at stop until old level h same fit over later 
     let ends = until_in windows n at stop fit begin end in
     gap_passed sched T fits are windows n at until level h same fit (λ k m. omega (arith, over k m, later)) (λ m. omega (arith, ends.1 m, b)) a (omega (arith, ends.0, b)) c
 
-pub turn-requires-clause-released : goal.turn-requires-clause-released
-turn-requires-clause-released c = omega (arith, (sound_in c.args.sched (sporadic_tasks c.args.tasks.now) (slots_of c.args.given.now c.args.self.now.slots) c.args.self.now.slots c.loop-self.self c.loop-self.invariant.state c.loop-self.invariant.slots).released, c.requires.few)
-
-pub turn-requires-clause-missed : goal.turn-requires-clause-missed
-turn-requires-clause-missed c = omega (arith, (sound_in c.args.sched (sporadic_tasks c.args.tasks.now) (slots_of c.args.given.now c.args.self.now.slots) c.args.self.now.slots c.loop-self.self c.loop-self.invariant.state c.loop-self.invariant.slots).missed, c.requires.few)
-
-pub turn-requires-clause-one_each : goal.turn-requires-clause-one_each
-turn-requires-clause-one_each c = omega (arith, (sound_in c.args.sched (sporadic_tasks c.args.tasks.now) (slots_of c.args.given.now c.args.self.now.slots) c.args.self.now.slots c.loop-self.self c.loop-self.invariant.state c.loop-self.invariant.slots).one_each, length-map c.args.tasks.now sporadic_task)
-
-pub turn-requires-clause-in_time : goal.turn-requires-clause-in_time
-turn-requires-clause-in_time c =
-    let ends = until_in c.args.given.now c.args.self.now.slots c.args.at c.begin_of-until.result c.requires.windows c.begin_of-until.ensures.begin c.begin_of-until.ensures.end in
-    omega (arith, ends.0, c.loop-self-test.true, c.requires.short)
+pub turn-requires : goal.turn-requires
+turn-requires c =
+    let may = may_turn _ c.args.tasks.now _ _ _ _ _ c.loop-self.invariant c.requires.few in
+    record {
+      tasks = c.requires.tasks;
+      few_tasks = c.requires.few_tasks;
+      one_each = may.2;
+      in_time = omega (arith, (until_in c.args.given.now c.args.self.now.slots c.args.at c.begin_of-until.result c.requires.windows c.begin_of-until.ensures.begin c.begin_of-until.ensures.end).0, c.loop-self-test.true, c.requires.short);
+      released = may.0;
+      missed = may.1;
+    }
 
 -- the level as the next jobs come
 come_to : (c : goal.After-turn) → IsUnderway c.args.sched (sporadic_tasks c.args.tasks.now) (slots_of c.args.given.now c.args.self.now.slots) (record c.loop-self.self { time = c.loop-self.self.come.next })

@@ -1,25 +1,25 @@
 use Rattle.std.proofs.Common.{◌<◌, ◌≤◌, refl, arith, ◌∙◌, Vec, Global}
 use Rattle.std.proofs.lemmas.List.{length-map}
-use Rattle.slot_model.specs.Task.{sporadic_task, sporadic_tasks}
+use Rattle.slot_model.specs.Task.{sporadic_tasks}
 use Rattle.slot_model.proofs.Constrained.{are_constrained}
 use Rattle.guest_sched.specs.declared.spans.Window.{Window}
 use Rattle.guest_sched.specs.Spans.{slots_of, window_at}
 use Rattle.guest_sched.proofs.Given.{slot_at, all_given}
 use Rattle.server_sched.specs.Serving.{IsUnderway}
-use Rattle.server_sched.proofs.Underway.{sound_in}
+use Rattle.server_sched.proofs.Underway.{sound_in, may_turn}
 use Rattle.server_sched.proofs.level.Level.serve.Goals as goal
 
-pub turn-requires-clause-released : goal.turn-requires-clause-released
-turn-requires-clause-released c = omega (arith, (sound_in c.args.sched (sporadic_tasks c.args.tasks.now) (slots_of c.args.given.now c.args.self.now.slots) c.args.self.now.slots c.loop-self.self c.loop-self.invariant.state c.loop-self.invariant.slots).released, c.requires.few)
-
-pub turn-requires-clause-missed : goal.turn-requires-clause-missed
-turn-requires-clause-missed c = omega (arith, (sound_in c.args.sched (sporadic_tasks c.args.tasks.now) (slots_of c.args.given.now c.args.self.now.slots) c.args.self.now.slots c.loop-self.self c.loop-self.invariant.state c.loop-self.invariant.slots).missed, c.requires.few)
-
-pub turn-requires-clause-one_each : goal.turn-requires-clause-one_each
-turn-requires-clause-one_each c = omega (arith, (sound_in c.args.sched (sporadic_tasks c.args.tasks.now) (slots_of c.args.given.now c.args.self.now.slots) c.args.self.now.slots c.loop-self.self c.loop-self.invariant.state c.loop-self.invariant.slots).one_each, length-map c.args.tasks.now sporadic_task)
-
-pub turn-requires-clause-in_time : goal.turn-requires-clause-in_time
-turn-requires-clause-in_time c = omega (arith, c.loop-self-test.true, c.requires.windows.in_slots c.args.at c.requires.inside, c.requires.short)
+pub turn-requires : goal.turn-requires
+turn-requires c =
+    let may = may_turn _ c.args.tasks.now _ _ _ _ _ c.loop-self.invariant c.requires.few in
+    record {
+      tasks = c.requires.tasks;
+      few_tasks = c.requires.few_tasks;
+      one_each = may.2;
+      in_time = omega (arith, c.loop-self-test.true, c.requires.windows.in_slots c.args.at c.requires.inside, c.requires.short);
+      released = may.0;
+      missed = may.1;
+    }
 
 -- the window's slots are in the whole
 in_slots : (c : goal.After-step-arg-1) → c.loop-self.self.time < c.loop-self.self.slots
