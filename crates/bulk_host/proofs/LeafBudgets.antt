@@ -6,7 +6,7 @@ use Rattle.slot_model.specs.declared.sched.Sched.TheVariants.{Edf, Rm}
 use Rattle.slot_model.specs.Slots.{sum_below}
 use Rattle.slot_model.specs.Task.{SporadicTask, plain_task, IsConstrained, AreConstrained}
 use Rattle.slot_model.specs.Order.{ranks_above}
-use Rattle.slot_model.specs.Bound.{sbf, dbf, IsHit, AllHit, DemandFits, IsCommonMultiple, IsHorizon, IsSmall, IsLeastBudget}
+use Rattle.slot_model.specs.Bound.{sbf, dbf, IsHit, AllHit, DemandFits, Passes, IsCommonMultiple, IsHorizon, IsSmall, IsLeastBudget}
 use Rattle.slot_model.proofs.Rising.{never_falls_far}
 use Rattle.slot_model.proofs.PeriodicSupply.{sbf_at, sbf-rises}
 use Rattle.slot_model.proofs.Demand.{demand_closed}
@@ -40,22 +40,18 @@ two P p q (suc (suc k)) h = absurd (omega arith)
 pub fit : (period deadline work : ℕ) → 1 ≤ work → work ≤ deadline → deadline ≤ period → IsConstrained (plain_task period deadline work)
 fit period deadline work a b c = record { works = a; in_deadline = omega arith; in_period = c }
 
+-- a budget that passes is the least where a slot less does not
+least_by : (sched : Sched) (period budget : ℕ) → 1 ≤ period → budget + 1 ≤ period → Passes sched (tasks_of period) (sbf period (budget + 1)) → (Passes sched (tasks_of period) (sbf period budget) → ⊥) → IsLeastBudget sched (tasks_of period) period (budget + 1)
+least_by sched period budget some m passes fails = record { in_period = m; passes = passes; least = λ b l p. fails (larger_passes sched (tasks_of period) period b budget some (omega arith) (omega arith) p) }
+
 -- under earliest deadline first
-demand_1000 : (t : ℕ) → dbf (tasks_of 1000) t ≡ (t / 10000) * 250 + (t / 20000) * 500
-demand_1000 t = omega (arith, demand_closed (plain_task 10000 10000 250) (fit 10000 10000 250 (lit≤ tt) (lit≤ tt) (lit≤ tt)) t, demand_closed (plain_task 20000 20000 500) (fit 20000 20000 500 (lit≤ tt) (lit≤ tt) (lit≤ tt)) t)
-
 fits_1000 : DemandFits (tasks_of 1000) (sbf 1000 53)
-fits_1000 t l = elim (cases_lt t 10000) [
-  | inl few ↦ omega (arith, demand_1000 t)
-  | inr many ↦ omega (arith, demand_1000 t, a_budget_each 1000 53 (10 * (t / 10000) - 1) t (lit≤ tt) (lit≤ tt) (omega arith))
-]
-
-least_1000 : IsLeastBudget Edf (tasks_of 1000) 1000 53
-least_1000 = record {
-  in_period = lit≤ tt;
-  passes = fits_1000;
-  least = λ b l p. let less : b ≤ 52 = omega arith in absurd (omega (arith, larger_passes Edf (tasks_of 1000) 1000 b 52 (lit≤ tt) less (lit≤ tt) p 20000 (lit≤ tt)));
-}
+fits_1000 t l =
+    let demand : dbf (tasks_of 1000) t ≡ (t / 10000) * 250 + (t / 20000) * 500 = omega (arith, demand_closed (plain_task 10000 10000 250) (fit 10000 10000 250 (lit≤ tt) (lit≤ tt) (lit≤ tt)) t, demand_closed (plain_task 20000 20000 500) (fit 20000 20000 500 (lit≤ tt) (lit≤ tt) (lit≤ tt)) t) in
+    elim (cases_lt t 10000) [
+      | inl few ↦ omega (arith, demand)
+      | inr many ↦ omega (arith, demand, a_budget_each 1000 53 (10 * (t / 10000) - 1) t (lit≤ tt) (lit≤ tt) (omega arith))
+    ]
 
 -- under rate monotonic ranks
 hits_2000 : AllHit (ranks_above Rm (tasks_of 2000)) (tasks_of 2000) (sbf 2000 106)
@@ -69,28 +65,13 @@ no_hit_2000 t hit = elim (cases_lt 20000 t) [
   | inr soon ↦ omega (arith, hit.enough, hit.some_slots, never_falls_far (sbf 2000 105) (λ u. sbf-rises 2000 105 u (lit≤ tt) (lit≤ tt)) t 20000 soon)
 ]
 
-least_2000 : IsLeastBudget Rm (tasks_of 2000) 2000 106
-least_2000 = record {
-  in_period = lit≤ tt;
-  passes = hits_2000;
-  least = λ b l p. let less : b ≤ 105 = omega arith in let hit = larger_passes Rm (tasks_of 2000) 2000 b 105 (lit≤ tt) less (lit≤ tt) p 1 (lit< tt) in no_hit_2000 hit.0 hit.1;
-}
-
-demand_3000 : (t : ℕ) → dbf (tasks_of 3000) t ≡ (t / 30000) * 750 + (t / 60000) * 1500
-demand_3000 t = omega (arith, demand_closed (plain_task 30000 30000 750) (fit 30000 30000 750 (lit≤ tt) (lit≤ tt) (lit≤ tt)) t, demand_closed (plain_task 60000 60000 1500) (fit 60000 60000 1500 (lit≤ tt) (lit≤ tt) (lit≤ tt)) t)
-
 fits_3000 : DemandFits (tasks_of 3000) (sbf 3000 158)
-fits_3000 t l = elim (cases_lt t 30000) [
-  | inl few ↦ omega (arith, demand_3000 t)
-  | inr many ↦ omega (arith, demand_3000 t, a_budget_each 3000 158 (10 * (t / 30000) - 1) t (lit≤ tt) (lit≤ tt) (omega arith))
-]
-
-least_3000 : IsLeastBudget Edf (tasks_of 3000) 3000 158
-least_3000 = record {
-  in_period = lit≤ tt;
-  passes = fits_3000;
-  least = λ b l p. let less : b ≤ 157 = omega arith in absurd (omega (arith, larger_passes Edf (tasks_of 3000) 3000 b 157 (lit≤ tt) less (lit≤ tt) p 60000 (lit≤ tt)));
-}
+fits_3000 t l =
+    let demand : dbf (tasks_of 3000) t ≡ (t / 30000) * 750 + (t / 60000) * 1500 = omega (arith, demand_closed (plain_task 30000 30000 750) (fit 30000 30000 750 (lit≤ tt) (lit≤ tt) (lit≤ tt)) t, demand_closed (plain_task 60000 60000 1500) (fit 60000 60000 1500 (lit≤ tt) (lit≤ tt) (lit≤ tt)) t) in
+    elim (cases_lt t 30000) [
+      | inl few ↦ omega (arith, demand)
+      | inr many ↦ omega (arith, demand, a_budget_each 3000 158 (10 * (t / 30000) - 1) t (lit≤ tt) (lit≤ tt) (omega arith))
+    ]
 
 hits_4000 : AllHit (ranks_above Rm (tasks_of 4000)) (tasks_of 4000) (sbf 4000 211)
 unfolding sum_below
@@ -102,13 +83,6 @@ no_hit_4000 t hit = elim (cases_lt 40000 t) [
   | inl late ↦ omega (arith, hit.enough, hit.in_deadline, never_falls_far (sbf 4000 210) (λ u. sbf-rises 4000 210 u (lit≤ tt) (lit≤ tt)) t 80000 hit.in_deadline)
   | inr soon ↦ omega (arith, hit.enough, hit.some_slots, never_falls_far (sbf 4000 210) (λ u. sbf-rises 4000 210 u (lit≤ tt) (lit≤ tt)) t 40000 soon)
 ]
-
-least_4000 : IsLeastBudget Rm (tasks_of 4000) 4000 211
-least_4000 = record {
-  in_period = lit≤ tt;
-  passes = hits_4000;
-  least = λ b l p. let less : b ≤ 210 = omega arith in let hit = larger_passes Rm (tasks_of 4000) 4000 b 210 (lit≤ tt) less (lit≤ tt) p 1 (lit< tt) in no_hit_4000 hit.0 hit.1;
-}
 
 -- the tasks are constrained, and their horizon is small
 pub constrained_of : (period : ℕ) → 4 ≤ period → AreConstrained (tasks_of period)
@@ -129,8 +103,8 @@ abbrev pub kind_budget : ℕ → ℕ
 kind_budget r = (kind_period r + 18) / 19
 
 pub least_of_kind : (r : ℕ) → r < 4 → IsSmall (kind_sched r) (tasks_of (kind_period r)) (kind_period r) × IsLeastBudget (kind_sched r) (tasks_of (kind_period r)) (kind_period r) (kind_budget r)
-least_of_kind zero l = (small_leaf 1000 (lit≤ tt) (lit≤ tt), least_1000)
-least_of_kind (suc zero) l = (tt, least_2000)
-least_of_kind (suc (suc zero)) l = (small_leaf 3000 (lit≤ tt) (lit≤ tt), least_3000)
-least_of_kind (suc (suc (suc zero))) l = (tt, least_4000)
+least_of_kind zero l = (small_leaf 1000 (lit≤ tt) (lit≤ tt), least_by Edf 1000 52 (lit≤ tt) (lit≤ tt) fits_1000 (λ p. absurd (omega (arith, p 20000 (lit≤ tt)))))
+least_of_kind (suc zero) l = (tt, least_by Rm 2000 105 (lit≤ tt) (lit≤ tt) hits_2000 (λ p. let hit = p 1 (lit< tt) in no_hit_2000 hit.0 hit.1))
+least_of_kind (suc (suc zero)) l = (small_leaf 3000 (lit≤ tt) (lit≤ tt), least_by Edf 3000 157 (lit≤ tt) (lit≤ tt) fits_3000 (λ p. absurd (omega (arith, p 60000 (lit≤ tt)))))
+least_of_kind (suc (suc (suc zero))) l = (tt, least_by Rm 4000 210 (lit≤ tt) (lit≤ tt) hits_4000 (λ p. let hit = p 1 (lit< tt) in no_hit_4000 hit.0 hit.1))
 least_of_kind (suc (suc (suc (suc k)))) l = absurd (omega arith)
