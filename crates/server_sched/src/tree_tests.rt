@@ -102,13 +102,13 @@ fn all_slots(alloc: Global, sys: &System, slots: u64) -> Result<Vec<Vec<Window>>
     Ok(given)
 }
 
-/// The tree over full cores, whose leaves have no jobs.
+/// The tree over full cores, whose leaves have no jobs, and its counts of a run that is not kept.
 fn idle_tree(
     alloc: Global,
     sys: &System,
     plan: &Plan,
     slots: u64,
-) -> Result<Option<TreeSpans>, AllocError>
+) -> Result<Option<(TreeSpans, TreeCounts)>, AllocError>
     requires some { 1 ≤ slots }
     requires short { slots ≤ 1000000 }
 {
@@ -117,25 +117,9 @@ fn idle_tree(
     }
     let jobs = no_jobs(alloc, sys)?;
     let given = all_slots(alloc, sys, slots)?;
-    Ok(Some(span_tree(alloc, sys, plan, &jobs, &given, slots)?))
-}
-
-/// Its counts, of a run that is not kept.
-fn idle_counts(
-    alloc: Global,
-    sys: &System,
-    plan: &Plan,
-    slots: u64,
-) -> Result<Option<TreeCounts>, AllocError>
-    requires some { 1 ≤ slots }
-    requires short { slots ≤ 1000000 }
-{
-    if !is_plan(sys, plan) {
-        return Ok(None);
-    }
-    let jobs = no_jobs(alloc, sys)?;
-    let given = all_slots(alloc, sys, slots)?;
-    Ok(Some(count_tree(alloc, sys, plan, &jobs, &given, slots)?))
+    let tree = span_tree(alloc, sys, plan, &jobs, &given, slots)?;
+    let counts = count_tree(alloc, sys, plan, &jobs, &given, slots)?;
+    Ok(Some((tree, counts)))
 }
 
 /// The same slot by slot, over 10 slots that the core of a system of one core has, and its counts.
@@ -168,7 +152,7 @@ fn the_second_of_two_servers_misses(rt: HostRuntime) -> Result<(), Fail> {
     let sys = two_servers(&rt, alloc)?;
     let budgets = Vec::from_array(alloc, [6, 6])?;
     let plan = Plan { budgets };
-    let tree = idle_tree(alloc, &sys, &plan, 10)?.expect(&rt, "a plan");
+    let (tree, counted) = idle_tree(alloc, &sys, &plan, 10)?.expect(&rt, "a plan");
     let miss = Miss {
         task: 1,
         release: 0,
@@ -186,9 +170,8 @@ fn the_second_of_two_servers_misses(rt: HostRuntime) -> Result<(), Fail> {
     assert!(rt; !counts.is_kept());
     assert_eq!(rt; counts.cores(), [core].as_slice());
     assert_eq!(rt; counts.parts(), [idle(6), idle(4)].as_slice());
-    let counts = idle_counts(alloc, &sys, &plan, 10)?.expect(&rt, "a plan");
-    assert_eq!(rt; counts.cores(), [core].as_slice());
-    assert_eq!(rt; counts.parts(), [idle(6), idle(4)].as_slice());
+    assert_eq!(rt; counted.cores(), [core].as_slice());
+    assert_eq!(rt; counted.parts(), [idle(6), idle(4)].as_slice());
     let (run, counts) = idle_run(alloc, &sys, &plan)?.expect(&rt, "a plan");
     assert_eq!(rt; counts.cores(), [core].as_slice());
     assert_eq!(rt; counts.parts(), [idle(6), idle(4)].as_slice());
@@ -212,7 +195,7 @@ fn a_group_gives_to_its_children(rt: HostRuntime) -> Result<(), Fail> {
     let sys = system(&rt, alloc, None, parts)?;
     let budgets = Vec::from_array(alloc, [5, 3, 2, 2])?;
     let plan = Plan { budgets };
-    let tree = idle_tree(alloc, &sys, &plan, 20)?.expect(&rt, "a plan");
+    let (tree, counted) = idle_tree(alloc, &sys, &plan, 20)?.expect(&rt, "a plan");
     let group = Counts {
         given: 10,
         released: 4,
@@ -225,9 +208,8 @@ fn a_group_gives_to_its_children(rt: HostRuntime) -> Result<(), Fail> {
         counts.parts(),
         [group, idle(6), idle(4), idle(4)].as_slice()
     );
-    let counts = idle_counts(alloc, &sys, &plan, 20)?.expect(&rt, "a plan");
     assert_eq!(rt;
-        counts.parts(),
+        counted.parts(),
         [group, idle(6), idle(4), idle(4)].as_slice()
     );
     // group has 0 to 5 and 10 to 15, of which its first two slots go to web and the next to db

@@ -1,16 +1,10 @@
-use Rattle.std.proofs.Common.{List, map, sym, ◌∙◌, ap, subst, Vec, Global}
+use Rattle.std.proofs.Common.{map, ◌∙◌, ap, Vec, Global}
 use Rattle.slot_model.specs.declared.job.Job.{Job}
-use Rattle.guest_sched.specs.declared.spans.Window.{Window}
-use Rattle.tree_model.specs.Releases.{AreReleases}
-use Rattle.server_sched.specs.TreeSpans.{AreSupplies, AreFewJobs}
-use Rattle.server_sched.proofs.TestInputs.{no_releases, full_supplies, few_idle}
+use Rattle.server_sched.proofs.TestInputs.{few_idle}
 use Rattle.server_sched.proofs.tree_tests.idle_tree.Goals as goal
 
-pub span_tree-requires-clause-jobs : goal.span_tree-requires-clause-jobs
-span_tree-requires-clause-jobs c = subst (λ (js : List (List Job)). AreReleases c.args.sys.now js) (sym (ap (map (λ (s : Vec Job Global). s.items)) c.deref.ensures.value ∙ c.in_ok-jobs.ensures.none)) (no_releases c.args.sys.now)
-
-pub span_tree-requires-clause-windows : goal.span_tree-requires-clause-windows
-span_tree-requires-clause-windows c = subst (λ (ws : List (List Window)). AreSupplies c.args.sys.now c.args.slots ws) (sym (ap (map (λ (s : Vec Window Global). s.items)) c.deref-2.ensures.value ∙ c.in_ok-given.ensures)) (full_supplies c.args.sys.now c.args.slots c.requires.some)
-
 pub span_tree-requires-clause-few : goal.span_tree-requires-clause-few
-span_tree-requires-clause-few c = subst (λ (js : List (List Job)). AreFewJobs c.args.sys.now c.args.plan.now c.args.slots js) (sym (ap (map (λ (s : Vec Job Global). s.items)) c.deref.ensures.value ∙ c.in_ok-jobs.ensures.none)) (few_idle c.args.sys.now c.args.plan.now c.args.slots c.no_jobs.ensures.system c.requires.short)
+span_tree-requires-clause-few c = few_idle c.args.sys.now c.args.plan.now c.args.slots _ c.no_jobs.ensures.system c.requires.short (ap (map (λ (s : Vec Job Global). s.items)) c.deref.ensures.value ∙ c.in_ok-jobs.ensures.none)
+
+pub count_tree-requires-clause-few : goal.count_tree-requires-clause-few
+count_tree-requires-clause-few c = few_idle c.args.sys.now c.args.plan.now c.args.slots _ c.no_jobs.ensures.system c.requires.short (ap (map (λ (s : Vec Job Global). s.items)) c.deref-3.ensures.value ∙ c.in_ok-jobs.ensures.none)
