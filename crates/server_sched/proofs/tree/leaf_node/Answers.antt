@@ -1,6 +1,5 @@
 use Rattle.std.proofs.Common.{◌≡◌, List, length, take, map, sym, ◌∙◌, subst, Vec, Global}
 use Rattle.slot_model.specs.Task.{SporadicTask, sporadic_tasks}
-use Rattle.slot_model.specs.Order.{before_of}
 use Rattle.slot_model.specs.Run.{guest}
 use Rattle.slot_model.specs.Miss.{HoldsReleased}
 use Rattle.guest_sched.specs.declared.spans.Span.{Span}
@@ -15,15 +14,13 @@ use Rattle.server_sched.proofs.tree.leaf_node.Goals as goal
 
 pub count_level-requires-clause-released : goal.count_level-requires-clause-released
 count_level-requires-clause-released c =
-    let T = sporadic_tasks (take c.unwrap-count.result c.tasks_of.new.into) in
     subst (λ (ss : List Span). HoldsReleased c.args.jobs.now (run_of ss)) (sym c.deref.ensures.value)
-    (first_released guest (before_of c.sched_of-sched.result T) T c.args.jobs.now (slots_of c.args.given.now c.args.slots) (run_of c.in_ok-spans.spans.items) c.in_ok-spans.ensures.first)
+    (first_released guest _ _ _ _ _ c.in_ok-spans.ensures.first)
 
 pub count_level-requires-clause-long : goal.count_level-requires-clause-long
 count_level-requires-clause-long c =
-    let T = sporadic_tasks (take c.unwrap-count.result c.tasks_of.new.into) in
     subst (λ (ss : List Span). length (run_of ss) ≡ c.args.slots) (sym c.deref.ensures.value)
-    (run_long guest (before_of c.sched_of-sched.result T) T c.args.jobs.now c.args.given.now c.args.slots (run_of c.in_ok-spans.spans.items) c.in_ok-spans.ensures.first)
+    (run_long guest _ _ _ c.args.given.now c.args.slots _ c.in_ok-spans.ensures.first)
 
 pub returns : goal.returns
 returns c =

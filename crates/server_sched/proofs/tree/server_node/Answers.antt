@@ -18,29 +18,23 @@ use Rattle.server_sched.proofs.tree.server_node.Goals as goal
 
 pub shares_of-requires-clause-released : goal.shares_of-requires-clause-released
 shares_of-requires-clause-released c =
-    let T = sporadic_tasks (take c.unwrap-count.result c.tasks_of.new.into) in
-    let h : HoldsReleased c.deref.result.now (run_of c.in_ok-spans.spans.items) = first_released server (before_of c.sched_of-sched.result T) T c.deref.result.now (slots_of c.args.given.now c.args.slots) (run_of c.in_ok-spans.spans.items) c.in_ok-spans.ensures.first in
     subst (λ (js : List Job). HoldsReleased js (run_of c.deref-3.result.now)) (c.deref.ensures.value ∙ sym c.deref-2.ensures.value)
-    (subst (λ (ss : List Span). HoldsReleased c.deref.result.now (run_of ss)) (sym c.deref-3.ensures.value) h)
+    (subst (λ (ss : List Span). HoldsReleased c.deref.result.now (run_of ss)) (sym c.deref-3.ensures.value) (first_released server _ _ _ _ _ c.in_ok-spans.ensures.first))
 
 pub shares_of-requires-clause-spans : goal.shares_of-requires-clause-spans
 shares_of-requires-clause-spans c =
-    let T = sporadic_tasks (take c.unwrap-count.result c.tasks_of.new.into) in
-    let long = run_long server (before_of c.sched_of-sched.result T) T c.deref.result.now c.args.given.now c.args.slots (run_of c.in_ok-spans.spans.items) c.in_ok-spans.ensures.first in
+    let long = run_long server _ _ _ c.args.given.now c.args.slots _ c.in_ok-spans.ensures.first in
     subst (λ (ss : List Span). AreSpans ss (length (run_of ss))) (sym c.deref-3.ensures.value) (subst (λ (m : ℕ). AreSpans c.in_ok-spans.spans.items m) (sym long) c.in_ok-spans.ensures.spans)
 
 pub count_level-requires-clause-released : goal.count_level-requires-clause-released
 count_level-requires-clause-released c =
-    let T = sporadic_tasks (take c.unwrap-count.result c.tasks_of.new.into) in
-    let h : HoldsReleased c.deref.result.now (run_of c.in_ok-spans.spans.items) = first_released server (before_of c.sched_of-sched.result T) T c.deref.result.now (slots_of c.args.given.now c.args.slots) (run_of c.in_ok-spans.spans.items) c.in_ok-spans.ensures.first in
     subst (λ (js : List Job). HoldsReleased js (run_of c.deref-5.result.now)) (c.deref.ensures.value ∙ sym c.deref-4.ensures.value)
-    (subst (λ (ss : List Span). HoldsReleased c.deref.result.now (run_of ss)) (sym c.deref-5.ensures.value) h)
+    (subst (λ (ss : List Span). HoldsReleased c.deref.result.now (run_of ss)) (sym c.deref-5.ensures.value) (first_released server _ _ _ _ _ c.in_ok-spans.ensures.first))
 
 pub count_level-requires-clause-long : goal.count_level-requires-clause-long
 count_level-requires-clause-long c =
-    let T = sporadic_tasks (take c.unwrap-count.result c.tasks_of.new.into) in
     subst (λ (ss : List Span). length (run_of ss) ≡ c.args.slots) (sym c.deref-5.ensures.value)
-    (run_long server (before_of c.sched_of-sched.result T) T c.deref.result.now c.args.given.now c.args.slots (run_of c.in_ok-spans.spans.items) c.in_ok-spans.ensures.first)
+    (run_long server _ _ _ c.args.given.now c.args.slots _ c.in_ok-spans.ensures.first)
 
 pub returns : goal.returns
 returns c =
