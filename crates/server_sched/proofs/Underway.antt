@@ -149,7 +149,7 @@ sound sched T slots level h = record {
 pub sound_in : (sched : Sched) (T : List SporadicTask) (slots : List Bool) (n : ℕ) (level : Level) → IsUnderway sched T slots level → level.slots ≡ n → IsSound T n level
 sound_in sched T slots n level h same = subst (λ (m : ℕ). IsSound T m level) same (sound sched T slots level h)
 
--- such a level on its way to a moment, in a walk of windows that it is in since an older one
+-- such a level, on its way from one moment to another
 pub record UnderwayTo (sched : Sched) (T : List SporadicTask) (windows : List Window) (n old until : ℕ) (level : Level) : Type 0 where
   pub state : IsUnderway sched T (slots_of windows n) level
   pub slots : level.slots ≡ n
