@@ -19,23 +19,9 @@ use Rattle.system_file.specs.Faults.{fault_if, required, optional, format_faults
 use Rattle.system_file.specs.Reading.{is_on, has_child, is_empty_part, part_in, ParentsAmong}
 use Rattle.system_file.proofs.Places.{leaf_tasks}
 use Rattle.system_file.proofs.Found.{list_any_same, any_at, none_in_order, first_in_order}
-use Rattle.system_file.proofs.Faultless.{not_wrong, table_inside, few_there}
+use Rattle.system_file.proofs.Faultless.{not_wrong, table_inside, few_there, cores_there}
 use Rattle.system_file.proofs.Rules.{each, distinct, core_supply, part_is}
 use Rattle.system_file.proofs.Nodes.{part_none, all_new, parent_part, parent_core, on_part_is, link}
-
--- 1 to 64 cores
-cores_few : (o : Option Data) → required Top core_array_faults o ≡ [] → (1 ≤ length (array_of o)) × (length (array_of o) ≤ 64)
-cores_few None h = cc
-cores_few (Some (string s)) h = cc
-cores_few (Some (integer z)) h = cc
-cores_few (Some (float x)) h = cc
-cores_few (Some (boolean b)) h = cc
-cores_few (Some (datetime t)) h = cc
-cores_few (Some (table m)) h = cc
-cores_few (Some (array ds)) h = by (length (elements_of ds)) (not_wrong _ _ (none_left _ _ h)) (not_wrong _ _ (none_right (fault_if (length (elements_of ds) == 0) (Empty Top)) _ h))
-  where
-    by : (n : ℕ) → (n == 0) ≡ false → nat_lt 64 n ≡ false → (1 ≤ n) × (n ≤ 64)
-    by n some few = grind (arith, nat_tests)
 
 -- the names of spelled cores and parts
 pub core_names : (ds : List Data) → map (λ (c : CoreView). c.name) (map spelled_core ds) ≡ map (λ d. text_of (get (codes "name") d)) ds
@@ -149,7 +135,7 @@ faultless_is_system top h =
     let keys = table_inside Top top_keys (required Top format_faults (get (codes "format") top) ++ (required Top core_array_faults (get (codes "core") top) ++ optional (array_faults Top 512) (get (codes "part") top))) top in_top in
     let arrays = none_right (required Top format_faults (get (codes "format") top)) _ keys in
     is_system (cores_of top) (parts_of top) (format_of top) no_core no_part
-    (cores_few (get (codes "core") top) (none_left _ _ arrays))
+    (cores_there (get (codes "core") top) (none_left _ _ arrays)).1
     (few_there Top 512 (get (codes "part") top) (none_right (required Top core_array_faults (get (codes "core") top)) _ arrays))
     no_empty
 

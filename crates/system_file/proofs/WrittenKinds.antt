@@ -16,53 +16,36 @@ use Rattle.system_file.specs.Document.{number_of, format_of, is_named, cores_of,
 use Rattle.system_file.specs.Faults.{fault_if, required, optional, text_faults, new_name_faults, sched_faults, parent_faults, format_faults, range_faults, below_faults, flag_faults, array_faults, core_array_faults, supply_faults, table_faults, in_order, core_keys, core_key_faults, core_faults, task_keys, task_key_faults, task_number_faults, task_faults, part_keys, part_key_faults, part_faults, top_keys, top_faults, faults}
 use Rattle.system_file.specs.Written.{IsTableOf, IsFormatNumber, IsNameText, IsSchedText, IsWhole, IsFlag, IsArray, There, MayBe, BothOrNeither, IsWrittenTask, IsWrittenCore, IsWrittenPart, IsWritten}
 use Rattle.system_file.proofs.Places.{parent_kept}
-use Rattle.system_file.proofs.Faultless.{not_wrong, table_inside, text_there}
+use Rattle.system_file.proofs.Faultless.{not_wrong, table_there, table_inside, text_there, name_fits, whole_there, whole_below, supplies_there, array_there, cores_there}
 use Rattle.system_file.proofs.Rules.{each, part_keys_none, part_server, part_parent}
-
-all_listed : (b : Bool) → not b ≡ false → b ≡ true
-all_listed true h = refl
-all_listed false h = cc
-
-table_of : (spot : Spot) (listed : List (List ℕ)) (at_keys : List SystemFault) (d : Data) → table_faults spot listed at_keys d ≡ [] → IsTableOf listed d
-table_of spot listed at_keys (string s) h = cc
-table_of spot listed at_keys (integer z) h = cc
-table_of spot listed at_keys (float x) h = cc
-table_of spot listed at_keys (boolean b) h = cc
-table_of spot listed at_keys (datetime t) h = cc
-table_of spot listed at_keys (array ds) h = cc
-table_of spot listed at_keys (table m) h = record { members = m; is = refl; only = all_listed _ (not_wrong _ _ (none_left _ _ h)) }
-
-valid : (spot : Spot) (taken b : Bool) → (if b then fault_if taken (NameTaken spot) else BadName spot ∷ []) ≡ [] → b ≡ true
-valid spot taken true h = refl
-valid spot taken false h = cc
 
 name_text : (spot : Spot) (earlier : List Data) (o : Option Data) → required spot (text_faults spot (new_name_faults spot earlier)) o ≡ [] → IsNameText o
 name_text spot earlier o h =
     let t = text_there spot (new_name_faults spot earlier) o h in
-    record { name = t.text; is = t.is; valid = valid spot (list_any (is_named t.text) earlier) (is_name t.text) t.none }
+    record { name = t.text; is = t.is; valid = (name_fits spot (list_any (is_named t.text) earlier) (is_name t.text) t.none).0 }
 
 sched_text : (spot : Spot) (o : Option Data) → required spot (text_faults spot (sched_faults spot)) o ≡ [] → IsSchedText o
 sched_text spot o h =
     let t = text_there spot (sched_faults spot) o h in
     record { text = t.text; is = t.is; listed = not_wrong _ _ t.none }
 
-whole : (spot : Spot) (highest : ℕ) (d : Data) → range_faults spot highest d ≡ [] → IsWhole d
-whole spot highest (string s) h = cc
-whole spot highest (integer (pos n)) h = (n, refl)
-whole spot highest (integer (negsuc n)) h = cc
-whole spot highest (float x) h = cc
-whole spot highest (boolean b) h = cc
-whole spot highest (datetime t) h = cc
-whole spot highest (array ds) h = cc
-whole spot highest (table m) h = cc
+number_written : (spot : Spot) (highest : ℕ) (o : Option Data) → required spot (range_faults spot highest) o ≡ [] → There IsWhole o
+number_written spot highest None h = cc
+number_written spot highest (Some d) h = (whole_there spot highest d h).0
 
-whole_there : (spot : Spot) (highest : ℕ) (o : Option Data) → required spot (range_faults spot highest) o ≡ [] → There IsWhole o
-whole_there spot highest None h = cc
-whole_there spot highest (Some d) h = whole spot highest d h
+-- a value that may be left out
+maybe : (Kind : Data → Type 0) (at_value : Data → List SystemFault) → ((d : Data) → at_value d ≡ [] → Kind d) → (o : Option Data) → optional at_value o ≡ [] → MayBe Kind o
+maybe Kind at_value each None h = tt
+maybe Kind at_value each (Some d) h = each d h
 
 maybe_whole : (spot : Spot) (highest : ℕ) (o : Option Data) → optional (range_faults spot highest) o ≡ [] → MayBe IsWhole o
-maybe_whole spot highest None h = tt
-maybe_whole spot highest (Some d) h = whole spot highest d h
+maybe_whole spot highest o h = maybe IsWhole (range_faults spot highest) (λ d e. (whole_there spot highest d e).0) o h
+
+maybe_below : (spot : Spot) (bound : ℕ) (o : Option Data) → optional (below_faults spot bound) o ≡ [] → MayBe IsWhole o
+maybe_below spot bound o h = maybe IsWhole (below_faults spot bound) (λ d e. (whole_below spot bound d e).0) o h
+
+maybe_array : (spot : Spot) (most : ℕ) (o : Option Data) → optional (array_faults spot most) o ≡ [] → MayBe IsArray o
+maybe_array spot most o h = maybe IsArray (array_faults spot most) (λ d e. (array_there spot most d e).0) o h
 
 maybe_flag : (spot : Spot) (o : Option Data) → optional (flag_faults spot) o ≡ [] → MayBe IsFlag o
 maybe_flag spot None h = tt
@@ -74,37 +57,6 @@ maybe_flag spot (Some (datetime t)) h = cc
 maybe_flag spot (Some (array ds)) h = cc
 maybe_flag spot (Some (table m)) h = cc
 
-maybe_array : (spot : Spot) (most : ℕ) (o : Option Data) → optional (array_faults spot most) o ≡ [] → MayBe IsArray o
-maybe_array spot most None h = tt
-maybe_array spot most (Some (string s)) h = cc
-maybe_array spot most (Some (integer z)) h = cc
-maybe_array spot most (Some (float x)) h = cc
-maybe_array spot most (Some (boolean b)) h = cc
-maybe_array spot most (Some (datetime t)) h = cc
-maybe_array spot most (Some (array ds)) h = (ds, refl)
-maybe_array spot most (Some (table m)) h = cc
-
-array_there : (o : Option Data) → required Top core_array_faults o ≡ [] → There IsArray o
-array_there None h = cc
-array_there (Some (string s)) h = cc
-array_there (Some (integer z)) h = cc
-array_there (Some (float x)) h = cc
-array_there (Some (boolean b)) h = cc
-array_there (Some (datetime t)) h = cc
-array_there (Some (array ds)) h = (ds, refl)
-array_there (Some (table m)) h = cc
-
-maybe_below : (spot : Spot) (bound : ℕ) (o : Option Data) → optional (below_faults spot bound) o ≡ [] → MayBe IsWhole o
-maybe_below spot bound None h = tt
-maybe_below spot bound (Some (string s)) h = cc
-maybe_below spot bound (Some (integer (pos n))) h = (n, refl)
-maybe_below spot bound (Some (integer (negsuc n))) h = cc
-maybe_below spot bound (Some (float x)) h = cc
-maybe_below spot bound (Some (boolean b)) h = cc
-maybe_below spot bound (Some (datetime t)) h = cc
-maybe_below spot bound (Some (array ds)) h = cc
-maybe_below spot bound (Some (table m)) h = cc
-
 format_there : (o : Option Data) → required Top format_faults o ≡ [] → IsFormatNumber o
 format_there None h = cc
 format_there (Some (string s)) h = cc
@@ -115,15 +67,6 @@ format_there (Some (datetime t)) h = cc
 format_there (Some (array ds)) h = cc
 format_there (Some (table m)) h = cc
 
-both : (spot : Spot) (a b : Option Data) → supply_faults spot a b ≡ [] → BothOrNeither a b
-both spot None None h = tt
-both spot (Some period) None h = nothing (none_right (range_faults spot LIMIT period) _ h)
-  where
-    nothing : MissingKey spot ∷ [] ≡ [] → ⊥
-    nothing e = cc
-both spot None (Some budget) h = cc
-both spot (Some period) (Some budget) h = (whole spot LIMIT period (none_left _ _ h), whole spot (number_of (Some period)) budget (none_right (range_faults spot LIMIT period) _ h))
-
 task_written : (format : Format) (q : ℕ) (earlier : List Data) (d : Data) → task_faults format q earlier d ≡ [] → IsWrittenTask format d
 task_written format q earlier d h =
     let spot = Task q (length earlier) in
@@ -133,12 +76,12 @@ task_written format q earlier d h =
     let after_deadline = none_right (optional (range_faults spot (number_of (get (codes "period") d))) (get (codes "deadline") d)) _ after_period in
     let after_jitter = none_right (optional (below_faults spot (deadline_of d)) (get (codes "jitter") d)) _ after_deadline in
     record {
-      keys = table_of spot (task_keys format) (task_key_faults spot earlier d) d h;
+      keys = (table_there spot (task_keys format) (task_key_faults spot earlier d) d h).0;
       name = name_text spot earlier (get (codes "name") d) (none_left _ _ keys);
-      period = whole_there spot LIMIT (get (codes "period") d) (none_left _ _ numbers);
+      period = number_written spot LIMIT (get (codes "period") d) (none_left _ _ numbers);
       deadline = maybe_whole spot (number_of (get (codes "period") d)) (get (codes "deadline") d) (none_left _ _ after_period);
       jitter = maybe_below spot (deadline_of d) (get (codes "jitter") d) (none_left _ _ after_deadline);
-      work = whole_there spot (room_of (spelled_task d).task) (get (codes "work") d) after_jitter;
+      work = number_written spot (room_of (spelled_task d).task) (get (codes "work") d) after_jitter;
     }
 
 core_written : (earlier : List Data) (d : Data) → core_faults earlier d ≡ [] → IsWrittenCore d
@@ -147,10 +90,10 @@ core_written earlier d h =
     let keys : core_key_faults (Core (length earlier)) earlier d ≡ [] = table_inside spot core_keys (core_key_faults spot earlier d) d h in
     let more = none_right (required spot (text_faults spot (new_name_faults spot earlier)) (get (codes "name") d)) _ keys in
     record {
-      keys = table_of spot core_keys (core_key_faults spot earlier d) d h;
+      keys = (table_there spot core_keys (core_key_faults spot earlier d) d h).0;
       name = name_text spot earlier (get (codes "name") d) (none_left _ _ keys);
       sched = sched_text spot (get (codes "sched") d) (none_left _ _ more);
-      supply = both spot (get (codes "supply_period") d) (get (codes "supply_budget") d) (none_right (required spot (text_faults spot (sched_faults spot)) (get (codes "sched") d)) _ more);
+      supply = (supplies_there spot (get (codes "supply_period") d) (get (codes "supply_budget") d) (none_right (required spot (text_faults spot (sched_faults spot)) (get (codes "sched") d)) _ more)).0;
     }
 
 part_written : (format : Format) (cores earlier later : List Data) (d : Data) → part_faults format cores earlier d ≡ [] → IsWrittenPart format cores (earlier ++ later) d
@@ -166,11 +109,11 @@ part_written format cores earlier later d h =
     let after_period = none_right (required spot (range_faults spot LIMIT) (get (codes "period") d)) _ server in
     let after_budget = none_right (optional (range_faults spot (number_of (get (codes "period") d))) (get (codes "budget") d)) _ after_period in
     record {
-      keys = table_of spot part_keys at_keys d h;
+      keys = (table_there spot part_keys at_keys d h).0;
       name = name_text spot (cores ++ earlier) (get (codes "name") d) (none_left _ _ keys);
       parent = record { text = there.text; is = there.is; parent = there.parent; named = parent_kept cores earlier later there.text there.parent there.found };
       sched = sched_text spot (get (codes "sched") d) (none_left _ _ after_parent);
-      period = whole_there spot LIMIT (get (codes "period") d) (none_left _ _ server);
+      period = number_written spot LIMIT (get (codes "period") d) (none_left _ _ server);
       budget = maybe_whole spot (number_of (get (codes "period") d)) (get (codes "budget") d) (none_left _ _ after_period);
       extra = maybe_flag spot (get (codes "extra") d) (none_left _ _ after_budget);
       task = maybe_array spot 256 (get (codes "task") d) (none_right (optional (flag_faults spot) (get (codes "extra") d)) _ after_budget);
@@ -187,9 +130,9 @@ faultless_is_written top h =
     let keys = table_inside Top top_keys at_keys top in_top in
     let arrays = none_right (required Top format_faults (get (codes "format") top)) _ keys in
     record {
-      keys = table_of Top top_keys at_keys top in_top;
+      keys = (table_there Top top_keys at_keys top in_top).0;
       format = format_there (get (codes "format") top) (none_left _ _ keys);
-      core = array_there (get (codes "core") top) (none_left _ _ arrays);
+      core = (cores_there (get (codes "core") top) (none_left _ _ arrays)).0;
       part = maybe_array Top 512 (get (codes "part") top) (none_right (required Top core_array_faults (get (codes "core") top)) _ arrays);
       cores = λ c few. core_written (take c (cores_of top)) (get_or (cores_of top) c (boolean false)) (each core_faults [] (cores_of top) c (boolean false) few no_core);
       parts = λ q few. subst (λ (ps : List Data). IsWrittenPart (format_of top) (cores_of top) ps (get_or (parts_of top) q (boolean false))) (take-append-drop q (parts_of top))

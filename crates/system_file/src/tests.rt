@@ -3,29 +3,25 @@ use slot_model::Sched;
 use std::alloc::{AllocError, Global};
 use tree_model::Parent;
 
-fn fault_of(alloc: Global, text: &str) -> Option<SystemFault> {
-    match read_system(alloc, text.as_bytes()) {
-        Ok(_) => None,
-        Err(fault) => Some(fault),
+/// The fault of a text, if there is memory for it.
+fn fault_of(alloc: Global, text: Result<String, AllocError>) -> Option<SystemFault> {
+    match text {
+        Ok(text) => read_system(alloc, text.as_bytes()).err(),
+        Err(_) => Some(SystemFault::NoMemory),
     }
 }
 
 const HEAD: &str = "format = 1\n[[core]]\nname = 'cpu0'\nsched = 'edf'\n";
 
 fn fault_behind_head(alloc: Global, text: &str) -> Option<SystemFault> {
-    match format!(in alloc; "{HEAD}{text}") {
-        Ok(whole) => fault_of(alloc, whole.as_str()),
-        Err(_) => Some(SystemFault::NoMemory),
-    }
+    fault_of(alloc, format!(in alloc; "{HEAD}{text}"))
 }
 
 fn fault_of_task(alloc: Global, task: &str) -> Option<SystemFault> {
-    match format!(in alloc;
+    let text = format!(in alloc;
         "{HEAD}[[part]]\nname = 'p'\nparent = 'cpu0'\nsched = 'edf'\nperiod = 10\n[[part.task]]\n{task}"
-    ) {
-        Ok(whole) => fault_of(alloc, whole.as_str()),
-        Err(_) => Some(SystemFault::NoMemory),
-    }
+    );
+    fault_of(alloc, text)
 }
 
 #[test]
@@ -109,7 +105,10 @@ fn whole_files(rt: HostRuntime) {
             SystemFault::NameTaken(Spot::Core(1)),
         ),
     ] {
-        assert!(rt; fault_of(rt.alloc(), text) == Some(fault), "{text}");
+        assert!(rt;
+            fault_of(rt.alloc(), String::from_str(rt.alloc(), text)) == Some(fault),
+            "{text}"
+        );
     }
     assert!(rt;
         matches!(read_system(rt.alloc(), &[0xff]), Err(SystemFault::NotToml)),
@@ -274,12 +273,10 @@ fn tasks(rt: HostRuntime) {
 
 /// The fault of a file of format 2 with one task.
 fn fault_of_late_task(alloc: Global, task: &str) -> Option<SystemFault> {
-    match format!(in alloc;
+    let text = format!(in alloc;
         "format = 2\n[[core]]\nname = 'c'\nsched = 'edf'\n[[part]]\nname = 'p'\nparent = 'c'\nsched = 'edf'\nperiod = 10\n[[part.task]]\nname = 't'\n{task}"
-    ) {
-        Ok(whole) => fault_of(alloc, whole.as_str()),
-        Err(_) => Some(SystemFault::NoMemory),
-    }
+    );
+    fault_of(alloc, text)
 }
 
 #[test]
@@ -382,22 +379,22 @@ fn repeated(alloc: Global, head: &str, piece: &str, count: u32) -> Result<String
 
 #[test]
 fn too_many(rt: HostRuntime) {
-    let cores = repeated(rt.alloc(), "format = 1\n", "core", 65).expect(&rt, "memory");
-    assert!(rt; fault_of(rt.alloc(), cores.as_str()) == Some(SystemFault::TooMany(Spot::Top)));
+    let cores = repeated(rt.alloc(), "format = 1\n", "core", 65);
+    assert!(rt; fault_of(rt.alloc(), cores) == Some(SystemFault::TooMany(Spot::Top)));
     let part =
         "format = 1\n[[core]]\nname = 'c'\nsched = 'dm'\nsupply_period = 1000000000\nsupply_budget = 1000000000\n[[part]]\nname = 'p'\nparent = 'c'\nsched = 'listed'\nperiod = 1000000000\nbudget = 1000000000\nextra = false\n";
-    let tasks = repeated(rt.alloc(), part, "part.task", 257).expect(&rt, "memory");
-    assert!(rt; fault_of(rt.alloc(), tasks.as_str()) == Some(SystemFault::TooMany(Spot::Part(0))));
+    let tasks = repeated(rt.alloc(), part, "part.task", 257);
+    assert!(rt; fault_of(rt.alloc(), tasks) == Some(SystemFault::TooMany(Spot::Part(0))));
     let inner = format!(in rt.alloc();
         "{part}task = []\n[[part]]\nname = 'q'\nparent = 'p'\nsched = 'rm'\nperiod = 1\nbudget = 1\n[[part.task]]\nname = 't'\nperiod = 1\nwork = 1\n"
-    ).expect(&rt, "memory");
-    assert!(rt; fault_of(rt.alloc(), inner.as_str()) == None);
+    );
+    assert!(rt; fault_of(rt.alloc(), inner) == None);
 }
 
 #[test]
 fn many_parts(rt: HostRuntime) {
-    let full = numbered(rt.alloc(), 512).expect(&rt, "memory");
-    assert!(rt; fault_of(rt.alloc(), full.as_str()) == None);
-    let more = numbered(rt.alloc(), 513).expect(&rt, "memory");
-    assert!(rt; fault_of(rt.alloc(), more.as_str()) == Some(SystemFault::TooMany(Spot::Top)));
+    let full = numbered(rt.alloc(), 512);
+    assert!(rt; fault_of(rt.alloc(), full) == None);
+    let more = numbered(rt.alloc(), 513);
+    assert!(rt; fault_of(rt.alloc(), more) == Some(SystemFault::TooMany(Spot::Top)));
 }

@@ -113,9 +113,10 @@ work = 1
 #[test]
 fn a_tree_is_printed(rt: HostRuntime) -> Result<(), Fail> {
     let alloc = rt.alloc();
-    let mut cores = Vec::new(alloc);
-    cores.push(core(&rt, alloc, "cpu0", Sched::Edf, None)?)?;
-    cores.push(core(&rt, alloc, "cpu1", Sched::Rm, Some((10, 4)))?)?;
+    let cores = vec![in alloc;
+        core(&rt, alloc, "cpu0", Sched::Edf, None)?,
+        core(&rt, alloc, "cpu1", Sched::Rm, Some((10, 4)))?,
+    ]?;
     let mut web = inner(&rt, alloc, "web", Parent::Part(0), Sched::Dm, 4)?;
     web.budget = Some(3);
     web.extra = true;
@@ -123,35 +124,26 @@ fn a_tree_is_printed(rt: HostRuntime) -> Result<(), Fail> {
     add_task(&rt, alloc, &mut web, "disk", 20, 20, 5)?;
     let mut db = inner(&rt, alloc, "db", Parent::Core(0), Sched::Edf, 6)?;
     add_task(&rt, alloc, &mut db, "net", 1_000_000_000, 1_000_000_000, 1)?;
-    let mut parts = Vec::new(alloc);
-    parts.push(inner(&rt, alloc, "group", Parent::Core(1), Sched::Listed, 5)?)?;
-    parts.push(web)?;
-    parts.push(db)?;
-    match System::new(cores, parts) {
-        Ok(sys) => {
-            let text = print_system(alloc, &sys)?;
-            assert_eq!(rt; str::from_utf8(text.as_slice()), Ok(TREE));
-        }
-        Err(_) => assert!(rt; false, "a system"),
-    }
+    let group = inner(&rt, alloc, "group", Parent::Core(1), Sched::Listed, 5)?;
+    let parts = vec![in alloc; group, web, db]?;
+    let sys = System::new(cores, parts).ok().expect(&rt, "a system");
+    let text = print_system(alloc, &sys)?;
+    assert_eq!(rt; str::from_utf8(text.as_slice()), Ok(TREE));
     Ok(())
 }
 
 #[test]
 fn a_core_alone_is_printed(rt: HostRuntime) -> Result<(), Fail> {
     let alloc = rt.alloc();
-    let mut cores = Vec::new(alloc);
-    cores.push(core(&rt, alloc, "cpu0", Sched::Edf, None)?)?;
-    match System::new(cores, Vec::new(alloc)) {
-        Ok(sys) => {
-            let text = print_system(alloc, &sys)?;
-            assert_eq!(rt;
-                str::from_utf8(text.as_slice()),
-                Ok("format = 1\n\n[[core]]\nname = \"cpu0\"\nsched = \"edf\"\n")
-            );
-        }
-        Err(_) => assert!(rt; false, "a system"),
-    }
+    let cores = vec![in alloc; core(&rt, alloc, "cpu0", Sched::Edf, None)?]?;
+    let sys = System::new(cores, Vec::new(alloc))
+        .ok()
+        .expect(&rt, "a system");
+    let text = print_system(alloc, &sys)?;
+    assert_eq!(rt;
+        str::from_utf8(text.as_slice()),
+        Ok("format = 1\n\n[[core]]\nname = \"cpu0\"\nsched = \"edf\"\n")
+    );
     Ok(())
 }
 
