@@ -157,27 +157,12 @@ fn a_leaf_is_simulated(rt: HostRuntime) -> Result<(), Fail> {
 #[test]
 fn trees_are_simulated(rt: HostRuntime) -> Result<(), Fail> {
     let alloc = rt.alloc();
-    for (system, releases, pattern, slots, want, answer) in [
+    let all = ["early", "late", "worst"];
+    for (system, releases, patterns, slots, want, answer) in [
         (
             [SIXES].as_slice(),
             "",
-            "early",
-            "10",
-            Status::No,
-            SIXES_ANSWER,
-        ),
-        (
-            [SIXES].as_slice(),
-            "",
-            "late",
-            "10",
-            Status::No,
-            SIXES_ANSWER,
-        ),
-        (
-            [SIXES].as_slice(),
-            "",
-            "worst",
+            all.as_slice(),
             "10",
             Status::No,
             SIXES_ANSWER,
@@ -185,23 +170,7 @@ fn trees_are_simulated(rt: HostRuntime) -> Result<(), Fail> {
         (
             [HOST].as_slice(),
             "0,audio,frame,1800\n",
-            "early",
-            "10000",
-            Status::Yes,
-            HOST_COUNTS,
-        ),
-        (
-            [HOST].as_slice(),
-            "0,audio,frame,1800\n",
-            "late",
-            "10000",
-            Status::Yes,
-            HOST_COUNTS,
-        ),
-        (
-            [HOST].as_slice(),
-            "0,audio,frame,1800\n",
-            "worst",
+            all.as_slice(),
             "10000",
             Status::Yes,
             HOST_COUNTS,
@@ -209,23 +178,7 @@ fn trees_are_simulated(rt: HostRuntime) -> Result<(), Fail> {
         (
             [TREE_HEAD, "supply_budget = 16\n", TREE_REST].as_slice(),
             OF_TREE,
-            "early",
-            "200",
-            Status::Yes,
-            TREE_COUNTS,
-        ),
-        (
-            [TREE_HEAD, "supply_budget = 16\n", TREE_REST].as_slice(),
-            OF_TREE,
-            "late",
-            "200",
-            Status::Yes,
-            TREE_COUNTS,
-        ),
-        (
-            [TREE_HEAD, "supply_budget = 16\n", TREE_REST].as_slice(),
-            OF_TREE,
-            "worst",
+            all.as_slice(),
             "200",
             Status::Yes,
             TREE_COUNTS,
@@ -234,7 +187,7 @@ fn trees_are_simulated(rt: HostRuntime) -> Result<(), Fail> {
         (
             [TREE_HEAD, "supply_budget = 16\n", TREE_REST].as_slice(),
             OF_TREE,
-            "early",
+            ["early"].as_slice(),
             "30",
             Status::Yes,
             "verdict=yes\ncore cpu0 given=26 jobs=1 missed=0\n\
@@ -244,7 +197,7 @@ fn trees_are_simulated(rt: HostRuntime) -> Result<(), Fail> {
         (
             [TREE_HEAD, "supply_budget = 16\n", TREE_REST].as_slice(),
             OF_TREE,
-            "late",
+            ["late"].as_slice(),
             "18",
             Status::Yes,
             "verdict=yes\ncore cpu0 given=14 jobs=1 missed=0\n\
@@ -254,7 +207,7 @@ fn trees_are_simulated(rt: HostRuntime) -> Result<(), Fail> {
         (
             [TREE_HEAD, "supply_budget = 16\n", TREE_REST].as_slice(),
             OF_TREE,
-            "worst",
+            ["worst"].as_slice(),
             "30",
             Status::Yes,
             "verdict=yes\ncore cpu0 given=22 jobs=1 missed=0\n\
@@ -265,7 +218,7 @@ fn trees_are_simulated(rt: HostRuntime) -> Result<(), Fail> {
         (
             [TREE_HEAD, "supply_budget = 4\n", TREE_REST].as_slice(),
             OF_TREE,
-            "early",
+            ["early"].as_slice(),
             "100",
             Status::No,
             "verdict=no\ncore cpu0 given=20 jobs=2 missed=2\n\
@@ -277,9 +230,11 @@ fn trees_are_simulated(rt: HostRuntime) -> Result<(), Fail> {
     ] {
         let sys = joined(alloc, system)?;
         let jobs = joined(alloc, [HEADER, releases].as_slice())?;
-        let (status, written) = simulated(alloc, sys.as_str(), jobs.as_str(), pattern, slots)?;
-        assert_eq!(rt; status, want, "{answer}");
-        assert_eq!(rt; written.as_slice(), answer.as_bytes(), "{answer}");
+        for pattern in patterns {
+            let (status, written) = simulated(alloc, sys.as_str(), jobs.as_str(), pattern, slots)?;
+            assert_eq!(rt; status, want, "{answer}");
+            assert_eq!(rt; written.as_slice(), answer.as_bytes(), "{answer}");
+        }
     }
     Ok(())
 }
