@@ -12,7 +12,7 @@ use Rattle.system_file.specs.declared.fault.Spot.TheVariants.{Top}
 use Rattle.system_file.specs.declared.fault.SystemFault.{SystemFault}
 use Rattle.system_file.specs.declared.fault.SystemFault.TheVariants.{BadName, NameTaken, Empty}
 use Rattle.system_file.specs.Document.{elements_of, array_of, number_of, given_number, is_named, supply_of}
-use Rattle.system_file.specs.Faults.{fault_if, required, optional, text_faults, new_name_faults, name_faults, range_faults, below_faults, supply_faults, array_faults, core_array_faults, table_faults}
+use Rattle.system_file.specs.Faults.{fault_if, required, optional, text_faults, new_name_faults, range_faults, below_faults, supply_faults, array_faults, core_array_faults, table_faults}
 use Rattle.system_file.specs.Written.{IsTableOf, IsWhole, IsArray, There, BothOrNeither}
 
 pub not_wrong : (b : Bool) (fault : SystemFault) → fault_if b fault ≡ [] → b ≡ false

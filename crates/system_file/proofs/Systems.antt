@@ -1,8 +1,7 @@
 -- A document without faults spells a system.
-use Rattle.std.proofs.Common.{◌≡◌, ℕ, ◌<◌, ◌≤◌, ◌==◌, nat_lt, Bool, true, false, not, ◌&&◌, List, [], ◌∷◌, ◌++◌, map, length, take, get_or, Option, Some, None, refl, sym, ap, subst, ◌∙◌, codes, arith, length-take-le}
-use Rattle.std.proofs.lemmas.Bool.Decides.{nat_tests}
+use Rattle.std.proofs.Common.{◌≡◌, ℕ, ◌<◌, ◌≤◌, Bool, true, false, not, ◌&&◌, List, [], ◌∷◌, ◌++◌, map, length, take, get_or, Some, refl, sym, ap, subst, ◌∙◌, codes, arith, length-take-le}
 use Rattle.std.proofs.lemmas.List.{map-append, get_or-map}
-use Rattle.toml.specs.Data.{Data, string, integer, float, boolean, datetime, array, table, get}
+use Rattle.toml.specs.Data.{Data, boolean, get}
 use Rattle.tree_model.specs.declared.pinned_core.Core.{Core as CoreView}
 use Rattle.tree_model.specs.declared.place.Parent.{Parent}
 use Rattle.tree_model.specs.declared.place.Parent.TheVariants.{Core as on_core, Part as on_part}
@@ -14,12 +13,12 @@ use Rattle.system_file.specs.declared.format.Format.{Format}
 use Rattle.system_file.specs.declared.fault.Spot.TheVariants.{Top, Part}
 use Rattle.system_file.specs.declared.fault.SystemFault.{SystemFault}
 use Rattle.system_file.specs.declared.fault.SystemFault.TheVariants.{Empty}
-use Rattle.system_file.specs.Document.{format_of, elements_of, array_of, text_of, is_text, cores_of, parts_of, tasks_of, parent_at, spelled_core, spelled_part, spelled_system}
+use Rattle.system_file.specs.Document.{format_of, text_of, is_text, cores_of, parts_of, tasks_of, parent_at, spelled_core, spelled_part, spelled_system}
 use Rattle.system_file.specs.Faults.{fault_if, required, optional, format_faults, core_array_faults, array_faults, top_faults, top_keys, in_order, core_faults, part_faults, empty_faults, has_tasks, is_parent, faults}
 use Rattle.system_file.specs.Reading.{is_on, has_child, is_empty_part, part_in, ParentsAmong}
 use Rattle.system_file.proofs.Places.{leaf_tasks}
 use Rattle.system_file.proofs.Found.{list_any_same, any_at, none_in_order, first_in_order}
-use Rattle.system_file.proofs.Faultless.{not_wrong, table_inside, few_there, cores_there}
+use Rattle.system_file.proofs.Faultless.{table_inside, few_there, cores_there}
 use Rattle.system_file.proofs.Rules.{each, distinct, core_supply, part_is}
 use Rattle.system_file.proofs.Nodes.{part_none, all_new, parent_part, parent_core, on_part_is, link}
 

@@ -1,5 +1,5 @@
 -- A document without faults is written by the rules.
-use Rattle.std.proofs.Common.{◌≡◌, ℕ, pos, negsuc, Bool, true, false, not, List, [], ◌∷◌, ◌++◌, length, take, drop, get_or, Option, Some, None, refl, subst, codes, if◌then◌else◌}
+use Rattle.std.proofs.Common.{◌≡◌, ℕ, false, List, [], ◌++◌, length, take, drop, get_or, Option, Some, None, refl, subst, codes}
 use Rattle.std.proofs.lemmas.List.{take-append-drop}
 use Rattle.std.specs.List.{list_any}
 use Rattle.slot_model.specs.Name.{is_name}
@@ -11,10 +11,9 @@ use Rattle.system_file.specs.declared.format.Format.{Format}
 use Rattle.system_file.specs.declared.fault.Spot.{Spot}
 use Rattle.system_file.specs.declared.fault.Spot.TheVariants.{Top, Core, Part, Task}
 use Rattle.system_file.specs.declared.fault.SystemFault.{SystemFault}
-use Rattle.system_file.specs.declared.fault.SystemFault.TheVariants.{BadName, NameTaken, MissingKey}
 use Rattle.system_file.specs.Document.{number_of, format_of, is_named, cores_of, parts_of, tasks_of, deadline_of, spelled_task}
-use Rattle.system_file.specs.Faults.{fault_if, required, optional, text_faults, new_name_faults, sched_faults, parent_faults, format_faults, range_faults, below_faults, flag_faults, array_faults, core_array_faults, supply_faults, table_faults, in_order, core_keys, core_key_faults, core_faults, task_keys, task_key_faults, task_number_faults, task_faults, part_keys, part_key_faults, part_faults, top_keys, top_faults, faults}
-use Rattle.system_file.specs.Written.{IsTableOf, IsFormatNumber, IsNameText, IsSchedText, IsWhole, IsFlag, IsArray, There, MayBe, BothOrNeither, IsWrittenTask, IsWrittenCore, IsWrittenPart, IsWritten}
+use Rattle.system_file.specs.Faults.{required, optional, text_faults, new_name_faults, sched_faults, parent_faults, format_faults, range_faults, below_faults, flag_faults, array_faults, core_array_faults, in_order, core_keys, core_key_faults, core_faults, task_keys, task_key_faults, task_number_faults, task_faults, part_keys, part_key_faults, part_faults, top_keys, top_faults, faults}
+use Rattle.system_file.specs.Written.{IsFormatNumber, IsNameText, IsSchedText, IsWhole, IsFlag, IsArray, There, MayBe, IsWrittenTask, IsWrittenCore, IsWrittenPart, IsWritten}
 use Rattle.system_file.proofs.Places.{parent_kept}
 use Rattle.system_file.proofs.Faultless.{not_wrong, table_there, table_inside, text_there, name_fits, whole_there, whole_below, supplies_there, array_there, cores_there}
 use Rattle.system_file.proofs.Rules.{each, part_keys_none, part_server, part_parent}
