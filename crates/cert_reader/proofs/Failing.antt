@@ -1,7 +1,6 @@
 -- The flaw of a node under its own scheduler, tasks and supply; and a certificate with a flaw
 -- proves nothing.
-use Rattle.std.proofs.Common.{◌≡◌, ◌≢◌, ℕ, ◌<◌, Bool, List, length, get_or, Option, sym, ◌∙◌, ap, subst, refl, inl, inr, rules, ◌↔◌, Result, Ok, Err, IsOk, IfOk, IfErr}
-use Rattle.std.proofs.lemmas.List.{get_or_default}
+use Rattle.std.proofs.Common.{◌≡◌, ◌≢◌, ℕ, Bool, List, length, Option, sym, ◌∙◌, ap, subst, refl, inl, inr, rules, ◌↔◌, Result, Ok, Err, IsOk, IfOk, IfErr}
 use Rattle.slot_model.specs.declared.sched.Sched.{Sched}
 use Rattle.slot_model.specs.declared.sched.Sched.TheVariants.{Edf, Rm, Dm, Listed}
 use Rattle.slot_model.specs.Task.{SporadicTask}
@@ -12,7 +11,7 @@ use Rattle.tree_model.specs.declared.place.Place.{Place}
 use Rattle.tree_model.specs.declared.place.Place.TheVariants.{Core, Part}
 use Rattle.tree_model.specs.CertificateView.{NodeView}
 use Rattle.tree_model.specs.View.{PartView, SystemView}
-use Rattle.tree_model.specs.System.{no_core, core_at, part_at}
+use Rattle.tree_model.specs.System.{core_at, part_at}
 use Rattle.tree_model.specs.Tree.{core_bound, core_cycle, budget_at, node_tasks, node_sched, node_bound, node_cycle}
 use Rattle.cert_reader.specs.declared.flaw.Flaw.{Flaw}
 use Rattle.cert_reader.specs.declared.flaw.Flaw.TheVariants.{Nodes, Budget, Cover, Hit, Least, Wide}
@@ -83,10 +82,6 @@ first_flaw sys nodes (Cover place) h = h
 first_flaw sys nodes (Hit place i) h = h
 first_flaw sys nodes (Least place) h = h
 first_flaw sys nodes (Wide place) h = h
-
--- the core that a node names
-pub core_here : (sys : SystemView) (cores : List CoreView) (c : ℕ) (core : CoreView) → cores ≡ sys.cores → c < length cores → core ≡ get_or cores c core → core ≡ core_at sys c
-core_here sys cores c core same h is = is ∙ (get_or_default cores c core no_core h ∙ ap (λ (cs : List CoreView). get_or cs c no_core) same)
 
 -- what a check of all nodes answers, with the budgets as they were written
 pub all_proved : (sys : SystemView) (nodes now : List NodeView) → nodes ≡ now → AreNodes sys nodes → HaveBudgets sys nodes (length nodes) → (budgets : List ℕ) → budgets ≡ budgets_of sys nodes → AreProved sys budgets nodes (length nodes) → Proves sys now

@@ -1,17 +1,15 @@
 -- One step of a composition: a part settled after all later ones, a core tested after all parts.
-use Rattle.std.proofs.Common.{◌≡◌, ℕ, suc, ◌<◌, ◌≤◌, List, length, set, take, drop, ◌++◌, get_or, Option, None, sym, ◌∙◌, ap, arith, subst, inl, inr, length-set, get_or-set_other, get_or-set_same}
+use Rattle.std.proofs.Common.{◌≡◌, ℕ, suc, ◌<◌, ◌≤◌, List, length, set, take, drop, ◌++◌, Option, None, sym, ◌∙◌, arith, subst, inl, inr, length-set, get_or-set_other, get_or-set_same}
 use Rattle.std.proofs.Math.Seq.{take-append_seam}
 use Rattle.std.proofs.lemmas.Bool.{cases_eq}
-use Rattle.std.proofs.lemmas.List.{get_or_default}
 use Rattle.slot_model.specs.Task.{SporadicTask}
 use Rattle.slot_model.specs.Bound.{sbf, IsSmall, TestPasses, TestFails}
 use Rattle.tree_model.specs.declared.place.Place.{Place}
 use Rattle.tree_model.specs.declared.place.Place.TheVariants.{Core, Part}
-use Rattle.tree_model.specs.declared.pinned_core.Core.{Core as CoreView}
 use Rattle.tree_model.specs.declared.plan.Refusal.{Refusal}
 use Rattle.tree_model.specs.declared.plan.Refusal.TheVariants.{Overfull, Wide, NoMemory}
 use Rattle.tree_model.specs.View.{SystemView}
-use Rattle.tree_model.specs.System.{IsSystem, no_core, core_at, part_at}
+use Rattle.tree_model.specs.System.{IsSystem, part_at}
 use Rattle.tree_model.specs.Tree.{IsNode, budget_at, node_tasks, node_sched, node_bound, node_cycle, given_budget}
 use Rattle.tree_model.specs.Admission.{NodePasses, IsGivenOrLeast, BudgetStands, AssignedFrom, Assigned, Admitted, VisitedBefore, visited_from, SettledBefore, refusing_bound, FirstRefusal, FirstUnassigned}
 use Rattle.tree_model.proofs.Parents.{part_tasks_same}
@@ -115,10 +113,6 @@ node_unassigned sys budgets node h computed assigned tasks same (Wide place) ref
     subst (λ (p : Place). FirstUnassigned sys (Wide p)) (sym refuses.0)
     (record { is_node = h; computed = computed; budgets = budgets; assigned = assigned; cause = subst (λ (ts : List SporadicTask). IsSmall (node_sched sys node) ts (node_cycle sys node) → ⊥) same refuses.1 })
 node_unassigned sys budgets node h computed assigned tasks same NoMemory refuses = absurd refuses
-
--- the core that a walk of the cores has come to
-pub core_here : (sys : SystemView) (cores : List CoreView) (c : ℕ) (core : CoreView) → cores ≡ sys.cores → c < length cores → core ≡ get_or cores c core → core ≡ core_at sys c
-core_here sys cores c core same h is = is ∙ (get_or_default cores c core no_core h ∙ ap (λ (cs : List CoreView). get_or cs c no_core) same)
 
 -- where budgets admit the system, no refusal is the answer, and so where they are assigned
 pub not_refused : (sys : SystemView) → IsSystem sys → (r : Refusal) → FirstRefusal sys r → (budgets : List ℕ) → Admitted sys budgets → r ≡ NoMemory

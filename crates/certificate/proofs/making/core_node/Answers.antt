@@ -3,8 +3,8 @@ use Rattle.slot_model.specs.Task.{SporadicTask, sporadic_tasks}
 use Rattle.tree_model.specs.declared.pinned_core.Core.{Core as CoreView}
 use Rattle.tree_model.specs.System.{core_at}
 use Rattle.tree_model.specs.Tree.{node_tasks}
-use Rattle.cert_reader.proofs.Failing.{core_here}
 use Rattle.tree_model.specs.declared.place.Place.TheVariants.{Core}
+use Rattle.tree_model.proofs.NodeTasks.{core_here}
 use Rattle.tree_model.proofs.InRange.{admitted_children}
 use Rattle.certificate.proofs.Nodes.{core_test}
 use Rattle.certificate.proofs.making.core_node.Goals as goal

@@ -5,9 +5,9 @@ use Rattle.tree_model.specs.declared.place.Place.TheVariants.{Core}
 use Rattle.tree_model.specs.declared.pinned_core.Core.{Core as CoreView}
 use Rattle.tree_model.specs.System.{core_at}
 use Rattle.tree_model.specs.Tree.{node_tasks}
-use Rattle.tree_model.proofs.NodeTasks.{tasks_read}
+use Rattle.tree_model.proofs.NodeTasks.{core_here, tasks_read}
 use Rattle.tree_model.proofs.InRange.{children_fit}
-use Rattle.compose_tree.proofs.Settling.{core_here, before_core, node_passes, node_refuses}
+use Rattle.compose_tree.proofs.Settling.{before_core, node_passes, node_refuses}
 use Rattle.compose_tree.proofs.budgets.test_core.Goals as goal
 
 pub tasks_of-requires-clause-in_period : goal.tasks_of-requires-clause-in_period
