@@ -1,5 +1,5 @@
 -- The endings of rows, and a row as its moment and its ending.
-use Rattle.std.proofs.Common.{◌≡◌, ◌<◌, ◌^◌, ℕ, zero, suc, Bool, true, false, cond, ◌||◌, List, [], ◌∷◌, ◌++◌, length, get_or, set, Option, Some, None, refl, sym, ◌∙◌, ap, arith, subst, inl, inr, append_assoc}
+use Rattle.std.proofs.Common.{◌≡◌, ◌<◌, ◌^◌, ℕ, zero, suc, Bool, true, false, cond, ◌||◌, List, [], ◌∷◌, ◌++◌, length, get_or, set, Option, None, IfSome, refl, sym, ◌∙◌, ap, arith, subst, inl, inr, append_assoc}
 use Rattle.std.specs.Prelude.{decimal}
 use Rattle.std.specs.Char.{is_ascii_digit}
 use Rattle.std.specs.List.{list_all}
@@ -20,14 +20,11 @@ none_push [] h (suc i) = refl
 none_push (o ∷ made) h zero = h 0
 none_push (o ∷ made) h (suc i) = none_push made (λ j. h (suc j)) i
 
-pub kept_more : (sys : SystemView) (made : List (Option Ending)) (p : ℕ) (n : Ending) → p < length made → AreEndings sys made → IsEnding sys n → AreEndings sys (set made p (Some n))
-kept_more sys made p n l are is i e at = elim (cases_eq i p) [
-  | inl q ↦ subst (IsEnding sys) (same_ending n e (sym (get_or-set_same made p (Some n) None l) ∙ (sym (ap (λ (z : ℕ). get_or (set made p (Some n)) z None) q) ∙ at))) is
-  | inr ne ↦ are i e (sym (get_or-set_other made p i (Some n) None ne) ∙ at)
+pub kept_more : (sys : SystemView) (made : List (Option Ending)) (p : ℕ) (o : Option Ending) → p < length made → AreEndings sys made → IfSome o (IsEnding sys) → AreEndings sys (set made p o)
+kept_more sys made p o l are is i = elim (cases_eq i p) [
+  | inl q ↦ subst (λ (k : Option Ending). IfSome k (IsEnding sys)) (sym (ap (λ (z : ℕ). get_or (set made p o) z None) q ∙ get_or-set_same made p o None l)) is
+  | inr ne ↦ subst (λ (k : Option Ending). IfSome k (IsEnding sys)) (sym (get_or-set_other made p i o None ne)) (are i)
 ]
-  where
-    same_ending : (a b : Ending) → Some a ≡ Some b → a ≡ b
-    same_ending a b q = cc q
 
 -- digits call for no quotes
 digit_plain : (b : ℕ) → is_ascii_digit b ≡ true → needs_byte default_writer b ≡ false

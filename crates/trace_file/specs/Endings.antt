@@ -1,5 +1,5 @@
 -- What the rows of a trace have behind their moments.
-use Rattle.std.specs.Prelude.{◌≡◌, ℕ, ◌+◌, ◌*◌, true, List, [], ◌∷◌, length, slice_index_or, Option, Some, None}
+use Rattle.std.specs.Prelude.{◌≡◌, ℕ, ◌+◌, ◌*◌, true, List, [], ◌∷◌, length, slice_index_or, Option, None, IfSome}
 use Rattle.csv.specs.Writing.{default_writer, row_text}
 use Rattle.tree_model.specs.View.{SystemView}
 use Rattle.trace_file.specs.declared.event.What.{What}
@@ -14,16 +14,20 @@ abbrev pub ending_text : SystemView → ℕ → What → List ℕ
 ending_text sys c what = row_text default_writer
     ([] ∷ core_field sys c what ∷ word_of what ∷ vcpu_field sys (named what) ∷ [])
 
--- an ending is that of its event, whose fields fit its word where it is known
+-- the fields of a known event fit its word
+abbrev pub FitsWord : SystemView → ℕ → What → Type 0
+FitsWord sys c what =
+    is_known sys c what ≡ true →
+    fits_word (core_field sys c what) (word_of what) (vcpu_field sys (named what)) ≡ true
+
+-- an ending is that of its event
 pub record IsEnding (sys : SystemView) (e : Ending) : Type 0 where
-  pub text : e.text.items ≡ ending_text sys e.core e.what
-  pub fits : is_known sys e.core e.what ≡ true →
-      fits_word (core_field sys e.core e.what) (word_of e.what) (vcpu_field sys (named e.what))
-      ≡ true
+  pub text : e.text ≡ ending_text sys e.core e.what
+  pub fits : FitsWord sys e.core e.what
 
 -- each ending that is kept is one
 abbrev pub AreEndings : SystemView → List (Option Ending) → Type 0
-AreEndings sys made = (i : ℕ) (e : Ending) → slice_index_or made i None ≡ Some e → IsEnding sys e
+AreEndings sys made = (i : ℕ) → IfSome (slice_index_or made i None) (IsEnding sys)
 
 -- where the ending of an event is kept: one for each word of a VCPU, then one for the stop of each
 -- core, then the end

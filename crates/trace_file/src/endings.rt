@@ -1,12 +1,12 @@
-ghost use Rattle.std.specs.Prelude.{◌≡◌, ◌∷◌, ◌++◌, [], true, IfOk, OnOk, List, ℕ};
+ghost use Rattle.std.specs.Prelude.{◌≡◌, ◌∷◌, ◌++◌, [], decimal, IfOk, IfSome, OnOk, List, ℕ};
 ghost use Rattle.csv_rows.specs.Printing.{HasWritten, text_of};
-ghost use Rattle.trace_file.specs.File.{fits_word};
-ghost use Rattle.trace_file.specs.Endings.{IsEnding};
+ghost use Rattle.trace_file.specs.Endings.{FitsWord, IsEnding, ending_text};
 ghost use Rattle.trace_file.specs.Printing.{word_of, core_field, vcpu_field};
-ghost use Rattle.trace_file.specs.Rules.{is_known, named};
+ghost use Rattle.trace_file.specs.Rules.{named};
 
 use crate::What;
 use crate::event_fields::{core_field, vcpu_field, word_of};
+use crate::row_tail::RowTail;
 use csv_rows::RowWriter;
 use std::alloc::{AllocError, Global};
 use tree_model::System;
@@ -16,7 +16,7 @@ use tree_model::System;
 pub struct Ending {
     pub core: u32,
     pub what: What,
-    pub text: Vec<u8>,
+    pub text: RowTail,
 }
 
 impl Ending {
@@ -61,7 +61,56 @@ fn ending_of(alloc: Global, sys: &System, core: u32, what: What) -> Result<Endin
         word_of(what),
         vcpu,
     )?;
-    Ok(Ending { core, what, text })
+    Ok(Ending {
+        core,
+        what,
+        text: RowTail::new(alloc, &text)?,
+    })
+}
+
+/// Adds the row of an event with this moment, and keeps its ending.
+#[inline(never)]
+fn write_first(
+    alloc: Global,
+    sys: &System,
+    kept: &mut Option<Ending>,
+    text: &mut Vec<u8>,
+    at: u64,
+    core: u32,
+    what: What,
+) -> Result<(), AllocError>
+    ensures is { OnOk result (IfSome kept.new (IsEnding sys.now)) }
+    ensures text { OnOk result
+        (text.new.items ≡ text.old.items ++ decimal at ++ ending_text sys.now core what) }
+    ensures named { OnOk result (FitsWord sys.now core what) }
+{
+    let mut ending = ending_of(alloc, sys, core, what)?;
+    ending.text.write(text, at)?;
+    *kept = Some(ending);
+    Ok(())
+}
+
+/// Adds the row of an event with this moment, by the ending that is kept where it is its own.
+#[inline(always)]
+fn write_row(
+    alloc: Global,
+    sys: &System,
+    kept: &mut Option<Ending>,
+    text: &mut Vec<u8>,
+    at: u64,
+    core: u32,
+    what: What,
+) -> Result<(), AllocError>
+    ensures is { IfSome kept.old (IsEnding sys.now)
+        → OnOk result (IfSome kept.new (IsEnding sys.now)) }
+    ensures text { IfSome kept.old (IsEnding sys.now) → OnOk result
+        (text.new.items ≡ text.old.items ++ decimal at ++ ending_text sys.now core what) }
+    ensures named { IfSome kept.old (IsEnding sys.now) → OnOk result (FitsWord sys.now core what) }
+{
+    match kept {
+        Some(ending) if ending.is_of(core, what) => ending.text.write(text, at),
+        _ => write_first(alloc, sys, kept, text, at, core, what),
+    }
 }
 
 /// The endings of a trace's rows, each made where it comes first.
@@ -73,12 +122,8 @@ pub struct Endings<'s> {
 }
 
 impl<'s> Endings<'s> {
-    ghost use Rattle.std.specs.Prelude.{◌≡◌, ◌++◌, ◌<◌, true, length, IfOk, IfSome, OnOk};
-    ghost use Rattle.tree_model.specs.System.{IsSystem};
-    ghost use Rattle.trace_file.specs.File.{fits_word};
-    ghost use Rattle.trace_file.specs.Endings.{AreEndings, place_of, ending_text};
-    ghost use Rattle.trace_file.specs.Printing.{word_of, core_field, vcpu_field};
-    ghost use Rattle.trace_file.specs.Rules.{is_known, named};
+    ghost use Rattle.std.specs.Prelude.{◌≡◌, ◌++◌, decimal, IfOk, OnOk};
+    ghost use Rattle.trace_file.specs.Endings.{AreEndings, FitsWord, place_of, ending_text};
 
     /// Before the first row.
     pub fn new(alloc: Global, sys: &'s System) -> Result<Endings<'s>, AllocError>
@@ -107,45 +152,29 @@ impl<'s> Endings<'s> {
         }
     }
 
-    /// The ending at this place, where it is that of this event.
-    fn kept(&self, place: usize, core: u32, what: What) -> Option<&[u8]>
-        ensures text { AreEndings self.now.sys.now self.now.made.items
-            → IfSome result (λ text. text.now ≡ ending_text self.now.sys.now core what) }
-        ensures named { AreEndings self.now.sys.now self.now.made.items
-            → IfSome result (λ text. is_known self.now.sys.now core what ≡ true
-            → fits_word (core_field self.now.sys.now core what) (word_of what)
-            (vcpu_field self.now.sys.now (named what)) ≡ true) }
-    {
-        if place >= self.made.len() {
-            return None;
-        }
-        match &self.made[place] {
-            Some(ending) if ending.is_of(core, what) => Some(&ending.text),
-            _ => None,
-        }
-    }
-
-    /// Adds what the row of an event has behind its moment.
-    pub fn write(&mut self, text: &mut Vec<u8>, core: u32, what: What) -> Result<(), AllocError>
+    /// Adds the row of an event with this moment, in the unit of the trace.
+    #[inline(always)]
+    pub fn write(
+        &mut self,
+        text: &mut Vec<u8>,
+        at: u64,
+        core: u32,
+        what: What,
+    ) -> Result<(), AllocError>
         ensures are { AreEndings self.old.sys.now self.old.made.items
             → OnOk result (AreEndings self.new.sys.now self.new.made.items) }
         ensures sys { self.new.sys ≡ self.old.sys }
         ensures text { AreEndings self.old.sys.now self.old.made.items → OnOk result
-            (text.new.items ≡ text.old.items ++ ending_text self.old.sys.now core what) }
+            (text.new.items
+            ≡ text.old.items ++ decimal at ++ ending_text self.old.sys.now core what) }
         ensures named { AreEndings self.old.sys.now self.old.made.items
-            → OnOk result (is_known self.old.sys.now core what ≡ true
-            → fits_word (core_field self.old.sys.now core what) (word_of what)
-            (vcpu_field self.old.sys.now (named what)) ≡ true) }
+            → OnOk result (FitsWord self.old.sys.now core what) }
     {
         let place = self.place(core, what);
-        if let Some(ending) = self.kept(place, core, what) {
-            return text.extend_from_slice(ending);
-        }
-        let ending = ending_of(self.alloc, self.sys, core, what)?;
-        text.extend_from_slice(&ending.text)?;
         if place < self.made.len() {
-            self.made[place] = Some(ending);
+            let kept = &mut self.made[place];
+            return write_row(self.alloc, self.sys, kept, text, at, core, what);
         }
-        Ok(())
+        write_first(self.alloc, self.sys, &mut None, text, at, core, what)
     }
 }

@@ -11,12 +11,9 @@ pub returns-clause-written : goal.returns-clause-written
 returns-clause-written c are =
     let sys = c.args.endings.now.sys.now in
     let e = c.args.event in
-    let old : List ℕ = c.args.text.now.items in
     let n : ℕ = c.in_unit.result in
-    let ending : List ℕ = ending_text sys e.core e.what in
-    let number : c.as_bytes.result.now ≡ decimal n = c.as_bytes.ensures.value ∙ c.format.ensures.text in
-    let before : c.extend_from_slice.new.self.items ≡ old ++ decimal n = c.in_ok-extend_from_slice.ensures.items ∙ ap (λ (z : List ℕ). old ++ z) number in
-    let whole : (old ++ decimal n) ++ ending ≡ old ++ row_text default_writer (event_row sys c.args.unit e) =
-    append_assoc old (decimal n) ending ∙ (ap (λ (z : List ℕ). old ++ z) (row_split n (core_field sys e.core e.what) (word_of e.what) (vcpu_field sys (named e.what)) (omega arith))
-    ∙ ap (λ (z : ℕ). old ++ row_text default_writer (decimal z ∷ core_field sys e.core e.what ∷ word_of e.what ∷ vcpu_field sys (named e.what) ∷ [])) c.in_unit.ensures) in
-    subst (λ (z : List ℕ). OnOk c.write.result (c.write.new.text.items ≡ z)) (ap (λ (z : List ℕ). z ++ ending) before ∙ whole) (c.write.ensures.text are)
+    let row : decimal n ++ ending_text sys e.core e.what ≡ row_text default_writer (event_row sys c.args.unit e) =
+    row_split n (core_field sys e.core e.what) (word_of e.what) (vcpu_field sys (named e.what)) (omega arith)
+    ∙ ap (λ (z : ℕ). row_text default_writer (decimal z ∷ core_field sys e.core e.what ∷ word_of e.what ∷ vcpu_field sys (named e.what) ∷ [])) c.in_unit.ensures in
+    let old : List ℕ = c.args.text.now.items in
+    subst (λ (z : List ℕ). OnOk c.write.result (c.write.new.text.items ≡ z)) (append_assoc old (decimal n) (ending_text sys e.core e.what) ∙ ap (λ (z : List ℕ). old ++ z) row) (c.write.ensures.text are)
