@@ -286,9 +286,7 @@ impl Host {
         if let Some(v) = self.holders[core] {
             let left = self.left[v as usize];
             if slots < left {
-                let account = account_of(&self.accounts, v);
-                let used = account.used + slots;
-                self.accounts[v as usize] = Account { used, ..account };
+                self.accounts[v as usize].used += slots;
                 self.left[v as usize] = left - slots;
             } else {
                 self.use_up(sys, plan, core, v, slots);
@@ -316,11 +314,9 @@ impl Host {
         ensures taken { self.new.taken ≡ self.old.taken }
         ensures ends { self.new.ends ≡ self.old.ends }
     {
-        let account = account_of(&self.accounts, v);
-        let used = account.used + slots;
         let key = next_key(self.queues.keys.get(v), sys.parts()[v as usize].extra());
         let left = next_left(key, budget_of(plan, v));
-        self.accounts[v as usize] = Account { used, ..account };
+        self.accounts[v as usize].used += slots;
         self.queues.set_on(sys, core as u32, v, key);
         self.left[v as usize] = left;
     }

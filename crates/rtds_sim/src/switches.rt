@@ -105,17 +105,18 @@ fn soonest(moments: &[u64], cores: usize) -> Option<usize>
     ensures { MatchOption result (AreNever moments.now cores) (IsSoonest moments.now cores) }
 {
     let mut least = NEVER;
-    let mut first = None;
+    let mut first = 0;
     for c in 0..cores {
         if moments[c] < least {
             least = moments[c];
-            first = Some(c);
+            first = c;
         }
     }
-    first
+    if least < NEVER { Some(first) } else { None }
 }
 
 /// Tells the lists, slot by slot, and at each slot core by core.
+#[inline(never)]
 fn tell_all<T: EventTaker>(lists: &[Vec<Event>], events: &mut T) -> Result<(), AllocError>
     requires { length lists.now ≤ 64 }
     ensures { OnOk result ((f : ℕ → ℕ → Option EventView) (x m : ℕ) → AreAtSlots f

@@ -1,6 +1,4 @@
-use Rattle.std.proofs.Common.{◌≡◌, ◌<◌, ◌+◌, ◌-◌, ℕ, sym, arith, subst, set, length}
-use Rattle.rtds_sim.specs.declared.account.Account.{Account}
-use Rattle.rtds_sim.specs.Accounts.{account_at, number_at, IsReady}
+use Rattle.std.proofs.Common.{◌<◌, ℕ, arith, length}
 use Rattle.rtds_sim.proofs.Ready.{ready_few}
 use Rattle.rtds_sim.proofs.host.Host.use_slots.Goals as goal
 
@@ -16,7 +14,4 @@ returns-then-slots-left-clause-ready c =
     let old = c.args.self.now in
     let v : ℕ = c.in-Some.v in
     let part : v < length sys.parts = c.requires.ready.room.parts c.args.core v c.requires.is_core c.in-Some.is in
-    let is : c.account_of-account.result ≡ account_at old.accounts v = c.account_of-account.ensures in
-    let left : ℕ = number_at old.left v in
-    subst (λ (a : Account). IsReady sys c.args.plan.now (record old { accounts = set old.accounts v (record a { used = a.used + c.args.slots }); left = set old.left v (left - c.args.slots) })) (sym is)
-    (ready_few sys c.args.plan.now old v c.args.slots part (c.requires.plan.some_budget v part) c.requires.ready (c.requires.few v c.in-Some.is) c.if-slots-left.true)
+    ready_few sys c.args.plan.now old v c.args.slots part (c.requires.plan.some_budget v part) c.requires.ready (c.requires.few v c.in-Some.is) c.if-slots-left.true

@@ -2,7 +2,6 @@ use Rattle.std.proofs.Common.{◌≡◌, ◌+◌, ℕ, Option, set, sym, ap, sub
 use Rattle.tree_model.specs.View.{PartView}
 use Rattle.tree_model.specs.System.{part_at}
 use Rattle.tree_model.specs.Tree.{budget_at}
-use Rattle.rtds_sim.specs.declared.account.Account.{Account}
 use Rattle.rtds_sim.specs.declared.key.Key.{Key}
 use Rattle.rtds_sim.specs.Keys.{key_at}
 use Rattle.rtds_sim.specs.Accounts.{account_at, next_key, left_by, IsReady}
@@ -21,6 +20,5 @@ returns-clause-ready c =
     let key : Option Key = next_key (key_at old.queues.keys v) (part_at sys v).extra in
     let key_is : c.next_key-key.result ≡ key = c.next_key-key.ensures ∙ (ap (λ (k : Option Key). next_key k c.extra.result) c.get.ensures ∙ ap (next_key (key_at old.queues.keys v)) (c.extra.ensures ∙ ap (λ (p : PartView). p.extra) part)) in
     let left_is : c.next_left-left.result ≡ left_by key (budget_at budgets v) = c.next_left-left.ensures ∙ (ap (λ (k : Option Key). left_by k c.budget_of.result) key_is ∙ ap (left_by key) c.budget_of.ensures) in
-    subst (λ (a : Account). IsReady sys budgets (record old { accounts = set old.accounts v (record a { used = a.used + slots }); queues = c.set_on.new.self; left = set old.left v c.next_left-left.result })) (sym c.account_of-account.ensures)
-    (subst (λ (n : ℕ). IsReady sys budgets (record old { accounts = set old.accounts v (record (account_at old.accounts v) { used = (account_at old.accounts v).used + slots }); queues = c.set_on.new.self; left = set old.left v n })) (sym left_is)
-    (ready_next sys budgets old v slots c.set_on.new.self c.requires.is_part (c.requires.plan.some_budget v c.requires.is_part) c.requires.ready c.requires.few c.requires.exact c.set_on.ensures.are (c.set_on.ensures.keys ∙ ap (set old.queues.keys v) key_is)))
+    subst (λ (n : ℕ). IsReady sys budgets (record old { accounts = set old.accounts v (record (account_at old.accounts v) { used = (account_at old.accounts v).used + slots }); queues = c.set_on.new.self; left = set old.left v n })) (sym left_is)
+    (ready_next sys budgets old v slots c.set_on.new.self c.requires.is_part (c.requires.plan.some_budget v c.requires.is_part) c.requires.ready c.requires.few c.requires.exact c.set_on.ensures.are (c.set_on.ensures.keys ∙ ap (set old.queues.keys v) key_is))
