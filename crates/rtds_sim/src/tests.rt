@@ -63,6 +63,25 @@ fn host(rt: &impl Abort, alloc: Global, extra: bool, sched: Sched) -> Result<Sys
     Ok(System::new(cores, parts).ok().expect(rt, "a system"))
 }
 
+/// The budgets of its VCPUs.
+fn host_plan(alloc: Global) -> Result<Plan, AllocError> {
+    Ok(Plan {
+        budgets: Vec::from_slice(alloc, &[3, 4, 1])?,
+    })
+}
+
+fn wakes_of(alloc: Global, rows: &[(u64, u32, WakeKind)]) -> Result<Vec<Wake>, AllocError> {
+    let mut wakes = Vec::new(alloc);
+    for (at, vcpu, what) in rows {
+        wakes.push(Wake {
+            at: *at,
+            vcpu: *vcpu,
+            what: *what,
+        })?;
+    }
+    Ok(wakes)
+}
+
 fn is_plan(sys: &System, plan: &Plan) -> bool
     ensures { IsTrue result → IsPlan sys.now plan.now }
 {
@@ -183,19 +202,8 @@ fn ran(
     rows: &[(u64, u32, WakeKind)],
     slots: u64,
 ) -> Result<Result<Trace, RtdsFault>, AllocError> {
-    let mut budgets = Vec::new(alloc);
-    budgets.push(3)?;
-    budgets.push(4)?;
-    budgets.push(1)?;
-    let plan = Plan { budgets };
-    let mut wakes = Vec::new(alloc);
-    for (at, vcpu, what) in rows {
-        wakes.push(Wake {
-            at: *at,
-            vcpu: *vcpu,
-            what: *what,
-        })?;
-    }
+    let plan = host_plan(alloc)?;
+    let wakes = wakes_of(alloc, rows)?;
     assert!(rt; is_plan(sys, &plan));
     assert!(rt; is_workload(sys, &wakes));
     assert!(rt; 1 <= slots && slots <= 1_000_000);
@@ -209,34 +217,25 @@ fn ran(
     Ok(run)
 }
 
-fn is_trace(
+fn expect_trace(
     rt: &impl Abort,
     alloc: Global,
     extra: bool,
     rows: &[(u64, u32, WakeKind)],
     slots: u64,
     wanted: &[(u64, u32, What)],
-) -> Result<bool, AllocError> {
+) -> Result<(), Fail> {
     let sys = host(rt, alloc, extra, Sched::Edf)?;
     let trace = ran(rt, alloc, &sys, rows, slots)?
         .ok()
         .expect(rt, "a trace");
     let events = trace.events();
-    if check_events(alloc, &sys, events).is_err() || events.len() != wanted.len() {
-        return Ok(false);
-    }
+    assert!(rt; check_events(alloc, &sys, events).is_ok());
+    assert_eq!(rt; events.len(), wanted.len());
     for (event, row) in events.iter().zip(wanted.iter()) {
-        if *event
-            != (Event {
-                at: row.0,
-                core: row.1,
-                what: row.2,
-            })
-        {
-            return Ok(false);
-        }
+        assert_eq!(rt; (event.at, event.core, event.what), *row);
     }
-    Ok(true)
+    Ok(())
 }
 
 const A: u32 = 0;
@@ -256,8 +255,7 @@ fn extra_time_comes_after_budgets(rt: HostRuntime) -> Result<(), Fail> {
         (7_000, 0, What::Run(A)),
         (10_000, 0, What::End),
     ];
-    assert!(rt; is_trace(&rt, rt.alloc(), true, &rows, 10, &wanted)?);
-    Ok(())
+    expect_trace(&rt, rt.alloc(), true, &rows, 10, &wanted)
 }
 
 #[test]
@@ -272,8 +270,7 @@ fn core_is_idle_without_extra_time(rt: HostRuntime) -> Result<(), Fail> {
         (10_000, 0, What::Run(A)),
         (12_000, 0, What::End),
     ];
-    assert!(rt; is_trace(&rt, rt.alloc(), false, &rows, 12, &wanted)?);
-    Ok(())
+    expect_trace(&rt, rt.alloc(), false, &rows, 12, &wanted)
 }
 
 #[test]
@@ -299,8 +296,7 @@ fn running_vcpu_blocks(rt: HostRuntime) -> Result<(), Fail> {
         (11_000, 0, What::Run(A)),
         (12_000, 0, What::End),
     ];
-    assert!(rt; is_trace(&rt, rt.alloc(), false, &rows, 12, &wanted)?);
-    Ok(())
+    expect_trace(&rt, rt.alloc(), false, &rows, 12, &wanted)
 }
 
 #[test]
@@ -317,31 +313,20 @@ fn cores_run_side_by_side(rt: HostRuntime) -> Result<(), Fail> {
         (6_000, 0, What::Stop),
         (7_000, 0, What::End),
     ];
-    assert!(rt; is_trace(&rt, rt.alloc(), false, &rows, 7, &wanted)?);
-    Ok(())
+    expect_trace(&rt, rt.alloc(), false, &rows, 7, &wanted)
 }
 
 #[test]
 fn cores_go_on_past_a_stretch(rt: HostRuntime) -> Result<(), Fail> {
-    let alloc = rt.alloc();
-    let mut wanted = Vec::new(alloc);
+    let mut wanted = Vec::new(rt.alloc());
     wanted.push((0, 1, What::Start(C)))?;
     for period in 0..1_025u64 {
         wanted.push((4_000 * period, 1, What::Run(C)))?;
         wanted.push((4_000 * period + 1_000, 1, What::Stop))?;
     }
     wanted.push((4_100_000, 0, What::End))?;
-    assert!(rt;
-        is_trace(
-            &rt,
-            alloc,
-            false,
-            &[(0, C, WakeKind::Start)],
-            4_100,
-            &wanted
-        )?
-    );
-    Ok(())
+    let rows = [(0, C, WakeKind::Start)];
+    expect_trace(&rt, rt.alloc(), false, &rows, 4_100, &wanted)
 }
 
 #[test]
@@ -352,17 +337,8 @@ fn cores_wait_past_a_stretch_for_a_row(rt: HostRuntime) -> Result<(), Fail> {
         (9_000_000, 1, What::Stop),
         (9_001_000, 0, What::End),
     ];
-    assert!(rt;
-        is_trace(
-            &rt,
-            rt.alloc(),
-            false,
-            &[(8_999, C, WakeKind::Start)],
-            9_001,
-            &wanted
-        )?
-    );
-    Ok(())
+    let rows = [(8_999, C, WakeKind::Start)];
+    expect_trace(&rt, rt.alloc(), false, &rows, 9_001, &wanted)
 }
 
 /// A run on core `core` from a slot on.
@@ -404,17 +380,8 @@ fn switches_are_told_slot_by_slot_and_core_by_core(rt: HostRuntime) -> Result<()
 fn text_has_a_row_for_each_event(rt: HostRuntime) -> Result<(), Fail> {
     let alloc = rt.alloc();
     let sys = host(&rt, alloc, false, Sched::Edf)?;
-    let mut budgets = Vec::new(alloc);
-    budgets.push(3)?;
-    budgets.push(4)?;
-    budgets.push(1)?;
-    let plan = Plan { budgets };
-    let mut wakes = Vec::new(alloc);
-    wakes.push(Wake {
-        at: 2,
-        vcpu: C,
-        what: WakeKind::Start,
-    })?;
+    let plan = host_plan(alloc)?;
+    let wakes = wakes_of(alloc, &[(2, C, WakeKind::Start)])?;
     assert!(rt; is_plan(&sys, &plan));
     assert!(rt; is_workload(&sys, &wakes));
     let text = print_rtds(alloc, &sys, &plan, &wakes, 7)
