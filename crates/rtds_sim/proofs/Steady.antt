@@ -237,25 +237,20 @@ module _ (sys : SystemView) (budgets : List ℕ) (plan : IsPlan sys budgets) (ro
           let p : IsInPeriod sys rows r v x a = h.in_period on in
           p.from_is ∙ sym (ap (λ (q : ℕ). begins (part_at sys v).period (start_of rows v) q) (number_same (part_at sys v).period (start_of rows v) x to (omega (arith, p.from_is, p.begun)) (omega (arith, next.later)) (omega (arith, p.from_is, below on))))
 
-      by : (b : Bool) → has ≡ b → IsAccount sys rows r v to k (if has then record a { used = a.used + (to - x) } else a)
-      by true e = subst (λ (z : Account). IsAccount sys rows r v to k z) (sym (ap (λ (b : Bool). cond b (record a { used = a.used + (to - x) }) a) e)) (record {
+      with_used : (n : ℕ) → n ≡ a.used + cond has (to - x) 0 → n ≤ a.used + (to - x) → IsAccount sys rows r v to k (record a { used = n })
+      with_used n is most = record {
         started = h.started;
         blocked = h.blocked;
         early = omega (arith, h.early, next.later);
         few = omega (arith, h.few, next.later);
         in_period = λ on.
             let p : IsInPeriod sys rows r v x a = h.in_period on in
-            record { from_is = from_to on; used_is = ap (λ (z : ℕ). a.used + z) (sym (cond-true {A = ℕ} has (to - x) 0 e)) ∙ used_to on; begun = omega (arith, p.begun, next.later); not_over = below on; few = omega (arith, p.few, next.later) };
-      })
-      by false e = subst (λ (z : Account). IsAccount sys rows r v to k z) (sym (ap (λ (b : Bool). cond b (record a { used = a.used + (to - x) }) a) e)) (record {
-        started = h.started;
-        blocked = h.blocked;
-        early = omega (arith, h.early, next.later);
-        few = omega (arith, h.few, next.later);
-        in_period = λ on.
-            let p : IsInPeriod sys rows r v x a = h.in_period on in
-            record { from_is = from_to on; used_is = (let z : a.used ≡ a.used + cond has (to - x) 0 = omega (arith, cond-false {A = ℕ} has (to - x) 0 e) in z) ∙ used_to on; begun = omega (arith, p.begun, next.later); not_over = below on; few = omega (arith, p.few, next.later) };
-      })
+            record { from_is = from_to on; used_is = is ∙ used_to on; begun = omega (arith, p.begun, next.later); not_over = below on; few = omega (arith, p.few, next.later) };
+      }
+
+      by : (b : Bool) → b ≡ has → IsAccount sys rows r v to k (if b then record a { used = a.used + (to - x) } else a)
+      by true e = with_used (a.used + (to - x)) (ap (λ (b : Bool). a.used + cond b (to - x) 0) e) (omega arith)
+      by false e = with_used a.used (omega (arith, ap (λ (b : Bool). cond {A = ℕ} b (to - x) 0) e)) (omega arith)
 
   gone_account : (v : ℕ) → v < length sys.parts → (r : List (Option ℕ)) → ((z : ℕ) → x ≤ z → z < to → held r z ≡ held r x) → (a : Account) (has : Bool) → has ≡ holds (held r x) v → IsAccount sys rows r v x k a → (a.started ≡ true → to ≤ a.from + (part_at sys v).period) →
       IsAccount sys rows r v to k (gone_on a has (to - x) (part_at sys v).period to)
