@@ -14,12 +14,13 @@ pub struct RowTail {
 
 impl Model for RowTail {
     ghost use Rattle.std.specs.Prelude.{◌≤◌, ℕ, List, length, drop};
+    ghost use Rattle.trace_file.specs.declared.row_tail.TheConstants.{ROOM};
 
     ghost Value = { List ℕ };
 
-    ghost view = { λ tail. drop 20 tail.row.items };
+    ghost view = { λ tail. drop ROOM tail.row.items };
 
-    ghost invariant = { λ tail. 20 ≤ length tail.row.items };
+    ghost invariant = { λ tail. ROOM ≤ length tail.row.items };
 }
 
 impl RowTail {

@@ -152,56 +152,15 @@ fn a_leaf_is_simulated(rt: HostRuntime) -> Result<(), Fail> {
     Ok(())
 }
 
-/// Two full cores, and a core that has 16 or 4 of every 20 slots, whose children are counted by
-/// hand.
+/// Full cores, and a core that has 16 of every 20 slots, whose children are counted by hand.
 #[test]
-fn trees_are_simulated(rt: HostRuntime) -> Result<(), Fail> {
+fn each_pattern_comes_to_the_same_over_whole_periods(rt: HostRuntime) -> Result<(), Fail> {
     let alloc = rt.alloc();
-    for (system, releases, pattern, slots, want, answer) in [
-        (
-            [SIXES].as_slice(),
-            "",
-            "early",
-            "10",
-            Status::No,
-            SIXES_ANSWER,
-        ),
-        (
-            [SIXES].as_slice(),
-            "",
-            "late",
-            "10",
-            Status::No,
-            SIXES_ANSWER,
-        ),
-        (
-            [SIXES].as_slice(),
-            "",
-            "worst",
-            "10",
-            Status::No,
-            SIXES_ANSWER,
-        ),
+    for (system, releases, slots, want, answer) in [
+        ([SIXES].as_slice(), "", "10", Status::No, SIXES_ANSWER),
         (
             [HOST].as_slice(),
             "0,audio,frame,1800\n",
-            "early",
-            "10000",
-            Status::Yes,
-            HOST_COUNTS,
-        ),
-        (
-            [HOST].as_slice(),
-            "0,audio,frame,1800\n",
-            "late",
-            "10000",
-            Status::Yes,
-            HOST_COUNTS,
-        ),
-        (
-            [HOST].as_slice(),
-            "0,audio,frame,1800\n",
-            "worst",
             "10000",
             Status::Yes,
             HOST_COUNTS,
@@ -209,31 +168,30 @@ fn trees_are_simulated(rt: HostRuntime) -> Result<(), Fail> {
         (
             [TREE_HEAD, "supply_budget = 16\n", TREE_REST].as_slice(),
             OF_TREE,
-            "early",
             "200",
             Status::Yes,
             TREE_COUNTS,
         ),
+    ] {
+        let sys = joined(alloc, system)?;
+        let jobs = joined(alloc, [HEADER, releases].as_slice())?;
+        for pattern in ["early", "late", "worst"] {
+            let (status, written) = simulated(alloc, sys.as_str(), jobs.as_str(), pattern, slots)?;
+            assert_eq!(rt; status, want, "{pattern}{answer}");
+            assert_eq!(rt; written.as_slice(), answer.as_bytes(), "{pattern}{answer}");
+        }
+    }
+    Ok(())
+}
+
+/// A core that has 16 or 4 of every 20 slots, whose children are counted by hand.
+#[test]
+fn patterns_differ_within_a_period(rt: HostRuntime) -> Result<(), Fail> {
+    let alloc = rt.alloc();
+    let jobs = joined(alloc, [HEADER, OF_TREE].as_slice())?;
+    for (budget, pattern, slots, want, answer) in [
         (
-            [TREE_HEAD, "supply_budget = 16\n", TREE_REST].as_slice(),
-            OF_TREE,
-            "late",
-            "200",
-            Status::Yes,
-            TREE_COUNTS,
-        ),
-        (
-            [TREE_HEAD, "supply_budget = 16\n", TREE_REST].as_slice(),
-            OF_TREE,
-            "worst",
-            "200",
-            Status::Yes,
-            TREE_COUNTS,
-        ),
-        // where the patterns differ
-        (
-            [TREE_HEAD, "supply_budget = 16\n", TREE_REST].as_slice(),
-            OF_TREE,
+            "supply_budget = 16\n",
             "early",
             "30",
             Status::Yes,
@@ -242,8 +200,7 @@ fn trees_are_simulated(rt: HostRuntime) -> Result<(), Fail> {
              part ctl given=0 jobs=1 missed=0\n",
         ),
         (
-            [TREE_HEAD, "supply_budget = 16\n", TREE_REST].as_slice(),
-            OF_TREE,
+            "supply_budget = 16\n",
             "late",
             "18",
             Status::Yes,
@@ -252,8 +209,7 @@ fn trees_are_simulated(rt: HostRuntime) -> Result<(), Fail> {
              part ctl given=0 jobs=1 missed=0\n",
         ),
         (
-            [TREE_HEAD, "supply_budget = 16\n", TREE_REST].as_slice(),
-            OF_TREE,
+            "supply_budget = 16\n",
             "worst",
             "30",
             Status::Yes,
@@ -263,8 +219,7 @@ fn trees_are_simulated(rt: HostRuntime) -> Result<(), Fail> {
         ),
         // a server is given up at the end of its period, and the next one begins anew
         (
-            [TREE_HEAD, "supply_budget = 4\n", TREE_REST].as_slice(),
-            OF_TREE,
+            "supply_budget = 4\n",
             "early",
             "100",
             Status::No,
@@ -275,8 +230,7 @@ fn trees_are_simulated(rt: HostRuntime) -> Result<(), Fail> {
              part video given=20 jobs=1 missed=0\npart ctl given=0 jobs=1 missed=0\n",
         ),
     ] {
-        let sys = joined(alloc, system)?;
-        let jobs = joined(alloc, [HEADER, releases].as_slice())?;
+        let sys = joined(alloc, [TREE_HEAD, budget, TREE_REST].as_slice())?;
         let (status, written) = simulated(alloc, sys.as_str(), jobs.as_str(), pattern, slots)?;
         assert_eq!(rt; status, want, "{answer}");
         assert_eq!(rt; written.as_slice(), answer.as_bytes(), "{answer}");
