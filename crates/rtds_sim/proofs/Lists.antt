@@ -1,7 +1,7 @@
 -- The lists of several cores.
-use Rattle.std.proofs.Common.{◌≡◌, ◌≢◌, ℕ, ◌+◌, ◌-◌, ◌<◌, ◌≤◌, List, [], length, map, set, replicate, get_or, sym, ◌∙◌, ap, arith, subst, inl, inr, Vec, Global}
+use Rattle.std.proofs.Common.{◌≡◌, ◌≢◌, ℕ, ◌+◌, ◌-◌, ◌<◌, ◌≤◌, List, [], length, map, set, get_or, sym, ◌∙◌, ap, arith, subst, inl, inr, Vec, Global}
 use Rattle.std.proofs.lemmas.Bool.{cases_eq, cases_lt}
-use Rattle.std.proofs.lemmas.List.{map-set, get_or-map, length-map, get_or-set_same, get_or-set_other, get_or_past, length-replicate}
+use Rattle.std.proofs.lemmas.List.{map-set, get_or-map, length-map, get_or-set_same, get_or-set_other}
 use Rattle.std.proofs.lemmas.Option.{slice_get_past}
 use Rattle.slot_model.specs.Slots.{sum_below}
 use Rattle.slot_model.proofs.Sums.{sum_below-lt}
@@ -10,18 +10,10 @@ use Rattle.rtds_sim.specs.declared.switches.TheConstants.{NEVER}
 use Rattle.rtds_sim.specs.Lists.{list_at}
 use Rattle.rtds_sim.specs.Soonest.{moment_of, next_moment}
 use Rattle.rtds_sim.proofs.Merging.{AreMoments}
-use Rattle.rtds_sim.proofs.Queueing.{alike}
 
 -- what is read at a core is its list
 pub list_read : {X : Type 0} (lists : List (Vec X Global)) (c : ℕ) (own : Vec X Global) → c < length lists → own ≡ get_or lists c own → list_at lists c ≡ own.items
 list_read {X} lists c own l r = get_or-map (λ (s : Vec X Global). s.items) lists c own [] l ∙ ap (λ (s : Vec X Global). s.items) (sym r)
-
--- lists that are all empty
-pub all_empty : (lists : List (Vec Event Global)) (n : ℕ) → map (λ (s : Vec Event Global). s.items) lists ≡ replicate n [] → (c : ℕ) → list_at lists c ≡ []
-all_empty lists n e c = ap (λ (ls : List (List Event)). get_or ls c []) e ∙ alike {X = List Event} n c []
-
-pub empty_count : (lists : List (Vec Event Global)) (n : ℕ) → map (λ (s : Vec Event Global). s.items) lists ≡ replicate n [] → length lists ≡ n
-empty_count lists n e = sym (length-map lists (λ (s : Vec Event Global). s.items)) ∙ (ap (λ (ls : List (List Event)). length ls) e ∙ length-replicate n [])
 
 -- one list is written
 pub list_here : {X : Type 0} (lists : List (Vec X Global)) (i : ℕ) (new : Vec X Global) → i < length lists → list_at (set lists i new) i ≡ new.items
@@ -35,12 +27,6 @@ pub empty_more : (lists : List (Vec Event Global)) (i : ℕ) (new : Vec Event Gl
 empty_more lists i new l none so_far c b = elim (cases_eq c i) [
   | inl e ↦ ap (list_at (set lists i new)) e ∙ (list_here lists i new l ∙ none)
   | inr ne ↦ list_there lists i c new ne ∙ so_far c (omega arith)
-]
-
-pub empty_all : (lists : List (Vec Event Global)) → ((c : ℕ) → c < length lists → list_at lists c ≡ []) → (c : ℕ) → list_at lists c ≡ []
-empty_all lists so_far c = elim (cases_lt c (length lists)) [
-  | inl l ↦ so_far c l
-  | inr l ↦ get_or_past (map (λ (s : Vec Event Global). s.items) lists) c [] (omega (arith, length-map lists (λ (s : Vec Event Global). s.items)))
 ]
 
 -- a core with a moment has an event

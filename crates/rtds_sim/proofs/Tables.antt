@@ -1,5 +1,5 @@
 -- The keys that are kept as an array for each of their numbers.
-use Rattle.std.proofs.Common.{◌≡◌, ℕ, zero, suc, ◌<◌, Bool, true, false, List, [], ◌∷◌, length, set, get_or, replicate, Option, Some, None, refl, sym, ◌∙◌, ap, arith, if◌then◌else◌}
+use Rattle.std.proofs.Common.{◌≡◌, ℕ, zero, suc, ◌<◌, Bool, true, false, List, [], ◌∷◌, length, set, get_or, Option, Some, None, refl, sym, ◌∙◌, ap, arith, if◌then◌else◌}
 use Rattle.rtds_sim.specs.declared.key.Key.{Key}
 use Rattle.rtds_sim.specs.Keys.{key_at}
 use Rattle.rtds_sim.specs.KeyTable.{keys_of, IsTable}
@@ -44,10 +44,6 @@ keys_of-clear (e ∷ es) [] ds v p q h = absurd (omega (arith, p))
 keys_of-clear (e ∷ es) (l ∷ ls) [] v p q h = absurd (omega (arith, q))
 keys_of-clear (e ∷ es) (l ∷ ls) (d ∷ ds) zero p q h = refl
 keys_of-clear (e ∷ es) (l ∷ ls) (d ∷ ds) (suc v) p q h = ap (λ (ks : List (Option Key)). (if e then Some (key l d) else None) ∷ ks) (keys_of-clear es ls ds v (omega (arith, p)) (omega (arith, q)) (omega (arith, h)))
-
-pub keys_of-none : (n l d : ℕ) → keys_of (replicate n false) (replicate n l) (replicate n d) ≡ replicate n None
-keys_of-none zero l d = refl
-keys_of-none (suc n) l d = ap (λ (ks : List (Option Key)). None ∷ ks) (keys_of-none n l d)
 
 pub put_here : (es : List Bool) (ls ds : List ℕ) (keys : List (Option Key)) (v : ℕ) (k : Key) → IsTable es ls ds → keys_of es ls ds ≡ keys → v < length keys →
     keys_of (set es v true) (set ls v k.level) (set ds v k.deadline) ≡ set keys v (Some k)

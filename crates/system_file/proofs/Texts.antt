@@ -1,5 +1,5 @@
 -- The system of bytes that are text, and of bytes that are none.
-use Rattle.std.proofs.Common.{◌≡◌, ◌≢◌, ℕ, List, [], ◌∷◌, Option, Some, Result, Ok, Err, IfOk, IfErr, sym, ap, ◌∙◌}
+use Rattle.std.proofs.Common.{◌≡◌, ◌≢◌, ℕ, List, [], ◌∷◌, Option, Some, Result, Ok, Err, IfErr, ap, ◌∙◌}
 use Rattle.std.specs.Str.{is_utf8, IsUtf8}
 use Rattle.std.proofs.lemmas.Bool.{false_from_ne_true}
 use Rattle.std.proofs.lemmas.Str.{IsUtf8-from_is_utf8, is_utf8-from_IsUtf8}
@@ -24,12 +24,6 @@ system_text bytes text = rw (is_utf8-from_IsUtf8 bytes text)
 first_decides : (sys : SystemView) (found : List SystemFault) (fault : SystemFault) → first_of found ≡ Some fault → first_fault_or sys found ≡ Err fault
 first_decides sys [] fault h = cc
 first_decides sys (x ∷ found) fault h = let same : x ≡ fault = cc in ap Err same
-
--- a document without faults, and the first fault of one
-pub document_spelled : (r : Result SystemView SystemFault) (t : Members) (o : Option Members) → o ≡ Some t →
-    IfOk r (λ sys. (faults (table t) ≡ []) × (sys ≡ spelled_system (table t))) → IfOk r (λ sys. system_of_document o ≡ Ok sys)
-document_spelled (Ok sys) t o e h = ap system_of_document e ∙ ap (first_fault_or (spelled_system (table t))) h.0 ∙ ap Ok (sym h.1)
-document_spelled (Err fault) t o e h = tt
 
 pub document_refused : (r : Result SystemView SystemFault) (t : Members) (o : Option Members) → o ≡ Some t →
     IfErr r (λ fault. fault ≢ NoMemory → first_of (faults (table t)) ≡ Some fault) → IfErr r (λ fault. fault ≢ NoMemory → system_of_document o ≡ Err fault)

@@ -1,5 +1,5 @@
 -- What a printer has printed.
-use Rattle.std.proofs.Common.{◌≡◌, ◌∙◌, ◌∷◌, ◌++◌, [], ℕ, true, List, length, map, ap, sym, subst, arith, inl, inr}
+use Rattle.std.proofs.Common.{◌≡◌, ◌∙◌, ◌∷◌, ◌++◌, [], ℕ, List, length, map, ap, sym, subst, arith, inl, inr}
 use Rattle.std.proofs.lemmas.Bool.{cases_lt}
 use Rattle.std.proofs.lemmas.List.{map-append, get_or_append_left, get_or_push, length_push}
 use Rattle.csv.specs.Writing.{default_writer, row_text}
@@ -10,10 +10,9 @@ use Rattle.trace_file.specs.declared.event.Event.{Event}
 use Rattle.trace_file.specs.declared.event.What.TheVariants.{End}
 use Rattle.trace_file.specs.declared.printing.TracePrinter.{TracePrinter}
 use Rattle.trace_file.specs.declared.unit.Unit.{Unit}
+use Rattle.trace_file.specs.Endings.{FitsWord}
 use Rattle.trace_file.specs.Printer.{AllFit, HasPrinted}
 use Rattle.trace_file.specs.Printing.{header_row, event_row}
-use Rattle.trace_file.specs.Rules.{is_known}
-use Rattle.trace_file.proofs.Fitting.{Fits}
 
 -- one row more
 pub row_more : (sys : SystemView) (unit : Unit) (events : List Event) (e : Event)
@@ -23,13 +22,10 @@ row_more sys unit events e =
     sym (text_more (header_row unit ∷ map (event_row sys unit) events) (event_row sys unit e))
     ∙ ap (λ (z : List (List (List ℕ))). text_of (header_row unit ∷ z)) (sym (map-append (event_row sys unit) events (e ∷ [])))
 
-abbrev pub FitsKnown : SystemView → Event → Type 0
-FitsKnown sys e = is_known sys e.core e.what ≡ true → Fits sys e
-
-pub fit_more : (sys : SystemView) (events : List Event) (e : Event) → AllFit sys events → FitsKnown sys e → AllFit sys (events ++ e ∷ [])
+pub fit_more : (sys : SystemView) (events : List Event) (e : Event) → AllFit sys events → FitsWord sys e.core e.what → AllFit sys (events ++ e ∷ [])
 fit_more sys events e all one i l = elim (cases_lt i (length events)) [
-  | inl q ↦ subst (FitsKnown sys) (sym (get_or_append_left events (e ∷ []) (record { at = 0; core = 0; what = End }) i q)) (all i q)
-  | inr q ↦ subst (FitsKnown sys) (sym (get_or_push events e (record { at = 0; core = 0; what = End }) i (let m = length_push events e in omega (arith, l, q, m)))) one
+  | inl q ↦ subst (λ (x : Event). FitsWord sys x.core x.what) (sym (get_or_append_left events (e ∷ []) (record { at = 0; core = 0; what = End }) i q)) (all i q)
+  | inr q ↦ subst (λ (x : Event). FitsWord sys x.core x.what) (sym (get_or_push events e (record { at = 0; core = 0; what = End }) i (let m = length_push events e in omega (arith, l, q, m)))) one
 ]
 
 -- what a printer has printed, in its own unit and over its own system

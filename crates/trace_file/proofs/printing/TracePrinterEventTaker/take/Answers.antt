@@ -1,9 +1,9 @@
 use Rattle.std.proofs.Common.{◌∙◌, ◌++◌, ℕ, List, ap, subst, sym}
 use Rattle.csv.specs.Writing.{default_writer, row_text}
 use Rattle.tree_model.specs.View.{SystemView}
-use Rattle.trace_file.specs.Endings.{AreEndings}
+use Rattle.trace_file.specs.Endings.{AreEndings, FitsWord}
 use Rattle.trace_file.specs.Printing.{event_row}
-use Rattle.trace_file.proofs.Printers.{row_more, fit_more, FitsKnown}
+use Rattle.trace_file.proofs.Printers.{row_more, fit_more}
 use Rattle.trace_file.proofs.printing.TracePrinterEventTaker.take.Goals as goal
 
 pub returns : goal.returns
@@ -23,5 +23,5 @@ returns c start events so_far =
           ∙ (ap (λ u. old ++ row_text default_writer (event_row sys u c.args.event)) so_far.unit_is
           ∙ (ap (λ (z : List ℕ). z ++ row_text default_writer (event_row sys unit c.args.event)) so_far.written
           ∙ row_more sys unit events c.args.event)));
-      fits = fit_more sys events c.args.event so_far.fits (subst (λ (s : SystemView). FitsKnown s c.args.event) so_far.sys_is (wrote.named are));
+      fits = fit_more sys events c.args.event so_far.fits (subst (λ (s : SystemView). FitsWord s c.args.event.core c.args.event.what) so_far.sys_is (wrote.named are));
     }
