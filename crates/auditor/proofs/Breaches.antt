@@ -1,6 +1,6 @@
 -- How a time that a VCPU got breaks its reservation.
 use Rattle.std.proofs.Common.{◌≡◌, ℕ, ◌<◌, Bool, true, false, cond, not, ◌&&◌, ltb, Option, Some, None, refl, sym, ◌∙◌, ap, subst, arith, inl, inr}
-use Rattle.std.proofs.lemmas.Bool.{cases_Bool, and_parts, and_from, lt-ltb, le-ltb, ltb-true, false≢true}
+use Rattle.std.proofs.lemmas.Bool.{cases_Bool, and_parts, and_from, lt-ltb, le-ltb, ltb-true, false≢true, and_right}
 use Rattle.std.proofs.lemmas.Option.{same_Some, none-some}
 use Rattle.auditor.specs.declared.watch.Breach.{Breach}
 use Rattle.auditor.specs.declared.watch.Breach.TheVariants.{Short, Over}
@@ -11,17 +11,13 @@ abbrev pub Says : Reservation → Bool → ℕ → Breach → Type 0
 Says r judged got Short = (judged ≡ true) × (got < r.budget)
 Says r judged got Over = (r.extra ≡ false) × (r.budget < got)
 
-and_never : (b c : Bool) → c ≡ false → (b && c) ≡ false
-and_never true c e = e
-and_never false c e = refl
-
 pub short_breach : (r : Reservation) (judged : Bool) (got : ℕ) → judged ≡ true → got < r.budget → breach_of r judged got ≡ Some Short
 short_breach r judged got e l =
     ap (λ (z : Bool). cond {A = Option Breach} z (Some Short) (cond (not r.extra && ltb r.budget got) (Some Over) None)) (and_from judged (ltb got r.budget) e (lt-ltb got r.budget l))
 
 pub over_breach : (r : Reservation) (judged : Bool) (got : ℕ) → r.extra ≡ false → r.budget < got → breach_of r judged got ≡ Some Over
 over_breach r judged got e l =
-    ap (λ (z : Bool). cond {A = Option Breach} z (Some Short) (cond (not r.extra && ltb r.budget got) (Some Over) None)) (and_never judged (ltb got r.budget) (le-ltb got r.budget (omega arith)))
+    ap (λ (z : Bool). cond {A = Option Breach} z (Some Short) (cond (not r.extra && ltb r.budget got) (Some Over) None)) (and_right judged (ltb got r.budget) (le-ltb got r.budget (omega arith)))
     ∙ ap (λ (z : Bool). cond {A = Option Breach} z (Some Over) None) (and_from (not r.extra) (ltb r.budget got) (ap not e) (lt-ltb r.budget got l))
 
 pub breach_says : (r : Reservation) (judged : Bool) (got : ℕ) (b : Breach) → breach_of r judged got ≡ Some b → Says r judged got b

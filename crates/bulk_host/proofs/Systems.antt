@@ -1,7 +1,7 @@
 -- The generated host is a system: its names differ, and its parts are in range.
 use Rattle.std.proofs.Common.{◌≡◌, ℕ, zero, suc, ◌+◌, ◌-◌, ◌<◌, ◌≤◌, Bool, true, false, ◌&&◌, ◌||◌, leb, eqb, List, [], ◌∷◌, ◌++◌, length, map, get_or, codes, decimal, arith, refl, sym, ◌∙◌, ap, subst, inl, inr, lit<, lit≤, le-leb}
 use Rattle.std.specs.List.{list_all}
-use Rattle.std.proofs.lemmas.Bool.{cases_lt}
+use Rattle.std.proofs.lemmas.Bool.{cases_lt, and_from}
 use Rattle.std.proofs.lemmas.Fmt.{decimal_injective, decimal_is_IsNumeral, length-decimal-le}
 use Rattle.std.specs.Str.Parse.{AllDigits}
 use Rattle.std.proofs.lemmas.Str.Parse.{digit_at}
@@ -22,25 +22,21 @@ third true d e f h = refl
 third false true e f h = refl
 third false false e f h = cc
 
-both : (a b : Bool) → a ≡ true → b ≡ true → (a && b) ≡ true
-both true b h k = k
-both false b h k = cc
-
 digit_goes_on : (d : ℕ) → 48 ≤ d → d ≤ 57 → is_name_byte d ≡ true
-digit_goes_on d l m = third (is_letter d) (leb 48 d && leb d 57) (eqb d 95) (eqb d 45) (both (leb 48 d) (leb d 57) (le-leb 48 d l) (le-leb d 57 m))
+digit_goes_on d l m = third (is_letter d) (leb 48 d && leb d 57) (eqb d 95) (eqb d 45) (and_from (leb 48 d) (leb d 57) (le-leb 48 d l) (le-leb d 57 m))
 
 digits_go_on : (ds : List ℕ) → AllDigits 10 ds → list_all is_name_byte ds ≡ true
 digits_go_on [] h = refl
 digits_go_on (d ∷ ds) h =
     let at = digit_at (d ∷ ds) 0 h (let some : 0 < length (d ∷ ds) = omega arith in some) in
-    both (is_name_byte d) (list_all is_name_byte ds) (digit_goes_on d (omega (arith, at)) (omega (arith, at))) (digits_go_on ds h.1)
+    and_from (is_name_byte d) (list_all is_name_byte ds) (digit_goes_on d (omega (arith, at)) (omega (arith, at))) (digits_go_on ds h.1)
 
 -- the texts of cores and guests are names
 lettered : (b : ℕ) (ds : List ℕ) → is_letter b ≡ true → is_name_byte b ≡ true → list_all is_name_byte ds ≡ true → length ds ≤ 3 → is_name (b ∷ ds) ≡ true
 lettered b ds first goes rest few =
-    both (leb 1 (length (b ∷ ds)) && leb (length (b ∷ ds)) 32 && is_letter b) (is_name_byte b && list_all is_name_byte ds)
-    (both (leb 1 (length (b ∷ ds)) && leb (length (b ∷ ds)) 32) (is_letter b) (both (leb 1 (length (b ∷ ds))) (leb (length (b ∷ ds)) 32) (le-leb 1 (length (b ∷ ds)) (omega arith)) (le-leb (length (b ∷ ds)) 32 (omega arith))) first)
-    (both (is_name_byte b) (list_all is_name_byte ds) goes rest)
+    and_from (leb 1 (length (b ∷ ds)) && leb (length (b ∷ ds)) 32 && is_letter b) (is_name_byte b && list_all is_name_byte ds)
+    (and_from (leb 1 (length (b ∷ ds)) && leb (length (b ∷ ds)) 32) (is_letter b) (and_from (leb 1 (length (b ∷ ds))) (leb (length (b ∷ ds)) 32) (le-leb 1 (length (b ∷ ds)) (omega arith)) (le-leb (length (b ∷ ds)) 32 (omega arith))) first)
+    (and_from (is_name_byte b) (list_all is_name_byte ds) goes rest)
 
 number_goes_on : (n : ℕ) → n < 256 → list_all is_name_byte (decimal n) ≡ true
 number_goes_on n l = digits_go_on (decimal n) (decimal_is_IsNumeral n (omega arith)).0.1

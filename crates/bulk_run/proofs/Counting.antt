@@ -1,15 +1,16 @@
 -- What is counted of a generated host, node by node, and how much it can be.
-use Rattle.std.proofs.Common.{◌≡◌, ℕ, zero, suc, ◌*◌, ◌^◌, ◌<◌, ◌≤◌, Bool, true, false, cond, List, [], ◌∷◌, length, map, get_or, Option, Vec, Global, refl, sym, ◌∙◌, ap, arith, subst}
+use Rattle.std.proofs.Common.{◌≡◌, ℕ, zero, suc, ◌*◌, ◌^◌, ◌<◌, ◌≤◌, List, [], ◌∷◌, length, map, get_or, Option, Vec, Global, refl, sym, ◌∙◌, ap, arith, subst}
 use Rattle.std.specs.Prelude.{sum, sum_by}
 use Rattle.std.proofs.lemmas.List.{get_or-map, get_or_default}
 use Rattle.std.proofs.lemmas.List.Sums.{sum_by-cons}
 use Rattle.std.proofs.lemmas.List.FromFn.{length-map-range_with_len}
 use Rattle.slot_model.specs.declared.job.Job.{Job}
-use Rattle.slot_model.specs.Slots.{count_below, sum_below}
+use Rattle.slot_model.specs.Slots.{sum_below}
 use Rattle.slot_model.specs.Task.{SporadicTask}
 use Rattle.slot_model.specs.Miss.{is_missed}
 use Rattle.slot_model.proofs.Sums.{sum_below-zero, sum_below-suc, sum_below-same}
 use Rattle.slot_model.proofs.Windows.{sum_by-places}
+use Rattle.slot_model.proofs.Runs.{count_below-le}
 use Rattle.guest_sched.specs.declared.spans.Span.{Span}
 use Rattle.guest_sched.specs.Spans.{run_of}
 use Rattle.span_counts.specs.Pending.{pairs_pending}
@@ -19,28 +20,22 @@ use Rattle.tree_model.specs.System.{own_tasks_at}
 use Rattle.tree_model.specs.Releases.{jobs_at}
 use Rattle.server_sched.specs.NodeView.{NodeView, TreeView}
 use Rattle.server_sched.specs.TreeSpans.{node_at, runs_of, AreTreeSpans}
+use Rattle.server_sched.proofs.TreeNodes.{run_here}
 use Rattle.bulk_host.specs.Host.{guest_budget, bulk_host, bulk_budgets}
 use Rattle.bulk_host.proofs.Servers.{budget_here}
 use Rattle.bulk_host.proofs.Systems.{cores-many, guests-many}
 use Rattle.bulk_run.specs.declared.counts.BulkCounts.{BulkCounts}
 use Rattle.bulk_run.specs.Summary.{bulk_slots, bulk_supplies, bulk_jobs, misses_in, core_misses, guest_misses, guest_pending}
 use Rattle.bulk_run.specs.Steps.{IsGuestRun, AreGuestRuns}
-use Rattle.bulk_run.proofs.HostRun.{leaf_here, few_here, host_few, jobs-many, run_here}
+use Rattle.bulk_run.proofs.HostRun.{leaf_here, few_here, host_few, jobs-many}
 
 -- a sum of terms that are each at most m
 pub sum_bounded : (f : ℕ → ℕ) (m n : ℕ) → ((x : ℕ) → x < n → f x ≤ m) → sum_below f n ≤ n * m
 sum_bounded f m zero h = omega (arith, sum_below-zero f)
 sum_bounded f m (suc n) h = omega (arith, sum_below-suc f n, sum_bounded f m n (λ x l. h x (omega arith)), h n (omega arith))
 
-pub count_bounded : (p : ℕ → Bool) (n : ℕ) → count_below p n ≤ n
-count_bounded p n = omega (arith, sum_bounded (λ x. cond (p x) 1 0) 1 n (λ x l. one (p x)))
-  where
-    one : (b : Bool) → cond {A = ℕ} b 1 0 ≤ 1
-    one true = omega arith
-    one false = omega arith
-
 pub misses_bounded : (tasks : List SporadicTask) (jobs : List Job) (run : List (Option ℕ)) → misses_in tasks jobs run ≤ length jobs
-misses_bounded tasks jobs run = count_bounded (is_missed tasks jobs run) (length jobs)
+misses_bounded tasks jobs run = count_below-le (is_missed tasks jobs run) (length jobs)
 
 -- the sum of the budgets, guest by guest
 pub budgets_by_guest : (n : ℕ) → sum (bulk_budgets n) ≡ sum_below (budget_at (bulk_budgets n)) n

@@ -6,11 +6,8 @@ use Rattle.std.proofs.lemmas.List.FromFn.{length-map-range_with_len}
 use Rattle.slot_model.specs.declared.job.Job.{Job}
 use Rattle.slot_model.specs.Task.{SporadicTask, AreConstrained}
 use Rattle.slot_model.specs.Release.{LegalRelease, synchronous}
-use Rattle.slot_model.specs.Run.{Level, FirstRun}
-use Rattle.slot_model.specs.Miss.{HoldsReleased}
 use Rattle.slot_model.proofs.Synchronous.{legal_synchronous}
 use Rattle.release_pattern.proofs.FewJobs.{synchronous-few}
-use Rattle.guest_sched.specs.Spans.{run_of}
 use Rattle.tree_model.specs.declared.pinned_core.Core.{Core as CoreView}
 use Rattle.tree_model.specs.View.{PartView, SystemView}
 use Rattle.tree_model.specs.System.{no_core, no_part, part_at, own_tasks, own_tasks_at, is_leaf, is_leaf_at}
@@ -19,11 +16,13 @@ use Rattle.tree_model.specs.Releases.{jobs_at, AreReleases}
 use Rattle.tree_model.specs.FirstTree.{FirstTree}
 use Rattle.tree_model.specs.Plans.{IsPlan}
 use Rattle.tree_model.proofs.InRange.{assigned_is_plan}
-use Rattle.server_sched.specs.NodeView.{NodeView, TreeView}
+use Rattle.server_sched.specs.NodeView.{TreeView}
 use Rattle.server_sched.specs.declared.supplies.Pattern.TheVariants.{Early}
 use Rattle.server_sched.specs.Patterns.{pattern_slot, pattern_slots}
 use Rattle.server_sched.specs.TreeSpans.{node_at, runs_of, AreFewJobs, AreTreeSpans}
 use Rattle.server_sched.proofs.Lists.{few_in_reach}
+use Rattle.server_sched.proofs.TreeNodes.{run_here}
+use Rattle.server_sched.proofs.Nodes.{first_released}
 use Rattle.bulk_host.specs.Host.{guest_period, cores_for, bulk_host, bulk_budgets}
 use Rattle.bulk_host.proofs.LeafBudgets.{tasks_of, constrained_of}
 use Rattle.bulk_host.proofs.Systems.{core_here, guest_here, cores-many, guests-many, host_is_system}
@@ -80,10 +79,6 @@ carried sys other budgets more supplies given jobs lists tree a b c d h =
     (subst (λ (x : List (List Bool)). AreTreeSpans sys budgets bulk_slots x lists tree) c
     (subst (λ (x : List (List Job)). AreTreeSpans sys budgets bulk_slots supplies x tree) d h)))
 
--- the run of a node by its place
-pub run_here : (nodes : List NodeView) (i : ℕ) → i < length nodes → run_at (runs_of nodes) i ≡ run_of (node_at nodes i).spans
-run_here nodes i l = get_or-map (λ (node : NodeView). run_of node.spans) nodes i (node_at [] 0) [] l
-
 -- a core has every slot, and the runs are as long
 pub supply_here : (n c : ℕ) → c < cores_for n → get_or (bulk_supplies n) c [] ≡ pattern_slots Early None bulk_slots
 supply_here n c l =
@@ -101,9 +96,6 @@ part_long n budgets cores parts first q l =
     (first.leaves q (omega (arith, guests-many n)) (leaf_here n q l)).long
     ∙ (length-map (run_of_node cores parts (place_of (part_at (bulk_host n) q).parent)) _
     ∙ (ap (λ (p : PartView). length (run_of_node cores parts (place_of p.parent))) (guest_here n q l) ∙ core_long n budgets cores parts first (q / 8) (omega arith)))
-
-first_released : (level : Level) (before : Job → Job → Bool) (tasks : List SporadicTask) (jobs : List Job) (slots : List Bool) (run : List (Option ℕ)) → FirstRun level before tasks jobs slots run → HoldsReleased jobs run
-first_released level before tasks jobs slots run first = λ x j l e. let pending = ((first.each x (omega (arith, l, first.long))).held j e).pending in record { is_job = pending.is_job; by_then = pending.released }
 
 -- each guest's node is that of its jobs
 pub guest_run : (n : ℕ) (budgets : List ℕ) (tree : TreeView) → AreTreeSpans (bulk_host n) budgets bulk_slots (bulk_supplies n) (bulk_jobs n) tree → (q : ℕ) → q < n → IsGuestRun (jobs_at (bulk_jobs n) q) (node_at tree.parts q).spans

@@ -1,8 +1,9 @@
 -- Nodes that are made one after another, and what is known of one place.
-use Rattle.std.proofs.Common.{◌≡◌, ℕ, suc, ◌+◌, ◌-◌, ◌<◌, ◌≤◌, Bool, true, false, List, [], ◌∷◌, ◌++◌, length, get_or, Option, Some, None, is_some, not, sym, ◌∙◌, ap, subst, refl, arith, inl, inr}
+use Rattle.std.proofs.Common.{◌≡◌, ℕ, ◌+◌, ◌-◌, ◌<◌, ◌≤◌, Bool, true, false, List, [], ◌∷◌, ◌++◌, length, Option, Some, None, is_some, not, sym, ◌∙◌, ap, subst, refl, arith, inl, inr}
 use Rattle.std.specs.Prelude.{nat_lt, is_none}
 use Rattle.std.proofs.lemmas.Bool.{cases_lt, cond-true, cond-false, lt-ltb, le-ltb}
 use Rattle.std.proofs.lemmas.List.{get_or_append_left, get_or_push, length_push}
+use Rattle.std.proofs.lemmas.Grind.{same_number_lists}
 use Rattle.slot_model.specs.declared.sched.Sched.{Sched}
 use Rattle.slot_model.specs.Task.{SporadicTask}
 use Rattle.slot_model.specs.Bound.{sbf, Passes, IsSmall, IsLeastBudget}
@@ -76,20 +77,13 @@ one_more sys budgets nodes n node before made budget =
       ];
     }
 
--- lists of the same numbers are the same
-same_list : (xs ys : List ℕ) → length xs ≡ length ys → ((i : ℕ) → i < length xs → get_or xs i 0 ≡ get_or ys i 0) → xs ≡ ys
-same_list [] [] e each = refl
-same_list [] (y ∷ ys) e each = absurd (omega arith)
-same_list (x ∷ xs) [] e each = absurd (omega arith)
-same_list (x ∷ xs) (y ∷ ys) e each = ap (λ (z : ℕ). z ∷ xs) (each 0 (omega arith)) ∙ ap (λ (zs : List ℕ). y ∷ zs) (same_list xs ys (omega arith) (λ i l. each (suc i) (omega arith)))
-
 are_nodes : (sys : SystemView) (budgets : List ℕ) (nodes : List NodeView) → AreMade sys budgets nodes (length sys.parts + length sys.cores) → AreNodes sys nodes
 are_nodes sys budgets nodes made = record { all = made.long; in_order = λ k l. (made.each k (omega (arith, made.long))).0 }
 
 pub same_budgets : (sys : SystemView) (budgets : List ℕ) → length budgets ≡ length sys.parts → (nodes : List NodeView) → AreMade sys budgets nodes (length sys.parts + length sys.cores) → budgets_of sys nodes ≡ budgets
 same_budgets sys budgets one_each nodes made =
     let are : AreNodes sys nodes = are_nodes sys budgets nodes made in
-    same_list (budgets_of sys nodes) budgets (omega (arith, one_budget_each sys nodes are, one_each))
+    same_number_lists (budgets_of sys nodes) budgets (omega (arith, one_budget_each sys nodes are, one_each))
     (λ q l. let h : q < length sys.parts = omega (arith, one_budget_each sys nodes are) in budget_here sys nodes are q h ∙ made.budgets_are q (omega arith) h)
 
 pub all_made : (sys : SystemView) (budgets : List ℕ) → length budgets ≡ length sys.parts → (nodes : List NodeView) → AreMade sys budgets nodes (length sys.parts + length sys.cores) → IsCertificate sys nodes

@@ -1,11 +1,11 @@
 -- What is listed in a certificate shows what it is to show, so that the certificate proves the
 -- system.
-use Rattle.std.proofs.Common.{◌≡◌, ◌≢◌, ℕ, ◌-◌, Bool, true, false, List, [], Option, Some, refl, subst, arith}
+use Rattle.std.proofs.Common.{◌≡◌, ℕ, ◌-◌, Bool, true, false, List, [], Option, Some, refl, subst, arith}
 use Rattle.slot_model.specs.declared.sched.Sched.{Sched}
 use Rattle.slot_model.specs.declared.sched.Sched.TheVariants.{Edf, Rm, Dm, Listed}
 use Rattle.slot_model.specs.Task.{SporadicTask}
 use Rattle.slot_model.specs.Order.{ranks_above}
-use Rattle.slot_model.specs.Bound.{AllHit, Passes, sbf}
+use Rattle.slot_model.specs.Bound.{sbf}
 use Rattle.miss_witness.specs.declared.defeat.Defeat.{Defeat}
 use Rattle.miss_witness.specs.Defeat.{IsShortTaskWindow, IsShortWindow, IsDefeat}
 use Rattle.fp_test.specs.Falls.{AreFalls}
@@ -15,13 +15,6 @@ use Rattle.tree_model.specs.View.{SystemView}
 use Rattle.tree_model.specs.Tree.{node_tasks, node_sched, node_cycle, node_bound}
 use Rattle.cert_reader.specs.Proves.{node_at, AreHits, IsChainOf, ShowsPass, ShowsShort, ShowsLeast, NodeProves, Proves, budgets_of}
 use Rattle.certificate.specs.Made.{AreLeastHits, IsFirstTask, ListsPass, ListsShort, ListsLeast, IsMade, IsCertificate}
-
--- the test of a fixed rank, and its lists
-pub fixed_all_hit : (sched : Sched) → sched ≢ Edf → (tasks : List SporadicTask) (bound : ℕ → ℕ) → Passes sched tasks bound → AllHit (ranks_above sched tasks) tasks bound
-fixed_all_hit Edf fixed tasks bound passes = absurd (fixed refl)
-fixed_all_hit Rm fixed tasks bound passes = passes
-fixed_all_hit Dm fixed tasks bound passes = passes
-fixed_all_hit Listed fixed tasks bound passes = passes
 
 -- the least hits are hits
 least_hits : (above : ℕ → ℕ → Bool) (tasks : List SporadicTask) (bound : ℕ → ℕ) (node : NodeView) → AreLeastHits above tasks bound node.hits → node.points ≡ [] → AreHits above tasks bound node

@@ -12,7 +12,7 @@ use Rattle.slot_model.specs.Task.{SporadicTask, plain_task, default_task, room_o
 use Rattle.slot_model.specs.Order.{ranks_by, ranks_above}
 use Rattle.slot_model.specs.Release.{push_if}
 use Rattle.slot_model.specs.Bound.{demand_of, dbf, request_of, rbf, IsShortTask, IsShortfall}
-use Rattle.slot_model.proofs.Sums.{sum_below-le}
+use Rattle.slot_model.proofs.Sums.{sum_below-le, cond_rises}
 use Rattle.slot_model.proofs.Windows.{sum_by-places}
 
 -- the task at a place with other work
@@ -53,12 +53,8 @@ heavier_push_if light heavy true period deadline less more l h = heavier_push li
 heavier_push_if light heavy false period deadline less more l h = h
 
 -- more work asks for no less
-cond_more : (b : Bool) (x y : ℕ) → x ≤ y → cond b x 0 ≤ cond b y 0
-cond_more true x y l = l
-cond_more false x y l = omega arith
-
 demand_more : (task : SporadicTask) (work t : ℕ) → task.work ≤ work → demand_of task t ≤ demand_of (jittery_task task.period task.deadline work task.jitter) t
-demand_more task work t l = cond_more (leb task.deadline (t + task.jitter)) _ _ (mul-le-mul_left ((t + task.jitter - task.deadline) / task.period + 1) l)
+demand_more task work t l = cond_rises (leb task.deadline (t + task.jitter)) _ _ (mul-le-mul_left ((t + task.jitter - task.deadline) / task.period + 1) l)
 
 request_more : (task : SporadicTask) (work t : ℕ) → task.work ≤ work → request_of task t ≤ request_of (jittery_task task.period task.deadline work task.jitter) t
 request_more task work t l = mul-le-mul_left ((t + task.jitter + (task.period - 1)) / task.period) l
@@ -84,7 +80,7 @@ pub rbf_more : (sched : Sched) (light heavy : List SporadicTask) → Heavier lig
 rbf_more sched light heavy h i t l =
     let term : (k : ℕ) → k < length light → cond (ranks_above sched light k i) (request_of (task_at light k) t) 0 ≤ cond (ranks_above sched heavy k i) (request_of (task_at heavy k) t) 0 =
     λ k m. subst (λ (b : Bool). cond (ranks_above sched light k i) (request_of (task_at light k) t) 0 ≤ cond b (request_of (task_at heavy k) t) 0) (same_ranks sched light heavy h k i m l)
-    (cond_more (ranks_above sched light k i) _ _ (subst (λ (b : SporadicTask). request_of (task_at light k) t ≤ request_of b t) (sym (h.each k m).1) (request_more (task_at light k) (h.each k m).0 t (h.each k m).2))) in
+    (cond_rises (ranks_above sched light k i) _ _ (subst (λ (b : SporadicTask). request_of (task_at light k) t ≤ request_of b t) (sym (h.each k m).1) (request_more (task_at light k) (h.each k m).0 t (h.each k m).2))) in
     omega (arith, ap (λ (b : SporadicTask). b.work) (h.each i l).1, (h.each i l).2, sum_below-le (λ k. cond (ranks_above sched light k i) (request_of (task_at light k) t) 0) (λ k. cond (ranks_above sched heavy k i) (request_of (task_at heavy k) t) 0) (length light) term, ap (sum_below (λ k. cond (ranks_above sched heavy k i) (request_of (task_at heavy k) t) 0)) h.same_length)
 
 -- what falls short, first or not

@@ -1,5 +1,5 @@
 pub mod Keeping
-mod Strict
+pub mod Strict
 mod TreeRuns
 mod TreeExists
 pub mod Sound

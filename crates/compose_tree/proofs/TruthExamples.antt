@@ -1,7 +1,8 @@
 -- Worked examples of what a plan and a refusal say. A wrong end of a range, or a part left out,
 -- breaks one of them.
-use Rattle.std.proofs.Common.{◌≡◌, ℕ, zero, suc, ◌<◌, ◌≤◌, true, false, List, [], ◌∷◌, length, Option, Some, None, refl, arith}
+use Rattle.std.proofs.Common.{◌≡◌, ℕ, zero, suc, ◌<◌, ◌≤◌, true, false, List, [], ◌∷◌, length, Option, Some, None, refl, arith, sym}
 use Rattle.std.proofs.lemmas.Bool.{false≢true}
+use Rattle.std.proofs.lemmas.Option.{none-some}
 use Rattle.slot_model.specs.Slots.{sum_below}
 use Rattle.slot_model.specs.declared.job.Job.{Job}
 use Rattle.slot_model.specs.declared.sched.Sched.TheVariants.{Edf}
@@ -83,11 +84,8 @@ a_leaf_on_a_full_core_is_flat = record { cores = cores; parts = parts }
     parts zero l = refl
     parts (suc q) l = absurd (omega arith)
 
-some_is_not_none : (supply : ℕ × ℕ) → Some supply ≡ None → ⊥
-some_is_not_none supply e = cc
-
 on_a_core_with_a_supply_it_is_not : IsFlat (on_one_core (Some (10, 10)) some_tasks) → ⊥
-on_a_core_with_a_supply_it_is_not flat = some_is_not_none (10, 10) (flat.cores 0 (omega arith))
+on_a_core_with_a_supply_it_is_not flat = none-some (10, 10) (sym (flat.cores 0 (omega arith)))
 
 a_part_with_no_tasks_is_not : IsFlat (on_one_core None []) → ⊥
 a_part_with_no_tasks_is_not flat = false≢true (flat.parts 0 (omega arith))

@@ -1,6 +1,6 @@
 -- How csv's machine goes over a plain text, byte by byte.
 use Rattle.std.proofs.Common.{◌≡◌, ◌≢◌, ◌⊎◌, inl, inr, ◌==◌, ◌<◌, ◌≤◌, ◌+◌, ◌-◌, ℕ, false, Bor, List, [], ◌∷◌, ◌++◌, length, take, drop, get_or, Option, Some, None, refl, sym, ◌∙◌, ap, subst, arith, get_or-drop, length-drop}
-use Rattle.std.proofs.lemmas.List.{drop_all, drop_more, length-map, length-take, map-append, take_all, take_more}
+use Rattle.std.proofs.lemmas.List.{drop_all, drop_more, length-map, length-take, map-append, take_all, take_more, nil_from_length}
 use Rattle.std.proofs.lemmas.Bool.{ne_eqb}
 use Rattle.csv.specs.Machine.{Read, next_record}
 use Rattle.csv.specs.Reading.{default_config, strip_bom}
@@ -98,18 +98,14 @@ after_other text fields from i low l plain comma line h =
     here text fields from i (get_or text i 0) l refl h ∙ (on_other fields (at_hand text from i) (get_or text i 0) (drop (i + 1) text) (plain i l).0 (plain i l).1 (ne_eqb (get_or text i 0) 44 comma) (ne_eqb (get_or text i 0) 10 line)
     ∙ ap (λ (field : List ℕ). read_on fields field (drop (i + 1) text)) (sym (field_more text from i low l)))
 
-no_fields : (fields : List (List ℕ)) → length fields ≡ 0 → fields ≡ []
-no_fields [] e = refl
-no_fields (f ∷ fields) e = cc e
-
 pub after_blank : (text : List ℕ) (fields : List (List ℕ)) (from i : ℕ) → i < length text → get_or text i 0 ≡ 10 → from ≡ i → length fields ≡ 0 → Reads text fields from i → Reads text fields (i + 1) (i + 1)
 after_blank text fields from i l e at_from none h =
     here text fields from i 10 l e h
     ∙ (ap (λ (k : ℕ). read_on fields (at_hand text k i) (10 ∷ drop (i + 1) text)) at_from
     ∙ (ap (λ (field : List ℕ). read_on fields field (10 ∷ drop (i + 1) text)) (none_at text i)
-    ∙ (ap (λ (fs : List (List ℕ)). read_on fs [] (10 ∷ drop (i + 1) text)) (no_fields fields none)
+    ∙ (ap (λ (fs : List (List ℕ)). read_on fs [] (10 ∷ drop (i + 1) text)) (nil_from_length fields none)
     ∙ (on_blank (drop (i + 1) text)
-    ∙ (ap (λ (fs : List (List ℕ)). read_on fs [] (drop (i + 1) text)) (sym (no_fields fields none))
+    ∙ (ap (λ (fs : List (List ℕ)). read_on fs [] (drop (i + 1) text)) (sym (nil_from_length fields none))
     ∙ ap (λ (field : List ℕ). read_on fields field (drop (i + 1) text)) (sym (none_at text (i + 1))))))))
 
 some_at : (text : List ℕ) (from i : ℕ) → from ≤ i → i ≤ length text → length (at_hand text from i) ≡ 0 → from ≡ i

@@ -1,13 +1,9 @@
 -- The request bound never falls.
-use Rattle.std.proofs.Common.{ℕ, ◌+◌, ◌-◌, ◌≤◌, Bool, true, false, cond, List, length, arith, mul-le-mul_right}
+use Rattle.std.proofs.Common.{ℕ, ◌+◌, ◌-◌, ◌≤◌, Bool, cond, List, length, arith, mul-le-mul_right}
 use Rattle.slot_model.specs.Task.{SporadicTask, AreConstrained, task_at}
 use Rattle.slot_model.specs.Bound.{request_of, rbf}
-use Rattle.slot_model.proofs.Sums.{sum_below-le}
+use Rattle.slot_model.proofs.Sums.{sum_below-le, cond_rises}
 use Rattle.slot_model.proofs.Demand.{quotient_rises}
-
-cond_rises : (v : Bool) (x y : ℕ) → x ≤ y → cond v x 0 ≤ cond v y 0
-cond_rises true x y l = l
-cond_rises false x y l = omega arith
 
 -- a longer window asks for no less
 pub rbf-rises : (above : ℕ → ℕ → Bool) (tasks : List SporadicTask) → AreConstrained tasks → (i t u : ℕ) → t ≤ u → rbf above tasks i t ≤ rbf above tasks i u

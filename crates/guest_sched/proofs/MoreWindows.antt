@@ -1,22 +1,16 @@
 -- Windows with more slots at their end.
-use Rattle.std.proofs.Common.{◌≡◌, ◌≢◌, ℕ, zero, suc, ◌+◌, ◌-◌, ◌<◌, ◌≤◌, ◌&&◌, ◌||◌, Bool, true, false, List, [], ◌∷◌, ◌++◌, length, get_or, set, refl, sym, ◌∙◌, ap, arith, subst, inl, inr, length-set, get_or-set_same, get_or-set_other, nat_le, nat_lt, le-leb, lt-ltb}
-use Rattle.std.proofs.lemmas.Bool.{cases_eq, lt-leb, and_from}
+use Rattle.std.proofs.Common.{◌≡◌, ◌≢◌, ℕ, zero, suc, ◌+◌, ◌-◌, ◌<◌, ◌≤◌, ◌&&◌, ◌||◌, Bool, true, false, List, [], ◌∷◌, ◌++◌, length, get_or, set, refl, sym, ◌∙◌, ap, arith, subst, inl, inr, length-set, get_or-set_same, get_or-set_other, nat_le, lt-ltb}
+use Rattle.std.proofs.lemmas.Bool.{cases_eq}
 use Rattle.std.proofs.lemmas.List.{get_or_append_left, get_or_push, get_or_read, length_push}
 use Rattle.std.proofs.lemmas.List.Folds.{list_any_at, list_any-append}
 use Rattle.guest_sched.specs.declared.spans.Window.{Window}
 use Rattle.guest_sched.specs.Spans.{is_within, is_given, window_at, AreWindows}
-use Rattle.guest_sched.proofs.Given.{all_given}
+use Rattle.guest_sched.proofs.Given.{all_given, inside, before_it}
 use Rattle.std.specs.List.{list_any}
 use Rattle.guest_sched.specs.MoreWindows.{EndsAt, AddsWindow}
 
 abbrev nowhere : Window
 nowhere = record { from = 0; until = 0 }
-
-inside : (w : Window) (x : ℕ) → w.from ≤ x → x < w.until → is_within w x ≡ true
-inside w x a b = and_from _ _ (le-leb w.from x a) (lt-ltb x w.until b)
-
-before_it : (w : Window) (x : ℕ) → x < w.from → is_within w x ≡ false
-before_it w x l = ap (λ (b : Bool). b && nat_lt x w.until) (lt-leb w.from x l)
 
 -- a list with another element that a test answers alike
 same_test : {X : Type 0} (p : X → Bool) (xs : List X) (i : ℕ) (y d : X) → p y ≡ p (get_or xs i d) → list_any p (set xs i y) ≡ list_any p xs

@@ -1,6 +1,6 @@
 -- Windows that spell a pattern of slots, as far as they were made.
 use Rattle.std.proofs.Common.{◌≡◌, ℕ, suc, min, ◌+◌, ◌-◌, ◌*◌, ◌%◌, ◌<◌, ◌≤◌, ◌||◌, ◌&&◌, nat_le, nat_lt, Bool, true, false, List, [], ◌∷◌, length, get_or, refl, sym, ◌∙◌, ap, arith, subst, inl, inr, lt-ltb, le-ltb, le-leb}
-use Rattle.std.proofs.lemmas.Bool.{cases_lt, lt-leb, or_left}
+use Rattle.std.proofs.lemmas.Bool.{cases_lt, lt-leb, or_left, or_right, and_right}
 use Rattle.std.proofs.lemmas.List.{ext_get_or}
 use Rattle.slot_model.specs.Supply.{Follows, worst_slot}
 use Rattle.slot_model.proofs.WorstPattern.{worst_at}
@@ -74,15 +74,11 @@ in_budget period budget k x m l g =
 every_slot : (period x : ℕ) → 1 ≤ period → worst_slot period period x ≡ true
 every_slot period x l = elim (cases_lt x period) [
   | inl first ↦ before_budget period period x first
-  | inr later ↦ ap (λ (b : Bool). nat_lt x period || b) (both (nat_le period x) (nat_le (period - period) (x % period)) (le-leb period x later) (le-leb (period - period) (x % period) (omega arith))) ∙ right (nat_lt x period)
+  | inr later ↦ ap (λ (b : Bool). nat_lt x period || b) (both (nat_le period x) (nat_le (period - period) (x % period)) (le-leb period x later) (le-leb (period - period) (x % period) (omega arith))) ∙ or_right (nat_lt x period) true refl
 ]
   where
     both : (a b : Bool) → a ≡ true → b ≡ true → (a && b) ≡ true
     both a b e f = grind arith
-
-    right : (a : Bool) → (a || true) ≡ true
-    right true = refl
-    right false = refl
 
 -- the whole, where the budget is the period, and nothing, where it is 0
 pub whole_spelled : (period slots : ℕ) → 1 ≤ period → 0 < slots → Spells (worst_slot period period) slots (record { from = 0; until = slots } ∷ [])
@@ -91,12 +87,8 @@ whole_spelled period slots l m = then_all (worst_slot period period) 0 slots [] 
 pub none_spelled : (period slots : ℕ) → 1 ≤ period → Spells (worst_slot period 0) slots []
 none_spelled period slots l = then_none (worst_slot period 0) 0 slots [] (nothing_yet (worst_slot period 0)) (omega arith) (λ x a b. none x)
   where
-    last : (a : Bool) → (a && false) ≡ false
-    last true = refl
-    last false = refl
-
     none : (x : ℕ) → worst_slot period 0 x ≡ false
-    none x = ap (λ (b : Bool). b || (nat_le period x && nat_le (period - 0) (x % period))) (le-ltb x 0 (omega arith)) ∙ ap (λ (b : Bool). nat_le period x && b) (lt-leb (period - 0) (x % period) (omega arith)) ∙ last (nat_le period x)
+    none x = ap (λ (b : Bool). b || (nat_le period x && nat_le (period - 0) (x % period))) (le-ltb x 0 (omega arith)) ∙ ap (λ (b : Bool). nat_le period x && b) (lt-leb (period - 0) (x % period) (omega arith)) ∙ and_right (nat_le period x) false refl
 
 -- up to the end of a period, and the begin of the budget in the next
 pub record SpellsTo (period budget slots from : ℕ) (windows : List Window) : Type 0 where

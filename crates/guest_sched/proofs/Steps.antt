@@ -2,11 +2,12 @@
 use Rattle.std.proofs.Common.{◌≡◌, ℕ, ◌+◌, ◌-◌, ◌<◌, ◌≤◌, ◌^◌, Bool, true, false, cond, List, [], ◌++◌, length, get_or, set, map, replicate, Option, Some, None, refl, sym, ◌∙◌, ap, arith, subst, inl, inr, eqb, eq-eqb, ne_eqb, length-set, get_or-set_same, get_or-set_other}
 use Rattle.std.proofs.lemmas.Bool.{cases_eq, cases_lt, cond-true, cond-false, both_ways, true≢false}
 use Rattle.std.proofs.lemmas.List.{get_or-map, length-map}
+use Rattle.std.proofs.lemmas.Option.{same_Some}
 use Rattle.slot_model.specs.declared.job.Job.{Job}
 use Rattle.slot_model.specs.Task.{SporadicTask, default_job, job_at}
 use Rattle.slot_model.specs.Run.{holds, service, Level, Pending, MayHold, Entry, FirstRunTo}
 use Rattle.slot_model.proofs.Sums.{sum_below-zero}
-use Rattle.slot_model.proofs.FirstRuns.{none_some, same_some}
+use Rattle.slot_model.proofs.FirstRuns.{none_some}
 use Rattle.guest_sched.specs.declared.releases.Release.{Release}
 use Rattle.guest_sched.specs.declared.ready.Ready.{Ready}
 use Rattle.guest_sched.specs.declared.spans.Span.{Span}
@@ -84,8 +85,8 @@ served_entry level before tasks jobs run x ready are true None h = record {
 served_entry level before tasks jobs run x ready are true (Some p) h = record {
   no_slot = λ e. absurd (true≢false e);
   idle = λ e q. absurd (none_some (Some p) p q refl);
-  held = λ j e. subst (MayHold level before tasks jobs run x) (h.1 ∙ same_some p j e) (unbeaten_may level before tasks jobs run x ready are h.0 h.2.0 h.2.1);
-  first = λ j k e l. first_may level before tasks jobs run x ready are h.0 h.2 k (omega (arith, l, h.1, same_some p j e));
+  held = λ j e. subst (MayHold level before tasks jobs run x) (h.1 ∙ same_Some p j e) (unbeaten_may level before tasks jobs run x ready are h.0 h.2.0 h.2.1);
+  first = λ j k e l. first_may level before tasks jobs run x ready are h.0 h.2 k (omega (arith, l, h.1, same_Some p j e));
 }
 
 -- what the jobs lack after a span
@@ -149,7 +150,7 @@ pub record Serves (before : Job → Job → Bool) (jobs : List Job) (came : Read
 served_stands : (before : Job → Job → Bool) (jobs : List Job) (ready : List ℕ) (slot : Bool) (entry : Option ℕ) (p : ℕ) → IsServed before jobs ready slot entry → entry ≡ Some p → StandsIn ready p
 served_stands before jobs ready false entry p v e = absurd (none_some entry p v e)
 served_stands before jobs ready true None p v e = absurd (none_some None p refl e)
-served_stands before jobs ready true (Some j) p v e = (v.0, v.2.0, v.1 ∙ same_some j p e)
+served_stands before jobs ready true (Some j) p v e = (v.0, v.2.0, v.1 ∙ same_Some j p e)
 
 -- the slots from one moment up to another are given
 abbrev pub AreGiven : List Bool → ℕ → ℕ → Type 0

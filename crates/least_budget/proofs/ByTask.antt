@@ -1,30 +1,17 @@
 -- The least budget of a level under a fixed rank, task by task.
 use borrow.Author.Count.{below_more}
-use Rattle.std.proofs.Common.{◌≡◌, ◌≢◌, ℕ, ◌+◌, ◌<◌, ◌≤◌, Bool, List, length, refl, arith, inl, inr}
+use Rattle.std.proofs.Common.{◌≡◌, ◌≢◌, ℕ, ◌+◌, ◌<◌, ◌≤◌, Bool, List, length, arith, inl, inr}
 use Rattle.std.proofs.lemmas.Bool.{cases_lt}
 use Rattle.slot_model.specs.declared.sched.Sched.{Sched}
-use Rattle.slot_model.specs.declared.sched.Sched.TheVariants.{Edf, Rm, Dm, Listed}
+use Rattle.slot_model.specs.declared.sched.Sched.TheVariants.{Edf}
 use Rattle.slot_model.specs.Task.{SporadicTask}
 use Rattle.slot_model.specs.Order.{ranks_above}
-use Rattle.slot_model.specs.Bound.{IsShortTask, sbf, AllHit, Passes}
-use Rattle.slot_model.proofs.Budgets.{sbf-more}
+use Rattle.slot_model.specs.Bound.{IsShortTask, sbf, Passes}
+use Rattle.slot_model.proofs.Budgets.{sbf-more, hits_of, passes_of}
 use Rattle.least_budget.specs.Answers.{HasHit, IsLeast, IsLeastOfTask}
 use Rattle.least_budget.specs.declared.answers.Least.TheVariants.{Budget, Over}
 use Rattle.slot_model.specs.declared.sched.Short.TheVariants.{Task}
 use Rattle.least_budget.proofs.Testing.{fixed_small, fixed_short}
-
--- passing under a fixed rank is a hit of each task
-pub hits_of : (sched : Sched) → sched ≢ Edf → (tasks : List SporadicTask) (bound : ℕ → ℕ) → Passes sched tasks bound → AllHit (ranks_above sched tasks) tasks bound
-hits_of Edf fixed tasks bound h = absurd (fixed refl)
-hits_of Rm fixed tasks bound h = h
-hits_of Dm fixed tasks bound h = h
-hits_of Listed fixed tasks bound h = h
-
-passes_of : (sched : Sched) → sched ≢ Edf → (tasks : List SporadicTask) (bound : ℕ → ℕ) → AllHit (ranks_above sched tasks) tasks bound → Passes sched tasks bound
-passes_of Edf fixed tasks bound h = absurd (fixed refl)
-passes_of Rm fixed tasks bound h = h
-passes_of Dm fixed tasks bound h = h
-passes_of Listed fixed tasks bound h = h
 
 -- a larger budget keeps a task's hit
 pub larger_hit : (above : ℕ → ℕ → Bool) (tasks : List SporadicTask) (period budget more i : ℕ) → 1 ≤ period → budget ≤ more → more ≤ period → HasHit above tasks (sbf period budget) i → HasHit above tasks (sbf period more) i

@@ -9,18 +9,8 @@ use Rattle.slot_model.specs.Task.{SporadicTask, AreConstrained, room_of, task_at
 use Rattle.slot_model.specs.Supply.{SupplyLaws}
 use Rattle.slot_model.specs.Order.{ranks_above}
 use Rattle.slot_model.specs.Bound.{dbf, rbf, IsHit, IsShortTask, AllHit, IsFirstShortTask, IsFirstShortPoint, DemandFits, Passes, IsShortfall, IsHorizon}
+use Rattle.slot_model.proofs.FirstRuns.{first_below}
 use Rattle.edf_demand.proofs.Horizons.{horizon_exists, horizon_is_enough, rises_of_laws}
-
--- the least number below n that passes a test
-least_below : (P : ℕ → Type 0) → ((k : ℕ) → P k ⊎ (P k → ⊥)) → (n : ℕ) → ((k : ℕ) × (k < n) × P k × ((j : ℕ) → j < k → P j → ⊥)) ⊎ ((k : ℕ) → k < n → P k → ⊥)
-least_below P test zero = inr (λ k l h. absurd (omega arith))
-least_below P test (suc n) = elim (least_below P test n) [
-  | inl r ↦ inl (r.0, omega arith, r.2, r.3)
-  | inr none ↦ elim (test n) [
-    | inl h ↦ inl (n, omega arith, h, none)
-    | inr no' ↦ inr (λ k l h. elim (cases_eq k n) [ inl e ↦ no' (subst P e h) | inr ne ↦ none k (omega arith) h ])
-  ]
-]
 
 -- whether a window is short
 is_short : (tasks : List SporadicTask) (bound : ℕ → ℕ) (t : ℕ) → ((1 ≤ t) × (bound t < dbf tasks t)) ⊎ ((1 ≤ t) × (bound t < dbf tasks t) → ⊥)
@@ -36,7 +26,7 @@ demand_fits_or_short tasks fits {bound} {amount} {cycle} {pattern} {start} {Conf
     let r : (h : ℕ) × IsHorizon tasks cycle h = horizon_exists tasks cycle laws.some_cycle fits in
     let fitting : (u : ℕ) → 1 ≤ u → ((1 ≤ u) × (bound u < dbf tasks u) → ⊥) → dbf tasks u ≤ bound u =
     λ u lu no'. elim (cases_lt (bound u) (dbf tasks u)) [ inr q ↦ q | inl q ↦ absurd (no' (lu, q)) ] in
-    elim (least_below (λ t. (1 ≤ t) × (bound t < dbf tasks t)) (is_short tasks bound) (suc r.0)) [
+    elim (first_below (λ t. (1 ≤ t) × (bound t < dbf tasks t)) (is_short tasks bound) (suc r.0)) [
       | inl w ↦ inr (w.0, record { some_slots = w.2.0; short = w.2.1; before = λ u lu l. fitting u lu (w.3 u l) })
       | inr none ↦ inl (horizon_is_enough tasks fits bound amount cycle r.0 laws.some_cycle (rises_of_laws bound amount cycle pattern start Conforms laws) r.1 (λ u lu l. fitting u lu (none u (omega arith))))
     ]
@@ -52,7 +42,7 @@ is_hit above tasks bound i t = elim (cases_lt 0 t) [
 ]
 
 hit_or_short : (above : ℕ → ℕ → Bool) (tasks : List SporadicTask) (bound : ℕ → ℕ) (i : ℕ) → ((t : ℕ) × IsHit above tasks bound i t) ⊎ IsShortTask above tasks bound i
-hit_or_short above tasks bound i = elim (least_below (λ t. IsHit above tasks bound i t) (is_hit above tasks bound i) (suc (room_of (task_at tasks i)))) [
+hit_or_short above tasks bound i = elim (first_below (λ t. IsHit above tasks bound i t) (is_hit above tasks bound i) (suc (room_of (task_at tasks i)))) [
   | inl r ↦ inl (r.0, r.2)
   | inr none ↦ inr (λ u lu hu. elim (cases_lt (bound u) (rbf above tasks i u)) [ inl q ↦ q | inr q ↦ absurd (none u (omega arith) (record { some_slots = lu; in_deadline = hu; enough = q })) ])
 ]

@@ -12,7 +12,7 @@ use Rattle.slot_model.specs.Task.{SporadicTask, default_job, early_job}
 use Rattle.slot_model.specs.Release.{LegalRelease}
 use Rattle.csv_rows.specs.Decimal.{number}
 use Rattle.csv_rows.specs.Rules.{row_of, fault_if, RowsKeep, IsFirstFault}
-use Rattle.csv_rows.proofs.Keeping.{length_more}
+use Rattle.csv_rows.proofs.Keeping.{length_more, fault_skipped}
 use Rattle.tree_model.specs.View.{NamedTask, PartView, SystemView}
 use Rattle.tree_model.specs.System.{IsPart, is_leaf, own_tasks, own_tasks_at, part_at}
 use Rattle.tree_model.specs.Releases.{AreReleases, jobs_at}
@@ -65,9 +65,6 @@ slot_more rows r =
 
 releases_more : (sys : SystemView) (version : Version) (rows : List (List (List ℕ))) (row : List (List ℕ)) → releases_of sys version (rows ++ row ∷ []) ≡ releases_of sys version rows ++ release_of sys (all_fields version row) ∷ []
 releases_more sys version rows row = map-append (λ (x : List (List ℕ)). release_of sys (all_fields version x)) rows (row ∷ [])
-
-kept : (broken : Bool) (fault : ReleaseFault) (later : Option ReleaseFault) → broken ≡ false → later ≡ None → fault_if broken fault later ≡ None
-kept broken fault later e l = ap (λ (z : Bool). fault_if z fault later) e ∙ l
 
 -- what a row spells: a job of the part that is found
 spelt_is : (sys : SystemView) (f : ReleaseFields) (part at : ℕ) → Some part ≡ position (bytes_eq f.part.now) (part_names sys.parts) → at ≡ number f.at.now → release_of sys (fields_in f) ≡ record { part = part; job = job_in (part_at sys part) f at }
@@ -124,10 +121,10 @@ took_release s a b rows row f at part n leaf next h number_is fields plain at_is
     rules : release_rules s.sys.now s.version rows row ≡ None
     rules =
         ap (λ (z : List (List ℕ)). fault_if (not (is_release_row z)) (BadRow (row_of (length rows))) (release_fault s.sys.now R (release_of s.sys.now (all_fields s.version row)))) same_fields
-        ∙ (kept (not (is_release_row (fields_in f))) (BadRow (row_of (length rows))) _ (ap not plain)
+        ∙ (fault_skipped (not (is_release_row (fields_in f))) (BadRow (row_of (length rows))) _ (ap not plain)
         (ap (λ (x : Release). release_fault s.sys.now (releases_of s.sys.now s.version rows) x) told
-        ∙ (kept (nat_lt LIMIT at) (OutOfRange (row_of (length R))) _ (le-ltb LIMIT at in_limit)
-        (kept (nat_lt at (last_slot R)) (BadOrder (row_of (length R))) _ (le-ltb at (last_slot R) (omega (arith, in_order, h.slot)))
+        ∙ (fault_skipped (nat_lt LIMIT at) (OutOfRange (row_of (length R))) _ (le-ltb LIMIT at in_limit)
+        (fault_skipped (nat_lt at (last_slot R)) (BadOrder (row_of (length R))) _ (le-ltb at (last_slot R) (omega (arith, in_order, h.slot)))
         (ap (λ z. part_fault (part_at z.now part) (jobs_of part R) (job_in leaf.part.now f at) (row_of (length R))) (sym h.sys)
         ∙ (ap (λ (p : PartView). part_fault p (jobs_of part R) (job_in leaf.part.now f at) (row_of (length R))) (sym here.part_is)
         ∙ (ap (λ (js : List Job). part_fault leaf.part.now js (job_in leaf.part.now f at) (row_of (length R))) (sym here.jobs_are)

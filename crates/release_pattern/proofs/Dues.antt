@@ -8,7 +8,7 @@ use Rattle.release_pattern.specs.Due.{IsNext, AreDue, AreFirsts, NoneRelease}
 use Rattle.release_pattern.proofs.Moments.{one_releases, one_waits, some_wait}
 
 -- a moment later, where the task does not release
-later : (b : SporadicTask) (x y n : ℕ) → IsNext b x n → x ≤ y → y ≤ n → IsNext b y n
+pub later : (b : SporadicTask) (x y n : ℕ) → IsNext b x n → x ≤ y → y ≤ n → IsNext b y n
 later b x y n h a l = record { from = l; none = λ z m k. h.none z (omega arith) k; due = h.due }
 
 -- a task passes, which has released or does not release

@@ -1,4 +1,4 @@
 mod FewTasks
 pub mod Moments
-mod Dues
+pub mod Dues
 pub mod FewJobs

@@ -1,9 +1,8 @@
 -- What `bulk N` answers and means.
 use Rattle.std.proofs.Common.{◌≡◌, ℕ, ◌≤◌, List, [], Option, Some, None, refl, sym, ◌∙◌, ap, subst}
 use Rattle.outside.specs.Files.{Files}
-use Rattle.fp_request.specs.Ranks.{order_laws}
-use Rattle.tree_model.proofs.FirstTrees.{AllStrict}
 use Rattle.compose_tree.proofs.Sound.{admitted_no_loss}
+use Rattle.compose_tree.proofs.Strict.{order_strict}
 use Rattle.bulk_host.specs.Host.{bulk_host}
 use Rattle.bulk_host.proofs.Systems.{host_is_system}
 use Rattle.bulk_run.specs.declared.counts.BulkCounts.{BulkCounts}
@@ -19,12 +18,9 @@ use Rattle.rt_top.specs.Causes.{IsVerdict}
 use Rattle.rt_top.specs.Report.{AreContents, IsAnswer}
 use Rattle.rt_top.proofs.Statuses.{IsOfJob}
 
-strict : AllStrict
-strict sched tasks = record { not_itself = (order_laws sched).not_itself tasks; in_turn = (order_laws sched).in_turn tasks }
-
 pub one_bulk : (n : ℕ) → IsOne (AnswersBulk n)
 one_bulk n = λ s t x y a b.
-    (a.is_yes ∙ sym b.is_yes, a.told ∙ (ap bulk_text (one_count strict n a.some a.most a.counts b.counts a.counted b.counted) ∙ sym b.told))
+    (a.is_yes ∙ sym b.is_yes, a.told ∙ (ap bulk_text (one_count order_strict n a.some a.most a.counts b.counts a.counted b.counted) ∙ sym b.told))
 
 pub bulk_status : (n : ℕ) (status : Status) (text : List ℕ) → AnswersBulk n status text → IsOfJob status
 bulk_status n status text h = subst IsOfJob (sym h.is_yes) tt

@@ -1,5 +1,5 @@
 -- `certify FILE`: what it answers, and what its yes and no mean to who keeps the certificate.
-use Rattle.std.specs.Prelude.{◌≡◌, ℕ, List, Ok, IsOk, ⊤}
+use Rattle.std.specs.Prelude.{◌≡◌, ℕ, List, Ok, ⊤}
 use Rattle.tree_model.specs.declared.plan.Refusal.{Refusal}
 use Rattle.tree_model.specs.CertificateView.{NodeView}
 use Rattle.tree_model.specs.View.{SystemView}
@@ -14,10 +14,10 @@ use Rattle.system_file.specs.SystemFile.{system_of}
 use Rattle.rt_report.specs.Refusal.{refusal_text}
 use Rattle.rt_top.specs.declared.status.Status.{Status}
 use Rattle.rt_top.specs.declared.status.Status.TheVariants.{Yes, No}
-use Rattle.rt_top.specs.Answer.{Contents, AtFile, OnSystem, IfSystem, IsReadable}
+use Rattle.rt_top.specs.Answer.{Contents, AtFile, OnSystem, IfSystem}
 use Rattle.rt_top.specs.Attempt.{Attempt, OnAttempt}
 use Rattle.rt_top.specs.Budgets.{refusal_status}
-use Rattle.rt_top.specs.Admit.{IsTrulyOverfull}
+use Rattle.rt_top.specs.Admit.{IsTrulyOverfull, CanAdmit}
 
 -- a certificate is made, or a first refusal is answered
 abbrev pub certifying : SystemView → Attempt (List NodeView) Refusal
@@ -64,4 +64,4 @@ CertifyMeans contents status text = IfSystem contents (λ sys. CertificateMeans 
 
 -- the file is there, short enough, and spells a system
 abbrev pub CanCertify : Contents → Type 0
-CanCertify contents = IsReadable 1 contents (λ bytes. IsOk (system_of bytes))
+CanCertify = CanAdmit

@@ -6,6 +6,7 @@ use Rattle.std.proofs.Math.Nat.{mul-mod_left, div-eq_of_lt}
 use Rattle.std.proofs.lemmas.Nat.{div-mul-add, le-div}
 use Rattle.std.proofs.lemmas.Bool.{cases_eq, cases_lt, cases_Bool, cases_order, both_ways, or_right, and_from, and_parts, cond-true, cond-false}
 use Rattle.std.proofs.lemmas.List.FromFn.{length-map-range_with_len, get_or-map-range_with_len}
+use Rattle.std.proofs.lemmas.Option.{same_Some}
 use Rattle.slot_model.specs.declared.job.Job.{Job}
 use Rattle.slot_model.specs.Slots.{count_below}
 use Rattle.slot_model.specs.Task.{SporadicTask, AreConstrained, IsConstrained, task_at, job_at, deadline_of}
@@ -15,7 +16,7 @@ use Rattle.slot_model.specs.Release.{releases_now, release_of, synchronous, Lega
 use Rattle.slot_model.specs.Bound.{dbf}
 use Rattle.slot_model.proofs.Sums.{sum_below-zero, sum_below-suc, sum_below-same}
 use Rattle.slot_model.proofs.Runs.{search_below, holds-is}
-use Rattle.slot_model.proofs.FirstRuns.{none_some, same_some}
+use Rattle.slot_model.proofs.FirstRuns.{none_some}
 use Rattle.slot_model.proofs.FullSupply.{full_laws}
 use Rattle.slot_model.proofs.Synchronous.{legal_synchronous, synchronous_whole}
 use Rattle.slot_model.proofs.ChildSupply.{In, has_release}
@@ -91,7 +92,7 @@ same_job tasks jobs fits legal k r i j a b = elim (cases_order i j) [
 
 holds-some : (o : Option ℕ) (j : ℕ) → o ≡ Some j → holds o j ≡ true
 holds-some None j e = absurd (none_some None j refl e)
-holds-some (Some i) j e = eq-eqb i j (same_some i j e)
+holds-some (Some i) j e = eq-eqb i j (same_Some i j e)
 
 -- a VCPU that starts at 0 is started at each slot
 started_always : (rows : List Wake) (v x : ℕ) → is_started rows v ≡ true → start_of rows v ≡ 0 → is_started_at rows v x ≡ true
@@ -275,7 +276,7 @@ module _ (sys : SystemView) (budgets : List ℕ) (plan : IsPlan sys budgets) (ro
   unfolding entry_of
   entry_says x j None e = absurd (none_some None j refl e)
   entry_says x j (Some v) e = elim (cases_Bool (nat_lt (had v x) (budget v))) [
-    | inl b ↦ record { vcpu = v; named = refl; has_budget = ltb-true _ _ b; is_job = same_some _ _ (sym (cond-true (nat_lt (had v x) (budget v)) (Some (find_job jobs (place v) (from v x))) None b) ∙ e) }
+    | inl b ↦ record { vcpu = v; named = refl; has_budget = ltb-true _ _ b; is_job = same_Some _ _ (sym (cond-true (nat_lt (had v x) (budget v)) (Some (find_job jobs (place v) (from v x))) None b) ∙ e) }
     | inr b ↦ absurd (none_some _ j (cond-false (nat_lt (had v x) (budget v)) (Some (find_job jobs (place v) (from v x))) None b) e)
   ]
 

@@ -1,7 +1,7 @@
 -- What a run prints keeps the rules of a trace.
 use Rattle.std.proofs.Common.{◌≡◌, ◌≢◌, ◌⊎◌, ℕ, zero, suc, ◌+◌, ◌-◌, ◌<◌, ◌≤◌, ◌==◌, nat_lt, Bool, true, false, not, cond, if◌then◌else◌, ◌&&◌, ◌||◌, List, [], ◌∷◌, ◌++◌, length, Option, Some, None, refl, sym, ◌∙◌, ap, arith, subst, inl, inr, append-nil, append_assoc, eq-eqb, eqb-true, lt-ltb, le-ltb, ltb-true}
 use Rattle.std.specs.Prelude.{is_some, is_none}
-use Rattle.std.proofs.lemmas.Bool.{cases_eq, cases_lt, cases_Bool, both_ways, and_parts, and_from, false≢true, ne_eqb}
+use Rattle.std.proofs.lemmas.Bool.{cases_eq, cases_lt, cases_Bool, both_ways, and_parts, and_from, false≢true, ne_eqb, or_right, not-true, and_right}
 use Rattle.slot_model.specs.declared.task.TheConstants.{LIMIT}
 use Rattle.trace_file.specs.declared.event.TheConstants.{LAST_MOMENT}
 use Rattle.slot_model.specs.Run.{held, holds}
@@ -20,6 +20,7 @@ use Rattle.trace_file.specs.declared.fault.TraceFault.TheVariants.{StartedTwice,
 use Rattle.trace_file.specs.Events.{is_start_of, is_change_of, is_switch, is_end, is_block as blocks_it, blocks as blocks_last, switches, runner, runner_of, is_blocked, holder}
 use Rattle.trace_file.specs.Rules.{row_of, fault_if, named, is_core, is_vcpu, is_known, stands_on, what_fault, Kept}
 use Rattle.trace_file.proofs.Among.{last_among-zero}
+use Rattle.trace_file.proofs.After.{is_some_cond}
 use Rattle.release_file.specs.declared.workload.Wake.{Wake as Row}
 use Rattle.release_file.specs.declared.workload.WakeKind.{WakeKind}
 use Rattle.release_file.specs.declared.workload.WakeKind.TheVariants.{Start as ToStart, Wake as ToWake, Block as ToBlock}
@@ -172,10 +173,6 @@ child_vcpu sys c v l h = and_from (nat_lt v (length sys.parts)) (is_core (part_a
     go (on_core d) e = refl
     go (on_part r) e = cc
 
-is_some_cond : (b : Bool) (r : Row) (o : Option Row) → is_some (cond b (Some r) o) ≡ (b || is_some o)
-is_some_cond true r o = refl
-is_some_cond false r o = refl
-
 blocks_cond : (b : Bool) (r : Row) (o : Option Row) → blocks (cond b (Some r) o) ≡ cond b (is_block r.what) (blocks o)
 blocks_cond true r o = refl
 blocks_cond false r o = refl
@@ -194,14 +191,10 @@ module _ (sys : SystemView) (system : IsSystem sys) (rows : List Row) (workload 
   has_started v zero l h = absurd (both_ways _ (ap is_some (last_row-zero (is_of v) rows)) h)
   has_started v (suc i) l h =
       ap is_some (row_step (starts v) rows i) ∙ (is_some_cond (starts v (row_at rows i)) (row_at rows i) (last_row (starts v) rows i) ∙ elim (cases_Bool (is_of v (row_at rows i))) [
-        | inr b ↦ or_right (starts v (row_at rows i)) (has_started v i (omega arith) (ap is_some (sym (last_row-no (is_of v) rows i b)) ∙ h))
+        | inr b ↦ or_right (starts v (row_at rows i)) _ (has_started v i (omega arith) (ap is_some (sym (last_row-no (is_of v) rows i b)) ∙ h))
         | inl b ↦ here (has_started v i (omega arith)) (row_at rows i).what refl b (subst (λ (u : ℕ). may_follow (last_row (is_of u) rows i) (row_at rows i).what ≡ true) (eqb-true (row_at rows i).vcpu v b) (workload.in_turn i l))
       ])
     where
-      or_right : (a : Bool) {b : Bool} → b ≡ true → (a || b) ≡ true
-      or_right true e = refl
-      or_right false e = e
-
       follows : (o : Option Row) (what : WakeKind) → is_start what ≡ false → may_follow o what ≡ true → is_some o ≡ true
       follows None ToStart a b = absurd (false≢true (sym a))
       follows None ToWake a b = absurd (false≢true b)
@@ -210,8 +203,8 @@ module _ (sys : SystemView) (system : IsSystem sys) (rows : List Row) (workload 
 
       here : (is_some (last_row (is_of v) rows i) ≡ true → started_after rows i v ≡ true) → (what : WakeKind) → (row_at rows i).what ≡ what → is_of v (row_at rows i) ≡ true → may_follow (last_row (is_of v) rows i) (row_at rows i).what ≡ true → (starts v (row_at rows i) || started_after rows i v) ≡ true
       here before ToStart e b m = ap (λ (q : Bool). q || started_after rows i v) (and_from (is_of v (row_at rows i)) (is_start (row_at rows i).what) b (ap is_start e))
-      here before ToWake e b m = or_right (starts v (row_at rows i)) (before (follows (last_row (is_of v) rows i) (row_at rows i).what (ap is_start e) m))
-      here before ToBlock e b m = or_right (starts v (row_at rows i)) (before (follows (last_row (is_of v) rows i) (row_at rows i).what (ap is_start e) m))
+      here before ToWake e b m = or_right (starts v (row_at rows i)) _ (before (follows (last_row (is_of v) rows i) (row_at rows i).what (ap is_start e) m))
+      here before ToBlock e b m = or_right (starts v (row_at rows i)) _ (before (follows (last_row (is_of v) rows i) (row_at rows i).what (ap is_start e) m))
 
   -- the last row of a VCPU, where none of its rows comes behind
   last_here : (v i n : ℕ) → i < n → is_of v (row_at rows i) ≡ true → ((j : ℕ) → i < j → j < n → is_of v (row_at rows j) ≡ false) → last_row (is_of v) rows n ≡ Some (row_at rows i)
@@ -273,13 +266,9 @@ module _ (sys : SystemView) (system : IsSystem sys) (rows : List Row) (workload 
           ∙ (ap (λ (b : Bool). fault_if b (NotRunnable (row_of (length es))) (fault_if (holds (holder es (length es) c) v) (StillRunning (row_of (length es))) None)) (a.blocked_is v ∙ h.1)
           ∙ ap (λ (b : Bool). fault_if b (StillRunning (row_of (length es))) None) (ap (λ (o : Option ℕ). holds o v) (a.held_is c lc) ∙ awake c v (blocked_here i v p q (eq-eqb (row_at rows i).vcpu v (sym ev)) is)))
         where
-          no_true : (b : Bool) → not b ≡ true → b ≡ false
-          no_true true e = cc
-          no_true false e = refl
-
           follows : (o : Option Row) → may_follow o ToBlock ≡ true → (is_some o ≡ true) × (blocks o ≡ false)
           follows None e = absurd (false≢true e)
-          follows (Some r) e = (refl, no_true (is_block r.what) e)
+          follows (Some r) e = (refl, not-true (is_block r.what) e)
 
       -- what an event of a row does
       start_what : (what : WakeKind) (u v : ℕ) → is_start_of u (what_of what v) ≡ ((v == u) && is_start what)
@@ -288,16 +277,8 @@ module _ (sys : SystemView) (system : IsSystem sys) (rows : List Row) (workload 
           and_true : (b : Bool) → b ≡ (b && true)
           and_true true = refl
           and_true false = refl
-      start_what ToWake u v = and_false (v == u)
-        where
-          and_false : (b : Bool) → false ≡ (b && false)
-          and_false true = refl
-          and_false false = refl
-      start_what ToBlock u v = and_false (v == u)
-        where
-          and_false : (b : Bool) → false ≡ (b && false)
-          and_false true = refl
-          and_false false = refl
+      start_what ToWake u v = sym (and_right (v == u) false refl)
+      start_what ToBlock u v = sym (and_right (v == u) false refl)
 
       change_what : (what : WakeKind) (u v : ℕ) → is_change_of u (what_of what v) ≡ (v == u)
       change_what ToStart u v = refl
@@ -329,10 +310,6 @@ module _ (sys : SystemView) (system : IsSystem sys) (rows : List Row) (workload 
       on_what ToWake c v h = h
       on_what ToBlock c v h = h
 
-      and_no : (b c : Bool) → c ≡ false → (b && c) ≡ false
-      and_no true c e = e
-      and_no false c e = refl
-
       row_more : Awake → (es : List Event) (i : ℕ) → k ≤ i → i < j → After sys es (moment_of_slot x) (started_after rows i) (blocked_after rows i) holders → After sys (es ++ event_of sys (row_at rows i) ∷ []) (moment_of_slot x) (started_after rows (suc i)) (blocked_after rows (suc i)) holders
       row_more awake es i p q a =
           let r : Row = row_at rows i in
@@ -352,7 +329,7 @@ module _ (sys : SystemView) (system : IsSystem sys) (rows : List Row) (workload 
           after_same sys (es ++ e ∷ []) e.at (moment_of_slot x) (λ u. is_start_of u e.what || started_after rows i u) (started_after rows (suc i)) (λ u. cond (is_change_of u e.what) (blocks_it e.what) (blocked_after rows i u)) (blocked_after rows (suc i)) (λ c. cond (switches c e) (runner e.what) (holders c)) holders (omega (arith, at))
           (λ u. ap (λ (b : Bool). b || started_after rows i u) (start_what what u v) ∙ sym (ap is_some (row_step (starts u) rows i) ∙ is_some_cond (starts u r) r (last_row (starts u) rows i)))
           (λ u. ap (λ (b : Bool). cond b (blocks_it e.what) (blocked_after rows i u)) (change_what what u v) ∙ (ap (λ (b : Bool). cond (v == u) b (blocked_after rows i u)) (block_what what v) ∙ sym (ap blocks (row_step (is_of u) rows i) ∙ blocks_cond (is_of u r) r (last_row (is_of u) rows i))))
-          (λ c l. ap (λ (b : Bool). cond b (runner e.what) (holders c)) (and_no (e.core == c) (is_switch e.what) (no_switch what v)))
+          (λ c l. ap (λ (b : Bool). cond b (runner e.what) (holders c)) (and_right (e.core == c) (is_switch e.what) (no_switch what v)))
           (after_more sys es (moment_of_slot x) (started_after rows i) (blocked_after rows i) holders e a keeps (no_end what v))
 
       rows_told : Awake → (es : List Event) → After sys es (moment_of_slot x) (started_after rows k) (blocked_after rows k) holders → (m : ℕ) → k + m ≤ j → After sys (es ++ gathered (row_event_at sys rows x) (k + m)) (moment_of_slot x) (started_after rows (k + m)) (blocked_after rows (k + m)) holders
@@ -415,15 +392,11 @@ module _ (sys : SystemView) (system : IsSystem sys) (rows : List Row) (workload 
         record {
           what = Run v;
           is = refl;
-          may = (sym (started_by rows v x j taken) ∙ r.0, sym (blocked_by rows v x j taken) ∙ no_true (is_blocked_at rows v x) r.1);
+          may = (sym (started_by rows v x j taken) ∙ r.0, sym (blocked_by rows v x j taken) ∙ not-true (is_blocked_at rows v x) r.1);
           runs = refl;
           known = and_from (nat_lt c (length sys.cores)) (is_vcpu sys v) (lt-ltb c (length sys.cores) l) (child_vcpu sys c v (ltb-true v (length sys.parts) q.0) q.1);
           on_it = q.1;
         }
-      where
-        no_true : (b : Bool) → not b ≡ true → b ≡ false
-        no_true true e = cc
-        no_true false e = refl
 
     switch_goes : (x j c : ℕ) → c < length sys.cores → x < n → AreBefore rows j (suc x) → (holder next : Option ℕ) → Now x c ≡ next → Goes sys x c (started_after rows j) (blocked_after rows j) holder next (on_core_at c x (switch_to holder next))
     switch_goes x j c l lx taken None None e = inl (refl, refl)

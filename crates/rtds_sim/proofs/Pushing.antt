@@ -3,6 +3,7 @@ use Rattle.std.proofs.Common.{◌≡◌, ℕ, zero, suc, ◌<◌, ◌≤◌, Boo
 use Rattle.std.specs.Prelude.{is_some, is_none}
 use Rattle.std.proofs.lemmas.Bool.{cases_eq}
 use Rattle.std.proofs.lemmas.List.{get_or_append_left, get_or_push, length_push}
+use Rattle.csv_rows.proofs.Keeping.{fault_skipped}
 use Rattle.trace_file.specs.declared.event.TheConstants.{LAST_MOMENT}
 use Rattle.slot_model.specs.Run.{holds}
 use Rattle.tree_model.specs.View.{SystemView}
@@ -15,9 +16,6 @@ use Rattle.trace_file.specs.Events.{event_at, last_among, is_start_of, is_change
 use Rattle.trace_file.specs.Rules.{row_of, fault_if, moment_before, named, is_known, stands_on, what_fault, event_fault, row_fault, RowsKeep, Kept}
 use Rattle.trace_file.proofs.Among.{last_among-zero, last_among-suc}
 use Rattle.trace_file.proofs.After.{ended_next, started_next, blocked_next, holder_next}
-
-skip : (broken : Bool) (fault : TraceFault) (later : Option TraceFault) → broken ≡ false → later ≡ None → fault_if broken fault later ≡ None
-skip broken fault later b l = ap (λ (q : Bool). fault_if q fault later) b ∙ l
 
 module _ (sys : SystemView) (es : List Event) (e : Event) where
   abbrev more : List Event
@@ -81,11 +79,11 @@ module _ (sys : SystemView) (es : List Event) (e : Event) where
   row_new no_end k =
       let n : ℕ = length es in
       let late : n ≤ length es = omega arith in
-      skip (has_ended more n) (AfterEnd (row_of n)) (event_fault sys more n) (ap is_some (among_old ends n late) ∙ no_end)
+      fault_skipped (has_ended more n) (AfterEnd (row_of n)) (event_fault sys more n) (ap is_some (among_old ends n late) ∙ no_end)
       (ap (λ (z : Event). told n z (moment_before more n) (what_fault more n z.core z.what)) event_new
       ∙ (ap (λ (m : ℕ). told n e m (what_fault more n e.core e.what)) (moment_old n late)
       ∙ (ap (told n e (moment_before es n)) (what_old n e.core late e.what)
-      ∙ skip (nat_lt LAST_MOMENT e.at) _ _ (le-ltb LAST_MOMENT e.at k.in_limit) (skip (nat_lt e.at (moment_before es n)) _ _ (le-ltb e.at (moment_before es n) k.in_time) (skip (not (is_known sys e.core e.what)) _ _ (ap not k.known) (skip (not (stands_on sys e.core (named e.what))) _ _ (ap not k.on_core) k.may))))))
+      ∙ fault_skipped (nat_lt LAST_MOMENT e.at) _ _ (le-ltb LAST_MOMENT e.at k.in_limit) (fault_skipped (nat_lt e.at (moment_before es n)) _ _ (le-ltb e.at (moment_before es n) k.in_time) (fault_skipped (not (is_known sys e.core e.what)) _ _ (ap not k.known) (fault_skipped (not (stands_on sys e.core (named e.what))) _ _ (ap not k.on_core) k.may))))))
 
   rows_more : RowsKeep sys es (length es) → has_ended es (length es) ≡ false → Keeps → RowsKeep sys more (length more)
   rows_more old no_end k i l = elim (cases_eq i (length es)) [

@@ -4,8 +4,9 @@ use Rattle.std.specs.List.{range_with_len}
 use Rattle.std.proofs.lemmas.Bool.{cases_eq, cases_Bool, both_ways, and_parts}
 use Rattle.std.proofs.lemmas.List.{ext_get_or, get_or_append_left, get_or_push, length_push}
 use Rattle.std.proofs.lemmas.List.FromFn.{length-map-range_with_len, get_or-map-range_with_len}
+use Rattle.std.proofs.lemmas.Option.{same_Some}
 use Rattle.slot_model.specs.Run.{held, holds}
-use Rattle.slot_model.proofs.FirstRuns.{none_some, same_some}
+use Rattle.slot_model.proofs.FirstRuns.{none_some}
 use Rattle.slot_model.proofs.Sums.{sum_below-same}
 use Rattle.tree_model.specs.declared.place.Place.TheVariants.{Core}
 use Rattle.tree_model.specs.View.{SystemView}
@@ -103,9 +104,9 @@ module _ (sys : SystemView) (budgets : List ℕ) (rows : List Wake) where
   unfolding better
   entry_step c run x n None h true e = subst (EntryTo c run x (suc n)) (sym (ap (λ (b : Bool). cond b (Some n) None) e)) (record {
     idle = λ q. absurd (none_some (Some n) n q refl);
-    named = λ v q. subst (λ (z : ℕ). is_eligible sys budgets rows c run z x ≡ true) (same_some n v q) e;
+    named = λ v q. subst (λ (z : ℕ). is_eligible sys budgets rows c run z x ≡ true) (same_Some n v q) e;
     first = λ u v q l r. elim (cases_eq u n) [
-      | inl same ↦ subst (λ (z : ℕ). goes_before sys budgets rows run x u z ≡ false) (same_some n v q) (subst (λ (z : ℕ). goes_before sys budgets rows run x z n ≡ false) (sym same) (before_itself run x n))
+      | inl same ↦ subst (λ (z : ℕ). goes_before sys budgets rows run x u z ≡ false) (same_Some n v q) (subst (λ (z : ℕ). goes_before sys budgets rows run x z n ≡ false) (sym same) (before_itself run x n))
       | inr ne ↦ absurd (both_ways _ (h.idle refl u (omega arith)) r)
     ];
   })
@@ -117,16 +118,16 @@ module _ (sys : SystemView) (budgets : List ℕ) (rows : List Wake) where
   entry_step c run x n (Some w) h v e = elim (cases_Bool (is_eligible sys budgets rows c run n x && goes_before sys budgets rows run x n w)) [
     | inl b ↦ subst (EntryTo c run x (suc n)) (sym (ap (λ (b : Bool). cond b (Some n) (Some w)) b)) (record {
       idle = λ q. absurd (none_some (Some n) n q refl);
-      named = λ v q. subst (λ (z : ℕ). is_eligible sys budgets rows c run z x ≡ true) (same_some n v q) (and_parts _ _ b).0;
-      first = λ u v q l r. subst (λ (z : ℕ). goes_before sys budgets rows run x u z ≡ false) (same_some n v q) (elim (cases_eq u n) [
+      named = λ v q. subst (λ (z : ℕ). is_eligible sys budgets rows c run z x ≡ true) (same_Some n v q) (and_parts _ _ b).0;
+      first = λ u v q l r. subst (λ (z : ℕ). goes_before sys budgets rows run x u z ≡ false) (same_Some n v q) (elim (cases_eq u n) [
         | inl same ↦ subst (λ (z : ℕ). goes_before sys budgets rows run x z n ≡ false) (sym same) (before_itself run x n)
         | inr ne ↦ before_in_turn run x u w n (h.first u w refl (omega arith) r) (and_parts _ _ b).1
       ]);
     })
     | inr b ↦ subst (EntryTo c run x (suc n)) (sym (ap (λ (b : Bool). cond b (Some n) (Some w)) b)) (record {
       idle = λ q. absurd (none_some (Some w) w q refl);
-      named = λ v q. subst (λ (z : ℕ). is_eligible sys budgets rows c run z x ≡ true) (same_some w v q) (h.named w refl);
-      first = λ u v q l r. subst (λ (z : ℕ). goes_before sys budgets rows run x u z ≡ false) (same_some w v q) (elim (cases_eq u n) [
+      named = λ v q. subst (λ (z : ℕ). is_eligible sys budgets rows c run z x ≡ true) (same_Some w v q) (h.named w refl);
+      first = λ u v q l r. subst (λ (z : ℕ). goes_before sys budgets rows run x u z ≡ false) (same_Some w v q) (elim (cases_eq u n) [
         | inl same ↦ subst (λ (z : ℕ). goes_before sys budgets rows run x z w ≡ false) (sym same) (other_false (is_eligible sys budgets rows c run n x) (goes_before sys budgets rows run x n w) b (subst (λ (z : ℕ). is_eligible sys budgets rows c run z x ≡ true) same r))
         | inr ne ↦ h.first u w refl (omega arith) r
       ]);

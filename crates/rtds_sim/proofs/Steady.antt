@@ -1,10 +1,9 @@
 -- From one change to the next each core keeps its VCPU.
-use Rattle.std.proofs.Common.{◌≡◌, ℕ, zero, suc, ◌+◌, ◌*◌, ◌-◌, ◌/◌, ◌%◌, ◌<◌, ◌≤◌, ◌==◌, nat_lt, leb, Bool, true, false, not, cond, if◌then◌else◌, ◌&&◌, ◌||◌, List, length, Option, Some, refl, sym, ◌∙◌, ap, arith, subst, inl, inr, eqb-true, eq-eqb, ltb-true, lt-ltb, le-ltb, le-leb, add-suc, add-zero}
+use Rattle.std.proofs.Common.{◌≡◌, ℕ, zero, suc, ◌+◌, ◌*◌, ◌-◌, ◌/◌, ◌%◌, ◌<◌, ◌≤◌, ◌==◌, nat_lt, Bool, true, false, not, cond, if◌then◌else◌, ◌&&◌, ◌||◌, List, length, Option, Some, refl, sym, ◌∙◌, ap, arith, subst, inl, inr, eqb-true, eq-eqb, ltb-true, lt-ltb, le-ltb}
 use Rattle.std.proofs.lemmas.Nat.{div-mul-add}
 use Rattle.std.proofs.Math.Nat.{div-eq_of_lt}
 use Rattle.std.proofs.lemmas.Bool.{cases_eq, cases_lt, cases_Bool, both_ways, and_parts, and_from, cond-true, cond-false}
 use Rattle.slot_model.specs.Run.{held, holds}
-use Rattle.slot_model.proofs.Sums.{sum_below-suc}
 use Rattle.slot_model.proofs.Runs.{holds-is}
 use Rattle.tree_model.specs.declared.place.Parent.{Parent}
 use Rattle.tree_model.specs.declared.place.Parent.TheVariants.{Core as on_core, Part as on_part}
@@ -13,6 +12,7 @@ use Rattle.tree_model.specs.View.{SystemView}
 use Rattle.tree_model.specs.System.{part_at, IsSystem, Stands}
 use Rattle.tree_model.specs.Tree.{is_child, budget_at}
 use Rattle.trace_file.specs.Periods.{begins, count_between}
+use Rattle.trace_file.proofs.Counting.{between_alike}
 use Rattle.rtds_sim.specs.declared.account.Account.{Account}
 use Rattle.release_file.specs.declared.workload.Wake.{Wake as Row}
 use Rattle.tree_model.specs.Plans.{IsPlan}
@@ -24,21 +24,6 @@ use Rattle.rtds_sim.specs.Running.{RowsFrom, AreOn}
 use Rattle.rtds_sim.proofs.Runs.{entry_unique}
 use Rattle.rtds_sim.proofs.Taking.{none_between}
 use Rattle.rtds_sim.proofs.Entering.{started_by, blocked_by}
-
--- a count over slots that are all alike
-pub count_alike : (p : ℕ → Bool) (a x m : ℕ) (b : Bool) → a ≤ x → ((z : ℕ) → x ≤ z → z < x + m → p z ≡ b) → count_between p a (x + m) ≡ count_between p a x + cond b m 0
-count_alike p a x zero true l h = omega (arith, ap (λ (z : ℕ). count_between p a z) (add-zero x))
-count_alike p a x zero false l h = omega (arith, ap (λ (z : ℕ). count_between p a z) (add-zero x))
-count_alike p a x (suc m) true l h =
-    let now : (leb a (x + m) && p (x + m)) ≡ true = and_from (leb a (x + m)) (p (x + m)) (le-leb a (x + m) (omega arith)) (h (x + m) (omega arith) (omega arith)) in
-    omega (arith, ap (λ (z : ℕ). count_between p a z) (add-suc x m), sum_below-suc (λ y. cond (leb a y && p y) 1 0) (x + m), cond-true {A = ℕ} (leb a (x + m) && p (x + m)) 1 0 now, count_alike p a x m true l (λ z i j. h z i (omega arith)))
-count_alike p a x (suc m) false l h =
-    let now : (leb a (x + m) && p (x + m)) ≡ false = none (leb a (x + m)) (p (x + m)) (h (x + m) (omega arith) (omega arith)) in
-    omega (arith, ap (λ (z : ℕ). count_between p a z) (add-suc x m), sum_below-suc (λ y. cond (leb a y && p y) 1 0) (x + m), cond-false {A = ℕ} (leb a (x + m) && p (x + m)) 1 0 now, count_alike p a x m false l (λ z i j. h z i (omega arith)))
-  where
-    none : (a b : Bool) → b ≡ false → (a && b) ≡ false
-    none true b e = e
-    none false b e = refl
 
 -- budgets are had as often, until one is had once more
 pub same_quotient : (g m b : ℕ) → 1 ≤ b → m < b - g % b → (g + m) / b ≡ g / b
@@ -132,7 +117,7 @@ module _ (sys : SystemView) (budgets : List ℕ) (plan : IsPlan sys budgets) (ro
       let p : ℕ → Bool = λ z. holds (held run z) v in
       ap (λ (q : ℕ). count_between p (begins (part_at sys v).period (start_of rows v) q) y) (from_same v y l m r)
       ∙ (ap (λ (z : ℕ). count_between p (period_from sys rows v x) z) (sym e)
-      ∙ count_alike p (period_from sys rows v x) x (y - x) (holds (held run x) v) (omega (arith, r.in_period.from_is, r.in_period.begun)) (λ z i j. ap (λ (o : Option ℕ). holds o v) (alike z i (omega arith))))
+      ∙ between_alike p (holds (held run x) v) (period_from sys rows v x) x (y - x) (omega (arith, r.in_period.from_is, r.in_period.begun)) (λ z i j. ap (λ (o : Option ℕ). holds o v) (alike z i (omega arith))))
 
   record Same (v y : ℕ) : Type 0 where
     level : level_at sys budgets rows run v y ≡ level_at sys budgets rows run v x
@@ -229,7 +214,7 @@ module _ (sys : SystemView) (budgets : List ℕ) (plan : IsPlan sys budgets) (ro
           let e : x + (to - x) ≡ to = omega (arith, next.later) in
           let number : period_number (part_at sys v).period (start_of rows v) to ≡ period_number (part_at sys v).period (start_of rows v) x = number_same (part_at sys v).period (start_of rows v) x to (omega (arith, p.from_is, p.begun)) (omega (arith, next.later)) (omega (arith, p.from_is, below on)) in
           let count : count_between (λ z. holds (held r z) v) (period_from sys rows v x) (x + (to - x)) ≡ count_between (λ z. holds (held r z) v) (period_from sys rows v x) x + cond (holds (held r x) v) (to - x) 0
-          = count_alike (λ z. holds (held r z) v) (period_from sys rows v x) x (to - x) (holds (held r x) v) (omega (arith, p.from_is, p.begun)) (λ z i j. ap (λ (o : Option ℕ). holds o v) (same z i (omega (arith, next.later)))) in
+          = between_alike (λ z. holds (held r z) v) (holds (held r x) v) (period_from sys rows v x) x (to - x) (omega (arith, p.from_is, p.begun)) (λ z i j. ap (λ (o : Option ℕ). holds o v) (same z i (omega (arith, next.later)))) in
           ap (λ (g : ℕ). g + cond has (to - x) 0) p.used_is ∙ (ap (λ (b : Bool). used sys rows r v x + cond b (to - x) 0) is_has ∙ sym (ap (λ (q : ℕ). count_between (λ z. holds (held r z) v) (begins (part_at sys v).period (start_of rows v) q) to) number ∙ (ap (λ (z : ℕ). count_between (λ z. holds (held r z) v) (period_from sys rows v x) z) (sym e) ∙ count)))
 
       from_to : (on : a.started ≡ true) → a.from ≡ period_from sys rows v to

@@ -4,7 +4,7 @@ use Rattle.rtds_sim.specs.declared.key.Key.{Key}
 use Rattle.rtds_sim.specs.Keys.{key_at}
 use Rattle.rtds_sim.specs.KeyTable.{keys_of, IsTable}
 
-abbrev key : ℕ → ℕ → Key
+abbrev pub key : ℕ → ℕ → Key
 key level deadline = record { level = level; deadline = deadline }
 
 pub length-keys_of : (es : List Bool) (ls ds : List ℕ) → length ls ≡ length es → length ds ≡ length es → length (keys_of es ls ds) ≡ length es

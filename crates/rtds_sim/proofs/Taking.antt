@@ -1,7 +1,7 @@
 -- Rows at one slot, taken one after the other.
 use Rattle.std.proofs.Common.{◌≡◌, ◌≢◌, ℕ, zero, suc, ◌+◌, ◌*◌, ◌-◌, ◌/◌, ◌<◌, ◌≤◌, Bool, true, false, cond, leb, ◌&&◌, List, length, set, Option, Some, None, refl, sym, ◌∙◌, ap, arith, subst, inl, inr, eq-eqb, eqb-true, ne_eqb}
 use Rattle.std.specs.Prelude.{is_some}
-use Rattle.std.proofs.lemmas.Bool.{cases_eq, cases_Bool, and_parts, and_from, false≢true, lt-leb}
+use Rattle.std.proofs.lemmas.Bool.{cases_eq, cases_Bool, and_parts, and_from, false≢true, lt-leb, and_right}
 use Rattle.std.proofs.lemmas.List.{get_or-set_same, get_or-set_other, length-set}
 use Rattle.std.proofs.Math.Nat.{div-eq_of_lt}
 use Rattle.slot_model.specs.Run.{held, holds}
@@ -80,16 +80,12 @@ module _ (sys : SystemView) (rows : List Row) (workload : IsWorkload sys rows) w
 
   change_account : (run : List (Option ℕ)) (v x k : ℕ) (b : Bool) (a : Account) → is_of v (row_at rows k) ≡ true → is_start (row_at rows k).what ≡ false → is_block (row_at rows k).what ≡ b → IsAccount sys rows run v x k a → IsAccount sys rows run v x (suc k) (record a { blocked = b })
   change_account run v x k b a of not_start is h = record {
-    started = h.started ∙ ap is_some (sym (last_row-no (starts v) rows k (both_false (is_of v (row_at rows k)) (is_start (row_at rows k).what) not_start)));
+    started = h.started ∙ ap is_some (sym (last_row-no (starts v) rows k (and_right (is_of v (row_at rows k)) (is_start (row_at rows k).what) not_start)));
     blocked = sym (ap blocks (last_row-yes (is_of v) rows k of) ∙ is);
     early = h.early;
     few = h.few;
     in_period = λ on. let p : IsInPeriod sys rows run v x a = h.in_period on in record { from_is = p.from_is; used_is = p.used_is; begun = p.begun; not_over = p.not_over; few = p.few };
   }
-    where
-      both_false : (a b : Bool) → b ≡ false → (a && b) ≡ false
-      both_false true b e = e
-      both_false false b e = refl
 
   own_account : (run : List (Option ℕ)) (v x k : ℕ) (a : Account) → 1 ≤ (part_at sys v).period → k < length rows → (row_at rows k).at ≡ x → is_of v (row_at rows k) ≡ true → IsAccount sys rows run v x k a →
       (what : WakeKind) → (row_at rows k).what ≡ what → IsAccount sys rows run v x (suc k) (row_taken what (row_at rows k).at a)

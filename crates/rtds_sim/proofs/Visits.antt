@@ -1,6 +1,6 @@
 -- What a visit of a slot tells, and that nothing is told until the next one.
 use Rattle.std.proofs.Common.{◌≡◌, ℕ, zero, suc, ◌<◌, ◌≤◌, Bool, true, false, not, cond, ◌&&◌, List, [], ◌++◌, length, Option, Some, None, refl, sym, ◌∙◌, ap, arith, inl, inr, eq-eqb, eqb-true, ◌==◌}
-use Rattle.std.proofs.lemmas.Bool.{cases_lt, and_parts}
+use Rattle.std.proofs.lemmas.Bool.{cases_lt, and_parts, not-true}
 use Rattle.std.proofs.lemmas.Option.{none-some}
 use Rattle.slot_model.specs.Run.{held}
 use Rattle.tree_model.specs.View.{SystemView}
@@ -43,10 +43,6 @@ no_switch c x (Some u) (Some v) e = go (u == v) refl e
     go true same q = ap Some (eqb-true u v same)
     go false same q = absurd (none-some (on_at c x (Run v)) (sym q))
 
-not_true : (b : Bool) → not b ≡ true → b ≡ false
-not_true true e = cc
-not_true false e = refl
-
 -- where no row comes at x, what has a core when x comes is not blocked there
 pub none_blocks : (sys : SystemView) (budgets : List ℕ) (rows : List Row) (n c : ℕ) (run : List (Option ℕ)) → CoreRun sys budgets rows n c run → (x k : ℕ) → AreBefore rows k x → AreBefore rows k (suc x) → x < n → is_blocked_one rows x (holder_before run x) ≡ false
 none_blocks sys budgets rows n c run is zero k before after l = refl
@@ -57,7 +53,7 @@ none_blocks sys budgets rows n c run is (suc y) k before after l = go (held run 
     go (Some v) e =
         let h : can_run sys rows c v y ≡ true = eligible_runs sys budgets rows c run v y ((is.each y (omega arith)).named v e) in
         let q = and_parts (is_started_at rows v y) (not (is_blocked_at rows v y)) (and_parts _ (is_started_at rows v y && not (is_blocked_at rows v y)) h).1 in
-        blocked_by rows v (suc y) k after ∙ (sym (blocked_by rows v y k before) ∙ not_true (is_blocked_at rows v y) q.1)
+        blocked_by rows v (suc y) k after ∙ (sym (blocked_by rows v y k before) ∙ not-true (is_blocked_at rows v y) q.1)
 
 -- a slot at which no row comes, behind one whose rows are taken
 before_by : (rows : List Row) (k x to : ℕ) → AreBefore rows k (suc x) → RowsFrom rows k to → (y : ℕ) → x < y → y < to → AreBefore rows k y

@@ -1,5 +1,5 @@
 -- A level of servers at its end: its first run, and what is kept of it.
-use Rattle.std.proofs.Common.{◌≡◌, ℕ, ◌<◌, ◌≤◌, min, Bool, true, List, length, map, Option, Some, None, cond, sym, ◌∙◌, ap, arith, subst, lt-ltb, Vec, Global}
+use Rattle.std.proofs.Common.{◌≡◌, ℕ, ◌<◌, ◌≤◌, min, Bool, List, length, map, Option, Some, None, sym, ◌∙◌, ap, arith, subst, lt-ltb, Vec, Global}
 use Rattle.slot_model.specs.declared.job.Job.{Job}
 use Rattle.slot_model.specs.declared.sched.Sched.{Sched}
 use Rattle.slot_model.specs.Slots.{count_below, slots_between}
@@ -8,14 +8,13 @@ use Rattle.slot_model.specs.Order.{before_of}
 use Rattle.slot_model.specs.Release.{synchronous}
 use Rattle.slot_model.specs.Run.{server, FirstRunTo}
 use Rattle.slot_model.specs.Miss.{is_missed, IsFirstMiss}
-use Rattle.slot_model.proofs.Sums.{sum_below-zero}
 use Rattle.slot_model.proofs.MissedJobs.{none_where_zero, zero_where_none}
 use Rattle.slot_model.proofs.Synchronous.{legal_synchronous}
+use Rattle.slot_model.proofs.FullSupply.{count_all}
 use Rattle.guest_sched.specs.declared.spans.Window.{Window}
 use Rattle.guest_sched.specs.Spans.{slots_of}
 use Rattle.guest_sched.proofs.Given.{slots-long}
 use Rattle.span_counts.specs.Counts.{is_early, AreCounts}
-use Rattle.span_counts.proofs.Counting.{count_to}
 use Rattle.server_sched.specs.declared.level.Level.{Level}
 use Rattle.server_sched.specs.declared.tally.Late.{Late}
 use Rattle.server_sched.specs.Shares.{AreShares}
@@ -39,9 +38,6 @@ first_told T jobs run missed None h = none_missed T jobs run missed h
 first_told T jobs run missed (Some late) h = first_missed T jobs run missed late h
 
 -- all jobs are released before the end
-count_all : (p : ℕ → Bool) (n : ℕ) → ((k : ℕ) → k < n → p k ≡ true) → count_below p n ≡ n
-count_all p n h = omega (arith, count_to p true 0 n (omega arith) (λ k a b. h k b), sum_below-zero (λ k. cond {A = ℕ} (p k) 1 0))
-
 all_early : (T : List SporadicTask) (n : ℕ) → count_below (is_early (synchronous T 0 n) n) (length (synchronous T 0 n)) ≡ length (synchronous T 0 n)
 all_early T n = count_all (is_early (synchronous T 0 n) n) (length (synchronous T 0 n)) (λ k l. lt-ltb _ _ (in_moments T n k l))
 

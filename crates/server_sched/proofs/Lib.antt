@@ -7,8 +7,8 @@ mod Underway
 mod LevelServed
 mod ServerKept
 mod Sharing
-mod Nodes
-mod TreeNodes
+pub mod Nodes
+pub mod TreeNodes
 mod KeptNodes
 pub mod Lists
 pub mod Counted

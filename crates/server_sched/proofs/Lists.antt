@@ -13,6 +13,20 @@ use Rattle.release_pattern.proofs.FewJobs.{synchronous-few}
 use Rattle.tree_model.proofs.Parents.{few_servers}
 use Rattle.tree_model.specs.Releases.{jobs_at}
 use Rattle.server_sched.specs.TreeSpans.{supplies_of, AreWindowsOf, AreSupplies, AreFewJobs}
+use Rattle.server_sched.specs.Shares.{share_at}
+
+abbrev pub window_lists : List (Vec Window Global) → List (List Window)
+window_lists windows = map (λ (s : Vec Window Global). s.items) windows
+
+abbrev pub job_lists : List (Vec Job Global) → List (List Job)
+job_lists jobs = map (λ (s : Vec Job Global). s.items) jobs
+
+abbrev pub slot_lists : List (Vec Bool Global) → List (List Bool)
+slot_lists slots = map (λ (s : Vec Bool Global). s.items) slots
+
+-- what is read at a task's place is its share
+pub share_read : (shares : List (Vec Window Global)) (t : ℕ) (own : Vec Window Global) → t < length shares → own ≡ get_or shares t own → share_at (window_lists shares) t ≡ own.items
+share_read shares t own l r = get_or-map (λ (s : Vec Window Global). s.items) shares t own [] l ∙ ap (λ (s : Vec Window Global). s.items) (sym r)
 
 pub one_list : (n : ℕ) (given : List (List Bool)) (m : ℕ) (lists : List (List Window)) → AreWindowsOf n given m lists → (new : List Window) → AreWindows new n → slots_of new n ≡ get_or given m [] → AreWindowsOf n given (m + 1) (lists ++ new ∷ [])
 one_list n given m lists h new are same = record {

@@ -1,6 +1,6 @@
 -- Windows that give a budget at the same slots of every period.
 use Rattle.std.proofs.Common.{◌≡◌, ℕ, suc, min, ◌+◌, ◌-◌, ◌*◌, ◌<◌, ◌≤◌, ◌&&◌, nat_le, nat_lt, Bool, true, false, List, [], ◌∷◌, ◌++◌, length, get_or, Option, refl, sym, ◌∙◌, ap, arith, subst, inl, inr, lt-ltb, le-ltb, le-leb}
-use Rattle.std.proofs.lemmas.Bool.{lt-leb, and_from, cases_eq}
+use Rattle.std.proofs.lemmas.Bool.{lt-leb, and_from, cases_eq, and_right}
 use Rattle.std.proofs.lemmas.List.{get_or_append_left, get_or_push, length_push, length-map, get_or-map, ext_get_or}
 use Rattle.std.proofs.lemmas.List.FromFn.{get_or-map-range_with_len, length-map-range_with_len}
 use Rattle.std.proofs.lemmas.Nat.{mod-mul-add}
@@ -21,10 +21,6 @@ use Rattle.server_sched.specs.TreeSpans.{given_at, supplies_of}
 cyclic_at : (period first budget k y : ℕ) → y < period → cyclic_slot period first budget (k * period + y) ≡ (nat_le first y && nat_lt y (first + budget))
 cyclic_at period first budget k y l = ap (λ (r : ℕ). nat_le first r && nat_lt r (first + budget)) (mod-mul-add k period y l)
 
-and_false : (a : Bool) → (a && false) ≡ false
-and_false true = refl
-and_false false = refl
-
 -- before, within and behind the budget of period k
 before_it : (period first budget k x : ℕ) → first ≤ period → k * period ≤ x → x < k * period + first → cyclic_slot period first budget x ≡ false
 before_it period first budget k x f l m =
@@ -36,7 +32,7 @@ within_it period first budget k x f l m =
 
 behind_it : (period first budget k x : ℕ) → k * period + first + budget ≤ x → x < suc k * period → cyclic_slot period first budget x ≡ false
 behind_it period first budget k x l m =
-    ap (cyclic_slot period first budget) (let e : x ≡ k * period + (x - k * period) = omega arith in e) ∙ (cyclic_at period first budget k (x - k * period) (omega arith) ∙ (ap (λ (b : Bool). nat_le first (x - k * period) && b) (le-ltb (x - k * period) (first + budget) (omega arith)) ∙ and_false (nat_le first (x - k * period))))
+    ap (cyclic_slot period first budget) (let e : x ≡ k * period + (x - k * period) = omega arith in e) ∙ (cyclic_at period first budget k (x - k * period) (omega arith) ∙ (ap (λ (b : Bool). nat_le first (x - k * period) && b) (le-ltb (x - k * period) (first + budget) (omega arith)) ∙ and_right (nat_le first (x - k * period)) false refl))
 
 -- up to the end of a period, and the begin of the budget in the next
 pub record CyclicTo (period first budget slots from : ℕ) (windows : List Window) : Type 0 where

@@ -10,13 +10,10 @@ use Rattle.slot_model.proofs.Synchronous.{early_at-le}
 use Rattle.slot_model.proofs.MissedJobs.{service-before_release}
 use Rattle.release_pattern.specs.Due.{IsNext, NoneRelease}
 use Rattle.release_pattern.proofs.Moments.{one_waits, released_next, up_to_next}
+use Rattle.release_pattern.proofs.Dues.{later}
 use Rattle.server_sched.specs.declared.serving.Server.{Server}
 use Rattle.server_sched.specs.Serving.{IsServerTask, AreServerTasks, server_at, no_server, IsKeyed, HasJob, IsActive, AtMoment, AtRest}
 use Rattle.server_sched.proofs.Releasing.{come_by, come_more, comes_at}
-
--- a later moment up to which there is no release
-later : (b : SporadicTask) (x y n : ℕ) → IsNext b x n → x ≤ y → y ≤ n → IsNext b y n
-later b x y n h a l = record { from = l; none = λ z m k. h.none z (omega arith) k; due = h.due }
 
 -- a server's job as it is released
 none_early : (b : Bool) (jitter : ℕ) → jitter ≡ 0 → (if b then jitter else 0) ≡ 0

@@ -1,6 +1,7 @@
 -- The run of a level of servers, one span more, and what each server's job lacks then.
 use Rattle.std.proofs.Common.{◌≡◌, ◌≢◌, ◌⊎◌, ℕ, ◌+◌, ◌-◌, ◌<◌, ◌≤◌, ◌&&◌, ◌||◌, min, Bool, true, false, List, ◌++◌, length, set, replicate, Option, Some, None, eqb, refl, sym, ◌∙◌, ap, arith, subst, inl, inr, lt-ltb, le-ltb, eq-eqb, ne_eqb, length-set, get_or, get_or-set_same, get_or-set_other}
 use Rattle.std.proofs.lemmas.Bool.{cases_eq, cases_lt, both_ways, true≢false, or_left, or_right, and_from, cond-true, cond-false, cases_Bool}
+use Rattle.std.proofs.lemmas.Option.{same_Some}
 use Rattle.slot_model.specs.declared.job.Job.{Job}
 use Rattle.slot_model.specs.declared.sched.Sched.{Sched}
 use Rattle.slot_model.specs.declared.sched.Sched.TheVariants.{Edf, Rm, Dm, Listed}
@@ -8,7 +9,7 @@ use Rattle.slot_model.specs.Task.{SporadicTask, task_at, job_at, deadline_of, Ar
 use Rattle.slot_model.specs.Order.{IsRank, ranks_by, ranks_above, fixed_before, arrives_before, before_of}
 use Rattle.slot_model.specs.Release.{synchronous}
 use Rattle.slot_model.specs.Run.{service, server, Pending, MayHold, Entry}
-use Rattle.slot_model.proofs.FirstRuns.{none_some, same_some}
+use Rattle.slot_model.proofs.FirstRuns.{none_some}
 use Rattle.slot_model.proofs.Synchronous.{legal_synchronous}
 use Rattle.fp_request.specs.Ranks.{order_laws, ranks_is_rank}
 use Rattle.guest_sched.proofs.Steady.{Steady, service_span}
@@ -122,8 +123,8 @@ chosen_entry sched T fits n run x released next servers h l m b best =
     record {
       no_slot = λ e. absurd (true≢false e);
       idle = λ e q. absurd (none_some (Some p) p q refl);
-      held = λ j e. subst (MayHold server before T jobs run x) (same_some p j e) (record { pending = pending; best = λ k q w. both_ways _ (against k q) w });
-      first = λ j k e a may. let le : k < p = omega (arith, a, same_some p j e) in may.best p pending ((chosen_beats sched T fits n run x released next servers h l m b best k may.pending (λ q. omega (arith, le, q))).earlier le);
+      held = λ j e. subst (MayHold server before T jobs run x) (same_Some p j e) (record { pending = pending; best = λ k q w. both_ways _ (against k q) w });
+      first = λ j k e a may. let le : k < p = omega (arith, a, same_Some p j e) in may.best p pending ((chosen_beats sched T fits n run x released next servers h l m b best k may.pending (λ q. omega (arith, le, q))).earlier le);
     }
 
 pub idle_entry : (sched : Sched) (T : List SporadicTask) → AreConstrained T → (n : ℕ) (run : List (Option ℕ)) (x released next : ℕ) (servers : List Server) → AtRest sched T n run x released next servers → x < next → x < n → IsChosen servers None → Entry server (before_of sched T) T (synchronous T 0 n) run x true None

@@ -3,6 +3,7 @@ use Rattle.std.proofs.Common.{◌≡◌, ◌≢◌, ◌⊎◌, ℕ, zero, suc, �
 use Rattle.std.proofs.lemmas.Bool.{cases_eq}
 use Rattle.std.proofs.lemmas.List.{get_or-map, length-map, get_or_append_left, get_or_push, length_push}
 use Rattle.std.proofs.lemmas.List.Concat.{flat_map-append}
+use Rattle.std.proofs.lemmas.Option.{same_Some}
 use Rattle.slot_model.specs.declared.sched.Sched.{Sched}
 use Rattle.slot_model.specs.Task.{SporadicTask, default_task}
 use Rattle.slot_model.specs.Slots.{places_where}
@@ -14,7 +15,6 @@ use Rattle.guest_sched.specs.declared.spans.Window.{Window}
 use Rattle.guest_sched.specs.Spans.{AreSpans, span_at, entries_of, end_of, run_of, slots_of}
 use Rattle.guest_sched.proofs.SpanByOne.{no_spans}
 use Rattle.guest_sched.proofs.Grown.{grown_spans, grown_run}
-use Rattle.slot_model.proofs.FirstRuns.{same_some}
 use Rattle.tree_model.specs.declared.place.Place.{Place}
 use Rattle.tree_model.specs.View.{SystemView}
 use Rattle.tree_model.specs.Tree.{node_sched, server_task, server_tasks, is_child}
@@ -35,7 +35,7 @@ same_option : (a b : Option ℕ) → (a ≡ b) ⊎ (a ≢ b)
 same_option None None = inl refl
 same_option None (Some b) = inr (λ e. absurd (cc))
 same_option (Some a) None = inr (λ e. absurd (cc))
-same_option (Some a) (Some b) = elim (cases_eq a b) [ inl e ↦ inl (ap (λ (z : ℕ). Some z) e) | inr ne ↦ inr (λ e. ne (same_some a b e)) ]
+same_option (Some a) (Some b) = elim (cases_eq a b) [ inl e ↦ inl (ap (λ (z : ℕ). Some z) e) | inr ne ↦ inr (λ e. ne (same_Some a b e)) ]
 
 record SpansTo (run : List (Option ℕ)) (n : ℕ) : Type 0 where
   spans : List Span

@@ -1,6 +1,6 @@
 -- The late jobs of a level of servers, as the run goes on and as each is found.
 use Rattle.std.proofs.Common.{◌≡◌, ◌≢◌, ◌⊎◌, ℕ, zero, suc, ◌+◌, ◌-◌, ◌<◌, ◌≤◌, ◌&&◌, ◌||◌, nat_lt, nat_le, min, Bool, true, false, cond, List, ◌++◌, length, get_or, Option, Some, None, MatchOption, IfSome, eqb, ltb, refl, sym, ◌∙◌, ap, arith, subst, inl, inr, lt-ltb, le-ltb, le-leb, eq-eqb, ne_eqb, add-one}
-use Rattle.std.proofs.lemmas.Bool.{cases_eq, cases_lt, both_ways, and_parts, and_from, or_left, or_right, cond-true, cond-false, lt-leb}
+use Rattle.std.proofs.lemmas.Bool.{cases_eq, cases_lt, both_ways, and_parts, and_from, or_left, or_right, cond-true, cond-false, lt-leb, and_right}
 use Rattle.std.proofs.lemmas.List.{get_or_append_left}
 use Rattle.slot_model.specs.declared.job.Job.{Job}
 use Rattle.slot_model.specs.declared.miss.Miss.{Miss}
@@ -99,9 +99,6 @@ tallies_more T jobs run late now j missed first found new l f t same place told 
 }
 
 -- a job whose moment it is not, or whose task is another, or that is in time
-not_both : (u v : Bool) → v ≡ false → (u && v) ≡ false
-not_both u v e = grind arith
-
 next_task : (t p : ℕ) → t ≢ p → ltb t p ≡ ltb t (p + 1)
 next_task t p ne = elim (cases_lt t p) [ inl l ↦ lt-ltb t p l ∙ sym (lt-ltb t (p + 1) (omega arith)) | inr m ↦ le-ltb t p m ∙ sym (le-ltb t (p + 1) (omega (arith, ne))) ]
 
@@ -109,7 +106,7 @@ same_late : (d x t p : ℕ) (short : Bool) → (d ≡ x → t ≡ p → short �
 same_late d x t p short h = elim (cases_eq t p) [
   | inr ne ↦ ap (λ (b : Bool). (ltb d x || (eqb d x && b)) && short) (next_task t p ne)
   | inl e ↦ elim (cases_eq d x) [
-    | inl q ↦ not_both _ short (h q e) ∙ sym (not_both _ short (h q e))
+    | inl q ↦ and_right _ short (h q e) ∙ sym (and_right _ short (h q e))
     | inr ne ↦ ap (λ (b : Bool). (ltb d x || (b && ltb t p)) && short) (ne_eqb d x ne) ∙ sym (ap (λ (b : Bool). (ltb d x || (b && ltb t (p + 1))) && short) (ne_eqb d x ne))
   ]
 ]
@@ -215,7 +212,7 @@ not_then : (d x t p : ℕ) → x < d → (ltb d x || (eqb d x && ltb t p)) ≡ f
 not_then d x t p l = neither_way (ltb d x) (eqb d x) (ltb t p) (le-ltb d x (omega arith)) (ap (λ (b : Bool). b && ltb t p) (ne_eqb d x (λ e. omega arith)))
 
 none_of : (d x t : ℕ) → x ≤ d → (ltb d x || (eqb d x && ltb t 0)) ≡ false
-none_of d x t l = neither_way (ltb d x) (eqb d x) (ltb t 0) (le-ltb d x l) (not_both (eqb d x) (ltb t 0) (le-ltb t 0 (omega arith)))
+none_of d x t l = neither_way (ltb d x) (eqb d x) (ltb t 0) (le-ltb d x l) (and_right (eqb d x) (ltb t 0) (le-ltb t 0 (omega arith)))
 
 pub none_late : (T : List SporadicTask) (jobs : List Job) (run : List (Option ℕ)) (x k : ℕ) → x ≤ deadline_of T (job_at jobs k) → is_late T jobs run x 0 k ≡ false
 none_late T jobs run x k l = ap (λ (b : Bool). b && nat_lt (service run k (deadline_of T (job_at jobs k))) (job_at jobs k).work) (none_of (deadline_of T (job_at jobs k)) x (job_at jobs k).task l)

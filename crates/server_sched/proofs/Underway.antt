@@ -1,6 +1,7 @@
 -- A level of servers whose first run is made up to a moment, one event more.
 use Rattle.std.proofs.Common.{◌≡◌, ℕ, ◌+◌, ◌-◌, ◌^◌, ◌<◌, ◌≤◌, min, Bool, true, false, List, [], ◌++◌, length, map, set, get_or, replicate, Option, Some, None, refl, sym, ◌∙◌, ap, arith, subst, inl, inr, Vec, Global}
 use Rattle.std.proofs.lemmas.List.{get_or_append_left, get_or-append_right, get_or-replicate, length-replicate, length-map}
+use Rattle.std.proofs.lemmas.Option.{same_Some}
 use Rattle.slot_model.specs.declared.job.Job.{Job}
 use Rattle.slot_model.specs.declared.sched.Sched.{Sched}
 use Rattle.slot_model.specs.declared.task.Task.{Task}
@@ -9,8 +10,9 @@ use Rattle.slot_model.specs.Order.{before_of}
 use Rattle.slot_model.specs.Release.{synchronous, releases_now}
 use Rattle.slot_model.specs.Run.{holds_task, service, server, FirstRunTo}
 use Rattle.slot_model.specs.Miss.{HoldsReleased}
-use Rattle.slot_model.proofs.FirstRuns.{none_some, same_some}
+use Rattle.slot_model.proofs.FirstRuns.{none_some}
 use Rattle.slot_model.proofs.MissedJobs.{count_below-none}
+use Rattle.slot_model.proofs.Runs.{count_below-le}
 use Rattle.release_pattern.proofs.Moments.{no_task, no_moment}
 use Rattle.guest_sched.specs.declared.spans.Window.{Window}
 use Rattle.guest_sched.specs.Spans.{AreWindows, slots_of, window_at}
@@ -18,7 +20,6 @@ use Rattle.guest_sched.proofs.Given.{AreOver, slot_at, none_given}
 use Rattle.guest_sched.specs.MoreWindows.{AddsWindow}
 use Rattle.guest_sched.proofs.SpanByOne.{Holds}
 use Rattle.guest_sched.proofs.Steady.{span_run, gap_run}
-use Rattle.span_counts.proofs.Counting.{count_le}
 use Rattle.server_sched.specs.declared.serving.Server.{Server}
 use Rattle.server_sched.specs.declared.serving.Come.{Come}
 use Rattle.server_sched.specs.declared.tally.Tally.{Tally}
@@ -113,7 +114,7 @@ job_served sched T fits are slots level new h k b l u m v given best enough wind
     let own = h.rest.active b (omega (arith, best.0, h.rest.one_each)) best.1 in
     let lists = map (λ (s : Vec Window Global). s.items) level.shares.items in
     let first : FirstRunTo server (before_of sched T) T jobs slots (level.time + k) later = span_run server (before_of sched T) T jobs slots true (Some p) k level.time h.run h.first
-    (steady_rest sched T fits n slots h.run level.time level.come.released level.come.next level.servers.items h.rest l m k u v given (Some p) (λ j q. omega (arith, own.job.lacks, enough, ap (λ (z : ℕ). (server_at level.servers.items z).left) own.own, ap (λ (z : ℕ). (job_at jobs z).work) (same_some p j q), ap (λ (z : ℕ). service h.run z level.time) (same_some p j q))))
+    (steady_rest sched T fits n slots h.run level.time level.come.released level.come.next level.servers.items h.rest l m k u v given (Some p) (λ j q. omega (arith, own.job.lacks, enough, ap (λ (z : ℕ). (server_at level.servers.items z).left) own.own, ap (λ (z : ℕ). (job_at jobs z).work) (same_Some p j q), ap (λ (z : ℕ). service h.run z level.time) (same_Some p j q))))
     (chosen_entry sched T fits n h.run level.time level.come.released level.come.next level.servers.items h.rest l m b best) in
     let rest : AtRest sched T n later (level.time + k) level.come.released level.come.next (given_to level.servers.items b k) = rest_given sched T n h.run level.time level.come.released level.come.next level.servers.items h.first.long h.rest k b u best.0 best.1 enough in
     let shared : SharedTo jobs later (level.time + k) (length T) (set lists b window)
@@ -142,7 +143,7 @@ sound sched T slots level h = record {
   one_each = h.rest.one_each;
   shares = omega (arith, h.shares.one_each, length-map level.shares.items (λ (s : Vec Window Global). s.items));
   released = in_jobs sched T level.slots h.run level.time level.come.released level.come.next level.servers.items h.rest;
-  missed = omega (arith, h.tallied.count, count_le (is_late T (synchronous T 0 level.slots) h.run level.come.next 0) (length (synchronous T 0 level.slots)));
+  missed = omega (arith, h.tallied.count, count_below-le (is_late T (synchronous T 0 level.slots) h.run level.come.next 0) (length (synchronous T 0 level.slots)));
   in_time = h.rest.in_time;
 }
 

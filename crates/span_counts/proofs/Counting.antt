@@ -7,6 +7,7 @@ use Rattle.slot_model.specs.Slots.{count_below, slots_between}
 use Rattle.slot_model.specs.Task.{SporadicTask, job_at, deadline_of}
 use Rattle.slot_model.specs.Run.{held, holds, service}
 use Rattle.slot_model.proofs.Sums.{sum_below-zero, sum_below-suc, sum_below-same}
+use Rattle.slot_model.proofs.Runs.{count_below-le}
 use Rattle.guest_sched.specs.declared.spans.Window.{Window}
 use Rattle.guest_sched.specs.Spans.{is_given, slots_of, window_at, AreWindows}
 use Rattle.guest_sched.proofs.Given.{apart, none_given, all_given, slot_at}
@@ -23,15 +24,6 @@ pub count_to : (p : ℕ → Bool) (v : Bool) (a b : ℕ) → a ≤ b → ((x : �
 count_to p v a b l h =
     let e : a + (b - a) ≡ b = omega arith in
     subst (λ (z : ℕ). count_below p z ≡ count_below p a + cond v (b - a) 0) e (count_stretch p v a (b - a) (λ x m n. h x m (omega arith)))
-
--- no count is above its bound
-pub count_le : (p : ℕ → Bool) (n : ℕ) → count_below p n ≤ n
-count_le p zero = omega (arith, sum_below-zero (λ x. cond (p x) 1 0))
-count_le p (suc n) = omega (arith, count_le p n, sum_below-suc (λ x. cond (p x) 1 0) n, one (p n))
-  where
-    one : (b : Bool) → cond {A = ℕ} b 1 0 ≤ 1
-    one true = omega arith
-    one false = omega arith
 
 -- the windows before the i-th end here
 pub window_end : List Window → ℕ → ℕ
@@ -107,7 +99,7 @@ job_served tasks jobs run m u i more got h l is li e = record {
 
 -- no service is longer than the run so far, and one span more adds no more than its slots
 pub served_fits : (tasks : List SporadicTask) (jobs : List Job) (run : List (Option ℕ)) (m i : ℕ) (got : List ℕ) → ServedTo tasks jobs run m got → i < length jobs → get_or got i 0 ≤ min (deadline_of tasks (job_at jobs i)) m
-served_fits tasks jobs run m i got h l = omega (arith, h.each i l, count_le (λ y. holds (held run y) i) (min (deadline_of tasks (job_at jobs i)) m))
+served_fits tasks jobs run m i got h l = omega (arith, h.each i l, count_below-le (λ y. holds (held run y) i) (min (deadline_of tasks (job_at jobs i)) m))
 
 pub all_served : (tasks : List SporadicTask) (jobs : List Job) (run : List (Option ℕ)) (got : List ℕ) → ServedTo tasks jobs run (length run) got → AreServices tasks jobs run got
 all_served tasks jobs run got h = record { long = h.long; each = h.each }

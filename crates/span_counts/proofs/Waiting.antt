@@ -1,6 +1,6 @@
 -- How long jobs are pending: from their release to the moment from which they have their work.
-use Rattle.std.proofs.Common.{◌≡◌, ℕ, ◌+◌, ◌-◌, ◌<◌, ◌≤◌, ◌&&◌, Bool, true, false, cond, leb, ltb, List, length, set, Option, Some, None, refl, sym, ◌∙◌, ap, arith, subst, inl, inr, eq-eqb, ne_eqb, lt-ltb, le-ltb, le-leb, length-set, get_or-set_same, get_or-set_other}
-use Rattle.std.proofs.lemmas.Bool.{cases_eq, cases_lt, lt-leb}
+use Rattle.std.proofs.Common.{◌≡◌, ℕ, ◌+◌, ◌-◌, ◌<◌, ◌≤◌, Bool, true, false, cond, leb, ltb, List, length, set, Option, Some, None, refl, sym, ◌∙◌, ap, arith, subst, inl, inr, eq-eqb, ne_eqb, lt-ltb, le-ltb, le-leb, length-set, get_or-set_same, get_or-set_other}
+use Rattle.std.proofs.lemmas.Bool.{cases_eq, cases_lt, lt-leb, and_from, and_left, and_right}
 use Rattle.slot_model.specs.declared.job.Job.{Job}
 use Rattle.slot_model.specs.Slots.{count_below}
 use Rattle.slot_model.specs.Task.{job_at}
@@ -97,18 +97,6 @@ first_wait run j work slots l =
     record { left = omega (arith, none); no_more = λ p. omega (arith, none); lacks = λ p. refl; has = λ z. absurd (omega arith) }
 
 -- after the run the wait is as long as the job is pending
-and-true : (a b : Bool) → a ≡ true → b ≡ true → (a && b) ≡ true
-and-true true b h k = k
-and-true false b h k = cc
-
-left-false : (a b : Bool) → a ≡ false → (a && b) ≡ false
-left-false true b h = cc
-left-false false b h = refl
-
-right-false : (a b : Bool) → b ≡ false → (a && b) ≡ false
-right-false true b h = h
-right-false false b h = refl
-
 count_interval : (p : ℕ → Bool) (release end n : ℕ) → end ≤ n → ((x : ℕ) → x < release → p x ≡ false) → ((x : ℕ) → release ≤ x → x < end → p x ≡ true) → ((x : ℕ) → end ≤ x → x < n → p x ≡ false) → count_below p n ≡ end - release
 count_interval p release end n l before inside after = elim (cases_lt end release) [
   | inl none ↦ omega (arith, sum_below-zero (λ x. cond (p x) 1 0), count_to p false 0 end (omega arith) (λ x a b. before x (omega arith)), count_to p false end n l (λ x a b. after x a b))
@@ -130,9 +118,9 @@ pending_is_wait jobs run slots j wait long h =
     let within = wait_ends_in run j work slots wait h in
     ap (λ (n : ℕ). count_below (is_pending jobs run j) n) long ∙
     count_interval (is_pending jobs run j) release wait.end slots within
-    (λ x l. left-false (leb release x) (ltb (service run j x) work) (lt-leb release x l))
-    (λ x l m. and-true (leb release x) (ltb (service run j x) work) (le-leb release x l) (lt-ltb (service run j x) work (lacks x m)))
-    (λ x l m. right-false (leb release x) (ltb (service run j x) work) (le-ltb (service run j x) work (has x l m)))
+    (λ x l. and_left (leb release x) (ltb (service run j x) work) (lt-leb release x l))
+    (λ x l m. and_from (leb release x) (ltb (service run j x) work) (le-leb release x l) (lt-ltb (service run j x) work (lacks x m)))
+    (λ x l m. and_right (leb release x) (ltb (service run j x) work) (le-ltb (service run j x) work (has x l m)))
   where
     lacks : (x : ℕ) → x < wait.end → service run j x < (job_at jobs j).work
     lacks x m = elim (cases_lt 0 wait.left) [

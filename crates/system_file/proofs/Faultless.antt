@@ -1,6 +1,7 @@
 -- What stands in a document where a definition finds no fault.
 use Rattle.std.proofs.Common.{◌≡◌, ℕ, ◌==◌, ◌≤◌, pos, negsuc, Bool, true, false, not, ◌&&◌, nat_le, nat_lt, ◌<◌, List, [], ◌∷◌, length, Option, Some, None, refl, codes, arith, unwrap_or, if◌then◌else◌}
 use Rattle.std.proofs.lemmas.Bool.Decides.{nat_tests}
+use Rattle.std.proofs.lemmas.Bool.{not-false}
 use Rattle.std.specs.List.{list_any}
 use Rattle.slot_model.specs.Name.{is_name}
 use Rattle.slot_model.specs.declared.task.TheConstants.{LIMIT}
@@ -27,11 +28,7 @@ table_there spot listed at_keys (float x) h = cc
 table_there spot listed at_keys (boolean b) h = cc
 table_there spot listed at_keys (datetime t) h = cc
 table_there spot listed at_keys (array ds) h = cc
-table_there spot listed at_keys (table m) h = (record { members = m; is = refl; only = all_listed _ (not_wrong _ _ (none_left _ _ h)) }, none_right _ at_keys h)
-  where
-    all_listed : (b : Bool) → not b ≡ false → b ≡ true
-    all_listed true h = refl
-    all_listed false h = cc
+table_there spot listed at_keys (table m) h = (record { members = m; is = refl; only = not-false _ (not_wrong _ _ (none_left _ _ h)) }, none_right _ at_keys h)
 
 pub table_inside : (spot : Spot) (listed : List (List ℕ)) (at_keys : List SystemFault) (d : Data) → table_faults spot listed at_keys d ≡ [] → at_keys ≡ []
 table_inside spot listed at_keys d h = (table_there spot listed at_keys d h).1

@@ -1,9 +1,10 @@
 -- Values of their kind and in their range have no fault.
-use Rattle.std.proofs.Common.{◌≡◌, ℕ, ◌<◌, ◌≤◌, pos, negsuc, Bool, true, false, not, ◌&&◌, nat_le, nat_lt, List, [], ◌∷◌, map, length, take, get_or, Option, Some, None, refl, sym, ap, ◌∙◌, codes, arith, bytes_eq, length-take-le, unwrap_or, if◌then◌else◌}
+use Rattle.std.proofs.Common.{◌≡◌, ℕ, ◌<◌, ◌≤◌, pos, negsuc, Bool, true, false, not, ◌&&◌, nat_le, nat_lt, List, [], ◌∷◌, map, length, take, get_or, Option, Some, None, refl, sym, ap, ◌∙◌, codes, arith, bytes_eq, length-take-le, unwrap_or, if◌then◌else◌, ◌==◌}
 use Rattle.std.proofs.lemmas.Bool.Decides.{nat_tests}
 use Rattle.std.proofs.lemmas.List.{get_or_default, get_or-map, get_or-take}
 use Rattle.std.proofs.lemmas.List.Folds.{list_any_none}
 use Rattle.std.proofs.lemmas.Slice.Eq.{bytes_eq-Decides}
+use Rattle.std.proofs.lemmas.Bool.{le-ltb}
 use Rattle.std.specs.List.{list_any}
 use Rattle.slot_model.specs.Name.{is_name}
 use Rattle.slot_model.specs.declared.task.TheConstants.{LIMIT}
@@ -16,6 +17,10 @@ use Rattle.system_file.specs.declared.fault.SystemFault.TheVariants.{BadName, Na
 use Rattle.system_file.specs.Document.{elements_of, array_of, text_of, number_of, given_number, is_text, is_named, supply_of}
 use Rattle.system_file.specs.Faults.{fault_if, required, optional, text_faults, new_name_faults, name_faults, sched_faults, range_faults, below_faults, flag_faults, array_faults, supply_faults, table_faults}
 use Rattle.system_file.specs.Written.{IsTableOf, IsNameText, IsSchedText, IsWhole, IsFlag, IsArray, There, MayBe, BothOrNeither}
+
+-- a number that is not 0
+pub not_none : (n : ℕ) → 1 ≤ n → (n == 0) ≡ false
+not_none n h = grind (arith, nat_tests)
 
 pub right : (b : Bool) (fault : SystemFault) → b ≡ false → fault_if b fault ≡ []
 right b fault h = ap (λ x. fault_if x fault) h
@@ -82,10 +87,7 @@ array_fits spot most (Some (float x)) w few = let e = w.1 in cc
 array_fits spot most (Some (boolean b)) w few = let e = w.1 in cc
 array_fits spot most (Some (datetime t)) w few = let e = w.1 in cc
 array_fits spot most (Some (table m)) w few = let e = w.1 in cc
-array_fits spot most (Some (array ds)) w few = right _ (TooMany spot) (at_most (length (elements_of ds)) few)
-  where
-    at_most : (n : ℕ) → n ≤ most → nat_lt most n ≡ false
-    at_most n h = grind (arith, nat_tests)
+array_fits spot most (Some (array ds)) w few = right _ (TooMany spot) (le-ltb most (length (elements_of ds)) few)
 
 pub supply_fits : (spot : Spot) (a b : Option Data) → BothOrNeither a b → IsCoreSupply (supply_of a b) → supply_faults spot a b ≡ []
 supply_fits spot None None w h = refl

@@ -1,6 +1,6 @@
 -- The two laws of the system file: what is read is spelled by the document and is a system, and a
 -- document that is written by the rules is read where what it spells is a system.
-use Rattle.std.proofs.Common.{◌≡◌, ℕ, ◌+◌, ◌-◌, ◌<◌, ◌≤◌, ◌==◌, nat_lt, suc, zero, Bool, true, false, not, ◌&&◌, ◌||◌, List, [], ◌∷◌, ◌++◌, map, length, take, drop, get_or, Option, Some, None, Result, Ok, Err, IfOk, IfErr, ◌≢◌, refl, sym, ap, subst, ◌∙◌, codes, arith, bytes_eq, length-take-le, length-append, unwrap_or}
+use Rattle.std.proofs.Common.{◌≡◌, ℕ, ◌+◌, ◌-◌, ◌<◌, ◌≤◌, nat_lt, suc, zero, Bool, true, false, not, ◌&&◌, ◌||◌, List, [], ◌∷◌, ◌++◌, map, length, take, drop, get_or, Option, Some, None, Result, Ok, Err, IfOk, IfErr, ◌≢◌, refl, sym, ap, subst, ◌∙◌, codes, arith, bytes_eq, length-take-le, length-append, unwrap_or}
 use Rattle.std.proofs.lemmas.Bool.Decides.{nat_tests}
 use Rattle.std.proofs.lemmas.List.{map-append, get_or-map, get_or-take, get_or-append-add, take-append-le, take-append-drop}
 use Rattle.std.proofs.Math.Seq.{take-append-add}
@@ -25,13 +25,14 @@ use Rattle.system_file.specs.Faults.{required, optional, format_faults, text_fau
 use Rattle.system_file.specs.SystemFile.{system_of, system_of_document, document_of, first_fault_or}
 use Rattle.system_file.specs.Written.{IsNameText, IsParentText, IsArray, There, element, IsWrittenTask, IsWrittenCore, IsWrittenPart, IsWritten, Spells}
 use Rattle.std.proofs.lemmas.Slice.Eq.{bytes_eq-Decides}
+use Rattle.std.proofs.lemmas.Bool.{le-ltb}
 use Rattle.system_file.proofs.Places.{joined, position_append, leaf_tasks}
 use Rattle.system_file.proofs.Found.{position_holds, none_in_order}
 use Rattle.system_file.proofs.Systems.{core_names, part_names, sys, spelled, part_spelled, faultless_is_system}
 use Rattle.system_file.proofs.WrittenKinds.{faultless_is_written}
 use Rattle.system_file.proofs.Nodes.{get_front, part_place}
 use Rattle.system_file.proofs.Rules.{task_names}
-use Rattle.system_file.proofs.Fits.{right, keys_fit, name_fits, sched_fits, required_fits, optional_fits, default_fits, below_fits, flag_fits, array_fits, supply_fits, new_of_distinct}
+use Rattle.system_file.proofs.Fits.{right, keys_fit, name_fits, sched_fits, required_fits, optional_fits, default_fits, below_fits, flag_fits, array_fits, supply_fits, new_of_distinct, not_none}
 
 from_faults : (bytes : List ℕ) (read : SystemView) (members : Members) → document_of bytes ≡ Some members → (found : List SystemFault) → faults (table members) ≡ found → first_fault_or (spelled_system (table members)) found ≡ Ok read → Spells bytes read
 from_faults bytes read members document [] e h =
@@ -231,13 +232,7 @@ module _ (format : Format) (cores parts : List Data) (wc : (c : ℕ) → c < len
 -- 1 to 64 cores
 cores_fit : (o : Option Data) → There IsArray o → 1 ≤ length (array_of o) → length (array_of o) ≤ 64 → required Top core_array_faults o ≡ []
 cores_fit None w some few = absurd w
-cores_fit (Some d) w some few = ap core_array_faults w.1 ∙ none_both _ _ (right _ (Empty Top) (not_none (length (elements_of w.0)) (rw w.1 at some))) (right _ (TooMany Top) (at_most (length (elements_of w.0)) (rw w.1 at few)))
-  where
-    not_none : (n : ℕ) → 1 ≤ n → (n == 0) ≡ false
-    not_none n h = grind (arith, nat_tests)
-
-    at_most : (n : ℕ) → n ≤ 64 → nat_lt 64 n ≡ false
-    at_most n h = grind (arith, nat_tests)
+cores_fit (Some d) w some few = ap core_array_faults w.1 ∙ none_both _ _ (right _ (Empty Top) (not_none (length (elements_of w.0)) (rw w.1 at some))) (right _ (TooMany Top) (le-ltb 64 (length (elements_of w.0)) (rw w.1 at few)))
 
 -- a document that is written by the rules and spells a system has no fault
 pub written_is_faultless : (top : Data) → IsWritten top → IsSystem (spelled_system top) → faults top ≡ []

@@ -6,6 +6,7 @@ use Rattle.std.proofs.lemmas.List.{get_or-take, get_or-append-add, take-append-l
 use Rattle.std.proofs.lemmas.List.Folds.{list_any-append}
 use Rattle.std.proofs.Math.Seq.{take-append-add}
 use Rattle.std.proofs.lemmas.Slice.Eq.{bytes_eq-Decides}
+use Rattle.std.proofs.lemmas.Option.{same_Some}
 use Rattle.std.specs.Prelude.{position}
 use Rattle.std.specs.List.{list_any}
 use Rattle.toml.specs.Data.{Data, boolean, get}
@@ -36,9 +37,6 @@ core_place : (a o : Option ℕ) (c : ℕ) → core_or_part a o ≡ Some (on_core
 core_place (Some i) o c h = cc
 core_place None None c h = cc
 core_place None (Some j) c h = cc
-
-value_is : (p s : Parent) → Some p ≡ Some s → p ≡ s
-value_is p s h = cc
 
 same_place_is : (k q : ℕ) → (k == q) ≡ true → k ≡ q
 same_place_is k q h = grind (arith, nat_tests)
@@ -119,7 +117,7 @@ module _ (format : Format) (cores parts : List Data) (no_core : in_order core_fa
       let named : parent_named cores parts new.name ≡ Some (on_part q) =
       ap (λ a. core_or_part a (position (is_named new.name) parts)) (position_none (is_named new.name) cores (neither_left _ _ split)) ∙ ap (core_or_part None) first in
       let found : Some there.parent ≡ Some (on_part q) = sym (parent_found r hr) ∙ ap (parent_named cores parts) (sym ((bytes_eq-Decides new.name there.text).0 e)) ∙ named in
-      ap (is_on q) (value_is there.parent (on_part q) found) ∙ itself q
+      ap (is_on q) (same_Some there.parent (on_part q) found) ∙ itself q
 
   link_false : (q r : ℕ) (hq : q < length parts) (hr : r < length parts) → bytes_eq (part_new q hq).name (parent_there r hr).text ≡ false → (p : Parent) → (parent_there r hr).parent ≡ p → is_on q p ≡ false
   link_false q r hq hr e (on_core c) same = refl

@@ -1,26 +1,19 @@
 -- Names of printed elements: where one of different names is found, and that a new one is not
 -- taken.
-use Rattle.std.proofs.Common.{◌≡◌, ℕ, ◌+◌, ◌<◌, true, false, List, [], ◌∷◌, ◌++◌, map, length, get_or, take, Some, None, codes, refl, sym, ap, ◌∙◌, arith, inl, inr, subst}
+use Rattle.std.proofs.Common.{◌≡◌, ℕ, ◌+◌, ◌<◌, true, false, List, [], ◌∷◌, ◌++◌, map, length, get_or, Some, None, codes, refl, sym, ap, ◌∙◌, arith, subst}
 use Rattle.std.specs.Prelude.{position, bytes_eq}
 use Rattle.std.specs.List.{list_any}
-use Rattle.std.proofs.lemmas.Bool.{cases_Bool}
-use Rattle.std.proofs.lemmas.List.{map-append, get_or-take, length-take-le, length-append, get_or_append_left, get_or-append-add, get_or_default}
+use Rattle.std.proofs.lemmas.List.{map-append, length-append, get_or_append_left, get_or-append-add, get_or_default}
 use Rattle.std.proofs.lemmas.List.Folds.{list_any_none}
 use Rattle.std.proofs.lemmas.Slice.Eq.{bytes_eq-Decides}
 use Rattle.toml.specs.Data.{Data, string, get}
 use Rattle.tree_model.specs.System.{AreDistinct}
+use Rattle.tree_model.proofs.Distinct.{differ}
 use Rattle.system_file.specs.Document.{is_named}
 use Rattle.system_file.specs.Reading.{HaveNames}
 use Rattle.system_file.proofs.Named.{taken_is}
-use Rattle.system_file.proofs.Found.{position_first, position_none}
+use Rattle.system_file.proofs.Found.{position_none}
 use Rattle.system_file.proofs.Places.{place_is}
-
--- two texts of different bytes
-pub differ : (a b : List ℕ) → (a ≡ b → ⊥) → bytes_eq a b ≡ false
-differ a b other = elim (cases_Bool (bytes_eq a b)) [
-  | inl same ↦ absurd (other ((bytes_eq-Decides a b).0 same))
-  | inr different ↦ different
-]
 
 pub equals_itself : (a : List ℕ) → bytes_eq a a ≡ true
 equals_itself a = (bytes_eq-Decides a a).1 refl
@@ -50,16 +43,6 @@ not_taken before after distinct i h = list_any_none (bytes_eq (get_or after i []
 
 pub place_missed : (before after : List (List ℕ)) → AreDistinct (before ++ after) → (i : ℕ) → i < length after → position (bytes_eq (get_or after i [])) before ≡ None
 place_missed before after distinct i h = position_none (bytes_eq (get_or after i [])) before (not_taken before after distinct i h)
-
--- where there are no two names, each is found at its place
-pub place_found : (names : List (List ℕ)) → AreDistinct names → (i : ℕ) → i < length names → position (bytes_eq (get_or names i [])) names ≡ Some i
-place_found names distinct i h =
-    position_first (bytes_eq (get_or names i [])) names i [] h (equals_itself (get_or names i []))
-    (list_any_none (bytes_eq (get_or names i [])) (take i names)
-    (λ k d l.
-    let at : get_or (take i names) k d ≡ get_or names k d = get_or-take i names k d (omega (arith, length-take-le i names (omega arith))) in
-    differ (get_or names i []) (get_or (take i names) k d)
-    (λ e. distinct k i d (omega (arith, length-take-le i names (omega arith))) h (sym at ∙ (sym e ∙ get_or_default names i [] d h)))))
 
 -- an element's name is not that of an earlier one
 pub new_among : {X : Type 0} (element : X → Data) (name : X → List ℕ) → ((x : X) → get (codes "name") (element x) ≡ Some (string (name x))) →

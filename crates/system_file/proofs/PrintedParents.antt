@@ -14,8 +14,8 @@ use Rattle.system_file.specs.declared.fault.Spot.{Spot}
 use Rattle.system_file.specs.Document.{is_named, parent_named, spelled_core}
 use Rattle.system_file.specs.Faults.{core_faults, parent_faults, in_order, has_tasks}
 use Rattle.system_file.specs.Printed.{printed_core, printed_part, parent_name, CoresAreNamed}
-use Rattle.tree_model.proofs.Distinct.{distinct_front, distinct_back}
-use Rattle.system_file.proofs.PrintedNames.{named_at, place_found, place_missed, new_among}
+use Rattle.tree_model.proofs.Distinct.{distinct_front, distinct_back, found_at}
+use Rattle.system_file.proofs.PrintedNames.{named_at, place_missed, new_among}
 use Rattle.system_file.proofs.PrintedWalk.{all_faultless, all_spelled, within, stands_at}
 use Rattle.system_file.proofs.PrintedCore.{core_name, core_spelled, core_faultless}
 use Rattle.system_file.proofs.PrintedPart.{part_name, part_has_tasks}
@@ -49,7 +49,7 @@ core_place : (sys : SystemView) → IsSystem sys → (c : ℕ) → c < length sy
 core_place sys is c h =
     let name : get_or (core_names sys) c [] ≡ (core_at sys c).name = get_or-map (λ (k : CoreView). k.name) sys.cores c no_core [] h in
     named_at printed_core (λ k. k.name) core_name (core_at sys c).name sys.cores
-    ∙ subst (λ (s : List ℕ). position (bytes_eq s) (core_names sys) ≡ Some c) name (place_found (core_names sys) (core_names_differ sys is) c (omega (arith, length-map sys.cores (λ (k : CoreView). k.name))))
+    ∙ subst (λ (s : List ℕ). position (bytes_eq s) (core_names sys) ≡ Some c) name (found_at (core_names sys) c (core_names_differ sys is) (omega (arith, length-map sys.cores (λ (k : CoreView). k.name))))
 
 -- the name of a part, which no core has, among the first parts
 part_among : (sys : SystemView) → IsSystem sys → (q : ℕ) → q < length sys.parts → position (is_named (part_at sys q).name) (map printed_core sys.cores) ≡ None
@@ -66,7 +66,7 @@ part_place sys is earlier later e q h =
     distinct_front (part_names earlier) (part_names later)
     (subst (λ (names : List (List ℕ)). AreDistinct names) (ap part_names e ∙ map-append (λ (p : PartView). p.name) earlier later) (distinct_back (core_names sys) (part_names sys.parts) is.names)) in
     named_at (printed_part sys) (λ p. p.name) (part_name sys) (part_at sys q).name earlier
-    ∙ subst (λ (s : List ℕ). position (bytes_eq s) (part_names earlier) ≡ Some q) name (place_found (part_names earlier) differ q (omega (arith, length-map earlier (λ (p : PartView). p.name))))
+    ∙ subst (λ (s : List ℕ). position (bytes_eq s) (part_names earlier) ≡ Some q) name (found_at (part_names earlier) q differ (omega (arith, length-map earlier (λ (p : PartView). p.name))))
 
 -- a parent that stands among the cores and these parts is found by its name
 abbrev pub StandsAmong : SystemView → ℕ → Parent → Type 0

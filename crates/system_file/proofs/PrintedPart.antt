@@ -1,7 +1,8 @@
 -- A printed part has no fault, and spells the part.
-use Rattle.std.proofs.Common.{◌≡◌, ℕ, ◌<◌, ◌≤◌, ◌==◌, Bool, true, false, not, List, [], ◌∷◌, ◌++◌, map, length, get_or, Option, Some, None, codes, refl, ap, ◌∙◌, arith, nat_lt, subst}
+use Rattle.std.proofs.Common.{◌≡◌, ℕ, ◌<◌, ◌≤◌, ◌==◌, Bool, true, false, not, List, [], ◌∷◌, ◌++◌, map, length, get_or, Option, Some, None, codes, refl, ap, ◌∙◌, arith, subst}
 use Rattle.std.proofs.lemmas.Bool.Decides.{nat_tests}
 use Rattle.std.proofs.lemmas.List.{length-map, get_or-map}
+use Rattle.std.proofs.lemmas.Bool.{le-ltb}
 use Rattle.std.specs.List.{list_any}
 use Rattle.slot_model.specs.Name.{is_name}
 use Rattle.slot_model.specs.declared.task.TheConstants.{LIMIT}
@@ -102,10 +103,7 @@ tasks_faultless format q part tells is named = all_faultless (task_faults format
 
 -- at most so many elements
 pub few_ok : (spot : Spot) (most : ℕ) (ds : List Data) → length ds ≤ most → array_faults spot most (array (items_of ds)) ≡ []
-few_ok spot most ds few = rw (elements_back ds, not_more (length ds) few)
-  where
-    not_more : (n : ℕ) → n ≤ most → nat_lt most n ≡ false
-    not_more n few = grind (arith, nat_tests)
+few_ok spot most ds few = rw (elements_back ds, le-ltb most (length ds) few)
 
 -- every key is listed, and no key has a fault
 part_keys_listed : (sys : SystemView) (part : PartView) → has_only part_keys (part_members sys part) ≡ true

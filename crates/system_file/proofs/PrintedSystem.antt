@@ -1,9 +1,9 @@
 -- The document that is printed for a system has no fault, and spells the system.
-use Rattle.std.proofs.Common.{◌≡◌, ℕ, ◌<◌, ◌≤◌, ◌==◌, Bool, true, false, List, [], ◌∷◌, ◌++◌, map, length, get_or, codes, refl, sym, ap, ◌∙◌, arith, nat_lt, subst, if◌then◌else◌}
+use Rattle.std.proofs.Common.{◌≡◌, ℕ, ◌<◌, ◌≤◌, Bool, true, false, List, [], ◌∷◌, ◌++◌, map, length, get_or, codes, refl, sym, ap, ◌∙◌, arith, subst, if◌then◌else◌}
 use Rattle.std.specs.Prelude.{bytes_eq}
-use Rattle.std.proofs.lemmas.Bool.Decides.{nat_tests}
 use Rattle.std.proofs.lemmas.List.{length-map, get_or-map, append-nil}
 use Rattle.std.proofs.lemmas.List.Folds.{list_any_at, list_any-append}
+use Rattle.std.proofs.lemmas.Bool.{le-ltb}
 use Rattle.std.specs.List.{list_any}
 use Rattle.toml.specs.Data.{Data, boolean, array, table, get}
 use Rattle.toml.specs.View.{items_of}
@@ -24,6 +24,7 @@ use Rattle.system_file.proofs.PrintedWalk.{all_faultless, all_spelled, elements_
 use Rattle.system_file.proofs.PrintedCore.{core_name}
 use Rattle.system_file.proofs.PrintedPart.{PartTells, part_name, part_parent, part_has_tasks, few_ok, part_faultless, part_spelled}
 use Rattle.system_file.proofs.PrintedParents.{core_names, part_names, cores_faultless, cores_spelled, StandsAmong, parent_found, parent_faultless}
+use Rattle.system_file.proofs.Fits.{not_none}
 
 -- no core and no earlier part has the name of a part
 part_new : (sys : SystemView) → IsSystem sys → (earlier : List PartView) (part : PartView) (later : List PartView) → sys.parts ≡ earlier ++ part ∷ later →
@@ -119,13 +120,7 @@ parts_back format cores [] = refl
 parts_back format cores (d ∷ ds) = elements_back (d ∷ ds)
 
 core_array_ok : (cores : List Data) → 1 ≤ length cores → length cores ≤ 64 → core_array_faults (array (items_of cores)) ≡ []
-core_array_ok cores some few = rw (elements_back cores, some_are (length cores) some, not_more (length cores) few)
-  where
-    some_are : (n : ℕ) → 1 ≤ n → (n == 0) ≡ false
-    some_are n some = grind (arith, nat_tests)
-
-    not_more : (n : ℕ) → n ≤ 64 → nat_lt 64 n ≡ false
-    not_more n few = grind (arith, nat_tests)
+core_array_ok cores some few = rw (elements_back cores, not_none (length cores) some, le-ltb 64 (length cores) few)
 
 top_faultless : (format : Format) (cores parts : List Data) → 1 ≤ length cores → length cores ≤ 64 → length parts ≤ 512 → top_faults (table (top_members format cores parts)) ≡ []
 top_faultless One cores [] some few few_parts = rw (core_array_ok cores some few)

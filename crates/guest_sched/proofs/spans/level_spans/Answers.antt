@@ -1,11 +1,12 @@
 use Rattle.std.proofs.Common.{◌≡◌, ◌≢◌, ℕ, ◌+◌, ◌-◌, ◌<◌, ◌≤◌, Bool, List, [], Option, Some, None, length, get_or, refl, sym, ◌∙◌, ap, arith, subst, inl, inr, IfSome}
 use Rattle.std.proofs.lemmas.Bool.{cases_eq}
 use Rattle.std.proofs.lemmas.List.{get_or_default, length-map}
+use Rattle.std.proofs.lemmas.Option.{same_Some}
 use Rattle.slot_model.specs.declared.job.Job.{Job}
 use Rattle.slot_model.specs.Task.{SporadicTask, default_job, task_at, sporadic_task, sporadic_tasks}
 use Rattle.slot_model.specs.Release.{LegalRelease}
 use Rattle.slot_model.specs.Run.{FirstRunTo}
-use Rattle.slot_model.proofs.FirstRuns.{none_some, same_some}
+use Rattle.slot_model.proofs.FirstRuns.{none_some}
 use Rattle.guest_sched.specs.declared.ready.Ready.{Ready}
 use Rattle.guest_sched.specs.declared.spans.Span.{Span}
 use Rattle.guest_sched.specs.declared.spans.Window.{Window}
@@ -51,7 +52,7 @@ serve-span-requires-clause-named g c = λ k d l. omega (arith, c.requires.legal.
 
 where_some : (o : Option ℕ) (P : ℕ → Type 0) → IfSome o P → (p : ℕ) → o ≡ Some p → P p
 where_some None P h p e = absurd (none_some None p refl e)
-where_some (Some q) P h p e = subst P (same_some q p e) h
+where_some (Some q) P h p e = subst P (same_Some q p e) h
 
 -- the best of the ready jobs where only the time goes by
 best_later : (before : Job → Job → Bool) (jobs : List Job) (old new : Ready) → new ≡ record old { time = new.time } → IsBest before jobs old.ready.items old.best → IsBest before jobs new.ready.items new.best

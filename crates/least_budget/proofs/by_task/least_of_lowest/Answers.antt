@@ -1,8 +1,8 @@
 use Rattle.std.proofs.Common.{arith}
 use Rattle.slot_model.specs.Task.{sporadic_tasks}
 use Rattle.slot_model.specs.Bound.{sbf}
+use Rattle.slot_model.proofs.Budgets.{hits_of}
 use Rattle.fp_request.proofs.Parts.{sporadic_tasks-length}
-use Rattle.least_budget.proofs.ByTask.{hits_of}
 use Rattle.least_budget.proofs.by_task.least_of_lowest.Goals as goal
 
 pub returns-in-Some-clause-below : goal.returns-in-Some-clause-below

@@ -1,19 +1,16 @@
-use Rattle.std.proofs.Common.{ℕ, suc, ◌<◌, List, length, map, arith, ap, sym, subst, Vec, Global, add-one}
+use Rattle.std.proofs.Common.{ℕ, suc, ◌<◌, List, length, arith, ap, sym, subst, add-one}
 use Rattle.guest_sched.specs.declared.spans.Window.{Window}
 use Rattle.guest_sched.specs.Spans.{AreWindows, slots_of}
 use Rattle.tree_model.specs.declared.place.Place.TheVariants.{Core}
 use Rattle.tree_model.specs.declared.pinned_core.Core.{Core as CoreView}
 use Rattle.server_sched.specs.TreeSpans.{given_at}
 use Rattle.server_sched.specs.CountedTree.{KeptView, AreCoresKept, IsServerKept}
-use Rattle.server_sched.proofs.Lists.{list_read}
+use Rattle.server_sched.proofs.Lists.{list_read, window_lists}
 use Rattle.server_sched.proofs.KeptNodes.{no_core_kept, one_core_kept}
 use Rattle.server_sched.proofs.counted_tree.cores_kept.Goals as goal
 
-abbrev lists : List (Vec Window Global) → List (List Window)
-lists given = map (λ (s : Vec Window Global). s.items) given
-
 pub loop-c-init : goal.loop-c-init
-loop-c-init c = subst (λ (v : List KeptView). AreCoresKept c.args.sys.now c.args.budgets.now c.args.slots (lists c.args.given.now) 0 v) (sym c.new-kept.ensures.items) (no_core_kept c.args.sys.now c.args.budgets.now c.args.slots (lists c.args.given.now))
+loop-c-init c = subst (λ (v : List KeptView). AreCoresKept c.args.sys.now c.args.budgets.now c.args.slots (window_lists c.args.given.now) 0 v) (sym c.new-kept.ensures.items) (no_core_kept c.args.sys.now c.args.budgets.now c.args.slots (window_lists c.args.given.now))
 
 pub server_kept-requires-clause-windows : goal.server_kept-requires-clause-windows
 server_kept-requires-clause-windows c =
@@ -24,7 +21,7 @@ server_kept-requires-clause-windows c =
 pub loop-c-preserved : goal.loop-c-preserved
 loop-c-preserved c =
     let l : c.loop-c.c < length c.args.sys.now.cores = omega (arith, c.loop-c-test.true, ap (λ (cs : List CoreView). length cs) c.cores.ensures.cores) in
-    let sys = c.args.sys.now in let budgets = c.args.budgets.now in let n = c.args.slots in let given = lists c.args.given.now in
+    let sys = c.args.sys.now in let budgets = c.args.budgets.now in let n = c.args.slots in let given = window_lists c.args.given.now in
     let read = list_read c.args.given.now c.loop-c.c (length sys.cores) c.index-given-c.result c.deref.result.now c.requires.windows.one_each l c.index-given-c.is c.deref.ensures.value in
     let new : IsServerKept sys budgets n (Core c.loop-c.c) (slots_of (given_at given c.loop-c.c) n) c.in_ok-core.core = subst (λ (w : List Window). IsServerKept sys budgets n (Core c.loop-c.c) (slots_of w n) c.in_ok-core.core) read c.in_ok-core.ensures in
     subst (λ (m : ℕ). AreCoresKept sys budgets n given m c.push.new.self.items) (sym (add-one c.loop-c.c))

@@ -1,6 +1,5 @@
 use Rattle.std.proofs.Common.{◌≡◌, ℕ, ◌<◌, Bool, List, Option, length, map, arith, ap, sym, ◌∙◌, subst, Vec, Global}
 use Rattle.std.proofs.lemmas.List.{length-map}
-use Rattle.slot_model.specs.declared.job.Job.{Job}
 use Rattle.guest_sched.specs.declared.spans.Window.{Window}
 use Rattle.guest_sched.specs.Spans.{AreSpans}
 use Rattle.tree_model.specs.FirstTree.{FirstTree}
@@ -8,21 +7,12 @@ use Rattle.tree_model.proofs.FirstTrees.{first_tree_permitted, first_tree_unique
 use Rattle.server_sched.specs.NodeView.{NodeView}
 use Rattle.server_sched.specs.TreeSpans.{node_at, runs_of, supplies_of, AreWindowsOf, AreSupplies}
 use Rattle.server_sched.proofs.TreeNodes.{part_spans}
-use Rattle.server_sched.proofs.Lists.{same_supplies, are_supplies, few_in_reach}
+use Rattle.server_sched.proofs.Lists.{same_supplies, are_supplies, few_in_reach, slot_lists, window_lists, job_lists}
 use Rattle.server_sched.proofs.slots.run_tree.Goals as goal
-
-abbrev given_lists : List (Vec Bool Global) → List (List Bool)
-given_lists given = map (λ (s : Vec Bool Global). s.items) given
-
-abbrev window_lists : List (Vec Window Global) → List (List Window)
-window_lists windows = map (λ (s : Vec Window Global). s.items) windows
-
-abbrev job_lists : List (Vec Job Global) → List (List Job)
-job_lists jobs = map (λ (s : Vec Job Global). s.items) jobs
 
 pub span_tree-requires-clause-windows : goal.span_tree-requires-clause-windows
 span_tree-requires-clause-windows c =
-    let given = given_lists c.args.given.now in
+    let given = slot_lists c.args.given.now in
     let long : length given ≡ length c.args.given.now = length-map c.args.given.now (λ (s : Vec Bool Global). s.items) in
     let are : AreWindowsOf c.args.slots given (length given) (window_lists c.in_ok-windows.windows.items) = subst (λ (m : ℕ). AreWindowsOf c.args.slots given m (window_lists c.in_ok-windows.windows.items)) (sym long) c.in_ok-windows.ensures.windows in
     subst (λ (v : List (Vec Window Global)). AreSupplies c.args.sys.now c.args.slots (window_lists v)) (sym c.deref.ensures.value) (are_supplies c.args.sys.now c.args.slots given (window_lists c.in_ok-windows.windows.items) (long ∙ c.requires.one_each) are)
@@ -39,7 +29,7 @@ written_runs-requires-2 c = subst (λ (v : List NodeView). (i : ℕ) → i < len
 pub returns-clause-first : goal.returns-clause-first
 returns-clause-first c =
     let sys = c.args.sys.now in let n = c.args.slots in
-    let given = given_lists c.args.given.now in
+    let given = slot_lists c.args.given.now in
     let jobs = job_lists c.args.jobs.now in
     let long : length given ≡ length c.args.given.now = length-map c.args.given.now (λ (s : Vec Bool Global). s.items) in
     let are : AreWindowsOf n given (length given) (window_lists c.in_ok-windows.windows.items) = subst (λ (m : ℕ). AreWindowsOf n given m (window_lists c.in_ok-windows.windows.items)) (sym long) c.in_ok-windows.ensures.windows in

@@ -1,9 +1,10 @@
 use Rattle.std.proofs.Common.{◌∙◌, ℕ, Option, length, refl, sym, ap, arith}
 use Rattle.std.proofs.lemmas.List.{length-map}
 use Rattle.tree_model.specs.declared.pinned_core.Core.{Core}
+use Rattle.tree_model.proofs.Distinct.{distinct_front}
 use Rattle.std.specs.Prelude.{bytes_eq, position, unwrap_or}
 use Rattle.trace_file.specs.File.{core_names, part_names}
-use Rattle.trace_file.proofs.Distinct.{stands_as, first_distinct}
+use Rattle.trace_file.proofs.Distinct.{stands_as}
 use Rattle.trace_file.proofs.names.core_place.Goals as goal
 
 pub returns-in-Some : goal.returns-in-Some
@@ -16,4 +17,4 @@ pub returns-then-is_core_at : goal.returns-then-is_core_at
 returns-then-is_core_at c =
     let names = core_names c.args.sys.now.cores in
     let (within, name) = (rw c.cores-cores.ensures.cores at c.if-is_core_at.ensures) refl in
-    ap (λ (o : Option ℕ). unwrap_or o (length c.args.sys.now.cores)) (sym (stands_as names c.hint-hint.result c.args.name.now (first_distinct (core_names c.args.sys.now.cores) (part_names c.args.sys.now.parts) c.cores-cores.ensures.system.names) (let t = length-map c.args.sys.now.cores (λ (z : Core). z.name) in omega (arith, t, within)) name))
+    ap (λ (o : Option ℕ). unwrap_or o (length c.args.sys.now.cores)) (sym (stands_as names c.hint-hint.result c.args.name.now (distinct_front (core_names c.args.sys.now.cores) (part_names c.args.sys.now.parts) c.cores-cores.ensures.system.names) (let t = length-map c.args.sys.now.cores (λ (z : Core). z.name) in omega (arith, t, within)) name))

@@ -1,6 +1,6 @@
 use Rattle.trace_file.specs.File.{core_names, part_names}
-use Rattle.trace_file.proofs.Distinct.{last_distinct}
 use Rattle.release_file.proofs.release_rows.ReleaseRows.new.Goals as goal
+use Rattle.tree_model.proofs.Distinct.{distinct_back}
 
 pub part_places-requires : goal.part_places-requires
-part_places-requires c = rw (c.parts.ensures.parts) (last_distinct (core_names c.args.sys.now.cores) (part_names c.args.sys.now.parts) c.parts.ensures.system.names)
+part_places-requires c = rw (c.parts.ensures.parts) (distinct_back (core_names c.args.sys.now.cores) (part_names c.args.sys.now.parts) c.parts.ensures.system.names)

@@ -1,11 +1,11 @@
 use Rattle.std.proofs.Common.{◌∙◌, refl, ap}
+use Rattle.tree_model.proofs.Distinct.{distinct_back}
 use Rattle.trace_file.specs.File.{core_names, part_names}
-use Rattle.trace_file.proofs.Distinct.{last_distinct}
 use Rattle.release_file.proofs.WakesTaking.{none_behind}
 use Rattle.release_file.proofs.wake_rows.WakeRows.new.Goals as goal
 
 pub part_places-requires : goal.part_places-requires
-part_places-requires c = rw (c.parts.ensures.parts) (last_distinct (core_names c.args.sys.now.cores) (part_names c.args.sys.now.parts) c.parts.ensures.system.names)
+part_places-requires c = rw (c.parts.ensures.parts) (distinct_back (core_names c.args.sys.now.cores) (part_names c.args.sys.now.parts) c.parts.ensures.system.names)
 
 pub returns-clause-taken : goal.returns-clause-taken
 returns-clause-taken c =

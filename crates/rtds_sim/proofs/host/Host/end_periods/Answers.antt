@@ -1,6 +1,6 @@
 use Rattle.std.proofs.Common.{◌≡◌, ◌≢◌, ◌<◌, ◌≤◌, ◌+◌, ℕ, set, Bool, true, false, ◌&&◌, List, length, sym, ◌∙◌, ap, arith, inl, inr, if◌then◌else◌}
 use Rattle.std.specs.Prelude.{nat_eq}
-use Rattle.std.proofs.lemmas.Bool.{cases_eq, both_ways, and_parts, and_from}
+use Rattle.std.proofs.lemmas.Bool.{cases_eq, both_ways, and_parts, and_from, and_right}
 use Rattle.std.proofs.lemmas.Bool.Decides.{nat_tests}
 use Rattle.std.proofs.lemmas.List.{get_or-set_same}
 use Rattle.tree_model.specs.declared.place.Place.TheVariants.{Core}
@@ -57,7 +57,7 @@ loop-self-smaller c =
     let e : number_at c.renew.new.self.until u ≡ at = same_number (number_at c.renew.new.self.until u) at both.1 in
     and_from (child u) (nat_eq (number_at c.loop-self.self.until u) at) both.0 (number_same (number_at c.loop-self.self.until u) at (sym (there c u (other c u e)) ∙ e)))
     (within c)
-    (no_and (child (first_of c)) (nat_eq (number_at c.renew.new.self.until (first_of c)) at) (number_apart (number_at c.renew.new.self.until (first_of c)) at (λ e. omega (arith, e, here c, c.renew.ensures.begun.later))))
+    (and_right (child (first_of c)) (nat_eq (number_at c.renew.new.self.until (first_of c)) at) (number_apart (number_at c.renew.new.self.until (first_of c)) at (λ e. omega (arith, e, here c, c.renew.ensures.begun.later))))
     (and_from (child (first_of c)) (nat_eq (number_at c.loop-self.self.until (first_of c)) at) (on_core c) (number_same (number_at c.loop-self.self.until (first_of c)) at (ended c)))
   where
     same_number : (m n : ℕ) → nat_eq m n ≡ true → m ≡ n
@@ -68,10 +68,6 @@ loop-self-smaller c =
 
     number_apart : (m n : ℕ) → m ≢ n → nat_eq m n ≡ false
     number_apart m n ne = grind (arith, nat_tests)
-
-    no_and : (a b : Bool) → b ≡ false → (a && b) ≡ false
-    no_and true b e = e
-    no_and false b e = cc
 
 pub loop-self-preserved : goal.loop-self-preserved
 unfolding first_of

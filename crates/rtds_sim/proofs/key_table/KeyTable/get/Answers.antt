@@ -1,13 +1,9 @@
 use Rattle.std.proofs.Common.{ℕ, Bool, Some, None, get_or, sym, ◌∙◌, ap, if◌then◌else◌}
-use Rattle.rtds_sim.specs.declared.key.Key.{Key}
-use Rattle.rtds_sim.proofs.Tables.{in_table, key_here}
+use Rattle.rtds_sim.proofs.Tables.{in_table, key_here, key}
 use Rattle.rtds_sim.proofs.key_table.KeyTable.get.Goals as goal
 
 pub bounds-self-inside-v : goal.bounds-self-inside-v
 bounds-self-inside-v c = in_table _ _ _ _ c.args.v c.self.invariant c.self.view_is c.requires
-
-abbrev key : ℕ → ℕ → Key
-key level deadline = record { level = level; deadline = deadline }
 
 pub returns-then-self-v : goal.returns-then-self-v
 returns-then-self-v c =

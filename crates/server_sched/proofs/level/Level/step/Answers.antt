@@ -1,20 +1,14 @@
 use Rattle.std.specs.Vec.{with_item}
-use Rattle.std.proofs.Common.{◌≡◌, ℕ, ◌+◌, ◌-◌, ◌<◌, ◌≤◌, List, [], Some, None, length, map, set, get_or, refl, arith, ap, sym, ◌∙◌, subst, Vec, Global}
-use Rattle.std.proofs.lemmas.List.{get_or-map, map-set, get_or_read}
+use Rattle.std.proofs.Common.{◌≡◌, ℕ, ◌+◌, ◌-◌, ◌<◌, ◌≤◌, List, Some, None, length, set, refl, arith, ap, sym, subst, Vec, Global}
+use Rattle.std.proofs.lemmas.List.{map-set, get_or_read}
 use Rattle.guest_sched.specs.declared.spans.Window.{Window}
 use Rattle.guest_sched.specs.Spans.{AreWindows}
 use Rattle.guest_sched.specs.MoreWindows.{AddsWindow}
 use Rattle.server_sched.specs.declared.serving.Server.{Server}
-use Rattle.server_sched.specs.Shares.{share_at}
 use Rattle.server_sched.specs.Serving.{server_at, no_server, IsChosen}
 use Rattle.server_sched.proofs.Underway.{no_job, job_served}
 use Rattle.server_sched.proofs.level.Level.step.Goals as goal
-
-abbrev lists : List (Vec Window Global) → List (List Window)
-lists shares = map (λ (s : Vec Window Global). s.items) shares
-
-share_read : (shares : List (Vec Window Global)) (t : ℕ) (own : Vec Window Global) → t < length shares → own ≡ get_or shares t own → share_at (lists shares) t ≡ own.items
-share_read shares t own l r = get_or-map (λ (s : Vec Window Global). s.items) shares t own [] l ∙ ap (λ (s : Vec Window Global). s.items) (sym r)
+use Rattle.server_sched.proofs.Lists.{share_read}
 
 pub returns-in_ok-add_window-in-Some-clause-run : goal.returns-in_ok-add_window-in-Some-clause-run
 returns-in_ok-add_window-in-Some-clause-run c = λ sched T slots fits are l given h.
