@@ -7,13 +7,14 @@ use Rattle.slot_model.specs.Name.{is_name}
 use Rattle.slot_model.specs.declared.task.TheConstants.{LIMIT}
 use Rattle.toml.specs.Data.{Data, string, integer, float, boolean, datetime, array, table, get}
 use Rattle.tree_model.specs.System.{IsGivenBudget, IsCoreSupply}
+use Rattle.tree_model.specs.Lists.{fault_if}
 use Rattle.tree_model.proofs.Lists.{none_left, none_right}
 use Rattle.system_file.specs.declared.fault.Spot.{Spot}
 use Rattle.system_file.specs.declared.fault.Spot.TheVariants.{Top}
 use Rattle.system_file.specs.declared.fault.SystemFault.{SystemFault}
 use Rattle.system_file.specs.declared.fault.SystemFault.TheVariants.{BadName, NameTaken, Empty}
 use Rattle.system_file.specs.Document.{elements_of, array_of, number_of, given_number, is_named, supply_of}
-use Rattle.system_file.specs.Faults.{fault_if, required, optional, text_faults, new_name_faults, range_faults, below_faults, supply_faults, array_faults, core_array_faults, table_faults}
+use Rattle.system_file.specs.Faults.{required, optional, text_faults, new_name_faults, range_faults, below_faults, supply_faults, array_faults, core_array_faults, table_faults}
 use Rattle.system_file.specs.Written.{IsTableOf, IsWhole, IsArray, There, BothOrNeither}
 
 pub not_wrong : (b : Bool) (fault : SystemFault) → fault_if b fault ≡ [] → b ≡ false

@@ -10,12 +10,13 @@ use Rattle.slot_model.specs.Name.{is_name}
 use Rattle.slot_model.specs.declared.task.TheConstants.{LIMIT}
 use Rattle.toml.specs.Data.{Data, string, integer, float, boolean, datetime, array, table, get}
 use Rattle.tree_model.specs.System.{IsGivenBudget, IsCoreSupply, AreDistinct}
+use Rattle.tree_model.specs.Lists.{fault_if}
 use Rattle.tree_model.proofs.Lists.{length_map, none_both}
 use Rattle.system_file.specs.declared.fault.Spot.{Spot}
 use Rattle.system_file.specs.declared.fault.SystemFault.{SystemFault}
 use Rattle.system_file.specs.declared.fault.SystemFault.TheVariants.{BadName, NameTaken, TooMany}
 use Rattle.system_file.specs.Document.{elements_of, array_of, text_of, number_of, given_number, is_text, is_named, supply_of}
-use Rattle.system_file.specs.Faults.{fault_if, required, optional, text_faults, new_name_faults, name_faults, sched_faults, range_faults, below_faults, flag_faults, array_faults, supply_faults, table_faults}
+use Rattle.system_file.specs.Faults.{required, optional, text_faults, new_name_faults, name_faults, sched_faults, range_faults, below_faults, flag_faults, array_faults, supply_faults, table_faults}
 use Rattle.system_file.specs.Written.{IsTableOf, IsNameText, IsSchedText, IsWhole, IsFlag, IsArray, There, MayBe, BothOrNeither}
 
 -- a number that is not 0

@@ -1,6 +1,7 @@
 -- Tests along a list, and the first place that passes.
 use Rattle.std.proofs.Common.{◌≡◌, ℕ, ◌<◌, suc, zero, Bool, true, false, cond, ◌||◌, List, [], ◌∷◌, ◌++◌, length, take, get_or, Option, Some, None, option_map, refl, sym, ap, subst, ◌∙◌, arith, append_assoc}
 use Rattle.std.proofs.lemmas.List.{append-nil}
+use Rattle.std.proofs.lemmas.Bool.{or_parts}
 use Rattle.std.specs.Prelude.{position}
 use Rattle.std.specs.List.{list_any}
 use Rattle.toml.specs.Data.{Data}
@@ -16,24 +17,16 @@ cons_false p x xs o px e = position_cons p x xs ∙ ap (λ b. cond b (Some 0) (o
 cons_true : {A : Type 0} (p : A → Bool) (x : A) (xs : List A) → p x ≡ true → position p (x ∷ xs) ≡ Some 0
 cons_true p x xs px = position_cons p x xs ∙ ap (λ b. cond b (Some 0) (option_map suc (position p xs))) px
 
-pub neither_left : (a b : Bool) → (a || b) ≡ false → a ≡ false
-neither_left true b h = h
-neither_left false b h = refl
-
-pub neither_right : (a b : Bool) → (a || b) ≡ false → b ≡ false
-neither_right true b h = cc
-neither_right false b h = h
-
 -- nothing passes, so there is no place
 pub position_none : {A : Type 0} (p : A → Bool) (xs : List A) → list_any p xs ≡ false → position p xs ≡ None
 position_none p [] h = refl
-position_none p (x ∷ xs) h = cons_false p x xs None (neither_left (p x) _ h) (position_none p xs (neither_right (p x) _ h))
+position_none p (x ∷ xs) h = cons_false p x xs None (or_parts (p x) _ h).0 (position_none p xs (or_parts (p x) _ h).1)
 
 -- the first that passes
 pub position_first : {A : Type 0} (p : A → Bool) (xs : List A) (q : ℕ) (e : A) → q < length xs → p (get_or xs q e) ≡ true → list_any p (take q xs) ≡ false → position p xs ≡ Some q
 position_first p [] q e h here before = absurd (omega arith)
 position_first p (x ∷ xs) zero e h here before = cons_true p x xs here
-position_first p (x ∷ xs) (suc q) e h here before = cons_false p x xs (Some q) (neither_left (p x) _ before) (position_first p xs q e (omega arith) here (neither_right (p x) _ before))
+position_first p (x ∷ xs) (suc q) e h here before = cons_false p x xs (Some q) (or_parts (p x) _ before).0 (position_first p xs q e (omega arith) here (or_parts (p x) _ before).1)
 
 holds_step : {A : Type 0} (p : A → Bool) (x : A) (xs : List A) (e : A) (r : ℕ) (b : Bool) → p x ≡ b → (o : Option ℕ) → ((k : ℕ) → o ≡ Some k → p (get_or xs k e) ≡ true) → cond b (Some 0) (option_map suc o) ≡ Some r → p (get_or (x ∷ xs) r e) ≡ true
 holds_step p x xs e r true px o ih h = let z : 0 ≡ r = cc in subst (λ (k : ℕ). p (get_or (x ∷ xs) k e) ≡ true) z px

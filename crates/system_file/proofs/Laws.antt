@@ -14,6 +14,7 @@ use Rattle.tree_model.specs.declared.place.Parent.{Parent}
 use Rattle.tree_model.specs.declared.place.Parent.TheVariants.{Core as on_core, Part as on_part}
 use Rattle.tree_model.specs.View.{NamedTask, PartView, SystemView}
 use Rattle.tree_model.specs.System.{IsSystem, IsPart, IsCoreSupply, Stands, AreDistinct, is_leaf, own_tasks}
+use Rattle.tree_model.specs.Lists.{first_fault_or}
 use Rattle.tree_model.proofs.Lists.{length_map, none_both}
 use Rattle.system_file.specs.declared.format.Format.{Format}
 use Rattle.system_file.specs.declared.fault.Spot.{Spot}
@@ -22,7 +23,7 @@ use Rattle.system_file.specs.declared.fault.SystemFault.{SystemFault}
 use Rattle.system_file.specs.declared.fault.SystemFault.TheVariants.{Empty, OutOfRange, TooMany, NoMemory}
 use Rattle.system_file.specs.Document.{format_of, elements_of, array_of, text_of, number_of, is_text, is_named, core_or_part, parent_named, parent_at, cores_of, parts_of, tasks_of, deadline_of, spelled_core, spelled_task, spelled_part, spelled_system}
 use Rattle.system_file.specs.Faults.{required, optional, format_faults, text_faults, parent_faults, is_parent_faults, core_array_faults, array_faults, top_faults, top_keys, in_order, core_faults, core_keys, core_key_faults, task_faults, task_keys, task_key_faults, part_faults, part_keys, part_key_faults, empty_faults, has_tasks, is_parent, faults}
-use Rattle.system_file.specs.SystemFile.{system_of, system_of_document, document_of, first_fault_or}
+use Rattle.system_file.specs.SystemFile.{system_of, system_of_document, document_of}
 use Rattle.system_file.specs.Written.{IsNameText, IsParentText, IsArray, There, element, IsWrittenTask, IsWrittenCore, IsWrittenPart, IsWritten, Spells}
 use Rattle.std.proofs.lemmas.Slice.Eq.{bytes_eq-Decides}
 use Rattle.std.proofs.lemmas.Bool.{le-ltb}

@@ -1,6 +1,6 @@
 -- Cores and parts without faults: their names, and their parents by name and by place.
 use Rattle.std.proofs.Common.{◌≡◌, ℕ, ◌+◌, ◌-◌, ◌<◌, ◌≤◌, ◌==◌, suc, zero, Bool, true, false, ◌||◌, nat_lt, List, [], ◌∷◌, ◌++◌, length, take, drop, get_or, Option, Some, None, refl, sym, ap, subst, ◌∙◌, codes, arith, bytes_eq, length-take-le, length-append, unwrap_or}
-use Rattle.std.proofs.lemmas.Bool.{false≢true}
+use Rattle.std.proofs.lemmas.Bool.{false≢true, or_parts}
 use Rattle.std.proofs.lemmas.Bool.Decides.{nat_tests}
 use Rattle.std.proofs.lemmas.List.{get_or-take, get_or-append-add, take-append-le, take-append-drop}
 use Rattle.std.proofs.lemmas.List.Folds.{list_any-append}
@@ -17,7 +17,7 @@ use Rattle.system_file.specs.Document.{text_of, is_text, is_named, core_or_part,
 use Rattle.system_file.specs.Faults.{in_order, core_faults, part_faults, has_tasks}
 use Rattle.system_file.specs.Reading.{is_on}
 use Rattle.system_file.proofs.Places.{parent_kept, position_within}
-use Rattle.system_file.proofs.Found.{neither_left, neither_right, position_none, position_first, position_holds}
+use Rattle.system_file.proofs.Found.{position_none, position_first, position_holds}
 use Rattle.system_file.proofs.Faultless.{NewName}
 use Rattle.system_file.proofs.Rules.{each, core_name, part_name, ParentThere, part_parent}
 
@@ -113,9 +113,9 @@ module _ (format : Format) (cores parts : List Data) (no_core : in_order core_fa
       let there = parent_there r hr in
       let split : (list_any (is_named new.name) cores || list_any (is_named new.name) (take q parts)) ≡ false = sym (list_any-append (is_named new.name) cores (take q parts)) ∙ new.new in
       let first : position (is_named new.name) parts ≡ Some q =
-      position_first (is_named new.name) parts q (boolean false) hq (ap (is_text new.name) new.is ∙ (bytes_eq-Decides new.name new.name).1 refl) (neither_right _ _ split) in
+      position_first (is_named new.name) parts q (boolean false) hq (ap (is_text new.name) new.is ∙ (bytes_eq-Decides new.name new.name).1 refl) (or_parts _ _ split).1 in
       let named : parent_named cores parts new.name ≡ Some (on_part q) =
-      ap (λ a. core_or_part a (position (is_named new.name) parts)) (position_none (is_named new.name) cores (neither_left _ _ split)) ∙ ap (core_or_part None) first in
+      ap (λ a. core_or_part a (position (is_named new.name) parts)) (position_none (is_named new.name) cores (or_parts _ _ split).0) ∙ ap (core_or_part None) first in
       let found : Some there.parent ≡ Some (on_part q) = sym (parent_found r hr) ∙ ap (parent_named cores parts) (sym ((bytes_eq-Decides new.name there.text).0 e)) ∙ named in
       ap (is_on q) (same_Some there.parent (on_part q) found) ∙ itself q
 

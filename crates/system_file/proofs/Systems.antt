@@ -7,14 +7,14 @@ use Rattle.tree_model.specs.declared.place.Parent.{Parent}
 use Rattle.tree_model.specs.declared.place.Parent.TheVariants.{Core as on_core, Part as on_part}
 use Rattle.tree_model.specs.View.{PartView, SystemView}
 use Rattle.tree_model.specs.System.{IsSystem, IsPart, IsCoreSupply, Stands, IsChildOf, AreDistinct, node_names, is_leaf}
-use Rattle.tree_model.specs.Lists.{first_of}
+use Rattle.tree_model.specs.Lists.{first_of, fault_if}
 use Rattle.tree_model.proofs.Lists.{length_map, list_any_map, first_here, first_later, none_both, none_left, none_right}
 use Rattle.system_file.specs.declared.format.Format.{Format}
 use Rattle.system_file.specs.declared.fault.Spot.TheVariants.{Top, Part}
 use Rattle.system_file.specs.declared.fault.SystemFault.{SystemFault}
 use Rattle.system_file.specs.declared.fault.SystemFault.TheVariants.{Empty}
 use Rattle.system_file.specs.Document.{format_of, text_of, is_text, cores_of, parts_of, tasks_of, parent_at, spelled_core, spelled_part, spelled_system}
-use Rattle.system_file.specs.Faults.{fault_if, required, optional, format_faults, core_array_faults, array_faults, top_faults, top_keys, in_order, core_faults, part_faults, empty_faults, has_tasks, is_parent, faults}
+use Rattle.system_file.specs.Faults.{required, optional, format_faults, core_array_faults, array_faults, top_faults, top_keys, in_order, core_faults, part_faults, empty_faults, has_tasks, is_parent, faults}
 use Rattle.system_file.specs.Reading.{is_on, has_child, is_empty_part, part_in, ParentsAmong}
 use Rattle.system_file.proofs.Places.{leaf_tasks}
 use Rattle.system_file.proofs.Found.{list_any_same, any_at, none_in_order, first_in_order}

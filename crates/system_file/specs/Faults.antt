@@ -9,6 +9,7 @@ use Rattle.slot_model.specs.declared.task.TheConstants.{LIMIT}
 use Rattle.toml.specs.Data.{Data, string, integer, boolean, array, table, Members, no_members, member, get}
 use Rattle.tree_model.specs.declared.place.Parent.{Parent}
 use Rattle.tree_model.specs.declared.place.Parent.TheVariants.{Core as on_core, Part as on_part}
+use Rattle.tree_model.specs.Lists.{fault_if}
 use Rattle.system_file.specs.declared.format.Format.{Format}
 use Rattle.system_file.specs.declared.format.Format.TheVariants.{One, Two}
 use Rattle.system_file.specs.declared.fault.Spot.{Spot}
@@ -16,11 +17,6 @@ use Rattle.system_file.specs.declared.fault.Spot.TheVariants.{Top, Core, Part, T
 use Rattle.system_file.specs.declared.fault.SystemFault.{SystemFault}
 use Rattle.system_file.specs.declared.fault.SystemFault.TheVariants.{MissingKey, WrongKind, UnknownKey, BadName, NameTaken, OutOfRange, NoSuchParent, Mixed, Empty, TooMany}
 use Rattle.system_file.specs.Document.{elements_of, number_of, text_of, format_numbered, format_of, sched_named, is_text, is_named, parent_named, cores_of, parts_of, tasks_of, deadline_of, spelled_task}
-
--- a fault where something is wrong
-abbrev pub fault_if : Bool → SystemFault → List SystemFault
-fault_if true fault = fault ∷ []
-fault_if false fault = []
 
 -- A key that has to be there, and one that may be left out.
 abbrev pub required : Spot → (Data → List SystemFault) → Option Data → List SystemFault

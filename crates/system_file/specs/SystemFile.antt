@@ -1,10 +1,11 @@
 -- The system of a file's bytes, or the first fault of its document, and the format of a file.
-use Rattle.std.specs.Prelude.{ℕ, ◌==◌, Bool, not, List, [], ◌∷◌, if◌then◌else◌, Option, Some, None, option_map, Result, Ok, Err}
+use Rattle.std.specs.Prelude.{ℕ, ◌==◌, Bool, not, List, if◌then◌else◌, Option, Some, None, option_map, Result, Err}
 use Rattle.std.specs.List.{list_any}
 use Rattle.std.specs.Str.{is_utf8}
 use Rattle.toml.specs.Data.{table, Members}
 use Rattle.toml.specs.Parse.{parse_document}
 use Rattle.tree_model.specs.View.{NamedTask, PartView, SystemView}
+use Rattle.tree_model.specs.Lists.{first_fault_or}
 use Rattle.system_file.specs.declared.format.Format.{Format}
 use Rattle.system_file.specs.declared.format.Format.TheVariants.{One, Two}
 use Rattle.system_file.specs.declared.fault.SystemFault.{SystemFault}
@@ -15,11 +16,6 @@ use Rattle.system_file.specs.Faults.{faults}
 -- the document of the bytes, which have to be text
 abbrev pub document_of : List ℕ → Option Members
 document_of bytes = if is_utf8 bytes then parse_document bytes else None
-
--- the first fault decides, and without one the system that is spelled
-abbrev pub first_fault_or : SystemView → List SystemFault → Result SystemView SystemFault
-first_fault_or sys [] = Ok sys
-first_fault_or sys (fault ∷ later) = Err fault
 
 abbrev pub system_of_document : Option Members → Result SystemView SystemFault
 system_of_document None = Err NotToml

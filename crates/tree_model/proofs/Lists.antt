@@ -1,9 +1,10 @@
 -- Lists that are seen through a map, and lists that are put together from several.
 use Rattle.std.proofs.lemmas.List.{length-map}
-use Rattle.std.proofs.Common.{◌≡◌, ℕ, ◌+◌, Bool, not, cond, ◌||◌, List, [], ◌∷◌, ◌++◌, map, length, Some, refl, ap}
+use Rattle.std.proofs.lemmas.Option.{none-some, same_Some}
+use Rattle.std.proofs.Common.{◌≡◌, ℕ, ◌+◌, Bool, not, cond, ◌||◌, List, [], ◌∷◌, ◌++◌, map, length, Some, refl, ap, Err}
 use Rattle.std.specs.Prelude.{position}
 use Rattle.std.specs.List.{list_any, prefix_len}
-use Rattle.tree_model.specs.Lists.{first_of}
+use Rattle.tree_model.specs.Lists.{first_of, first_fault_or}
 
 -- a test of the images of a list
 pub list_any_map : {A B : Type 0} (p : B → Bool) (f : A → B) (xs : List A) → list_any p (map f xs) ≡ list_any (λ x. p (f x)) xs
@@ -42,3 +43,8 @@ none_left (x ∷ a) b h = cc
 pub none_right : {A : Type 0} (a b : List A) → a ++ b ≡ [] → b ≡ []
 none_right [] b h = h
 none_right (x ∷ a) b h = cc
+
+-- the first fault decides
+pub first_decides : {Value Fault : Type 0} (value : Value) (found : List Fault) (fault : Fault) → first_of found ≡ Some fault → first_fault_or value found ≡ Err fault
+first_decides value [] fault h = absurd (none-some fault h)
+first_decides value (x ∷ found) fault h = ap Err (same_Some x fault h)

@@ -1,8 +1,8 @@
 use Rattle.std.proofs.Common.{◌-◌, ◌++◌, get_or, Some, None, sym, ap, ◌∙◌, arith}
-use Rattle.tree_model.specs.Lists.{first_of}
+use Rattle.tree_model.specs.Lists.{first_of, fault_if}
 use Rattle.system_file.specs.declared.fault.SystemFault.TheVariants.{Mixed}
 use Rattle.system_file.specs.Document.{is_named}
-use Rattle.system_file.specs.Faults.{is_parent_faults, fault_if}
+use Rattle.system_file.specs.Faults.{is_parent_faults}
 use Rattle.system_file.proofs.Places.{looked_up, core_found, part_found, none_found, position_within, leaf_at, as_many}
 use Rattle.system_file.proofs.parts.parent_of.Goals as goal
 
