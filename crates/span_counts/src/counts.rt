@@ -6,7 +6,7 @@ ghost use Rattle.guest_sched.specs.Spans.{AreWindows, AreSpans, slots_of, run_of
 ghost use Rattle.span_counts.specs.Counts.{AreCounts, AreServices, is_early};
 
 use guest_sched::{Span, Window};
-use slot_model::{Job, Miss, Task, deadline_moment};
+use slot_model::{Job, Miss, Task, deadline_moment, earlier_miss};
 use std::alloc::{AllocError, Global};
 
 /// What is counted of a level's run: the slots that it is given, its jobs that are released before
@@ -182,21 +182,10 @@ fn find_missed(tasks: &[Task], jobs: &[Job], spans: &[Span], got: &[u64]) -> Mis
     for place in 0..jobs.len() {
         if let Some(miss) = find_miss(tasks, jobs, spans, got, place) {
             count += 1;
-            first = Some(earlier(first, miss));
+            first = Some(earlier_miss(first, miss));
         }
     }
     Missed { count, first }
-}
-
-// The miss that is there already stays where the moments are equal.
-fn earlier(first: Option<Miss>, miss: Miss) -> Miss
-    ensures { MatchOption first (result ≡ miss) (λ old. (old.deadline ≤ miss.deadline →
-        result ≡ old) × (miss.deadline < old.deadline → result ≡ miss)) }
-{
-    match first {
-        Some(old) if old.deadline <= miss.deadline => old,
-        _ => miss,
-    }
 }
 
 // None exactly where the job at `place` does not miss.

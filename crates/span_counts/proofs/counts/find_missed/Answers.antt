@@ -26,7 +26,7 @@ loop-place-preserved c =
           record {
             counted = omega (arith, w.count-is, more, h.counted);
             few = omega (arith, w.count-is, h.few);
-            first = subst (FirstMissTo T c.args.jobs.now run (n + 1)) (sym w.first-is) (one_misses T c.args.jobs.now run n c.loop-place.first w.in-Some.miss w.earlier.result h.first w.in-Some.ensures.0 w.in-Some.ensures.1 w.earlier.ensures);
+            first = subst (FirstMissTo T c.args.jobs.now run (n + 1)) (sym w.first-is) (one_misses T c.args.jobs.now run n c.loop-place.first w.in-Some.miss w.earlier_miss.result h.first w.in-Some.ensures.0 w.in-Some.ensures.1 w.earlier_miss.ensures);
           }
       | in_default w ↦
           let same : count_below missed (n + 1) ≡ count_below missed n = count_below-fails missed n w.in_default.ensures in
