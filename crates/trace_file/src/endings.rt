@@ -20,12 +20,11 @@ pub struct Ending {
 }
 
 impl Ending {
-    ghost use Rattle.std.specs.Prelude.{◌≡◌, true};
+    ghost use Rattle.std.specs.Prelude.{◌≡◌, ◌↔◌, IsTrue};
 
     /// Whether it is that of this event.
     fn is_of(&self, core: u32, what: What) -> bool
-        ensures core { result ≡ true → self.now.core ≡ core }
-        ensures what { result ≡ true → self.now.what ≡ what }
+        ensures { IsTrue result ↔ (self.now.core ≡ core) × (self.now.what ≡ what) }
     {
         self.core == core && self.what == what
     }
