@@ -12,7 +12,7 @@ use Rattle.slot_model.specs.Task.{task_at}
 use Rattle.slot_model.specs.declared.task.TheConstants.{LIMIT}
 use Rattle.tree_model.specs.declared.pinned_core.Core.{Core as CoreView}
 use Rattle.tree_model.specs.View.{NamedTask, PartView}
-use Rattle.tree_model.specs.System.{core_at, part_at, no_core, no_part, is_leaf, is_leaf_at, AreDistinct, node_names, Stands, IsCoreSupply, IsPart, IsSystem}
+use Rattle.tree_model.specs.System.{core_at, part_at, core_names, part_names, no_core, no_part, is_leaf, is_leaf_at, AreDistinct, node_names, Stands, IsCoreSupply, IsPart, IsSystem}
 use Rattle.bulk_host.specs.Host.{guest_period, guest_tasks, guest_at, host_core, cores_for, bulk_host}
 use Rattle.bulk_host.proofs.LeafBudgets.{tasks_of, constrained_of}
 
@@ -62,15 +62,15 @@ guests-many n = length-map-range_with_len guest_at 0 n
 
 name_of_core : (n i : ℕ) (d : List ℕ) → i < cores_for n → get_or (node_names (bulk_host n)) i d ≡ codes "c" ++ decimal i
 name_of_core n i d l =
-    let cs : List (List ℕ) = map (λ (c : CoreView). c.name) (bulk_host n).cores in
-    let ps : List (List ℕ) = map (λ (p : PartView). p.name) (bulk_host n).parts in
+    let cs : List (List ℕ) = core_names (bulk_host n).cores in
+    let ps : List (List ℕ) = part_names (bulk_host n).parts in
     get_or_append_left cs ps d i (omega (arith, length-map (bulk_host n).cores (λ (c : CoreView). c.name), cores-many n))
     ∙ (get_or-map (λ (c : CoreView). c.name) (bulk_host n).cores i no_core d (omega (arith, cores-many n)) ∙ ap (λ (c : CoreView). c.name) (core_here n i l))
 
 name_of_guest : (n i : ℕ) (d : List ℕ) → cores_for n ≤ i → i < cores_for n + n → get_or (node_names (bulk_host n)) i d ≡ codes "g" ++ decimal (i - cores_for n)
 name_of_guest n i d l m =
-    let cs : List (List ℕ) = map (λ (c : CoreView). c.name) (bulk_host n).cores in
-    let ps : List (List ℕ) = map (λ (p : PartView). p.name) (bulk_host n).parts in
+    let cs : List (List ℕ) = core_names (bulk_host n).cores in
+    let ps : List (List ℕ) = part_names (bulk_host n).parts in
     let long : length cs ≡ cores_for n = length-map (bulk_host n).cores (λ (c : CoreView). c.name) ∙ cores-many n in
     get_or-append_right cs ps (length cs) i d refl (omega (arith, long))
     ∙ (get_or-map (λ (p : PartView). p.name) (bulk_host n).parts (i - length cs) no_part d (omega (arith, long, guests-many n))
@@ -87,8 +87,8 @@ heads_differ xs ys e = omega (arith, first_same 99 103 xs ys e)
 
 distinct : (n : ℕ) → n ≤ 256 → AreDistinct (node_names (bulk_host n))
 distinct n few i j d l h e =
-    let cs : List (List ℕ) = map (λ (c : CoreView). c.name) (bulk_host n).cores in
-    let ps : List (List ℕ) = map (λ (p : PartView). p.name) (bulk_host n).parts in
+    let cs : List (List ℕ) = core_names (bulk_host n).cores in
+    let ps : List (List ℕ) = part_names (bulk_host n).parts in
     let long : j < cores_for n + n = omega (arith, h, length-append cs ps, length-map (bulk_host n).cores (λ (c : CoreView). c.name), cores-many n, length-map (bulk_host n).parts (λ (p : PartView). p.name), guests-many n) in
     elim (cases_lt j (cores_for n)) [
       | inl core ↦

@@ -1,6 +1,7 @@
 -- Worked rows, on which the rules are computed: A with the tasks t1, of 7 slots in 50 with a jitter
 -- of 5, and t2, of 9 slots in 75; and B, without tasks, on which C stands.
 use Rattle.std.proofs.Common.{◌≡◌, ◌≢◌, ℕ, zero, suc, ◌+◌, ◌<◌, ◌≤◌, true, false, Some, None, List, [], ◌∷◌, codes, refl, arith, lit<, lit≤}
+use Rattle.csv_rows.specs.Last.{last_below}
 use Rattle.slot_model.specs.declared.task.TheConstants.{LIMIT}
 use Rattle.slot_model.specs.declared.sched.Sched.TheVariants.{Edf}
 use Rattle.slot_model.specs.Task.{early_job, jittery_task, plain_task}
@@ -46,30 +47,30 @@ they_spell : wakes_of host (a_starts ∷ a_blocks ∷ a_wakes 53 ∷ []) ≡ rec
 they_spell = refl
 
 a_wake_behind_a_block : wake_rules host (a_starts ∷ a_blocks ∷ []) (a_wakes 53) ≡ None
-unfolding last_row
+unfolding last_below
 a_wake_behind_a_block = refl
 
 a_second_row_at_a_slot : wake_rules host (a_starts ∷ a_blocks ∷ []) (a_wakes 51) ≡ Some (BadOrder 4)
-unfolding last_row
+unfolding last_below
 a_second_row_at_a_slot = refl
 
 a_wake_of_one_that_runs : wake_rules host (a_starts ∷ []) (a_wakes 51) ≡ Some (BadOrder 3)
-unfolding last_row
+unfolding last_below
 a_wake_of_one_that_runs = refl
 
 a_block_of_one_that_is_blocked : wake_rules host (a_starts ∷ a_blocks ∷ []) (codes "4" ∷ codes "A" ∷ codes "block" ∷ []) ≡ Some (BadOrder 4)
-unfolding last_row
+unfolding last_below
 a_block_of_one_that_is_blocked = refl
 
 a_start_of_one_that_is_blocked : wake_rules host (a_starts ∷ a_blocks ∷ []) (codes "4" ∷ codes "A" ∷ codes "start" ∷ []) ≡ Some (BadOrder 4)
-unfolding last_row
+unfolding last_below
 a_start_of_one_that_is_blocked = refl
 
 a_start_past_the_longest_period : wake_rules host [] (codes "1000000001" ∷ codes "A" ∷ codes "start" ∷ []) ≡ Some (OutOfRange 2)
 a_start_past_the_longest_period = refl
 
 a_wake_before_the_start : wake_rules host [] (a_wakes 48) ≡ Some (BadOrder 2)
-unfolding last_row
+unfolding last_below
 a_wake_before_the_start = refl
 
 an_inner_parts_child_is_no_vcpu : wake_rules host [] (codes "0" ∷ codes "C" ∷ codes "start" ∷ []) ≡ Some (Unknown 2)
@@ -100,7 +101,7 @@ abbrev start_and_block : List Wake
 start_and_block = wake 0 0 Start ∷ wake 3 0 Block ∷ []
 
 a_start_and_a_block_are_a_workload : IsWorkload host start_and_block
-unfolding last_row
+unfolding last_below
 a_start_and_a_block_are_a_workload = record {
   in_limit = two (λ i. (row_at start_and_block i).at ≤ LIMIT) (lit≤ tt) (lit≤ tt);
   in_order = in_order;
@@ -128,7 +129,7 @@ a_child_of_a_part_is_no_vcpu_of_one : IsWorkload host (wake 0 2 Start ∷ []) �
 a_child_of_a_part_is_no_vcpu_of_one is = let known : false ≡ true = is.known 0 (lit< tt) in cc
 
 a_wake_without_a_start_is_none : IsWorkload host (wake 0 0 ToWake ∷ []) → ⊥
-unfolding last_row
+unfolding last_below
 a_wake_without_a_start_is_none is = let turn : false ≡ true = is.in_turn 0 (lit< tt) in cc
 
 a_row_past_the_longest_period_is_none : IsWorkload host (wake 1000000001 0 Start ∷ []) → ⊥
@@ -139,15 +140,15 @@ abbrev four_rows : List Wake
 four_rows = wake 1 0 Start ∷ wake 3 0 Block ∷ wake 5 0 ToWake ∷ wake 5 1 Start ∷ []
 
 from_its_start_on_a_vcpu_is_started : (is_started_at four_rows 0 0 ≡ false) × (is_started_at four_rows 0 1 ≡ true) × (is_started_at four_rows 1 4 ≡ false) × (is_started_at four_rows 1 5 ≡ true)
-unfolding last_row
+unfolding last_below
 from_its_start_on_a_vcpu_is_started = (refl, refl, refl, refl)
 
 from_its_block_up_to_its_wake_it_is_blocked : (is_blocked_at four_rows 0 2 ≡ false) × (is_blocked_at four_rows 0 3 ≡ true) × (is_blocked_at four_rows 0 4 ≡ true) × (is_blocked_at four_rows 0 5 ≡ false)
-unfolding last_row
+unfolding last_below
 from_its_block_up_to_its_wake_it_is_blocked = (refl, refl, refl, refl)
 
 its_start_is_told_with_its_slot : (is_started four_rows 0 ≡ true) × (is_started four_rows 2 ≡ false) × (start_of four_rows 0 ≡ 1) × (start_of four_rows 1 ≡ 5)
-unfolding last_row
+unfolding last_below
 its_start_is_told_with_its_slot = (refl, refl, refl, refl)
 
 -- rows of releases

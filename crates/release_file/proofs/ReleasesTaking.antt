@@ -14,9 +14,9 @@ use Rattle.csv_rows.specs.Decimal.{number}
 use Rattle.csv_rows.specs.Rules.{row_of, fault_if, RowsKeep, IsFirstFault}
 use Rattle.csv_rows.proofs.Keeping.{length_more, fault_skipped}
 use Rattle.tree_model.specs.View.{NamedTask, PartView, SystemView}
-use Rattle.tree_model.specs.System.{IsPart, is_leaf, own_tasks, own_tasks_at, part_at}
+use Rattle.tree_model.specs.System.{IsPart, is_leaf, own_tasks, own_tasks_at, part_at, part_names}
 use Rattle.tree_model.specs.Releases.{AreReleases, jobs_at}
-use Rattle.trace_file.specs.File.{part_names, part_place}
+use Rattle.trace_file.specs.File.{part_place}
 use Rattle.release_file.specs.declared.fault.ReleaseFault.{ReleaseFault}
 use Rattle.release_file.specs.declared.fault.ReleaseFault.TheVariants.{BadRow, OutOfRange, BadOrder}
 use Rattle.release_file.specs.declared.leaf_rows.LeafRows.{LeafRows}

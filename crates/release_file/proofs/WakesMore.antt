@@ -1,14 +1,15 @@
 -- A workload, one row later.
-use Rattle.std.proofs.Common.{◌≡◌, ◌≢◌, ℕ, zero, suc, ◌+◌, ◌<◌, ◌≤◌, nat_lt, Bool, true, false, not, cond, eqb, List, [], ◌∷◌, ◌++◌, length, set, Option, Some, None, sym, ◌∙◌, ap, subst, arith, inl, inr, below_more}
+use Rattle.std.proofs.Common.{◌≡◌, ◌≢◌, ℕ, zero, suc, ◌+◌, ◌<◌, ◌≤◌, nat_lt, Bool, true, false, not, cond, eqb, List, [], ◌∷◌, ◌++◌, length, set, Option, Some, None, refl, sym, ◌∙◌, ap, subst, arith, inl, inr, below_more}
 use Rattle.std.specs.Prelude.{is_some}
 use Rattle.std.proofs.lemmas.Bool.{cases_Bool, cases_eq, and_left, and_right, and_from, eq-eqb, ne_eqb, both_ways, ltb-false, not-false}
-use Rattle.std.proofs.lemmas.List.{get_or_append_left, get_or-set_same, get_or-set_other, length-set}
+use Rattle.std.proofs.lemmas.List.{get_or_append_left, length-set}
 use Rattle.std.proofs.Math.Seq.{get_or-append_seam}
 use Rattle.slot_model.specs.declared.task.TheConstants.{LIMIT}
 use Rattle.csv_rows.specs.Rules.{row_of, fault_if}
 use Rattle.csv_rows.proofs.Keeping.{length_more, fault_none}
 use Rattle.tree_model.specs.View.{SystemView}
 use Rattle.tree_model.specs.System.{IsSystem}
+use Rattle.tree_model.proofs.Lists.{put_says}
 use Rattle.trace_file.specs.Rules.{is_vcpu}
 use Rattle.trace_file.proofs.Known.{vcpu_part}
 use Rattle.release_file.specs.declared.fault.ReleaseFault.TheVariants.{Unknown, OutOfRange, BadOrder}
@@ -18,7 +19,8 @@ use Rattle.release_file.specs.declared.wake_rows.WakeRows.{WakeRows}
 use Rattle.release_file.specs.Workload.{row_at, last_row, is_of, may_follow, IsWorkload}
 use Rattle.release_file.specs.WorkloadFile.{slot_before, is_at, has_row_at, turn_fault, wake_fault}
 use Rattle.release_file.specs.WakesTaken.{last_at, stands_at, IsBehind}
-use Rattle.release_file.proofs.Rows.{last_row-zero, last_row-yes, last_row-no, row_step, some_row, no_row, ordered}
+use Rattle.csv_rows.proofs.Last.{same_rows, last_below-no, last_below-suc, last_below-yes, last_below-zero, none_below, some_row}
+use Rattle.release_file.proofs.Rows.{ordered}
 
 row_same : (ws more : List Wake) (i : ℕ) → i < length ws → row_at (ws ++ more) i ≡ row_at ws i
 row_same ws more i l = get_or_append_left ws more (record { at = 0; vcpu = 0; what = Start }) i l
@@ -27,18 +29,13 @@ row_last : (ws : List Wake) (w : Wake) → row_at (ws ++ w ∷ []) (length ws) �
 row_last ws w = get_or-append_seam ws w [] (record { at = 0; vcpu = 0; what = Start })
 
 last_row_same : (p : Wake → Bool) (ws more : List Wake) (n : ℕ) → n ≤ length ws → last_row p (ws ++ more) n ≡ last_row p ws n
-last_row_same p ws more zero l = last_row-zero p (ws ++ more) ∙ sym (last_row-zero p ws)
-last_row_same p ws more (suc n) l =
-    row_step p (ws ++ more) n
-    ∙ (ap (λ (r : Wake). cond (p r) (Some r) (last_row p (ws ++ more) n)) (row_same ws more n (omega (arith, l)))
-    ∙ (ap (λ (o : Option Wake). cond (p (row_at ws n)) (Some (row_at ws n)) o) (last_row_same p ws more n (omega (arith, l)))
-    ∙ sym (row_step p ws n)))
+last_row_same p ws more n l = same_rows p (row_at (ws ++ more)) (row_at ws) n (λ i m. row_same ws more i (omega (arith, m, l)))
 
 -- the last row that passes, one row later
 last_row_more : (p : Wake → Bool) (ws : List Wake) (w : Wake) → last_row p (ws ++ w ∷ []) (length (ws ++ w ∷ [])) ≡ cond (p w) (Some w) (last_row p ws (length ws))
 last_row_more p ws w =
     ap (last_row p (ws ++ w ∷ [])) (length_more ws w)
-    ∙ (row_step p (ws ++ w ∷ []) (length ws)
+    ∙ (last_below-suc p (row_at (ws ++ w ∷ [])) (length ws)
     ∙ (ap (λ (r : Wake). cond (p r) (Some r) (last_row p (ws ++ w ∷ []) (length ws))) (row_last ws w)
     ∙ ap (λ (o : Option Wake). cond (p w) (Some w) o) (last_row_same p ws (w ∷ []) (length ws) (omega arith))))
 
@@ -49,18 +46,18 @@ by_last sys ws w x (suc n) l by i m = omega (arith, by, ordered sys ws w i n (om
 
 -- of rows that are not past slot x, a VCPU has one at x where its last one is
 pub has_row_stands : (sys : SystemView) (ws : List Wake) → IsWorkload sys ws → (v x n : ℕ) → n ≤ length ws → ((i : ℕ) → i < n → (row_at ws i).at ≤ x) → has_row_at ws n v x ≡ stands_at (last_row (is_of v) ws n) x
-has_row_stands sys ws w v x zero l by = ap is_some (last_row-zero (is_at v x) ws) ∙ sym (ap (λ (o : Option Wake). stands_at o x) (last_row-zero (is_of v) ws))
+has_row_stands sys ws w v x zero l by = ap is_some (last_below-zero (is_at v x) (row_at ws)) ∙ sym (ap (λ (o : Option Wake). stands_at o x) (last_below-zero (is_of v) (row_at ws)))
 has_row_stands sys ws w v x (suc n) l by = elim (cases_Bool (is_of v (row_at ws n))) [
   | inr other ↦
-      ap is_some (last_row-no (is_at v x) ws n (and_left (is_of v (row_at ws n)) (eqb (row_at ws n).at x) other))
-      ∙ (has_row_stands sys ws w v x n (omega arith) (λ i m. by i (omega arith)) ∙ sym (ap (λ (o : Option Wake). stands_at o x) (last_row-no (is_of v) ws n other)))
+      ap is_some (last_below-no (is_at v x) (row_at ws) n (and_left (is_of v (row_at ws n)) (eqb (row_at ws n).at x) other))
+      ∙ (has_row_stands sys ws w v x n (omega arith) (λ i m. by i (omega arith)) ∙ sym (ap (λ (o : Option Wake). stands_at o x) (last_below-no (is_of v) (row_at ws) n other)))
   | inl of ↦ elim (cases_eq (row_at ws n).at x) [
     | inl at ↦
-        ap is_some (last_row-yes (is_at v x) ws n (and_from (is_of v (row_at ws n)) (eqb (row_at ws n).at x) of (eq-eqb (row_at ws n).at x at)))
-        ∙ sym (ap (λ (o : Option Wake). stands_at o x) (last_row-yes (is_of v) ws n of) ∙ eq-eqb (row_at ws n).at x at)
+        ap is_some (last_below-yes (is_at v x) (row_at ws) n (and_from (is_of v (row_at ws n)) (eqb (row_at ws n).at x) of (eq-eqb (row_at ws n).at x at)))
+        ∙ sym (ap (λ (o : Option Wake). stands_at o x) (last_below-yes (is_of v) (row_at ws) n of) ∙ eq-eqb (row_at ws n).at x at)
     | inr ne ↦
-        ap is_some (no_row (is_at v x) ws (suc n) (λ i m. and_right (is_of v (row_at ws i)) (eqb (row_at ws i).at x) (ne_eqb (row_at ws i).at x (λ e. ne (let o = ordered sys ws w i n (omega arith) l in let b = by n (omega arith) in omega (arith, o, b, e))))))
-        ∙ sym (ap (λ (o : Option Wake). stands_at o x) (last_row-yes (is_of v) ws n of) ∙ ne_eqb (row_at ws n).at x ne)
+        ap is_some (none_below (is_at v x) (row_at ws) (suc n) (λ i m. and_right (is_of v (row_at ws i)) (eqb (row_at ws i).at x) (ne_eqb (row_at ws i).at x (λ e. ne (let o = ordered sys ws w i n (omega arith) l in let b = by n (omega arith) in omega (arith, o, b, e))))))
+        ∙ sym (ap (λ (o : Option Wake). stands_at o x) (last_below-yes (is_of v) (row_at ws) n of) ∙ ne_eqb (row_at ws n).at x ne)
   ]
 ]
 
@@ -127,7 +124,7 @@ workload_more sys ws w h k = record {
           let vcpu : (row_at ws i).vcpu ≡ w.vcpu = sym (ap (λ (r : Wake). r.vcpu) is) ∙ (of ∙ ap (λ (r : Wake). r.vcpu) there) in
           let slot : (row_at ws i).at ≡ w.at = sym (ap (λ (r : Wake). r.at) is) ∙ (at ∙ ap (λ (r : Wake). r.at) there) in
           both_ways (has_row_at ws (length ws) w.vcpu w.at) k.alone
-          (some_row (is_at w.vcpu w.at) ws (length ws) i (omega (arith, l, e)) (and_from (is_of w.vcpu (row_at ws i)) (eqb (row_at ws i).at w.at) (eq-eqb (row_at ws i).vcpu w.vcpu vcpu) (eq-eqb (row_at ws i).at w.at slot)))
+          (some_row (is_at w.vcpu w.at) (row_at ws) (length ws) i (omega (arith, l, e)) (and_from (is_of w.vcpu (row_at ws i)) (eqb (row_at ws i).at w.at) (eq-eqb (row_at ws i).vcpu w.vcpu vcpu) (eq-eqb (row_at ws i).at w.at slot)))
       | inr ne ↦
           let n : j < length ws = omega (arith, m, ne, length_more ws w) in
           let i_is : row_at (ws ++ w ∷ []) i ≡ row_at ws i = old i (omega (arith, l, n)) in
@@ -150,14 +147,16 @@ behind_more a b w system h k sys slot last items = record {
     part = vcpu_part a.sys.now w.vcpu k.known
 
     one : (v : ℕ) → v < 512 → last_at (set a.last w.vcpu (Some w)) v ≡ cond (is_of v w) (Some w) (last_row (is_of v) a.wakes.items (length a.wakes.items))
-    one v l = elim (cases_eq v w.vcpu) [
-      | inl e ↦
-          ap (last_at (set a.last w.vcpu (Some w))) e ∙ (get_or-set_same a.last w.vcpu (Some w) None (omega (arith, h.room, part, system.few_parts))
-          ∙ sym (ap (λ (z : Bool). cond z (Some w) (last_row (is_of v) a.wakes.items (length a.wakes.items))) (eq-eqb w.vcpu v (sym e))))
-      | inr ne ↦
-          get_or-set_other a.last w.vcpu v (Some w) None ne ∙ (h.last v l
-          ∙ sym (ap (λ (z : Bool). cond z (Some w) (last_row (is_of v) a.wakes.items (length a.wakes.items))) (ne_eqb w.vcpu v (λ e. ne (sym e)))))
-    ]
+    one v l = put_says (λ o. o) before now a.last w.vcpu (Some w) None (omega (arith, h.room, part, system.few_parts))
+        (sym (ap (λ (z : Bool). cond z (Some w) (before w.vcpu)) (eq-eqb w.vcpu w.vcpu refl)))
+        (λ u ne. sym (ap (λ (z : Bool). cond z (Some w) (before u)) (ne_eqb w.vcpu u (λ e. ne (sym e)))))
+        v (h.last v l)
+      where
+        before : ℕ → Option Wake
+        before u = last_row (is_of u) a.wakes.items (length a.wakes.items)
+
+        now : ℕ → Option Wake
+        now u = cond (is_of u w) (Some w) (before u)
 
 -- the rules on the turn of a VCPU, told by what is kept
 pub turn_is : (a : WakeRows) (w : Wake) (m : ℕ) → IsBehind a.wakes.items a → a.slot ≤ w.at → w.vcpu < 512 → m ≡ row_of (length a.wakes.items)

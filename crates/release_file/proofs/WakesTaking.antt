@@ -6,10 +6,10 @@ use Rattle.tree_model.specs.View.{SystemView}
 use Rattle.release_file.specs.declared.fault.ReleaseFault.{ReleaseFault}
 use Rattle.release_file.specs.declared.workload.Wake.{Wake}
 use Rattle.release_file.specs.declared.wake_rows.WakeRows.{WakeRows}
-use Rattle.release_file.specs.Workload.{is_of, IsWorkload}
+use Rattle.release_file.specs.Workload.{row_at, is_of, IsWorkload}
 use Rattle.release_file.specs.WorkloadFile.{wake_of, wakes_of, wake_rules, is_wake_header, wake_rows, SpellsWorkload, IsWorkloadFault}
 use Rattle.release_file.specs.WakesTaken.{last_at, IsBehind, HasTakenWakes}
-use Rattle.release_file.proofs.Rows.{last_row-zero}
+use Rattle.csv_rows.proofs.Last.{last_below-zero}
 
 pub wakes_more : (sys : SystemView) (rows : List (List (List ℕ))) (row : List (List ℕ)) → wakes_of sys (rows ++ row ∷ []) ≡ wakes_of sys rows ++ wake_of sys row ∷ []
 wakes_more sys rows row = map-append (wake_of sys) rows (row ∷ [])
@@ -23,7 +23,7 @@ none_behind wakes m rows none slot last em = subst (λ (ws : List Wake). IsBehin
   workload = no_rows rows.sys.now;
   slot = slot;
   room = ap (λ (z : List (Option Wake)). length z) last ∙ (length-replicate {A = Option Wake} m None ∙ em);
-  last = λ v l. ap (λ (z : List (Option Wake)). last_at z v) last ∙ (get_or-replicate {A = Option Wake} m v None None (omega arith) ∙ sym (last_row-zero (is_of v) []));
+  last = λ v l. ap (λ (z : List (Option Wake)). last_at z v) last ∙ (get_or-replicate {A = Option Wake} m v None None (omega arith) ∙ sym (last_below-zero (is_of v) (row_at [])));
 })
 
 -- the rows behind a header

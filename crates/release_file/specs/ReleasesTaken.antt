@@ -5,8 +5,7 @@ use Rattle.slot_model.specs.Task.{SporadicTask, early_job, job_at}
 use Rattle.csv_rows.specs.Decimal.{number}
 use Rattle.slot_model.specs.Release.{LegalRelease}
 use Rattle.tree_model.specs.View.{PartView, SystemView}
-use Rattle.tree_model.specs.System.{IsPart, IsSystem, own_tasks, part_at}
-use Rattle.trace_file.specs.File.{part_names}
+use Rattle.tree_model.specs.System.{IsPart, IsSystem, own_tasks, part_at, part_names}
 use Rattle.release_file.specs.declared.leaf_rows.LeafRows.{LeafRows}
 use Rattle.release_file.specs.declared.release_rows.ReleaseRows.{ReleaseRows}
 use Rattle.release_file.specs.declared.release_spelling.ReleaseFields.{ReleaseFields}

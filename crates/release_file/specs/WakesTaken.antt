@@ -1,7 +1,6 @@
 -- What is kept of the rows of a workload that were read.
 use Rattle.std.specs.Prelude.{◌≡◌, ◌<◌, ◌==◌, ℕ, Bool, false, List, length, slice_index_or, Option, Some, None}
-use Rattle.tree_model.specs.System.{IsSystem}
-use Rattle.trace_file.specs.File.{part_names}
+use Rattle.tree_model.specs.System.{IsSystem, part_names}
 use Rattle.release_file.specs.declared.workload.Wake.{Wake}
 use Rattle.release_file.specs.declared.wake_rows.WakeRows.{WakeRows}
 use Rattle.release_file.specs.Workload.{last_row, is_of, IsWorkload}

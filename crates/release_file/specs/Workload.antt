@@ -1,6 +1,7 @@
 -- What the rows of a workload say of the VCPUs. A row at a slot acts on that slot and later ones.
-use Rattle.std.specs.Prelude.{◌≡◌, ◌≢◌, ℕ, zero, suc, ◌+◌, ◌<◌, ◌≤◌, ◌==◌, Bool, true, false, not, ◌&&◌, nat_le, if◌then◌else◌, List, length, slice_index_or, Option, Some, None, is_some}
+use Rattle.std.specs.Prelude.{◌≡◌, ◌≢◌, ℕ, ◌+◌, ◌<◌, ◌≤◌, ◌==◌, Bool, true, false, not, ◌&&◌, nat_le, List, length, slice_index_or, Option, Some, None, is_some}
 use Rattle.slot_model.specs.declared.task.TheConstants.{LIMIT}
+use Rattle.csv_rows.specs.Last.{last_below, some_passes}
 use Rattle.tree_model.specs.View.{SystemView}
 use Rattle.trace_file.specs.Rules.{is_vcpu}
 use Rattle.release_file.specs.declared.workload.Wake.{Wake}
@@ -12,10 +13,8 @@ abbrev pub row_at : List Wake → ℕ → Wake
 row_at rows i = slice_index_or rows i (record { at = 0; vcpu = 0; what = Start })
 
 -- the last of the first n rows that passes a test
-unfoldable pub last_row : (Wake → Bool) → List Wake → ℕ → Option Wake
-last_row passes rows zero = None
-last_row passes rows (suc n) =
-    if passes (row_at rows n) then Some (row_at rows n) else last_row passes rows n
+abbrev pub last_row : (Wake → Bool) → List Wake → ℕ → Option Wake
+last_row passes rows n = last_below passes (row_at rows) n
 
 -- a row is one of VCPU v; one of its start; one at or before slot x
 abbrev pub is_of : ℕ → Wake → Bool
@@ -37,8 +36,7 @@ is_block Block = true
 is_block _ = false
 
 abbrev pub blocks : Option Wake → Bool
-blocks None = false
-blocks (Some row) = is_block row.what
+blocks last = some_passes (λ row. is_block row.what) last
 
 abbrev pub slot_of : Option Wake → ℕ
 slot_of None = 0

@@ -1,6 +1,6 @@
 ghost use Rattle.std.specs.Prelude.{◌≡◌, ◌≢◌, length, MatchOption};
 ghost use Rattle.csv_rows.specs.Row.{fields_of};
-ghost use Rattle.trace_file.specs.File.{part_names};
+ghost use Rattle.tree_model.specs.System.{part_names};
 ghost use Rattle.release_file.specs.WorkloadFile.{is_kind, kind_of, is_wake_header};
 ghost use Rattle.release_file.specs.WakeSpelt.{IsSpeltWake, wake_fields};
 

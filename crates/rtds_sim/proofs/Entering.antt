@@ -1,7 +1,7 @@
 -- What the accounts say at a slot whose rows are taken: who is eligible, and who goes first.
-use Rattle.std.proofs.Common.{◌≡◌, ℕ, zero, suc, ◌/◌, ◌<◌, ◌≤◌, nat_lt, Bool, true, false, not, ◌&&◌, ◌||◌, List, length, Option, sym, ◌∙◌, ap, arith, inl, inr, eqb-true, ltb-true, lt-ltb, le-leb}
+use Rattle.std.proofs.Common.{◌≡◌, ℕ, suc, ◌/◌, ◌<◌, nat_lt, Bool, true, not, ◌&&◌, ◌||◌, List, length, Option, sym, ◌∙◌, ap, arith, inl, inr, eqb-true, ltb-true, lt-ltb}
 use Rattle.std.specs.Prelude.{is_some}
-use Rattle.std.proofs.lemmas.Bool.{cases_eq, cases_Bool, both_ways, and_parts, lt-leb}
+use Rattle.std.proofs.lemmas.Bool.{cases_Bool, both_ways, and_parts}
 use Rattle.tree_model.specs.declared.place.Parent.{Parent}
 use Rattle.tree_model.specs.declared.place.Parent.TheVariants.{Core as on_core, Part as on_part}
 use Rattle.tree_model.specs.declared.place.Place.TheVariants.{Core}
@@ -15,7 +15,7 @@ use Rattle.rtds_sim.specs.Rtds.{used, level_at, deadline_at, can_run, is_eligibl
 use Rattle.rtds_sim.specs.Printed.{core_of}
 use Rattle.rtds_sim.specs.Running.{AreOn}
 use Rattle.rtds_sim.specs.Accounts.{account_at, account_eligible, level_of, deadline_of, ranked, ranks_before, IsChoice, IsInPeriod, IsAccount, AreBefore}
-use Rattle.release_file.proofs.Rows.{last_row-zero, last_row-yes, last_row-no}
+use Rattle.csv_rows.proofs.Last.{last_by_moment}
 
 -- a part on core c
 pub child_core : (sys : SystemView) (c v : ℕ) → is_child sys (Core c) v ≡ true → core_of (part_at sys v).parent ≡ c
@@ -27,27 +27,8 @@ child_core sys c v h = go (part_at sys v).parent h
 
 -- the last row among those at or before x is the last of the first k, where those are the rows at
 -- or before x
-by_prefix : (p : Row → Bool) (rows : List Row) (x n : ℕ) → ((i : ℕ) → i < n → (row_at rows i).at ≤ x) → last_row (λ r. is_by x r && p r) rows n ≡ last_row p rows n
-by_prefix p rows x zero h = last_row-zero (λ r. is_by x r && p r) rows ∙ sym (last_row-zero p rows)
-by_prefix p rows x (suc n) h =
-    let now : is_by x (row_at rows n) ≡ true = le-leb (row_at rows n).at x (h n (omega arith)) in
-    let same : (is_by x (row_at rows n) && p (row_at rows n)) ≡ p (row_at rows n) = ap (λ (b : Bool). b && p (row_at rows n)) now in
-    elim (cases_Bool (p (row_at rows n))) [
-      | inl b ↦ last_row-yes (λ r. is_by x r && p r) rows n (same ∙ b) ∙ sym (last_row-yes p rows n b)
-      | inr b ↦ last_row-no (λ r. is_by x r && p r) rows n (same ∙ b) ∙ (by_prefix p rows x n (λ i l. h i (omega arith)) ∙ sym (last_row-no p rows n b))
-    ]
-
-past_prefix : (p : Row → Bool) (rows : List Row) (x k n : ℕ) → k ≤ n → ((i : ℕ) → k ≤ i → i < n → x < (row_at rows i).at) → last_row (λ r. is_by x r && p r) rows n ≡ last_row (λ r. is_by x r && p r) rows k
-past_prefix p rows x k zero l h = ap (last_row (λ r. is_by x r && p r) rows) (let e : 0 ≡ k = omega arith in e)
-past_prefix p rows x k (suc n) l h = elim (cases_eq k (suc n)) [
-  | inl e ↦ ap (last_row (λ r. is_by x r && p r) rows) (sym e)
-  | inr ne ↦
-      let later : is_by x (row_at rows n) ≡ false = lt-leb (row_at rows n).at x (h n (omega arith) (omega arith)) in
-      last_row-no (λ r. is_by x r && p r) rows n (ap (λ (b : Bool). b && p (row_at rows n)) later) ∙ past_prefix p rows x k n (omega arith) (λ i a b. h i a (omega arith))
-]
-
 pub by_slot : (p : Row → Bool) (rows : List Row) (x k : ℕ) → AreBefore rows k (suc x) → last_row (λ r. is_by x r && p r) rows (length rows) ≡ last_row p rows k
-by_slot p rows x k h = past_prefix p rows x k (length rows) h.in_rows (λ i a b. omega (arith, h.to_come i a b)) ∙ by_prefix p rows x k (λ i l. omega (arith, h.past i l))
+by_slot p rows x k h = last_by_moment (λ r. r.at) p (row_at rows) x k (length rows) h.in_rows (λ i l. omega (arith, h.past i l)) (λ i a b. omega (arith, h.to_come i a b))
 
 pub started_by : (rows : List Row) (v x k : ℕ) → AreBefore rows k (suc x) → is_started_at rows v x ≡ started_after rows k v
 started_by rows v x k h = ap is_some (by_slot (starts v) rows x k h)

@@ -1,5 +1,6 @@
 -- Worked runs: two VCPUs, A and B, on one full core, with budgets of 3 and 4 slots in every 10.
 use Rattle.std.proofs.Common.{◌≡◌, ℕ, true, false, Bool, Option, Some, None, List, [], ◌∷◌, refl}
+use Rattle.csv_rows.specs.Last.{last_below}
 use Rattle.slot_model.specs.Slots.{sum_below}
 use Rattle.slot_model.specs.declared.sched.Sched.TheVariants.{Edf}
 use Rattle.tree_model.specs.declared.pinned_core.Core.{Core as CoreView}
@@ -11,7 +12,6 @@ use Rattle.trace_file.specs.declared.event.What.TheVariants.{Start as Starts, Wa
 use Rattle.release_file.specs.declared.workload.Wake.{Wake}
 use Rattle.release_file.specs.declared.workload.WakeKind.{WakeKind}
 use Rattle.release_file.specs.declared.workload.WakeKind.TheVariants.{Start, Wake as ToWake, Block}
-use Rattle.release_file.specs.Workload.{last_row}
 use Rattle.rtds_sim.specs.Rtds.{CoreRun, level_at}
 use Rattle.rtds_sim.specs.Printed.{gathered, printed_below, printed}
 use Rattle.rtds_sim.proofs.Runs.{better, choice, chosen, is_run}
@@ -50,7 +50,7 @@ abbrev with_extra : List (Option ℕ)
 with_extra = A ∷ A ∷ A ∷ B ∷ B ∷ B ∷ B ∷ A ∷ A ∷ A ∷ []
 
 with_extra_chosen : chosen (host true) budgets both_start 0 with_extra ≡ with_extra
-unfolding chosen choice better last_row sum_below
+unfolding chosen choice better last_below sum_below
 with_extra_chosen = refl
 
 with_extra_is : CoreRun (host true) budgets both_start 10 0 with_extra
@@ -58,12 +58,12 @@ with_extra_is = is_run (host true) budgets both_start 0 with_extra with_extra_ch
 
 -- a second budget is of a higher level
 extra_level : level_at (host true) budgets both_start with_extra 0 8 ≡ 1
-unfolding last_row sum_below
+unfolding last_below sum_below
 extra_level = refl
 
 with_extra_printed : printed (host true) both_start (with_extra ∷ []) 10
     ≡ event 0 (Starts 0) ∷ event 0 (Starts 1) ∷ event 0 (Run 0) ∷ event 3000 (Run 1) ∷ event 7000 (Run 0) ∷ event 10000 End ∷ []
-unfolding printed_below gathered last_row
+unfolding printed_below gathered last_below
 with_extra_printed = refl
 
 -- without it the core is idle then
@@ -71,12 +71,12 @@ abbrev without_extra : List (Option ℕ)
 without_extra = A ∷ A ∷ A ∷ B ∷ B ∷ B ∷ B ∷ None ∷ None ∷ None ∷ A ∷ A ∷ []
 
 without_extra_chosen : chosen (host false) budgets both_start 0 without_extra ≡ without_extra
-unfolding chosen choice better last_row sum_below
+unfolding chosen choice better last_below sum_below
 without_extra_chosen = refl
 
 without_extra_printed : printed (host false) both_start (without_extra ∷ []) 12
     ≡ event 0 (Starts 0) ∷ event 0 (Starts 1) ∷ event 0 (Run 0) ∷ event 3000 (Run 1) ∷ event 7000 Stop ∷ event 10000 (Run 0) ∷ event 12000 End ∷ []
-unfolding printed_below gathered last_row
+unfolding printed_below gathered last_below
 without_extra_printed = refl
 
 -- A starts at 1 and blocks at 2, so its core stops and B, which starts there, gets it. A wakes at 4
@@ -88,15 +88,15 @@ abbrev blocked_run : List (Option ℕ)
 blocked_run = None ∷ A ∷ B ∷ B ∷ A ∷ A ∷ B ∷ B ∷ None ∷ None ∷ None ∷ A ∷ []
 
 blocked_chosen : chosen (host false) budgets one_blocks 0 blocked_run ≡ blocked_run
-unfolding chosen choice better last_row sum_below
+unfolding chosen choice better last_below sum_below
 blocked_chosen = refl
 
 blocked_printed : printed (host false) one_blocks (blocked_run ∷ []) 12
     ≡ event 1000 (Starts 0) ∷ event 1000 (Run 0) ∷ event 2000 Stop ∷ event 2000 (Starts 1) ∷ event 2000 (Blocks 0) ∷ event 2000 (Run 1) ∷ event 4000 (Wakes 0) ∷ event 4000 (Run 0) ∷ event 6000 (Run 1) ∷ event 8000 Stop ∷ event 11000 (Run 0) ∷ event 12000 End ∷ []
-unfolding printed_below gathered last_row
+unfolding printed_below gathered last_below
 blocked_printed = refl
 
 -- rows past the end are not printed, and a row at the end is none of them
 rows_past_the_end : printed (host false) one_blocks ((None ∷ []) ∷ []) 1 ≡ event 1000 End ∷ []
-unfolding printed_below gathered last_row
+unfolding printed_below gathered last_below
 rows_past_the_end = refl

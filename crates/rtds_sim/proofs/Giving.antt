@@ -29,12 +29,12 @@ use Rattle.tree_model.proofs.Children.{IsServer}
 use Rattle.trace_file.specs.Periods.{begins, count_between}
 use Rattle.release_file.specs.declared.workload.Wake.{Wake}
 use Rattle.tree_model.specs.Plans.{IsPlan}
-use Rattle.release_file.specs.Workload.{last_row, starts, is_by, is_started, is_started_at, is_blocked_at, start_of, slot_of}
+use Rattle.release_file.specs.Workload.{row_at, last_row, starts, is_by, is_started, is_started_at, is_blocked_at, start_of, slot_of}
 use Rattle.rtds_sim.specs.Rtds.{period_number, period_from, deadline_at, used, level_at, can_run, is_eligible, CoreRun}
 use Rattle.rtds_sim.specs.Giving.{slots_got, IsStartedOn, AlwaysRunnable, ServersFit, GivesBudgets}
 use Rattle.rtds_sim.proofs.Periodic.{periodic_release}
 use Rattle.rtds_sim.proofs.Order.{first_by_level, first_by_deadline}
-use Rattle.release_file.proofs.Rows.{FoundRow, some_found, some_row}
+use Rattle.csv_rows.proofs.Last.{FoundRow, some_found, some_row}
 use Rattle.rtds_sim.proofs.Runs.{eligible_runs}
 use Rattle.rtds_sim.proofs.Places.{one_place, at_place, servers_where, servers-long, server_at_place, fewer_ask_less}
 
@@ -97,16 +97,16 @@ holds-some (Some i) j e = eq-eqb i j (same_Some i j e)
 -- a VCPU that starts at 0 is started at each slot
 started_always : (rows : List Wake) (v x : ℕ) → is_started rows v ≡ true → start_of rows v ≡ 0 → is_started_at rows v x ≡ true
 started_always rows v x h z =
-    let w : (row : Wake) × (last_row (starts v) rows (length rows) ≡ Some row) × FoundRow (starts v) rows (length rows) row = some_found (starts v) rows (length rows) h in
+    let w : (row : Wake) × (last_row (starts v) rows (length rows) ≡ Some row) × FoundRow (starts v) (row_at rows) (length rows) row = some_found (starts v) (row_at rows) (length rows) h in
     let at : w.0.at ≡ 0 = sym (ap slot_of w.1) ∙ z in
-    some_row (λ row. is_by x row && starts v row) rows (length rows) w.2.place w.2.within
+    some_row (λ row. is_by x row && starts v row) (row_at rows) (length rows) w.2.place w.2.within
     (subst (λ (r : Wake). (is_by x r && starts v r) ≡ true) (sym w.2.is) (and_from (is_by x w.0) (starts v w.0) (le-leb w.0.at x (omega arith)) w.2.passes))
 
 -- and one that is started at a slot is started
 started_some : (rows : List Wake) (v x : ℕ) → is_started_at rows v x ≡ true → is_started rows v ≡ true
 started_some rows v x h =
-    let w = some_found (λ row. is_by x row && starts v row) rows (length rows) h in
-    some_row (starts v) rows (length rows) w.2.place w.2.within (subst (λ (r : Wake). starts v r ≡ true) (sym w.2.is) (and_parts (is_by x w.0) (starts v w.0) w.2.passes).1)
+    let w = some_found (λ row. is_by x row && starts v row) (row_at rows) (length rows) h in
+    some_row (starts v) (row_at rows) (length rows) w.2.place w.2.within (subst (λ (r : Wake). starts v r ≡ true) (sym w.2.is) (and_parts (is_by x w.0) (starts v w.0) w.2.passes).1)
 
 module _ (sys : SystemView) (budgets : List ℕ) (plan : IsPlan sys budgets) (rows : List Wake) (n c : ℕ) (run : List (Option ℕ)) (is : CoreRun sys budgets rows n c run) (always : AlwaysRunnable sys rows c) where
   abbrev Serves : ℕ → Type 0

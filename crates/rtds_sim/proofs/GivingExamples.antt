@@ -1,12 +1,12 @@
 -- What RTDS gives and never gives, and when it does not run, over the host of the worked runs. A
 -- definition that says less breaks one of these.
 use Rattle.std.proofs.Common.{◌≡◌, ℕ, ◌<◌, ◌≤◌, true, false, Option, None, List, [], ◌∷◌, length, refl, arith, lit<, lit≤}
+use Rattle.csv_rows.specs.Last.{last_below}
 use Rattle.slot_model.specs.Slots.{sum_below}
 use Rattle.tree_model.specs.View.{SystemView}
 use Rattle.trace_file.specs.declared.event.Event.{Event}
 use Rattle.trace_file.specs.Periods.{IsOver}
 use Rattle.release_file.specs.declared.workload.Wake.{Wake}
-use Rattle.release_file.specs.Workload.{last_row}
 use Rattle.rtds_sim.specs.declared.fault.RtdsFault.TheVariants.{NotRtds, NoMemory}
 use Rattle.slot_model.specs.Run.{held, holds}
 use Rattle.rtds_sim.specs.Rtds.{is_rtds}
@@ -19,12 +19,12 @@ abbrev five_of_b : List (Option ℕ)
 five_of_b = B ∷ B ∷ B ∷ B ∷ B ∷ []
 
 five_slots_of_four_are_over : NeverOver (host false) budgets both_start five_of_b → ⊥
-unfolding sum_below last_row
+unfolding sum_below last_below
 five_slots_of_four_are_over never = let few : 5 ≤ 4 = never 1 0 (lit< tt) refl in omega arith
 
 -- also in the second period
 so_they_are_in_the_second_period : NeverOver (host false) budgets both_start (None ∷ None ∷ None ∷ None ∷ None ∷ None ∷ None ∷ None ∷ None ∷ None ∷ five_of_b) → ⊥
-unfolding sum_below last_row
+unfolding sum_below last_below
 so_they_are_in_the_second_period never = let few : 5 ≤ 4 = never 1 1 (lit< tt) refl in omega arith
 
 -- the slots of a period are those of no other
@@ -37,11 +37,11 @@ slots_of_each_period = (refl, refl, refl)
 
 -- A starts on the core, which gives it none of its 3 slots in ten
 a_starts_there : IsStartedOn (host false) both_start 0 0
-unfolding last_row
+unfolding last_below
 a_starts_there = record { is_part = lit< tt; on_core = refl; started = refl }
 
 no_slot_does_not_give_the_budgets : GivesBudgets (host false) budgets both_start 10 0 [] → ⊥
-unfolding sum_below last_row
+unfolding sum_below last_below
 no_slot_does_not_give_the_budgets gives = let some : 3 ≤ 0 = gives 0 0 a_starts_there (lit≤ tt) in omega arith
 
 -- the first core that is not full or not under earliest deadline first is told, and memory runs out

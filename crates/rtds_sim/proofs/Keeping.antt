@@ -17,10 +17,9 @@ use Rattle.trace_file.specs.declared.event.Event.{Event}
 use Rattle.trace_file.specs.declared.event.What.{What}
 use Rattle.trace_file.specs.declared.event.What.TheVariants.{Start, Wake, Block, Run, Stop, End}
 use Rattle.trace_file.specs.declared.fault.TraceFault.TheVariants.{StartedTwice, NotStarted, NotBlocked, NotRunnable, StillRunning, CoreIdle}
-use Rattle.trace_file.specs.Events.{is_start_of, is_change_of, is_switch, is_end, is_block as blocks_it, blocks as blocks_last, switches, runner, runner_of, is_blocked, holder}
+use Rattle.trace_file.specs.Events.{event_at, is_start_of, is_change_of, is_switch, is_end, is_block as blocks_it, blocks as blocks_last, switches, runner, runner_of, is_blocked, holder}
 use Rattle.trace_file.specs.Rules.{row_of, fault_if, named, is_core, is_vcpu, is_known, stands_on, what_fault, Kept}
-use Rattle.trace_file.proofs.Among.{last_among-zero}
-use Rattle.trace_file.proofs.After.{is_some_cond}
+use Rattle.csv_rows.proofs.Last.{last_below-zero, last_below-no, said_later, is_some_later, last_is, some_found, some_row}
 use Rattle.release_file.specs.declared.workload.Wake.{Wake as Row}
 use Rattle.release_file.specs.declared.workload.WakeKind.{WakeKind}
 use Rattle.release_file.specs.declared.workload.WakeKind.TheVariants.{Start as ToStart, Wake as ToWake, Block as ToBlock}
@@ -28,7 +27,6 @@ use Rattle.release_file.specs.Workload.{row_at, last_row, is_of, is_start, start
 use Rattle.rtds_sim.specs.Rtds.{can_run, RtdsRun}
 use Rattle.rtds_sim.specs.Printed.{moment_of_slot, push_some, gathered, core_of, what_of, event_of, on_at, on_core_at, switch_to, holder_before, is_blocked_one, holder_left, stop_at, row_event_at, switch_at, printed_at, printed_below, printed}
 use Rattle.rtds_sim.specs.Accounts.{AreBefore}
-use Rattle.release_file.proofs.Rows.{last_row-zero, last_row-yes, last_row-no, row_step, some_row, some_found}
 use Rattle.rtds_sim.proofs.Runs.{eligible_runs}
 use Rattle.rtds_sim.proofs.Gathered.{gathered-zero, gathered-suc, gathered-none, gathered-rest, push_behind}
 use Rattle.rtds_sim.proofs.Taking.{row_none, row_some}
@@ -173,27 +171,23 @@ child_vcpu sys c v l h = and_from (nat_lt v (length sys.parts)) (is_core (part_a
     go (on_core d) e = refl
     go (on_part r) e = cc
 
-blocks_cond : (b : Bool) (r : Row) (o : Option Row) → blocks (cond b (Some r) o) ≡ cond b (is_block r.what) (blocks o)
-blocks_cond true r o = refl
-blocks_cond false r o = refl
-
 module _ (sys : SystemView) (system : IsSystem sys) (rows : List Row) (workload : IsWorkload sys rows) where
   -- a VCPU without a row is not started, and one with a row is
   unstarted : (v i : ℕ) → last_row (is_of v) rows i ≡ None → started_after rows i v ≡ false
   unstarted v i e = elim (cases_Bool (started_after rows i v)) [
     | inr b ↦ b
     | inl b ↦
-        let w = some_found (starts v) rows i b in
-        absurd (both_ways _ (ap is_some e) (some_row (is_of v) rows i w.2.place w.2.within (subst (λ (r : Row). is_of v r ≡ true) (sym w.2.is) (and_parts (is_of v w.0) (is_start w.0.what) w.2.passes).0)))
+        let w = some_found (starts v) (row_at rows) i b in
+        absurd (both_ways _ (ap is_some e) (some_row (is_of v) (row_at rows) i w.2.place w.2.within (subst (λ (r : Row). is_of v r ≡ true) (sym w.2.is) (and_parts (is_of v w.0) (is_start w.0.what) w.2.passes).0)))
   ]
 
   has_started : (v i : ℕ) → i ≤ length rows → is_some (last_row (is_of v) rows i) ≡ true → started_after rows i v ≡ true
-  has_started v zero l h = absurd (both_ways _ (ap is_some (last_row-zero (is_of v) rows)) h)
+  has_started v zero l h = absurd (both_ways _ (ap is_some (last_below-zero (is_of v) (row_at rows))) h)
   has_started v (suc i) l h =
-      ap is_some (row_step (starts v) rows i) ∙ (is_some_cond (starts v (row_at rows i)) (row_at rows i) (last_row (starts v) rows i) ∙ elim (cases_Bool (is_of v (row_at rows i))) [
-        | inr b ↦ or_right (starts v (row_at rows i)) _ (has_started v i (omega arith) (ap is_some (sym (last_row-no (is_of v) rows i b)) ∙ h))
+      is_some_later (starts v) (row_at rows) i ∙ elim (cases_Bool (is_of v (row_at rows i))) [
+        | inr b ↦ or_right (starts v (row_at rows i)) _ (has_started v i (omega arith) (ap is_some (sym (last_below-no (is_of v) (row_at rows) i b)) ∙ h))
         | inl b ↦ here (has_started v i (omega arith)) (row_at rows i).what refl b (subst (λ (u : ℕ). may_follow (last_row (is_of u) rows i) (row_at rows i).what ≡ true) (eqb-true (row_at rows i).vcpu v b) (workload.in_turn i l))
-      ])
+      ]
     where
       follows : (o : Option Row) (what : WakeKind) → is_start what ≡ false → may_follow o what ≡ true → is_some o ≡ true
       follows None ToStart a b = absurd (false≢true (sym a))
@@ -205,14 +199,6 @@ module _ (sys : SystemView) (system : IsSystem sys) (rows : List Row) (workload 
       here before ToStart e b m = ap (λ (q : Bool). q || started_after rows i v) (and_from (is_of v (row_at rows i)) (is_start (row_at rows i).what) b (ap is_start e))
       here before ToWake e b m = or_right (starts v (row_at rows i)) _ (before (follows (last_row (is_of v) rows i) (row_at rows i).what (ap is_start e) m))
       here before ToBlock e b m = or_right (starts v (row_at rows i)) _ (before (follows (last_row (is_of v) rows i) (row_at rows i).what (ap is_start e) m))
-
-  -- the last row of a VCPU, where none of its rows comes behind
-  last_here : (v i n : ℕ) → i < n → is_of v (row_at rows i) ≡ true → ((j : ℕ) → i < j → j < n → is_of v (row_at rows j) ≡ false) → last_row (is_of v) rows n ≡ Some (row_at rows i)
-  last_here v i zero l of none = absurd (omega arith)
-  last_here v i (suc n) l of none = elim (cases_eq i n) [
-    | inl e ↦ subst (λ (z : ℕ). last_row (is_of v) rows (suc n) ≡ Some (row_at rows z)) (sym e) (last_row-yes (is_of v) rows n (subst (λ (z : ℕ). is_of v (row_at rows z) ≡ true) e of))
-    | inr ne ↦ last_row-no (is_of v) rows n (none n (omega arith) (omega arith)) ∙ last_here v i n (omega arith) of (λ j a b. none j a (omega arith))
-  ]
 
   -- where the rows before a slot end
   split_at : (x : ℕ) → (k : ℕ) × AreBefore rows k x
@@ -235,7 +221,7 @@ module _ (sys : SystemView) (system : IsSystem sys) (rows : List Row) (workload 
     -- a row that blocks its VCPU leaves it blocked at the slot
     blocked_here : (i v : ℕ) → k ≤ i → i < j → is_of v (row_at rows i) ≡ true → (row_at rows i).what ≡ ToBlock → is_blocked_at rows v x ≡ true
     blocked_here i v a b of is =
-        blocked_by rows v x j taken ∙ (ap blocks (last_here v i j b of (λ m p q. elim (cases_Bool (is_of v (row_at rows m))) [
+        blocked_by rows v x j taken ∙ (ap blocks (last_is (is_of v) (row_at rows) i j b of (λ m p q. elim (cases_Bool (is_of v (row_at rows m))) [
           | inr n ↦ n
           | inl y ↦ absurd (workload.one_a_slot i m p (omega (arith, taken.in_rows)) (eqb-true (row_at rows i).vcpu v of ∙ sym (eqb-true (row_at rows m).vcpu v y)) (at_slot i a b ∙ sym (at_slot m (omega arith) q)))
         ])) ∙ ap is_block is)
@@ -327,8 +313,8 @@ module _ (sys : SystemView) (system : IsSystem sys) (rows : List Row) (workload 
             may = row_may awake es i p q a v (core_of (part_at sys v).parent) core.is_core refl what refl (workload.in_turn i (omega (arith, taken.in_rows)));
           } in
           after_same sys (es ++ e ∷ []) e.at (moment_of_slot x) (λ u. is_start_of u e.what || started_after rows i u) (started_after rows (suc i)) (λ u. cond (is_change_of u e.what) (blocks_it e.what) (blocked_after rows i u)) (blocked_after rows (suc i)) (λ c. cond (switches c e) (runner e.what) (holders c)) holders (omega (arith, at))
-          (λ u. ap (λ (b : Bool). b || started_after rows i u) (start_what what u v) ∙ sym (ap is_some (row_step (starts u) rows i) ∙ is_some_cond (starts u r) r (last_row (starts u) rows i)))
-          (λ u. ap (λ (b : Bool). cond b (blocks_it e.what) (blocked_after rows i u)) (change_what what u v) ∙ (ap (λ (b : Bool). cond (v == u) b (blocked_after rows i u)) (block_what what v) ∙ sym (ap blocks (row_step (is_of u) rows i) ∙ blocks_cond (is_of u r) r (last_row (is_of u) rows i))))
+          (λ u. ap (λ (b : Bool). b || started_after rows i u) (start_what what u v) ∙ sym (is_some_later (starts u) (row_at rows) i))
+          (λ u. ap (λ (b : Bool). cond b (blocks_it e.what) (blocked_after rows i u)) (change_what what u v) ∙ (ap (λ (b : Bool). cond (v == u) b (blocked_after rows i u)) (block_what what v) ∙ sym (said_later blocks (is_of u) (row_at rows) i)))
           (λ c l. ap (λ (b : Bool). cond b (runner e.what) (holders c)) (and_right (e.core == c) (is_switch e.what) (no_switch what v)))
           (after_more sys es (moment_of_slot x) (started_after rows i) (blocked_after rows i) holders e a keeps (no_end what v))
 
@@ -425,11 +411,11 @@ module _ (sys : SystemView) (system : IsSystem sys) (rows : List Row) (workload 
     nothing : (k : ℕ) → AreBefore rows k 0 → After sys [] 0 (started_after rows k) (blocked_after rows k) (Before 0)
     nothing k before = record {
       keep = λ i l. absurd (omega arith);
-      no_end = ap is_some (last_among-zero _ []);
+      no_end = ap is_some (last_below-zero _ (event_at []));
       in_time = omega arith;
-      started_is = λ v. ap is_some (last_among-zero _ []) ∙ sym (subst (λ (z : ℕ). started_after rows z v ≡ false) zero_is (ap is_some (last_row-zero (starts v) rows)));
-      blocked_is = λ v. ap (λ o. blocks_last o) (last_among-zero _ []) ∙ sym (subst (λ (z : ℕ). blocked_after rows z v ≡ false) zero_is (ap blocks (last_row-zero (is_of v) rows)));
-      held_is = λ c l. ap (λ o. runner_of o) (last_among-zero _ []);
+      started_is = λ v. ap is_some (last_below-zero _ (event_at [])) ∙ sym (subst (λ (z : ℕ). started_after rows z v ≡ false) zero_is (ap is_some (last_below-zero (starts v) (row_at rows))));
+      blocked_is = λ v. ap (λ o. blocks_last o) (last_below-zero _ (event_at [])) ∙ sym (subst (λ (z : ℕ). blocked_after rows z v ≡ false) zero_is (ap blocks (last_below-zero (is_of v) (row_at rows))));
+      held_is = λ c l. ap (λ o. runner_of o) (last_below-zero _ (event_at []));
     }
       where
         zero_is : 0 ≡ k

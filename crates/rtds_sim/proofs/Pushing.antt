@@ -1,71 +1,29 @@
 -- One event more, which keeps the rules.
-use Rattle.std.proofs.Common.{◌≡◌, ℕ, zero, suc, ◌<◌, ◌≤◌, Bool, true, false, not, cond, nat_lt, ◌||◌, List, [], ◌∷◌, ◌++◌, length, Option, Some, None, refl, sym, ◌∙◌, ap, arith, subst, inl, inr, le-ltb}
-use Rattle.std.specs.Prelude.{is_some, is_none}
+use Rattle.std.proofs.Common.{◌≡◌, ℕ, suc, ◌<◌, ◌≤◌, Bool, true, false, not, cond, nat_lt, ◌||◌, List, [], ◌∷◌, ◌++◌, length, Option, None, refl, sym, ◌∙◌, ap, arith, subst, inl, inr, le-ltb}
 use Rattle.std.proofs.lemmas.Bool.{cases_eq}
-use Rattle.std.proofs.lemmas.List.{get_or_append_left, get_or_push, length_push}
+use Rattle.std.proofs.lemmas.List.{get_or_push, length_push}
 use Rattle.csv_rows.proofs.Keeping.{fault_skipped}
 use Rattle.trace_file.specs.declared.event.TheConstants.{LAST_MOMENT}
-use Rattle.slot_model.specs.Run.{holds}
 use Rattle.tree_model.specs.View.{SystemView}
 use Rattle.trace_file.specs.declared.event.Event.{Event}
-use Rattle.trace_file.specs.declared.event.What.{What}
-use Rattle.trace_file.specs.declared.event.What.TheVariants.{Start, Wake, Block, Run, Stop, End}
 use Rattle.trace_file.specs.declared.fault.TraceFault.{TraceFault}
-use Rattle.trace_file.specs.declared.fault.TraceFault.TheVariants.{AfterEnd, OutOfRange, TimeFalls, Unknown, WrongCore, StartedTwice, NotStarted, NotBlocked, NotRunnable, StillRunning, CoreIdle}
-use Rattle.trace_file.specs.Events.{event_at, last_among, is_start_of, is_change_of, is_end, is_block, blocks, starts, changes, switches, ends, runner, runner_of, has_ended, is_started, is_blocked, holder}
+use Rattle.trace_file.specs.declared.fault.TraceFault.TheVariants.{AfterEnd}
+use Rattle.trace_file.specs.Events.{event_at, is_start_of, is_change_of, is_end, is_block, switches, runner, has_ended, is_started, is_blocked, holder}
 use Rattle.trace_file.specs.Rules.{row_of, fault_if, moment_before, named, is_known, stands_on, what_fault, event_fault, row_fault, RowsKeep, Kept}
-use Rattle.trace_file.proofs.Among.{last_among-zero, last_among-suc}
+use Rattle.trace_file.proofs.Prefix.{moment_same, ended_same, started_same, blocked_same, holder_same, what_same, rules_of, fault_same}
 use Rattle.trace_file.proofs.After.{ended_next, started_next, blocked_next, holder_next}
 
 module _ (sys : SystemView) (es : List Event) (e : Event) where
   abbrev more : List Event
   more = es ++ e ∷ []
 
-  event_old : (i : ℕ) → i < length es → event_at more i ≡ event_at es i
-  event_old i l = get_or_append_left es (e ∷ []) _ i l
-
   event_new : event_at more (length es) ≡ e
   event_new = get_or_push es e _ (length es) refl
 
-  among_old : (p : Event → Bool) (n : ℕ) → n ≤ length es → last_among p more n ≡ last_among p es n
-  among_old p zero l = last_among-zero p more ∙ sym (last_among-zero p es)
-  among_old p (suc n) l = last_among-suc p more n ∙ (ap (λ (z : Event). cond (p z) (Some z) (last_among p more n)) (event_old n l) ∙ (ap (λ (o : Option Event). cond (p (event_at es n)) (Some (event_at es n)) o) (among_old p n (omega arith)) ∙ sym (last_among-suc p es n)))
-
-  moment_old : (i : ℕ) → i ≤ length es → moment_before more i ≡ moment_before es i
-  moment_old zero l = refl
-  moment_old (suc i) l = ap (λ (z : Event). z.at) (event_old i l)
-
-  started_old : (i v : ℕ) → i ≤ length es → is_started more i v ≡ is_started es i v
-  started_old i v l = ap is_some (among_old (starts v) i l)
-
-  blocked_old : (i v : ℕ) → i ≤ length es → is_blocked more i v ≡ is_blocked es i v
-  blocked_old i v l = ap blocks (among_old (changes v) i l)
-
-  holder_old : (i c : ℕ) → i ≤ length es → holder more i c ≡ holder es i c
-  holder_old i c l = ap runner_of (among_old (switches c) i l)
-
-  what_old : (i c : ℕ) → i ≤ length es → (what : What) → what_fault more i c what ≡ what_fault es i c what
-  what_old i c l (Start v) = ap (λ (b : Bool). fault_if b (StartedTwice (row_of i)) None) (started_old i v l)
-  what_old i c l (Wake v) = ap (λ (b : Bool). fault_if (not b) (NotStarted (row_of i)) (fault_if (not (is_blocked more i v)) (NotBlocked (row_of i)) None)) (started_old i v l) ∙ ap (λ (b : Bool). fault_if (not (is_started es i v)) (NotStarted (row_of i)) (fault_if (not b) (NotBlocked (row_of i)) None)) (blocked_old i v l)
-  what_old i c l (Block v) =
-      ap (λ (b : Bool). fault_if (not b) (NotStarted (row_of i)) (fault_if (is_blocked more i v) (NotRunnable (row_of i)) (fault_if (holds (holder more i c) v) (StillRunning (row_of i)) None))) (started_old i v l)
-      ∙ (ap (λ (b : Bool). fault_if (not (is_started es i v)) (NotStarted (row_of i)) (fault_if b (NotRunnable (row_of i)) (fault_if (holds (holder more i c) v) (StillRunning (row_of i)) None))) (blocked_old i v l)
-      ∙ ap (λ (o : Option ℕ). fault_if (not (is_started es i v)) (NotStarted (row_of i)) (fault_if (is_blocked es i v) (NotRunnable (row_of i)) (fault_if (holds o v) (StillRunning (row_of i)) None))) (holder_old i c l))
-  what_old i c l (Run v) = ap (λ (b : Bool). fault_if (not b) (NotStarted (row_of i)) (fault_if (is_blocked more i v) (NotRunnable (row_of i)) None)) (started_old i v l) ∙ ap (λ (b : Bool). fault_if (not (is_started es i v)) (NotStarted (row_of i)) (fault_if b (NotRunnable (row_of i)) None)) (blocked_old i v l)
-  what_old i c l Stop = ap (λ (o : Option ℕ). fault_if (is_none o) (CoreIdle (row_of i)) None) (holder_old i c l)
-  what_old i c l End = refl
-
-  -- what an event with some moment before it breaks, and what it does
-  abbrev told : ℕ → Event → ℕ → Option TraceFault → Option TraceFault
-  told i z m later = fault_if (nat_lt LAST_MOMENT z.at) (OutOfRange (row_of i)) (fault_if (nat_lt z.at m) (TimeFalls (row_of i)) (fault_if (not (is_known sys z.core z.what)) (Unknown (row_of i)) (fault_if (not (stands_on sys z.core (named z.what))) (WrongCore (row_of i)) later)))
-
   row_old : (i : ℕ) → i < length es → row_fault sys more i ≡ row_fault sys es i
   row_old i l =
-      ap (λ (o : Option Event). fault_if (is_some o) (AfterEnd (row_of i)) (event_fault sys more i)) (among_old ends i (omega arith))
-      ∙ ap (λ (q : Option TraceFault). fault_if (has_ended es i) (AfterEnd (row_of i)) q)
-      (ap (λ (z : Event). told i z (moment_before more i) (what_fault more i z.core z.what)) (event_old i l)
-      ∙ (ap (λ (m : ℕ). told i (event_at es i) m (what_fault more i (event_at es i).core (event_at es i).what)) (moment_old i (omega arith))
-      ∙ ap (told i (event_at es i) (moment_before es i)) (what_old i (event_at es i).core (omega arith) (event_at es i).what)))
+      ap (λ (b : Bool). fault_if b (AfterEnd (row_of i)) (event_fault sys more i)) (ended_same es (e ∷ []) i (omega arith))
+      ∙ ap (λ (q : Option TraceFault). fault_if (has_ended es i) (AfterEnd (row_of i)) q) (fault_same sys es (e ∷ []) i l)
 
   -- an event that keeps the rules
   pub record Keeps : Type 0 where
@@ -79,10 +37,10 @@ module _ (sys : SystemView) (es : List Event) (e : Event) where
   row_new no_end k =
       let n : ℕ = length es in
       let late : n ≤ length es = omega arith in
-      fault_skipped (has_ended more n) (AfterEnd (row_of n)) (event_fault sys more n) (ap is_some (among_old ends n late) ∙ no_end)
-      (ap (λ (z : Event). told n z (moment_before more n) (what_fault more n z.core z.what)) event_new
-      ∙ (ap (λ (m : ℕ). told n e m (what_fault more n e.core e.what)) (moment_old n late)
-      ∙ (ap (told n e (moment_before es n)) (what_old n e.core late e.what)
+      fault_skipped (has_ended more n) (AfterEnd (row_of n)) (event_fault sys more n) (ended_same es (e ∷ []) n late ∙ no_end)
+      (ap (λ (z : Event). rules_of sys n z (moment_before more n) (what_fault more n z.core z.what)) event_new
+      ∙ (ap (λ (m : ℕ). rules_of sys n e m (what_fault more n e.core e.what)) (moment_same es (e ∷ []) n late)
+      ∙ (ap (rules_of sys n e (moment_before es n)) (what_same es (e ∷ []) n e.core e.what late)
       ∙ fault_skipped (nat_lt LAST_MOMENT e.at) _ _ (le-ltb LAST_MOMENT e.at k.in_limit) (fault_skipped (nat_lt e.at (moment_before es n)) _ _ (le-ltb e.at (moment_before es n) k.in_time) (fault_skipped (not (is_known sys e.core e.what)) _ _ (ap not k.known) (fault_skipped (not (stands_on sys e.core (named e.what))) _ _ (ap not k.on_core) k.may))))))
 
   rows_more : RowsKeep sys es (length es) → has_ended es (length es) ≡ false → Keeps → RowsKeep sys more (length more)
@@ -95,16 +53,16 @@ module _ (sys : SystemView) (es : List Event) (e : Event) where
   long = omega (arith, length_push es e)
 
   pub started_more : (v : ℕ) → is_started more (length more) v ≡ (is_start_of v e.what || is_started es (length es) v)
-  started_more v = ap (λ (n : ℕ). is_started more n v) long ∙ (started_next more (length es) v ∙ (ap (λ (z : Event). is_start_of v z.what || is_started more (length es) v) event_new ∙ ap (λ (b : Bool). is_start_of v e.what || b) (started_old (length es) v (omega arith))))
+  started_more v = ap (λ (n : ℕ). is_started more n v) long ∙ (started_next more (length es) v ∙ (ap (λ (z : Event). is_start_of v z.what || is_started more (length es) v) event_new ∙ ap (λ (b : Bool). is_start_of v e.what || b) (started_same es (e ∷ []) (length es) v (omega arith))))
 
   pub blocked_more : (v : ℕ) → is_blocked more (length more) v ≡ cond (is_change_of v e.what) (is_block e.what) (is_blocked es (length es) v)
-  blocked_more v = ap (λ (n : ℕ). is_blocked more n v) long ∙ (blocked_next more (length es) v ∙ (ap (λ (z : Event). cond (is_change_of v z.what) (is_block z.what) (is_blocked more (length es) v)) event_new ∙ ap (λ (b : Bool). cond (is_change_of v e.what) (is_block e.what) b) (blocked_old (length es) v (omega arith))))
+  blocked_more v = ap (λ (n : ℕ). is_blocked more n v) long ∙ (blocked_next more (length es) v ∙ (ap (λ (z : Event). cond (is_change_of v z.what) (is_block z.what) (is_blocked more (length es) v)) event_new ∙ ap (λ (b : Bool). cond (is_change_of v e.what) (is_block e.what) b) (blocked_same es (e ∷ []) (length es) v (omega arith))))
 
   pub holder_more : (c : ℕ) → holder more (length more) c ≡ cond (switches c e) (runner e.what) (holder es (length es) c)
-  holder_more c = ap (λ (n : ℕ). holder more n c) long ∙ (holder_next more (length es) c ∙ (ap (λ (z : Event). cond (switches c z) (runner z.what) (holder more (length es) c)) event_new ∙ ap (λ (o : Option ℕ). cond (switches c e) (runner e.what) o) (holder_old (length es) c (omega arith))))
+  holder_more c = ap (λ (n : ℕ). holder more n c) long ∙ (holder_next more (length es) c ∙ (ap (λ (z : Event). cond (switches c z) (runner z.what) (holder more (length es) c)) event_new ∙ ap (λ (o : Option ℕ). cond (switches c e) (runner e.what) o) (holder_same es (e ∷ []) (length es) c (omega arith))))
 
   ended_more : has_ended more (length more) ≡ (is_end e.what || has_ended es (length es))
-  ended_more = ap (λ (n : ℕ). has_ended more n) long ∙ (ended_next more (length es) ∙ (ap (λ (z : Event). is_end z.what || has_ended more (length es)) event_new ∙ ap (λ (o : Option Event). is_end e.what || is_some o) (among_old ends (length es) (omega arith))))
+  ended_more = ap (λ (n : ℕ). has_ended more n) long ∙ (ended_next more (length es) ∙ (ap (λ (z : Event). is_end z.what || has_ended more (length es)) event_new ∙ ap (λ (b : Bool). is_end e.what || b) (ended_same es (e ∷ []) (length es) (omega arith))))
 
   moment_more : moment_before more (length more) ≡ e.at
   moment_more = ap (moment_before more) long ∙ ap (λ (z : Event). z.at) event_new

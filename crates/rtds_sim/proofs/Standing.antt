@@ -15,7 +15,8 @@ use Rattle.rtds_sim.specs.Printed.{core_of, holder_before}
 use Rattle.rtds_sim.specs.Running.{RowsFrom, AreOn}
 use Rattle.rtds_sim.proofs.Entering.{child_core}
 use Rattle.rtds_sim.specs.Accounts.{no_account, account_at, holder_at, AreAccounts, AreBefore, HasRoom, IsAccount, run_of_part}
-use Rattle.release_file.proofs.Rows.{last_row-zero, ordered, some_found}
+use Rattle.csv_rows.proofs.Last.{last_below-zero, some_found}
+use Rattle.release_file.proofs.Rows.{ordered}
 use Rattle.trace_file.specs.Rules.{is_vcpu}
 use Rattle.rtds_sim.proofs.Keeping.{OnCore, vcpu_core}
 use Rattle.rtds_sim.proofs.Steady.{core_in}
@@ -33,8 +34,8 @@ standing_start sys rows runs host t k room accounts holders = record {
   are = subst (λ (x : ℕ). AreAccounts sys rows runs x host.taken host.accounts) (sym t) (subst (λ (k : ℕ). AreAccounts sys rows runs 0 k host.accounts) (sym k) (record {
     all_vcpus = room.all_vcpus;
     each = λ v l. subst (λ (a : Account). IsAccount sys rows (run_of_part sys runs v) v 0 0 a) (sym (accounts v)) (record {
-      started = sym (ap is_some (last_row-zero (starts v) rows));
-      blocked = sym (ap blocks (last_row-zero (is_of v) rows));
+      started = sym (ap is_some (last_below-zero (starts v) (row_at rows)));
+      blocked = sym (ap blocks (last_below-zero (is_of v) (row_at rows)));
       early = omega arith;
       few = omega arith;
       in_period = λ on. absurd (false≢true on);
@@ -67,7 +68,7 @@ idle_account sys rows run v x to k a off l h = record {
 -- a VCPU that is started stands on a core
 pub started_core : (sys : SystemView) → IsSystem sys → (rows : List Row) → IsWorkload sys rows → (runs : List (List (Option ℕ))) (x k : ℕ) (accounts : List Account) → k ≤ length rows → AreAccounts sys rows runs x k accounts → (v : ℕ) → v < length sys.parts → (account_at accounts v).started ≡ true → OnCore sys v
 started_core sys system rows w runs x k accounts in_rows are v l on =
-    let f = some_found (starts v) rows k (sym (are.each v l).started ∙ on) in
+    let f = some_found (starts v) (row_at rows) k (sym (are.each v l).started ∙ on) in
     let its : f.0.vcpu ≡ v = eqb-true f.0.vcpu v (and_parts (is_of v f.0) (is_start f.0.what) f.2.passes).0 in
     vcpu_core sys system v (subst (λ (u : ℕ). is_vcpu sys u ≡ true) (ap (λ (r : Row). r.vcpu) f.2.is ∙ its) (w.known f.2.place (omega (arith, f.2.within, in_rows))))
 

@@ -1,5 +1,5 @@
 -- Rows at one slot, taken one after the other.
-use Rattle.std.proofs.Common.{◌≡◌, ◌≢◌, ℕ, zero, suc, ◌+◌, ◌*◌, ◌-◌, ◌/◌, ◌<◌, ◌≤◌, Bool, true, false, cond, leb, ◌&&◌, List, length, set, Option, Some, None, refl, sym, ◌∙◌, ap, arith, subst, inl, inr, eq-eqb, eqb-true, ne_eqb}
+use Rattle.std.proofs.Common.{◌≡◌, ◌≢◌, ℕ, suc, ◌+◌, ◌*◌, ◌-◌, ◌/◌, ◌<◌, ◌≤◌, Bool, true, false, cond, leb, ◌&&◌, List, length, set, Option, Some, None, refl, sym, ◌∙◌, ap, arith, subst, inl, inr, eq-eqb, eqb-true, ne_eqb}
 use Rattle.std.specs.Prelude.{is_some}
 use Rattle.std.proofs.lemmas.Bool.{cases_eq, cases_Bool, and_parts, and_from, false≢true, lt-leb, and_right}
 use Rattle.std.proofs.lemmas.List.{get_or-set_same, get_or-set_other, length-set}
@@ -17,7 +17,7 @@ use Rattle.release_file.specs.Workload.{row_at, last_row, is_of, is_start, start
 use Rattle.rtds_sim.specs.Rtds.{period_number, period_from}
 use Rattle.rtds_sim.specs.Printed.{event_of, row_event_at}
 use Rattle.rtds_sim.specs.Accounts.{account_at, no_account, row_taken, IsInPeriod, IsAccount, AreAccounts, run_of_part}
-use Rattle.release_file.proofs.Rows.{last_row-yes, last_row-no, some_row}
+use Rattle.csv_rows.proofs.Last.{last_below-no, last_below-yes, last_is, some_row}
 
 -- the event of a row at a slot
 pub row_none : (sys : SystemView) (rows : List Row) (x i : ℕ) → (row_at rows i).at ≢ x → row_event_at sys rows x i ≡ None
@@ -33,15 +33,13 @@ none_between p x = sum_below-same (λ y. cond (leb x y && p y) 1 0) (λ y. 0) x 
 module _ (sys : SystemView) (rows : List Row) (workload : IsWorkload sys rows) where
   -- a VCPU starts once
   start_once : (k v n : ℕ) → k < n → n ≤ length rows → is_of v (row_at rows k) ≡ true → (row_at rows k).what ≡ Start → last_row (starts v) rows n ≡ Some (row_at rows k)
-  start_once k v zero l h of is = absurd (omega arith)
-  start_once k v (suc n) l h of is = elim (cases_eq k n) [
-    | inl e ↦ subst (λ (z : ℕ). last_row (starts v) rows (suc n) ≡ Some (row_at rows z)) (sym e) (last_row-yes (starts v) rows n (subst (λ (z : ℕ). starts v (row_at rows z) ≡ true) e (and_from (is_of v (row_at rows k)) (is_start (row_at rows k).what) of (ap is_start is))))
-    | inr ne ↦ elim (cases_Bool (starts v (row_at rows n))) [
-      | inr b ↦ last_row-no (starts v) rows n b ∙ start_once k v n (omega arith) (omega arith) of is
-      | inl b ↦ absurd (twice (row_at rows n).what (last_row (is_of v) rows n) (and_parts (is_of v (row_at rows n)) (is_start (row_at rows n).what) b).1 (some_row (is_of v) rows n k (omega arith) of)
-          (subst (λ (u : ℕ). may_follow (last_row (is_of u) rows n) (row_at rows n).what ≡ true) (eqb-true (row_at rows n).vcpu v (and_parts (is_of v (row_at rows n)) (is_start (row_at rows n).what) b).0) (workload.in_turn n h)))
-    ]
-  ]
+  start_once k v n l h of is = last_is (starts v) (row_at rows) k n l (and_from (is_of v (row_at rows k)) (is_start (row_at rows k).what) of (ap is_start is)) (λ j a b. elim (cases_Bool (starts v (row_at rows j))) [
+    | inr off ↦ off
+    | inl on ↦
+        let parts = and_parts (is_of v (row_at rows j)) (is_start (row_at rows j).what) on in
+        absurd (twice (row_at rows j).what (last_row (is_of v) rows j) parts.1 (some_row (is_of v) (row_at rows) j k a of)
+        (subst (λ (u : ℕ). may_follow (last_row (is_of u) rows j) (row_at rows j).what ≡ true) (eqb-true (row_at rows j).vcpu v parts.0) (workload.in_turn j (omega arith))))
+  ])
     where
       twice : (what : WakeKind) (o : Option Row) → is_start what ≡ true → is_some o ≡ true → may_follow o what ≡ true → ⊥
       twice Start None a b c = false≢true b
@@ -57,8 +55,8 @@ module _ (sys : SystemView) (rows : List Row) (workload : IsWorkload sys rows) w
   other_account run u x k a ne h =
       let no : is_of u (row_at rows k) ≡ false = ne_eqb (row_at rows k).vcpu u ne in
       record {
-        started = h.started ∙ ap is_some (sym (last_row-no (starts u) rows k (ap (λ (b : Bool). b && is_start (row_at rows k).what) no)));
-        blocked = h.blocked ∙ ap blocks (sym (last_row-no (is_of u) rows k no));
+        started = h.started ∙ ap is_some (sym (last_below-no (starts u) (row_at rows) k (ap (λ (b : Bool). b && is_start (row_at rows k).what) no)));
+        blocked = h.blocked ∙ ap blocks (sym (last_below-no (is_of u) (row_at rows) k no));
         early = h.early;
         few = h.few;
         in_period = h.in_period;
@@ -71,8 +69,8 @@ module _ (sys : SystemView) (rows : List Row) (workload : IsWorkload sys rows) w
       let number : period_number (part_at sys v).period (start_of rows v) x ≡ 0 = ap (λ (z : ℕ). (x - z) / (part_at sys v).period) f ∙ (ap (λ (z : ℕ). z / (part_at sys v).period) (let e : x - x ≡ 0 = omega arith in e) ∙ div-eq_of_lt some) in
       let from : period_from sys rows v x ≡ x = ap (λ (n : ℕ). begins (part_at sys v).period (start_of rows v) n) number ∙ (let e : start_of rows v + 0 * (part_at sys v).period ≡ x = omega arith in e) in
       record {
-        started = sym (ap is_some (last_row-yes (starts v) rows k (and_from (is_of v (row_at rows k)) (is_start (row_at rows k).what) of (ap is_start is))));
-        blocked = sym (ap blocks (last_row-yes (is_of v) rows k of) ∙ ap is_block is);
+        started = sym (ap is_some (last_below-yes (starts v) (row_at rows) k (and_from (is_of v (row_at rows k)) (is_start (row_at rows k).what) of (ap is_start is))));
+        blocked = sym (ap blocks (last_below-yes (is_of v) (row_at rows) k of) ∙ ap is_block is);
         early = omega arith;
         few = omega arith;
         in_period = λ on. record { from_is = at ∙ sym from; used_is = sym (ap (λ (a : ℕ). count_between (λ y. holds (held run y) v) a x) from ∙ none_between (λ y. holds (held run y) v) x); begun = omega arith; not_over = omega arith; few = omega arith };
@@ -80,8 +78,8 @@ module _ (sys : SystemView) (rows : List Row) (workload : IsWorkload sys rows) w
 
   change_account : (run : List (Option ℕ)) (v x k : ℕ) (b : Bool) (a : Account) → is_of v (row_at rows k) ≡ true → is_start (row_at rows k).what ≡ false → is_block (row_at rows k).what ≡ b → IsAccount sys rows run v x k a → IsAccount sys rows run v x (suc k) (record a { blocked = b })
   change_account run v x k b a of not_start is h = record {
-    started = h.started ∙ ap is_some (sym (last_row-no (starts v) rows k (and_right (is_of v (row_at rows k)) (is_start (row_at rows k).what) not_start)));
-    blocked = sym (ap blocks (last_row-yes (is_of v) rows k of) ∙ is);
+    started = h.started ∙ ap is_some (sym (last_below-no (starts v) (row_at rows) k (and_right (is_of v (row_at rows k)) (is_start (row_at rows k).what) not_start)));
+    blocked = sym (ap blocks (last_below-yes (is_of v) (row_at rows) k of) ∙ is);
     early = h.early;
     few = h.few;
     in_period = λ on. let p : IsInPeriod sys rows run v x a = h.in_period on in record { from_is = p.from_is; used_is = p.used_is; begun = p.begun; not_over = p.not_over; few = p.few };

@@ -2,7 +2,7 @@
 -- what the run gives the VCPUs in slots the trace gives them in nanoseconds.
 use Rattle.std.proofs.Common.{◌≡◌, ℕ, zero, suc, min, ◌+◌, ◌-◌, ◌*◌, ◌/◌, ◌<◌, ◌≤◌, Bool, true, false, cond, leb, ◌&&◌, List, [], ◌∷◌, ◌++◌, length, Option, Some, None, refl, sym, ◌∙◌, ap, arith, subst, inl, inr, append_assoc, leb-true, eqb-true, eq-eqb, ◌==◌, ◌%◌}
 use Rattle.std.specs.List.{list_all}
-use Rattle.std.proofs.lemmas.Bool.{cases_Bool, cases_lt, and_from, and_parts, false≢true}
+use Rattle.std.proofs.lemmas.Bool.{cases_lt, and_from, and_parts, false≢true}
 use Rattle.std.proofs.lemmas.Option.{none-some, same_Some}
 use Rattle.std.proofs.lemmas.List.{get_or_append_left, get_or-append_right, get_or_push, length_push, length-append}
 use Rattle.slot_model.specs.declared.task.TheConstants.{LIMIT}
@@ -20,9 +20,9 @@ use Rattle.trace_file.specs.Events.{event_at, last_among, last_by, starts as sta
 use Rattle.trace_file.specs.declared.unit.Unit.TheVariants.{Microseconds, Nanoseconds}
 use Rattle.trace_file.specs.Printing.{is_whole, unit_for}
 use Rattle.trace_file.specs.Periods.{begins, count_between, period_of, running, Satisfied}
-use Rattle.trace_file.proofs.Among.{last_among-zero, last_among-suc}
+use Rattle.csv_rows.proofs.Last.{last_by_moment, found_row, some_row}
 use Rattle.trace_file.proofs.Prefix.{last_same}
-use Rattle.trace_file.proofs.Moments.{last_by_now, child_parent}
+use Rattle.trace_file.proofs.Moments.{child_parent}
 use Rattle.trace_file.proofs.Counting.{between_none, between_alike_to}
 use Rattle.release_file.specs.declared.workload.Wake.{Wake as Row}
 use Rattle.release_file.specs.declared.workload.WakeKind.{WakeKind}
@@ -31,7 +31,6 @@ use Rattle.release_file.specs.Workload.{row_at, is_of, is_start, starts, is_star
 use Rattle.rtds_sim.specs.Rtds.{RtdsRun}
 use Rattle.rtds_sim.specs.Printed.{moment_of_slot, core_of, what_of, event_of, on_at, printed_below, printed}
 use Rattle.rtds_sim.specs.Giving.{slots_got, AlwaysServed, NoneOver}
-use Rattle.release_file.proofs.Rows.{some_row}
 use Rattle.rtds_sim.proofs.Taking.{start_is}
 use Rattle.rtds_sim.proofs.Keeping.{OnCore, vcpu_core, holder_below}
 use Rattle.rtds_sim.proofs.Told.{AllOf, all_one, all_append, told_below, Behind, behind}
@@ -120,7 +119,7 @@ module _ (sys : SystemView) (system : IsSystem sys) (budgets : List ℕ) (plan :
         let es : List Event = printed_below sys rows runs (suc x) in
         let long : length (es ++ tail) ≡ length es + length tail = length-append es tail in
         ap (λ (all : List Event). last_by test all m) split
-        ∙ (last_by_now test (es ++ tail) (length es) m (omega (arith, long)) (λ i l. early_at i l) (λ i a b. late_at i a b)
+        ∙ (last_by_moment (λ e. e.at) test (event_at (es ++ tail)) m (length es) (length (es ++ tail)) (omega (arith, long)) (λ i l. early_at i l) (λ i a b. late_at i a b)
         ∙ last_same test es tail (length es) (omega arith))
       where
         early_at : (i : ℕ) → i < length (printed_below sys rows runs (suc x)) → (event_at (printed_below sys rows runs (suc x) ++ tail) i).at ≤ m
@@ -146,11 +145,9 @@ module _ (sys : SystemView) (system : IsSystem sys) (budgets : List ℕ) (plan :
       (all_one (StartsSo sys rows v) (on_at 0 n End) (λ h. absurd (false≢true h)))
 
   found : (v k : ℕ) (e : Event) → k ≤ length events → last_among (starts_event v) events k ≡ Some e → IsStartOf sys rows v e
-  found v zero e l h = absurd (none-some e (sym (last_among-zero (starts_event v) events) ∙ h))
-  found v (suc k) e l h = elim (cases_Bool (starts_event v (event_at events k))) [
-    | inl b ↦ subst (IsStartOf sys rows v) (same_Some (event_at events k) e (sym (ap (λ (z : Bool). cond z (Some (event_at events k)) (last_among (starts_event v) events k)) b) ∙ (sym (last_among-suc (starts_event v) events k) ∙ h))) (all_starts v k (omega arith) b)
-    | inr b ↦ found v k e (omega arith) (sym (ap (λ (z : Bool). cond z (Some (event_at events k)) (last_among (starts_event v) events k)) b) ∙ (sym (last_among-suc (starts_event v) events k) ∙ h))
-  ]
+  found v k e l h =
+      let at = found_row (starts_event v) (event_at events) k e h in
+      subst (IsStartOf sys rows v) at.is (all_starts v at.place (omega (arith, at.within)) (subst (λ (z : Event). starts_event v z ≡ true) (sym at.is) at.passes))
 
   -- a VCPU that the trace starts is one that the workload starts, at the slot of that moment
   pub record StartedAt (v f : ℕ) : Type 0 where
@@ -164,7 +161,7 @@ module _ (sys : SystemView) (system : IsSystem sys) (budgets : List ℕ) (plan :
       here : (e : Event) → IsStartOf sys rows v e → e.at ≡ f → StartedAt v f
       here e s at = record {
         from = sym at ∙ (s.at ∙ ap (λ (z : ℕ). z * 1000) (sym (start_is sys rows workload s.row v s.in_rows s.of_it s.is_start)));
-        started = some_row (starts v) rows (length rows) s.row s.in_rows (and_from (is_of v (row_at rows s.row)) (is_start (row_at rows s.row).what) s.of_it (ap is_start s.is_start));
+        started = some_row (starts v) (row_at rows) (length rows) s.row s.in_rows (and_from (is_of v (row_at rows s.row)) (is_start (row_at rows s.row).what) s.of_it (ap is_start s.is_start));
         core = subst (OnCore sys) (eqb-true (row_at rows s.row).vcpu v s.of_it) (vcpu_core sys system (row_at rows s.row).vcpu (workload.known s.row s.in_rows));
       }
 

@@ -1,4 +1,5 @@
 mod Names
+pub mod Digits
 pub mod Sums
 pub mod Places
 pub mod Windows

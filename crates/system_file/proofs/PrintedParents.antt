@@ -9,7 +9,7 @@ use Rattle.tree_model.specs.declared.pinned_core.Core.{Core as CoreView}
 use Rattle.tree_model.specs.declared.place.Parent.{Parent}
 use Rattle.tree_model.specs.declared.place.Parent.TheVariants.{Core as on_core, Part as on_part}
 use Rattle.tree_model.specs.View.{PartView, SystemView}
-use Rattle.tree_model.specs.System.{IsSystem, AreDistinct, core_at, part_at, Stands, no_core, no_part, IsCoreSupply}
+use Rattle.tree_model.specs.System.{IsSystem, AreDistinct, core_at, part_at, core_names, part_names, Stands, no_core, no_part, IsCoreSupply}
 use Rattle.system_file.specs.declared.fault.Spot.{Spot}
 use Rattle.system_file.specs.Document.{is_named, parent_named, spelled_core}
 use Rattle.system_file.specs.Faults.{core_faults, parent_faults, in_order, has_tasks}
@@ -20,15 +20,9 @@ use Rattle.system_file.proofs.PrintedWalk.{all_faultless, all_spelled, within, s
 use Rattle.system_file.proofs.PrintedCore.{core_name, core_spelled, core_faultless}
 use Rattle.system_file.proofs.PrintedPart.{part_name, part_has_tasks}
 
-abbrev pub core_names : SystemView → List (List ℕ)
-core_names sys = map (λ (c : CoreView). c.name) sys.cores
-
-abbrev pub part_names : List PartView → List (List ℕ)
-part_names parts = map (λ (p : PartView). p.name) parts
-
 -- the cores
-core_names_differ : (sys : SystemView) → IsSystem sys → AreDistinct (core_names sys)
-core_names_differ sys is = distinct_front (core_names sys) (part_names sys.parts) is.names
+core_names_differ : (sys : SystemView) → IsSystem sys → AreDistinct (core_names sys.cores)
+core_names_differ sys is = distinct_front (core_names sys.cores) (part_names sys.parts) is.names
 
 pub cores_faultless : (sys : SystemView) → IsSystem sys → CoresAreNamed sys.cores → in_order core_faults [] (map printed_core sys.cores) ≡ []
 cores_faultless sys is named = all_faultless core_faults printed_core [] sys.cores each
@@ -47,16 +41,16 @@ cores_spelled cores = all_spelled spelled_core printed_core [] cores (λ earlier
 -- the name of a core among the cores
 core_place : (sys : SystemView) → IsSystem sys → (c : ℕ) → c < length sys.cores → position (is_named (core_at sys c).name) (map printed_core sys.cores) ≡ Some c
 core_place sys is c h =
-    let name : get_or (core_names sys) c [] ≡ (core_at sys c).name = get_or-map (λ (k : CoreView). k.name) sys.cores c no_core [] h in
+    let name : get_or (core_names sys.cores) c [] ≡ (core_at sys c).name = get_or-map (λ (k : CoreView). k.name) sys.cores c no_core [] h in
     named_at printed_core (λ k. k.name) core_name (core_at sys c).name sys.cores
-    ∙ subst (λ (s : List ℕ). position (bytes_eq s) (core_names sys) ≡ Some c) name (found_at (core_names sys) c (core_names_differ sys is) (omega (arith, length-map sys.cores (λ (k : CoreView). k.name))))
+    ∙ subst (λ (s : List ℕ). position (bytes_eq s) (core_names sys.cores) ≡ Some c) name (found_at (core_names sys.cores) c (core_names_differ sys is) (omega (arith, length-map sys.cores (λ (k : CoreView). k.name))))
 
 -- the name of a part, which no core has, among the first parts
 part_among : (sys : SystemView) → IsSystem sys → (q : ℕ) → q < length sys.parts → position (is_named (part_at sys q).name) (map printed_core sys.cores) ≡ None
 part_among sys is q h =
     let name : get_or (part_names sys.parts) q [] ≡ (part_at sys q).name = get_or-map (λ (p : PartView). p.name) sys.parts q no_part [] h in
     named_at printed_core (λ k. k.name) core_name (part_at sys q).name sys.cores
-    ∙ subst (λ (s : List ℕ). position (bytes_eq s) (core_names sys) ≡ None) name (place_missed (core_names sys) (part_names sys.parts) is.names q (omega (arith, length-map sys.parts (λ (p : PartView). p.name))))
+    ∙ subst (λ (s : List ℕ). position (bytes_eq s) (core_names sys.cores) ≡ None) name (place_missed (core_names sys.cores) (part_names sys.parts) is.names q (omega (arith, length-map sys.parts (λ (p : PartView). p.name))))
 
 part_place : (sys : SystemView) → IsSystem sys → (earlier later : List PartView) → sys.parts ≡ earlier ++ later → (q : ℕ) → q < length earlier → position (is_named (part_at sys q).name) (map (printed_part sys) earlier) ≡ Some q
 part_place sys is earlier later e q h =
@@ -64,7 +58,7 @@ part_place sys is earlier later e q h =
     let name : get_or (part_names earlier) q [] ≡ (part_at sys q).name = get_or-map (λ (p : PartView). p.name) earlier q no_part [] h ∙ ap (λ (p : PartView). p.name) (sym at) in
     let differ : AreDistinct (part_names earlier) =
     distinct_front (part_names earlier) (part_names later)
-    (subst (λ (names : List (List ℕ)). AreDistinct names) (ap part_names e ∙ map-append (λ (p : PartView). p.name) earlier later) (distinct_back (core_names sys) (part_names sys.parts) is.names)) in
+    (subst (λ (names : List (List ℕ)). AreDistinct names) (ap part_names e ∙ map-append (λ (p : PartView). p.name) earlier later) (distinct_back (core_names sys.cores) (part_names sys.parts) is.names)) in
     named_at (printed_part sys) (λ p. p.name) (part_name sys) (part_at sys q).name earlier
     ∙ subst (λ (s : List ℕ). position (bytes_eq s) (part_names earlier) ≡ Some q) name (found_at (part_names earlier) q differ (omega (arith, length-map earlier (λ (p : PartView). p.name))))
 

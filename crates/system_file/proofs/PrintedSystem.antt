@@ -10,7 +10,7 @@ use Rattle.toml.specs.View.{items_of}
 use Rattle.tree_model.specs.declared.place.Parent.{Parent}
 use Rattle.tree_model.specs.declared.place.Parent.TheVariants.{Core as on_core, Part as on_part}
 use Rattle.tree_model.specs.View.{PartView, SystemView}
-use Rattle.tree_model.specs.System.{IsSystem, IsPart, part_at, is_leaf, Stands, IsChildOf, no_part}
+use Rattle.tree_model.specs.System.{IsSystem, IsPart, part_at, core_names, part_names, is_leaf, Stands, IsChildOf, no_part}
 use Rattle.system_file.specs.declared.format.Format.{Format}
 use Rattle.system_file.specs.declared.format.Format.TheVariants.{One, Two}
 use Rattle.system_file.specs.declared.fault.Spot.TheVariants.{Top, Part}
@@ -23,7 +23,7 @@ use Rattle.system_file.proofs.PrintedNames.{named_any, not_taken, new_among, equ
 use Rattle.system_file.proofs.PrintedWalk.{all_faultless, all_spelled, elements_back, within, stands_at, none_among}
 use Rattle.system_file.proofs.PrintedCore.{core_name}
 use Rattle.system_file.proofs.PrintedPart.{PartTells, part_name, part_parent, part_has_tasks, few_ok, part_faultless, part_spelled}
-use Rattle.system_file.proofs.PrintedParents.{core_names, part_names, cores_faultless, cores_spelled, StandsAmong, parent_found, parent_faultless}
+use Rattle.system_file.proofs.PrintedParents.{cores_faultless, cores_spelled, StandsAmong, parent_found, parent_faultless}
 use Rattle.system_file.proofs.Fits.{not_none}
 
 -- no core and no earlier part has the name of a part
@@ -34,9 +34,9 @@ part_new sys is earlier part later e =
     let name : get_or (part_names sys.parts) (length earlier) [] ≡ part.name = get_or-map (λ (p : PartView). p.name) sys.parts (length earlier) part [] h ∙ ap (λ (p : PartView). p.name) (stands_at sys.parts earlier part later part e) in
     let no_core_has : list_any (is_named part.name) (map printed_core sys.cores) ≡ false =
     named_any printed_core (λ k. k.name) core_name part.name sys.cores
-    ∙ subst (λ (s : List ℕ). list_any (bytes_eq s) (core_names sys) ≡ false) name (not_taken (core_names sys) (part_names sys.parts) is.names (length earlier) (omega (arith, length-map sys.parts (λ (p : PartView). p.name)))) in
+    ∙ subst (λ (s : List ℕ). list_any (bytes_eq s) (core_names sys.cores) ≡ false) name (not_taken (core_names sys.cores) (part_names sys.parts) is.names (length earlier) (omega (arith, length-map sys.parts (λ (p : PartView). p.name)))) in
     let no_part_has : list_any (is_named part.name) (map (printed_part sys) earlier) ≡ false =
-    new_among (printed_part sys) (λ p. p.name) (part_name sys) sys.parts earlier part later e (distinct_back (core_names sys) (part_names sys.parts) is.names) in
+    new_among (printed_part sys) (λ p. p.name) (part_name sys) sys.parts earlier part later e (distinct_back (core_names sys.cores) (part_names sys.parts) is.names) in
     list_any-append (is_named part.name) (map printed_core sys.cores) (map (printed_part sys) earlier) ∙ rw (no_core_has, no_part_has)
 
 -- the jitter of its tasks can be told

@@ -11,7 +11,7 @@ use Rattle.csv.specs.Writing.{default_writer, row_text, fields_text, is_blank, n
 use Rattle.tree_model.specs.View.{SystemView}
 use Rattle.trace_file.specs.declared.endings.Ending.{Ending}
 use Rattle.trace_file.specs.Endings.{IsEnding, AreEndings}
-use Rattle.trace_file.proofs.Printed.{all_digits}
+use Rattle.slot_model.proofs.Digits.{decimal_digits}
 
 -- an entry more, or another one
 pub none_push : (made : List (Option Ending)) → ((i : ℕ) → get_or made i None ≡ None) → (i : ℕ) → get_or (made ++ None ∷ []) i None ≡ None
@@ -41,4 +41,4 @@ unfolding is_blank
 row_split n a b c l =
     let rest : List ℕ = fields_text default_writer (a ∷ b ∷ c ∷ []) in
     let end : List ℕ = [] ++ end_text default_writer.terminator in
-    sym (ap (λ (q : Bool). (cond q (quoted default_writer (decimal n)) (decimal n) ++ rest) ++ end) (digits_plain (decimal n) (all_digits n l)) ∙ append_assoc (decimal n) rest end)
+    sym (ap (λ (q : Bool). (cond q (quoted default_writer (decimal n)) (decimal n) ++ rest) ++ end) (digits_plain (decimal n) (decimal_digits n (omega arith))) ∙ append_assoc (decimal n) rest end)

@@ -2,6 +2,7 @@
 -- are tried are computed: A stands on the first core, B on the second, and N in A.
 use Rattle.std.proofs.Common.{◌≡◌, ℕ, true, false, Some, None, List, [], ◌∷◌, map, codes, refl, sym, arith}
 use Rattle.std.proofs.lemmas.Option.{none-some}
+use Rattle.csv_rows.specs.Last.{last_below}
 use Rattle.slot_model.specs.Task.{plain_task}
 use Rattle.slot_model.specs.declared.sched.Sched.TheVariants.{Edf}
 use Rattle.tree_model.specs.declared.pinned_core.Core.{Core as CoreView}
@@ -13,7 +14,7 @@ use Rattle.trace_file.specs.declared.event.What.{What}
 use Rattle.trace_file.specs.declared.event.What.TheVariants.{Start, Wake, Block, Run, Stop, End}
 use Rattle.trace_file.specs.declared.fault.TraceFault.TheVariants.{TimeFalls, NotRunnable, NotStarted, OutOfRange, Unknown, WrongCore, BadRow, NoEnd, StillRunning, CoreIdle, AfterEnd}
 use Rattle.trace_file.specs.declared.unit.Unit.TheVariants.{Microseconds, Nanoseconds}
-use Rattle.trace_file.specs.Events.{last_among, holder, has_core, has_core_at}
+use Rattle.trace_file.specs.Events.{holder, has_core, has_core_at}
 use Rattle.trace_file.specs.Rules.{row_fault, Kept, LacksEnd}
 use Rattle.trace_file.specs.File.{is_row, event_of, events_of, unit_of, row_rules, LacksFileEnd}
 
@@ -66,107 +67,107 @@ abbrev both_run : List Event
 both_run = row 0 0 (Start 0) ∷ row 0 1 (Start 1) ∷ row 0 1 (Run 1) ∷ row 0 0 (Run 0) ∷ row 4 0 Stop ∷ []
 
 holders_of_both : holder both_run 5 0 ∷ holder both_run 5 1 ∷ [] ≡ None ∷ Some 1 ∷ []
-unfolding last_among
+unfolding last_below
 holders_of_both = refl
 
 b_keeps_its_core : has_core_at (on_core 1) both_run 1 5 ≡ true
-unfolding last_among
+unfolding last_below
 b_keeps_its_core = refl
 
 a_has_none_after_its_stop : has_core_at (on_core 0) both_run 0 4 ≡ false
-unfolding last_among
+unfolding last_below
 a_has_none_after_its_stop = refl
 
 b_has_its_core : has_core (on_core 1) both_run 5 1 ∷ has_core (on_core 0) both_run 5 1 ∷ [] ≡ true ∷ false ∷ []
-unfolding last_among
+unfolding last_below
 b_has_its_core = refl
 
 -- a VCPU stands on its own core, and what stands in a part is none
 not_its_core : row_fault pair (row 0 1 (Start 0) ∷ []) 0 ≡ Some (WrongCore 2)
-unfolding last_among
+unfolding last_below
 not_its_core = refl
 
 inside_a_part : row_fault pair (row 0 0 (Start 2) ∷ []) 0 ≡ Some (Unknown 2)
-unfolding last_among
+unfolding last_below
 inside_a_part = refl
 
 -- of two rules that one row breaks the first is told
 no_row_and_too_late : row_rules pair Microseconds [] (fields (codes "1000000001") (codes "c") (codes "go") (codes "A")) ≡ Some (BadRow 2)
-unfolding last_among
+unfolding last_below
 no_row_and_too_late = refl
 
 too_late_and_falling : row_fault pair (row 1000000000002 0 (Start 0) ∷ row 1000000000001 0 (Run 0) ∷ []) 1 ≡ Some (OutOfRange 3)
-unfolding last_among
+unfolding last_below
 too_late_and_falling = refl
 
 falling_and_unknown : row_fault pair (row 5 0 (Start 0) ∷ row 4 0 (Run 9) ∷ []) 1 ≡ Some (TimeFalls 3)
-unfolding last_among
+unfolding last_below
 falling_and_unknown = refl
 
 unknown_and_on_another_core : row_fault pair (row 0 1 (Start 2) ∷ []) 0 ≡ Some (Unknown 2)
-unfolding last_among
+unfolding last_below
 unknown_and_on_another_core = refl
 
 on_another_core_and_not_started : row_fault pair (row 0 1 (Run 0) ∷ []) 0 ≡ Some (WrongCore 2)
-unfolding last_among
+unfolding last_below
 on_another_core_and_not_started = refl
 
 not_started_and_not_blocked : row_fault pair (row 0 0 (Wake 0) ∷ []) 0 ≡ Some (NotStarted 2)
-unfolding last_among
+unfolding last_below
 not_started_and_not_blocked = refl
 
 blocked_before_it_starts : row_fault pair (row 0 0 (Block 0) ∷ []) 0 ≡ Some (NotStarted 2)
-unfolding last_among
+unfolding last_below
 blocked_before_it_starts = refl
 
 blocked_twice : row_fault pair (row 0 0 (Start 0) ∷ row 0 0 (Block 0) ∷ row 0 0 (Block 0) ∷ []) 2 ≡ Some (NotRunnable 4)
-unfolding last_among
+unfolding last_below
 blocked_twice = refl
 
 -- the end that is missing is told of the row behind the last
 no_end_of_a_file : LacksFileEnd pair Nanoseconds [] (NoEnd 2)
-unfolding last_among
+unfolding last_below
 no_end_of_a_file = record { keep = λ i less. absurd (omega arith); no_end = refl; fault_is = refl }
 
 -- a start, a block and a wake leave the core to the VCPU that has it
 a_keeps_its_core : holder (row 0 0 (Run 0) ∷ row 1 0 (Start 1) ∷ []) 2 0 ∷ holder (row 0 0 (Run 0) ∷ row 2 0 (Block 1) ∷ []) 2 0 ∷ holder (row 0 0 (Run 0) ∷ row 3 0 (Wake 1) ∷ []) 2 0 ∷ [] ≡ Some 0 ∷ Some 0 ∷ Some 0 ∷ []
-unfolding last_among
+unfolding last_below
 a_keeps_its_core = refl
 
 -- a stop and a block look at their own core, and a block at its own VCPU
 b_stops_while_the_first_core_is_idle : row_fault pair (row 0 1 (Start 1) ∷ row 0 1 (Run 1) ∷ row 1 1 Stop ∷ []) 2 ≡ None
-unfolding last_among
+unfolding last_below
 b_stops_while_the_first_core_is_idle = refl
 
 idle_while_a_runs : row_fault pair (row 0 0 (Start 0) ∷ row 0 0 (Run 0) ∷ row 1 1 Stop ∷ []) 2 ≡ Some (CoreIdle 4)
-unfolding last_among
+unfolding last_below
 idle_while_a_runs = refl
 
 b_is_blocked_while_it_runs : row_fault pair (row 0 1 (Start 1) ∷ row 0 1 (Run 1) ∷ row 1 1 (Block 1) ∷ []) 2 ≡ Some (StillRunning 4)
-unfolding last_among
+unfolding last_below
 b_is_blocked_while_it_runs = refl
 
 -- a block and a wake name a VCPU, which stands on their core
 block_of_no_vcpu : row_fault pair (row 0 0 (Block 2) ∷ []) 0 ≡ Some (Unknown 2)
-unfolding last_among
+unfolding last_below
 block_of_no_vcpu = refl
 
 wake_of_no_vcpu : row_fault pair (row 0 0 (Wake 2) ∷ []) 0 ≡ Some (Unknown 2)
-unfolding last_among
+unfolding last_below
 wake_of_no_vcpu = refl
 
 block_on_another_core : row_fault pair (row 0 1 (Block 0) ∷ []) 0 ≡ Some (WrongCore 2)
-unfolding last_among
+unfolding last_below
 block_on_another_core = refl
 
 -- a VCPU may be blocked while another one has its core
 blocked_while_another_runs : row_fault pair (row 0 0 (Run 7) ∷ row 0 0 (Start 0) ∷ row 1 0 (Block 0) ∷ []) 2 ≡ None
-unfolding last_among
+unfolding last_below
 blocked_while_another_runs = refl
 
 -- the core of an end is 0, and no other core
 end_of_the_second_core : row_fault pair (row 0 1 End ∷ []) 0 ≡ Some (Unknown 2)
-unfolding last_among
+unfolding last_below
 end_of_the_second_core = refl
 
 no_word_but_end : is_row (fields (codes "0") [] (codes "go") []) ≡ false
@@ -174,9 +175,9 @@ no_word_but_end = refl
 
 -- and of a list the same; its last row keeps the rules too
 no_end_of_a_list : LacksEnd pair [] (NoEnd 2)
-unfolding last_among
+unfolding last_below
 no_end_of_a_list = record { rows = λ i less. absurd (omega arith); no_end = refl; fault_is = refl }
 
 row_behind_the_end : Kept pair (row 0 0 End ∷ row 0 0 End ∷ []) → ⊥
-unfolding last_among
+unfolding last_below
 row_behind_the_end kept = none-some (AfterEnd 3) (sym (kept.rows 1 (omega arith)))

@@ -1,7 +1,8 @@
--- Lists that are seen through a map, and lists that are put together from several.
-use Rattle.std.proofs.lemmas.List.{length-map}
+-- Lists that are seen through a map, in which an entry is put, or put together from several.
+use Rattle.std.proofs.lemmas.Bool.{cases_eq}
+use Rattle.std.proofs.lemmas.List.{length-map, get_or-set_same, get_or-set_other}
 use Rattle.std.proofs.lemmas.Option.{none-some, same_Some}
-use Rattle.std.proofs.Common.{◌≡◌, ℕ, ◌+◌, Bool, not, cond, ◌||◌, List, [], ◌∷◌, ◌++◌, map, length, Some, refl, ap, Err}
+use Rattle.std.proofs.Common.{◌≡◌, ◌≢◌, ℕ, ◌+◌, ◌<◌, Bool, not, cond, ◌||◌, List, [], ◌∷◌, ◌++◌, map, length, get_or, set, Some, refl, sym, ◌∙◌, ap, inl, inr, Err}
 use Rattle.std.specs.Prelude.{position}
 use Rattle.std.specs.List.{list_any, prefix_len}
 use Rattle.tree_model.specs.Lists.{first_of, first_fault_or}
@@ -22,6 +23,13 @@ length_map f xs = length-map xs f
 -- the place of the first image that passes
 pub position_map : {A B : Type 0} (p : B → Bool) (f : A → B) (xs : List A) → position p (map f xs) ≡ position (λ x. p (f x)) xs
 position_map p f xs = rw (prefix_len-map (λ x. not (p x)) f xs, length_map f xs)
+
+-- what is said of each entry, once one is put
+pub put_says : {A B : Type 0} (said : A → B) (before now : ℕ → B) (xs : List A) (v : ℕ) (x d : A) → v < length xs → said x ≡ now v → ((u : ℕ) → u ≢ v → before u ≡ now u) → (u : ℕ) → said (get_or xs u d) ≡ before u → said (get_or (set xs v x) u d) ≡ now u
+put_says said before now xs v x d l here others u h = elim (cases_eq u v) [
+  | inl e ↦ ap said (ap (λ w. get_or (set xs v x) w d) e ∙ get_or-set_same xs v x d l) ∙ (here ∙ ap now (sym e))
+  | inr ne ↦ ap said (get_or-set_other xs v u x d ne) ∙ (h ∙ others u ne)
+]
 
 -- the first of a list stays the first where more comes behind
 pub first_here : {A : Type 0} (a b : List A) (x : A) → first_of a ≡ Some x → first_of (a ++ b) ≡ Some x

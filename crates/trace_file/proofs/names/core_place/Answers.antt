@@ -3,7 +3,7 @@ use Rattle.std.proofs.lemmas.List.{length-map}
 use Rattle.tree_model.specs.declared.pinned_core.Core.{Core}
 use Rattle.tree_model.proofs.Distinct.{distinct_front}
 use Rattle.std.specs.Prelude.{bytes_eq, position, unwrap_or}
-use Rattle.trace_file.specs.File.{core_names, part_names}
+use Rattle.tree_model.specs.System.{core_names, part_names}
 use Rattle.trace_file.proofs.Distinct.{stands_as}
 use Rattle.trace_file.proofs.names.core_place.Goals as goal
 

@@ -2,7 +2,7 @@ use Rattle.std.proofs.Common.{◌≡◌, ◌∙◌, [], get_or, sym}
 use Rattle.std.proofs.lemmas.List.{get_or-map}
 use Rattle.std.proofs.lemmas.Slice.Eq.{bytes_eq-Decides}
 use Rattle.tree_model.specs.declared.pinned_core.Core.{Core}
-use Rattle.trace_file.specs.File.{core_names}
+use Rattle.tree_model.specs.System.{core_names}
 use Rattle.trace_file.proofs.names.is_core_at.Goals as goal
 
 pub returns-then-place-cores : goal.returns-then-place-cores

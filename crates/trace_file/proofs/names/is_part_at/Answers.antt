@@ -2,7 +2,7 @@ use Rattle.std.proofs.Common.{◌≡◌, ◌∙◌, [], get_or, sym, ap}
 use Rattle.std.proofs.lemmas.List.{get_or-map}
 use Rattle.std.proofs.lemmas.Slice.Eq.{bytes_eq-Decides}
 use Rattle.tree_model.specs.View.{PartView}
-use Rattle.trace_file.specs.File.{part_names}
+use Rattle.tree_model.specs.System.{part_names}
 use Rattle.trace_file.proofs.names.is_part_at.Goals as goal
 
 pub returns-then-place-parts : goal.returns-then-place-parts

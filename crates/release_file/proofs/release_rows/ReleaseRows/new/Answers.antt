@@ -1,4 +1,4 @@
-use Rattle.trace_file.specs.File.{core_names, part_names}
+use Rattle.tree_model.specs.System.{core_names, part_names}
 use Rattle.release_file.proofs.release_rows.ReleaseRows.new.Goals as goal
 use Rattle.tree_model.proofs.Distinct.{distinct_back}
 

@@ -1,6 +1,6 @@
 use Rattle.std.proofs.Common.{◌∙◌, refl, ap}
 use Rattle.tree_model.proofs.Distinct.{distinct_back}
-use Rattle.trace_file.specs.File.{core_names, part_names}
+use Rattle.tree_model.specs.System.{core_names, part_names}
 use Rattle.release_file.proofs.WakesTaking.{none_behind}
 use Rattle.release_file.proofs.wake_rows.WakeRows.new.Goals as goal
 
