@@ -15,7 +15,8 @@ use Rattle.system_file.specs.declared.format.Format.TheVariants.{One, Two}
 use Rattle.system_file.specs.Document.{number_of, given_number, is_named, spelled_task}
 use Rattle.system_file.specs.Faults.{optional, range_faults, below_faults, has_only, task_keys, task_key_faults, task_faults}
 use Rattle.system_file.specs.SystemFile.{has_jitter}
-use Rattle.system_file.specs.Printed.{with_member, with_some, number, other_number, task_members, printed_task}
+use Rattle.toml_items.specs.Plain.{insert_member}
+use Rattle.system_file.specs.Printed.{with_some, number, other_number, task_members, printed_task}
 use Rattle.system_file.specs.declared.fault.Spot.{Spot}
 use Rattle.system_file.specs.declared.fault.Spot.TheVariants.{Task}
 use Rattle.system_file.proofs.PrintedMembers.{other_key, own_key, listed_key}
@@ -24,8 +25,8 @@ use Rattle.system_file.proofs.PrintedKeys.{range_ok, new_name_ok}
 -- what is always written, and with the deadline
 abbrev fixed_members : NamedTask → Members
 fixed_members t =
-    with_member (codes "work") (number t.task.work)
-    (with_member (codes "period") (number t.task.period) (with_member (codes "name") (string t.name) no_members))
+    insert_member (codes "work") (number t.task.work)
+    (insert_member (codes "period") (number t.task.period) (insert_member (codes "name") (string t.name) no_members))
 
 abbrev due_members : NamedTask → Members
 due_members t = with_some (codes "deadline") (other_number t.task.period t.task.deadline) (fixed_members t)

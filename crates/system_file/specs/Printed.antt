@@ -1,33 +1,25 @@
 -- The document that is printed for a system, table by table, and what a printer may rest on. It
 -- serves the clauses of private functions alone: what is printed reads back, whatever its layout.
-use Rattle.std.specs.Prelude.{◌≡◌, ℕ, ◌==◌, ◌<◌, pos, Bool, true, false, if◌then◌else◌, List, [], ◌∷◌, map, length, All, codes, Option, Some, None}
-use Rattle.std.specs.Cmp.Lexicographic.{slice_cmp}
-use Rattle.std.specs.Ordering.{nat_cmp, match_ordering}
+use Rattle.std.specs.Prelude.{◌≡◌, ℕ, ◌==◌, pos, Bool, true, false, if◌then◌else◌, List, [], ◌∷◌, map, All, codes, Option, Some, None}
 use Rattle.slot_model.specs.Name.{is_name}
 use Rattle.slot_model.specs.declared.sched.Sched.{Sched}
 use Rattle.slot_model.specs.declared.sched.Sched.TheVariants.{Edf, Rm, Dm, Listed}
-use Rattle.toml.specs.Data.{Data, string, integer, boolean, array, table, Members, no_members, member}
+use Rattle.toml.specs.Data.{Data, string, integer, boolean, array, table, Members, no_members}
 use Rattle.toml.specs.View.{items_of}
 use Rattle.tree_model.specs.declared.pinned_core.Core.{Core as CoreView}
 use Rattle.tree_model.specs.declared.place.Parent.{Parent}
 use Rattle.tree_model.specs.declared.place.Parent.TheVariants.{Core, Part}
 use Rattle.tree_model.specs.View.{NamedTask, PartView, SystemView}
 use Rattle.tree_model.specs.System.{core_at, part_at}
+use Rattle.toml_items.specs.Plain.{insert_member}
 use Rattle.system_file.specs.SystemFile.{needed_format}
 use Rattle.system_file.specs.declared.format.Format.{Format}
 use Rattle.system_file.specs.declared.format.Format.TheVariants.{One, Two}
 
--- a member put in the place of its key, among members whose keys ascend
-abbrev pub with_member : List ℕ → Data → Members → Members
-with_member k d no_members = member k d no_members
-with_member k d (member l e ms) =
-    match_ordering (slice_cmp nat_cmp k l) (member k d (member l e ms)) (member l d ms)
-    (member l e (with_member k d ms))
-
--- the same where there is a value
+-- a member in the place of its key, where there is a value
 abbrev pub with_some : List ℕ → Option Data → Members → Members
 with_some k None ms = ms
-with_some k (Some d) ms = with_member k d ms
+with_some k (Some d) ms = insert_member k d ms
 
 abbrev pub number : ℕ → Data
 number n = integer (pos n)
@@ -58,23 +50,23 @@ sched_word Listed = codes "listed"
 abbrev pub with_supply : Option (ℕ × ℕ) → Members → Members
 with_supply None ms = ms
 with_supply (Some supply) ms =
-    with_member (codes "supply_budget") (number supply.1)
-    (with_member (codes "supply_period") (number supply.0) ms)
+    insert_member (codes "supply_budget") (number supply.1)
+    (insert_member (codes "supply_period") (number supply.0) ms)
 
 abbrev pub printed_core : CoreView → Data
 printed_core core =
     table (with_supply core.supply
-    (with_member (codes "sched") (string (sched_word core.sched))
-    (with_member (codes "name") (string core.name) no_members)))
+    (insert_member (codes "sched") (string (sched_word core.sched))
+    (insert_member (codes "name") (string core.name) no_members)))
 
 -- a task, whose deadline is written where it is not the period, and its jitter where it is not 0
 abbrev pub task_members : NamedTask → Members
 task_members t =
     with_some (codes "jitter") (other_number 0 t.task.jitter)
     (with_some (codes "deadline") (other_number t.task.period t.task.deadline)
-    (with_member (codes "work") (number t.task.work)
-    (with_member (codes "period") (number t.task.period)
-    (with_member (codes "name") (string t.name) no_members))))
+    (insert_member (codes "work") (number t.task.work)
+    (insert_member (codes "period") (number t.task.period)
+    (insert_member (codes "name") (string t.name) no_members))))
 
 abbrev pub printed_task : NamedTask → Data
 printed_task t = table (task_members t)
@@ -87,10 +79,10 @@ parent_name sys (Part q) = (part_at sys q).name
 -- a part: what is always written, and then what may be left out where there is something to say
 abbrev pub server_members : SystemView → PartView → Members
 server_members sys part =
-    with_member (codes "period") (number part.period)
-    (with_member (codes "sched") (string (sched_word part.sched))
-    (with_member (codes "parent") (string (parent_name sys part.parent))
-    (with_member (codes "name") (string part.name) no_members)))
+    insert_member (codes "period") (number part.period)
+    (insert_member (codes "sched") (string (sched_word part.sched))
+    (insert_member (codes "parent") (string (parent_name sys part.parent))
+    (insert_member (codes "name") (string part.name) no_members)))
 
 abbrev pub part_members : SystemView → PartView → Members
 part_members sys part =
@@ -110,18 +102,13 @@ format_number Two = 2
 abbrev pub top_members : Format → List Data → List Data → Members
 top_members format cores parts =
     with_some (codes "part") (some_array parts)
-    (with_member (codes "core") (array (items_of cores))
-    (with_member (codes "format") (number (format_number format)) no_members))
+    (insert_member (codes "core") (array (items_of cores))
+    (insert_member (codes "format") (number (format_number format)) no_members))
 
 abbrev pub printed : SystemView → Members
 printed sys =
     top_members (needed_format sys) (map printed_core sys.cores)
     (map (printed_part sys) sys.parts)
-
--- a parent that stands in the system
-abbrev pub IsNodeOf : SystemView → Parent → Type 0
-IsNodeOf sys (Core c) = c < length sys.cores
-IsNodeOf sys (Part q) = q < length sys.parts
 
 -- all names of a system are names
 abbrev pub TasksAreNamed : List NamedTask → Type 0

@@ -5,8 +5,10 @@ ghost use Rattle.slot_model.specs.declared.task.TheConstants.{LIMIT};
 ghost use Rattle.toml.specs.Data.{string};
 ghost use Rattle.toml.specs.View.{view, table_view};
 ghost use Rattle.tree_model.specs.System.{IsSystem, IsPart, IsCoreSupply, no_core};
+ghost use Rattle.tree_model.specs.Tree.{place_of, IsNode};
 ghost use Rattle.system_file.specs.SystemFile.{system_of, file_format, part_has_jitter, needed_format as format_needed};
-ghost use Rattle.system_file.specs.Printed.{with_member, with_some, number, other_number, some_number, true_flag, some_array, sched_word, with_supply, printed_core, printed_task, parent_name, printed_part, printed, IsNodeOf, TasksAreNamed, IsPartNamed, format_number, CoresAreNamed, PartsAreNamed};
+ghost use Rattle.toml_items.specs.Plain.{insert_member};
+ghost use Rattle.system_file.specs.Printed.{with_some, number, other_number, some_number, true_flag, some_array, sched_word, with_supply, printed_core, printed_task, parent_name, printed_part, printed, TasksAreNamed, IsPartNamed, format_number, CoresAreNamed, PartsAreNamed};
 
 use crate::format::Format;
 use slot_model::{Name, Sched};
@@ -128,7 +130,7 @@ fn core_table(alloc: Global, core: &Core) -> Result<Value, AllocError>
 }
 
 fn part_table(alloc: Global, sys: &System, part: &Part) -> Result<Value, AllocError>
-    requires parent { IsNodeOf sys.now part.now.parent }
+    requires parent { IsNode sys.now (place_of part.now.parent) }
     requires is_part { IsPart part.now }
     ensures printed { IfOk result (λ table. view table ≡ printed_part sys.now part.now) }
     ensures named { OnOk result (IsPartNamed part.now) }
@@ -167,7 +169,7 @@ fn task_table(alloc: Global, named: &Named) -> Result<Value, AllocError>
 
 /// The name of the node on which a part stands.
 fn name_of(sys: &System, parent: Parent) -> &Name
-    requires { IsNodeOf sys.now parent }
+    requires { IsNode sys.now (place_of parent) }
     ensures { result.now ≡ parent_name sys.now parent }
 {
     match parent {
@@ -189,7 +191,7 @@ fn word(sched: Sched) -> &'static str
 
 fn put(alloc: Global, table: &mut Table, key: &str, value: Value) -> Result<(), AllocError>
     ensures { OnOk result (table_view table.new
-        ≡ with_member key.now (view value) (table_view table.old)) }
+        ≡ insert_member key.now (view value) (table_view table.old)) }
 {
     table.insert(String::from_str(alloc, key)?, value)?;
     Ok(())
@@ -197,7 +199,7 @@ fn put(alloc: Global, table: &mut Table, key: &str, value: Value) -> Result<(), 
 
 fn put_text(alloc: Global, table: &mut Table, key: &str, text: &str) -> Result<(), AllocError>
     ensures { OnOk result (table_view table.new
-        ≡ with_member key.now (string text.now) (table_view table.old)) }
+        ≡ insert_member key.now (string text.now) (table_view table.old)) }
 {
     put(alloc, table, key, Value::string(alloc, text)?)
 }
@@ -205,7 +207,7 @@ fn put_text(alloc: Global, table: &mut Table, key: &str, text: &str) -> Result<(
 fn put_number(alloc: Global, table: &mut Table, key: &str, n: u64) -> Result<(), AllocError>
     requires { n ≤ LIMIT }
     ensures { OnOk result (table_view table.new
-        ≡ with_member key.now (number n) (table_view table.old)) }
+        ≡ insert_member key.now (number n) (table_view table.old)) }
 {
     put(alloc, table, key, Value::Integer(n as i64))
 }
