@@ -103,7 +103,7 @@ fn short_digits(bytes: &[u8], at: usize, first: u8) -> (u64, usize)
     (number, to)
 }
 
-/// The same below 2^64.
+/// The number at a place, below 2^64, and the place behind it.
 pub fn whole_at(bytes: &[u8], at: usize) -> Option<(u64, usize)>
     ensures { IfSome result (λ p. Stands bytes.now at p.1 (decimal p.0)) }
 {
@@ -114,7 +114,7 @@ pub fn whole_at(bytes: &[u8], at: usize) -> Option<(u64, usize)>
     Some((number as u64, to))
 }
 
-/// The same in quotes.
+/// The number in quotes at a place, and the place behind it.
 pub fn quoted_at(bytes: &[u8], at: usize) -> Option<(u128, usize)>
     ensures { IfSome result (λ p. Stands bytes.now at p.1 (quoted_number p.0)) }
 {

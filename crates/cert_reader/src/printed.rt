@@ -7,7 +7,7 @@ ghost use Rattle.cert_reader.specs.Text.{listed, witness_text, flag_text, place_
 
 use crate::listed::{numbers_from, points_from};
 use crate::numerals::{behind_byte, behind_word, quoted_at, whole_at};
-use crate::reading::place_of;
+use crate::reading::{MAX_NODES, place_of};
 use std::alloc::Global;
 use tree_model::{Node, Place};
 
@@ -19,7 +19,7 @@ pub fn read_printed(alloc: Global, bytes: &[u8]) -> Option<Vec<Node>>
     let from = behind_word(bytes, 0, b"{\"format\":1,\"nodes\":[")?;
     let (nodes, to) = nodes_from(alloc, bytes, from)?;
     let end = behind_word(bytes, to, b"]}\n")?;
-    if end == bytes.len() && nodes.len() <= 576 {
+    if end == bytes.len() && nodes.len() <= MAX_NODES {
         Some(nodes)
     } else {
         None

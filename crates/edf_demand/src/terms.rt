@@ -16,8 +16,9 @@ pub struct Gathered {
     pub near: u64,
 }
 
-/// Writes the terms of as many of the first tasks as there is room for: a run of neighbouring tasks
-/// of one period and one room has one term. The slack is what the room leaves of the period.
+/// Writes the terms of as many of the first tasks as `into` has places for: a run of neighbouring
+/// tasks of one period and one room (the deadline less the jitter) has one term. The slack is what
+/// that room leaves of the period.
 pub fn gather(tasks: &[Task], into: &mut [Term]) -> Gathered
     ensures stand { IsGathered result into.new tasks.now }
     ensures room { result.tasks < length tasks.now → result.terms ≡ length into.new }
@@ -32,7 +33,8 @@ pub fn gather(tasks: &[Task], into: &mut [Term]) -> Gathered
     counted(&into[..terms], tasks.len())
 }
 
-/// So many tasks have these terms. For each a window asks for no more slots than it has.
+/// These terms stand for so many tasks. The near window is short enough that 64 bits hold what all
+/// ask for there, since no task asks for more slots than a window has.
 fn counted(terms: &[Term], tasks: usize) -> Gathered
     ensures numbers { (result.terms ≡ length terms.now) × (result.tasks ≡ tasks) }
     ensures near { All (λ term. IsNear term result.near) terms.now }

@@ -7,7 +7,8 @@ use crate::settled::settled_past;
 use slot_model::Task;
 use supply_bound::Supply;
 
-/// Up to which window the windows of 1 to `h` slots are to be tested. Where the rates are equal to
+/// Up to which window the windows of 1 to `h` slots are to be tested. Where the tasks' rate is
+/// below the supply's, that is the window past which the demand fits. Where the rates are equal to
 /// the last bit and `h` is the horizon, a cycle is enough if the demand never meets the supply;
 /// otherwise that is `h` itself.
 pub fn last_to_test<S: Supply>(tasks: &[Task], s: &S, h: u128) -> u128

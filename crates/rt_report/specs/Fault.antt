@@ -21,7 +21,7 @@ not_rtds_text (Some sys) c file = joined (
     codes "fault=NotRtds core=" ∷ (core_at sys c).name
     ∷ codes " file=" ∷ decimal file ∷ codes "\n" ∷ [])
 
--- the line of a fault, over the system where one was read
+-- the line of a fault, over the system where one is given
 abbrev pub fault_text : Option SystemView → FileFault → ℕ → List ℕ
 fault_text sys (System fault) file = system_fault_text fault file
 fault_text sys (Release fault) file = release_fault_text fault file

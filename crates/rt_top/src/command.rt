@@ -29,7 +29,7 @@ pub enum Command<'a> {
     Bulk(Guests),
 }
 
-/// The command that the words spell: its own word, and then its files.
+/// The command that the words spell: its own word, its files, and what else it takes.
 pub fn parse(words: &[String]) -> Option<Command<'_>>
     ensures { option_map command_told result ≡ command_of (map string_bytes words.now) }
 {

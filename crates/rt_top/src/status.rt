@@ -4,9 +4,10 @@ ghost use Rattle.rt_top.specs.Statuses.{status_number};
 /// What was answered. The program ends with its number, from 0 for `Yes` to 9 for `NoMemory`.
 #[derive(Clone, Copy, Debug, PartialEq, Eq)]
 pub enum Status {
-    /// The system is admitted.
+    /// What the command asks holds: the system is admitted, the certificate proves it, the trace is
+    /// kept, no job misses; or the text that was asked for is made.
     Yes,
-    /// A node does not pass its test.
+    /// It does not, and the text tells the first reason.
     No,
     /// The words have none of the forms.
     Usage,

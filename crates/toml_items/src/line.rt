@@ -22,7 +22,8 @@ pub struct Pair<'t> {
     pub rest: &'t str,
 }
 
-/// The header of an element of an array of tables, and the text behind it.
+/// The keys in the header of an element of an array of tables, and the text behind these keys, or
+/// behind the header where that was read to its end.
 #[derive(Clone, Copy, Drop)]
 pub struct Header<'t> {
     /// The key of the table in which the array stands, where it is not the top one.
@@ -95,7 +96,7 @@ fn ends_here(text: &str) -> bool
     rest.is_empty() || matches!(first(rest), b'#' | b'\n' | b'\r')
 }
 
-/// One or two bare keys, with a dot between them, and the text behind them.
+/// One or two bare keys, with a dot between them, and the text from the bracket that follows.
 fn keys_at(text: &str) -> Option<Header<'_>>
     ensures keys { IfSome result (λ h.
         strings.key text.now ≡ Some ((path_of h.parent, h.key.now), h.rest.now)) }

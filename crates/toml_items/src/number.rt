@@ -10,7 +10,7 @@ use toml_parser::text::{first, skip};
 const MOST_DIGITS: usize = 18;
 
 /// The plain digits at the front as a number above 0, and the text behind them. None also where
-/// the number may go on.
+/// the number may go on: behind a space too, since digits behind one space are of the same word.
 pub(crate) fn whole_number(text: &str) -> Option<(i64, &str)>
     ensures number { IfSome result (λ p. unquoted text.now ≡ Some (Integer p.0, p.1.now)) }
     ensures shorter { IfSome result (λ p. length p.1.now < length text.now) }

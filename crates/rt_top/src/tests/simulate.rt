@@ -4,8 +4,13 @@ use super::rows::*;
 use super::{answered, joined, one_file, two_files};
 use crate::Status;
 use crate::spans_tests::Generator;
-use std::alloc::Global;
+use compose_tree::assign;
+use release_file::read_releases;
+use rt_report::simulate_text;
+use server_sched::run_tree;
+use std::alloc::{AllocError, Global};
 use std::test::Fail;
+use system_file::read_system;
 
 /// The headers of both versions.
 const HEADER: &str = "at,part,task,work\n";
@@ -23,6 +28,11 @@ const LATE: &str =
     "format = 2\n[[core]]\nname = \"cpu0\"\nsched = \"edf\"\n[[part]]\nname = \"leaf\"\n\
      parent = \"cpu0\"\nperiod = 10\nsched = \"edf\"\n[[part.task]]\nname = \"t1\"\n\
      period = 50\njitter = 5\nwork = 7\n[[part.task]]\nname = \"t2\"\nperiod = 75\nwork = 9\n";
+
+const LEAF_JOBS: &str = "0,leaf,t1,7\n0,leaf,t2,9\n50,leaf,t1,7\n";
+
+const LEAF_COUNTS: &str = "verdict=yes\ncore cpu0 given=100 jobs=10 missed=0\n\
+     part leaf given=30 jobs=3 missed=0\n";
 
 const OF_TREE: &str = "0,video,v1,70\n0,ctl,c1,40\n";
 
@@ -64,12 +74,11 @@ fn a_leaf_is_simulated(rt: HostRuntime) -> Result<(), Fail> {
     for (system, releases, pattern, slots, want, answer) in [
         (
             [LEAF, THREE, T1, T2].as_slice(),
-            [HEADER, "0,leaf,t1,7\n0,leaf,t2,9\n50,leaf,t1,7\n"].as_slice(),
+            [HEADER, LEAF_JOBS].as_slice(),
             "early",
             "100",
             Status::Yes,
-            "verdict=yes\ncore cpu0 given=100 jobs=10 missed=0\n\
-             part leaf given=30 jobs=3 missed=0\n",
+            LEAF_COUNTS,
         ),
         // a period after the one before, and no less
         (
@@ -235,6 +244,43 @@ fn patterns_differ_within_a_period(rt: HostRuntime) -> Result<(), Fail> {
         assert_eq!(rt; status, want, "{answer}");
         assert_eq!(rt; written.as_slice(), answer.as_bytes(), "{answer}");
     }
+    Ok(())
+}
+
+// What is told of the first run of a system of one full core, slot by slot. None where a file is
+// refused or a budget is not assigned.
+fn told_slot_by_slot(
+    alloc: Global,
+    system: &str,
+    releases: &str,
+    slots: usize,
+) -> Result<Option<Vec<u8>>, AllocError> {
+    let Ok(sys) = read_system(alloc, system.as_bytes()) else {
+        return Ok(None);
+    };
+    let Ok(jobs) = read_releases(alloc, &sys, releases.as_bytes()) else {
+        return Ok(None);
+    };
+    let Ok(plan) = assign(alloc, &sys) else {
+        return Ok(None);
+    };
+    if sys.cores().len() != 1 || slots > 1_000_000 {
+        return Ok(None);
+    }
+    let given = Vec::from_array(alloc, [vec![in alloc; true; slots]?])?;
+    let run = run_tree(alloc, &sys, &plan, &jobs, &given, slots as u64)?;
+    Ok(Some(simulate_text(alloc, &sys, &plan, &jobs, &given, &run)?))
+}
+
+#[test]
+fn a_run_slot_by_slot_is_told_alike(rt: HostRuntime) -> Result<(), Fail> {
+    let alloc = rt.alloc();
+    let leaf = joined(alloc, [LEAF, THREE, T1, T2].as_slice())?;
+    let jobs = joined(alloc, [HEADER, LEAF_JOBS].as_slice())?;
+    let told = told_slot_by_slot(alloc, leaf.as_str(), jobs.as_str(), 100)?.ok_or("refused")?;
+    assert_eq!(rt; told.as_slice(), LEAF_COUNTS.as_bytes());
+    let told = told_slot_by_slot(alloc, SIXES, HEADER, 10)?.ok_or("refused")?;
+    assert_eq!(rt; told.as_slice(), SIXES_ANSWER.as_bytes());
     Ok(())
 }
 
