@@ -13,7 +13,7 @@ use Rattle.slot_model.specs.Miss.{Missed}
 use Rattle.slot_model.proofs.Runs.{search_below, count_below-mono}
 use Rattle.edf_test.proofs.EdfMisses.{edf_misses_by}
 use Rattle.fp_test.proofs.FixedMisses.{fixed_late_at}
-use Rattle.slot_model.proofs.ChildSupply.{In, has_release}
+use Rattle.slot_model.proofs.HasRelease.{In, has_release}
 use Rattle.compose_tree.specs.Truth.{MissesBy}
 
 -- under earliest deadline first some job that is due by the short point misses by then

@@ -21,7 +21,7 @@ use Rattle.tree_model.proofs.InRange.{InPeriod, admitted_in_period}
 use Rattle.compose_tree.specs.Truth.{IsTight}
 use Rattle.compose_tree.proofs.Keeping.{Keeping}
 use Rattle.compose_tree.proofs.TreeRuns.{tree_no_loss}
-use Rattle.compose_tree.proofs.TreeExists.{tree_exists}
+use Rattle.compose_tree.proofs.TreeExists.{started_tree_exists}
 
 -- a core that passes under its supply loses no job over it
 core_keeps : (supply : Option (ℕ × ℕ)) → IsCoreSupply supply → (sched : Sched) (tasks : List SporadicTask) → AreConstrained tasks → Passes sched tasks (core_bound supply) → NoJobLost (CoreConforms supply) (before_of sched tasks) tasks
@@ -47,8 +47,8 @@ admitted_keeping sys is budgets a =
 -- exists
 pub admitted_no_loss : (sys : SystemView) → IsSystem sys → (budgets : List ℕ) → Admitted sys budgets → NoLoss sys budgets
 admitted_no_loss sys is budgets a = record {
-  some_run = λ n supplies jobs inputs. tree_exists sys budgets n supplies jobs is;
-  keeps = λ n supplies jobs core_runs part_runs inputs tree. tree_no_loss sys budgets n supplies jobs core_runs part_runs is (admitted_keeping sys is budgets a) inputs tree;
+  some_run = λ starts n supplies jobs inputs. started_tree_exists sys budgets starts n supplies jobs is;
+  keeps = λ starts n supplies jobs core_runs part_runs inputs tree. tree_no_loss sys budgets starts n supplies jobs core_runs part_runs is (admitted_keeping sys is budgets a) inputs tree;
 }
 
 -- a computed budget is the least that passes

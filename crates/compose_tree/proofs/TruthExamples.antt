@@ -1,6 +1,6 @@
 -- Worked examples of what a plan and a refusal say. A wrong end of a range, or a part left out,
 -- breaks one of them.
-use Rattle.std.proofs.Common.{◌≡◌, ℕ, zero, suc, ◌<◌, ◌≤◌, true, false, List, [], ◌∷◌, length, Option, Some, None, refl, arith, sym}
+use Rattle.std.proofs.Common.{◌≡◌, ℕ, zero, suc, ◌<◌, ◌≤◌, true, false, List, [], ◌∷◌, length, Option, Some, None, refl, arith, sym, subst}
 use Rattle.std.proofs.lemmas.Bool.{false≢true}
 use Rattle.std.proofs.lemmas.Option.{none-some}
 use Rattle.slot_model.specs.Slots.{sum_below}
@@ -10,13 +10,15 @@ use Rattle.slot_model.specs.declared.sched.Short.{Short}
 use Rattle.slot_model.specs.Task.{AreConstrained, plain_task, plain_job, SporadicTask, job_at, deadline_of}
 use Rattle.slot_model.specs.Release.{LegalRelease}
 use Rattle.slot_model.proofs.Synchronous.{legal_synchronous}
+use Rattle.slot_model.specs.Miss.{Lost}
 use Rattle.slot_model.proofs.MissedJobs.{missed_is_lost}
 use Rattle.tree_model.specs.declared.place.Parent.TheVariants.{Core as on_core}
 use Rattle.tree_model.specs.declared.place.Place.TheVariants.{Core, Part}
 use Rattle.tree_model.specs.declared.plan.Refusal.TheVariants.{Overfull}
 use Rattle.tree_model.specs.View.{SystemView, NamedTask}
 use Rattle.tree_model.specs.System.{core_at, part_at, is_leaf, is_leaf_at}
-use Rattle.tree_model.specs.Tree.{budget_at, server_tasks, server_jobs, run_at, NoLoss}
+use Rattle.tree_model.specs.Tree.{budget_at, server_tasks, server_jobs, started_jobs, run_at, NoLoss}
+use Rattle.tree_model.proofs.StartedTrees.{jobs_at_zero, started_of_permitted}
 use Rattle.slot_model.specs.Bound.{shows_by}
 use Rattle.compose_tree.specs.Truth.{LeafMustMiss, IsTight, LeafIsOverfull, MissesBy, CoreMustMiss, CoreIsOverfull, IsFlat, IsChosen, RefusalHolds}
 
@@ -114,8 +116,9 @@ a_core_that_must_miss_loses_a_job sys budgets c t n h fits must none =
     let run = must.some_run inputs.0 inputs.1 inputs.2 in
     let miss : MissesBy (server_tasks sys budgets (Core c)) (server_jobs sys budgets (Core c) n) (run_at run.0 c) t = must.misses inputs.0 inputs.1 run.0 run.1 inputs.2 run.2 in
     let legal : LegalRelease (server_tasks sys budgets (Core c)) (server_jobs sys budgets (Core c) n) = legal_synchronous (server_tasks sys budgets (Core c)) fits 0 n in
-    (none.keeps n inputs.0 inputs.1 run.0 run.1 inputs.2 run.2).cores c h miss.job (deadline_of (server_tasks sys budgets (Core c)) (job_at (server_jobs sys budgets (Core c) n) miss.job))
-    (missed_is_lost (server_tasks sys budgets (Core c)) (server_jobs sys budgets (Core c) n) (run_at run.0 c) miss.job (omega (arith, legal.in_jitter miss.job miss.missed.is_job, (fits _ (legal.named miss.job miss.missed.is_job)).in_deadline)) miss.missed)
+    let same : started_jobs sys budgets [] (Core c) n ≡ server_jobs sys budgets (Core c) n = jobs_at_zero sys budgets [] (Core c) n (λ q. refl) in
+    (none.keeps [] n inputs.0 inputs.1 run.0 run.1 inputs.2 (started_of_permitted sys budgets [] n inputs.0 inputs.1 run.0 run.1 (λ q. refl) run.2)).cores c h miss.job (deadline_of (server_tasks sys budgets (Core c)) (job_at (server_jobs sys budgets (Core c) n) miss.job))
+    (subst (λ (jobs : List Job). Lost (server_tasks sys budgets (Core c)) jobs (run_at run.0 c) miss.job (deadline_of (server_tasks sys budgets (Core c)) (job_at (server_jobs sys budgets (Core c) n) miss.job))) (sym same) (missed_is_lost (server_tasks sys budgets (Core c)) (server_jobs sys budgets (Core c) n) (run_at run.0 c) miss.job (omega (arith, legal.in_jitter miss.job miss.missed.is_job, (fits _ (legal.named miss.job miss.missed.is_job)).in_deadline)) miss.missed))
 
 -- a refusal speaks of the node that it names
 the_second_core_is_overfull : (sys : SystemView) (short : Short) → RefusalHolds sys (Overfull (Core 1) short) → (core_at sys 1).supply ≡ None → CoreIsOverfull sys 1 short

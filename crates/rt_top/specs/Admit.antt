@@ -33,7 +33,8 @@ abbrev pub Admits : Contents → Status → List ℕ → Type 0
 Admits contents = AtFile 1 contents (λ bytes. OnSystem (system_of bytes) AdmitsSystem)
 
 -- yes means: the budgets that the text tells admit the system, no job is lost on any level in any
--- permitted run, and every whole budget below a computed leaf budget must miss
+-- permitted run, whenever each server begins, and every whole budget below a computed leaf budget
+-- must miss
 pub record KeepsDeadlines (sys : SystemView) (text : List ℕ) : Type 0 where
   pub budgets : List ℕ
   pub replays : List Replay

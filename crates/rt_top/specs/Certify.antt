@@ -40,7 +40,8 @@ abbrev pub Certifies : Contents → Status → List ℕ → Type 0
 Certifies contents = AtFile 1 contents (λ bytes. OnSystem (system_of bytes) CertifiesSystem)
 
 -- What a certificate that proves a system says of it: its budgets admit the system, no job is lost
--- on any level in any permitted run, and every whole budget below a computed leaf budget must miss.
+-- on any level in any permitted run, whenever each server begins, and every whole budget below a
+-- computed leaf budget must miss.
 pub record IsProof (sys : SystemView) (nodes : List NodeView) : Type 0 where
   pub proves : Proves sys nodes
   pub admitted : Admitted sys (budgets_of sys nodes)

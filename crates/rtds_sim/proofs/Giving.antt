@@ -19,7 +19,7 @@ use Rattle.slot_model.proofs.Runs.{search_below, holds-is}
 use Rattle.slot_model.proofs.FirstRuns.{none_some}
 use Rattle.slot_model.proofs.FullSupply.{full_laws}
 use Rattle.slot_model.proofs.Synchronous.{legal_synchronous, synchronous_whole}
-use Rattle.slot_model.proofs.ChildSupply.{In, has_release}
+use Rattle.slot_model.proofs.HasRelease.{In, has_release}
 use Rattle.edf_test.proofs.Level.{edf_keeps}
 use Rattle.tree_model.specs.declared.place.Place.TheVariants.{Core}
 use Rattle.tree_model.specs.View.{SystemView}

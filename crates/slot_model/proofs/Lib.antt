@@ -12,6 +12,8 @@ pub mod Busy
 pub mod FirstRuns
 pub mod Unique
 pub mod Synchronous
+pub mod HasRelease
+pub mod Staggered
 pub mod ChildSupply
 pub mod PeriodicSupply
 pub mod WorstPattern

@@ -59,7 +59,7 @@ pub no_parts : (sys : SystemView) (budgets : List ℕ) (n : ℕ) (jobs : List (L
 no_parts sys budgets n jobs core_runs = record { long = refl; each = λ q l. absurd (omega arith) }
 
 -- the supply of a part rests on the runs of the cores and of earlier parts
-run_same : (core_runs p r : List (List (Option ℕ))) (sys : SystemView) (q : ℕ) (parent : Parent) → Stands sys q parent → ((i : ℕ) → i < q → run_at p i ≡ run_at r i) → run_of core_runs p (place_of parent) ≡ run_of core_runs r (place_of parent)
+pub run_same : (core_runs p r : List (List (Option ℕ))) (sys : SystemView) (q : ℕ) (parent : Parent) → Stands sys q parent → ((i : ℕ) → i < q → run_at p i ≡ run_at r i) → run_of core_runs p (place_of parent) ≡ run_of core_runs r (place_of parent)
 run_same core_runs p r sys q (on_core c) stands same = refl
 run_same core_runs p r sys q (on_part i) stands same = same i stands.0
 
