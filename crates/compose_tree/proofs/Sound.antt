@@ -62,5 +62,5 @@ admitted_tight sys is budgets a = record {
   below = λ q h leaf none b less.
       let least : IsLeastBudget (part_at sys q).sched (own_tasks_at sys q) (part_at sys q).period (budget_at budgets q) =
       subst (λ (tasks : List SporadicTask). IsLeastBudget (part_at sys q).sched tasks (part_at sys q).period (budget_at budgets q)) (leaf_tasks sys budgets q leaf) (least_of sys budgets q (part_at sys q).budget none (a.assigned.stands q (omega arith) h)) in
-      not_passing_misses (part_at sys q).sched (own_tasks_at sys q) (leaf_constrained sys is q h) (part_at sys q).period b (is.parts q h).period.0 (omega (arith, least.in_period)) (least.least b less);
+      not_passing_misses (part_at sys q).sched (own_tasks_at sys q) (leaf_constrained sys is q h) (part_at sys q).period b (is.parts q h).period.0 (omega (arith, least.in_range)) (least.least b less);
 }

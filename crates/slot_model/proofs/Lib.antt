@@ -17,6 +17,7 @@ pub mod Staggered
 pub mod ChildSupply
 pub mod PeriodicSupply
 pub mod WorstPattern
+pub mod DeadlineSupply
 pub mod FullSupply
 mod Apart
 pub mod MissedJobs
@@ -24,11 +25,13 @@ pub mod FirstMiss
 pub mod LegalJobs
 mod SlotExamples
 mod BoundExamples
+mod DeadlineExamples
 mod RunExamples
 mod MissExamples
 pub mod Constrained
 pub mod WorstLists
 pub mod Budgets
+pub mod BudgetSupplies
 pub mod Points
 pub mod Covers
 mod PointExamples
