@@ -8,4 +8,5 @@ mod Heavier
 mod CoreFails
 pub mod Refusals
 mod Settling
+mod Ways
 mod TruthExamples

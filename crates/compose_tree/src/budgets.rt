@@ -64,7 +64,7 @@ fn settle_parts(sys: &System, budgets: &mut [u64], room: &mut [Task]) -> Result<
 }
 
 /// The budget of part `q`, after those of all later parts.
-fn settle_part(sys: &System, budgets: &[u64], q: u32, room: &mut [Task]) -> Result<u64, Refusal>
+pub fn settle_part(sys: &System, budgets: &[u64], q: u32, room: &mut [Task]) -> Result<u64, Refusal>
     requires is_part { q < length sys.now.parts }
     requires assigned { AssignedFrom sys.now budgets.now (suc q) }
     requires pass { PartsPassFrom sys.now budgets.now (suc q) }
@@ -94,7 +94,7 @@ fn test_cores(sys: &System, budgets: &[u64], room: &mut [Task]) -> Result<(), Re
 }
 
 /// Tests core `c`, after all parts and the cores before it.
-fn test_core(sys: &System, budgets: &[u64], c: u32, room: &mut [Task]) -> Result<(), Refusal>
+pub fn test_core(sys: &System, budgets: &[u64], c: u32, room: &mut [Task]) -> Result<(), Refusal>
     requires is_core { c < length sys.now.cores }
     requires assigned { Assigned sys.now budgets.now }
     requires pass { PartsPassFrom sys.now budgets.now 0 }

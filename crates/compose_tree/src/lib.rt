@@ -4,9 +4,11 @@
 mod assignment;
 mod budgets;
 mod nodes;
+mod recomposition;
 
 pub use assignment::assign;
 pub use budgets::compose;
+pub use recomposition::recompose;
 
 #[cfg(test)]
 mod tests;
