@@ -1,5 +1,5 @@
--- A permitted run of the tree exists over every supply and every release, from moment 0 and whenever
--- each part starts.
+-- A permitted run of the tree exists over every supply and every release, from moment 0 and
+-- whenever each part starts.
 use Rattle.std.proofs.Common.{ℕ, Bool, List}
 use Rattle.slot_model.specs.declared.job.Job.{Job}
 use Rattle.tree_model.specs.View.{SystemView}

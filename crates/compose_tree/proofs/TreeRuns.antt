@@ -1,5 +1,5 @@
--- Where every node passes its test, no job is lost anywhere in any permitted run of the tree, whenever
--- each part starts.
+-- Where every node passes its test, no job is lost anywhere in any permitted run of the tree,
+-- whenever each part starts.
 use Rattle.std.proofs.Common.{◌≡◌, ℕ, zero, suc, ◌<◌, ◌≤◌, Bool, true, false, List, [], length, get_or, drop, Option, arith}
 use Rattle.std.proofs.lemmas.List.{length-map, length-drop}
 use Rattle.slot_model.specs.Task.{AreConstrained}

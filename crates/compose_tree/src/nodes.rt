@@ -11,7 +11,8 @@ use slot_model::{Sched, Task};
 use supply_bound::{Full, Periodic, Supply};
 use tree_model::{Core, Part, Place, Refusal};
 
-/// The budget of a part with these tasks, in slots: the given one, if it passes, else the least.
+/// The budget of a part with these tasks, in slots: the given one, which has to pass, and where
+/// none is given the least that passes.
 pub fn part_budget(part: &Part, node: Place, tasks: &[Task]) -> Result<u64, Refusal>
     requires few { length tasks.now < 2 ^ 32 }
     requires period { IsPeriod part.now.period }
@@ -33,7 +34,8 @@ pub fn part_budget(part: &Part, node: Place, tasks: &[Task]) -> Result<u64, Refu
     }
 }
 
-/// The budget of a part with these tasks, in slots: the given one, untested, else the least.
+/// The budget of a part with these tasks, in slots: the given one, untested, and where none is
+/// given the least that passes.
 pub fn untested_budget(part: &Part, node: Place, tasks: &[Task]) -> Result<u64, Refusal>
     requires few { length tasks.now < 2 ^ 32 }
     requires period { IsPeriod part.now.period }

@@ -8,9 +8,10 @@ pub enum ReleaseFault {
     BadRow(u64),
     /// The part is no part of the kind that the file names, or has no task of the name.
     Unknown(u64),
-    /// A moment past the limit, or a work that is not from 1 to the task's.
+    /// A moment past the limit, a work that is not from 1 to the task's, or an `early` past the
+    /// task's jitter.
     OutOfRange(u64),
-    /// The task was released less than its period before.
+    /// The job arrived less than the task's period after an earlier job of the task, or before it.
     TooEarly(u64),
     /// A moment before that of the row before, or a row that does not fit the earlier rows of its
     /// VCPU.

@@ -18,8 +18,8 @@ pub record AnswersBulk (n : ℕ) (status : Status) (text : List ℕ) : Type 0 wh
   pub counted : AreBulkCounts n counts
   pub told : text ≡ bulk_text counts
 
--- it means: budgets admit the host, and under them no job is lost in any permitted run, whenever each
--- server begins
+-- it means: budgets admit the host, and under them no job is lost in any permitted run, whenever
+-- each server begins
 pub record HostKeepsDeadlines (n : ℕ) : Type 0 where
   pub budgets : List ℕ
   pub admitted : Admitted (bulk_host n) budgets
