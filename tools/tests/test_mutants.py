@@ -3,7 +3,10 @@ import contextlib
 import io
 import os
 import pathlib
+import shutil
+import subprocess
 import tempfile
+import time
 import unittest
 from unittest import mock
 
@@ -151,6 +154,30 @@ class Tries(Crates):
             self.edit(f"mutants/low/e{number:02}.edit")
         self.try_all()
         self.assertEqual([len(line.split()) - 1 for line in self.ran.read_text().split("\n")[:-1]], [12, 1])
+
+    def test_kept_proofs_are_those_of_the_checkout(self):
+        self.edit("mutants/low/one.edit")
+        for name in ("low", "high"):
+            self.write(f"crates/{name}/out/kept", "kept")
+        self.try_all("low")
+        self.assertTrue((self.room / "crates/low/out/kept").exists())
+        self.assertFalse((self.room / "crates/high/out").exists())
+
+    def test_a_run_that_is_stopped_goes_on_where_it_was(self):
+        self.edit("mutants/high/one.edit")
+        self.edit("mutants/low/two.edit")
+        self.write("bin/rt", RT.replace('echo "$2', '[ "$2" = high ] || [ -e "$RAN.2" ] || { touch "$RAN.2"; sleep 60; }; echo "$2'))
+        tool = load.top / "tools" / "mutants"
+        (self.top / "tools").mkdir()
+        shutil.copy(tool, self.top / "tools/mutants")
+        words = [str(self.top / "tools/mutants"), "--room", str(self.room)]
+        started = subprocess.Popen(words, stdout=subprocess.DEVNULL, stderr=subprocess.DEVNULL)
+        while not pathlib.Path(f"{self.ran}.2").exists():
+            time.sleep(0.02)
+        started.terminate()
+        self.assertEqual(started.wait(10), 130)
+        self.assertEqual(subprocess.run(words, capture_output=True).returncode, 0)
+        self.assertEqual(self.ran.read_text(), "high one.edit \nlow two.edit \n")
 
     def test_words_and_rooms_that_it_does_not_take(self):
         self.edit("mutants/low/one.edit")
