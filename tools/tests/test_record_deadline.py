@@ -199,6 +199,39 @@ class Marks(unittest.TestCase):
                 os.kill(pid, 0)
 
 
+class Tries(unittest.TestCase):
+    """A recording in which a switch is missing is made again."""
+    LINES = (
+        "  python3-9    [000] ...1. 0.500000: tracing_mark_write: rtadmit: asleep comm=calc pid=11 cpu=3 runtime=6000 period=20000",
+        "  <idle>-0     [001] dNh4. 1.000000: sched_wakeup: comm=calc pid=11 prio=-1 target_cpu=003",
+        "  sh-7         [003] d..2. 1.000002: sched_switch: prev_comm=sh prev_pid=7 prev_prio=1 prev_state=R ==> next_comm=calc next_pid=11 next_prio=-1",
+        "  calc-11      [003] d..2. 1.000007: sched_switch: prev_comm=calc prev_pid=11 prev_prio=-1 prev_state=R ==> next_comm=sh next_pid=7 next_prio=1",
+    )
+    WHOLE = "\n".join(LINES) + "\n"
+    TORN = "\n".join([*LINES, LINES[-1]]) + "\n"
+
+    def told(self, texts, tries):
+        """The text that is kept where the recordings are these in turn, how many were made, and what standard error has."""
+        made = []
+        err = io.StringIO()
+        words = argparse.Namespace(
+            threads=[tool.thread_of("calc@3=6000/20000")], seconds=1, random=None, tries=tries, out="recording")
+        with mock.patch.object(tool, "record", lambda *_: made.append(1) or texts[len(made) - 1]), contextlib.redirect_stderr(err):
+            return tool.record_whole(words, None), len(made), err.getvalue()
+
+    def test_until_one_is_whole(self):
+        self.assertEqual(self.told([self.WHOLE], 8), (self.WHOLE, 1, ""))
+        self.assertEqual(self.told([self.TORN, self.TORN, self.WHOLE], 8), (self.WHOLE, 3, ""))
+
+    def test_where_none_is_whole(self):
+        text, made, err = self.told([self.TORN] * 2, 2)
+        self.assertEqual((text, made), (self.TORN, 2))
+        self.assertIn("in each of 2 recordings; of the last one, in recording, line 5: no thread of the map has processor 3", err)
+
+    def test_a_text_that_is_refused_for_another_cause_is_kept(self):
+        self.assertEqual(self.told(["text\n"], 8), ("text\n", 1, ""))
+
+
 class Random(unittest.TestCase):
     def test_the_times_of_a_thread_that_halts(self):
         """Work up to WORK, sleep up to two periods, not the same again and again; the same seed gives the same times."""
