@@ -285,6 +285,12 @@ class Windows(unittest.TestCase):
         self.assertEqual((status, err), (0, f"{self.recording}: whole from 0.500000 until 2.000305, lines 1 to 7\n"))
         self.assertEqual(out.splitlines()[-1], "1000305,,end,")
 
+    def test_from_behind_a_loss(self):
+        """A loss lasts up to the event behind it: to begin in between does not pass it over."""
+        lines = [BOTH[0], *self.turn(1), "CPU:3 [LOST 5 EVENTS]", *self.turn(2), *self.turn(3)]
+        for begin, status in (("1.5", 1), ("2.000000", 1), ("2.000001", 0)):
+            self.assertEqual(self.told(lines, f"--from={begin}")[0], status, begin)
+
     def test_a_front_that_was_overwritten(self):
         """The second processor's buffer begins later than the first one's: all before that is not whole."""
         lines = [
