@@ -207,6 +207,15 @@ class Dense(Case):
         self.assertLess(len(picture), 1_000_000)
         self.assertEqual(self.texts(picture).count("got 125 to 125"), 8)
 
+    def test_long_spans_outside_of_what_is_drawn(self):
+        """A run and a sleep of 90 million periods before the view, and as much behind it: only what is drawn takes time."""
+        rows = ["0,cpu0,start,A", "0,cpu0,start,B", "0,cpu0,start,C", "0,cpu0,run,A", "0,cpu0,block,B", "1000000000,,end,"]
+        parts = [part("A", 10, 3), part("B", 10, 3), part("C", 500_000_000, 1)]
+        status, picture, _ = self.run_tool(rows, "--from=399999985", "--until=400000025", parts=parts)
+        self.assertEqual(status, 0)
+        texts = [text for text in self.texts(picture) if "/" in text and "below" not in text]
+        self.assertEqual(texts, ["10/3 over"] * 5 + ["0/3"] * 5 + ["0/1 short"])
+
     def test_a_start_long_before_what_is_drawn(self):
         """The periods before the view are passed over, and those in it are where they were."""
         rows = ["0,cpu0,start,A", "900000000,cpu0,run,A", "900000007,cpu0,stop,", "900000100,,end,"]
