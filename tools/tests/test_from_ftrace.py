@@ -3,7 +3,6 @@ examples/linux, whole and cut at each line."""
 import contextlib
 import gzip
 import io
-import os
 import pathlib
 import subprocess
 import sys
@@ -321,20 +320,24 @@ class Windows(unittest.TestCase):
         used = [self.peak(count) for count in (2_000, 20_000)]
         self.assertLess(used[1] - used[0], 2_000, used)
 
+    PEAK = (
+        "import sys; sys.path.insert(0, sys.argv[1]); from load import load; status = load('from-ftrace').main(sys.argv[2:]); "
+        "print(status, next(line.split()[1] for line in open('/proc/self/status') if line.startswith('VmHWM')))"
+    )
+
     def peak(self, turns):
-        """The most memory, in KiB, of a run over so many turns of three lines."""
-        words = [sys.executable, "-B", str(top / "tools/from-ftrace"), "-", "--cpu=3=cpu3", "--thread=11=A", "--out=/dev/null"]
-        child = subprocess.Popen(words, stdin=subprocess.PIPE, stderr=subprocess.DEVNULL)
-        with child.stdin as pipe:
-            pipe.write(f"{BOTH[0]}\n".encode())
-            for place in range(turns):
-                at = f"{1 + place // 100}.{place % 100 * 10:03}"
-                lines = [wakeup(f"{at}000", "calc 11"), switch(f"{at}005", "sh 7 R", "calc 11"), switch(f"{at}300", "calc 11 S", "sh 7")]
-                pipe.write("".join(f"{line}\n" for line in lines).encode())
-        _, status, usage = os.wait4(child.pid, 0)
-        child.returncode = os.waitstatus_to_exitcode(status)
-        self.assertEqual(child.returncode, 0)
-        return usage.ru_maxrss
+        """The most memory, in KiB, of a run over so many turns of three lines that come through a pipe."""
+        tests = str(pathlib.Path(__file__).resolve().parent)
+        words = [sys.executable, "-B", "-c", self.PEAK, tests, "-", "--cpu=3=cpu3", "--thread=11=A", "--out=/dev/null"]
+        child = subprocess.Popen(words, stdin=subprocess.PIPE, stdout=subprocess.PIPE, stderr=subprocess.DEVNULL)
+        child.stdin.write(f"{BOTH[0]}\n".encode())
+        for place in range(turns):
+            at = f"{1 + place // 100}.{place % 100 * 10:03}"
+            lines = [wakeup(f"{at}000", "calc 11"), switch(f"{at}005", "sh 7 R", "calc 11"), switch(f"{at}300", "calc 11 S", "sh 7")]
+            child.stdin.write("".join(f"{line}\n" for line in lines).encode())
+        status, peak = child.communicate()[0].split()
+        self.assertEqual(status, b"0")
+        return int(peak)
 
 
 class TraceCmd(unittest.TestCase):
@@ -453,6 +456,8 @@ class Refusals(unittest.TestCase):
     def test_lines_that_are_no_events(self):
         self.refused(1, "no line", "at,core,what,vcpu")
         self.refused(1, "no line", wakeup("1.0001", "calc 11"))
+        self.refused(1, "no line", wakeup("9" * 5000 + ".000000", "calc 11"))
+        self.refused(1, "no text of a sched_wakeup", wakeup("1.000000", "calc " + "1" * 5000))
         self.refused(1, "no text of a sched_switch", "   <idle>-0  [003] d..2. 1.000000: sched_switch: calc 11")
         self.refused(1, "no text of a sched_wakeup", "   <idle>-0  [003] d..2. 1.000000: sched_wakeup: calc 11")
 
@@ -485,7 +490,7 @@ class Looks(unittest.TestCase):
         self.refused(b"PERFILE2h\0", "perf's own file", "perf script")
         self.refused(b"at,core,what,vcpu\n0,,end,\n", "a trace already")
         self.refused(b"abc\0def", "zero bytes")
-        self.refused(b"a" * 70_000, "more than 65535 bytes")
+        self.refused(b"a" * 9_000, "more than 8191 bytes")
         self.refused(b"", "no event")
 
     def test_a_clock_that_counts_no_time(self):

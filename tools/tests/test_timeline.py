@@ -343,6 +343,8 @@ class Refusals(Case):
         self.refused(3, "`sleep` is no word of a trace", start, "5,cpu0,sleep,A", end)
         self.refused(3, "not four fields", start, "5,cpu0,run", end)
         self.refused(3, "not four fields", start, "x,cpu0,run,A", end)
+        self.refused(3, "more than 13 digits", start, "9" * 5000 + ",cpu0,run,A", end)
+        self.refused(3, "no row of a trace", start, "5,cpu0,run," + "A" * 140_000, end)
         self.refused(3, "a `run` with this core and this VCPU", start, "5,cpu0,run,", end)
 
     def test_what_is_no_trace(self):
