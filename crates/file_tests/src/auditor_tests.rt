@@ -175,36 +175,40 @@ fn always(v: u32) -> [(u64, What); 3] {
     ]
 }
 
+const NONE: [(u64, What); 1] = [(10_000, What::End)];
+
+const AT_THE_END: [(u64, What); 2] = [(10_000, What::Start(A)), (10_000, What::End)];
+
+const AT_THE_LIMIT: [(u64, What); 3] = [
+    (999_999_990_000, What::Start(B)),
+    (999_999_990_000, What::Run(B)),
+    (1_000_000_000_000, What::End),
+];
+
 #[test]
 fn at_the_edges(rt: HostRuntime) -> Result<(), Fail> {
-    let alloc = rt.alloc();
-    let none = [(10_000, What::End)];
-    assert_eq!(rt;
-        found(&rt, alloc, 10, (3, 4), &none)?,
-        Finding::Yes { periods: 0 }
-    );
-    let at_the_end = [(10_000, What::Start(A)), (10_000, What::End)];
-    assert_eq!(rt;
-        found(&rt, alloc, 10, (3, 4), &at_the_end)?,
-        Finding::Yes { periods: 0 }
-    );
-    let at_the_limit = [
-        (999_999_990_000, What::Start(B)),
-        (999_999_990_000, What::Run(B)),
-        (1_000_000_000_000, What::End),
+    let cases: [(u64, (u64, u64), &[(u64, What)], Finding); 4] = [
+        (10, (3, 4), &NONE, Finding::Yes { periods: 0 }),
+        (10, (3, 4), &AT_THE_END, Finding::Yes { periods: 0 }),
+        (10, (3, 10), &AT_THE_LIMIT, Finding::Yes { periods: 1 }),
+        (1, (1, 1), &SLOTS, short(B, 0, 999)),
     ];
-    assert_eq!(rt;
-        found(&rt, alloc, 10, (3, 10), &at_the_limit)?,
-        Finding::Yes { periods: 1 }
-    );
-    assert_eq!(rt; found(&rt, alloc, 1, (1, 1), &SLOTS)?, short(B, 0, 999));
+    for (period, budget, rows, finding) in cases {
+        assert_eq!(rt; found(&rt, rt.alloc(), period, budget, rows)?, finding);
+    }
+    Ok(())
+}
+
+#[test]
+fn over_a_million_periods(rt: HostRuntime) -> Result<(), Fail> {
     let million = Finding::Yes { periods: 1_000_000 };
-    assert_eq!(rt; found(&rt, alloc, 10, (3, 4), &always(A))?, million);
-    assert_eq!(rt; found(&rt, alloc, 10, (3, 10), &always(B))?, million);
-    assert_eq!(rt;
-        found(&rt, alloc, 10, (3, 4), &always(B))?,
-        over(B, 0, 10_000)
-    );
+    for (vcpu, budget, finding) in [
+        (A, (3, 4), million),
+        (B, (3, 10), million),
+        (B, (3, 4), over(B, 0, 10_000)),
+    ] {
+        assert_eq!(rt; found(&rt, rt.alloc(), 10, budget, &always(vcpu))?, finding);
+    }
     Ok(())
 }
 

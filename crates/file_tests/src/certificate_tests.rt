@@ -81,71 +81,39 @@ fn checked(
     }
 }
 
+const POINTS: &str = r#""35","65","86","137","161""#;
+
+/// The greatest number of 128 bits is past every horizon, but the point before it covers too little.
+const FAR: &str = r#""35","65","86","137","340282366920938463463374607431768211455""#;
+
 #[test]
-fn certificates_of_a_leaf_under_edf(rt: HostRuntime) -> Result<(), Fail> {
-    let alloc = rt.alloc();
-    let points = "\"35\",\"65\",\"86\",\"137\",\"161\"";
-    assert_eq!(rt; checked(&rt, alloc, "3", points, "75", "1")?, Ok(()));
-    assert_eq!(rt;
-        checked(
-            &rt,
-            alloc,
-            "3",
-            "\"50\",\"75\",\"100\",\"150\",\"161\"",
-            "75",
-            "1"
-        )?,
-        Ok(())
-    );
-    assert_eq!(rt;
-        checked(
-            &rt,
-            alloc,
-            "3",
-            "\"35\",\"65\",\"86\",\"137\",\"160\"",
-            "75",
-            "1"
-        )?,
-        Err(Flaw::Cover(Place::Part(0)))
-    );
-    assert_eq!(rt;
-        checked(
-            &rt,
-            alloc,
-            "3",
-            "\"161\",\"137\",\"86\",\"65\",\"35\"",
-            "75",
-            "1"
-        )?,
-        Err(Flaw::Cover(Place::Part(0)))
-    );
-    // the greatest number of 128 bits is past every horizon, but the point before it covers too
-    // little
-    let far = "\"35\",\"65\",\"86\",\"137\",\"340282366920938463463374607431768211455\"";
-    assert_eq!(rt;
-        checked(&rt, alloc, "3", far, "75", "1")?,
-        Err(Flaw::Cover(Place::Part(0)))
-    );
-    assert_eq!(rt;
-        checked(&rt, alloc, "3", "", "75", "1")?,
-        Err(Flaw::Cover(Place::Part(0)))
-    );
-    assert_eq!(rt;
-        checked(&rt, alloc, "3", points, "74", "1")?,
-        Err(Flaw::Least(Place::Part(0)))
-    );
-    assert_eq!(rt;
-        checked(&rt, alloc, "4", points, "75", "1")?,
-        Err(Flaw::Least(Place::Part(0)))
-    );
-    assert_eq!(rt;
-        checked(&rt, alloc, "3", points, "75", "2")?,
-        Err(Flaw::Budget(Place::Core(0)))
-    );
-    assert_eq!(rt;
-        checked(&rt, alloc, "0", points, "75", "1")?,
-        Err(Flaw::Budget(Place::Part(0)))
-    );
+fn covers_of_a_leaf_under_edf(rt: HostRuntime) -> Result<(), Fail> {
+    let uncovered = Err(Flaw::Cover(Place::Part(0)));
+    for (points, want) in [
+        (POINTS, Ok(())),
+        (r#""50","75","100","150","161""#, Ok(())),
+        (r#""35","65","86","137","160""#, uncovered),
+        (r#""161","137","86","65","35""#, uncovered),
+        (FAR, uncovered),
+        ("", uncovered),
+    ] {
+        let found = checked(&rt, rt.alloc(), "3", points, "75", "1")?;
+        assert_eq!(rt; found, want, "points {points}");
+    }
+    Ok(())
+}
+
+#[test]
+fn budgets_of_a_leaf_under_edf(rt: HostRuntime) -> Result<(), Fail> {
+    for (budget, witness, core_budget, want) in [
+        ("3", "74", "1", Flaw::Least(Place::Part(0))),
+        ("4", "75", "1", Flaw::Least(Place::Part(0))),
+        ("3", "75", "2", Flaw::Budget(Place::Core(0))),
+        ("0", "75", "1", Flaw::Budget(Place::Part(0))),
+    ] {
+        let found = checked(&rt, rt.alloc(), budget, POINTS, witness, core_budget)?;
+        assert_eq!(rt; found, Err(want), "budget {budget}");
+    }
     Ok(())
 }
 
@@ -167,27 +135,24 @@ fn checked_hits(
 }
 
 #[test]
-fn certificates_of_a_leaf_under_a_fixed_rank(rt: HostRuntime) -> Result<(), Fail> {
-    let alloc = rt.alloc();
-    assert_eq!(rt; checked_hits(&rt, alloc, "25,46", "1,65,76")?, Ok(()));
-    assert_eq!(rt;
-        checked_hits(&rt, alloc, "24,46", "1,65,76")?,
-        Err(Flaw::Hit(Place::Part(0), 0))
-    );
-    assert_eq!(rt;
-        checked_hits(&rt, alloc, "25,45", "1,65,76")?,
-        Err(Flaw::Hit(Place::Part(0), 1))
-    );
-    assert_eq!(rt;
-        checked_hits(&rt, alloc, "25", "1,65,76")?,
-        Err(Flaw::Hit(Place::Part(0), 0))
-    );
+fn hits_of_a_leaf_under_a_fixed_rank(rt: HostRuntime) -> Result<(), Fail> {
+    for (hits, want) in [
+        ("25,46", Ok(())),
+        ("24,46", Err(Flaw::Hit(Place::Part(0), 0))),
+        ("25,45", Err(Flaw::Hit(Place::Part(0), 1))),
+        ("25", Err(Flaw::Hit(Place::Part(0), 0))),
+    ] {
+        let found = checked_hits(&rt, rt.alloc(), hits, "1,65,76")?;
+        assert_eq!(rt; found, want, "hits {hits}");
+    }
+    Ok(())
+}
+
+#[test]
+fn falls_of_a_leaf_under_a_fixed_rank(rt: HostRuntime) -> Result<(), Fail> {
     for falls in ["", "1,76", "1,65", "1,65,75", "2,65,76", "65,1,76"] {
-        assert_eq!(rt;
-            checked_hits(&rt, alloc, "25,46", falls)?,
-            Err(Flaw::Least(Place::Part(0))),
-            "falls {falls}"
-        );
+        let found = checked_hits(&rt, rt.alloc(), "25,46", falls)?;
+        assert_eq!(rt; found, Err(Flaw::Least(Place::Part(0))), "falls {falls}");
     }
     Ok(())
 }
@@ -219,8 +184,13 @@ fn faults_of_texts(rt: HostRuntime) -> Result<(), Fail> {
             Err(fault) => assert_eq!(rt; fault, want),
         }
     }
-    let sys = system(&rt, alloc, "edf")?;
-    match read_certificate(alloc, b"{\"format\":1,\"nodes\":[]}") {
+    Ok(())
+}
+
+#[test]
+fn a_certificate_without_nodes(rt: HostRuntime) -> Result<(), Fail> {
+    let sys = system(&rt, rt.alloc(), "edf")?;
+    match read_certificate(rt.alloc(), b"{\"format\":1,\"nodes\":[]}") {
         Ok(certificate) => assert_eq!(rt; verify(&sys, &certificate), Err(Flaw::Nodes)),
         Err(fault) => panic!(rt; "{fault:?}"),
     }

@@ -1,6 +1,6 @@
 use crate::helpers::{OUT, job, late_task, task};
 use slot_model::{
-    Edf, LIMIT, Miss, Name, Order, Task, deadline_moment, first_miss, is_legal, misses,
+    Edf, Job, LIMIT, Miss, Name, Order, Task, deadline_moment, first_miss, is_legal, misses,
 };
 use std::test::Fail;
 
@@ -51,30 +51,24 @@ fn tasks_keep_their_range(rt: HostRuntime) {
 fn legal_releases_keep_the_period(rt: HostRuntime) -> Result<(), Fail> {
     let tasks = [task(10, 4, 3)?, task(2, 2, 1)?];
     let far = u64::MAX - 9;
-    assert!(rt; is_legal(&tasks, &[]));
-    assert!(rt;
-        is_legal(
-            &tasks,
-            &[
-                job(0, 5, 3, 0),
-                job(1, 9, 1, 0),
-                job(0, 15, 2, 0),
-                job(1, 11, 1, 0)
-            ]
-        )
-    );
-    assert!(rt;
-        !is_legal(
-            &tasks,
-            &[job(0, 5, 3, 0), job(1, 9, 1, 0), job(0, 14, 2, 0)]
-        )
-    );
-    assert!(rt; !is_legal(&tasks, &[job(0, 15, 3, 0), job(0, 5, 3, 0)]));
-    assert!(rt; !is_legal(&tasks, &[job(0, 5, 0, 0)]));
-    assert!(rt; !is_legal(&tasks, &[job(0, 5, 4, 0)]));
-    assert!(rt; !is_legal(&tasks, &[job(2, 5, 1, 0)]));
-    assert!(rt; !is_legal(&tasks, &[job(0, far, 1, 0), job(0, u64::MAX, 1, 0)]));
-    assert!(rt; is_legal(&tasks, &[job(0, far - 1, 1, 0), job(0, u64::MAX, 1, 0)]));
+    let first = job(0, 5, 3, 0);
+    let cases: [(&[Job], bool); 9] = [
+        (&[], true),
+        (
+            &[first, job(1, 9, 1, 0), job(0, 15, 2, 0), job(1, 11, 1, 0)],
+            true,
+        ),
+        (&[first, job(1, 9, 1, 0), job(0, 14, 2, 0)], false),
+        (&[job(0, 15, 3, 0), first], false),
+        (&[job(0, 5, 0, 0)], false),
+        (&[job(0, 5, 4, 0)], false),
+        (&[job(2, 5, 1, 0)], false),
+        (&[job(0, far, 1, 0), job(0, u64::MAX, 1, 0)], false),
+        (&[job(0, far - 1, 1, 0), job(0, u64::MAX, 1, 0)], true),
+    ];
+    for (jobs, want) in cases {
+        assert_eq!(rt; is_legal(&tasks, jobs), want, "{jobs:?}");
+    }
     Ok(())
 }
 
@@ -98,13 +92,17 @@ fn jitter_leaves_room_for_the_work(rt: HostRuntime) {
 
 #[test]
 fn legal_releases_go_by_arrivals(rt: HostRuntime) -> Result<(), Fail> {
-    let jittery = late_task(50, 40, 7, 5)?;
-    let tasks = [jittery];
+    let tasks = [late_task(50, 40, 7, 5)?];
     let far = u64::MAX - 45;
-    assert!(rt; is_legal(&tasks, &[job(0, 0, 7, 5), job(0, 45, 7, 0)]));
-    assert!(rt; !is_legal(&tasks, &[job(0, 0, 7, 5), job(0, 44, 7, 0)]));
-    assert!(rt; !is_legal(&tasks, &[job(0, 0, 7, 6)]));
-    assert!(rt; is_legal(&tasks, &[job(0, far, 7, 5), job(0, u64::MAX, 7, 0)]));
+    let cases: [(&[Job], bool); 4] = [
+        (&[job(0, 0, 7, 5), job(0, 45, 7, 0)], true),
+        (&[job(0, 0, 7, 5), job(0, 44, 7, 0)], false),
+        (&[job(0, 0, 7, 6)], false),
+        (&[job(0, far, 7, 5), job(0, u64::MAX, 7, 0)], true),
+    ];
+    for (jobs, want) in cases {
+        assert_eq!(rt; is_legal(&tasks, jobs), want, "{jobs:?}");
+    }
     Ok(())
 }
 

@@ -201,7 +201,8 @@ fn a_group_gives_to_its_children(rt: HostRuntime) -> Result<(), Fail> {
     Ok(())
 }
 
-/// The group has 0 to 5 and 10 to 15, of which its first two slots go to `web` and the next to `db`.
+/// The group has 0 to 5 and 10 to 15, of which its first two slots go to `web` and the next to
+/// `db`.
 fn assert_shares(rt: &impl Abort, group: &NodeSpans) {
     let shares = [
         (0, 2, Some(0)),
