@@ -6,23 +6,27 @@ use window_terms::Term;
 
 #[test]
 fn demand_of_windows(rt: HostRuntime) -> Result<(), Fail> {
-    let tasks = two_tasks()?;
-    for (window, work) in [(0, 0), (49, 0), (50, 7), (75, 16), (150, 39)] {
-        assert_eq!(rt; demand(&tasks, window), Some(work), "a window of {window}");
-    }
+    let (two, late) = (two_tasks()?, two_late_tasks()?);
     let early = [task(10, 4, 2)?];
-    for (window, work) in [(3, 0), (4, 2), (13, 2), (14, 4)] {
-        assert_eq!(rt; demand(&early, window), Some(work), "a window of {window}");
+    let cases: [(&[Task], u128, u128); 14] = [
+        (&two, 0, 0),
+        (&two, 49, 0),
+        (&two, 50, 7),
+        (&two, 75, 16),
+        (&two, 150, 39),
+        (&early, 3, 0),
+        (&early, 4, 2),
+        (&early, 13, 2),
+        (&early, 14, 4),
+        (&late, 44, 0),
+        (&late, 45, 7),
+        (&late, 75, 16),
+        (&late, 95, 23),
+        (&[], u128::MAX, 0),
+    ];
+    for (tasks, window, work) in cases {
+        assert_eq!(rt; demand(tasks, window), Some(work), "a window of {window}");
     }
-    let jittery = two_late_tasks()?;
-    for (window, work) in [(44, 0), (45, 7), (75, 16), (95, 23)] {
-        assert_eq!(rt;
-            demand(&jittery, window),
-            Some(work),
-            "a window of {window}"
-        );
-    }
-    assert_eq!(rt; demand(&[], u128::MAX), Some(0));
     Ok(())
 }
 

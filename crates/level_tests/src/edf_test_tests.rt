@@ -1,55 +1,54 @@
+ghost use Rattle.std.specs.Prelude.{◌^◌, ◌-◌, ◌≤◌};
+
 use crate::helpers::{OUT, five_rates, periodic, task, two_late_tasks, two_tasks};
 use edf_demand::horizon;
 use edf_test::{cover, first_short, passes, settled_past};
 use slot_model::Task;
+use std::alloc::{AllocError, Global};
+use std::process::Abort;
 use std::test::Fail;
 use supply_bound::{Full, Periodic, Supply};
 
 #[test]
 fn short_points_of_a_periodic_resource(rt: HostRuntime) -> Result<(), Fail> {
-    let tasks = two_tasks()?;
-    let third = periodic(10, 3)?;
-    assert_eq!(rt; first_short(&tasks, &third, 160), None);
-    assert!(rt; passes(&tasks, &third, 160));
-    let fifth = periodic(10, 2)?;
-    for (window, short) in [(0, None), (74, None), (75, Some(75)), (160, Some(75))] {
-        assert_eq!(rt;
-            first_short(&tasks, &fifth, window),
-            short,
-            "up to {window}"
-        );
-        assert_eq!(rt;
-            passes(&tasks, &fifth, window),
-            short.is_none(),
-            "up to {window}"
-        );
+    let (two, late) = (two_tasks()?, two_late_tasks()?);
+    for (tasks, budget, window, short) in [
+        (&two, 3, 160, None),
+        (&two, 2, 0, None),
+        (&two, 2, 74, None),
+        (&two, 2, 75, Some(75)),
+        (&two, 2, 160, Some(75)),
+        (&late, 3, 160, None),
+        (&late, 2, 160, Some(45)),
+    ] {
+        let supply = periodic(10, budget)?;
+        let found = first_short(tasks, &supply, window);
+        assert_eq!(rt; found, short, "{budget} in 10 up to {window}");
+        assert!(rt; passes(tasks, &supply, window) == short.is_none());
     }
-    let jittery = two_late_tasks()?;
-    assert_eq!(rt; first_short(&jittery, &third, 160), None);
-    assert_eq!(rt; first_short(&jittery, &fifth, 160), Some(45));
     Ok(())
 }
 
 #[test]
 fn short_points_of_a_full_supply(rt: HostRuntime) -> Result<(), Fail> {
     let tasks = [task(2, 2, 2)?, task(3, 3, 1)?];
-    for (period, budget) in [(2, 2), (100, 100)] {
-        let supply = periodic(period, budget)?;
-        for (window, short) in [(2, None), (3, None), (4, Some(4)), (u128::MAX, Some(4))] {
-            assert_eq!(rt;
-                first_short(&tasks, &supply, window),
-                short,
-                "up to {window} of {period}"
-            );
-        }
+    for (period, window, short) in [
+        (2, 2, None),
+        (2, 3, None),
+        (2, 4, Some(4)),
+        (2, u128::MAX, Some(4)),
+        (100, 2, None),
+        (100, 3, None),
+        (100, 4, Some(4)),
+        (100, u128::MAX, Some(4)),
+    ] {
+        let found = first_short(&tasks, &periodic(period, period)?, window);
+        assert_eq!(rt; found, short, "up to {window} of {period}");
     }
     // two deadlines fall at 20, and together they ask for 21 slots
-    assert_eq!(rt;
-        first_short(&[task(10, 10, 5)?, task(20, 20, 11)?], &Full, 1000),
-        Some(20)
-    );
-    assert_eq!(rt; first_short(&[], &Full, u128::MAX), None);
-    assert!(rt; passes(&[], &Full, u128::MAX));
+    let together = [task(10, 10, 5)?, task(20, 20, 11)?];
+    assert_eq!(rt; first_short(&together, &Full, 1000), Some(20));
+    assert!(rt; first_short(&[], &Full, u128::MAX).is_none() && passes(&[], &Full, u128::MAX));
     Ok(())
 }
 
@@ -65,24 +64,36 @@ fn a_supply_that_gives_nothing(rt: HostRuntime) -> Result<(), Fail> {
     Ok(())
 }
 
+/// The cover is of these points; without points there is none.
+fn expect_cover<S: Supply>(
+    rt: &impl Abort,
+    alloc: Global,
+    tasks: &[Task],
+    supply: &S,
+    window: u128,
+    points: &[u128],
+) -> Result<(), AllocError>
+    requires { window ≤ 2 ^ 128 - 2 }
+{
+    match cover(alloc, tasks, supply, window)? {
+        Some(found) => assert_eq!(rt; found.as_slice(), points, "up to {window}"),
+        None => assert!(rt; points.is_empty(), "no cover up to {window}"),
+    }
+    Ok(())
+}
+
 #[test]
 fn covers_of_small_sets(rt: HostRuntime) -> Result<(), Fail> {
-    let tasks = two_tasks()?;
-    let third = periodic(10, 3)?;
-    let points = cover(rt.alloc(), &tasks, &third, 160)?.ok_or("no cover")?;
-    assert_eq!(rt; points.as_slice(), [35, 65, 86, 137, 161].as_slice());
-    let fifth = periodic(10, 2)?;
-    assert!(rt; cover(rt.alloc(), &tasks, &fifth, 160)?.is_none());
-    let small = cover(rt.alloc(), &[task(10, 10, 3)?], &Full, 11)?.ok_or("no cover")?;
-    assert_eq!(rt; small.as_slice(), [3, 12].as_slice());
+    let alloc = rt.alloc();
+    let (two, late) = (two_tasks()?, two_late_tasks()?);
+    let (third, fifth) = (periodic(10, 3)?, periodic(10, 2)?);
+    expect_cover(&rt, alloc, &two, &third, 160, &[35, 65, 86, 137, 161])?;
+    expect_cover(&rt, alloc, &two, &fifth, 160, &[])?;
+    expect_cover(&rt, alloc, &[task(10, 10, 3)?], &Full, 11, &[3, 12])?;
     // the jitter of 5 brings the second deadline of the first task from 100 to 95
-    let plain = cover(rt.alloc(), &tasks, &third, 95)?.ok_or("no cover")?;
-    assert_eq!(rt; plain.as_slice(), [35, 65, 96].as_slice());
-    let jittery = two_late_tasks()?;
-    let sooner = cover(rt.alloc(), &jittery, &third, 95)?.ok_or("no cover")?;
-    assert_eq!(rt; sooner.as_slice(), [35, 65, 86, 96].as_slice());
-    let none = cover(rt.alloc(), &[], &Full, u128::MAX - 1)?.ok_or("no cover")?;
-    assert_eq!(rt; none.as_slice(), [u128::MAX].as_slice());
+    expect_cover(&rt, alloc, &two, &third, 95, &[35, 65, 96])?;
+    expect_cover(&rt, alloc, &late, &third, 95, &[35, 65, 86, 96])?;
+    expect_cover(&rt, alloc, &[], &Full, u128::MAX - 1, &[u128::MAX])?;
     Ok(())
 }
 
@@ -91,13 +102,11 @@ fn covers_of_small_sets(rt: HostRuntime) -> Result<(), Fail> {
 fn periods_with_no_small_common_multiple(rt: HostRuntime) -> Result<(), Fail> {
     let tasks = five_rates()?;
     let h = horizon(&tasks, 4_000).ok_or(OUT)?;
-    let enough = periodic(4_000, 1_217)?;
-    assert_eq!(rt; enough.cycle(), 4_000);
-    assert!(rt; passes(&tasks, &enough, h));
-    assert_eq!(rt; first_short(&tasks, &enough, h), None);
-    let short = periodic(4_000, 1_216)?;
-    assert!(rt; !passes(&tasks, &short, h));
-    assert_eq!(rt; first_short(&tasks, &short, h), Some(100_002));
+    for (budget, short) in [(1_217, None), (1_216, Some(100_002))] {
+        let supply = periodic(4_000, budget)?;
+        assert_eq!(rt; first_short(&tasks, &supply, h), short, "{budget}");
+        assert!(rt; passes(&tasks, &supply, h) == short.is_none() && supply.cycle() == 4_000);
+    }
     Ok(())
 }
 
@@ -110,10 +119,14 @@ fn a_full_supply_to_the_last_slot(rt: HostRuntime) -> Result<(), Fail> {
         tasks[i] = task(3 * thirds[i], 3 * thirds[i], thirds[i])?;
     }
     let h = horizon(&tasks, 1).ok_or(OUT)?;
-    assert!(rt; passes(&tasks, &Full, h));
-    assert_eq!(rt; first_short(&tasks, &Full, h), None);
+    assert!(rt; passes(&tasks, &Full, h) && first_short(&tasks, &Full, h).is_none());
     tasks[0] = task(3 * thirds[0], 3 * thirds[0], thirds[0] + 1)?;
     assert!(rt; !passes(&tasks, &Full, h));
+    Ok(())
+}
+
+#[test]
+fn a_rate_that_is_above_the_supply(rt: HostRuntime) -> Result<(), Fail> {
     let third = [task(50, 50, 15)?];
     let supply = periodic(10, 3)?;
     assert!(rt; !passes(&third, &supply, 60));

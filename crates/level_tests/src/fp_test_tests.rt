@@ -7,15 +7,21 @@ use supply_bound::{Full, Periodic};
 #[test]
 fn hits_of_two_tasks(rt: HostRuntime) -> Result<(), Fail> {
     let tasks = two_tasks()?;
-    let four = periodic(10, 4)?;
-    assert_eq!(rt; hit(Sched::Rm, &tasks, 0, &four), Some(25));
-    assert_eq!(rt; hit(Sched::Rm, &tasks, 1, &four), Some(46));
-    let three = periodic(10, 3)?;
-    assert_eq!(rt; hit(Sched::Rm, &tasks, 0, &three), Some(35));
-    assert_eq!(rt; hit(Sched::Rm, &tasks, 1, &three), None);
+    for (sched, i, budget, want) in [
+        (Sched::Rm, 0, 4, Some(25)),
+        (Sched::Rm, 1, 4, Some(46)),
+        (Sched::Rm, 0, 3, Some(35)),
+        (Sched::Rm, 1, 3, None),
+        (Sched::Listed, 0, 0, None),
+    ] {
+        let supply = periodic(10, budget)?;
+        assert_eq!(rt;
+            hit(sched, &tasks, i, &supply),
+            want,
+            "task {i} of {budget}"
+        );
+    }
     assert_eq!(rt; hit(Sched::Dm, &tasks, 1, &Full), Some(16));
-    let nothing = periodic(10, 0)?;
-    assert_eq!(rt; hit(Sched::Listed, &tasks, 0, &nothing), None);
     Ok(())
 }
 
@@ -23,12 +29,14 @@ fn hits_of_two_tasks(rt: HostRuntime) -> Result<(), Fail> {
 fn hits_leave_room_for_the_jitter(rt: HostRuntime) -> Result<(), Fail> {
     let tasks = two_late_tasks()?;
     let four = periodic(10, 4)?;
-    assert_eq!(rt; hit(Sched::Rm, &tasks, 0, &four), Some(25));
-    assert_eq!(rt; hit(Sched::Rm, &tasks, 1, &four), Some(65));
-    let at_the_end = [late_task(50, 30, 7, 5)?];
-    assert_eq!(rt; hit(Sched::Rm, &at_the_end, 0, &four), Some(25));
-    let past_it = [late_task(50, 30, 7, 6)?];
-    assert_eq!(rt; hit(Sched::Rm, &past_it, 0, &four), None);
+    for (i, want) in [(0, 25), (1, 65)] {
+        assert_eq!(rt; hit(Sched::Rm, &tasks, i, &four), Some(want), "task {i}");
+    }
+    // at its end, and past it
+    for (jitter, want) in [(5, Some(25)), (6, None)] {
+        let tasks = [late_task(50, 30, 7, jitter)?];
+        assert_eq!(rt; hit(Sched::Rm, &tasks, 0, &four), want, "jitter {jitter}");
+    }
     Ok(())
 }
 

@@ -1,29 +1,37 @@
+ghost use Rattle.std.specs.Prelude.{◌^◌, ◌<◌, ◌≤◌, length};
+ghost use Rattle.slot_model.specs.declared.task.TheConstants.{LIMIT};
+
 use crate::helpers::{five_long_tasks, five_rates, periodic, task, two_late_tasks, two_tasks};
 use least_budget::{Least, Tested, least_budget, test};
 use slot_model::{Sched, Short, Task};
+use std::process::Abort;
 use std::test::Fail;
 use supply_bound::{Full, Periodic};
 
 const RANKS: [Sched; 3] = [Sched::Rm, Sched::Dm, Sched::Listed];
 
+fn expect_budget(rt: &impl Abort, sched: Sched, tasks: &[Task], period: u64, budget: u64)
+    requires few { length tasks.now < 2 ^ 32 }
+    requires some_period { 1 ≤ period }
+    requires in_limit { period ≤ LIMIT }
+{
+    let found = least_budget(sched, tasks, period);
+    assert_eq!(rt; found, Least::Budget(budget), "{sched:?} in {period}");
+}
+
 #[test]
 fn budgets_of_small_levels(rt: HostRuntime) -> Result<(), Fail> {
-    let two = two_tasks()?;
-    assert_eq!(rt; least_budget(Sched::Edf, &two, 10), Least::Budget(3));
-    assert_eq!(rt; least_budget(Sched::Rm, &two, 10), Least::Budget(4));
-    let jittery = two_late_tasks()?;
-    assert_eq!(rt; least_budget(Sched::Edf, &jittery, 10), Least::Budget(3));
-    assert_eq!(rt; least_budget(Sched::Rm, &jittery, 10), Least::Budget(4));
-    let none: [Task; 0] = [];
+    let (two, late) = (two_tasks()?, two_late_tasks()?);
+    for (sched, budget) in [(Sched::Edf, 3), (Sched::Rm, 4)] {
+        expect_budget(&rt, sched, &two, 10, budget);
+        expect_budget(&rt, sched, &late, 10, budget);
+    }
     let whole = [task(5, 5, 5)?];
     let long = [task(1_000_000_000, 1_000_000_000, 1_000_000_000)?];
     for sched in [Sched::Edf, Sched::Rm, Sched::Dm, Sched::Listed] {
-        assert_eq!(rt; least_budget(sched, &none, 10), Least::Budget(0));
-        assert_eq!(rt; least_budget(sched, &whole, 5), Least::Budget(5));
-        assert_eq!(rt;
-            least_budget(sched, &long, 1_000_000_000),
-            Least::Budget(1_000_000_000)
-        );
+        expect_budget(&rt, sched, &[], 10, 0);
+        expect_budget(&rt, sched, &whole, 5, 5);
+        expect_budget(&rt, sched, &long, 1_000_000_000, 1_000_000_000);
     }
     Ok(())
 }
@@ -31,22 +39,19 @@ fn budgets_of_small_levels(rt: HostRuntime) -> Result<(), Fail> {
 #[test]
 fn levels_that_ask_for_too_much(rt: HostRuntime) -> Result<(), Fail> {
     let tasks = [task(2, 2, 2)?, task(3, 3, 1)?];
-    for period in [2, 100] {
-        assert_eq!(rt;
-            least_budget(Sched::Edf, &tasks, period),
-            Least::Over(Short::At(4))
-        );
-        for sched in RANKS {
-            assert_eq!(rt;
-                least_budget(sched, &tasks, period),
-                Least::Over(Short::Task(1))
-            );
+    for (sched, short) in [
+        (Sched::Edf, Short::At(4)),
+        (Sched::Rm, Short::Task(1)),
+        (Sched::Dm, Short::Task(1)),
+        (Sched::Listed, Short::Task(1)),
+    ] {
+        for period in [2, 100] {
+            let found = least_budget(sched, &tasks, period);
+            assert_eq!(rt; found, Least::Over(short), "{sched:?} in {period}");
         }
     }
-    assert_eq!(rt;
-        test(Sched::Edf, &tasks, &Full),
-        Tested::Short(Short::At(4))
-    );
+    let full = test(Sched::Edf, &tasks, &Full);
+    assert_eq!(rt; full, Tested::Short(Short::At(4)));
     Ok(())
 }
 
@@ -64,15 +69,17 @@ fn horizons_past_128_bits(rt: HostRuntime) -> Result<(), Fail> {
 #[test]
 fn tests_at_the_least_budget(rt: HostRuntime) -> Result<(), Fail> {
     let tasks = two_tasks()?;
-    let two = periodic(10, 2)?;
-    let three = periodic(10, 3)?;
-    assert_eq!(rt;
-        test(Sched::Edf, &tasks, &two),
-        Tested::Short(Short::At(75))
-    );
-    assert_eq!(rt; test(Sched::Edf, &tasks, &three), Tested::Passes);
+    for (sched, budget, want) in [
+        (Sched::Edf, 2, Tested::Short(Short::At(75))),
+        (Sched::Edf, 3, Tested::Passes),
+        (Sched::Rm, 3, Tested::Short(Short::Task(1))),
+        (Sched::Dm, 3, Tested::Short(Short::Task(1))),
+        (Sched::Listed, 3, Tested::Short(Short::Task(1))),
+    ] {
+        let supply = periodic(10, budget)?;
+        assert_eq!(rt; test(sched, &tasks, &supply), want, "{sched:?} of {budget}");
+    }
     for sched in RANKS {
-        assert_eq!(rt; test(sched, &tasks, &three), Tested::Short(Short::Task(1)));
         assert_eq!(rt; test(sched, &tasks, &Full), Tested::Passes);
     }
     Ok(())

@@ -4,38 +4,50 @@ use supply_bound::{Full, Periodic, Supply};
 
 #[test]
 fn least_slots_of_windows(rt: HostRuntime) -> Result<(), Fail> {
-    let third = periodic(10, 3)?;
-    for (window, slots) in [(0, 0), (14, 0), (15, 1), (17, 3), (24, 3), (25, 4)] {
-        assert_eq!(rt; third.least(window), slots, "a window of {window}");
+    for (period, budget, window, slots) in [
+        (10, 3, 0, 0),
+        (10, 3, 14, 0),
+        (10, 3, 15, 1),
+        (10, 3, 17, 3),
+        (10, 3, 24, 3),
+        (10, 3, 25, 4),
+        (10, 3, u128::MAX, 102084710076281539039012382229530463433),
+        (5, 0, 0, 0),
+        (5, 0, 1, 0),
+        (5, 0, 5, 0),
+        (5, 0, 100, 0),
+        (5, 0, u128::MAX, 0),
+        (5, 5, u128::MAX, u128::MAX),
+    ] {
+        let least = periodic(period, budget)?.least(window);
+        assert_eq!(rt; least, slots, "{budget} in {period}, a window of {window}");
     }
-    assert_eq!(rt;
-        third.least(u128::MAX),
-        102084710076281539039012382229530463433
-    );
-    let nothing = periodic(5, 0)?;
-    for window in [0, 1, 5, 100, u128::MAX] {
-        assert_eq!(rt; nothing.least(window), 0, "a window of {window}");
-    }
-    assert_eq!(rt; periodic(5, 5)?.least(u128::MAX), u128::MAX);
     assert_eq!(rt; Full.least(7), 7);
     Ok(())
 }
 
 #[test]
 fn windows_that_reach_a_bound(rt: HostRuntime) -> Result<(), Fail> {
-    let third = periodic(10, 3)?;
-    for (slots, window) in [(0, 0), (1, 15), (3, 17), (4, 25), (16, 65)] {
-        assert_eq!(rt; third.reach(slots), Some(window), "{slots} slots");
+    for (period, budget, slots, window) in [
+        (10, 3, 0, Some(0)),
+        (10, 3, 1, Some(15)),
+        (10, 3, 3, Some(17)),
+        (10, 3, 4, Some(25)),
+        (10, 3, 16, Some(65)),
+        (10, 3, u128::MAX, None),
+        (
+            2,
+            1,
+            170141183460469231731687303715884105727,
+            Some(u128::MAX),
+        ),
+        (2, 1, 170141183460469231731687303715884105728, None),
+        (5, 0, 0, Some(0)),
+        (5, 0, 1, None),
+    ] {
+        let reached = periodic(period, budget)?.reach(slots);
+        assert_eq!(rt; reached, window, "{budget} in {period}, {slots} slots");
     }
-    assert_eq!(rt; third.reach(u128::MAX), None);
-    let half = periodic(2, 1)?;
-    assert_eq!(rt;
-        half.reach(170141183460469231731687303715884105727),
-        Some(u128::MAX)
-    );
-    assert_eq!(rt; half.reach(170141183460469231731687303715884105728), None);
-    assert_eq!(rt; periodic(5, 0)?.reach(0), Some(0));
-    assert_eq!(rt; periodic(5, 0)?.reach(1), None);
     assert_eq!(rt; Full.reach(u128::MAX), Some(u128::MAX));
     Ok(())
 }
@@ -71,10 +83,7 @@ fn worst_patterns(rt: HostRuntime) -> Result<(), Fail> {
     for (x, slot) in given.iter().enumerate() {
         assert_eq!(rt; part.worst(x as u64), *slot, "slot {x}");
     }
-    assert_eq!(rt; part.start(), 2);
-    assert_eq!(rt; part.cycle(), 5);
-    assert!(rt; Full.worst(3));
-    assert_eq!(rt; Full.start(), 0);
-    assert_eq!(rt; Full.cycle(), 1);
+    assert_eq!(rt; (part.start(), part.cycle()), (2, 5));
+    assert_eq!(rt; (Full.worst(3), Full.start(), Full.cycle()), (true, 0, 1));
     Ok(())
 }
