@@ -72,16 +72,24 @@ fn a_comma_at_the_end_leaves_an_empty_field(rt: HostRuntime) -> Result<(), Fail>
 }
 
 #[test]
-fn plain_numbers_have_no_sign_and_no_leading_zero(rt: HostRuntime) -> Result<(), Fail> {
-    for field in [b"0".as_slice(), b"10", b"99999999999999999999999"] {
-        assert!(rt; is_plain(field));
+fn plain_numbers_have_no_sign_and_no_leading_zero(rt: HostRuntime) {
+    let cases = [
+        (b"0".as_slice(), true),
+        (b"10", true),
+        (b"99999999999999999999999", true),
+        (b"", false),
+        (b"01", false),
+        (b"+1", false),
+        (b"1.0", false),
+        (b" 1", false),
+    ];
+    for (field, plain) in cases {
+        assert_eq!(rt; is_plain(field), plain, "{field:?}");
     }
-    for field in [b"".as_slice(), b"01", b"+1", b"1.0", b" 1"] {
-        assert!(rt; !is_plain(field));
-    }
-    assert_eq!(rt; number(b"1000", 1000), Some(1000));
-    assert_eq!(rt; number(b"1001", 1000), None);
-    assert_eq!(rt; number(b"99999999999999999999999", 1000), None);
+}
+
+#[test]
+fn numbers_have_a_limit(rt: HostRuntime) {
     let cases = [
         (b"0".as_slice(), Plain::Is(0)),
         (b"1000", Plain::Is(1000)),
@@ -93,7 +101,13 @@ fn plain_numbers_have_no_sign_and_no_leading_zero(rt: HostRuntime) -> Result<(),
         (b"9999999999999999999999x", Plain::No),
     ];
     for (field, plain) in cases {
-        assert_eq!(rt; plain_number(field, 1000), plain);
+        assert_eq!(rt; plain_number(field, 1000), plain, "{field:?}");
     }
-    Ok(())
+    for (field, found) in [
+        (b"1000".as_slice(), Some(1000)),
+        (b"1001", None),
+        (b"99999999999999999999999", None),
+    ] {
+        assert_eq!(rt; number(field, 1000), found, "{field:?}");
+    }
 }

@@ -74,23 +74,19 @@ fn plain_entries(alloc: Global, text: &str) -> Option<Vec<Entry<'_>>> {
 
 #[test]
 fn a_plain_text_gives_its_items_without_a_table(rt: HostRuntime) -> Result<(), Fail> {
-    let top = plain_entries(rt.alloc(), PLAIN).expect(&rt, "a plain text");
-    assert_eq!(rt; top.len(), 3);
-    assert_eq!(rt; number_at(&top, "format"), Some(1));
-    assert_eq!(rt; count_at(&top, "core"), 1);
-    assert_eq!(rt; count_at(&top, "part"), 2);
-    let core = table_at(&top, "core", 0).expect(&rt, "a core");
-    assert_eq!(rt; text_at(core, "name"), Some("cpu0"));
-    assert_eq!(rt; text_at(core, "sched"), Some("edf"));
-    let first = table_at(&top, "part", 0).expect(&rt, "a part");
-    assert_eq!(rt; text_at(first, "name"), Some("a b"));
-    assert!(rt; is_true_at(first, "extra"));
-    assert_eq!(rt; count_at(first, "task"), 2);
-    let task = table_at(first, "task", 1).expect(&rt, "a task");
+    let top = plain_entries(rt.alloc(), PLAIN).ok_or("not plain")?;
+    let counts = (top.len(), count_at(&top, "core"), count_at(&top, "part"));
+    assert_eq!(rt; (number_at(&top, "format"), counts), (Some(1), (3, 1, 2)));
+    let core = table_at(&top, "core", 0).ok_or("no core")?;
+    let texts = (text_at(core, "name"), text_at(core, "sched"));
+    assert_eq!(rt; texts, (Some("cpu0"), Some("edf")));
+    let first = table_at(&top, "part", 0).ok_or("no part")?;
+    let found = (is_true_at(first, "extra"), count_at(first, "task"));
+    assert_eq!(rt; (text_at(first, "name"), found), (Some("a b"), (true, 2)));
+    let task = table_at(first, "task", 1).ok_or("no task")?;
     assert_eq!(rt; number_at(task, "period"), Some(-5));
-    let second = table_at(&top, "part", 1).expect(&rt, "another part");
-    assert_eq!(rt; text_at(second, "name"), Some("c"));
-    assert_eq!(rt; second.len(), 1);
+    let second = table_at(&top, "part", 1).ok_or("no other part")?;
+    assert_eq!(rt; (text_at(second, "name"), second.len()), (Some("c"), 1));
     Ok(())
 }
 
