@@ -83,7 +83,8 @@ fn checked(
 
 const POINTS: &str = r#""35","65","86","137","161""#;
 
-/// The greatest number of 128 bits is past every horizon, but the point before it covers too little.
+/// The greatest number of 128 bits is past every horizon, but the point before it covers too
+/// little.
 const FAR: &str = r#""35","65","86","137","340282366920938463463374607431768211455""#;
 
 #[test]
