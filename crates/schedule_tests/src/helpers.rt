@@ -54,7 +54,7 @@ pub fn system_of(rt: &impl Abort, alloc: Global, text: &str) -> System {
 
 /// The budgets that its file gives.
 pub fn planned(rt: &impl Abort, alloc: Global, sys: &System) -> Plan
-    ensures { IsPlan sys.now result.now }
+    ensures { IsPlan sys.now result }
 {
     match assign(alloc, sys) {
         Ok(plan) => plan,
