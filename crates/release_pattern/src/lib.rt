@@ -5,6 +5,3 @@
 mod jobs;
 
 pub use jobs::synchronous_jobs;
-
-#[cfg(test)]
-mod tests;
