@@ -1,4 +1,4 @@
-// For each command each call of the store and each write fails in turn, and then none.
+// Each call of the store and each write fails in turn, and then none.
 ghost use Rattle.std.specs.Prelude.{◌≤◌};
 
 use super::texts::*;
@@ -119,45 +119,80 @@ fn each_write_fails(
     Ok(())
 }
 
-#[test]
-fn each_call_and_each_write_fails_in_turn(rt: HostRuntime) -> Result<(), Fail> {
-    for (words, texts, answer) in [
-        (
-            ["admit", "first"].as_slice(),
-            [LEAF].as_slice(),
-            LEAF_ANSWER,
-        ),
-        (
-            ["certify", "first"].as_slice(),
-            [LEAF].as_slice(),
-            LEAF_CERTIFICATE,
-        ),
-        (
-            ["check", "first", "second"].as_slice(),
-            [LEAF, LEAF_CERTIFICATE].as_slice(),
-            "verdict=yes\n",
-        ),
-        (
-            ["simulate", "first", "second", "early", "100"].as_slice(),
-            [LEAF, LEAF_RELEASES].as_slice(),
-            LEAF_COUNTS,
-        ),
-        (
-            ["rtds", "first", "second", "10"].as_slice(),
-            [SHARED, SHARED_WORKLOAD].as_slice(),
-            SHARED_TRACE,
-        ),
-        (
-            ["audit", "first", "second"].as_slice(),
-            [SHARED, SHARED_TRACE].as_slice(),
-            SHARED_AUDIT,
-        ),
-        (["bulk", "1"].as_slice(), [].as_slice(), HOST_COUNTS),
-    ] {
-        for bite in [1, 7, 8, 4096] {
-            each_call_fails(&rt, rt.alloc(), words, texts, answer, bite)?;
-            each_write_fails(&rt, rt.alloc(), words, texts, answer, bite)?;
-        }
+// Both, over reads and writes of several lengths.
+fn all_fail(
+    rt: &impl Abort,
+    alloc: Global,
+    words: &[&str],
+    texts: &[&str],
+    answer: &str,
+) -> Result<(), Fail> {
+    for bite in [1, 7, 8, 4096] {
+        each_call_fails(rt, alloc, words, texts, answer, bite)?;
+        each_write_fails(rt, alloc, words, texts, answer, bite)?;
     }
     Ok(())
+}
+
+#[test]
+fn of_admit(rt: HostRuntime) -> Result<(), Fail> {
+    all_fail(&rt, rt.alloc(), &["admit", "first"], &[LEAF], LEAF_ANSWER)
+}
+
+#[test]
+fn of_certify(rt: HostRuntime) -> Result<(), Fail> {
+    all_fail(
+        &rt,
+        rt.alloc(),
+        &["certify", "first"],
+        &[LEAF],
+        LEAF_CERTIFICATE,
+    )
+}
+
+#[test]
+fn of_check(rt: HostRuntime) -> Result<(), Fail> {
+    let words = ["check", "first", "second"];
+    all_fail(
+        &rt,
+        rt.alloc(),
+        &words,
+        &[LEAF, LEAF_CERTIFICATE],
+        "verdict=yes\n",
+    )
+}
+
+#[test]
+fn of_simulate(rt: HostRuntime) -> Result<(), Fail> {
+    let words = ["simulate", "first", "second", "early", "100"];
+    all_fail(&rt, rt.alloc(), &words, &[LEAF, LEAF_RELEASES], LEAF_COUNTS)
+}
+
+#[test]
+fn of_rtds(rt: HostRuntime) -> Result<(), Fail> {
+    let words = ["rtds", "first", "second", "10"];
+    all_fail(
+        &rt,
+        rt.alloc(),
+        &words,
+        &[SHARED, SHARED_WORKLOAD],
+        SHARED_TRACE,
+    )
+}
+
+#[test]
+fn of_audit(rt: HostRuntime) -> Result<(), Fail> {
+    let words = ["audit", "first", "second"];
+    all_fail(
+        &rt,
+        rt.alloc(),
+        &words,
+        &[SHARED, SHARED_TRACE],
+        SHARED_AUDIT,
+    )
+}
+
+#[test]
+fn of_bulk(rt: HostRuntime) -> Result<(), Fail> {
+    all_fail(&rt, rt.alloc(), &["bulk", "1"], &[], HOST_COUNTS)
 }
