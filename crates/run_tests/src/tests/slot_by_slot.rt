@@ -25,7 +25,7 @@ fn told_slot_by_slot(
     let Ok(plan) = assign(alloc, &sys) else {
         return Ok(None);
     };
-    if sys.cores().len() != 1 || slots > 1_000_000 {
+    if sys.cores().len() != 1 || slots > 1_000_000 || releases.len() > 1_000_000 {
         return Ok(None);
     }
     let given = Vec::from_array(alloc, [vec![in alloc; true; slots]?])?;
