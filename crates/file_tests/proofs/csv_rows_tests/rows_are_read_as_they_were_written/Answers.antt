@@ -1,6 +1,6 @@
 use Rattle.std.proofs.Common.{◌≡◌, ℕ, zero, suc, List, [], ◌∷◌, length, refl, arith}
 use Rattle.csv_rows.specs.Printing.{AreOfLength}
-use Rattle.csv_rows.proofs.tests.rows_are_read_as_they_were_written.Goals as goal
+use Rattle.file_tests.proofs.csv_rows_tests.rows_are_read_as_they_were_written.Goals as goal
 
 -- a row stands alone among itself
 one_row : (row : List (List ℕ)) → length row ≡ 3 → AreOfLength 3 (row ∷ [])
