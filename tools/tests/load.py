@@ -1,6 +1,7 @@
 """The tools have no ending that Python imports, so their tests load them by this."""
 import importlib.machinery
 import importlib.util
+import os
 import pathlib
 import sys
 
@@ -16,3 +17,11 @@ def load(name):
     sys.modules[module_name] = module
     loader.exec_module(module)
     return module
+
+
+def program():
+    """A program to ask, or None: the one that RTADMIT names, or the proved one where it is built."""
+    for path in (os.environ.get("RTADMIT"), top / "crates/rtadmit/out/rtadmit"):
+        if path and os.access(path, os.X_OK):
+            return str(path)
+    return None
