@@ -30,14 +30,14 @@ use Rattle.cert_reader.specs.CertificateFile.{certificate_of}
 use Rattle.cert_reader.specs.Proves.{budgets_of, Proves}
 use Rattle.rt_top.specs.declared.status.Status.{Status}
 use Rattle.rt_top.specs.declared.status.Status.TheVariants.{Yes, No, Usage, BadFile, Absent, TooLong, ReadFault, WriteFault}
-use Rattle.rt_top.specs.Command.{Command, admit, certify, check, rtds, audit, simulate, bulk}
+use Rattle.rt_top.specs.Commands.{Command, admit, certify, check, rtds, audit, simulate, bulk}
 use Rattle.rt_top.specs.Answer.{Contents, file_at, IfSystem, IsOne, IsReadable}
 use Rattle.rt_top.specs.TwoFiles.{SpellsSystem}
-use Rattle.rt_top.specs.Admit.{IsTrulyOverfull}
-use Rattle.rt_top.specs.Certify.{IsProof, TellsCertificate, CertificateMeans, CertifyMeans}
-use Rattle.rt_top.specs.Check.{CheckMeans}
-use Rattle.rt_top.specs.Rtds.{IsTraceOf, TellsRun, RunMeans, IsRunOf}
-use Rattle.rt_top.specs.Simulate.{RunsFirst, SimulateMeans, IsSimulationOf}
+use Rattle.rt_top.specs.Commands.Admit.{IsTrulyOverfull}
+use Rattle.rt_top.specs.Commands.Certify.{IsProof, TellsCertificate, CertificateMeans, CertifyMeans}
+use Rattle.rt_top.specs.Commands.Check.{CheckMeans}
+use Rattle.rt_top.specs.Commands.Rtds.{IsTraceOf, TellsRun, RunMeans, IsRunOf}
+use Rattle.rt_top.specs.Commands.Simulate.{RunsFirst, SimulateMeans, IsSimulationOf}
 use Rattle.rt_top.specs.Report.{IsAnswer, Reported, HasOneAnswer}
 use Rattle.rt_top.specs.Causes.{CanJudge, IsVerdictOf, EndsAs}
 

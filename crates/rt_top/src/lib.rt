@@ -1,21 +1,15 @@
 //! The commands: from words and files to a status and a text.
 #![tactic(auto)]
 
-mod admit;
 mod answer;
-mod audit;
-mod bulk;
-mod certify;
-mod check;
-mod command;
+mod commands;
 mod file;
 mod guests;
 #[cfg(test)]
 mod jitter_tests;
+mod one_file;
 mod refusing;
 mod replays;
-mod rtds;
-mod simulate;
 mod slot_words;
 mod slots;
 #[cfg(test)]

@@ -1,26 +1,16 @@
-ghost use Rattle.std.specs.Prelude.{◌≡◌, ◌≢◌, ◌⊎◌, map, option_map, string_bytes, None, IfOk, IfErr};
+ghost use Rattle.std.specs.Prelude.{◌≡◌, ◌≢◌, ◌⊎◌, map, string_bytes, None};
 ghost use Rattle.std.specs.Io.KnownBytes.{Appends};
 ghost use Rattle.outside.specs.Counts.{Rose, RoseBeyond};
 ghost use Rattle.outside.specs.Files.{Files};
 ghost use Rattle.outside.specs.Written.{AppendsProperPrefix};
-ghost use Rattle.rt_report.specs.Usage.{usage_line};
-ghost use Rattle.rt_top.specs.Command.{command_of};
-ghost use Rattle.rt_top.specs.Report.{IsAnswer, Reported, HasOneAnswer};
+ghost use Rattle.rt_top.specs.Commands.{command_of};
+ghost use Rattle.rt_top.specs.Report.{Reported, HasOneAnswer};
 ghost use Rattle.rt_top.specs.Causes.{IsOfQuietStore, IsJudgeable, IsVerdictOf, Stays};
-ghost use Rattle.rt_top.specs.Steps.{command_told, counts_of, IfAnswered, Explains};
 
 use crate::Status;
-use crate::admit::admit;
-use crate::answer::{Answer, Ending, ended};
-use crate::audit::audit;
-use crate::bulk::bulk;
-use crate::certify::certify;
-use crate::check::check;
-use crate::command::{Command, parse};
-use crate::rtds::rtds;
-use crate::simulate::simulate;
+use crate::answer::Ending;
+use crate::commands::{answer, parse};
 use outside::{Sink, Store, write_all};
-use rt_report::usage_text;
 use std::alloc::Global;
 
 /// Answers the words: reads the files that they name, writes the whole text of the answer to
@@ -56,41 +46,6 @@ pub fn run<S: Store, K: Sink>(alloc: Global, words: &[String], store: &mut S, ou
         Ending::Unread => Status::ReadFault,
         Ending::NoMemory => Status::NoMemory,
     }
-}
-
-// The answer to a command, or to words that spell none.
-fn answer<S: Store>(alloc: Global, command: Option<Command<'_>>, store: &mut S) -> Ending
-    ensures answer { IfAnswered result (λ a. IsAnswer (option_map command_told command.entry)
-        (S.files store.old) a.status a.text.items) }
-    ensures explained { let counts = counts_of S.faults S.absences S.taken in
-        Explains result (counts store.old) (counts store.new) }
-{
-    match command {
-        Some(Command::Admit(file)) => ended(admit(alloc, store, file)),
-        Some(Command::Certify(file)) => ended(certify(alloc, store, file)),
-        Some(Command::Check(file, cert)) => ended(check(alloc, store, file, cert)),
-        Some(Command::Rtds(file, workload, slots)) => {
-            ended(rtds(alloc, store, file, workload, slots))
-        }
-        Some(Command::Audit(file, trace)) => ended(audit(alloc, store, file, trace)),
-        Some(Command::Simulate(file, releases, pattern, slots)) => {
-            ended(simulate(alloc, store, file, releases, pattern, slots))
-        }
-        Some(Command::Bulk(guests)) => ended(bulk(alloc, guests)),
-        None => ended(usage(alloc)),
-    }
-}
-
-// The usage line.
-fn usage(alloc: Global) -> Result<Answer, Ending>
-    ensures status { IfOk result (λ a. a.status ≡ Status.Usage) }
-    ensures text { IfOk result (λ a. a.text.items ≡ usage_line) }
-    ensures memory { IfErr result (λ ending. ending ≡ Ending.NoMemory) }
-{
-    Ok(Answer {
-        status: Status::Usage,
-        text: usage_text().as_bytes().to_vec(alloc)?,
-    })
 }
 
 // Writes the whole text of an answer and gives its status.

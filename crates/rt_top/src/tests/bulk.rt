@@ -42,7 +42,9 @@ fn a_number_of_guests_is_plain_and_in_range(rt: HostRuntime) -> Result<(), Fail>
         assert_eq!(rt; status, Status::Usage, "{word}");
         assert_eq!(rt;
             text.as_slice(),
-            rt_report::usage_text().as_bytes(),
+            b"usage: rtadmit admit FILE | certify FILE | check FILE CERT | \
+            simulate FILE RELEASES PATTERN SLOTS | rtds FILE WORKLOAD SLOTS | audit FILE TRACE | \
+            bulk N\n",
             "{word}"
         );
     }

@@ -1,0 +1,37 @@
+-- `bulk N`: what it answers, and what that means.
+use Rattle.std.specs.Prelude.{◌≡◌, ℕ, ◌≤◌, List, [], ⊤}
+use Rattle.tree_model.specs.Tree.{NoLoss}
+use Rattle.tree_model.specs.Admission.{Admitted}
+use Rattle.bulk_host.specs.Host.{bulk_host}
+use Rattle.bulk_run.specs.declared.counts.BulkCounts.{BulkCounts}
+use Rattle.bulk_run.specs.Summary.{AreBulkCounts}
+use Rattle.rt_report.specs.Bulk.{bulk_text}
+use Rattle.rt_top.specs.declared.status.Status.{Status}
+use Rattle.rt_top.specs.declared.status.Status.TheVariants.{Yes}
+use Rattle.rt_top.specs.CommandSpec.{CommandSpec, IsVerdict}
+
+-- the answer is yes, always: the text tells the counts of the host of n guests, 1 to 256
+pub record AnswersBulk (n : ℕ) (status : Status) (text : List ℕ) : Type 0 where
+  pub some : 1 ≤ n
+  pub most : n ≤ 256
+  pub is_yes : status ≡ Yes
+  pub counts : BulkCounts
+  pub counted : AreBulkCounts n counts
+  pub told : text ≡ bulk_text counts
+
+-- it means: budgets admit the host, and under them no job is lost in any permitted run, whenever each
+-- server begins
+pub record HostKeepsDeadlines (n : ℕ) : Type 0 where
+  pub budgets : List ℕ
+  pub admitted : Admitted (bulk_host n) budgets
+  pub no_loss : NoLoss (bulk_host n) budgets
+
+-- what there is to say of the command
+abbrev pub the_bulk : ℕ → CommandSpec
+the_bulk guests = record {
+  files = [];
+  Answers = λ contents. AnswersBulk guests;
+  Means = λ contents status text. HostKeepsDeadlines guests;
+  CanJudge = λ contents. ⊤;
+  EndsAs = λ contents. IsVerdict;
+}
