@@ -8,6 +8,7 @@ use Rattle.bulk_host.proofs.Systems.{host_is_system}
 use Rattle.bulk_run.specs.declared.counts.BulkCounts.{BulkCounts}
 use Rattle.bulk_run.specs.Summary.{AreBulkCounts}
 use Rattle.bulk_run.proofs.OneCount.{one_count}
+use Rattle.bulk_run.proofs.NoMiss.{host_misses_none, none_is_counted}
 use Rattle.rt_report.specs.Bulk.{bulk_text}
 use Rattle.rt_top.specs.declared.status.Status.{Status}
 use Rattle.rt_top.specs.declared.status.Status.TheVariants.{Yes}
@@ -38,5 +39,5 @@ counted_answer n files counts text some most counted told = record {
   contents = [];
   held = no_contents n files;
   answers = record { some = some; most = most; is_yes = refl; counts = counts; counted = counted; told = told };
-  means = record { budgets = counted.budgets; admitted = counted.admitted; no_loss = admitted_no_loss (bulk_host n) (host_is_system n some most) counted.budgets counted.admitted };
+  means = record { budgets = counted.budgets; admitted = counted.admitted; no_loss = admitted_no_loss (bulk_host n) (host_is_system n some most) counted.budgets counted.admitted; none_misses = host_misses_none n some most counted.budgets counted.admitted; none_counted = none_is_counted n some most };
 }

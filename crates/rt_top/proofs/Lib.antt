@@ -6,6 +6,7 @@ mod OneAdmission
 mod OneAnswer
 mod Statuses
 mod Steps
+mod Taking
 mod OneFile
 mod Admitting
 mod Certifying
@@ -21,3 +22,4 @@ mod ReplayList
 mod Examples
 mod AuditExamples
 mod MeansExamples
+mod ReadingExamples

@@ -14,5 +14,6 @@ pub mod Simulate
 pub mod Bulk
 pub mod Report
 pub mod Causes
+pub mod Reading
 pub mod Statuses
 pub mod Steps

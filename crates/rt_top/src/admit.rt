@@ -2,7 +2,7 @@ ghost use Rattle.std.specs.Prelude.{Some, IfOk};
 ghost use Rattle.rt_top.specs.Command.{admit};
 ghost use Rattle.rt_top.specs.Admit.{AdmitsSystem, MeansOfSystem};
 ghost use Rattle.rt_top.specs.Report.{IsAnswer};
-ghost use Rattle.rt_top.specs.Steps.{counts_of, ending_of, IfAnswered, Explains};
+ghost use Rattle.rt_top.specs.Steps.{counts_of, ending_of, IfAnswered, Explains, CommandTakes};
 
 use crate::Status;
 use crate::answer::{Answer, Ending};
@@ -23,6 +23,8 @@ pub fn admit<S: Store>(alloc: Global, store: &mut S, file: &str) -> Result<Answe
         IsAnswer (Some (admit file.now)) (S.files store.old) a.status a.text.items) }
     ensures explained { let counts = counts_of S.faults S.absences S.taken in
         Explains (ending_of result) (counts store.old) (counts store.new) }
+    ensures taken { CommandTakes (Some (admit file.now)) (S.files store.old)
+        (ending_of result) (S.taken store.old) (S.taken store.new) }
 {
     let sys = read_system_file(alloc, store, file)?;
     Ok(judge(alloc, &sys)?)

@@ -10,7 +10,7 @@ ghost use Rattle.rt_top.specs.Attempt.{IsRefused};
 ghost use Rattle.rt_top.specs.Audit.{tracing, finding_status, AuditsBytes};
 ghost use Rattle.rt_top.specs.Command.{audit};
 ghost use Rattle.rt_top.specs.Report.{IsAnswer};
-ghost use Rattle.rt_top.specs.Steps.{counts_of, ending_of, IfAnswered, Explains, EndsJudged};
+ghost use Rattle.rt_top.specs.Steps.{counts_of, ending_of, IfAnswered, Explains, CommandTakes, EndsJudged};
 
 use crate::Status;
 use crate::answer::{Answer, Ending};
@@ -36,6 +36,8 @@ pub fn audit<S: Store>(
         IsAnswer (Some (audit file.now trace.now)) (S.files store.old) a.status a.text.items) }
     ensures explained { let counts = counts_of S.faults S.absences S.taken in
         Explains (ending_of result) (counts store.old) (counts store.new) }
+    ensures taken { CommandTakes (Some (audit file.now trace.now)) (S.files store.old)
+        (ending_of result) (S.taken store.old) (S.taken store.new) }
 {
     let (sys, bytes) = read_two(alloc, store, file, trace)?;
     judge(alloc, &sys, &bytes)

@@ -3,7 +3,7 @@ ghost use Rattle.tree_model.specs.System.{IsSystem};
 ghost use Rattle.rt_top.specs.Command.{certify};
 ghost use Rattle.rt_top.specs.Certify.{CertifiesSystem, CertificateMeans};
 ghost use Rattle.rt_top.specs.Report.{IsAnswer};
-ghost use Rattle.rt_top.specs.Steps.{counts_of, ending_of, IfAnswered, Explains};
+ghost use Rattle.rt_top.specs.Steps.{counts_of, ending_of, IfAnswered, Explains, CommandTakes};
 
 use crate::Status;
 use crate::answer::{Answer, Ending};
@@ -21,6 +21,8 @@ pub fn certify<S: Store>(alloc: Global, store: &mut S, file: &str) -> Result<Ans
         IsAnswer (Some (certify file.now)) (S.files store.old) a.status a.text.items) }
     ensures explained { let counts = counts_of S.faults S.absences S.taken in
         Explains (ending_of result) (counts store.old) (counts store.new) }
+    ensures taken { CommandTakes (Some (certify file.now)) (S.files store.old)
+        (ending_of result) (S.taken store.old) (S.taken store.new) }
 {
     let sys = read_system_file(alloc, store, file)?;
     Ok(judge(alloc, &sys)?)

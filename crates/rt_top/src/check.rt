@@ -4,7 +4,7 @@ ghost use Rattle.rt_top.specs.Attempt.{IsRefused};
 ghost use Rattle.rt_top.specs.Check.{spelling, ChecksNodes, ChecksBytes};
 ghost use Rattle.rt_top.specs.Command.{check};
 ghost use Rattle.rt_top.specs.Report.{IsAnswer};
-ghost use Rattle.rt_top.specs.Steps.{counts_of, ending_of, IfAnswered, Explains, EndsJudged};
+ghost use Rattle.rt_top.specs.Steps.{counts_of, ending_of, IfAnswered, Explains, CommandTakes, EndsJudged};
 
 use crate::Status;
 use crate::answer::{Answer, Ending};
@@ -28,6 +28,8 @@ pub fn check<S: Store>(
         IsAnswer (Some (check file.now cert.now)) (S.files store.old) a.status a.text.items) }
     ensures explained { let counts = counts_of S.faults S.absences S.taken in
         Explains (ending_of result) (counts store.old) (counts store.new) }
+    ensures taken { CommandTakes (Some (check file.now cert.now)) (S.files store.old)
+        (ending_of result) (S.taken store.old) (S.taken store.new) }
 {
     let (sys, bytes) = read_two(alloc, store, file, cert)?;
     judge(alloc, &sys, &bytes)

@@ -11,7 +11,7 @@ ghost use Rattle.rtds_sim.specs.RunText.{IsRunText};
 ghost use Rattle.rt_top.specs.Rtds.{waking, running, RunsBytes};
 ghost use Rattle.rt_top.specs.Command.{rtds};
 ghost use Rattle.rt_top.specs.Report.{IsAnswer};
-ghost use Rattle.rt_top.specs.Steps.{counts_of, ending_of, IfAnswered, Explains, EndsJudged};
+ghost use Rattle.rt_top.specs.Steps.{counts_of, ending_of, IfAnswered, Explains, CommandTakes, EndsJudged};
 
 use crate::Status;
 use crate::answer::{Answer, Ending};
@@ -40,6 +40,8 @@ pub fn rtds<S: Store>(
         a.status a.text.items) }
     ensures explained { let counts = counts_of S.faults S.absences S.taken in
         Explains (ending_of result) (counts store.old) (counts store.new) }
+    ensures taken { CommandTakes (Some (rtds file.now workload.now slots.count)) (S.files store.old)
+        (ending_of result) (S.taken store.old) (S.taken store.new) }
 {
     let (sys, bytes) = read_two(alloc, store, file, workload)?;
     judge(alloc, &sys, &bytes, slots)

@@ -8,7 +8,7 @@ ghost use Rattle.rt_top.specs.Attempt.{IsRefused};
 ghost use Rattle.rt_top.specs.Simulate.{releasing, kept_status, IsSimulated, SimulatesBytes};
 ghost use Rattle.rt_top.specs.Command.{simulate};
 ghost use Rattle.rt_top.specs.Report.{IsAnswer};
-ghost use Rattle.rt_top.specs.Steps.{counts_of, ending_of, IfAnswered, Explains, EndsJudged};
+ghost use Rattle.rt_top.specs.Steps.{counts_of, ending_of, IfAnswered, Explains, CommandTakes, EndsJudged};
 
 use crate::Status;
 use crate::answer::{Answer, Ending};
@@ -39,6 +39,9 @@ pub fn simulate<S: Store>(
         IsAnswer (Some command) (S.files store.old) a.status a.text.items) }
     ensures explained { let counts = counts_of S.faults S.absences S.taken in
         Explains (ending_of result) (counts store.old) (counts store.new) }
+    ensures taken { let command = simulate file.now releases.now pattern slots.count in
+        CommandTakes (Some command) (S.files store.old)
+        (ending_of result) (S.taken store.old) (S.taken store.new) }
 {
     let (sys, bytes) = read_two(alloc, store, file, releases)?;
     judge(alloc, &sys, &bytes, pattern, slots)

@@ -1,4 +1,4 @@
-ghost use Rattle.std.specs.Prelude.{◌≡◌, ◌≢◌, ◌⊎◌, map, option_map, string_bytes, None, IfOk, IfErr};
+ghost use Rattle.std.specs.Prelude.{◌≡◌, ◌≢◌, ◌⊎◌, map, option_map, string_bytes, Some, None, IfOk, IfErr};
 ghost use Rattle.std.specs.Io.KnownBytes.{Appends};
 ghost use Rattle.outside.specs.Counts.{Rose, RoseBeyond};
 ghost use Rattle.outside.specs.Files.{Files};
@@ -7,7 +7,8 @@ ghost use Rattle.rt_report.specs.Usage.{usage_line};
 ghost use Rattle.rt_top.specs.Command.{command_of};
 ghost use Rattle.rt_top.specs.Report.{IsAnswer, Reported, HasOneAnswer};
 ghost use Rattle.rt_top.specs.Causes.{IsOfQuietStore, IsJudgeable, IsVerdictOf, Stays};
-ghost use Rattle.rt_top.specs.Steps.{command_told, counts_of, IfAnswered, Explains};
+ghost use Rattle.rt_top.specs.Reading.{bytes_to_read, Takes, NamesNoFile, EndsWithoutFile};
+ghost use Rattle.rt_top.specs.Steps.{command_told, counts_of, IfAnswered, Explains, CommandTakes};
 
 use crate::Status;
 use crate::admit::admit;
@@ -43,6 +44,15 @@ pub fn run<S: Store, K: Sink>(alloc: Global, words: &[String], store: &mut S, ou
     ensures too_long { result ≡ Status.TooLong
         → RoseBeyond 67108864 (S.taken store.old) (S.taken store.new) }
     ensures write_fault { result ≡ Status.WriteFault → Rose (K.faults out.old) (K.faults out.new) }
+    // words that name no file leave the store as it was, whatever it would refuse
+    ensures untouched { NamesNoFile (command_of (map string_bytes words.now))
+        → store.new ≡ store.old }
+    ensures without_file { EndsWithoutFile (command_of (map string_bytes words.now)) result }
+    // where the files are told: just these bytes of them are taken, so none of the second where the
+    // first is refused; and no more, where a read failed or memory ran out
+    ensures taken { let command = command_of (map string_bytes words.now) in
+        (files : Files) → S.files store.old ≡ Some files
+        → Takes result (bytes_to_read command files) (S.taken store.old) (S.taken store.new) }
     // files that can be judged, over a store and a sink that do not fail, get their verdict, or
     // `rtds` refuses a core that is not full or not under earliest deadline first
     ensures complete { let command = command_of (map string_bytes words.now) in
@@ -64,6 +74,12 @@ fn answer<S: Store>(alloc: Global, command: Option<Command<'_>>, store: &mut S) 
         (S.files store.old) a.status a.text.items) }
     ensures explained { let counts = counts_of S.faults S.absences S.taken in
         Explains result (counts store.old) (counts store.new) }
+    ensures untouched { NamesNoFile (option_map command_told command.entry)
+        → store.new ≡ store.old }
+    ensures read { NamesNoFile (option_map command_told command.entry)
+        → result ≢ Ending.Unread }
+    ensures taken { CommandTakes (option_map command_told command.entry) (S.files store.old)
+        result (S.taken store.old) (S.taken store.new) }
 {
     match command {
         Some(Command::Admit(file)) => ended(admit(alloc, store, file)),

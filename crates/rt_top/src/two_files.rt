@@ -1,5 +1,7 @@
-ghost use Rattle.std.specs.Prelude.{IfOk, IfErr, OnOk};
-ghost use Rattle.rt_top.specs.Steps.{counts_of, IfAnswered, IsQuiet, Explains, IsSpelled, IsHeld, AnswersTwo};
+ghost use Rattle.std.specs.Prelude.{◌≡◌, [], ◌∷◌, Some, IfOk, IfErr, OnOk};
+ghost use Rattle.outside.specs.Files.{Files, file_named};
+ghost use Rattle.rt_top.specs.Reading.{read_in};
+ghost use Rattle.rt_top.specs.Steps.{counts_of, IfAnswered, IsQuiet, Explains, StepTakes, IsSpelled, IsHeld, AnswersTwo};
 
 use crate::answer::Ending;
 use crate::file::{read_file, read_system_file};
@@ -24,6 +26,10 @@ pub fn read_two<S: Store>(
         OnOk result (IsQuiet (counts store.old) (counts store.new)) }
     ensures explained { let counts = counts_of S.faults S.absences S.taken in
         IfErr result (λ stop. Explains stop (counts store.old) (counts store.new)) }
+    ensures taken { (files : Files) → S.files store.old ≡ Some files
+        → StepTakes result
+        (read_in (file_named first.now files ∷ file_named second.now files ∷ []))
+        (S.taken store.old) (S.taken store.new) }
 {
     let sys = read_system_file(alloc, store, first)?;
     let bytes = read_file(alloc, store, second, 2)?;

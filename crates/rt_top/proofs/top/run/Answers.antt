@@ -3,6 +3,7 @@ use Rattle.rt_top.specs.Command.{command_of}
 use Rattle.rt_top.specs.Causes.{contents_of}
 use Rattle.rt_top.proofs.OneAnswer.{one_answer}
 use Rattle.rt_top.proofs.Reporting.{answer_of_parsed, finished_report, finished_usage, finished_verdict, no_memory_ends, stays_not_rose}
+use Rattle.rt_top.proofs.Taking.{ends_without_file}
 use Rattle.rt_top.proofs.top.run.Goals as goal
 
 pub returns-in-Answered-clause-reported : goal.returns-in-Answered-clause-reported
@@ -16,6 +17,11 @@ returns-in-Answered-clause-usage g c =
     let answer = answer_of_parsed c.parse.result (command_of (map string_bytes c.args.words.now)) (g.S.Store.files c.args.store.now) c.in-Answered.answer.status c.in-Answered.answer.text.items c.deref.result.now c.parse.ensures c.deref.ensures.value c.in-Answered.ensures.answer in
     finished_usage (command_of (map string_bytes c.args.words.now)) (g.S.Store.files c.args.store.now) c.in-Answered.answer.status c.finish.result c.deref.result.now _ _ _ answer
     (record { which = c.finish.ensures.which; whole = c.finish.ensures.whole; front = c.finish.ensures.front; failed = c.finish.ensures.failed })
+
+pub returns-in-Answered-clause-without_file : goal.returns-in-Answered-clause-without_file
+returns-in-Answered-clause-without_file g c =
+    let answer = answer_of_parsed c.parse.result (command_of (map string_bytes c.args.words.now)) (g.S.Store.files c.args.store.now) c.in-Answered.answer.status c.in-Answered.answer.text.items c.deref.result.now c.parse.ensures c.deref.ensures.value c.in-Answered.ensures.answer in
+    ends_without_file (command_of (map string_bytes c.args.words.now)) (g.S.Store.files c.args.store.now) c.in-Answered.answer.status c.finish.result c.deref.result.now answer c.finish.ensures.which
 
 pub returns-in-Answered-clause-complete : goal.returns-in-Answered-clause-complete
 returns-in-Answered-clause-complete g c =
