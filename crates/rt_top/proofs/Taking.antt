@@ -1,7 +1,7 @@
 -- How many bytes each step of a command takes of told files.
 use Rattle.std.proofs.Common.{◌≡◌, ◌≢◌, ◌⊎◌, ℕ, ◌+◌, ◌<◌, ◌≤◌, min, Bool, true, false, List, [], ◌∷◌, length, Option, Some, None, refl, sym, ◌∙◌, ap, subst, inl, inr, arith, cond}
 use Rattle.std.proofs.lemmas.Bool.{cases_lt, cond-true, cond-false, le-leb, lt-leb}
-use Rattle.std.specs.Prelude.{Result, Ok, Err, IsSomeAnd, is_ok, nat_le, ◌&&◌, ⊤}
+use Rattle.std.specs.Prelude.{Result, Ok, Err, IsSomeAnd, is_ok, nat_le, ◌&&◌, ⊤, option_map}
 use Rattle.tree_model.specs.View.{SystemView}
 use Rattle.system_file.specs.declared.fault.SystemFault.{SystemFault}
 use Rattle.system_file.specs.SystemFile.{system_of}
@@ -16,7 +16,8 @@ use Rattle.rt_top.specs.Command.{Command, admit, certify, check, rtds, audit, si
 use Rattle.rt_top.specs.Answer.{Contents, file_limit, AtContent, OnSystem}
 use Rattle.rt_top.specs.Report.{names_of, IsAnswer}
 use Rattle.rt_top.specs.Reading.{read_of, is_system_file, read_in, bytes_to_read, Takes, NamesNoFile, EndsWithoutFile}
-use Rattle.rt_top.specs.Steps.{IfAnswered, IsSpelled, StopsAt, EndTakes, StepTakes, CommandTakes}
+use Rattle.rt_top.specs.declared.command.Command.{Command as Parsed}
+use Rattle.rt_top.specs.Steps.{command_told, IfAnswered, IsSpelled, StopsAt, EndTakes, StepTakes, CommandTakes}
 
 -- one file: its bytes were read, it is absent, it is too long, or reading it failed
 whole : (file : Option (List ℕ)) (bytes : List ℕ) (before after : ℕ) → file ≡ Some bytes → length bytes ≤ file_limit → RoseBy (length bytes) before after → RoseBy (read_of file) before after
@@ -158,7 +159,7 @@ no_memory_without_file (Some (audit file trace)) = tt
 no_memory_without_file (Some (simulate file releases pattern slots)) = tt
 
 -- only a command that names a file ends where reading one failed
-pub unread_with_file : (command : Option Command) → (NamesNoFile command → Unread ≢ Unread) → EndsWithoutFile command ReadFault
+unread_with_file : (command : Option Command) → (NamesNoFile command → Unread ≢ Unread) → EndsWithoutFile command ReadFault
 unread_with_file None never = absurd (never refl refl)
 unread_with_file (Some (bulk guests)) never = absurd (never refl refl)
 unread_with_file (Some (admit file)) never = tt
@@ -168,6 +169,14 @@ unread_with_file (Some (rtds file workload slots)) never = tt
 unread_with_file (Some (audit file trace)) never = tt
 unread_with_file (Some (simulate file releases pattern slots)) never = tt
 
--- what a command took, by its status
-pub answered_takes : (command : Option Command) (told : Option Files) (end : Ending) (status : Status) (before after : ℕ) → (a : Answer) → end ≡ Answered a → CommandTakes command told end before after → (files : Files) → told ≡ Some files → Takes status (bytes_to_read command files) before after
-answered_takes command told end status before after a e took = λ files is. status_takes status (bytes_to_read command files) before after (subst (λ (x : Ending). EndTakes x (bytes_to_read command files) before after) e (took files is))
+-- what the words took, where what was parsed took that
+pub finished_takes : (parsed : Option Parsed) (command : Option Command) (told : Option Files) (answer : Answer) (result : Status) (before after : ℕ) → option_map command_told parsed ≡ command → CommandTakes (option_map command_told parsed) told (Answered answer) before after →
+    (files : Files) → told ≡ Some files → Takes result (bytes_to_read command files) before after
+finished_takes parsed command told answer result before after spells took files is = status_takes result (bytes_to_read command files) before after (subst (λ (x : Option Command). RoseBy (bytes_to_read x files) before after) spells (took files is))
+
+pub unanswered_takes : (parsed : Option Parsed) (command : Option Command) (told : Option Files) (before after : ℕ) → option_map command_told parsed ≡ command → ((files : Files) → told ≡ Some files → after ≤ before + bytes_to_read (option_map command_told parsed) files) →
+    (files : Files) → told ≡ Some files → after ≤ before + bytes_to_read command files
+unanswered_takes parsed command told before after spells took files is = subst (λ (x : Option Command). after ≤ before + bytes_to_read x files) spells (took files is)
+
+pub unread_of_parsed : (parsed : Option Parsed) (command : Option Command) → option_map command_told parsed ≡ command → (NamesNoFile (option_map command_told parsed) → Unread ≢ Unread) → EndsWithoutFile command ReadFault
+unread_of_parsed parsed command spells never = unread_with_file command (subst (λ (x : Option Command). NamesNoFile x → Unread ≢ Unread) spells never)

@@ -69,6 +69,7 @@ pub fn run<S: Store, K: Sink>(alloc: Global, words: &[String], store: &mut S, ou
 }
 
 // The answer to a command, or to words that spell none.
+#[tactic(auto, using(crate::proofs::Taking::nothing_taken))]
 fn answer<S: Store>(alloc: Global, command: Option<Command<'_>>, store: &mut S) -> Ending
     ensures answer { IfAnswered result (λ a. IsAnswer (option_map command_told command.entry)
         (S.files store.old) a.status a.text.items) }

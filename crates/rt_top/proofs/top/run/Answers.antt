@@ -3,7 +3,7 @@ use Rattle.rt_top.specs.Command.{command_of}
 use Rattle.rt_top.specs.Causes.{contents_of}
 use Rattle.rt_top.proofs.OneAnswer.{one_answer}
 use Rattle.rt_top.proofs.Reporting.{answer_of_parsed, finished_report, finished_usage, finished_verdict, no_memory_ends, stays_not_rose}
-use Rattle.rt_top.proofs.Taking.{ends_without_file}
+use Rattle.rt_top.proofs.Taking.{ends_without_file, no_memory_without_file, unread_of_parsed, finished_takes, unanswered_takes}
 use Rattle.rt_top.proofs.top.run.Goals as goal
 
 pub returns-in-Answered-clause-reported : goal.returns-in-Answered-clause-reported
@@ -43,3 +43,18 @@ returns-in-NoMemory-clause-only g c = one_answer (command_of (map string_bytes c
 
 pub returns-in-NoMemory-clause-complete : goal.returns-in-NoMemory-clause-complete
 returns-in-NoMemory-clause-complete g c = λ can store_stays out_stays. no_memory_ends can.spelled (contents_of can.spelled can.all)
+
+pub returns-in-Unread-clause-without_file : goal.returns-in-Unread-clause-without_file
+returns-in-Unread-clause-without_file g c = unread_of_parsed c.parse.result (command_of (map string_bytes c.args.words.now)) c.parse.ensures c.in-Unread.ensures.read
+
+pub returns-in-NoMemory-clause-without_file : goal.returns-in-NoMemory-clause-without_file
+returns-in-NoMemory-clause-without_file g c = no_memory_without_file (command_of (map string_bytes c.args.words.now))
+
+pub returns-in-Answered-clause-taken : goal.returns-in-Answered-clause-taken
+returns-in-Answered-clause-taken g c = finished_takes c.parse.result (command_of (map string_bytes c.args.words.now)) (g.S.Store.files c.args.store.now) c.in-Answered.answer c.finish.result _ _ c.parse.ensures c.in-Answered.ensures.taken
+
+pub returns-in-Unread-clause-taken : goal.returns-in-Unread-clause-taken
+returns-in-Unread-clause-taken g c = unanswered_takes c.parse.result (command_of (map string_bytes c.args.words.now)) (g.S.Store.files c.args.store.now) _ _ c.parse.ensures c.in-Unread.ensures.taken
+
+pub returns-in-NoMemory-clause-taken : goal.returns-in-NoMemory-clause-taken
+returns-in-NoMemory-clause-taken g c = unanswered_takes c.parse.result (command_of (map string_bytes c.args.words.now)) (g.S.Store.files c.args.store.now) _ _ c.parse.ensures c.in-NoMemory.ensures.taken
