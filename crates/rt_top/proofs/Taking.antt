@@ -88,10 +88,10 @@ spelled_is_one told files name sys e h =
 
 -- of two files, where the first is no system file, and where it is one
 read_first : (first second : Option (List ℕ)) → is_system_file first ≡ false → read_in (first ∷ second ∷ []) ≡ read_of first
-read_first first second no = omega (arith, cond-false {A = ℕ} (is_system_file first) (read_of second) 0 no)
+read_first first second other = omega (arith, cond-false {A = ℕ} (is_system_file first) (read_of second) 0 other)
 
 read_both : (first second : Option (List ℕ)) → is_system_file first ≡ true → read_in (first ∷ second ∷ []) ≡ read_of first + read_of second
-read_both first second yes = omega (arith, cond-true {A = ℕ} (is_system_file first) (read_of second) 0 yes)
+read_both first second good = omega (arith, cond-true {A = ℕ} (is_system_file first) (read_of second) 0 good)
 
 -- a command that ends at its first file
 pub ends_first : (told : Option Files) (files : Files) (first second : List ℕ) (stop : Ending) (before after : ℕ) → told ≡ Some files → IfAnswered stop (λ a. StopsAt 1 told first (λ bytes. OnSystem (system_of bytes) (λ _ _ _. ⊥)) a.status a.text.items) → EndTakes stop (read_of (file_named first files)) before after →
