@@ -50,8 +50,8 @@ unassigned_status P at_no at_wide sys r first = status_told P at_no at_wide sys 
 pub refused_status : (P : Status → Type 0) → P No → P Wide → (sys : SystemView) (r : Refusal) → FirstRefusal sys r → P (refusal_status r)
 refused_status P at_no at_wide sys r first = status_told P at_no at_wide sys r (refusal_told sys r first)
 
--- what is said of the budgets that are assigned: it is one, which statuses it has, and that it is said
--- of these
+-- what is said of the budgets that are assigned: it is one, which statuses it has, and that it is
+-- said of these
 pub one_assigned : (sys : SystemView) → IsSystem sys → (Says : List ℕ → Status → List ℕ → Type 0) → ((budgets : List ℕ) → IsOne (Says budgets)) → IsOne (OnAssigned sys Says)
 one_assigned sys is Says one = one_attempt (assigning sys) Says (assigning_decided sys is) (λ budgets assigned. one budgets)
 

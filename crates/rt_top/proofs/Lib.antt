@@ -7,6 +7,7 @@ mod TwoFiles
 mod ReadSecond
 mod Statuses
 mod Steps
+mod Taking
 mod SlotEach
 mod Laws
 mod Reporting
@@ -15,3 +16,4 @@ mod ReplayList
 mod Examples
 mod AuditExamples
 mod MeansExamples
+mod ReadingExamples

@@ -75,6 +75,7 @@ system_laws name Says Tells judges = record {
       (λ bytes. statuses_on IsOfJob tt Says status text (λ sys said. job_of_judged status (judges.judged sys status text said)) (system_of bytes)) (file_at 1 contents) h;
   verdict = λ contents status text can h. said_of_readable IsVerdict Says contents status text (λ sys. judges.verdict sys status text) can h;
   no_memory = λ contents. tt;
+  without_file = λ none. absurd (cc);
 }
 
 -- the contents of the one file

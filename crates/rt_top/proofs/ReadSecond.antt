@@ -18,8 +18,8 @@ use Rattle.rt_top.proofs.CommandLaws.{CommandLaws}
 use Rattle.rt_top.proofs.Statuses.{IsOfJob, job_of_judged}
 use Rattle.rt_top.proofs.TwoFiles.{one_two, said_of_two, statuses_two}
 
--- the bytes of the second file spell one value or have one first fault, and one thing is said of the
--- system and the value, with a status of files that were read
+-- the bytes of the second file spell one value or have one first fault, and one thing is said of
+-- the system and the value, with a status of files that were read
 pub record JudgesRead {Value Fault : Type 0} (reading : SystemView → List ℕ → Attempt Value Fault) (Says : SystemView → Value → Status → List ℕ → Type 0) : Type 0 where
   pub decided : (sys : SystemView) (bytes : List ℕ) → IsDecided (reading sys bytes)
   pub bad_file : (sys : SystemView) (bytes : List ℕ) (fault : Fault) → (reading sys bytes).status_of fault ≡ BadFile
@@ -73,4 +73,5 @@ read_laws first second reading Says Means IsGood EndsAs judges means = record {
   of_job = λ contents status text h. statuses_two IsOfJob tt tt tt contents (of_read reading Says) status text (λ sys bytes said. job_of_judged status (read_judged reading Says judges sys bytes status text said)) h;
   verdict = read_verdict reading Says Means IsGood EndsAs judges means;
   no_memory = means.no_memory;
+  without_file = λ none. absurd (cc);
 }

@@ -13,14 +13,9 @@ use Rattle.rt_top.specs.Answer.{Contents, IsOne}
 use Rattle.rt_top.specs.Report.{JobAnswers, Answers, Means, AreContents, IsAnswer, Reported, HasOneAnswer}
 use Rattle.rt_top.specs.Causes.{contents_of, IsJudgeable, IsVerdictOf, Stays}
 use Rattle.rt_top.specs.Steps.{IsSaid}
-use Rattle.rt_top.proofs.CommandLaws.{CommandLaws}
+use Rattle.rt_top.proofs.CommandLaws.{CommandLaws, AreLawful}
 use Rattle.rt_top.proofs.Laws.{laws_of}
 use Rattle.rt_top.proofs.Statuses.{IsOfJob, HasText}
-
--- the laws of the command, where there is one
-abbrev pub AreLawful : Option Command → Type 0
-AreLawful None = ⊤
-AreLawful (Some command) = CommandLaws (spec_of command)
 
 parsed_lawful : (parsed : Option Parsed) → AreLawful (option_map command_told parsed)
 parsed_lawful None = tt

@@ -1,5 +1,5 @@
--- What there is to say of a command. The file of each command gives this record; what is said of all
--- commands is taken from it.
+-- What there is to say of a command. The file of each command gives this record; what is said of
+-- all commands is taken from it.
 use Rattle.std.specs.Prelude.{ℕ, List, Option, ⊤}
 use Rattle.rt_top.specs.declared.status.Status.{Status}
 use Rattle.rt_top.specs.declared.status.Status.TheVariants.{Yes, No, Wide, NoMemory}

@@ -8,5 +8,6 @@ pub mod CommandSpec
 pub mod Commands
 pub mod Report
 pub mod Causes
+pub mod Reading
 pub mod Statuses
 pub mod Steps

@@ -1,6 +1,6 @@
 -- What the private steps of a command promise each other.
-use Rattle.std.specs.Prelude.{◌≡◌, ℕ, ◌≤◌, List, [], ◌∷◌, length, Option, Some, Result, Ok, Err, ⊤}
-use Rattle.outside.specs.Counts.{Rose, RoseBeyond}
+use Rattle.std.specs.Prelude.{◌≡◌, ℕ, ◌+◌, ◌≤◌, List, [], ◌∷◌, length, Option, Some, Result, Ok, Err, ⊤}
+use Rattle.outside.specs.Counts.{Rose, RoseBy, RoseBeyond}
 use Rattle.outside.specs.Files.{Files, Told}
 use Rattle.tree_model.specs.View.{SystemView}
 use Rattle.system_file.specs.SystemFile.{system_of}
@@ -14,6 +14,7 @@ use Rattle.rt_top.specs.CommandSpec.{CommandSpec}
 use Rattle.rt_top.specs.Answer.{Contents, Saying, AtContent, AtFile, OnSystem, file_limit}
 use Rattle.rt_top.specs.TwoFiles.{OnTwoFiles}
 use Rattle.rt_top.specs.Report.{AreContents, Answers}
+use Rattle.rt_top.specs.Reading.{bytes_to_read}
 
 -- over what the files of the command hold, this status and this text are the answer
 pub record IsSaid (command : Option Command) (files : Option Files) (status : Status)
@@ -61,6 +62,22 @@ abbrev pub Explains : Ending → Counts → Counts → Type 0
 Explains (Answered answer) before after = ExplainsAnswer answer.status before after
 Explains Unread before after = Rose before.faults after.faults
 Explains NoRoom before after = ⊤
+
+-- what a command that ends so took of the store: so many bytes, and no more where it has no answer
+abbrev pub EndTakes : Ending → ℕ → ℕ → ℕ → Type 0
+EndTakes (Answered answer) bytes before after = RoseBy bytes before after
+EndTakes Unread bytes before after = after ≤ before + bytes
+EndTakes NoRoom bytes before after = after ≤ before + bytes
+
+-- what a step took that gave its value, or ended the command
+abbrev pub StepTakes : {Value : Type 0} → Result Value Ending → ℕ → ℕ → ℕ → Type 0
+StepTakes (Ok value) bytes before after = RoseBy bytes before after
+StepTakes (Err stop) bytes before after = EndTakes stop bytes before after
+
+-- where the files are told, what a command over them took
+abbrev pub CommandTakes : Option Command → Option Files → Ending → ℕ → ℕ → Type 0
+CommandTakes command files end before after =
+    (all : Files) → files ≡ Some all → EndTakes end (bytes_to_read command all) before after
 
 -- the system that the file of that name spells
 pub record IsSpelled (files : Option Files) (name : List ℕ) (sys : SystemView) : Type 0 where

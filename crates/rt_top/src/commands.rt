@@ -6,11 +6,12 @@ mod check;
 mod rtds;
 mod simulate;
 
-ghost use Rattle.std.specs.Prelude.{◌≡◌, Some, map, option_map, string_bytes, IfOk, IfErr};
+ghost use Rattle.std.specs.Prelude.{◌≡◌, ◌≢◌, Some, map, option_map, string_bytes, IfOk, IfErr};
 ghost use Rattle.std.specs.Option.{option_copied};
 ghost use Rattle.rt_top.specs.Commands.{command_of, command_told, one_word, rtds_of, simulate_of, two_words, usage_line};
 ghost use Rattle.rt_top.specs.Guests.{guest_number};
-ghost use Rattle.rt_top.specs.Steps.{counts_of, IfAnswered, IsSaid, Explains};
+ghost use Rattle.rt_top.specs.Reading.{NamesNoFile};
+ghost use Rattle.rt_top.specs.Steps.{counts_of, IfAnswered, IsSaid, Explains, CommandTakes};
 
 use crate::Status;
 use crate::answer::{Answer, Ending, ended};
@@ -85,11 +86,18 @@ fn usage_text() -> &'static str
 }
 
 /// The answer to a command, or to words that spell none.
+#[tactic(auto, using(crate::proofs::Taking::nothing_taken))]
 pub fn answer<S: Store>(alloc: Global, command: Option<Command<'_>>, store: &mut S) -> Ending
     ensures answer { IfAnswered result (λ a. IsSaid (option_map command_told command.entry)
         (S.files store.old) a.status a.text.items) }
     ensures explained { let counts = counts_of S.faults S.absences S.taken in
         Explains result (counts store.old) (counts store.new) }
+    ensures untouched { NamesNoFile (option_map command_told command.entry)
+        → store.new ≡ store.old }
+    ensures read { NamesNoFile (option_map command_told command.entry)
+        → result ≢ Ending.Unread }
+    ensures taken { CommandTakes (option_map command_told command.entry) (S.files store.old)
+        result (S.taken store.old) (S.taken store.new) }
 {
     match command {
         Some(Command::Admit(file)) => ended(over_one(alloc, store, file, &Admit)),

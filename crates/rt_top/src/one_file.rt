@@ -3,7 +3,7 @@ ghost use Rattle.tree_model.specs.View.{SystemView};
 ghost use Rattle.tree_model.specs.System.{IsSystem};
 ghost use Rattle.rt_top.specs.declared.status.Status.{Status};
 ghost use Rattle.rt_top.specs.Commands.{Command, spec_of};
-ghost use Rattle.rt_top.specs.Steps.{counts_of, ending_of, IfAnswered, Explains, IsSaid, IsOverOne, EndsJudged};
+ghost use Rattle.rt_top.specs.Steps.{counts_of, ending_of, IfAnswered, Explains, CommandTakes, IsSaid, IsOverOne, EndsJudged};
 
 use crate::answer::{Answer, Ending};
 use crate::file::read_system_file;
@@ -39,6 +39,8 @@ pub fn over_one<S: Store, J: JudgeOne>(
         IsSaid (Some (J.command judge.now file.now)) (S.files store.old) a.status a.text.items) }
     ensures explained { let counts = counts_of S.faults S.absences S.taken in
         Explains (ending_of result) (counts store.old) (counts store.new) }
+    ensures taken { CommandTakes (Some (J.command judge.now file.now)) (S.files store.old)
+        (ending_of result) (S.taken store.old) (S.taken store.new) }
 {
     let sys = read_system_file(alloc, store, file)?;
     judge.judge(alloc, &sys)

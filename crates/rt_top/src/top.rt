@@ -1,4 +1,4 @@
-ghost use Rattle.std.specs.Prelude.{◌≡◌, ◌≢◌, ◌⊎◌, map, string_bytes, None};
+ghost use Rattle.std.specs.Prelude.{◌≡◌, ◌≢◌, ◌⊎◌, map, string_bytes, Some, None};
 ghost use Rattle.std.specs.Io.KnownBytes.{Appends};
 ghost use Rattle.outside.specs.Counts.{Rose, RoseBeyond};
 ghost use Rattle.outside.specs.Files.{Files};
@@ -6,6 +6,7 @@ ghost use Rattle.outside.specs.Written.{AppendsProperPrefix};
 ghost use Rattle.rt_top.specs.Commands.{command_of};
 ghost use Rattle.rt_top.specs.Report.{Reported, HasOneAnswer};
 ghost use Rattle.rt_top.specs.Causes.{IsOfQuietStore, IsJudgeable, IsVerdictOf, Stays};
+ghost use Rattle.rt_top.specs.Reading.{bytes_to_read, Takes, NamesNoFile, EndsWithoutFile};
 
 use crate::Status;
 use crate::answer::Ending;
@@ -33,6 +34,15 @@ pub fn run<S: Store, K: Sink>(alloc: Global, words: &[String], store: &mut S, ou
     ensures too_long { result ≡ Status.TooLong
         → RoseBeyond 67108864 (S.taken store.old) (S.taken store.new) }
     ensures write_fault { result ≡ Status.WriteFault → Rose (K.faults out.old) (K.faults out.new) }
+    // words that name no file leave the store as it was, whatever it would refuse
+    ensures untouched { NamesNoFile (command_of (map string_bytes words.now))
+        → store.new ≡ store.old }
+    ensures without_file { EndsWithoutFile (command_of (map string_bytes words.now)) result }
+    // where the files are told: just these bytes of them are taken, so none of the second where the
+    // first is refused; and no more, where a read failed or memory ran out
+    ensures taken { let command = command_of (map string_bytes words.now) in
+        (files : Files) → S.files store.old ≡ Some files
+        → Takes result (bytes_to_read command files) (S.taken store.old) (S.taken store.new) }
     // files that can be judged, over a store and a sink that do not fail, get their verdict, or
     // `rtds` refuses a core that is not full or not under earliest deadline first
     ensures complete { let command = command_of (map string_bytes words.now) in

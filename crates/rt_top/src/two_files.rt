@@ -1,9 +1,11 @@
-ghost use Rattle.std.specs.Prelude.{List, ℕ, Some, IfOk, IfErr, OnOk};
+ghost use Rattle.std.specs.Prelude.{◌≡◌, ◌≤◌, List, [], ◌∷◌, ℕ, length, Some, IfOk, IfErr, OnOk};
+ghost use Rattle.outside.specs.Files.{Files, file_named};
 ghost use Rattle.tree_model.specs.View.{SystemView};
 ghost use Rattle.tree_model.specs.System.{IsSystem};
-ghost use Rattle.rt_top.specs.Answer.{Saying};
+ghost use Rattle.rt_top.specs.Answer.{Saying, file_limit};
 ghost use Rattle.rt_top.specs.Commands.{Command, spec_of};
-ghost use Rattle.rt_top.specs.Steps.{counts_of, ending_of, IfAnswered, IsQuiet, Explains, IsSaid, IsSpelled, IsHeld, AnswersTwo, IsOverTwo, EndsJudged};
+ghost use Rattle.rt_top.specs.Reading.{read_in};
+ghost use Rattle.rt_top.specs.Steps.{counts_of, ending_of, IfAnswered, IsQuiet, Explains, StepTakes, CommandTakes, IsSaid, IsSpelled, IsHeld, AnswersTwo, IsOverTwo, EndsJudged};
 
 use crate::answer::{Answer, Ending};
 use crate::file::{read_file, read_system_file};
@@ -21,7 +23,8 @@ pub trait JudgeTwo {
 
     /// The answer to a system and bytes.
     fn judge(&self, alloc: Global, sys: &System, bytes: &[u8]) -> Result<Answer, Ending>
-        requires { IsSystem sys.now }
+        requires system { IsSystem sys.now }
+        requires short { length bytes.now ≤ file_limit }
         ensures answer { IfAnswered (ending_of result)
             (λ a. says self.now sys.now bytes.now a.status a.text.items) }
         ensures judged { EndsJudged (ending_of result) };
@@ -43,6 +46,9 @@ pub fn over_two<S: Store, J: JudgeTwo>(
         IsSaid (Some command) (S.files store.old) a.status a.text.items) }
     ensures explained { let counts = counts_of S.faults S.absences S.taken in
         Explains (ending_of result) (counts store.old) (counts store.new) }
+    ensures taken { let command = J.command judge.now first.now second.now in
+        CommandTakes (Some command) (S.files store.old) (ending_of result)
+        (S.taken store.old) (S.taken store.new) }
 {
     let (sys, bytes) = read_two(alloc, store, first, second)?;
     judge.judge(alloc, &sys, &bytes)
@@ -65,6 +71,10 @@ fn read_two<S: Store>(
         OnOk result (IsQuiet (counts store.old) (counts store.new)) }
     ensures explained { let counts = counts_of S.faults S.absences S.taken in
         IfErr result (λ stop. Explains stop (counts store.old) (counts store.new)) }
+    ensures taken { (files : Files) → S.files store.old ≡ Some files
+        → StepTakes result
+        (read_in (file_named first.now files ∷ file_named second.now files ∷ []))
+        (S.taken store.old) (S.taken store.new) }
 {
     let sys = read_system_file(alloc, store, first)?;
     let bytes = read_file(alloc, store, second, 2)?;

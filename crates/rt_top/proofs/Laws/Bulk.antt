@@ -8,6 +8,7 @@ use Rattle.bulk_host.proofs.Systems.{host_is_system}
 use Rattle.bulk_run.specs.declared.counts.BulkCounts.{BulkCounts}
 use Rattle.bulk_run.specs.Summary.{AreBulkCounts}
 use Rattle.bulk_run.proofs.OneCount.{one_count}
+use Rattle.bulk_run.proofs.NoMiss.{host_misses_none, none_is_counted}
 use Rattle.rt_report.specs.Bulk.{bulk_text}
 use Rattle.rt_top.specs.declared.status.Status.{Status}
 use Rattle.rt_top.specs.declared.status.Status.TheVariants.{Yes}
@@ -25,7 +26,7 @@ one_bulk n = λ s t x y a b.
     (a.is_yes ∙ sym b.is_yes, a.told ∙ (ap bulk_text (one_count order_strict n a.some a.most a.counts b.counts a.counted b.counted) ∙ sym b.told))
 
 bulk_means : (n : ℕ) (status : Status) (text : List ℕ) → AnswersBulk n status text → HostKeepsDeadlines n
-bulk_means n status text h = record { budgets = h.counted.budgets; admitted = h.counted.admitted; no_loss = admitted_no_loss (bulk_host n) (host_is_system n h.some h.most) h.counted.budgets h.counted.admitted }
+bulk_means n status text h = record { budgets = h.counted.budgets; admitted = h.counted.admitted; no_loss = admitted_no_loss (bulk_host n) (host_is_system n h.some h.most) h.counted.budgets h.counted.admitted; none_misses = host_misses_none n h.some h.most h.counted.budgets h.counted.admitted; none_counted = none_is_counted n h.some h.most }
 
 pub bulk_laws : (n : ℕ) → CommandLaws (the_bulk n)
 bulk_laws n = record {
@@ -34,6 +35,7 @@ bulk_laws n = record {
   of_job = λ contents status text h. subst IsOfJob (sym h.is_yes) tt;
   verdict = λ contents status text can h. subst IsVerdict (sym h.is_yes) tt;
   no_memory = λ contents. tt;
+  without_file = λ none contents status text h. h.is_yes;
 }
 
 no_contents : (n : ℕ) (files : Option Files) → AreContents (Some (bulk n)) files []

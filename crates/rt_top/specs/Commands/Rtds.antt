@@ -113,8 +113,8 @@ pub record HasOtherCore (contents : Contents) : Type 0 where
   pub core : ℕ
   pub other : IsFirstOther sys core
 
--- a verdict, or the system file is refused, where one of its cores is not full or not under earliest
--- deadline first
+-- a verdict, or the system file is refused, where one of its cores is not full or not under
+-- earliest deadline first
 abbrev pub IsVerdictOfRun : Contents → Status → Type 0
 IsVerdictOfRun contents BadFile = HasOtherCore contents
 IsVerdictOfRun contents status = IsVerdict status
