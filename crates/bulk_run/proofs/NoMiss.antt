@@ -1,12 +1,12 @@
 -- No job misses in the first run of a tree under budgets that admit it, and so none in that of a
 -- generated host.
-use Rattle.std.proofs.Common.{◌≡◌, ℕ, ◌<◌, ◌≤◌, Bool, true, false, List, [], length, get_or, Option, None, refl, sym, ◌∙◌, ap, arith, subst}
+use Rattle.std.proofs.Common.{◌≡◌, ℕ, ◌<◌, ◌≤◌, Bool, false, List, [], length, get_or, Option, None, refl, sym, ◌∙◌, ap, arith, subst}
 use Rattle.std.proofs.lemmas.List.{length-map}
 use Rattle.std.proofs.lemmas.List.FromFn.{get_or-map-range_with_len, length-map-range_with_len}
 use Rattle.slot_model.specs.declared.job.Job.{Job}
 use Rattle.slot_model.specs.Slots.{sum_below}
 use Rattle.slot_model.specs.Supply.{IsFull}
-use Rattle.slot_model.specs.Task.{SporadicTask, AreConstrained, task_at, job_at, deadline_of}
+use Rattle.slot_model.specs.Task.{SporadicTask, AreConstrained, job_at, deadline_of}
 use Rattle.slot_model.specs.Release.{LegalRelease}
 use Rattle.slot_model.specs.Miss.{Lost, NoneMissed}
 use Rattle.slot_model.proofs.MissedJobs.{missed_is_lost, early_in_deadline, zero_where_none}
@@ -19,7 +19,6 @@ use Rattle.tree_model.specs.View.{SystemView}
 use Rattle.tree_model.specs.System.{IsSystem, core_at, own_tasks_at}
 use Rattle.tree_model.specs.Tree.{CoreConforms, server_tasks, server_jobs, started_jobs, run_at, TreeInputs, NothingLost}
 use Rattle.tree_model.specs.FirstTree.{FirstTree}
-use Rattle.tree_model.specs.Releases.{jobs_at}
 use Rattle.tree_model.specs.Admission.{Admitted}
 use Rattle.tree_model.proofs.Parents.{servers_constrained, leaf_constrained}
 use Rattle.tree_model.proofs.InRange.{InPeriod, admitted_in_period}
