@@ -44,7 +44,8 @@ fn a_number_of_guests_is_plain_and_in_range(rt: HostRuntime) -> Result<(), Fail>
             text.as_slice(),
             b"usage: rtadmit admit FILE | certify FILE | check FILE CERT | \
             simulate FILE RELEASES PATTERN SLOTS | rtds FILE WORKLOAD SLOTS | audit FILE TRACE | \
-            bulk N\n",
+            bulk N\n"
+                .as_slice(),
             "{word}"
         );
     }
