@@ -48,7 +48,7 @@ pub first_run_misses_none : (sys : SystemView) → IsSystem sys → (budgets : L
 first_run_misses_none sys is budgets admitted n supplies jobs core_runs part_runs inputs first =
     let range : (q : ℕ) → q < length sys.parts → InPeriod sys budgets q = admitted_in_period sys is budgets admitted in
     let kept : NothingLost sys budgets [] n jobs core_runs part_runs =
-        (admitted_no_loss sys is budgets admitted).keeps [] n supplies jobs core_runs part_runs inputs (started_of_permitted sys budgets [] n supplies jobs core_runs part_runs (λ q. refl) (first_tree_permitted sys budgets n supplies jobs core_runs part_runs first)) in
+    (admitted_no_loss sys is budgets admitted).keeps [] n supplies jobs core_runs part_runs inputs (started_of_permitted sys budgets [] n supplies jobs core_runs part_runs (λ q. refl) (first_tree_permitted sys budgets n supplies jobs core_runs part_runs first)) in
     record {
       cores = λ c l. servers_miss_none sys budgets (Core c) n (run_at core_runs c) (servers_constrained sys budgets (Core c) (λ q i child. range q i)) (kept.cores c l);
       inner = λ q l inner. servers_miss_none sys budgets (Part q) n (run_at part_runs q) (servers_constrained sys budgets (Part q) (λ r i child. range r i)) (kept.inner q l inner);

@@ -1,7 +1,7 @@
 -- Worked cases of how much of its files a command reads, and of how words end that name none. A
 -- wrong definition breaks one of them.
-use Rattle.std.proofs.Common.{◌≡◌, ℕ, ◌+◌, List, [], ◌∷◌, length, Some, None, refl, sym, ◌∙◌, ap, arith, inl, inr}
-use Rattle.std.specs.Prelude.{Result, Ok, Err, is_ok, nat_le, ◌&&◌, Bool, true, false}
+use Rattle.std.proofs.Common.{◌≡◌, ℕ, List, [], ◌∷◌, length, Some, None, refl, ◌∙◌, ap, arith, inl, inr}
+use Rattle.std.specs.Prelude.{Result, Ok, Err, is_ok, ◌&&◌, Bool}
 use Rattle.std.proofs.lemmas.Bool.{cond-true, cond-false, le-leb}
 use Rattle.tree_model.specs.View.{SystemView}
 use Rattle.system_file.specs.declared.fault.SystemFault.{SystemFault}
