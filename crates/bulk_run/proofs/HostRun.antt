@@ -95,7 +95,7 @@ supply_here n c l =
     get_or-map (λ (core : CoreView). pattern_slots Early core.supply bulk_slots) (bulk_host n).cores c no_core [] (omega (arith, cores-many n))
     ∙ ap (λ (core : CoreView). pattern_slots Early core.supply bulk_slots) (core_here n c l)
 
-supply_long : (n c : ℕ) → c < cores_for n → length (get_or (bulk_supplies n) c []) ≡ bulk_slots
+pub supply_long : (n c : ℕ) → c < cores_for n → length (get_or (bulk_supplies n) c []) ≡ bulk_slots
 supply_long n c l = ap (λ (s : List Bool). length s) (supply_here n c l) ∙ length-map-range_with_len (pattern_slot Early None) 0 bulk_slots
 
 core_long : (n : ℕ) (budgets : List ℕ) (cores parts : List (List (Option ℕ))) → FirstTree (bulk_host n) budgets bulk_slots (bulk_supplies n) (bulk_jobs n) cores parts → (c : ℕ) → c < cores_for n → length (run_at cores c) ≡ bulk_slots

@@ -4,3 +4,4 @@ mod Blocks
 mod Copies
 mod HostOfCores
 pub mod OneCount
+pub mod NoMiss

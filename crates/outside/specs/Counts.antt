@@ -9,6 +9,10 @@ raised count n = min (count + n) (2 ^ 64 - 1)
 abbrev pub Rose : ℕ → ℕ → Type 0
 Rose before after = raised before 1 ≤ after
 
+-- the count rose by n, or by less to its last value
+abbrev pub RoseBy : ℕ → ℕ → ℕ → Type 0
+RoseBy n before after = (raised before n ≤ after) × (after ≤ before + n)
+
 -- the count rose by more than n, or stands at its last value
 abbrev pub RoseBeyond : ℕ → ℕ → ℕ → Type 0
 RoseBeyond n before after = raised before (n + 1) ≤ after

@@ -1,6 +1,6 @@
 ghost use Rattle.std.specs.Prelude.{◌≡◌, ◌≤◌, ◌<◌, ◌+◌, length, vec_len, Some, None, IfOk, IsSomeAnd, OnOk, IsErrOf};
-ghost use Rattle.outside.specs.Counts.{Rose, RoseBeyond};
-ghost use Rattle.outside.specs.Files.{Told};
+ghost use Rattle.outside.specs.Counts.{Rose, RoseBy, RoseBeyond};
+ghost use Rattle.outside.specs.Files.{Told, size_of};
 
 use crate::{Store, StoreFault};
 use std::alloc::{AllocError, Global};
@@ -88,6 +88,13 @@ pub fn read_all<S: Store>(
     ensures memory_absences { IsErrOf result ReadFault.NoMemory
         → S.absences store.new ≡ S.absences store.old }
     ensures files { S.files store.new ≡ S.files store.old }
+    ensures taken { IfOk result
+        (λ bytes. RoseBy (vec_len bytes) (S.taken store.old) (S.taken store.new)) }
+    ensures absent_taken { IsErrOf result ReadFault.Absent
+        → S.taken store.new ≡ S.taken store.old }
+    // where the files are told, no more is read than the file has
+    ensures within { Told (S.files store.old) name.now
+        (λ file. S.taken store.new ≤ S.taken store.old + size_of file) }
     // not a byte past the first behind the limit is read
     ensures no_more { S.taken store.new ≤ S.taken store.old + limit + 1 }
     ensures taken_last { S.taken store.old ≤ S.taken store.new }

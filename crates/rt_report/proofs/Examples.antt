@@ -27,7 +27,6 @@ use Rattle.rt_report.specs.Refusal.{refusal_text}
 use Rattle.rt_report.specs.Check.{check_text}
 use Rattle.rt_report.specs.Fault.{fault_text}
 use Rattle.rt_report.specs.Unread.{absent_text, too_long_text}
-use Rattle.rt_report.specs.Usage.{usage_line}
 use Rattle.rt_report.specs.Words.{served_name}
 
 abbrev task : List ℕ → ℕ → ℕ → NamedTask
@@ -165,9 +164,6 @@ files_that_are_not_read :
     × (too_long_text 2 ≡ codes "toolong file=2\n"))
 unfolding digits
 files_that_are_not_read = (refl, refl, refl, refl)
-
-the_usage : usage_line ≡ codes "usage: rtadmit admit FILE | certify FILE | check FILE CERT | simulate FILE RELEASES PATTERN SLOTS | rtds FILE WORKLOAD SLOTS | audit FILE TRACE | bulk N\n"
-the_usage = refl
 
 -- a generated host of one guest
 a_generated_host : bulk_text (record { guests = 1; cores = 1; budgets = 53; jobs = 15; missed = 0; pending = 130460 }) ≡ codes "verdict=yes\nguests=1 cores=1 budgets=53 jobs=15 missed=0 pending=130460\n"

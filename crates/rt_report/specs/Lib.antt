@@ -12,4 +12,3 @@ pub mod RowFault
 pub mod CertFault
 pub mod Fault
 pub mod Unread
-pub mod Usage

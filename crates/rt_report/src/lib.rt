@@ -15,7 +15,6 @@ mod row_fault;
 mod simulate;
 mod system_fault;
 mod unread;
-mod usage;
 
 pub use admit::admit_text;
 pub use audit::audit_text;
@@ -26,4 +25,3 @@ pub use refusal::refusal_text;
 pub use replay::Replay;
 pub use simulate::{counts_text, simulate_text};
 pub use unread::{absent_text, too_long_text};
-pub use usage::usage_text;

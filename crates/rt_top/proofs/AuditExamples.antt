@@ -16,11 +16,11 @@ use Rattle.trace_file.specs.Periods.{Satisfied}
 use Rattle.auditor.specs.declared.finding.Finding.TheVariants.{Yes as Kept, Short, Over}
 use Rattle.rt_top.specs.declared.status.Status.{Status}
 use Rattle.rt_top.specs.declared.status.Status.TheVariants.{Yes, No, BadFile, Wide, Absent, TooLong}
-use Rattle.rt_top.specs.Command.{audit, command_of}
+use Rattle.rt_top.specs.Commands.{audit, command_of}
 use Rattle.rt_top.specs.Answer.{Contents, Saying, AtFile, OnSystem}
 use Rattle.rt_top.specs.Budgets.{refusal_status}
 use Rattle.rt_top.specs.TwoFiles.{OnTwoFiles}
-use Rattle.rt_top.specs.Audit.{tracing, finding_status, IsAuditOf, AuditMeans}
+use Rattle.rt_top.specs.Commands.Audit.{tracing, finding_status, IsAuditOf, AuditMeans}
 use Rattle.rt_top.specs.Report.{Reported}
 
 -- `audit` and two files, and nothing else

@@ -1,16 +1,18 @@
 -- The steps that assign budgets and that admit a system: each gives one list of budgets or one
 -- refusal, of a node of the system.
+use Rattle.std.proofs.Common.{List, ℕ}
 use Rattle.tree_model.specs.declared.plan.Refusal.{Refusal}
 use Rattle.tree_model.specs.declared.plan.Refusal.TheVariants.{Overfull, Wide as TooWide, NoMemory as NoRefusal}
 use Rattle.tree_model.specs.View.{SystemView}
 use Rattle.tree_model.specs.System.{IsSystem}
-use Rattle.tree_model.specs.Admission.{FirstRefusal, FirstUnassigned}
+use Rattle.tree_model.specs.Admission.{Assigned, FirstRefusal, FirstUnassigned}
 use Rattle.tree_model.proofs.Unique.{one_assignment, never_assigned, one_unassigned, one_admission, never_both, one_refusal}
 use Rattle.rt_report.specs.Refusal.{IsRefusalOf}
 use Rattle.rt_top.specs.declared.status.Status.{Status}
 use Rattle.rt_top.specs.declared.status.Status.TheVariants.{No, Wide}
-use Rattle.rt_top.specs.Budgets.{assigning, composing, refusal_status}
-use Rattle.rt_top.proofs.Attempt.{IsDecided}
+use Rattle.rt_top.specs.Answer.{IsOne}
+use Rattle.rt_top.specs.Budgets.{assigning, composing, refusal_status, OnAssigned}
+use Rattle.rt_top.proofs.Attempt.{IsDecided, one_attempt, said_of_given, statuses_attempt}
 
 pub assigning_decided : (sys : SystemView) → IsSystem sys → IsDecided (assigning sys)
 assigning_decided sys is = record {
@@ -42,8 +44,19 @@ status_told P at_no at_wide sys (Overfull node short) told = at_no
 status_told P at_no at_wide sys (TooWide node) told = at_wide
 status_told P at_no at_wide sys NoRefusal told = absurd told
 
-pub unassigned_status : (P : Status → Type 0) → P No → P Wide → (sys : SystemView) (r : Refusal) → FirstUnassigned sys r → P (refusal_status r)
+unassigned_status : (P : Status → Type 0) → P No → P Wide → (sys : SystemView) (r : Refusal) → FirstUnassigned sys r → P (refusal_status r)
 unassigned_status P at_no at_wide sys r first = status_told P at_no at_wide sys r (unassigned_told sys r first)
 
 pub refused_status : (P : Status → Type 0) → P No → P Wide → (sys : SystemView) (r : Refusal) → FirstRefusal sys r → P (refusal_status r)
 refused_status P at_no at_wide sys r first = status_told P at_no at_wide sys r (refusal_told sys r first)
+
+-- what is said of the budgets that are assigned: it is one, which statuses it has, and that it is
+-- said of these
+pub one_assigned : (sys : SystemView) → IsSystem sys → (Says : List ℕ → Status → List ℕ → Type 0) → ((budgets : List ℕ) → IsOne (Says budgets)) → IsOne (OnAssigned sys Says)
+one_assigned sys is Says one = one_attempt (assigning sys) Says (assigning_decided sys is) (λ budgets assigned. one budgets)
+
+pub statuses_assigned : (P : Status → Type 0) → P No → P Wide → (sys : SystemView) (Says : List ℕ → Status → List ℕ → Type 0) (status : Status) (text : List ℕ) → ((budgets : List ℕ) → Says budgets status text → P status) → OnAssigned sys Says status text → P status
+statuses_assigned P at_no at_wide sys Says status text said h = statuses_attempt P (assigning sys) Says status text (unassigned_status P at_no at_wide sys) said h
+
+pub said_of_assigned : (sys : SystemView) → IsSystem sys → (Says : List ℕ → Status → List ℕ → Type 0) (status : Status) (text : List ℕ) (budgets : List ℕ) → Assigned sys budgets → OnAssigned sys Says status text → Says budgets status text
+said_of_assigned sys is Says status text budgets assigned h = said_of_given (assigning sys) Says status text (assigning_decided sys is) budgets assigned h

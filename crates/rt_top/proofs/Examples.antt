@@ -1,7 +1,7 @@
 -- Worked cases of what is answered, and of which answers need a cause. A wrong definition breaks
 -- one of them.
 use Rattle.std.proofs.Common.{◌≡◌, ℕ, ◌-◌, ◌^◌, List, [], ◌∷◌, length, Option, Some, None, refl, subst, arith}
-use Rattle.std.specs.Prelude.{codes, IsOk, IfOk, Result, Ok, Err}
+use Rattle.std.specs.Prelude.{codes, bytes_eq, option_map, option_and_then, if◌then◌else◌, IsOk, IfOk, Result, Ok, Err}
 use Rattle.std.specs.Fmt.{digits}
 use Rattle.std.specs.Io.KnownBytes.{Appends}
 use Rattle.tree_model.specs.View.{SystemView}
@@ -19,14 +19,15 @@ use Rattle.system_file.specs.SystemFile.{system_of}
 use Rattle.rt_report.specs.declared.replay.Replay.{Replay}
 use Rattle.rt_report.specs.Admit.{admit_text}
 use Rattle.rt_report.specs.Refusal.{refusal_text}
-use Rattle.rt_report.specs.Usage.{usage_line}
 use Rattle.rt_top.specs.declared.status.Status.{Status}
 use Rattle.rt_top.specs.declared.status.Status.TheVariants.{Yes, No, Usage, BadFile, Wide, Absent, TooLong, ReadFault, WriteFault, NoMemory}
-use Rattle.rt_top.specs.Command.{Command, admit, certify, check, command_of}
+use Rattle.rt_top.specs.Guests.{guest_number}
+use Rattle.rt_top.specs.CommandSpec.{IsVerdict}
+use Rattle.rt_top.specs.Commands.{Command, admit, certify, check, audit, bulk, one_word, two_words, rtds_of, simulate_of, command_of, usage_line}
 use Rattle.rt_top.specs.Answer.{Contents, file_at, AtFile, OnSystem, IfSystem}
-use Rattle.rt_top.specs.Admit.{AdmitsSystem, AdmitMeans, KeepsDeadlines, IsTrulyOverfull, MeansOfSystem}
+use Rattle.rt_top.specs.Commands.Admit.{AdmitsSystem, AdmitMeans, KeepsDeadlines, IsTrulyOverfull, MeansOfSystem}
 use Rattle.rt_top.specs.Report.{IsAnswer, Reported}
-use Rattle.rt_top.specs.Causes.{IsOfQuietStore, IsVerdict, IsJudgeable, Stays}
+use Rattle.rt_top.specs.Causes.{IsOfQuietStore, IsJudgeable, Stays}
 
 -- `admit` and one file, and nothing else
 a_file_to_admit : command_of (codes "admit" ∷ codes "host.toml" ∷ []) ≡ Some (admit (codes "host.toml"))
@@ -42,6 +43,21 @@ no_form_is_left_open :
     (command_of [] ≡ None) × (command_of (codes "admit" ∷ []) ≡ None) × (command_of (codes "admit" ∷ codes "a" ∷ codes "b" ∷ []) ≡ None)
     × (command_of (codes "Admit" ∷ codes "a" ∷ []) ≡ None) × (command_of (codes "a" ∷ codes "admit" ∷ []) ≡ None)
 no_form_is_left_open = (refl, refl, refl, refl, refl)
+
+-- the table of forms, word for word
+the_words_of_each_command : (word : List ℕ) (rest : List (List ℕ)) → command_of (word ∷ rest) ≡
+    (if bytes_eq word (codes "admit") then option_map admit (one_word rest)
+    else if bytes_eq word (codes "certify") then option_map certify (one_word rest)
+    else if bytes_eq word (codes "check") then option_map (λ names. check names.0 names.1) (two_words rest)
+    else if bytes_eq word (codes "simulate") then simulate_of rest
+    else if bytes_eq word (codes "rtds") then rtds_of rest
+    else if bytes_eq word (codes "audit") then option_map (λ names. audit names.0 names.1) (two_words rest)
+    else if bytes_eq word (codes "bulk") then option_map bulk (option_and_then guest_number (one_word rest))
+    else None)
+the_words_of_each_command word rest = refl
+
+the_usage : usage_line ≡ codes "usage: rtadmit admit FILE | certify FILE | check FILE CERT | simulate FILE RELEASES PATTERN SLOTS | rtds FILE WORKLOAD SLOTS | audit FILE TRACE | bulk N\n"
+the_usage = refl
 
 -- files count from 1, and past the last there is none
 files_count_from_one : (a b : Option (List ℕ)) → (file_at 1 (a ∷ b ∷ []) ≡ a) × (file_at 2 (a ∷ b ∷ []) ≡ b) × (file_at 3 (a ∷ b ∷ []) ≡ None)

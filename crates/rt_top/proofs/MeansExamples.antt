@@ -24,20 +24,23 @@ use Rattle.rtds_sim.specs.Rtds.{RtdsRun}
 use Rattle.rtds_sim.specs.Fault.{IsFirstOther}
 use Rattle.rtds_sim.specs.Giving.{AlwaysRunnable, ServersFit, GivesBudgets, NoneOver}
 use Rattle.bulk_host.specs.Host.{bulk_host}
+use Rattle.bulk_run.specs.declared.counts.BulkCounts.{BulkCounts}
+use Rattle.rt_report.specs.Bulk.{bulk_text}
+use Rattle.rt_top.specs.Commands.Bulk.{AnswersBulk}
 use Rattle.server_sched.specs.declared.supplies.Pattern.{Pattern}
 use Rattle.server_sched.specs.TreeCounts.{NoneMisses}
 use Rattle.cert_reader.specs.CertificateFile.{certificate_of}
 use Rattle.cert_reader.specs.Proves.{budgets_of, Proves}
 use Rattle.rt_top.specs.declared.status.Status.{Status}
 use Rattle.rt_top.specs.declared.status.Status.TheVariants.{Yes, No, Usage, BadFile, Absent, TooLong, ReadFault, WriteFault}
-use Rattle.rt_top.specs.Command.{Command, admit, certify, check, rtds, audit, simulate, bulk}
+use Rattle.rt_top.specs.Commands.{Command, admit, certify, check, rtds, audit, simulate, bulk}
 use Rattle.rt_top.specs.Answer.{Contents, file_at, IfSystem, IsOne, IsReadable}
 use Rattle.rt_top.specs.TwoFiles.{SpellsSystem}
-use Rattle.rt_top.specs.Admit.{IsTrulyOverfull}
-use Rattle.rt_top.specs.Certify.{IsProof, TellsCertificate, CertificateMeans, CertifyMeans}
-use Rattle.rt_top.specs.Check.{CheckMeans}
-use Rattle.rt_top.specs.Rtds.{IsTraceOf, TellsRun, RunMeans, IsRunOf}
-use Rattle.rt_top.specs.Simulate.{RunsFirst, SimulateMeans, IsSimulationOf}
+use Rattle.rt_top.specs.Commands.Admit.{IsTrulyOverfull}
+use Rattle.rt_top.specs.Commands.Certify.{IsProof, TellsCertificate, CertificateMeans, CertifyMeans}
+use Rattle.rt_top.specs.Commands.Check.{CheckMeans}
+use Rattle.rt_top.specs.Commands.Rtds.{IsTraceOf, TellsRun, RunMeans, IsRunOf}
+use Rattle.rt_top.specs.Commands.Simulate.{RunsFirst, SimulateMeans, IsSimulationOf}
 use Rattle.rt_top.specs.Report.{IsAnswer, Reported, HasOneAnswer}
 use Rattle.rt_top.specs.Causes.{CanJudge, IsVerdictOf, EndsAs}
 
@@ -128,6 +131,12 @@ a_no_to_releases pattern n file releases files old new sys jobs budgets core_run
 -- `bulk`: under budgets that admit the host no job is lost
 what_bulk_says : (n : ℕ) (files : Files) (old new : Option (List ℕ)) → Reported (Some (bulk n)) (Some files) Yes old new → (budgets : List ℕ) × Admitted (bulk_host n) budgets × NoLoss (bulk_host n) budgets
 what_bulk_says n files old new h = (h.answer.means.budgets, h.answer.means.admitted, h.answer.means.no_loss)
+
+-- and none misses in the first run, so that its text counts none
+no_miss_is_told : (n : ℕ) (files : Files) (old new : Option (List ℕ)) → Reported (Some (bulk n)) (Some files) Yes old new → (counts : BulkCounts) × (counts.missed ≡ 0) × Appends old new (bulk_text counts)
+no_miss_is_told n files old new h =
+    let said : AnswersBulk n Yes h.text = h.answer.answers in
+    (said.counts, h.answer.means.none_counted said.counts said.counted, subst (λ (text : List ℕ). Appends old new text) said.told h.written)
 
 -- files that are there, short enough and good let a command be judged
 readable : (k : ℕ) (contents : Contents) (bytes : List ℕ) (IsGood : List ℕ → Type 0) → file_at k contents ≡ Some bytes → length bytes ≤ 67108864 → IsGood bytes → IsReadable k contents IsGood

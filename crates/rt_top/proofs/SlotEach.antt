@@ -2,8 +2,7 @@
 use Rattle.std.proofs.Common.{◌≡◌, ℕ, length, replicate, ◌∙◌, arith}
 use Rattle.std.proofs.lemmas.List.{get_or-replicate, length-replicate}
 use Rattle.tree_model.specs.View.{SystemView}
-use Rattle.tree_model.specs.System.{IsSystem, part_at}
-use Rattle.tree_model.specs.Tree.{budget_at}
+use Rattle.tree_model.specs.System.{IsSystem}
 use Rattle.tree_model.specs.Plans.{IsPlan}
 
 pub is_plan : (sys : SystemView) → IsSystem sys → (n : ℕ) → n ≡ length sys.parts

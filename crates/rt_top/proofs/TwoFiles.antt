@@ -11,11 +11,11 @@ use Rattle.rt_top.specs.declared.status.Status.{Status}
 use Rattle.rt_top.specs.declared.status.Status.TheVariants.{BadFile, Absent, TooLong}
 use Rattle.rt_top.specs.declared.answer.Ending.{Ending}
 use Rattle.rt_top.specs.declared.answer.Ending.TheVariants.{Answered, Unread, NoMemory as NoRoom}
-use Rattle.rt_top.specs.Command.{Command, file_names}
+use Rattle.rt_top.specs.Commands.{Command, spec_of, file_names}
 use Rattle.rt_top.specs.Answer.{Contents, Saying, file_at, AtContent, AtFile, OnSystem, IsOne}
 use Rattle.rt_top.specs.TwoFiles.{OnTwoFiles, SpellsSystem}
-use Rattle.rt_top.specs.Report.{AreContents, Answers, Means, IsAnswer}
-use Rattle.rt_top.specs.Steps.{IfAnswered, IsSpelled, IsHeld, StopsAt, AnswersTwo}
+use Rattle.rt_top.specs.Report.{AreContents}
+use Rattle.rt_top.specs.Steps.{IfAnswered, IsOverTwo, IsSaid, IsSpelled, IsHeld, StopsAt, AnswersTwo}
 use Rattle.rt_top.proofs.AtFile.{more_at, more_on, on_more, one_at, one_on, statuses_at, statuses_on}
 
 -- where one thing is said of each system and bytes, one is said over two files
@@ -107,23 +107,17 @@ stop_said files first second Says (Answered a) h = more_two files first second S
 stop_said files first second Says Unread h = tt
 stop_said files first second Says NoRoom h = tt
 
--- and the answer over both files is that to a command which names them
+-- and the answer over both files is that to a command over them
 two_held : (files : Option Files) (first second : List ℕ) (one two : Option (List ℕ)) (command : Command) → file_names command ≡ first ∷ second ∷ [] → Told files first (λ file. file ≡ one) → Told files second (λ file. file ≡ two) → AreContents (Some command) files (one ∷ two ∷ [])
 two_held None first second one two command names a b = tt
 two_held (Some files) first second one two command names a b =
     subst (λ (ns : List (List ℕ)). one ∷ two ∷ [] ≡ map (λ name. file_named name files) ns) (sym names) (ap (λ (o : Option (List ℕ)). o ∷ two ∷ []) (sym a) ∙ ap (λ (o : Option (List ℕ)). file_named first files ∷ o ∷ []) (sym b))
 
--- what is said over two files is the answer of a command, and means what it is to mean
-pub record AnswersOver (command : Command) (Says : SystemView → Saying) : Type 0 where
-  pub answers : (contents : Contents) (status : Status) (text : List ℕ) → OnTwoFiles contents Says status text → Answers (Some command) contents status text
-  pub means : (contents : Contents) (status : Status) (text : List ℕ) → OnTwoFiles contents Says status text → Means (Some command) contents status text
-
-pub two_answer : (command : Command) (first second : List ℕ) (Says : SystemView → Saying) → file_names command ≡ first ∷ second ∷ [] → AnswersOver command Says → (files : Option Files) (end : Ending) → IfAnswered end (λ a. AnswersTwo files first second Says a.status a.text.items) → IfAnswered end (λ a. IsAnswer (Some command) files a.status a.text.items)
-two_answer command first second Says names over files (Answered a) h = record {
+pub two_said : (command : Command) (first second : List ℕ) (Says : SystemView → Saying) → IsOverTwo (spec_of command) first second Says → (files : Option Files) (end : Ending) → IfAnswered end (λ a. AnswersTwo files first second Says a.status a.text.items) → IfAnswered end (λ a. IsSaid (Some command) files a.status a.text.items)
+two_said command first second Says over files (Answered a) h = record {
   contents = h.one ∷ h.two ∷ [];
-  held = two_held files first second h.one h.two command names h.held_first h.held_second;
+  held = two_held files first second h.one h.two command over.files h.held_first h.held_second;
   answers = over.answers (h.one ∷ h.two ∷ []) a.status a.text.items h.answers;
-  means = over.means (h.one ∷ h.two ∷ []) a.status a.text.items h.answers;
 }
-two_answer command first second Says names over files Unread h = tt
-two_answer command first second Says names over files NoRoom h = tt
+two_said command first second Says over files Unread h = tt
+two_said command first second Says over files NoRoom h = tt

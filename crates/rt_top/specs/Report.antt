@@ -4,29 +4,14 @@ use Rattle.std.specs.Prelude.{◌≡◌, ℕ, List, [], map, Option, Some, None,
 use Rattle.std.specs.Io.KnownBytes.{Appends}
 use Rattle.outside.specs.Files.{Files, file_named}
 use Rattle.outside.specs.Written.{AppendsProperPrefix}
-use Rattle.rt_report.specs.Usage.{usage_line}
 use Rattle.rt_top.specs.declared.status.Status.{Status}
 use Rattle.rt_top.specs.declared.status.Status.TheVariants.{Usage, ReadFault, WriteFault, NoMemory}
-use Rattle.rt_top.specs.Command.{Command, admit, certify, check, rtds, audit, simulate, bulk, file_names}
+use Rattle.rt_top.specs.Commands.{Command, spec_of, file_names, usage_line}
 use Rattle.rt_top.specs.Answer.{Contents, IsOne}
-use Rattle.rt_top.specs.Admit.{Admits, AdmitMeans}
-use Rattle.rt_top.specs.Certify.{Certifies, CertifyMeans}
-use Rattle.rt_top.specs.Check.{Checks, CheckMeans}
-use Rattle.rt_top.specs.Rtds.{Runs, RunMeans}
-use Rattle.rt_top.specs.Audit.{Audits, AuditMeans}
-use Rattle.rt_top.specs.Simulate.{Simulates, SimulateMeans}
-use Rattle.rt_top.specs.Bulk.{AnswersBulk, HostKeepsDeadlines}
 
 -- the answer to a command, whose files have these contents
 abbrev pub JobAnswers : Command → Contents → Status → List ℕ → Type 0
-JobAnswers (admit file) contents status text = Admits contents status text
-JobAnswers (certify file) contents status text = Certifies contents status text
-JobAnswers (check file cert) contents status text = Checks contents status text
-JobAnswers (rtds file workload slots) contents status text = Runs slots contents status text
-JobAnswers (audit file trace) contents status text = Audits contents status text
-JobAnswers (simulate file releases pattern slots) contents status text =
-    Simulates pattern slots contents status text
-JobAnswers (bulk guests) contents status text = AnswersBulk guests status text
+JobAnswers command = (spec_of command).Answers
 
 -- the answer to words: the usage line where they spell no command
 abbrev pub Answers : Option Command → Contents → Status → List ℕ → Type 0
@@ -36,14 +21,7 @@ Answers (Some command) contents status text = JobAnswers command contents status
 -- what the answer means
 abbrev pub Means : Option Command → Contents → Status → List ℕ → Type 0
 Means None contents status text = ⊤
-Means (Some (admit file)) contents status text = AdmitMeans contents status text
-Means (Some (certify file)) contents status text = CertifyMeans contents status text
-Means (Some (check file cert)) contents status text = CheckMeans contents status
-Means (Some (rtds file workload slots)) contents status text = RunMeans slots contents status text
-Means (Some (audit file trace)) contents status text = AuditMeans contents status
-Means (Some (simulate file releases pattern slots)) contents status text =
-    SimulateMeans pattern slots contents status
-Means (Some (bulk guests)) contents status text = HostKeepsDeadlines guests
+Means (Some command) contents status text = (spec_of command).Means contents status text
 
 abbrev pub names_of : Option Command → List (List ℕ)
 names_of None = []

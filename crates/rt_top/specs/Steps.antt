@@ -1,6 +1,6 @@
 -- What the private steps of a command promise each other.
-use Rattle.std.specs.Prelude.{◌≡◌, ℕ, ◌≤◌, List, [], ◌∷◌, length, Option, Some, Result, Ok, Err, ⊤}
-use Rattle.outside.specs.Counts.{Rose, RoseBeyond}
+use Rattle.std.specs.Prelude.{◌≡◌, ℕ, ◌+◌, ◌≤◌, List, [], ◌∷◌, length, Option, Some, Result, Ok, Err, ⊤}
+use Rattle.outside.specs.Counts.{Rose, RoseBy, RoseBeyond}
 use Rattle.outside.specs.Files.{Files, Told}
 use Rattle.tree_model.specs.View.{SystemView}
 use Rattle.system_file.specs.SystemFile.{system_of}
@@ -9,22 +9,19 @@ use Rattle.rt_top.specs.declared.status.Status.TheVariants.{Yes, No, BadFile, Wi
 use Rattle.rt_top.specs.declared.answer.Answer.{Answer}
 use Rattle.rt_top.specs.declared.answer.Ending.{Ending}
 use Rattle.rt_top.specs.declared.answer.Ending.TheVariants.{Answered, Unread, NoMemory as NoRoom}
-use Rattle.rt_top.specs.declared.command.Command.{Command as Parsed}
-use Rattle.rt_top.specs.declared.command.Command.TheVariants.{Admit, Certify, Check, Rtds, Audit, Simulate, Bulk}
-use Rattle.rt_top.specs.Command.{Command, admit, certify, check, rtds, audit, simulate, bulk}
-use Rattle.rt_top.specs.Answer.{Saying, AtContent, file_limit}
+use Rattle.rt_top.specs.Commands.{Command}
+use Rattle.rt_top.specs.CommandSpec.{CommandSpec}
+use Rattle.rt_top.specs.Answer.{Contents, Saying, AtContent, AtFile, OnSystem, file_limit}
 use Rattle.rt_top.specs.TwoFiles.{OnTwoFiles}
+use Rattle.rt_top.specs.Report.{AreContents, Answers}
+use Rattle.rt_top.specs.Reading.{bytes_to_read}
 
--- the command that was parsed
-abbrev pub command_told : Parsed → Command
-command_told (Admit file) = admit file.now
-command_told (Certify file) = certify file.now
-command_told (Check file cert) = check file.now cert.now
-command_told (Rtds file workload slots) = rtds file.now workload.now slots.count
-command_told (Audit file trace) = audit file.now trace.now
-command_told (Simulate file releases pattern slots) =
-    simulate file.now releases.now pattern slots.count
-command_told (Bulk guests) = bulk guests.number
+-- over what the files of the command hold, this status and this text are the answer
+pub record IsSaid (command : Option Command) (files : Option Files) (status : Status)
+    (text : List ℕ) : Type 0 where
+  pub contents : Contents
+  pub held : AreContents command files contents
+  pub answers : Answers command contents status text
 
 -- what is said of the answer, where a command ends with one
 abbrev pub IfAnswered : Ending → (Answer → Type 0) → Type 0
@@ -65,6 +62,22 @@ abbrev pub Explains : Ending → Counts → Counts → Type 0
 Explains (Answered answer) before after = ExplainsAnswer answer.status before after
 Explains Unread before after = Rose before.faults after.faults
 Explains NoRoom before after = ⊤
+
+-- what a command that ends so took of the store: so many bytes, and no more where it has no answer
+abbrev pub EndTakes : Ending → ℕ → ℕ → ℕ → Type 0
+EndTakes (Answered answer) bytes before after = RoseBy bytes before after
+EndTakes Unread bytes before after = after ≤ before + bytes
+EndTakes NoRoom bytes before after = after ≤ before + bytes
+
+-- what a step took that gave its value, or ended the command
+abbrev pub StepTakes : {Value : Type 0} → Result Value Ending → ℕ → ℕ → ℕ → Type 0
+StepTakes (Ok value) bytes before after = RoseBy bytes before after
+StepTakes (Err stop) bytes before after = EndTakes stop bytes before after
+
+-- where the files are told, what a command over them took
+abbrev pub CommandTakes : Option Command → Option Files → Ending → ℕ → ℕ → Type 0
+CommandTakes command files end before after =
+    (all : Files) → files ≡ Some all → EndTakes end (bytes_to_read command all) before after
 
 -- the system that the file of that name spells
 pub record IsSpelled (files : Option Files) (name : List ℕ) (sys : SystemView) : Type 0 where
@@ -108,3 +121,19 @@ abbrev pub EndsJudged : Ending → Type 0
 EndsJudged (Answered answer) = IsJudged answer.status
 EndsJudged Unread = ⊥
 EndsJudged NoRoom = ⊤
+
+-- a command over a system file, whose answer is what is said of its system
+pub record IsOverOne (spec : CommandSpec) (name : List ℕ)
+    (Says : SystemView → Status → List ℕ → Type 0) : Type 0 where
+  pub files : spec.files ≡ name ∷ []
+  pub answers : (contents : Contents) (status : Status) (text : List ℕ)
+      → AtFile 1 contents (λ bytes. OnSystem (system_of bytes) Says) status text
+      → spec.Answers contents status text
+
+-- a command over a system file and a second file, whose answer is what is said of the system and of
+-- the second file's bytes
+pub record IsOverTwo (spec : CommandSpec) (first second : List ℕ) (Says : SystemView → Saying)
+    : Type 0 where
+  pub files : spec.files ≡ first ∷ second ∷ []
+  pub answers : (contents : Contents) (status : Status) (text : List ℕ)
+      → OnTwoFiles contents Says status text → spec.Answers contents status text

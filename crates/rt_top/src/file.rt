@@ -1,9 +1,10 @@
 ghost use Rattle.std.specs.Prelude.{◌≡◌, ◌≢◌, ◌≤◌, length, None, Some, Ok, IfOk, IfErr, OnOk};
-ghost use Rattle.outside.specs.Files.{Told};
+ghost use Rattle.outside.specs.Files.{Files, Told, file_named};
 ghost use Rattle.system_file.specs.SystemFile.{system_of};
 ghost use Rattle.rt_report.specs.Fault.{fault_text, IsFault};
 ghost use Rattle.rt_top.specs.Answer.{file_limit, OnSystem};
-ghost use Rattle.rt_top.specs.Steps.{counts_of, IfAnswered, IsQuiet, Explains, StopsAt, IsSpelled};
+ghost use Rattle.rt_top.specs.Reading.{read_of};
+ghost use Rattle.rt_top.specs.Steps.{counts_of, IfAnswered, IsQuiet, Explains, StepTakes, StopsAt, IsSpelled};
 
 use crate::Status;
 use crate::answer::{Answer, Ending};
@@ -35,6 +36,9 @@ pub fn read_file<S: Store>(
         OnOk result (IsQuiet (counts store.old) (counts store.new)) }
     ensures explained { let counts = counts_of S.faults S.absences S.taken in
         IfErr result (λ stop. Explains stop (counts store.old) (counts store.new)) }
+    ensures taken { (files : Files) → S.files store.old ≡ Some files
+        → StepTakes result (read_of (file_named name.now files))
+        (S.taken store.old) (S.taken store.new) }
 {
     match read_all(alloc, store, name, MOST_BYTES) {
         Ok(bytes) => Ok(bytes),
@@ -67,6 +71,9 @@ pub fn read_system_file<S: Store>(
         OnOk result (IsQuiet (counts store.old) (counts store.new)) }
     ensures explained { let counts = counts_of S.faults S.absences S.taken in
         IfErr result (λ stop. Explains stop (counts store.old) (counts store.new)) }
+    ensures taken { (files : Files) → S.files store.old ≡ Some files
+        → StepTakes result (read_of (file_named name.now files))
+        (S.taken store.old) (S.taken store.new) }
 {
     let bytes = read_file(alloc, store, name, 1)?;
     spelled_system(alloc, &bytes)

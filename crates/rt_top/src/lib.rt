@@ -1,19 +1,13 @@
 //! The commands: from words and files to a status and a text.
 #![tactic(auto)]
 
-mod admit;
 mod answer;
-mod audit;
-mod bulk;
-mod certify;
-mod check;
-mod command;
+mod commands;
 mod file;
 mod guests;
+mod one_file;
 mod refusing;
 mod replays;
-mod rtds;
-mod simulate;
 mod slot_words;
 mod slots;
 mod status;

@@ -4,7 +4,7 @@ ghost use Rattle.tree_model.specs.Plans.{IsPlan};
 ghost use Rattle.rt_report.specs.Refusal.{refusal_text, IsRefusalOf};
 ghost use Rattle.rt_top.specs.Attempt.{IsRefused};
 ghost use Rattle.rt_top.specs.Budgets.{assigning, refusal_status};
-ghost use Rattle.rt_top.specs.Steps.{IfAnswered, EndsJudged};
+ghost use Rattle.rt_top.specs.Steps.{IfAnswered, IsJudged, EndsJudged};
 
 use crate::Status;
 use crate::answer::{Answer, Ending};
@@ -18,6 +18,7 @@ pub fn refuse(alloc: Global, sys: &System, refusal: Refusal) -> Result<Answer, A
     requires { IsRefusalOf sys.now refusal }
     ensures status { IfOk result (λ a. a.status ≡ refusal_status refusal) }
     ensures text { IfOk result (λ a. a.text.items ≡ refusal_text sys.now refusal) }
+    ensures judged { IfOk result (λ a. IsJudged a.status) }
 {
     let status = match refusal {
         Refusal::Overfull(_, _) => Status::No,

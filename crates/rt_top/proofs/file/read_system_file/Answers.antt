@@ -2,6 +2,7 @@ use Rattle.std.proofs.Common.{◌≡◌, ◌≤◌, ℕ, List, length, Some, sym
 use Rattle.outside.specs.Files.{Told}
 use Rattle.rt_top.specs.Answer.{file_limit}
 use Rattle.rt_top.proofs.Steps.{system_spelled, system_refused, system_explained, quiet_ok}
+use Rattle.rt_top.proofs.Taking.{step_takes}
 use Rattle.rt_top.proofs.file.read_system_file.Goals as goal
 
 pub returns : goal.returns
@@ -14,4 +15,5 @@ returns g c =
       same_files = c.in_ok-bytes.ensures.same_files;
       quiet = quiet_ok c.spelled_system.result _ c.in_ok-bytes.ensures.quiet;
       explained = system_explained c.deref.result.now c.spelled_system.result _ _ c.in_ok-bytes.ensures.quiet c.spelled_system.ensures.refused c.spelled_system.ensures.read;
+      taken = λ files told. step_takes c.spelled_system.result _ _ _ (c.in_ok-bytes.ensures.taken files told);
     }

@@ -1,0 +1,190 @@
+mod admit;
+mod audit;
+mod bulk;
+mod certify;
+mod check;
+mod rtds;
+mod simulate;
+
+ghost use Rattle.std.specs.Prelude.{◌≡◌, ◌≢◌, Some, map, option_map, string_bytes, IfOk, IfErr};
+ghost use Rattle.std.specs.Option.{option_copied};
+ghost use Rattle.rt_top.specs.Commands.{command_of, command_told, one_word, rtds_of, simulate_of, two_words, usage_line};
+ghost use Rattle.rt_top.specs.Guests.{guest_number};
+ghost use Rattle.rt_top.specs.Reading.{NamesNoFile};
+ghost use Rattle.rt_top.specs.Steps.{counts_of, IfAnswered, IsSaid, Explains, CommandTakes};
+
+use crate::Status;
+use crate::answer::{Answer, Ending, ended};
+use crate::commands::admit::Admit;
+use crate::commands::audit::Audit;
+use crate::commands::bulk::bulk;
+use crate::commands::certify::Certify;
+use crate::commands::check::Check;
+use crate::commands::rtds::Rtds;
+use crate::commands::simulate::Simulate;
+use crate::guests::Guests;
+use crate::one_file::over_one;
+use crate::slot_words::{pattern_of, slot_count};
+use crate::slots::Slots;
+use crate::two_files::over_two;
+use csv_rows::{is_plain, number};
+use outside::Store;
+use server_sched::Pattern;
+use std::alloc::Global;
+
+/// A form of words, with the names of its files in the order of the words.
+#[derive(Clone, Copy)]
+pub enum Command<'a> {
+    /// `admit FILE`
+    Admit(&'a str),
+    /// `certify FILE`
+    Certify(&'a str),
+    /// `check FILE CERT`
+    Check(&'a str, &'a str),
+    /// `rtds FILE WORKLOAD SLOTS`
+    Rtds(&'a str, &'a str, Slots),
+    /// `audit FILE TRACE`
+    Audit(&'a str, &'a str),
+    /// `simulate FILE RELEASES PATTERN SLOTS`
+    Simulate(&'a str, &'a str, Pattern, Slots),
+    /// `bulk N`
+    Bulk(Guests),
+}
+
+/// The command that the words spell: its own word, its files, and what else it takes.
+pub fn parse(words: &[String]) -> Option<Command<'_>>
+    ensures { option_map command_told result ≡ command_of (map string_bytes words.now) }
+{
+    let (word, rest) = words.split_first()?;
+    if word.as_str() == "admit" {
+        Some(Command::Admit(one_word(rest)?))
+    } else if word.as_str() == "certify" {
+        Some(Command::Certify(one_word(rest)?))
+    } else if word.as_str() == "check" {
+        let (file, cert) = two_words(rest)?;
+        Some(Command::Check(file, cert))
+    } else if word.as_str() == "simulate" {
+        simulate_of(rest)
+    } else if word.as_str() == "rtds" {
+        rtds_of(rest)
+    } else if word.as_str() == "audit" {
+        let (file, trace) = two_words(rest)?;
+        Some(Command::Audit(file, trace))
+    } else if word.as_str() == "bulk" {
+        Some(Command::Bulk(guest_number(one_word(rest)?)?))
+    } else {
+        None
+    }
+}
+
+/// The answer to words that spell no command.
+fn usage_text() -> &'static str
+    ensures { result.now ≡ usage_line }
+{
+    "usage: rtadmit admit FILE | certify FILE | check FILE CERT | \
+     simulate FILE RELEASES PATTERN SLOTS | rtds FILE WORKLOAD SLOTS | audit FILE TRACE | bulk N\n"
+}
+
+/// The answer to a command, or to words that spell none.
+#[tactic(auto, using(crate::proofs::Taking::nothing_taken))]
+pub fn answer<S: Store>(alloc: Global, command: Option<Command<'_>>, store: &mut S) -> Ending
+    ensures answer { IfAnswered result (λ a. IsSaid (option_map command_told command.entry)
+        (S.files store.old) a.status a.text.items) }
+    ensures explained { let counts = counts_of S.faults S.absences S.taken in
+        Explains result (counts store.old) (counts store.new) }
+    ensures untouched { NamesNoFile (option_map command_told command.entry)
+        → store.new ≡ store.old }
+    ensures read { NamesNoFile (option_map command_told command.entry)
+        → result ≢ Ending.Unread }
+    ensures taken { CommandTakes (option_map command_told command.entry) (S.files store.old)
+        result (S.taken store.old) (S.taken store.new) }
+{
+    match command {
+        Some(Command::Admit(file)) => ended(over_one(alloc, store, file, &Admit)),
+        Some(Command::Certify(file)) => ended(over_one(alloc, store, file, &Certify)),
+        Some(Command::Check(file, cert)) => ended(over_two(alloc, store, file, cert, &Check)),
+        Some(Command::Rtds(file, workload, slots)) => {
+            ended(over_two(alloc, store, file, workload, &Rtds { slots }))
+        }
+        Some(Command::Audit(file, trace)) => ended(over_two(alloc, store, file, trace, &Audit)),
+        Some(Command::Simulate(file, releases, pattern, slots)) => {
+            let judge = Simulate { pattern, slots };
+            ended(over_two(alloc, store, file, releases, &judge))
+        }
+        Some(Command::Bulk(guests)) => ended(bulk(alloc, guests)),
+        None => ended(usage(alloc)),
+    }
+}
+
+// The usage line.
+fn usage(alloc: Global) -> Result<Answer, Ending>
+    ensures status { IfOk result (λ a. a.status ≡ Status.Usage) }
+    ensures text { IfOk result (λ a. a.text.items ≡ usage_line) }
+    ensures memory { IfErr result (λ ending. ending ≡ Ending.NoMemory) }
+{
+    Ok(Answer {
+        status: Status::Usage,
+        text: usage_text().as_bytes().to_vec(alloc)?,
+    })
+}
+
+/// The command whose own word is `rtds`.
+fn rtds_of(words: &[String]) -> Option<Command<'_>>
+    ensures { option_map command_told result ≡ rtds_of (map string_bytes words.now) }
+{
+    match words {
+        [file, workload, slots] => {
+            let slots = slot_count(slots.as_str())?;
+            Some(Command::Rtds(file.as_str(), workload.as_str(), slots))
+        }
+        _ => None,
+    }
+}
+
+/// The command whose own word is `simulate`.
+fn simulate_of(words: &[String]) -> Option<Command<'_>>
+    ensures { option_map command_told result ≡ simulate_of (map string_bytes words.now) }
+{
+    match words {
+        [file, releases, pattern, slots] => {
+            let pattern = pattern_of(pattern.as_str())?;
+            let slots = slot_count(slots.as_str())?;
+            Some(Command::Simulate(file.as_str(), releases.as_str(), pattern, slots))
+        }
+        _ => None,
+    }
+}
+
+fn one_word(words: &[String]) -> Option<&str>
+    ensures { option_copied result ≡ one_word (map string_bytes words.now) }
+{
+    match words {
+        [word] => Some(word.as_str()),
+        _ => None,
+    }
+}
+
+fn two_words(words: &[String]) -> Option<(&str, &str)>
+    ensures { option_map (λ pair. (pair.0.now, pair.1.now)) result
+        ≡ two_words (map string_bytes words.now) }
+{
+    match words {
+        [first, second] => Some((first.as_str(), second.as_str())),
+        _ => None,
+    }
+}
+
+/// The number of guests that a word tells: a plain decimal from 1 to 256.
+fn guest_number(word: &str) -> Option<Guests>
+    ensures { option_map (λ guests. guests.number) result ≡ guest_number word.now }
+{
+    let digits = word.as_bytes();
+    if !is_plain(digits) {
+        return None;
+    }
+    let guests = number(digits, 256)?;
+    if guests < 1 {
+        return None;
+    }
+    Some(Guests { number: guests })
+}
