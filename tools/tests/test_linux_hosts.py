@@ -94,9 +94,10 @@ class FromLinux(unittest.TestCase):
         if number is None:
             self.skipTest("a machine of another kind")
         self.assertEqual(from_linux.reservation(libc, number, 0)[0], os.sched_getscheduler(0))
-        self.assertIsNone(from_linux.reservation(libc, number, 999_999_999))
+        with self.assertRaises(ProcessLookupError):
+            from_linux.reservation(from_linux.ctypes.CDLL(None, use_errno=True), number, 999_999_999)
         held = {7: (6, (6000000, 20000000, 20000000)), os.getpid(): (6, (4000000, 40000000, 40000000))}
-        with mock.patch.object(from_linux, "reservation", lambda libc, number, tid: held.get(tid)):
+        with mock.patch.object(from_linux, "reservation", lambda libc, number, tid: held.get(tid, (0, None))):
             with mock.patch.object(os, "sched_getaffinity", lambda tid: {3}):
                 status, out, err = run(from_linux, "--name", f"{os.getpid()}=own")
         self.assertEqual((status, err), (0, ""))

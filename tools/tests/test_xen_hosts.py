@@ -164,6 +164,7 @@ class ToXl(unittest.TestCase):
         self.assertEqual(run(to_xl, "/nowhere/host.toml"), (1, "", "/nowhere/host.toml: No such file or directory\n"))
         file = Room(self).file("host.toml", HOST)
         self.assertEqual(run(to_xl, file, "--program", "/nowhere/rtadmit"), (1, "", "/nowhere/rtadmit: No such file or directory\n"))
+        self.assertEqual(run(to_xl, file, "--program", "true"), (1, "", "true: this program does not answer as rtadmit does\n"))
         self.assertEqual(run(to_xl)[:2], (2, ""))
 
 
