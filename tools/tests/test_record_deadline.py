@@ -3,6 +3,7 @@ the kernel's files, on pretended ones."""
 import argparse
 import contextlib
 import io
+import itertools
 import os
 import pathlib
 import signal
@@ -144,6 +145,110 @@ class Buffer(unittest.TestCase):
         self.assertEqual((chosen / "sched_switch/enable").read_text(), "1")
 
 
+class Marks(unittest.TestCase):
+    """What the recorder writes among the events, which tools/from-ftrace reads."""
+
+    def test_the_order_of_a_recording(self):
+        """All threads sleep before the buffer is on; the marks stand before the first wakeup and behind the last event."""
+        done = []
+        child = mock.Mock(thread=tool.Thread("calc", 3, 6000, 20000, None), pid=11)
+        child.check_asleep.side_effect = lambda: done.append("asleep?")
+        child.start.side_effect = lambda: done.append("wake")
+        pause = mock.Mock()
+        pause.wait.side_effect = lambda seconds: done.append(f"wait {seconds}")
+        with mock.patch.object(tool, "write", lambda path, text: done.append(f"{path} {text}".strip())):
+            tool.run_marked("buffer", [child], 2, pause)
+        self.assertEqual(done, [
+            "asleep?", "buffer/tracing_on 1",
+            "buffer/trace_marker rtadmit: asleep comm=calc pid=11 cpu=3 runtime=6000 period=20000",
+            "wake", "wait 2", "buffer/trace_marker rtadmit: stopped", "buffer/tracing_on 0",
+        ])
+
+    def test_that_the_translator_reads_them(self):
+        translator = load("from-ftrace")
+        text = tool.asleep_mark(tool.Thread("calc", 3, 6000, 20000, None), 11)
+        found = translator.ASLEEP_MARK.fullmatch(f"rtadmit: {text}")
+        self.assertEqual(found.groups(), ("calc", "11", "3", "20000"))
+
+    def test_the_state_of_a_process(self):
+        self.assertEqual(tool.state_of("7 (a) R (b) S 1 7 7"), "S")
+
+    def test_a_thread_that_does_not_sleep_and_a_filler_that_does_not_run(self):
+        child = mock.Mock(thread=tool.Thread("calc", 3, 6000, 20000, None), pid=11)
+        with mock.patch.object(tool, "read", lambda path: "11 (calc) R 1"), self.assertRaises(tool.NotAllowed):
+            tool.Child.check_asleep(child)
+        with mock.patch.object(tool, "read", lambda path: "11 (calc) S 1"):
+            tool.Child.check_asleep(child)
+            with self.assertRaises(tool.NotAllowed):
+                tool.check_filler(11, 3)
+
+    def test_a_filler(self):
+        """It has the lowest priority, and ends when it is ended."""
+        with tempfile.TemporaryDirectory() as scratch:
+            tasks = pathlib.Path(scratch, "tasks")
+            pid = tool.fill(tasks)
+            try:
+                while not tasks.exists() or not tasks.read_text():
+                    pass
+                self.assertEqual(tasks.read_text(), str(pid))
+                self.assertEqual(os.sched_getscheduler(pid), os.SCHED_IDLE)
+                tool.check_filler(pid, 0)
+            finally:
+                tool.end(pid)
+            with self.assertRaises(ProcessLookupError):
+                os.kill(pid, 0)
+
+
+class Tries(unittest.TestCase):
+    """A recording in which a switch is missing is made again."""
+    LINES = (
+        "  python3-9    [000] ...1. 0.500000: tracing_mark_write: rtadmit: asleep comm=calc pid=11 cpu=3 runtime=6000 period=20000",
+        "  <idle>-0     [001] dNh4. 1.000000: sched_wakeup: comm=calc pid=11 prio=-1 target_cpu=003",
+        "  sh-7         [003] d..2. 1.000002: sched_switch: prev_comm=sh prev_pid=7 prev_prio=1 prev_state=R ==> next_comm=calc next_pid=11 next_prio=-1",
+        "  calc-11      [003] d..2. 1.000007: sched_switch: prev_comm=calc prev_pid=11 prev_prio=-1 prev_state=R ==> next_comm=sh next_pid=7 next_prio=1",
+    )
+    WHOLE = "\n".join(LINES) + "\n"
+    TORN = "\n".join([*LINES, LINES[-1]]) + "\n"
+
+    def told(self, texts, tries):
+        """The text that is kept where the recordings are these in turn, how many were made, and what standard error has."""
+        made = []
+        err = io.StringIO()
+        words = argparse.Namespace(
+            threads=[tool.thread_of("calc@3=6000/20000")], seconds=1, random=None, tries=tries, out="recording")
+        with mock.patch.object(tool, "record", lambda *_: made.append(1) or texts[len(made) - 1]), contextlib.redirect_stderr(err):
+            return tool.record_whole(words, None), len(made), err.getvalue()
+
+    def test_until_one_is_whole(self):
+        self.assertEqual(self.told([self.WHOLE], 8), (self.WHOLE, 1, ""))
+        self.assertEqual(self.told([self.TORN, self.TORN, self.WHOLE], 8), (self.WHOLE, 3, ""))
+
+    def test_where_none_is_whole(self):
+        text, made, err = self.told([self.TORN] * 2, 2)
+        self.assertEqual((text, made), (self.TORN, 2))
+        self.assertIn("in each of 2 recordings; of the last one, in recording, line 5: no thread of the map has processor 3", err)
+
+    def test_a_text_that_is_refused_for_another_cause_is_kept(self):
+        self.assertEqual(self.told(["text\n"], 8), ("text\n", 1, ""))
+
+
+class Random(unittest.TestCase):
+    def test_the_times_of_a_thread_that_halts(self):
+        """Work up to WORK, sleep up to two periods, not the same again and again; the same seed gives the same times."""
+        thread = tool.Thread("log", 3, 4000, 40000, 2000)
+        first, again, other = (list(itertools.islice(tool.random_times(thread, seed), 500)) for seed in (7, 7, 8))
+        self.assertEqual(first, again)
+        self.assertNotEqual(first, other)
+        self.assertTrue(all(1 <= work <= 2000 and 1 <= sleep <= 80000 for work, sleep in first))
+        self.assertTrue(any(sleep > 40000 for _, sleep in first) and any(sleep < 40000 for _, sleep in first))
+        self.assertGreater(len(set(first)), 490)
+
+    def test_threads_differ(self):
+        threads = [tool.Thread(name, 3, 4000, 40000, 2000) for name in ("log", "logs")]
+        first, second = (list(itertools.islice(tool.random_times(thread, 7), 5)) for thread in threads)
+        self.assertNotEqual(first, second)
+
+
 CAN_NOT_LEAVE_ROOT = 77
 
 
@@ -172,7 +277,7 @@ class Ends(unittest.TestCase):
         def refuse(*_):
             raise tool.NotAllowed("no tracefs")
 
-        def stop(threads, seconds, pause):
+        def stop(threads, seconds, seed, pause):
             os.kill(os.getpid(), signal.SIGTERM)
             pause.wait(10)
 

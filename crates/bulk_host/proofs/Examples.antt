@@ -1,8 +1,8 @@
 -- Hosts of one and of nine guests, worked out by hand. A wrong definition breaks one of these.
 use Rattle.std.proofs.Common.{◌≡◌, [], ◌∷◌, length, false, None, codes, refl}
 use Rattle.slot_model.specs.declared.sched.Sched.TheVariants.{Edf, Rm}
-use Rattle.slot_model.specs.Task.{plain_task, plain_job}
-use Rattle.slot_model.specs.Release.{releases_at, synchronous}
+use Rattle.slot_model.specs.Task.{jittery_task, plain_task, plain_job}
+use Rattle.slot_model.specs.Release.{staggered_at, staggered}
 use Rattle.tree_model.specs.declared.place.Parent.TheVariants.{Core}
 use Rattle.tree_model.specs.System.{part_at}
 use Rattle.tree_model.specs.View.{SystemView}
@@ -36,10 +36,11 @@ cores = refl
 budgets : bulk_budgets 5 ≡ 53 ∷ 106 ∷ 158 ∷ 211 ∷ 53 ∷ []
 budgets = refl
 
--- two tasks of periods of 2 and 3 slots, and their jobs in five
+-- two tasks of periods of 2 and 3 slots, the second with a jitter of 1, and their jobs in five,
+-- each of which is released as it arrives
 small : SystemView
-small = record { cores = []; parts = record { name = codes "g"; parent = Core 0; sched = Edf; period = 2; budget = None; extra = false; tasks = record { name = codes "a"; task = plain_task 2 2 1 } ∷ record { name = codes "b"; task = plain_task 3 3 2 } ∷ [] } ∷ [] }
+small = record { cores = []; parts = record { name = codes "g"; parent = Core 0; sched = Edf; period = 2; budget = None; extra = false; tasks = record { name = codes "a"; task = plain_task 2 2 1 } ∷ record { name = codes "b"; task = jittery_task 3 3 2 1 } ∷ [] } ∷ [] }
 
 jobs_in_five : full_jobs small 5 ≡ (plain_job 0 0 1 ∷ plain_job 1 0 2 ∷ plain_job 0 2 1 ∷ plain_job 1 3 2 ∷ plain_job 0 4 1 ∷ []) ∷ []
-unfolding small releases_at synchronous
+unfolding small staggered_at staggered
 jobs_in_five = refl

@@ -7,7 +7,7 @@ use Rattle.slot_model.specs.declared.job.Job.{Job}
 use Rattle.slot_model.specs.declared.sched.Sched.{Sched}
 use Rattle.slot_model.specs.declared.sched.Sched.TheVariants.{Edf, Rm}
 use Rattle.slot_model.specs.Task.{plain_task}
-use Rattle.slot_model.specs.Release.{synchronous}
+use Rattle.release_pattern.specs.Multiples.{at_multiples}
 use Rattle.tree_model.specs.declared.pinned_core.Core.{Core as CoreView}
 use Rattle.tree_model.specs.declared.place.Parent.TheVariants.{Core}
 use Rattle.tree_model.specs.View.{NamedTask, PartView, SystemView}
@@ -65,4 +65,4 @@ bulk_budgets n = map guest_budget (range_with_len 0 n)
 -- the jobs of each part: every task of a leaf releases a job of full work at each multiple of its
 -- period below a number of slots, and the jobs stand by release and then by task
 abbrev pub full_jobs : SystemView → ℕ → List (List Job)
-full_jobs sys slots = map (λ (part : PartView). synchronous (own_tasks part) 0 slots) sys.parts
+full_jobs sys slots = map (λ (part : PartView). at_multiples (own_tasks part) slots) sys.parts

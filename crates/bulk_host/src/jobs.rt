@@ -1,16 +1,17 @@
 ghost use Rattle.std.specs.Prelude.{◌≡◌, ◌≤◌, length, map, IfOk};
 ghost use Rattle.slot_model.specs.Task.{sporadic_tasks};
-ghost use Rattle.slot_model.specs.Release.{synchronous};
+ghost use Rattle.release_pattern.specs.Multiples.{at_multiples};
 ghost use Rattle.tree_model.specs.System.{own_tasks};
 ghost use Rattle.bulk_host.specs.Host.{full_jobs};
 
-use release_pattern::synchronous_jobs;
+use release_pattern::jobs_at_multiples;
 use slot_model::{Job, Task};
 use std::alloc::{AllocError, Global};
 use tree_model::{Part, System};
 
 /// The jobs of each part in `slots` slots: every task releases a job of full work at each multiple
-/// of its period, and the jobs stand by release and then by task. An inner part has none.
+/// of its period, as it arrives, and the jobs stand by release and then by task. An inner part has
+/// none.
 pub fn bulk_jobs(alloc: Global, sys: &System, slots: u64) -> Result<Vec<Vec<Job>>, AllocError>
     requires { slots ≤ 1000000 }
     ensures { IfOk result (λ jobs. map (λ list. list.items) jobs.items ≡ full_jobs sys.now slots) }
@@ -26,10 +27,10 @@ pub fn bulk_jobs(alloc: Global, sys: &System, slots: u64) -> Result<Vec<Vec<Job>
 fn jobs_of_part(alloc: Global, part: &Part, slots: u64) -> Result<Vec<Job>, AllocError>
     requires few { length part.now.tasks ≤ 256 }
     requires slots { slots ≤ 1000000 }
-    ensures { IfOk result (λ jobs. jobs.items ≡ synchronous (own_tasks part.now) 0 slots) }
+    ensures { IfOk result (λ jobs. jobs.items ≡ at_multiples (own_tasks part.now) slots) }
 {
     let tasks = tasks_of_part(alloc, part)?;
-    synchronous_jobs(alloc, &tasks, 0, slots)
+    jobs_at_multiples(alloc, &tasks, slots)
 }
 
 fn tasks_of_part(alloc: Global, part: &Part) -> Result<Vec<Task>, AllocError>

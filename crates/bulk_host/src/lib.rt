@@ -6,6 +6,3 @@ mod jobs;
 
 pub use host::make_bulk;
 pub use jobs::bulk_jobs;
-
-#[cfg(test)]
-mod tests;

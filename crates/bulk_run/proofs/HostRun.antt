@@ -1,13 +1,15 @@
 -- The run of a generated host: its jobs are legal and few, and each guest's spans are as long as
 -- the run.
-use Rattle.std.proofs.Common.{◌≡◌, ℕ, ◌*◌, ◌/◌, ◌<◌, ◌≤◌, Bool, true, false, List, [], length, get_or, Option, None, sym, ◌∙◌, ap, arith, subst, lit≤}
+use Rattle.std.proofs.Common.{◌≡◌, ℕ, zero, suc, ◌*◌, ◌/◌, ◌<◌, ◌≤◌, Bool, true, false, List, [], length, get_or, Option, None, refl, sym, ◌∙◌, ap, arith, subst, lit≤}
 use Rattle.std.proofs.lemmas.List.{length-map, get_or-map}
 use Rattle.std.proofs.lemmas.List.FromFn.{length-map-range_with_len}
 use Rattle.slot_model.specs.declared.job.Job.{Job}
 use Rattle.slot_model.specs.Task.{SporadicTask, AreConstrained}
 use Rattle.slot_model.specs.Release.{LegalRelease, synchronous}
 use Rattle.slot_model.proofs.Synchronous.{legal_synchronous}
+use Rattle.release_pattern.specs.Multiples.{at_multiples, ArePrompt}
 use Rattle.release_pattern.proofs.FewJobs.{synchronous-few}
+use Rattle.release_pattern.proofs.Prompt.{multiples_synchronous}
 use Rattle.tree_model.specs.declared.pinned_core.Core.{Core as CoreView}
 use Rattle.tree_model.specs.View.{PartView, SystemView}
 use Rattle.tree_model.specs.System.{no_core, no_part, part_at, own_tasks, own_tasks_at, is_leaf, is_leaf_at}
@@ -39,9 +41,17 @@ leaf_here n q l = ap (λ (p : PartView). is_leaf p.tasks) (guest_here n q l)
 pub own_here : (n q : ℕ) → q < n → own_tasks_at (bulk_host n) q ≡ tasks_of (guest_period q)
 own_here n q l = ap own_tasks (guest_here n q l)
 
+-- the tasks of a guest have no jitter
+prompt_of : (period : ℕ) → ArePrompt (tasks_of period)
+prompt_of period zero l = refl
+prompt_of period (suc zero) l = refl
+prompt_of period (suc (suc k)) l = absurd (omega arith)
+
 -- the jobs of a guest
 pub jobs_here : (n q : ℕ) → q < n → jobs_at (bulk_jobs n) q ≡ synchronous (own_tasks_at (bulk_host n) q) 0 bulk_slots
-jobs_here n q l = get_or-map (λ (p : PartView). synchronous (own_tasks p) 0 bulk_slots) (bulk_host n).parts q no_part [] (omega (arith, guests-many n))
+jobs_here n q l =
+    get_or-map (λ (p : PartView). at_multiples (own_tasks p) bulk_slots) (bulk_host n).parts q no_part [] (omega (arith, guests-many n))
+    ∙ multiples_synchronous (own_tasks_at (bulk_host n) q) (subst (λ (ts : List SporadicTask). ArePrompt ts) (sym (own_here n q l)) (prompt_of (guest_period q))) bulk_slots
 
 constrained_here : (n q : ℕ) → q < n → AreConstrained (own_tasks_at (bulk_host n) q)
 constrained_here n q l = subst (λ (ts : List SporadicTask). AreConstrained ts) (sym (own_here n q l)) (constrained_of (guest_period q) (omega arith))
@@ -55,7 +65,7 @@ few_here n q l =
     omega (arith, synchronous-few (own_tasks_at (bulk_host n) q) 0 bulk_slots, ap (λ (js : List Job). length js) (jobs_here n q l), ap (λ (z : ℕ). bulk_slots * z) two)
 
 pub jobs-many : (n : ℕ) → length (bulk_jobs n) ≡ n
-jobs-many n = length-map (bulk_host n).parts (λ (p : PartView). synchronous (own_tasks p) 0 bulk_slots) ∙ guests-many n
+jobs-many n = length-map (bulk_host n).parts (λ (p : PartView). at_multiples (own_tasks p) bulk_slots) ∙ guests-many n
 
 absurd_leaf : (n q : ℕ) → q < n → is_leaf_at (bulk_host n) q ≡ false → jobs_at (bulk_jobs n) q ≡ []
 absurd_leaf n q l e = let t = leaf_here n q l in cc

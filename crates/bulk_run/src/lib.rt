@@ -4,6 +4,3 @@
 mod counts;
 
 pub use counts::{BulkCounts, bulk_counts};
-
-#[cfg(test)]
-mod tests;

@@ -7,6 +7,3 @@ mod text;
 
 pub use making::certify;
 pub use text::print_certificate;
-
-#[cfg(test)]
-mod tests;

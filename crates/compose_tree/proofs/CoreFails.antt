@@ -1,6 +1,6 @@
--- Where the servers of a full core fall short, every permitted run of the tree that is long
--- enough has an early miss there.
-use Rattle.std.proofs.Common.{◌≡◌, ℕ, ◌-◌, ◌%◌, ◌<◌, ◌≤◌, Bool, true, false, List, [], length, get_or, Option, Some, None, sym, ◌∙◌, ap, arith, subst, zero-add, lt-ltb, le-leb, inl, inr}
+-- Where the servers of a core fall short of every slot, every permitted run of the tree that is
+-- long enough has an early miss there, whatever the cores give.
+use Rattle.std.proofs.Common.{◌≡◌, ℕ, ◌-◌, ◌%◌, ◌<◌, ◌≤◌, ◌&&◌, leb, Bool, true, false, List, [], length, get_or, Option, Some, None, sym, ◌∙◌, ap, arith, subst, lt-ltb, le-leb, inl, inr}
 use Rattle.std.proofs.lemmas.Bool.{cases_lt, or_left, or_right, and_from}
 use Rattle.slot_model.specs.declared.job.Job.{Job}
 use Rattle.slot_model.specs.declared.sched.Sched.{Sched}
@@ -13,7 +13,7 @@ use Rattle.slot_model.specs.Task.{SporadicTask, AreConstrained, room_of, task_at
 use Rattle.slot_model.specs.Order.{before_of, fixed_before, ranks_above}
 use Rattle.slot_model.specs.Release.{LegalRelease, synchronous}
 use Rattle.slot_model.specs.Run.{server, PermittedRun}
-use Rattle.slot_model.proofs.FullSupply.{full_laws}
+use Rattle.slot_model.proofs.Runs.{count_below-le}
 use Rattle.slot_model.proofs.WorstPattern.{worst_conforms}
 use Rattle.fp_request.specs.Ranks.{ranks_is_rank}
 use Rattle.least_budget.proofs.Budgets.{gives_less}
@@ -22,7 +22,7 @@ use Rattle.tree_model.specs.View.{SystemView}
 use Rattle.tree_model.specs.System.{IsSystem, IsCoreSupply, core_at, own_tasks_at}
 use Rattle.tree_model.specs.Tree.{CoreConforms, server_tasks, run_at, TreeInputs}
 use Rattle.slot_model.specs.Bound.{shows_by}
-use Rattle.compose_tree.specs.Truth.{MissesBy, CoreMustMiss}
+use Rattle.compose_tree.specs.Truth.{MissesBy, AnyInputs, CoreMustMiss}
 use Rattle.compose_tree.proofs.CoreMisses.{core_edf, core_fixed}
 use Rattle.compose_tree.proofs.Heavier.{FallsShort, IsShortPlace}
 use Rattle.tree_model.proofs.FirstTrees.{listed, listed_long, listed_at}
@@ -71,34 +71,38 @@ some_inputs sys is n =
       },
     )
 
--- a list that is full has as many slots as places
-count_full : (slots : List Bool) (t : ℕ) → IsFull slots → t ≤ length slots → slots_between slots 0 t ≡ t
-count_full slots t full l = subst (λ (z : ℕ). slots_between slots 0 z ≡ t) (zero-add t) (full_laws.worst_is_exact slots t full (omega arith))
+-- such inputs are some over any slots of the cores
+pub any_inputs : (sys : SystemView) (n : ℕ) (supplies : List (List Bool)) (jobs : List (List Job)) → TreeInputs sys n supplies jobs → AnyInputs sys n supplies jobs
+any_inputs sys n supplies jobs h = record {
+  supply_each_core = h.supply_each_core;
+  long = h.long;
+  releases = record { one_each = h.jobs_each_part; legal = h.releases; none = h.none_inner };
+}
 
-fixed_fails : (sched : Sched) (tasks : List SporadicTask) → AreConstrained tasks → (i n : ℕ) → IsShortPlace (ranks_above sched tasks) tasks (λ t. t) i → room_of (task_at tasks i) ≤ n → (slots : List Bool) (run : List (Option ℕ)) → length slots ≡ n → IsFull slots
+-- a list has at most as many slots as places
+count_most : (slots : List Bool) (t : ℕ) → slots_between slots 0 t ≤ t
+count_most slots t = count_below-le (λ x. leb 0 x && get_or slots x false) t
+
+fixed_fails : (sched : Sched) (tasks : List SporadicTask) → AreConstrained tasks → (i n : ℕ) → IsShortPlace (ranks_above sched tasks) tasks (λ t. t) i → room_of (task_at tasks i) ≤ n → (slots : List Bool) (run : List (Option ℕ)) → length slots ≡ n
     → PermittedRun server (fixed_before (ranks_above sched tasks)) tasks (synchronous tasks 0 n) slots run → MissesBy tasks (synchronous tasks 0 n) run (room_of (task_at tasks i))
-fixed_fails sched tasks fits i n short l slots run long full permitted =
+fixed_fails sched tasks fits i n short l slots run long permitted =
     core_fixed (ranks_above sched tasks) (ranks_is_rank sched tasks) tasks fits n slots run long permitted i short.is_task l
-    (λ u some within. omega (arith, count_full slots u full (omega arith), short.short u some within))
+    (λ u some within. omega (arith, count_most slots u, short.short u some within))
 
--- over a full list the servers miss by the moment at which they fall short
-servers_fail : (sched : Sched) (tasks : List SporadicTask) → AreConstrained tasks → (short : Short) (n : ℕ) → FallsShort sched tasks (λ t. t) short → shows_by tasks short ≤ n → (slots : List Bool) (run : List (Option ℕ)) → length slots ≡ n → IsFull slots
+-- over any list the servers that fall short of every slot miss by the moment at which they do
+servers_fail : (sched : Sched) (tasks : List SporadicTask) → AreConstrained tasks → (short : Short) (n : ℕ) → FallsShort sched tasks (λ t. t) short → shows_by tasks short ≤ n → (slots : List Bool) (run : List (Option ℕ)) → length slots ≡ n
     → PermittedRun server (before_of sched tasks) tasks (synchronous tasks 0 n) slots run → MissesBy tasks (synchronous tasks 0 n) run (shows_by tasks short)
-servers_fail Edf tasks fits (At t) n short l slots run long full permitted = core_edf (before_of Edf tasks) tasks fits t n slots run l long permitted (omega (arith, count_full slots t full (omega arith), short))
-servers_fail Edf tasks fits (Task i) n short l slots run long full permitted = absurd short
-servers_fail rule tasks fits (At t) n short l slots run long full permitted = absurd short
-servers_fail rule tasks fits (Task i) n short l slots run long full permitted = fixed_fails rule tasks fits i n short l slots run long full permitted
+servers_fail Edf tasks fits (At t) n short l slots run long permitted = core_edf (before_of Edf tasks) tasks fits t n slots run l long permitted (omega (arith, count_most slots t, short))
+servers_fail Edf tasks fits (Task i) n short l slots run long permitted = absurd short
+servers_fail rule tasks fits (At t) n short l slots run long permitted = absurd short
+servers_fail rule tasks fits (Task i) n short l slots run long permitted = fixed_fails rule tasks fits i n short l slots run long permitted
 
-full_conforms : (supply : Option (ℕ × ℕ)) (slots : List Bool) → supply ≡ None → CoreConforms supply slots → IsFull slots
-full_conforms None slots e h = h
-full_conforms (Some supply) slots e h = cc
-
--- a full core whose servers fall short must miss
-pub core_fails : (sys : SystemView) → IsSystem sys → (budgets : List ℕ) (c : ℕ) → c < length sys.cores → (core_at sys c).supply ≡ None → AreConstrained (server_tasks sys budgets (Core c))
+-- a core whose servers fall short of every slot must miss, whatever it gives
+pub core_fails : (sys : SystemView) → IsSystem sys → (budgets : List ℕ) (c : ℕ) → c < length sys.cores → AreConstrained (server_tasks sys budgets (Core c))
     → (short : Short) → FallsShort (core_at sys c).sched (server_tasks sys budgets (Core c)) (λ t. t) short → (n : ℕ) → shows_by (server_tasks sys budgets (Core c)) short ≤ n → CoreMustMiss sys budgets c (shows_by (server_tasks sys budgets (Core c)) short) n
-core_fails sys is budgets c h full fits short falls n l = record {
+core_fails sys is budgets c h fits short falls n l = record {
   some_inputs = some_inputs sys is n;
   some_run = λ supplies jobs inputs. tree_exists sys budgets n supplies jobs is;
   misses = λ supplies jobs core_runs part_runs inputs tree.
-      servers_fail (core_at sys c).sched (server_tasks sys budgets (Core c)) fits short n falls l (get_or supplies c []) (run_at core_runs c) (inputs.long c h) (full_conforms (core_at sys c).supply (get_or supplies c []) full (inputs.conforms c h)) (tree.cores c h);
+      servers_fail (core_at sys c).sched (server_tasks sys budgets (Core c)) fits short n falls l (get_or supplies c []) (run_at core_runs c) (inputs.long c h) (tree.cores c h);
 }

@@ -99,7 +99,7 @@ core_choice_fails sys is c short refused flat budgets chosen pass =
     heavier_falls (core_at sys c).sched (server_tasks sys refused.budgets (Core c)) (server_tasks sys budgets (Core c)) (heavier_children sys refused.budgets budgets no_less (Core c) (length sys.parts) (omega arith)) (λ t. t) short
     (core_falls sys c short (core_at sys c).supply full (server_tasks sys refused.budgets (Core c)) refused.cause.1) in
     at_core c (shows_by (server_tasks sys budgets (Core c)) short) (shows_by (server_tasks sys budgets (Core c)) short) refused.is_node
-    (core_fails sys is budgets c refused.is_node full (servers_constrained sys budgets (Core c) (λ q h child. chosen_in_period sys is budgets chosen q h)) short falls (shows_by (server_tasks sys budgets (Core c)) short) (omega arith))
+    (core_fails sys is budgets c refused.is_node (servers_constrained sys budgets (Core c) (λ q h child. chosen_in_period sys is budgets chosen q h)) short falls (shows_by (server_tasks sys budgets (Core c)) short) (omega arith))
 
 -- a refused leaf must miss under every choice
 leaf_choice_fails : (sys : SystemView) (budgets : List ℕ) (q : ℕ) → q < length sys.parts → (given : Option ℕ) → LeafIsOverfull sys q given → IsChosen (part_at sys q).period given (budget_at budgets q) → ChoiceFails sys budgets
@@ -117,7 +117,7 @@ refusal_holds sys is (Overfull (Core c) short) refused = record {
     budgets = refused.budgets;
     settled = refused.settled;
     misses = λ n l.
-        core_fails sys is refused.budgets c refused.is_node full (servers_constrained sys refused.budgets (Core c) (λ q h child. assigned_in_period sys is refused.budgets 0 refused.settled.assigned q (omega arith) h)) short
+        core_fails sys is refused.budgets c refused.is_node (servers_constrained sys refused.budgets (Core c) (λ q h child. assigned_in_period sys is refused.budgets 0 refused.settled.assigned q (omega arith) h)) short
         (core_falls sys c short (core_at sys c).supply full (server_tasks sys refused.budgets (Core c)) refused.cause.1) n l;
   };
   choices = λ flat budgets chosen. elim (leaves_pass_or_fail sys is budgets chosen (length sys.parts) (omega arith)) [

@@ -1,6 +1,6 @@
 -- Worked examples of what a plan and a refusal say. A wrong end of a range, or a part left out,
 -- breaks one of them.
-use Rattle.std.proofs.Common.{◌≡◌, ℕ, zero, suc, ◌<◌, ◌≤◌, true, false, List, [], ◌∷◌, length, Option, Some, None, refl, arith, sym, subst}
+use Rattle.std.proofs.Common.{◌≡◌, ℕ, zero, suc, ◌<◌, ◌≤◌, Bool, true, false, List, [], ◌∷◌, length, get_or, Option, Some, None, refl, arith, sym, subst}
 use Rattle.std.proofs.lemmas.Bool.{false≢true}
 use Rattle.std.proofs.lemmas.Option.{none-some}
 use Rattle.slot_model.specs.Slots.{sum_below}
@@ -17,10 +17,11 @@ use Rattle.tree_model.specs.declared.place.Place.TheVariants.{Core, Part}
 use Rattle.tree_model.specs.declared.plan.Refusal.TheVariants.{Overfull}
 use Rattle.tree_model.specs.View.{SystemView, NamedTask}
 use Rattle.tree_model.specs.System.{core_at, part_at, is_leaf, is_leaf_at}
-use Rattle.tree_model.specs.Tree.{budget_at, server_tasks, server_jobs, started_jobs, run_at, NoLoss}
+use Rattle.tree_model.specs.Tree.{budget_at, server_tasks, server_jobs, started_jobs, run_at, PermittedTree, NoLoss}
 use Rattle.tree_model.proofs.StartedTrees.{jobs_at_zero, started_of_permitted}
 use Rattle.slot_model.specs.Bound.{shows_by}
-use Rattle.compose_tree.specs.Truth.{LeafMustMiss, IsTight, LeafIsOverfull, MissesBy, CoreMustMiss, CoreIsOverfull, IsFlat, IsChosen, RefusalHolds}
+use Rattle.compose_tree.proofs.CoreFails.{any_inputs}
+use Rattle.compose_tree.specs.Truth.{LeafMustMiss, IsTight, LeafIsOverfull, MissesBy, AnyInputs, CoreMustMiss, CoreIsOverfull, IsFlat, IsChosen, RefusalHolds}
 
 -- an open budget of a period of 10 is a choice from 1 to 10, and a given one is no choice
 one_slot_is_a_choice : IsChosen 10 None 1
@@ -113,12 +114,18 @@ an_overfull_core_misses_in_the_shortest_run sys c short o = o.misses (shows_by (
 a_core_that_must_miss_loses_a_job : (sys : SystemView) (budgets : List ℕ) (c t n : ℕ) → c < length sys.cores → AreConstrained (server_tasks sys budgets (Core c)) → CoreMustMiss sys budgets c t n → NoLoss sys budgets → ⊥
 a_core_that_must_miss_loses_a_job sys budgets c t n h fits must none =
     let inputs = must.some_inputs in
-    let run = must.some_run inputs.0 inputs.1 inputs.2 in
-    let miss : MissesBy (server_tasks sys budgets (Core c)) (server_jobs sys budgets (Core c) n) (run_at run.0 c) t = must.misses inputs.0 inputs.1 run.0 run.1 inputs.2 run.2 in
+    let any = any_inputs sys n inputs.0 inputs.1 inputs.2 in
+    let run = must.some_run inputs.0 inputs.1 any in
+    let miss : MissesBy (server_tasks sys budgets (Core c)) (server_jobs sys budgets (Core c) n) (run_at run.0 c) t = must.misses inputs.0 inputs.1 run.0 run.1 any run.2 in
     let legal : LegalRelease (server_tasks sys budgets (Core c)) (server_jobs sys budgets (Core c) n) = legal_synchronous (server_tasks sys budgets (Core c)) fits 0 n in
     let same : started_jobs sys budgets [] (Core c) n ≡ server_jobs sys budgets (Core c) n = jobs_at_zero sys budgets [] (Core c) n (λ q. refl) in
     (none.keeps [] n inputs.0 inputs.1 run.0 run.1 inputs.2 (started_of_permitted sys budgets [] n inputs.0 inputs.1 run.0 run.1 (λ q. refl) run.2)).cores c h miss.job (deadline_of (server_tasks sys budgets (Core c)) (job_at (server_jobs sys budgets (Core c) n) miss.job))
     (subst (λ (jobs : List Job). Lost (server_tasks sys budgets (Core c)) jobs (run_at run.0 c) miss.job (deadline_of (server_tasks sys budgets (Core c)) (job_at (server_jobs sys budgets (Core c) n) miss.job))) (sym same) (missed_is_lost (server_tasks sys budgets (Core c)) (server_jobs sys budgets (Core c) n) (run_at run.0 c) miss.job (omega (arith, legal.in_jitter miss.job miss.missed.is_job, (fits _ (legal.named miss.job miss.missed.is_job)).in_deadline)) miss.missed))
+
+-- it misses also where the core gives no slot
+it_misses_without_a_slot : (sys : SystemView) (budgets : List ℕ) (c t n : ℕ) → CoreMustMiss sys budgets c t n → (supplies : List (List Bool)) (jobs : List (List Job)) (core_runs part_runs : List (List (Option ℕ))) → AnyInputs sys n supplies jobs
+    → ((x : ℕ) → get_or (get_or supplies c []) x false ≡ false) → PermittedTree sys budgets n supplies jobs core_runs part_runs → MissesBy (server_tasks sys budgets (Core c)) (server_jobs sys budgets (Core c) n) (run_at core_runs c) t
+it_misses_without_a_slot sys budgets c t n must supplies jobs core_runs part_runs any none tree = must.misses supplies jobs core_runs part_runs any tree
 
 -- a refusal speaks of the node that it names
 the_second_core_is_overfull : (sys : SystemView) (short : Short) → RefusalHolds sys (Overfull (Core 1) short) → (core_at sys 1).supply ≡ None → CoreIsOverfull sys 1 short

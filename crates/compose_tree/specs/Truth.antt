@@ -1,5 +1,5 @@
 -- What a plan and a refusal say of every supply and every release.
-use Rattle.std.specs.Prelude.{◌≡◌, ℕ, ◌<◌, ◌≤◌, Bool, true, List, length, Option, Some, None}
+use Rattle.std.specs.Prelude.{◌≡◌, ℕ, ◌<◌, ◌≤◌, Bool, true, List, [], length, slice_index_or, Option, Some, None}
 use Rattle.slot_model.specs.declared.job.Job.{Job}
 use Rattle.slot_model.specs.declared.sched.Short.{Short}
 use Rattle.slot_model.specs.Supply.{GivesBudget}
@@ -13,6 +13,7 @@ use Rattle.tree_model.specs.declared.plan.Refusal.TheVariants.{Overfull, Wide, N
 use Rattle.tree_model.specs.View.{SystemView}
 use Rattle.tree_model.specs.System.{core_at, part_at, own_tasks_at, is_leaf_at}
 use Rattle.tree_model.specs.Tree.{budget_at, server_tasks, server_jobs, run_at, PermittedTree, HasTreeRun, TreeInputs}
+use Rattle.tree_model.specs.Releases.{AreReleases}
 use Rattle.tree_model.specs.Admission.{SettledBefore}
 
 -- under this budget some supply that gives it and some legal release make a job of leaf q miss in
@@ -40,15 +41,23 @@ pub record MissesBy (tasks : List SporadicTask) (jobs : List Job) (run : List (O
   pub missed : Missed tasks jobs run job
   pub by : deadline_of tasks (job_at jobs job) ≤ t
 
--- in n slots: inputs exist, over all inputs a permitted run of the tree exists, and in every one
--- a job of core c misses by t
+-- what comes from outside, whatever the cores give: for each core any list of n slots, for each
+-- leaf a legal release
+pub record AnyInputs (sys : SystemView) (n : ℕ) (supplies : List (List Bool))
+    (jobs : List (List Job)) : Type 0 where
+  pub supply_each_core : length supplies ≡ length sys.cores
+  pub long : (c : ℕ) → c < length sys.cores → length (slice_index_or supplies c []) ≡ n
+  pub releases : AreReleases sys jobs
+
+-- in n slots: inputs exist that are as the file says, over any slots of the cores a permitted run
+-- of the tree exists, and in every one a job of core c misses by t
 pub record CoreMustMiss (sys : SystemView) (budgets : List ℕ) (c t n : ℕ) : Type 0 where
   pub some_inputs : (supplies : List (List Bool)) × (jobs : List (List Job)) ×
       TreeInputs sys n supplies jobs
   pub some_run : (supplies : List (List Bool)) (jobs : List (List Job)) →
-      TreeInputs sys n supplies jobs → HasTreeRun sys budgets n supplies jobs
+      AnyInputs sys n supplies jobs → HasTreeRun sys budgets n supplies jobs
   pub misses : (supplies : List (List Bool)) (jobs : List (List Job))
-      (core_runs part_runs : List (List (Option ℕ))) → TreeInputs sys n supplies jobs →
+      (core_runs part_runs : List (List (Option ℕ))) → AnyInputs sys n supplies jobs →
       PermittedTree sys budgets n supplies jobs core_runs part_runs →
       MissesBy (server_tasks sys budgets (Core c)) (server_jobs sys budgets (Core c) n)
       (run_at core_runs c) t

@@ -9,6 +9,3 @@ mod recomposition;
 pub use assignment::assign;
 pub use budgets::compose;
 pub use recomposition::recompose;
-
-#[cfg(test)]
-mod tests;

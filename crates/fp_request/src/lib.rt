@@ -7,8 +7,6 @@ mod by_terms;
 mod fixed;
 mod rank;
 mod request_bound;
-#[cfg(test)]
-mod tests;
 
 pub use by_terms::{Above, gather, gather_above, request_by};
 pub use fixed::Fixed;

@@ -6,8 +6,6 @@
 
 mod fall;
 mod hits;
-#[cfg(test)]
-mod tests;
 
 pub use fall::falls;
 pub use hits::{hit, hit_by};

@@ -8,6 +8,3 @@ mod witnesses;
 pub use defeat::Defeat;
 pub use jobs::witness_jobs;
 pub use witnesses::witness;
-
-#[cfg(test)]
-mod tests;

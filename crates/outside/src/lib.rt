@@ -21,6 +21,3 @@ pub use sink::{Sink, SinkFault};
 pub use stdout_sink::StdoutSink;
 pub use store::{Store, StoreFault};
 pub use write::{WriteFault, write_all};
-
-#[cfg(test)]
-mod tests;

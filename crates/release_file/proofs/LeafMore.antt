@@ -144,13 +144,12 @@ last_more jobs job last t l h = elim (cases_eq t job.task) [
   | inr ne ↦ subst (IsLast (jobs ++ job ∷ []) t) (sym (get_or-set_other last job.task t (Some job) None ne)) (last_kept jobs job t (last_of last t) (λ e. ne (sym e)) h)
 ]
 
-pub leaf_more : (a b : LeafRows) (job : Job) → IsLeaf a → fits_task (own_tasks a.part.now) job ≡ true → is_too_early (own_tasks a.part.now) a.jobs.items job ≡ false → length a.jobs.items < 4294967295
+pub leaf_more : (a b : LeafRows) (job : Job) → IsLeaf a → fits_task (own_tasks a.part.now) job ≡ true → is_too_early (own_tasks a.part.now) a.jobs.items job ≡ false
     → b.part ≡ a.part → b.names ≡ a.names → b.jobs.items ≡ a.jobs.items ++ job ∷ [] → b.last.items ≡ set a.last.items job.task (Some job) → IsLeaf b
-leaf_more a b job h fits apart few part names jobs last = record {
+leaf_more a b job h fits apart part names jobs last = record {
   part = subst (λ z. IsPart z.now) (sym part) h.part;
   names = names ∙ (h.names ∙ ap (λ z. task_names z.now.tasks) (sym part));
   legal = subst (λ z. LegalRelease (own_tasks z.now) b.jobs.items) (sym part) (subst (λ (js : List Job). LegalRelease (own_tasks a.part.now) js) (sym jobs) (legal_more (own_tasks a.part.now) a.jobs.items job h.legal fits apart));
-  few = omega (arith, few, ap (λ (js : List Job). length js) jobs, length_more a.jobs.items job);
   room = ap (λ (z : List (Option Job)). length z) last ∙ (length-set a.last.items job.task (Some job) ∙ (h.room ∙ ap (λ z. length z.now.tasks) (sym part)));
   last = λ t l.
       let m : t < length a.part.now.tasks = omega (arith, l, ap (λ z. length z.now.tasks) part) in

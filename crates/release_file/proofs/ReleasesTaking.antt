@@ -1,15 +1,19 @@
 -- One row of a release file more.
 use Rattle.std.proofs.Common.{◌≡◌, ℕ, ◌+◌, ◌-◌, ◌<◌, ◌≤◌, nat_lt, Bool, true, false, not, cond, eqb, List, [], ◌∷◌, ◌++◌, length, get_or, set, map, Option, Some, None, refl, sym, ◌∙◌, ap, subst, arith, inl, inr, option_map, replicate}
 use Rattle.std.specs.Prelude.{position, unwrap_or, bytes_eq}
-use Rattle.std.specs.List.{filter}
+use Rattle.std.specs.List.{filter, count_by}
 use Rattle.std.proofs.lemmas.Bool.{cases_eq, eq-eqb, ne_eqb, le-ltb, false≢true}
 use Rattle.std.proofs.lemmas.List.{get_or_append_left, get_or_default, get_or-map, get_or-set_same, get_or-set_other, length-set, length-map, map-append, append-nil, get_or-replicate, length-replicate}
 use Rattle.std.proofs.lemmas.List.Elements.{filter-append}
+use Rattle.std.proofs.lemmas.List.Sums.{length-filter, sum_by-cons}
+use Rattle.std.proofs.lemmas.Option.{same_Some, none-some}
 use Rattle.std.proofs.Math.Seq.{get_or-append_seam}
 use Rattle.slot_model.specs.declared.job.Job.{Job}
 use Rattle.slot_model.specs.declared.task.TheConstants.{LIMIT}
 use Rattle.slot_model.specs.Task.{SporadicTask, default_job, early_job}
 use Rattle.slot_model.specs.Release.{LegalRelease}
+use Rattle.csv_rows.specs.Reading.{records_of}
+use Rattle.csv_rows.proofs.Consuming.{few_records}
 use Rattle.csv_rows.specs.Decimal.{number}
 use Rattle.csv_rows.specs.Rules.{row_of, fault_if, RowsKeep, IsFirstFault}
 use Rattle.csv_rows.proofs.Keeping.{length_more, fault_skipped}
@@ -32,7 +36,6 @@ no_leaf leaf part names jobs last = record {
   part = part;
   names = names;
   legal = subst (LegalRelease (own_tasks leaf.part.now)) (sym jobs) (record { named = λ j l. absurd (omega arith); works = λ j l. absurd (omega arith); in_work = λ j l. absurd (omega arith); in_jitter = λ j l. absurd (omega arith); apart = λ i j l m. absurd (omega arith) });
-  few = omega (arith, ap (λ (js : List Job). length js) jobs);
   room = ap (λ (z : List (Option Job)). length z) last ∙ none_long (length leaf.part.now.tasks);
   last = λ t l. subst (IsLast leaf.jobs.items t) (sym (ap (λ (z : List (Option Job)). last_of z t) last ∙ get_or-replicate {A = Option Job} (length leaf.part.now.tasks) t None None l)) (λ i m. absurd (omega (arith, m, ap (λ (js : List Job). length js) jobs)));
 }
@@ -218,9 +221,29 @@ legal_all sys records s t version jobs h is = record {
         let of = subst (IsLeafOf sys (releases_of sys version h.read) q) (sym is_there) (h.leaves q leaf l) in
         subst (LegalRelease (own_tasks_at sys q)) (sym at) (subst (λ (p : PartView). LegalRelease (own_tasks p) leaf.jobs.items) of.part_is of.leaf_is.legal)
 
-pub few_all : (sys : SystemView) (records : List (List (List ℕ))) (s t : ReleaseRows) (version : Version) (jobs : List (List Job)) → HasReadReleases sys records s t version → jobs ≡ map (λ (l : LeafRows). l.jobs.items) t.leaves.items → (q : ℕ) → q < length sys.parts → length (jobs_at jobs q) < 4294967296
-few_all sys records s t version jobs h is q l =
-    let (leaf, at, is_there) = jobs_there t.leaves.items jobs q is (omega (arith, l, h.one_each)) in
-    let of = subst (IsLeafOf sys (releases_of sys version h.read) q) (sym is_there) (h.leaves q leaf l) in
-    let few = of.leaf_is.few in
-    omega (arith, few, ap (λ (js : List Job). length js) at)
+-- a part has no more jobs than there are rows, and they are fewer than the records
+few_jobs : (q : ℕ) (rows : List Release) → length (jobs_of q rows) ≤ length rows
+few_jobs q rows =
+    let here : Release → Bool = λ r. eqb r.part q in
+    omega (arith, length-map (filter here rows) (λ (r : Release). r.job), length-filter here rows, count_le here rows)
+  where
+    one : (b : Bool) → cond b 1 0 ≤ 1
+    one true = omega arith
+    one false = omega arith
+
+    count_le : (p : Release → Bool) (rs : List Release) → count_by p rs ≤ length rs
+    count_le p [] = omega arith
+    count_le p (r ∷ rs) = omega (arith, sum_by-cons (λ (x : Release). cond (p x) 1 0) r rs, one (p r), count_le p rs)
+
+rows_told : (rows read : List (List (List ℕ))) (version : Version) (o : Option Version) → option_map {U = Version × List (List (List ℕ))} (λ (v : Version). (v, rows)) o ≡ Some (version, read) → read ≡ rows
+rows_told rows read version None e = absurd (none-some (version, read) e)
+rows_told rows read version (Some v) e = ap (λ (p : Version × List (List (List ℕ))). p.1) (sym (same_Some (v, rows) (version, read) e))
+
+few_rows : (records read : List (List (List ℕ))) (version : Version) → release_rows records ≡ Some (version, read) → length read + 1 ≤ length records
+few_rows [] read version e = absurd (none-some (version, read) e)
+few_rows (header ∷ rows) read version e = omega (arith, ap (λ (z : List (List (List ℕ))). length z) (rows_told rows read version (header_version header) e))
+
+pub few_all : (sys : SystemView) (text : List ℕ) (jobs : List (List Job)) → SpellsReleases sys (records_of text) jobs → (q : ℕ) → q < length sys.parts → length (jobs_at jobs q) ≤ length text
+few_all sys text jobs h q l =
+    let rows = releases_of sys h.version h.rows in
+    omega (arith, few_records text, few_rows (records_of text) h.rows h.version h.header, few_jobs q rows, length-map h.rows (λ (row : List (List ℕ)). release_of sys (all_fields h.version row)), ap (λ (js : List Job). length js) (h.jobs_are q l))

@@ -1,5 +1,5 @@
 -- What is kept of the rows of a release file that were read.
-use Rattle.std.specs.Prelude.{◌≡◌, ◌≢◌, ℕ, ◌+◌, ◌^◌, ◌<◌, ◌≤◌, Bool, false, ◌&&◌, nat_lt, nat_le, List, [], ◌∷◌, length, slice_index_or, Option, Some, None}
+use Rattle.std.specs.Prelude.{◌≡◌, ◌≢◌, ℕ, ◌+◌, ◌<◌, ◌≤◌, Bool, false, ◌&&◌, nat_lt, nat_le, List, [], ◌∷◌, length, slice_index_or, Option, Some, None}
 use Rattle.slot_model.specs.declared.job.Job.{Job}
 use Rattle.slot_model.specs.Task.{SporadicTask, early_job, job_at}
 use Rattle.csv_rows.specs.Decimal.{number}
@@ -51,7 +51,6 @@ pub record IsLeaf (leaf : LeafRows) : Type 0 where
   pub part : IsPart leaf.part.now
   pub names : leaf.names ≡ task_names leaf.part.now.tasks
   pub legal : LegalRelease (own_tasks leaf.part.now) leaf.jobs.items
-  pub few : length leaf.jobs.items < 2 ^ 32
   pub room : length leaf.last.items ≡ length leaf.part.now.tasks
   pub last : (t : ℕ) → t < length leaf.part.now.tasks →
       IsLast leaf.jobs.items t (last_of leaf.last.items t)

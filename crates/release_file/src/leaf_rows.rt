@@ -13,9 +13,6 @@ use std::alloc::{AllocError, Global};
 use trace_file::Places;
 use tree_model::{Named, Part};
 
-/// The most jobs of a part. A file of the longest that is read has fewer rows.
-const MOST_JOBS: usize = 4_294_967_295;
-
 /// The jobs of a part so far.
 #[derive(Drop)]
 pub struct LeafRows<'s> {
@@ -103,9 +100,6 @@ impl<'s> LeafRows<'s> {
     {
         if follows_too_soon(period, job, self.last[job.task as usize]) {
             return Err(ReleaseFault::TooEarly(row));
-        }
-        if self.jobs.len() >= MOST_JOBS {
-            return Err(ReleaseFault::NoMemory);
         }
         if self.jobs.push(job).is_err() {
             return Err(ReleaseFault::NoMemory);

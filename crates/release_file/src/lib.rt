@@ -15,6 +15,3 @@ pub use fault::ReleaseFault;
 pub use release_reading::read_releases;
 pub use workload::{Wake, WakeKind};
 pub use workload_reading::read_workload;
-
-#[cfg(test)]
-mod tests;

@@ -1,5 +1,5 @@
-ghost use Rattle.std.specs.Prelude.{◌≡◌, ◌⊎◌, ◌∷◌, [], ◌<◌, ◌^◌, List, ℕ, Some, None, IfOk, IfErr, length, map};
-ghost use Rattle.csv_rows.specs.Reading.{HasRead, records_of};
+ghost use Rattle.std.specs.Prelude.{◌≡◌, ◌⊎◌, ◌∷◌, [], ◌<◌, ◌≤◌, List, ℕ, Some, None, IfOk, IfErr, OnOk, length, map};
+ghost use Rattle.csv_rows.specs.Reading.{HasRead, IsOpen, records_of};
 ghost use Rattle.tree_model.specs.Releases.{AreReleases, jobs_at};
 ghost use Rattle.release_file.specs.declared.fault.ReleaseFault.TheVariants.{BadHeader, NoMemory};
 ghost use Rattle.release_file.specs.ReleaseFile.{SpellsReleases, IsReleasesFault, header_version, release_rows};
@@ -14,12 +14,14 @@ use tree_model::System;
 
 /// The version that the header of a release file tells.
 fn read_header(records: &mut Records) -> Result<Version, ReleaseFault>
+    requires { IsOpen records.old }
     ensures version { (text : List ℕ) → HasRead text [] records.old
         → IfOk result (λ version. (header : List (List ℕ))
         × (header_version header ≡ Some version) × HasRead text (header ∷ []) records.new) }
     ensures fault { (text : List ℕ) → HasRead text [] records.old
         → IfErr result (λ fault. (fault ≡ NoMemory)
         ⊎ ((fault ≡ BadHeader) × (release_rows (records_of text) ≡ None))) }
+    ensures takes_any { OnOk result (IsOpen records.new) }
 {
     match records.advance() {
         Ok(true) => {}
@@ -43,7 +45,7 @@ pub fn read_releases(
         SpellsReleases sys.now (records_of bytes.now) (map (λ js. js.items) jobs.items)) }
     ensures legal { IfOk result (λ jobs. AreReleases sys.now (map (λ js. js.items) jobs.items)) }
     ensures few { IfOk result (λ jobs. (q : ℕ) → q < length sys.now.parts
-        → length (jobs_at (map (λ js. js.items) jobs.items) q) < 2 ^ 32) }
+        → length (jobs_at (map (λ js. js.items) jobs.items) q) ≤ length bytes.now) }
     ensures fault { IfErr result (λ fault. (fault ≡ NoMemory)
         ⊎ IsReleasesFault sys.now (release_rows (records_of bytes.now)) fault) }
 {

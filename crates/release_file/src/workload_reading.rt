@@ -1,5 +1,5 @@
-ghost use Rattle.std.specs.Prelude.{◌≡◌, ◌⊎◌, ◌∷◌, [], List, ℕ, true, None, IfOk, IfErr};
-ghost use Rattle.csv_rows.specs.Reading.{HasRead, records_of};
+ghost use Rattle.std.specs.Prelude.{◌≡◌, ◌⊎◌, ◌∷◌, [], List, ℕ, true, None, IfOk, IfErr, OnOk};
+ghost use Rattle.csv_rows.specs.Reading.{HasRead, IsOpen, records_of};
 ghost use Rattle.release_file.specs.declared.fault.ReleaseFault.TheVariants.{BadHeader, NoMemory};
 ghost use Rattle.release_file.specs.Workload.{IsWorkload};
 ghost use Rattle.release_file.specs.WorkloadFile.{SpellsWorkload, IsWorkloadFault, is_wake_header, wake_rows};
@@ -13,12 +13,14 @@ use tree_model::System;
 
 /// The header of a workload.
 fn read_header(records: &mut Records) -> Result<(), ReleaseFault>
+    requires { IsOpen records.old }
     ensures header { (text : List ℕ) → HasRead text [] records.old
         → IfOk result (λ done. (header : List (List ℕ)) × (is_wake_header header ≡ true)
         × HasRead text (header ∷ []) records.new) }
     ensures fault { (text : List ℕ) → HasRead text [] records.old
         → IfErr result (λ fault. (fault ≡ NoMemory)
         ⊎ ((fault ≡ BadHeader) × (wake_rows (records_of text) ≡ None))) }
+    ensures takes_any { OnOk result (IsOpen records.new) }
 {
     match records.advance() {
         Ok(true) => {}

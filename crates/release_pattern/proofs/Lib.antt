@@ -2,3 +2,4 @@ mod FewTasks
 pub mod Moments
 pub mod Dues
 pub mod FewJobs
+pub mod Prompt

@@ -1,10 +1,9 @@
 //! The releases that ask for the most: every task releases at one moment, and then as its jobs
-//! arrive.
+//! arrive. And the jobs at each multiple of the periods.
 #![tactic(auto)]
 
 mod jobs;
+mod multiples;
 
 pub use jobs::synchronous_jobs;
-
-#[cfg(test)]
-mod tests;
+pub use multiples::jobs_at_multiples;

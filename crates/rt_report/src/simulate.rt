@@ -3,7 +3,7 @@ ghost use Rattle.tree_model.specs.declared.place.Place.TheVariants.{Core as core
 ghost use Rattle.tree_model.specs.Tree.{IsNode};
 ghost use Rattle.tree_model.specs.Plans.{IsPlan};
 ghost use Rattle.tree_model.specs.Releases.{AreReleases, jobs_at};
-ghost use Rattle.tree_model.specs.FirstTree.{FirstTree};
+ghost use Rattle.server_sched.specs.Shapes.{TreeHolds};
 ghost use Rattle.rt_report.specs.Simulate.{first_line, counts_line, counts_lines, verdict_line, simulate_text, slots_told, IsTextOfRun};
 
 use crate::missed::push_missed;
@@ -27,8 +27,9 @@ pub fn counts_text(alloc: Global, sys: &System, counts: &TreeCounts) -> Result<V
     Ok(text.into_bytes())
 }
 
-/// The same of the first run of a tree that stands slot by slot, as `run_tree` answers it over
-/// these jobs and these lists of slots, one a core.
+/// The same of a run of a tree that stands slot by slot, over these jobs and these lists of slots,
+/// one a core. It may be any run of that shape that holds jobs which are released, as `run_tree`
+/// answers one.
 pub fn simulate_text(
     alloc: Global,
     sys: &System,
@@ -43,8 +44,8 @@ pub fn simulate_text(
     requires short { slots_told (map (λ g. g.items) given.now) ≤ 1000000 }
     requires few { (q : ℕ) → q < length sys.now.parts →
         length (jobs_at (map (λ j. j.items) jobs.now) q) < 2 ^ 32 }
-    requires first { let supplies = map (λ g. g.items) given.now in
-        FirstTree sys.now plan.now (slots_told supplies) supplies
+    requires holds { let supplies = map (λ g. g.items) given.now in
+        TreeHolds sys.now plan.now (slots_told supplies) supplies
         (map (λ j. j.items) jobs.now) run.now.cores run.now.parts }
     ensures { IfOk result (λ text. IsTextOfRun sys.now plan.now (map (λ g. g.items) given.now)
         (map (λ j. j.items) jobs.now) run.now.cores run.now.parts text.items) }

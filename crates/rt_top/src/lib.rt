@@ -10,19 +10,13 @@ mod check;
 mod command;
 mod file;
 mod guests;
-#[cfg(test)]
-mod jitter_tests;
 mod refusing;
 mod replays;
 mod rtds;
 mod simulate;
 mod slot_words;
 mod slots;
-#[cfg(test)]
-mod spans_tests;
 mod status;
-#[cfg(test)]
-mod tests;
 mod top;
 mod two_files;
 

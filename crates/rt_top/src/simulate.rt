@@ -1,9 +1,10 @@
-ghost use Rattle.std.specs.Prelude.{◌≡◌, ◌⊎◌, ℕ, ◌^◌, ◌<◌, Some, length, map, IfOk, IfErr};
+ghost use Rattle.std.specs.Prelude.{◌≡◌, ◌⊎◌, ℕ, ◌^◌, ◌<◌, ◌≤◌, Some, length, map, IfOk, IfErr};
 ghost use Rattle.csv_rows.specs.Reading.{records_of};
 ghost use Rattle.tree_model.specs.Plans.{IsPlan};
 ghost use Rattle.tree_model.specs.System.{IsSystem};
 ghost use Rattle.tree_model.specs.Releases.{AreReleases, jobs_at};
 ghost use Rattle.release_file.specs.ReleaseFile.{SpellsReleases};
+ghost use Rattle.rt_top.specs.Answer.{file_limit};
 ghost use Rattle.rt_top.specs.Attempt.{IsRefused};
 ghost use Rattle.rt_top.specs.Simulate.{releasing, kept_status, IsSimulated, SimulatesBytes};
 ghost use Rattle.rt_top.specs.Command.{simulate};
@@ -52,6 +53,7 @@ fn judge(
     slots: Slots,
 ) -> Result<Answer, Ending>
     requires system { IsSystem sys.now }
+    requires short { length bytes.now ≤ file_limit }
     ensures answer { IfAnswered (ending_of result) (λ a.
         SimulatesBytes pattern slots.count sys.now bytes.now a.status a.text.items) }
     ensures judged { EndsJudged (ending_of result) }
@@ -63,6 +65,7 @@ fn judge(
 
 // The jobs that the bytes of the second file word spell. It stops where they are refused.
 fn spelled_releases(alloc: Global, sys: &System, bytes: &[u8]) -> Result<Vec<Vec<Job>>, Ending>
+    requires { length bytes.now ≤ file_limit }
     ensures spelled { IfOk result (λ jobs.
         SpellsReleases sys.now (records_of bytes.now) (map (λ j. j.items) jobs.items)) }
     ensures legal { IfOk result (λ jobs. AreReleases sys.now (map (λ j. j.items) jobs.items)) }

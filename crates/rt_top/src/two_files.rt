@@ -1,4 +1,5 @@
-ghost use Rattle.std.specs.Prelude.{IfOk, IfErr, OnOk};
+ghost use Rattle.std.specs.Prelude.{◌≤◌, length, IfOk, IfErr, OnOk};
+ghost use Rattle.rt_top.specs.Answer.{file_limit};
 ghost use Rattle.rt_top.specs.Steps.{counts_of, IfAnswered, IsQuiet, Explains, IsSpelled, IsHeld, AnswersTwo};
 
 use crate::answer::Ending;
@@ -17,6 +18,7 @@ pub fn read_two<S: Store>(
 ) -> Result<(System, Vec<u8>), Ending>
     ensures system { IfOk result (λ read. IsSpelled (S.files store.old) first.now read.0) }
     ensures bytes { IfOk result (λ read. IsHeld (S.files store.old) second.now read.1.items) }
+    ensures short { IfOk result (λ read. length read.1.items ≤ file_limit) }
     ensures refused { IfErr result (λ stop. IfAnswered stop (λ a.
         AnswersTwo (S.files store.old) first.now second.now (λ _ _ _ _. ⊥)
         a.status a.text.items)) }

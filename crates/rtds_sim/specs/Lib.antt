@@ -1,4 +1,3 @@
-pub mod RowFit
 pub mod Rtds
 pub mod Printed
 pub mod Giving

@@ -18,6 +18,3 @@ mod switches;
 
 pub use fault::RtdsFault;
 pub use simulate::{print_rtds, run_rtds};
-
-#[cfg(test)]
-mod tests;

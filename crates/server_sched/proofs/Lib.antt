@@ -13,6 +13,5 @@ mod KeptNodes
 pub mod Lists
 pub mod Counted
 mod Conforming
-mod TestInputs
 mod Patterned
 mod SlotCounted

@@ -3,20 +3,24 @@ use Rattle.std.proofs.Common.{◌≡◌, ℕ, ◌+◌, ◌<◌, Bool, List, [], 
 use Rattle.std.proofs.lemmas.Bool.{cases_eq}
 use Rattle.std.proofs.lemmas.List.{get_or_append_left, get_or_push, length_push}
 use Rattle.slot_model.specs.declared.job.Job.{Job}
+use Rattle.slot_model.specs.Task.{SporadicTask}
+use Rattle.slot_model.specs.Run.{Level, guest, server, PermittedRun}
+use Rattle.slot_model.specs.Miss.{HoldsReleased}
+use Rattle.slot_model.proofs.MissedJobs.{permitted_holds_released}
 use Rattle.tree_model.specs.declared.place.Parent.{Parent}
 use Rattle.tree_model.specs.declared.place.Parent.TheVariants.{Core as on_core, Part as on_part}
 use Rattle.tree_model.specs.declared.place.Place.{Place}
 use Rattle.tree_model.specs.declared.place.Place.TheVariants.{Core}
 use Rattle.tree_model.specs.View.{SystemView}
 use Rattle.tree_model.specs.System.{IsSystem, Stands, part_at}
-use Rattle.tree_model.specs.Tree.{IsNode, place_of, node_tasks, server_tasks, server_jobs, run_at, run_of, supply_of}
-use Rattle.tree_model.specs.FirstTree.{FirstServers, FirstTree}
+use Rattle.tree_model.specs.Tree.{IsNode, place_of, node_tasks, server_tasks, server_jobs, run_at, run_of, supply_of, PermittedTree}
 use Rattle.tree_model.proofs.NodeTasks.{inner_tasks}
 use Rattle.span_counts.specs.declared.counts.Counts.{Counts}
 use Rattle.span_counts.specs.Counts.{AreCounts}
 use Rattle.server_sched.specs.TreeCounts.{no_counts, AreTreeCounts}
 use Rattle.server_sched.specs.TreeSpans.{parent_of}
-use Rattle.server_sched.specs.SlotCounts.{OfFirstTree, ParentRuns, HasRun, AreCoreCounts, IsPartCount, ArePartCounts}
+use Rattle.server_sched.specs.Shapes.{RunHolds, TreeHolds}
+use Rattle.server_sched.specs.SlotCounts.{OfTree, ParentHolds, HasRun, AreCoreCounts, IsPartCount, ArePartCounts}
 
 -- the parent of a part is a node of servers, which has its run
 pub record IsParent (sys : SystemView) (budgets : List ℕ) (core_runs part_runs : List (List (Option ℕ))) (node : Place) : Type 0 where
@@ -31,16 +35,27 @@ stands_parent sys budgets core_runs part_runs e f q l (on_part r) stands = recor
 pub is_parent : (sys : SystemView) (budgets : List ℕ) (core_runs part_runs : List (List (Option ℕ))) → IsSystem sys → length core_runs ≡ length sys.cores → length part_runs ≡ length sys.parts → (q : ℕ) → q < length sys.parts → IsParent sys budgets core_runs part_runs (parent_of sys q)
 is_parent sys budgets core_runs part_runs fits e f q l = stands_parent sys budgets core_runs part_runs e f q l (part_at sys q).parent (fits.parents q l)
 
--- whose run is the first of its servers
-stands_runs : (sys : SystemView) (budgets : List ℕ) (n : ℕ) (supplies : List (List Bool)) (jobs : List (List Job)) (core_runs part_runs : List (List (Option ℕ))) → FirstTree sys budgets n supplies jobs core_runs part_runs → (q : ℕ) → q < length sys.parts → (parent : Parent) → Stands sys q parent
-    → (slots : List Bool) × FirstServers sys budgets n (place_of parent) slots (run_of core_runs part_runs (place_of parent))
-stands_runs sys budgets n supplies jobs core_runs part_runs h q l (on_core c) stands = (get_or supplies c [], h.cores c stands)
-stands_runs sys budgets n supplies jobs core_runs part_runs h q l (on_part r) stands = (supply_of sys budgets n core_runs part_runs r, h.inner r (omega (arith, stands.0)) stands.1)
+-- whose run holds its servers' jobs
+stands_holds : (sys : SystemView) (budgets : List ℕ) (n : ℕ) (supplies : List (List Bool)) (jobs : List (List Job)) (core_runs part_runs : List (List (Option ℕ))) → TreeHolds sys budgets n supplies jobs core_runs part_runs → (q : ℕ) → q < length sys.parts → (parent : Parent) → Stands sys q parent
+    → HoldsReleased (server_jobs sys budgets (place_of parent) n) (run_of core_runs part_runs (place_of parent))
+stands_holds sys budgets n supplies jobs core_runs part_runs h q l (on_core c) stands = (h.cores c stands).released
+stands_holds sys budgets n supplies jobs core_runs part_runs h q l (on_part r) stands = (h.inner r (omega (arith, stands.0)) stands.1).released
 
-pub parent_runs : (sys : SystemView) (budgets : List ℕ) (n : ℕ) (jobs : List (List Job)) (core_runs part_runs : List (List (Option ℕ))) → IsSystem sys → OfFirstTree sys budgets n jobs core_runs part_runs → (q : ℕ) → q < length sys.parts → ParentRuns sys budgets n q core_runs part_runs
-parent_runs sys budgets n jobs core_runs part_runs fits h q l =
-    let found = stands_runs sys budgets n h.supplies jobs core_runs part_runs h.first q l (part_at sys q).parent (fits.parents q l) in
-    record { slots = found.0; first = found.1 }
+pub parent_holds : (sys : SystemView) (budgets : List ℕ) (n : ℕ) (jobs : List (List Job)) (core_runs part_runs : List (List (Option ℕ))) → IsSystem sys → OfTree sys budgets n jobs core_runs part_runs → (q : ℕ) → q < length sys.parts → ParentHolds sys budgets n q core_runs part_runs
+parent_holds sys budgets n jobs core_runs part_runs fits h q l = stands_holds sys budgets n h.supplies jobs core_runs part_runs h.holds q l (part_at sys q).parent (fits.parents q l)
+
+-- a permitted run of the tree has its shape and holds jobs that are released
+permitted_holds : (level : Level) (before : Job → Job → Bool) (tasks : List SporadicTask) (jobs : List Job) (slots : List Bool) (run : List (Option ℕ)) → PermittedRun level before tasks jobs slots run → RunHolds jobs slots run
+permitted_holds level before tasks jobs slots run h = record { long = h.same_length; released = permitted_holds_released level before tasks jobs slots run h }
+
+pub permitted_tree_holds : (sys : SystemView) (budgets : List ℕ) (n : ℕ) (supplies : List (List Bool)) (jobs : List (List Job)) (core_runs part_runs : List (List (Option ℕ))) → PermittedTree sys budgets n supplies jobs core_runs part_runs → TreeHolds sys budgets n supplies jobs core_runs part_runs
+permitted_tree_holds sys budgets n supplies jobs core_runs part_runs h = record {
+  run_each_core = h.run_each_core;
+  run_each_part = h.run_each_part;
+  cores = λ c l. permitted_holds server _ _ _ _ _ (h.cores c l);
+  inner = λ q l inner. permitted_holds server _ _ _ _ _ (h.inner q l inner);
+  leaves = λ q l leaf. permitted_holds guest _ _ _ _ _ (h.leaves q l leaf);
+}
 
 -- one core more, and one part more
 pub one_core_counted : (sys : SystemView) (budgets : List ℕ) (n : ℕ) (supplies : List (List Bool)) (core_runs : List (List (Option ℕ))) (m : ℕ) (counts : List Counts) → AreCoreCounts sys budgets n supplies core_runs m counts → (new : Counts)

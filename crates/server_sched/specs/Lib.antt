@@ -3,6 +3,7 @@ pub mod NodeView
 pub mod TreeCounts
 pub mod TreeSpans
 pub mod Patterns
+pub mod Shapes
 pub mod SlotCounts
 pub mod CountedTree
 pub mod Serving

@@ -8,22 +8,23 @@ use Rattle.tree_model.specs.declared.place.Place.TheVariants.{Core, Part}
 use Rattle.tree_model.specs.View.{SystemView}
 use Rattle.tree_model.specs.System.{own_tasks_at, is_leaf_at}
 use Rattle.tree_model.specs.Tree.{server_tasks, server_jobs, run_at, run_of, supply_of}
-use Rattle.tree_model.specs.FirstTree.{FirstServers, FirstTree}
+use Rattle.slot_model.specs.Miss.{HoldsReleased}
+use Rattle.server_sched.specs.Shapes.{TreeHolds}
 use Rattle.server_sched.specs.TreeCounts.{counts_at}
 use Rattle.server_sched.specs.TreeSpans.{parent_of}
 
--- the runs are those of a first run of the tree over these jobs
-pub record OfFirstTree (sys : SystemView) (budgets : List ℕ) (n : ℕ) (jobs : List (List Job))
+-- the runs have the shape of the tree's over some slots and these jobs
+pub record OfTree (sys : SystemView) (budgets : List ℕ) (n : ℕ) (jobs : List (List Job))
     (core_runs part_runs : List (List (Option ℕ))) : Type 0 where
   pub supplies : List (List Bool)
-  pub first : FirstTree sys budgets n supplies jobs core_runs part_runs
+  pub holds : TreeHolds sys budgets n supplies jobs core_runs part_runs
 
--- the run of the parent of part q is the first run of its servers over some slots
-pub record ParentRuns (sys : SystemView) (budgets : List ℕ) (n q : ℕ)
-    (core_runs part_runs : List (List (Option ℕ))) : Type 0 where
-  pub slots : List Bool
-  pub first : FirstServers sys budgets n (parent_of sys q) slots
-      (run_of core_runs part_runs (parent_of sys q))
+-- the run of the parent of part q holds jobs of its servers that are released
+abbrev pub ParentHolds : SystemView → List ℕ → ℕ → ℕ → List (List (Option ℕ)) →
+    List (List (Option ℕ)) → Type 0
+ParentHolds sys budgets n q core_runs part_runs =
+    HoldsReleased (server_jobs sys budgets (parent_of sys q) n)
+    (run_of core_runs part_runs (parent_of sys q))
 
 -- a node has a run among one a core and one a part
 abbrev pub HasRun : List (List (Option ℕ)) → List (List (Option ℕ)) → Place → Type 0

@@ -27,8 +27,3 @@ pub use slots::run_tree;
 pub use supplies::{Pattern, core_supplies};
 pub use tree::span_tree;
 pub use tree_counts::TreeCounts;
-
-#[cfg(test)]
-mod tests;
-#[cfg(test)]
-mod tree_tests;

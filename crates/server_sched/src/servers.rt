@@ -1,23 +1,24 @@
 ghost use Rattle.std.specs.Prelude.{◌≡◌, ℕ, ◌^◌, ◌<◌, List, Option, length, IfOk};
 ghost use Rattle.slot_model.specs.Task.{sporadic_tasks};
-ghost use Rattle.slot_model.specs.Release.{LegalRelease, synchronous};
+ghost use Rattle.slot_model.specs.Release.{LegalRelease};
 ghost use Rattle.slot_model.specs.Run.{server, FirstRun, PermittedRun};
+ghost use Rattle.release_pattern.specs.Multiples.{at_multiples};
 
 use guest_sched::{server_spans, windows_of, written};
-use release_pattern::synchronous_jobs;
+use release_pattern::jobs_at_multiples;
 use slot_model::{Job, Order, Task};
 use std::alloc::{AllocError, Global};
 
 /// The jobs of servers in `slots` slots: of each task one of full work at every multiple of its
-/// period. They stand by release, and of one moment by place.
+/// period, released as it arrives. They stand by release, and of one moment by place.
 pub fn server_jobs(alloc: Global, tasks: &[Task], slots: u64) -> Result<Vec<Job>, AllocError>
-    requires few { length (synchronous (sporadic_tasks tasks.now) 0 slots) < 2 ^ 32 }
+    requires few { length (at_multiples (sporadic_tasks tasks.now) slots) < 2 ^ 32 }
     ensures exact { let T = sporadic_tasks tasks.now in
-        IfOk result (λ jobs. jobs.items ≡ synchronous T 0 slots) }
+        IfOk result (λ jobs. jobs.items ≡ at_multiples T slots) }
     ensures legal { IfOk result (λ jobs. LegalRelease (sporadic_tasks tasks.now) jobs.items) }
     ensures few { IfOk result (λ jobs. length jobs.items < 2 ^ 32) }
 {
-    synchronous_jobs(alloc, tasks, 0, slots)
+    jobs_at_multiples(alloc, tasks, slots)
 }
 
 /// The schedule of a level of servers over a list of slots, true where the level has the slot: at

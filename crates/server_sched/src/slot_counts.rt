@@ -9,22 +9,23 @@ ghost use Rattle.tree_model.specs.Plans.{IsPlan};
 ghost use Rattle.tree_model.specs.Releases.{AreReleases, jobs_at};
 ghost use Rattle.tree_model.specs.System.{IsSystem, own_tasks_at, is_leaf_at};
 ghost use Rattle.tree_model.specs.Tree.{IsNode, node_tasks, server_tasks, server_jobs, run_at, run_of, supply_of};
-ghost use Rattle.tree_model.specs.FirstTree.{FirstTree, FirstServers, FirstLeaf};
 ghost use Rattle.server_sched.specs.TreeSpans.{AreFewJobs, AreLists};
 ghost use Rattle.server_sched.specs.TreeCounts.{AreTreeCounts};
-ghost use Rattle.server_sched.specs.SlotCounts.{OfFirstTree, ParentRuns, HasRun, AreCoreCounts, IsPartCount, ArePartCounts};
+ghost use Rattle.server_sched.specs.Shapes.{RunHolds, TreeHolds};
+ghost use Rattle.server_sched.specs.SlotCounts.{OfTree, ParentHolds, HasRun, AreCoreCounts, IsPartCount, ArePartCounts};
 
 use crate::TreeCounts;
-use crate::servers::server_jobs;
 use crate::tree::{rank_of, room_for_tasks};
 use guest_sched::{spans_of, windows_of};
+use release_pattern::synchronous_jobs;
 use slot_model::{Job, Task};
 use span_counts::{Counts, count_level};
 use std::alloc::{AllocError, Global};
 use tree_model::{Place, Plan, System, TreeRun, tasks_of};
 
-/// What is counted of the first run of a tree that stands slot by slot, as `run_tree` answers it
-/// over these jobs and these lists of slots.
+/// What is counted of a run of a tree that stands slot by slot, over these jobs and these lists of
+/// slots. It may be any run of that shape that holds jobs which are released, as `run_tree` answers
+/// one.
 pub fn count_run(
     alloc: Global,
     sys: &System,
@@ -40,7 +41,7 @@ pub fn count_run(
     requires short { slots ≤ 1000000 }
     requires few { (q : ℕ) → q < length sys.now.parts →
         length (jobs_at (map (λ j. j.items) jobs.now) q) < 2 ^ 32 }
-    requires first { FirstTree sys.now plan.now slots (map (λ g. g.items) given.now)
+    requires holds { TreeHolds sys.now plan.now slots (map (λ g. g.items) given.now)
         (map (λ j. j.items) jobs.now) run.now.cores run.now.parts }
     ensures { IfOk result (λ counts. AreTreeCounts sys.now plan.now slots
         (map (λ g. g.items) given.now) (map (λ j. j.items) jobs.now)
@@ -66,8 +67,8 @@ fn core_counts(
     requires one_each { length given.now ≡ length sys.now.cores }
     requires one_run_each { length run.now.cores ≡ length sys.now.cores }
     requires short { slots ≤ 1000000 }
-    requires first { (c : ℕ) → c < length sys.now.cores →
-        FirstServers sys.now budgets.now slots (AnyPlace.Core c)
+    requires holds { (c : ℕ) → c < length sys.now.cores →
+        RunHolds (server_jobs sys.now budgets.now (AnyPlace.Core c) slots)
         (slice_index_or (map (λ g. g.items) given.now) c []) (run_at run.now.cores c) }
     requires room { 512 ≤ length room.old }
     ensures system { IsSystem sys.now }
@@ -97,7 +98,7 @@ fn part_counts(
     requires plan { IsPlan sys.now budgets.now }
     requires jobs { AreReleases sys.now (map (λ j. j.items) jobs.now) }
     requires few { AreFewJobs sys.now budgets.now slots (map (λ j. j.items) jobs.now) }
-    requires first { OfFirstTree sys.now budgets.now slots (map (λ j. j.items) jobs.now)
+    requires holds { OfTree sys.now budgets.now slots (map (λ j. j.items) jobs.now)
         run.now.cores run.now.parts }
     requires room { 512 ≤ length room.old }
     ensures { IfOk result (λ counts. ArePartCounts sys.now budgets.now slots
@@ -133,14 +134,14 @@ fn part_slots(
         length (server_jobs sys.now budgets.now node slots) < 2 ^ 32 }
     requires cores { length run.now.cores ≡ length sys.now.cores }
     requires parts { length run.now.parts ≡ length sys.now.parts }
-    requires parent { ParentRuns sys.now budgets.now slots q run.now.cores run.now.parts }
+    requires parent { ParentHolds sys.now budgets.now slots q run.now.cores run.now.parts }
     requires room { 512 ≤ length room.old }
     ensures { IfOk result (λ given.
         given.items ≡ supply_of sys.now budgets.now slots run.now.cores run.now.parts q) }
 {
     let parent = sys.parts()[q as usize].parent().place();
     let count = tasks_of(sys, budgets, parent, room).unwrap();
-    let jobs = server_jobs(alloc, &room[..count], slots)?;
+    let jobs = synchronous_jobs(alloc, &room[..count], 0, slots)?;
     child_slots(alloc, &jobs, node_run(run, parent), rank_of(sys, q))
 }
 
@@ -200,8 +201,8 @@ fn part_count(
     requires legal { is_leaf_at sys.now q ≡ true →
         LegalRelease (own_tasks_at sys.now q) jobs.now }
     requires inner { is_leaf_at sys.now q ≡ false →
-        FirstServers sys.now budgets.now slots (AnyPlace.Part q) given.now run.now }
-    requires leaf { is_leaf_at sys.now q ≡ true → FirstLeaf sys.now q jobs.now given.now run.now }
+        RunHolds (server_jobs sys.now budgets.now (AnyPlace.Part q) slots) given.now run.now }
+    requires leaf { is_leaf_at sys.now q ≡ true → RunHolds jobs.now given.now run.now }
     requires room { 512 ≤ length room.old }
     ensures { IfOk result (λ counts.
         IsPartCount sys.now budgets.now slots q jobs.now given.now run.now counts) }
@@ -228,7 +229,7 @@ fn leaf_counts(
     requires is_leaf { is_leaf_at sys.now q ≡ true }
     requires plan { IsPlan sys.now budgets.now }
     requires legal { LegalRelease (own_tasks_at sys.now q) jobs.now }
-    requires first { FirstLeaf sys.now q jobs.now given.now run.now }
+    requires holds { RunHolds jobs.now given.now run.now }
     requires room { 512 ≤ length room.old }
     ensures { IfOk result (λ counts.
         AreCounts (own_tasks_at sys.now q) jobs.now given.now run.now counts) }
@@ -253,14 +254,15 @@ fn server_counts(
         server_tasks sys.now budgets.now place }
     requires plan { IsPlan sys.now budgets.now }
     requires few { length (server_jobs sys.now budgets.now place slots) < 2 ^ 32 }
-    requires first { FirstServers sys.now budgets.now slots place given.now run.now }
+    requires holds { RunHolds (server_jobs sys.now budgets.now place slots) given.now
+        run.now }
     requires room { 512 ≤ length room.old }
     ensures { IfOk result (λ counts. AreCounts (server_tasks sys.now budgets.now place)
         (server_jobs sys.now budgets.now place slots) given.now run.now counts) }
 {
     let count = tasks_of(sys, budgets, place, room).unwrap();
     let tasks = &room[..count];
-    let jobs = server_jobs(alloc, tasks, slots)?;
+    let jobs = synchronous_jobs(alloc, tasks, 0, slots)?;
     count_slots(alloc, tasks, &jobs, given, run)
 }
 

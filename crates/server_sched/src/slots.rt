@@ -5,6 +5,7 @@ ghost use Rattle.tree_model.specs.System.{IsSystem};
 ghost use Rattle.tree_model.specs.Tree.{PermittedTree};
 ghost use Rattle.tree_model.specs.FirstTree.{FirstTree};
 ghost use Rattle.tree_model.specs.Releases.{AreReleases, jobs_at};
+ghost use Rattle.server_sched.specs.Shapes.{TreeHolds};
 ghost use Rattle.server_sched.specs.TreeSpans.{AreLists, AreWindowsOf, node_at, runs_of};
 
 use crate::node::NodeSpans;
@@ -36,6 +37,9 @@ pub fn run_tree(
         (map (λ j. j.items) jobs.now) run.cores run.parts) }
     ensures permitted { let supplies = map (λ g. g.items) given.now in
         IfOk result (λ run. PermittedTree sys.now plan.now slots supplies
+        (map (λ j. j.items) jobs.now) run.cores run.parts) }
+    ensures holds { let supplies = map (λ g. g.items) given.now in
+        IfOk result (λ run. TreeHolds sys.now plan.now slots supplies
         (map (λ j. j.items) jobs.now) run.cores run.parts) }
     ensures only { let supplies = map (λ g. g.items) given.now in
         IfOk result (λ run. (cores parts : List (List (Option ℕ))) →

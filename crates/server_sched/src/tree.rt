@@ -13,9 +13,9 @@ ghost use Rattle.server_sched.specs.TreeCounts.{AreTreeCounts};
 ghost use Rattle.server_sched.specs.TreeSpans.{AreSupplies, AreFewJobs, runs_of, supplies_of, IsServerNode, IsLeafNode, IsPartNode, AreCoreNodes, ArePartNodes, CoresGive, HasShare, node_of, parent_of, AreTreeSpans};
 
 use crate::node::{NodeSpans, TreeSpans};
-use crate::servers::server_jobs;
 use crate::shares::shares_of;
 use guest_sched::{Window, guest_by, servers_by};
+use release_pattern::synchronous_jobs;
 use slot_model::{Job, Sched, Task};
 use span_counts::count_level;
 use std::alloc::{AllocError, Global};
@@ -242,7 +242,7 @@ fn server_node(
 {
     let count = tasks_of(sys, budgets, place, room).unwrap();
     let tasks = &room[..count];
-    let jobs = server_jobs(alloc, tasks, slots)?;
+    let jobs = synchronous_jobs(alloc, tasks, 0, slots)?;
     let sched = sched_of(sys, place);
     let spans = servers_by(alloc, sched, tasks, &jobs, given, slots)?;
     let shares = shares_of(alloc, tasks, &jobs, &spans)?;

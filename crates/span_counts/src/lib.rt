@@ -7,6 +7,3 @@ mod pending;
 
 pub use counts::{Counts, count_level, first_miss, misses, slots_given};
 pub use pending::count_pending;
-
-#[cfg(test)]
-mod tests;

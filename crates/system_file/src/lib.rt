@@ -16,6 +16,3 @@ mod tasks;
 pub use fault::{Spot, SystemFault};
 pub use print::print_system;
 pub use read::read_system;
-
-#[cfg(test)]
-mod tests;

@@ -16,9 +16,6 @@ use std::alloc::{AllocError, Global};
 use toml::{Table, Value};
 use tree_model::{Core, Named, Parent, Part, System};
 
-#[cfg(test)]
-mod tests;
-
 /// A system file that spells the system, of format 1 where no task has jitter and else of format 2.
 /// A key that may be left out is written only where it says something else than its absence.
 pub fn print_system(alloc: Global, sys: &System) -> Result<Vec<u8>, AllocError>

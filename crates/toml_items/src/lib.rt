@@ -13,6 +13,3 @@ mod table;
 pub use document::{Document, DocumentFault, read_document};
 pub use item::{Entry, Item};
 pub use table::table_entries;
-
-#[cfg(test)]
-mod tests;

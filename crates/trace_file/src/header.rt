@@ -1,5 +1,5 @@
 ghost use Rattle.std.specs.Prelude.{◌≡◌, ◌⊎◌, ◌∷◌, [], List, ℕ, Some, None, IfOk, IfErr};
-ghost use Rattle.csv_rows.specs.Reading.{HasRead, records_of};
+ghost use Rattle.csv_rows.specs.Reading.{HasRead, IsOpen, records_of};
 ghost use Rattle.trace_file.specs.declared.fault.TraceFault.TheVariants.{BadHeader, NoMemory};
 ghost use Rattle.trace_file.specs.File.{rows_of, unit_of};
 
@@ -10,6 +10,7 @@ use csv_rows::Records;
 
 /// The unit that the header of a trace tells.
 pub fn read_header(records: &mut Records) -> Result<Unit, TraceFault>
+    requires { IsOpen records.old }
     ensures unit { (text : List ℕ) → HasRead text [] records.old
         → IfOk result (λ unit. (header : List (List ℕ)) × (unit_of header ≡ Some unit)
         × HasRead text (header ∷ []) records.new) }

@@ -10,7 +10,7 @@ use Rattle.release_file.proofs.release_reading.read_releases.Goals.{In-Ok-finish
 pub returns-in-Err-read_rows-clause-fault : goal.returns-in-Err-read_rows-clause-fault
 returns-in-Err-read_rows-clause-fault c =
     let text = c.args.bytes.now in
-    let (header, told, has) = c.in-Ok.ensures.version text c.new-records.ensures in
+    let (header, told, has) = c.in-Ok.ensures.version text c.new-records.ensures.read in
     let file = c.in-Ok-new.ensures.file in
     elim (c.in-Err-read_rows.ensures.first text header has) [
       | inl memory ↦ inl memory
@@ -21,7 +21,7 @@ returns-in-Err-read_rows-clause-fault c =
 read_all : (c : In-Ok-finish) → HasReadReleases c.args.sys.now (records_of c.args.bytes.now) c.in-Ok-new.rows c.read_rows.new.rows c.in-Ok.version
 read_all c =
     let text = c.args.bytes.now in
-    let (header, told, has) = c.in-Ok.ensures.version text c.new-records.ensures in
+    let (header, told, has) = c.in-Ok.ensures.version text c.new-records.ensures.read in
     let file = c.in-Ok-new.ensures.file in
     has_read c.args.sys.now (records_of text) c.in-Ok-new.rows c.read_rows.new.rows header c.in-Ok.version file.0 file.1 told (c.in_default-read_rows.ensures.all text header has)
 
@@ -35,4 +35,4 @@ pub returns-in-Ok-finish-clause-legal : goal.returns-in-Ok-finish-clause-legal
 returns-in-Ok-finish-clause-legal c = let here = (goal.at.returns-in-Ok-finish-clause-legal c).In-Ok-finish in legal_all _ _ _ _ _ _ (read_all here) (jobs_are here)
 
 pub returns-in-Ok-finish-clause-few : goal.returns-in-Ok-finish-clause-few
-returns-in-Ok-finish-clause-few c = let here = (goal.at.returns-in-Ok-finish-clause-few c).In-Ok-finish in few_all _ _ _ _ _ _ (read_all here) (jobs_are here)
+returns-in-Ok-finish-clause-few c = let here = (goal.at.returns-in-Ok-finish-clause-few c).In-Ok-finish in few_all _ _ _ (spelt_all _ _ _ _ _ _ (read_all here) (jobs_are here))

@@ -7,17 +7,17 @@ use Rattle.release_file.proofs.workload_reading.read_header.Goals as goal
 
 pub returns-in-Ok-false-clause-fault : goal.returns-in-Ok-false-clause-fault
 returns-in-Ok-false-clause-fault c text has =
-    let none = rw c.in-Ok-false.field-0-test at (c.in-Ok-false.ensures text [] has) in
+    let none = rw c.in-Ok-false.field-0-test at (c.in-Ok-false.ensures.read text [] has) in
     inr (refl, ap wake_rows none)
 
 pub returns-then-not-is_wake_header-clause-fault : goal.returns-then-not-is_wake_header-clause-fault
 returns-then-not-is_wake_header-clause-fault c text has =
-    let all = rw c.in-Ok-true.field-0-test at (c.in-Ok-true.ensures text [] has) in
+    let all = rw c.in-Ok-true.field-0-test at (c.in-Ok-true.ensures.read text [] has) in
     let (more, front) = has_front text (row_read c.advance.new.self ∷ []) c.advance.new.self all in
     let none = ap is_wake_header (sym c.row.ensures) ∙ (sym c.is_wake_header.ensures ∙ c.if-not-is_wake_header.true) in
     inr (refl, ap wake_rows front ∙ cond-false (is_wake_header (row_read c.advance.new.self)) (Some more) None none)
 
 pub returns-clause-header : goal.returns-clause-header
 returns-clause-header c text has =
-    let all = rw c.in-Ok-true.field-0-test at (c.in-Ok-true.ensures text [] has) in
+    let all = rw c.in-Ok-true.field-0-test at (c.in-Ok-true.ensures.read text [] has) in
     (row_read c.advance.new.self, ap is_wake_header (sym c.row.ensures) ∙ (sym c.is_wake_header.ensures ∙ c.if-not-is_wake_header.false), all)

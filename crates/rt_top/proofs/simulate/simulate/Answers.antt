@@ -1,4 +1,4 @@
-use Rattle.std.proofs.Common.{List, ℕ, subst}
+use Rattle.std.proofs.Common.{List, ℕ, length, ap, arith, subst}
 use Rattle.std.proofs.lemmas.Result.{err_from_is_err_and}
 use Rattle.system_file.proofs.Laws.{read_is_spelled}
 use Rattle.rt_top.specs.Simulate.{SimulatesBytes}
@@ -8,7 +8,7 @@ use Rattle.rt_top.proofs.TwoFiles.{ends_read, stop_said}
 use Rattle.rt_top.proofs.simulate.simulate.Goals as goal
 
 pub judge-requires : goal.judge-requires
-judge-requires g c = record { system = (read_is_spelled c.in_ok-sys.ensures.system.bytes c.in_ok-sys.sys c.in_ok-sys.ensures.system.spelled).system }
+judge-requires g c = record { system = (read_is_spelled c.in_ok-sys.ensures.system.bytes c.in_ok-sys.sys c.in_ok-sys.ensures.system.spelled).system; short = omega (arith, c.in_ok-sys.ensures.short, ap (λ (b : List ℕ). length b) c.deref.ensures.value) }
 
 pub returns-in_err-sys-clause-answer : goal.returns-in_err-sys-clause-answer
 returns-in_err-sys-clause-answer g c =

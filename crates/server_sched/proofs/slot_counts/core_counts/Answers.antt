@@ -6,7 +6,7 @@ use Rattle.span_counts.specs.Counts.{AreCounts}
 use Rattle.tree_model.specs.declared.place.Place.TheVariants.{Core}
 use Rattle.tree_model.specs.declared.pinned_core.Core.{Core as PinnedCore}
 use Rattle.tree_model.specs.Tree.{run_at, server_tasks, server_jobs}
-use Rattle.tree_model.specs.FirstTree.{FirstServers}
+use Rattle.server_sched.specs.Shapes.{RunHolds}
 use Rattle.server_sched.specs.SlotCounts.{AreCoreCounts}
 use Rattle.server_sched.proofs.Lists.{list_read, servers_in_reach, slot_lists}
 use Rattle.server_sched.proofs.SlotCounted.{one_core_counted}
@@ -15,13 +15,14 @@ use Rattle.server_sched.proofs.slot_counts.core_counts.Goals as goal
 pub loop-c-init : goal.loop-c-init
 loop-c-init c = record { room = c.requires.room; counts = record { long = ap (λ (v : List Counts). length v) c.new-counts.ensures.items; each = λ k l. absurd (omega arith) } }
 
-pub server_counts-requires-clause-first : goal.server_counts-requires-clause-first
-server_counts-requires-clause-first c =
+pub server_counts-requires-clause-holds : goal.server_counts-requires-clause-holds
+server_counts-requires-clause-holds c =
     let sys = c.args.sys.now in let budgets = c.args.budgets.now in let n = c.args.slots in let k = c.loop-c.c in
     let l : k < length sys.cores = omega (arith, c.loop-c-test.true, ap (λ (cs : List PinnedCore). length cs) c.cores-c-end.ensures.cores) in
     let own : c.deref.result.now ≡ get_or (slot_lists c.args.given.now) k [] = list_read c.args.given.now k (length sys.cores) c.index-given-c.result c.deref.result.now (length-map c.args.given.now (λ (s : Vec Bool Global). s.items) ∙ c.requires.one_each) l c.index-given-c.is c.deref.ensures.value in
-    subst (λ (slots : List Bool). FirstServers sys budgets n (Core k) slots c.node_run-core_run.result.now) (sym own)
-    (subst (λ (run : List (Option ℕ)). FirstServers sys budgets n (Core k) (get_or (slot_lists c.args.given.now) k []) run) (sym c.node_run-core_run.ensures) (c.requires.first k l))
+    let jobs : List Job = server_jobs sys budgets (Core k) n in
+    subst (λ (slots : List Bool). RunHolds jobs slots c.node_run-core_run.result.now) (sym own)
+    (subst (λ (run : List (Option ℕ)). RunHolds jobs (get_or (slot_lists c.args.given.now) k []) run) (sym c.node_run-core_run.ensures) (c.requires.holds k l))
 
 pub server_counts-requires-clause-few : goal.server_counts-requires-clause-few
 server_counts-requires-clause-few c = servers_in_reach c.args.sys.now c.args.budgets.now c.args.slots c.cores-c-end.ensures.system c.requires.short (Core c.loop-c.c)

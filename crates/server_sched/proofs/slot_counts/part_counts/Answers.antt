@@ -5,7 +5,7 @@ use Rattle.tree_model.specs.View.{PartView}
 use Rattle.tree_model.specs.Tree.{run_at, supply_of}
 use Rattle.server_sched.specs.SlotCounts.{IsPartCount, ArePartCounts}
 use Rattle.server_sched.proofs.Lists.{list_read, job_lists}
-use Rattle.server_sched.proofs.SlotCounted.{parent_runs, one_part_counted}
+use Rattle.server_sched.proofs.SlotCounted.{parent_holds, one_part_counted}
 use Rattle.server_sched.proofs.slot_counts.part_counts.Goals as goal
 
 pub loop-q-init : goal.loop-q-init
@@ -13,7 +13,7 @@ loop-q-init c = record { room = c.requires.room; counts = record { long = ap (λ
 
 pub part_slots-requires-clause-parent : goal.part_slots-requires-clause-parent
 part_slots-requires-clause-parent c =
-    parent_runs c.args.sys.now c.args.budgets.now c.args.slots (job_lists c.args.jobs.now) c.args.run.now.cores c.args.run.now.parts c.parts-q-end.ensures.system c.requires.first c.loop-q.q (omega (arith, c.loop-q-test.true, ap (λ (ps : List PartView). length ps) c.parts-q-end.ensures.parts))
+    parent_holds c.args.sys.now c.args.budgets.now c.args.slots (job_lists c.args.jobs.now) c.args.run.now.cores c.args.run.now.parts c.parts-q-end.ensures.system c.requires.holds c.loop-q.q (omega (arith, c.loop-q-test.true, ap (λ (ps : List PartView). length ps) c.parts-q-end.ensures.parts))
 
 pub loop-q-preserved : goal.loop-q-preserved
 loop-q-preserved c =

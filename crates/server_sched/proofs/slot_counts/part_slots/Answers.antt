@@ -1,19 +1,16 @@
 use Rattle.std.proofs.Common.{◌≡◌, ℕ, ◌<◌, ◌^◌, List, length, get_or, take, sym, ◌∙◌, ap, subst, arith}
 use Rattle.slot_model.specs.declared.job.Job.{Job}
 use Rattle.slot_model.specs.Task.{SporadicTask, sporadic_tasks}
-use Rattle.slot_model.specs.Order.{before_of}
 use Rattle.slot_model.specs.Release.{synchronous}
-use Rattle.slot_model.specs.Run.{server}
 use Rattle.slot_model.specs.Miss.{HoldsReleased}
 use Rattle.tree_model.specs.declared.place.Parent.{Parent}
 use Rattle.tree_model.specs.declared.place.Place.{Place}
 use Rattle.tree_model.specs.View.{SystemView, PartView}
 use Rattle.tree_model.specs.System.{part_at}
-use Rattle.tree_model.specs.Tree.{IsNode, place_of, run_of, node_sched, server_tasks, server_jobs, node_tasks}
+use Rattle.tree_model.specs.Tree.{IsNode, place_of, run_of, server_tasks, server_jobs, node_tasks}
 use Rattle.tree_model.proofs.NodeTasks.{part_here, tasks_read}
 use Rattle.server_sched.specs.TreeSpans.{parent_of}
 use Rattle.server_sched.specs.SlotCounts.{HasRun}
-use Rattle.server_sched.proofs.Nodes.{first_released}
 use Rattle.server_sched.proofs.SlotCounted.{is_parent}
 use Rattle.server_sched.proofs.slot_counts.part_slots.Goals as goal
 
@@ -29,14 +26,14 @@ tasks_of-requires-clause-in_system c =
     let place = parent_read sys c.args.q c.parts.result.now c.index-parts-q.result c.parent.result c.place-parent.result c.parts.ensures.parts c.requires.is_part c.index-parts-q.is c.parent.ensures c.place-parent.ensures in
     subst (IsNode sys) (sym place) (is_parent sys c.args.budgets.now c.args.run.now.cores c.args.run.now.parts c.parts.ensures.system c.requires.cores c.requires.parts c.args.q c.requires.is_part).is
 
-pub server_jobs-requires : goal.server_jobs-requires
-server_jobs-requires c =
+pub synchronous_jobs-requires-clause-few : goal.synchronous_jobs-requires-clause-few
+synchronous_jobs-requires-clause-few c =
     let sys = c.args.sys.now in let budgets = c.args.budgets.now in let n = c.args.slots in
     let place = parent_read sys c.args.q c.parts.result.now c.index-parts-q.result c.parent.result c.place-parent.result c.parts.ensures.parts c.requires.is_part c.index-parts-q.is c.parent.ensures c.place-parent.ensures in
     let parent = is_parent sys budgets c.args.run.now.cores c.args.run.now.parts c.parts.ensures.system c.requires.cores c.requires.parts c.args.q c.requires.is_part in
     let read : sporadic_tasks (take c.unwrap-count.result c.tasks_of.new.into) ≡ node_tasks sys budgets c.place-parent.result = tasks_read sys budgets c.place-parent.result c.tasks_of.new.into _ c.unwrap-count.result c.unwrap-count.ensures c.tasks_of.ensures.tasks in
     let same : sporadic_tasks (take c.unwrap-count.result c.tasks_of.new.into) ≡ server_tasks sys budgets (parent_of sys c.args.q) = read ∙ (ap (node_tasks sys budgets) place ∙ parent.servers) in
-    record { few = subst (λ (t : List SporadicTask). length (synchronous t 0 n) < 2 ^ 32) (sym same) (c.requires.few (parent_of sys c.args.q) parent.is) }
+    subst (λ (t : List SporadicTask). length (synchronous t 0 n) < 2 ^ 32) (sym same) (c.requires.few (parent_of sys c.args.q) parent.is)
 
 pub node_run-requires : goal.node_run-requires
 node_run-requires c =
@@ -55,5 +52,4 @@ child_slots-requires c =
     let jobs : c.deref.result.now ≡ server_jobs sys budgets node n = c.deref.ensures.value ∙ (c.in_ok-jobs.ensures.exact ∙ ap (λ (t : List SporadicTask). synchronous t 0 n) same) in
     let run : c.node_run.result.now ≡ run_of c.args.run.now.cores c.args.run.now.parts node = c.node_run.ensures ∙ ap (run_of c.args.run.now.cores c.args.run.now.parts) place in
     subst (λ (js : List Job). HoldsReleased js c.node_run.result.now) (sym jobs)
-    (subst (HoldsReleased (server_jobs sys budgets node n)) (sym run)
-    (first_released server (before_of (node_sched sys node) (server_tasks sys budgets node)) (server_tasks sys budgets node) (server_jobs sys budgets node n) c.requires.parent.slots (run_of c.args.run.now.cores c.args.run.now.parts node) c.requires.parent.first))
+    (subst (HoldsReleased (server_jobs sys budgets node n)) (sym run) c.requires.parent)

@@ -8,6 +8,7 @@ use Rattle.server_sched.specs.NodeView.{NodeView}
 use Rattle.server_sched.specs.TreeSpans.{node_at, runs_of, supplies_of, AreWindowsOf, AreSupplies}
 use Rattle.server_sched.proofs.TreeNodes.{part_spans}
 use Rattle.server_sched.proofs.Lists.{same_supplies, are_supplies, few_in_reach, slot_lists, window_lists, job_lists}
+use Rattle.server_sched.proofs.SlotCounted.{permitted_tree_holds}
 use Rattle.server_sched.proofs.slots.run_tree.Goals as goal
 
 pub span_tree-requires-clause-windows : goal.span_tree-requires-clause-windows
@@ -42,6 +43,9 @@ returns-clause-first c =
 
 pub returns-clause-permitted : goal.returns-clause-permitted
 returns-clause-permitted c = first_tree_permitted _ _ _ _ _ _ _ (returns-clause-first c)
+
+pub returns-clause-holds : goal.returns-clause-holds
+returns-clause-holds c = permitted_tree_holds _ _ _ _ _ _ _ (returns-clause-permitted c)
 
 pub returns-clause-only : goal.returns-clause-only
 returns-clause-only c cores parts h = first_tree_unique _ _ _ _ _ c.core_windows.ensures.system cores parts _ _ h (returns-clause-first c)

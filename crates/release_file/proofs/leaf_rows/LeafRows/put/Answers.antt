@@ -29,7 +29,7 @@ pub returns-clause-leaf : goal.returns-clause-leaf
 returns-clause-leaf c =
     let good : is_ok c.push.result ≡ true = search rules in
     let items = rw good at c.push.ensures.items in
-    leaf_more c.args.self.now _ c.args.job c.requires.leaf c.requires.fits ((told (goal.at.returns-clause-leaf c).After-follows_too_soon).0 ∙ c.if-follows_too_soon.false) (omega (arith, c.if-len-ge-MOST_JOBS.false, c.len.ensures, c.args.self.now.jobs.ok.0)) refl refl items refl
+    leaf_more c.args.self.now _ c.args.job c.requires.leaf c.requires.fits ((told (goal.at.returns-clause-leaf c).After-follows_too_soon).0 ∙ c.if-follows_too_soon.false) refl refl items refl
 
 pub returns-clause-kept : goal.returns-clause-kept
 returns-clause-kept c = (told (goal.at.returns-clause-kept c).After-follows_too_soon).1 ∙ ap (λ (z : Bool). fault_if z (TooEarly c.args.row) None) c.if-follows_too_soon.false

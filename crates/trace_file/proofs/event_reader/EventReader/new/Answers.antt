@@ -3,7 +3,7 @@ use Rattle.trace_file.proofs.event_reader.EventReader.new.Goals as goal
 
 pub returns-clause-given : goal.returns-clause-given
 returns-clause-given c =
-    let (header, told, has) = c.in-Ok.ensures.unit c.args.bytes.now c.new-records.ensures in
+    let (header, told, has) = c.in-Ok.ensures.unit c.args.bytes.now c.new-records.ensures.read in
     record {
       sys_is = refl;
       system = c.new-2.ensures.system;

@@ -1,0 +1,15 @@
+use Rattle.std.proofs.Common.{◌≡◌, ℕ, zero, suc, List, [], ◌∷◌, length, refl, arith}
+use Rattle.csv_rows.specs.Printing.{AreOfLength}
+use Rattle.file_tests.proofs.csv_rows_tests.rows_are_read_as_they_were_written.Goals as goal
+
+-- a row stands alone among itself
+one_row : (row : List (List ℕ)) → length row ≡ 3 → AreOfLength 3 (row ∷ [])
+one_row row e zero l = e
+one_row row e (suc i) l = absurd (omega arith)
+
+pub write-requires : goal.write-requires
+write-requires c = ([], c.new-writer.ensures, λ i l. absurd (omega arith))
+
+-- the row before has as many fields
+pub write-2-requires : goal.write-2-requires
+write-2-requires c = (_, c.in_ok.ensures [] c.new-writer.ensures, λ i l. one_row _ refl i l)

@@ -1,0 +1,113 @@
+use csv_rows::{Plain, Records, RowWriter, is_plain, number, plain_number};
+use std::alloc::Global;
+use std::process::Abort;
+use std::test::Fail;
+
+#[test]
+fn rows_are_read_as_they_were_written(rt: HostRuntime) -> Result<(), Fail> {
+    let alloc = rt.alloc();
+    let mut writer = RowWriter::new(alloc);
+    writer.write(&[b"at".as_slice(), b"what", b"vcpu"])?;
+    writer.write(&[b"7".as_slice(), b"a,b", b""])?;
+    let text = writer.finish()?;
+    assert_eq!(rt; text.as_slice(), b"at,what,vcpu\n7,\"a,b\",\n".as_slice());
+    let mut records = Records::new(alloc, &text);
+    assert!(rt; records.advance()?);
+    assert_eq!(rt; records.row().len(), 3);
+    assert!(rt; records.advance()?);
+    assert_eq!(rt; records.row().get(1), Some(b"a,b".as_slice()));
+    assert!(rt; !records.advance()?);
+    Ok(())
+}
+
+/// Whether the records of a text are these, of two fields each.
+fn are_pairs(
+    rt: &impl Abort,
+    alloc: Global,
+    text: &str,
+    pairs: &[(&str, &str)],
+) -> Result<(), Fail> {
+    let mut records = Records::new(alloc, text.as_bytes());
+    for (first, second) in pairs {
+        assert!(rt; records.advance()?);
+        assert_eq!(rt; records.row().len(), 2);
+        assert_eq!(rt; records.row().get(0), Some(first.as_bytes()));
+        assert_eq!(rt; records.row().get(1), Some(second.as_bytes()));
+    }
+    assert!(rt; !records.advance()?);
+    assert!(rt; !records.advance()?);
+    Ok(())
+}
+
+/// With a mark at the front, an empty line, quotes, and no line end at the end.
+const QUOTED: &str = "\u{FEFF}a\"b,c\r\n\n\"x,\"\"y\"\"\r\n\",\"p\"q\n,z";
+
+#[test]
+fn fields_may_stand_in_quotes(rt: HostRuntime) -> Result<(), Fail> {
+    let read = [("a\"b", "c"), ("x,\"y\"\r\n", "pq"), ("", "z")];
+    are_pairs(&rt, rt.alloc(), QUOTED, &read)
+}
+
+/// With empty lines, empty fields, and no line end at the end.
+const PLAIN: &str = "\n\nat,what\n\n7,\n,\n8,x";
+
+#[test]
+fn a_plain_text_is_split(rt: HostRuntime) -> Result<(), Fail> {
+    let read = [("at", "what"), ("7", ""), ("", ""), ("8", "x")];
+    are_pairs(&rt, rt.alloc(), PLAIN, &read)
+}
+
+#[test]
+fn a_comma_at_the_end_leaves_an_empty_field(rt: HostRuntime) -> Result<(), Fail> {
+    let alloc = rt.alloc();
+    for text in ["a,", "a,\n", "a,\"\"", "\r\n\"a\","] {
+        let mut records = Records::new(alloc, text.as_bytes());
+        assert!(rt; records.advance()?);
+        assert_eq!(rt; records.row().len(), 2);
+        assert_eq!(rt; records.row().get(0), Some(b"a".as_slice()));
+        assert_eq!(rt; records.row().get(1), Some(b"".as_slice()));
+        assert!(rt; !records.advance()?);
+    }
+    Ok(())
+}
+
+#[test]
+fn plain_numbers_have_no_sign_and_no_leading_zero(rt: HostRuntime) {
+    let cases = [
+        (b"0".as_slice(), true),
+        (b"10", true),
+        (b"99999999999999999999999", true),
+        (b"", false),
+        (b"01", false),
+        (b"+1", false),
+        (b"1.0", false),
+        (b" 1", false),
+    ];
+    for (field, plain) in cases {
+        assert_eq!(rt; is_plain(field), plain, "{field:?}");
+    }
+}
+
+#[test]
+fn numbers_have_a_limit(rt: HostRuntime) {
+    let cases = [
+        (b"0".as_slice(), Plain::Is(0)),
+        (b"1000", Plain::Is(1000)),
+        (b"1001", Plain::Past),
+        (b"99999999999999999999999", Plain::Past),
+        (b"", Plain::No),
+        (b"01", Plain::No),
+        (b"1.0", Plain::No),
+        (b"9999999999999999999999x", Plain::No),
+    ];
+    for (field, plain) in cases {
+        assert_eq!(rt; plain_number(field, 1000), plain, "{field:?}");
+    }
+    for (field, found) in [
+        (b"1000".as_slice(), Some(1000)),
+        (b"1001", None),
+        (b"99999999999999999999999", None),
+    ] {
+        assert_eq!(rt; number(field, 1000), found, "{field:?}");
+    }
+}

@@ -1,0 +1,92 @@
+use crate::helpers::{five_long_tasks, late_task, task, two_late_tasks, two_tasks};
+use edf_demand::{demand, demand_by, gather, horizon};
+use slot_model::Task;
+use std::test::Fail;
+use window_terms::Term;
+
+#[test]
+fn demand_of_windows(rt: HostRuntime) -> Result<(), Fail> {
+    let (two, late) = (two_tasks()?, two_late_tasks()?);
+    let early = [task(10, 4, 2)?];
+    let cases: [(&[Task], u128, u128); 14] = [
+        (&two, 0, 0),
+        (&two, 49, 0),
+        (&two, 50, 7),
+        (&two, 75, 16),
+        (&two, 150, 39),
+        (&early, 3, 0),
+        (&early, 4, 2),
+        (&early, 13, 2),
+        (&early, 14, 4),
+        (&late, 44, 0),
+        (&late, 45, 7),
+        (&late, 75, 16),
+        (&late, 95, 23),
+        (&[], u128::MAX, 0),
+    ];
+    for (tasks, window, work) in cases {
+        assert_eq!(rt; demand(tasks, window), Some(work), "a window of {window}");
+    }
+    Ok(())
+}
+
+#[test]
+fn demand_near_the_end_of_u128(rt: HostRuntime) -> Result<(), Fail> {
+    let whole = task(1, 1, 1)?;
+    let half = task(2, 2, 1)?;
+    assert_eq!(rt; demand(&[whole], u128::MAX), Some(u128::MAX));
+    assert_eq!(rt; demand(&[half, half], u128::MAX), Some(u128::MAX - 1));
+    assert_eq!(rt; demand(&[whole, half], u128::MAX), None);
+    Ok(())
+}
+
+#[test]
+fn demand_by_terms(rt: HostRuntime) -> Result<(), Fail> {
+    let tasks = [
+        late_task(50, 50, 7, 5)?,
+        late_task(50, 46, 2, 1)?,
+        task(75, 75, 9)?,
+    ];
+    let mut terms = [Term::none(); 3];
+    let whole = gather(&tasks, &mut terms);
+    assert_eq!(rt; whole.terms, 2);
+    assert_eq!(rt; whole.tasks, 3);
+    let mut term = [Term::none()];
+    let part = gather(&tasks, &mut term);
+    assert_eq!(rt; part.terms, 1);
+    assert_eq!(rt; part.tasks, 2);
+    for (window, work) in [
+        (44, 0),
+        (45, 9),
+        (75, 18),
+        (95, 27),
+        (8_589_934_591, 2_576_980_368),
+        (8_589_934_592, 2_576_980_368),
+        (1_000_000_000_000_000_000, 299_999_999_999_999_997),
+        (u64::MAX as u128, 5_534_023_222_112_865_480),
+        (1 << 127, 51_042_355_038_140_769_519_506_191_114_765_231_707),
+    ] {
+        assert_eq!(rt;
+            demand_by(&tasks, &terms, whole, window),
+            Some(work),
+            "a window of {window}"
+        );
+        assert_eq!(rt;
+            demand_by(&tasks, &term, part, window),
+            Some(work),
+            "a window of {window}"
+        );
+    }
+    Ok(())
+}
+
+#[test]
+fn horizons(rt: HostRuntime) -> Result<(), Fail> {
+    let tasks = two_tasks()?;
+    assert_eq!(rt; horizon(&tasks, 10), Some(160));
+    assert_eq!(rt; horizon(&tasks, 1), Some(151));
+    assert_eq!(rt; horizon(&[], 10), Some(20));
+    let long = five_long_tasks()?;
+    assert_eq!(rt; horizon(&long, 1_000_000), None);
+    Ok(())
+}

@@ -1,0 +1,97 @@
+use crate::helpers::{five_long_tasks, late_task, periodic, task, two_late_tasks, two_tasks};
+use fp_test::{falls, hit};
+use slot_model::{Sched, Task};
+use std::test::Fail;
+use supply_bound::{Full, Periodic};
+
+#[test]
+fn hits_of_two_tasks(rt: HostRuntime) -> Result<(), Fail> {
+    let tasks = two_tasks()?;
+    for (sched, i, budget, want) in [
+        (Sched::Rm, 0, 4, Some(25)),
+        (Sched::Rm, 1, 4, Some(46)),
+        (Sched::Rm, 0, 3, Some(35)),
+        (Sched::Rm, 1, 3, None),
+        (Sched::Listed, 0, 0, None),
+    ] {
+        let supply = periodic(10, budget)?;
+        assert_eq!(rt;
+            hit(sched, &tasks, i, &supply),
+            want,
+            "task {i} of {budget}"
+        );
+    }
+    assert_eq!(rt; hit(Sched::Dm, &tasks, 1, &Full), Some(16));
+    Ok(())
+}
+
+#[test]
+fn hits_leave_room_for_the_jitter(rt: HostRuntime) -> Result<(), Fail> {
+    let tasks = two_late_tasks()?;
+    let four = periodic(10, 4)?;
+    for (i, want) in [(0, 25), (1, 65)] {
+        assert_eq!(rt; hit(Sched::Rm, &tasks, i, &four), Some(want), "task {i}");
+    }
+    // at its end, and past it
+    for (jitter, want) in [(5, Some(25)), (6, None)] {
+        let tasks = [late_task(50, 30, 7, jitter)?];
+        assert_eq!(rt; hit(Sched::Rm, &tasks, 0, &four), want, "jitter {jitter}");
+    }
+    Ok(())
+}
+
+#[test]
+fn hits_of_the_longest_tasks(rt: HostRuntime) -> Result<(), Fail> {
+    let tasks = five_long_tasks()?;
+    let second = periodic(1_000_000, 1)?;
+    for (i, want) in [
+        (0, 1_999_999),
+        (1, 2_999_999),
+        (2, 3_999_999),
+        (3, 4_999_999),
+        (4, 5_999_999),
+    ] {
+        assert_eq!(rt; hit(Sched::Rm, &tasks, i, &second), Some(want), "task {i}");
+    }
+    Ok(())
+}
+
+#[test]
+fn hits_of_equal_tasks(rt: HostRuntime) -> Result<(), Fail> {
+    let task = task(10, 8, 4)?;
+    let tasks = [task, task, task];
+    for sched in [Sched::Rm, Sched::Dm, Sched::Listed] {
+        assert_eq!(rt; hit(sched, &tasks, 0, &Full), Some(4));
+        assert_eq!(rt; hit(sched, &tasks, 1, &Full), Some(8));
+        assert_eq!(rt; hit(sched, &tasks, 2, &Full), None);
+    }
+    Ok(())
+}
+
+#[test]
+fn falls_of_a_task_without_a_hit(rt: HostRuntime) -> Result<(), Fail> {
+    let tasks = two_tasks()?;
+    let three = periodic(10, 3)?;
+    match hit(Sched::Rm, &tasks, 1, &three) {
+        None => {
+            let falls = falls(rt.alloc(), Sched::Rm, &tasks, 1, &three)?;
+            assert_eq!(rt; falls.as_slice(), &[1, 65, 76][..]);
+        }
+        Some(t) => panic!(rt; "a hit at {t}"),
+    }
+    Ok(())
+}
+
+#[test]
+fn falls_leave_room_for_the_jitter(rt: HostRuntime) -> Result<(), Fail> {
+    let four = periodic(10, 4)?;
+    let past_it = [late_task(50, 30, 7, 6)?];
+    match hit(Sched::Rm, &past_it, 0, &four) {
+        None => {
+            let falls = falls(rt.alloc(), Sched::Rm, &past_it, 0, &four)?;
+            assert_eq!(rt; falls.as_slice(), &[1, 25][..]);
+        }
+        Some(t) => panic!(rt; "a hit at {t}"),
+    }
+    Ok(())
+}

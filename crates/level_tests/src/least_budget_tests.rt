@@ -1,0 +1,102 @@
+ghost use Rattle.std.specs.Prelude.{◌^◌, ◌<◌, ◌≤◌, length};
+ghost use Rattle.slot_model.specs.declared.task.TheConstants.{LIMIT};
+
+use crate::helpers::{five_long_tasks, five_rates, periodic, task, two_late_tasks, two_tasks};
+use least_budget::{Least, Tested, least_budget, test};
+use slot_model::{Sched, Short, Task};
+use std::process::Abort;
+use std::test::Fail;
+use supply_bound::{Full, Periodic};
+
+const RANKS: [Sched; 3] = [Sched::Rm, Sched::Dm, Sched::Listed];
+
+fn expect_budget(rt: &impl Abort, sched: Sched, tasks: &[Task], period: u64, budget: u64)
+    requires few { length tasks.now < 2 ^ 32 }
+    requires some_period { 1 ≤ period }
+    requires in_limit { period ≤ LIMIT }
+{
+    let found = least_budget(sched, tasks, period);
+    assert_eq!(rt; found, Least::Budget(budget), "{sched:?} in {period}");
+}
+
+#[test]
+fn budgets_of_small_levels(rt: HostRuntime) -> Result<(), Fail> {
+    let (two, late) = (two_tasks()?, two_late_tasks()?);
+    for (sched, budget) in [(Sched::Edf, 3), (Sched::Rm, 4)] {
+        expect_budget(&rt, sched, &two, 10, budget);
+        expect_budget(&rt, sched, &late, 10, budget);
+    }
+    let whole = [task(5, 5, 5)?];
+    let long = [task(1_000_000_000, 1_000_000_000, 1_000_000_000)?];
+    for sched in [Sched::Edf, Sched::Rm, Sched::Dm, Sched::Listed] {
+        expect_budget(&rt, sched, &[], 10, 0);
+        expect_budget(&rt, sched, &whole, 5, 5);
+        expect_budget(&rt, sched, &long, 1_000_000_000, 1_000_000_000);
+    }
+    Ok(())
+}
+
+#[test]
+fn levels_that_ask_for_too_much(rt: HostRuntime) -> Result<(), Fail> {
+    let tasks = [task(2, 2, 2)?, task(3, 3, 1)?];
+    for (sched, short) in [
+        (Sched::Edf, Short::At(4)),
+        (Sched::Rm, Short::Task(1)),
+        (Sched::Dm, Short::Task(1)),
+        (Sched::Listed, Short::Task(1)),
+    ] {
+        for period in [2, 100] {
+            let found = least_budget(sched, &tasks, period);
+            assert_eq!(rt; found, Least::Over(short), "{sched:?} in {period}");
+        }
+    }
+    let full = test(Sched::Edf, &tasks, &Full);
+    assert_eq!(rt; full, Tested::Short(Short::At(4)));
+    Ok(())
+}
+
+#[test]
+fn horizons_past_128_bits(rt: HostRuntime) -> Result<(), Fail> {
+    let tasks = five_long_tasks()?;
+    assert_eq!(rt; least_budget(Sched::Edf, &tasks, 1_000_000), Least::Wide);
+    assert_eq!(rt; test(Sched::Edf, &tasks, &Full), Tested::Wide);
+    for sched in RANKS {
+        assert_eq!(rt; least_budget(sched, &tasks, 1_000_000), Least::Budget(1));
+    }
+    Ok(())
+}
+
+#[test]
+fn tests_at_the_least_budget(rt: HostRuntime) -> Result<(), Fail> {
+    let tasks = two_tasks()?;
+    for (sched, budget, want) in [
+        (Sched::Edf, 2, Tested::Short(Short::At(75))),
+        (Sched::Edf, 3, Tested::Passes),
+        (Sched::Rm, 3, Tested::Short(Short::Task(1))),
+        (Sched::Dm, 3, Tested::Short(Short::Task(1))),
+        (Sched::Listed, 3, Tested::Short(Short::Task(1))),
+    ] {
+        let supply = periodic(10, budget)?;
+        assert_eq!(rt; test(sched, &tasks, &supply), want, "{sched:?} of {budget}");
+    }
+    for sched in RANKS {
+        assert_eq!(rt; test(sched, &tasks, &Full), Tested::Passes);
+    }
+    Ok(())
+}
+
+// The horizon is some 10^22 slots.
+#[test]
+fn periods_with_no_small_common_multiple(rt: HostRuntime) -> Result<(), Fail> {
+    let tasks = five_rates()?;
+    assert_eq!(rt;
+        least_budget(Sched::Edf, &tasks, 4_000),
+        Least::Budget(1_217)
+    );
+    let below = periodic(4_000, 1_216)?;
+    assert_eq!(rt;
+        test(Sched::Edf, &tasks, &below),
+        Tested::Short(Short::At(100_002))
+    );
+    Ok(())
+}

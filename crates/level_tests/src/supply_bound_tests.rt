@@ -1,0 +1,89 @@
+use crate::helpers::periodic;
+use std::test::Fail;
+use supply_bound::{Full, Periodic, Supply};
+
+#[test]
+fn least_slots_of_windows(rt: HostRuntime) -> Result<(), Fail> {
+    for (period, budget, window, slots) in [
+        (10, 3, 0, 0),
+        (10, 3, 14, 0),
+        (10, 3, 15, 1),
+        (10, 3, 17, 3),
+        (10, 3, 24, 3),
+        (10, 3, 25, 4),
+        (10, 3, u128::MAX, 102084710076281539039012382229530463433),
+        (5, 0, 0, 0),
+        (5, 0, 1, 0),
+        (5, 0, 5, 0),
+        (5, 0, 100, 0),
+        (5, 0, u128::MAX, 0),
+        (5, 5, u128::MAX, u128::MAX),
+    ] {
+        let least = periodic(period, budget)?.least(window);
+        assert_eq!(rt; least, slots, "{budget} in {period}, a window of {window}");
+    }
+    assert_eq!(rt; Full.least(7), 7);
+    Ok(())
+}
+
+#[test]
+fn windows_that_reach_a_bound(rt: HostRuntime) -> Result<(), Fail> {
+    for (period, budget, slots, window) in [
+        (10, 3, 0, Some(0)),
+        (10, 3, 1, Some(15)),
+        (10, 3, 3, Some(17)),
+        (10, 3, 4, Some(25)),
+        (10, 3, 16, Some(65)),
+        (10, 3, u128::MAX, None),
+        (
+            2,
+            1,
+            170141183460469231731687303715884105727,
+            Some(u128::MAX),
+        ),
+        (2, 1, 170141183460469231731687303715884105728, None),
+        (5, 0, 0, Some(0)),
+        (5, 0, 1, None),
+    ] {
+        let reached = periodic(period, budget)?.reach(slots);
+        assert_eq!(rt; reached, window, "{budget} in {period}, {slots} slots");
+    }
+    assert_eq!(rt; Full.reach(u128::MAX), Some(u128::MAX));
+    Ok(())
+}
+
+#[test]
+fn resources_in_range(rt: HostRuntime) {
+    for (period, budget) in [(0, 0), (5, 6), (1_000_000_001, 1), (u64::MAX, u64::MAX)] {
+        assert_eq!(rt;
+            Periodic::new(period, budget),
+            None,
+            "{period} and {budget}"
+        );
+    }
+    for (period, budget) in [
+        (1, 0),
+        (1, 1),
+        (1_000_000_000, 0),
+        (1_000_000_000, 1_000_000_000),
+    ] {
+        assert!(rt;
+            Periodic::new(period, budget).is_some(),
+            "{period} and {budget}"
+        );
+    }
+}
+
+#[test]
+fn worst_patterns(rt: HostRuntime) -> Result<(), Fail> {
+    let part = periodic(5, 2)?;
+    let given = [
+        true, true, false, false, false, false, false, false, true, true, false, false, false, true,
+    ];
+    for (x, slot) in given.iter().enumerate() {
+        assert_eq!(rt; part.worst(x as u64), *slot, "slot {x}");
+    }
+    assert_eq!(rt; (part.start(), part.cycle()), (2, 5));
+    assert_eq!(rt; (Full.worst(3), Full.start(), Full.cycle()), (true, 0, 1));
+    Ok(())
+}

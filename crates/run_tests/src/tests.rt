@@ -1,0 +1,3 @@
+mod failing;
+mod slot_by_slot;
+mod texts;

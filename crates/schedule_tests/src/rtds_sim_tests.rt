@@ -1,0 +1,317 @@
+ghost use Rattle.std.specs.Prelude.{◌≤◌, IfOk};
+ghost use Rattle.release_file.specs.Workload.{IsWorkload};
+
+use crate::helpers::{planned, system_of};
+use release_file::{Wake, read_workload};
+use rtds_sim::{RtdsFault, print_rtds, run_rtds};
+use std::alloc::{AllocError, Global};
+use std::process::Abort;
+use std::test::Fail;
+use trace_file::{Trace, check_events, print_trace, read_trace};
+use tree_model::System;
+
+/// A, with extra time or without, and B on cpu0, 3 and 4 slots in every 10, and C on cpu1, 1 in
+/// every 4.
+fn host(rt: &impl Abort, alloc: Global, extra: bool, sched: &str) -> Result<System, AllocError> {
+    let text = format!(in alloc;
+        "format = 1
+core = [{{name = 'cpu0', sched = 'edf'}}, {{name = 'cpu1', sched = '{sched}'}}]
+[[part]]
+name = 'A'
+parent = 'cpu0'
+sched = 'edf'
+period = 10
+budget = 3
+extra = {extra}
+task = [{{name = 't', period = 100, work = 1}}]
+[[part]]
+name = 'B'
+parent = 'cpu0'
+sched = 'edf'
+period = 10
+budget = 4
+task = [{{name = 't', period = 100, work = 1}}]
+[[part]]
+name = 'C'
+parent = 'cpu1'
+sched = 'edf'
+period = 4
+budget = 1
+task = [{{name = 't', period = 100, work = 1}}]
+"
+    )?;
+    Ok(system_of(rt, alloc, text.as_str()))
+}
+
+/// The workload of these rows.
+fn workload(
+    rt: &impl Abort,
+    alloc: Global,
+    sys: &System,
+    rows: &str,
+) -> Result<Vec<Wake>, AllocError>
+    ensures { IfOk result (λ wakes. IsWorkload sys.now wakes.items) }
+{
+    let text = format!(in alloc; "at,vcpu,what\n{rows}")?;
+    match read_workload(alloc, sys, text.as_bytes()) {
+        Ok(wakes) => Ok(wakes),
+        Err(fault) => panic!(rt; "{fault:?}"),
+    }
+}
+
+/// The trace and its text, or the fault of both.
+fn ran(
+    rt: &impl Abort,
+    alloc: Global,
+    sys: &System,
+    rows: &str,
+    slots: u64,
+) -> Result<Result<(Trace, Vec<u8>), RtdsFault>, AllocError>
+    requires some { 1 ≤ slots }
+    requires short { slots ≤ 1000000 }
+{
+    let plan = planned(rt, alloc, sys);
+    let wakes = workload(rt, alloc, sys, rows)?;
+    let run = run_rtds(alloc, sys, &plan, &wakes, slots);
+    let text = print_rtds(alloc, sys, &plan, &wakes, slots);
+    match (run, text) {
+        (Ok(trace), Ok(text)) => Ok(Ok((trace, text))),
+        (Err(fault), Err(other)) => {
+            assert_eq!(rt; fault, other);
+            Ok(Err(fault))
+        }
+        _ => panic!(rt; "one of them is refused"),
+    }
+}
+
+/// The trace is of these rows, and so is its text.
+fn expect_trace(
+    rt: &impl Abort,
+    alloc: Global,
+    sys: &System,
+    rows: &str,
+    slots: u64,
+    wanted: &str,
+) -> Result<(), AllocError>
+    requires some { 1 ≤ slots }
+    requires short { slots ≤ 1000000 }
+{
+    let (trace, text) = ran(rt, alloc, sys, rows, slots)?.expect(rt, "a trace");
+    let wanted = format!(in alloc; "at,core,what,vcpu\n{wanted}")?;
+    assert!(rt; text.as_slice() == wanted.as_bytes());
+    assert!(rt; text == print_trace(alloc, sys, &trace)?);
+    assert!(rt; check_events(alloc, sys, trace.events()).is_ok());
+    match read_trace(alloc, sys, wanted.as_bytes()) {
+        Ok(read) => assert_eq!(rt; trace.events(), read.events()),
+        Err(fault) => panic!(rt; "{fault:?}"),
+    }
+    Ok(())
+}
+
+const EXTRA: &str = "0,cpu0,start,A
+0,cpu0,start,B
+0,cpu0,run,A
+3,cpu0,run,B
+7,cpu0,run,A
+10,,end,
+";
+
+#[test]
+fn extra_time_comes_after_budgets(rt: HostRuntime) -> Result<(), Fail> {
+    let sys = host(&rt, rt.alloc(), true, "edf")?;
+    expect_trace(&rt, rt.alloc(), &sys, "0,A,start\n0,B,start\n", 10, EXTRA)?;
+    Ok(())
+}
+
+const IDLE: &str = "0,cpu0,start,A
+0,cpu0,start,B
+0,cpu0,run,A
+3,cpu0,run,B
+7,cpu0,stop,
+10,cpu0,run,A
+12,,end,
+";
+
+const BLOCKS: &str = "1,cpu0,start,A
+1,cpu0,run,A
+2,cpu0,stop,
+2,cpu0,start,B
+2,cpu0,block,A
+2,cpu0,run,B
+4,cpu0,wake,A
+4,cpu0,run,A
+6,cpu0,run,B
+8,cpu0,stop,
+11,cpu0,run,A
+12,,end,
+";
+
+const SIDE_BY_SIDE: &str = "0,cpu1,start,C
+0,cpu1,run,C
+1,cpu1,stop,
+3,cpu0,start,A
+3,cpu0,run,A
+4,cpu1,run,C
+5,cpu1,stop,
+6,cpu0,stop,
+7,,end,
+";
+
+/// Without rows for longer than the stretch that is told at once.
+const LATE: &str = "8999,cpu1,start,C
+8999,cpu1,run,C
+9000,cpu1,stop,
+9001,,end,
+";
+
+#[test]
+fn vcpus_without_extra_time(rt: HostRuntime) -> Result<(), Fail> {
+    let sys = host(&rt, rt.alloc(), false, "edf")?;
+    let block = "1,A,start\n2,B,start\n2,A,block\n4,A,wake\n12,B,block\n";
+    expect_trace(&rt, rt.alloc(), &sys, "0,A,start\n0,B,start\n", 12, IDLE)?;
+    expect_trace(&rt, rt.alloc(), &sys, block, 12, BLOCKS)?;
+    expect_trace(
+        &rt,
+        rt.alloc(),
+        &sys,
+        "0,C,start\n3,A,start\n",
+        7,
+        SIDE_BY_SIDE,
+    )?;
+    expect_trace(&rt, rt.alloc(), &sys, "8999,C,start\n", 9_001, LATE)?;
+    Ok(())
+}
+
+#[test]
+fn cores_go_on_past_a_stretch(rt: HostRuntime) -> Result<(), Fail> {
+    let alloc = rt.alloc();
+    let sys = host(&rt, alloc, false, "edf")?;
+    let mut wanted = String::from_str(alloc, "0,cpu1,start,C\n")?;
+    for period in 0..1_025u64 {
+        let begin = 4 * period;
+        let end = begin + 1;
+        let rows = format!(in alloc; "{begin},cpu1,run,C\n{end},cpu1,stop,\n")?;
+        wanted.push_str(rows.as_str())?;
+    }
+    wanted.push_str("4100,,end,\n")?;
+    expect_trace(&rt, alloc, &sys, "0,C,start\n", 4_100, wanted.as_str())?;
+    Ok(())
+}
+
+/// U0, U1 and U2 on cpu0, 2, 3 and 1 slots in every 10, nothing on cpu1, and W0 to W3 on cpu2, each
+/// 1 in every 10.
+const THREE_CORES: &str = "format = 1
+[[core]]
+name = 'cpu0'
+sched = 'edf'
+[[core]]
+name = 'cpu1'
+sched = 'edf'
+[[core]]
+name = 'cpu2'
+sched = 'edf'
+[[part]]
+name = 'U0'
+parent = 'cpu0'
+sched = 'edf'
+period = 10
+budget = 2
+task = [{name = 't', period = 100, work = 1}]
+[[part]]
+name = 'U1'
+parent = 'cpu0'
+sched = 'edf'
+period = 10
+budget = 3
+task = [{name = 't', period = 100, work = 1}]
+[[part]]
+name = 'U2'
+parent = 'cpu0'
+sched = 'edf'
+period = 10
+budget = 1
+task = [{name = 't', period = 100, work = 1}]
+[[part]]
+name = 'W0'
+parent = 'cpu2'
+sched = 'edf'
+period = 10
+budget = 1
+task = [{name = 't', period = 100, work = 1}]
+[[part]]
+name = 'W1'
+parent = 'cpu2'
+sched = 'edf'
+period = 10
+budget = 1
+task = [{name = 't', period = 100, work = 1}]
+[[part]]
+name = 'W2'
+parent = 'cpu2'
+sched = 'edf'
+period = 10
+budget = 1
+task = [{name = 't', period = 100, work = 1}]
+[[part]]
+name = 'W3'
+parent = 'cpu2'
+sched = 'edf'
+period = 10
+budget = 1
+task = [{name = 't', period = 100, work = 1}]
+";
+
+const ALL_START: &str = "0,U0,start
+0,U1,start
+0,U2,start
+0,W0,start
+0,W1,start
+0,W2,start
+0,W3,start
+8,U0,block
+";
+
+const SLOT_BY_SLOT: &str = "0,cpu0,start,U0
+0,cpu0,start,U1
+0,cpu0,start,U2
+0,cpu2,start,W0
+0,cpu2,start,W1
+0,cpu2,start,W2
+0,cpu2,start,W3
+0,cpu0,run,U0
+0,cpu2,run,W0
+1,cpu2,run,W1
+2,cpu0,run,U1
+2,cpu2,run,W2
+3,cpu2,run,W3
+4,cpu2,stop,
+5,cpu0,run,U2
+6,cpu0,stop,
+8,cpu0,block,U0
+9,,end,
+";
+
+/// And what was told up to slot 8 is not told again.
+#[test]
+fn switches_are_told_slot_by_slot_and_core_by_core(rt: HostRuntime) -> Result<(), Fail> {
+    let sys = system_of(&rt, rt.alloc(), THREE_CORES);
+    expect_trace(&rt, rt.alloc(), &sys, ALL_START, 9, SLOT_BY_SLOT)?;
+    Ok(())
+}
+
+const TEXT: &str = "2,cpu1,start,C\n2,cpu1,run,C\n3,cpu1,stop,\n6,cpu1,run,C\n7,,end,\n";
+
+#[test]
+fn text_has_a_row_for_each_event(rt: HostRuntime) -> Result<(), Fail> {
+    let sys = host(&rt, rt.alloc(), false, "edf")?;
+    expect_trace(&rt, rt.alloc(), &sys, "2,C,start\n", 7, TEXT)?;
+    Ok(())
+}
+
+#[test]
+fn other_schedulers_are_refused(rt: HostRuntime) -> Result<(), Fail> {
+    let sys = host(&rt, rt.alloc(), false, "rm")?;
+    let refused = ran(&rt, rt.alloc(), &sys, "0,A,start\n", 5)?;
+    assert_eq!(rt; refused.err(), Some(RtdsFault::NotRtds(1)));
+    Ok(())
+}

@@ -1,8 +1,0 @@
-use Rattle.std.proofs.Common.{arith}
-use Rattle.std.proofs.lemmas.List.{length-map}
-use Rattle.slot_model.specs.Task.{sporadic_task, sporadic_tasks}
-use Rattle.release_pattern.proofs.FewJobs.{synchronous-few}
-use Rattle.server_sched.proofs.tests.jobs_of.Goals as goal
-
-pub server_jobs-requires : goal.server_jobs-requires
-server_jobs-requires c = omega (arith, synchronous-few (sporadic_tasks c.args.tasks.now) 0 9, length-map c.args.tasks.now sporadic_task, c.requires)

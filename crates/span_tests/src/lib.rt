@@ -1,0 +1,5 @@
+//! Tests of the runs of one level, from event to event.
+#![tactic(auto)]
+
+#[cfg(test)]
+mod tests;

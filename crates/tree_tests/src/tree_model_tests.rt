@@ -1,0 +1,132 @@
+ghost use Rattle.std.specs.Prelude.{◌≡◌, IsTrue, length};
+ghost use Rattle.tree_model.specs.Tree.{ChildBudgetsFit};
+ghost use Rattle.tree_model.specs.declared.place.Place.{Place as AnyPlace};
+
+use crate::helpers::{add_task, core, inner};
+use slot_model::{Sched, Task};
+use std::alloc::Global;
+use std::process::Abort;
+use std::test::Fail;
+use tree_model::{Parent, Part, Place, System, tasks_of};
+
+/// A part with a task for each of these works.
+fn part(
+    alloc: Global,
+    name: &str,
+    parent: Parent,
+    period: u64,
+    works: &[u64],
+) -> Result<Part, Fail> {
+    let mut part = inner(alloc, name, parent, Sched::Rm, period)?;
+    for (work, name) in works.iter().zip(["net", "disk"]) {
+        add_task(alloc, &mut part, name, 10, 8, *work)?;
+    }
+    Ok(part)
+}
+
+/// One full core with these parts.
+fn system(alloc: Global, parts: Vec<Part>) -> Result<Option<System>, Fail> {
+    let cores = vec![in alloc; core(alloc, "cpu0", Sched::Edf, None)?]?;
+    Ok(System::new(cores, parts).ok())
+}
+
+fn are_in_period(sys: &System, budgets: &[u64]) -> bool
+    requires { length budgets.now ≡ length sys.now.parts }
+    ensures { IsTrue result → (node : AnyPlace) → ChildBudgetsFit sys.now budgets.now node }
+{
+    for (q, part) in sys.parts().iter().enumerate() {
+        if budgets[q] < 1 || budgets[q] > part.period() {
+            return false;
+        }
+    }
+    true
+}
+
+fn tasks_at(
+    rt: &impl Abort,
+    sys: &System,
+    budgets: &[u64],
+    place: Place,
+    into: &mut [Task],
+) -> Option<usize> {
+    assert_eq!(rt; budgets.len(), sys.parts().len());
+    assert!(rt; are_in_period(sys, budgets));
+    match place {
+        Place::Core(c) => assert!(rt; (c as usize) < sys.cores().len()),
+        Place::Part(q) => assert!(rt; (q as usize) < sys.parts().len()),
+    }
+    tasks_of(sys, budgets, place, into)
+}
+
+/// A group with a guest, and a guest beside it.
+fn group_and_guest(alloc: Global) -> Result<System, Fail> {
+    let parts = vec![in alloc;
+        part(alloc, "group", Parent::Core(0), 5, &[])?,
+        part(alloc, "web", Parent::Part(0), 4, &[2, 3])?,
+        part(alloc, "db", Parent::Core(0), 6, &[1])?,
+    ]?;
+    Ok(system(alloc, parts)?.ok_or("no system")?)
+}
+
+fn task(period: u64, deadline: u64, work: u64) -> Result<Task, Fail> {
+    Ok(Task::new(period, deadline, work).ok_or("out of range")?)
+}
+
+#[test]
+fn a_node_has_its_own_tasks_or_servers(rt: HostRuntime) -> Result<(), Fail> {
+    let sys = group_and_guest(rt.alloc())?;
+    let other = task(99, 99, 99)?;
+    let budgets = [3, 2, 4];
+    let mut into = [other; 3];
+    let servers = tasks_at(&rt, &sys, &budgets, Place::Core(0), &mut into);
+    assert_eq!(rt; servers, Some(2));
+    assert_eq!(rt; into, [task(5, 5, 3)?, task(6, 6, 4)?, other]);
+    let own = tasks_at(&rt, &sys, &budgets, Place::Part(1), &mut into);
+    assert_eq!(rt; own, Some(2));
+    assert_eq!(rt; into, [task(10, 8, 2)?, task(10, 8, 3)?, other]);
+    let mut few = [other; 1];
+    assert_eq!(rt;
+        tasks_at(&rt, &sys, &budgets, Place::Core(0), &mut few),
+        None
+    );
+    assert_eq!(rt; few, [other]);
+    Ok(())
+}
+
+#[test]
+fn a_parent_stands_earlier_and_has_no_tasks(rt: HostRuntime) -> Result<(), Fail> {
+    let alloc = rt.alloc();
+    let cases = [
+        (Parent::Core(0), Parent::Core(0), true),
+        (Parent::Core(0), Parent::Part(0), false),
+        (Parent::Part(1), Parent::Core(0), false),
+        (Parent::Core(1), Parent::Core(0), false),
+    ];
+    for (first, second, want) in cases {
+        let parts = vec![in alloc;
+            part(alloc, "web", first, 4, &[1])?,
+            part(alloc, "db", second, 4, &[1])?,
+        ]?;
+        assert_eq!(rt; system(alloc, parts)?.is_some(), want);
+    }
+    Ok(())
+}
+
+#[test]
+fn names_differ_and_parts_are_not_empty(rt: HostRuntime) -> Result<(), Fail> {
+    let alloc = rt.alloc();
+    let cases: [(&str, &[u64], bool); 4] = [
+        ("db", &[1], true),
+        ("web", &[1], false),
+        ("cpu0", &[1], false),
+        ("db", &[], false),
+    ];
+    for (name, works, want) in cases {
+        let parts = vec![in alloc;
+            part(alloc, "web", Parent::Core(0), 4, &[1])?,
+            part(alloc, name, Parent::Core(0), 4, works)?,
+        ]?;
+        assert_eq!(rt; system(alloc, parts)?.is_some(), want);
+    }
+    Ok(())
+}
