@@ -3,6 +3,7 @@
 ghost use Rattle.std.specs.Prelude.{◌≡◌};
 
 use slot_model::{Job, Task};
+use std::fmt::Debug;
 use std::process::Abort;
 use std::test::Fail;
 use supply_bound::Periodic;
@@ -67,10 +68,25 @@ pub fn job(task: u32, release: u64, work: u64, early: u64) -> Job
     }
 }
 
+/// The answer is this one.
+pub fn expect<T: Copy + PartialEq + Debug>(rt: &impl Abort, found: T, wanted: T) {
+    assert_eq!(rt; found, wanted);
+}
+
+/// The answer is this one, in the named row of a table.
+pub fn expect_at<R: Copy + Debug, T: Copy + PartialEq + Debug>(
+    rt: &impl Abort,
+    row: R,
+    found: T,
+    wanted: T,
+) {
+    assert_eq!(rt; found, wanted, "at {row:?}");
+}
+
 /// These are the jobs, each as its task, release, work and how early it arrived.
 pub fn assert_jobs(rt: &impl Abort, jobs: &[Job], wanted: &[(u32, u64, u64, u64)]) {
-    assert_eq!(rt; jobs.len(), wanted.len());
+    expect(rt, jobs.len(), wanted.len());
     for (found, (task, release, work, early)) in jobs.iter().zip(wanted) {
-        assert_eq!(rt; *found, job(*task, *release, *work, *early));
+        expect(rt, *found, job(*task, *release, *work, *early));
     }
 }
