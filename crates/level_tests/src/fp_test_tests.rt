@@ -1,8 +1,12 @@
+ghost use Rattle.std.specs.Prelude.{◌<◌, length};
+
 use crate::helpers::{
     expect, expect_at, five_long_tasks, late_task, periodic, task, two_late_tasks, two_tasks,
 };
 use fp_test::{falls, hit};
 use slot_model::{Sched, Task};
+use std::alloc::{AllocError, Global};
+use std::process::Abort;
 use std::test::Fail;
 use supply_bound::{Full, Periodic};
 
@@ -66,17 +70,31 @@ fn hits_of_equal_tasks(rt: HostRuntime) -> Result<(), Fail> {
     Ok(())
 }
 
+/// The task has no hit, and its windows that fall short are these.
+fn expect_falls(
+    rt: &impl Abort,
+    alloc: Global,
+    tasks: &[Task],
+    i: u32,
+    supply: &Periodic,
+    wanted: &[u64],
+) -> Result<(), AllocError>
+    requires { i < length tasks.now }
+{
+    match hit(Sched::Rm, tasks, i, supply) {
+        Some(t) => expect(rt, Some(t), None),
+        None => {
+            let found = falls(alloc, Sched::Rm, tasks, i, supply)?;
+            expect(rt, found.as_slice(), wanted);
+        }
+    }
+    Ok(())
+}
+
 #[test]
 fn falls_of_a_task_without_a_hit(rt: HostRuntime) -> Result<(), Fail> {
-    let tasks = two_tasks()?;
     let three = periodic(10, 3)?;
-    match hit(Sched::Rm, &tasks, 1, &three) {
-        None => {
-            let falls = falls(rt.alloc(), Sched::Rm, &tasks, 1, &three)?;
-            expect(&rt, falls.as_slice(), &[1, 65, 76]);
-        }
-        Some(t) => panic!(rt; "a hit at {t}"),
-    }
+    expect_falls(&rt, rt.alloc(), &two_tasks()?, 1, &three, &[1, 65, 76])?;
     Ok(())
 }
 
@@ -84,12 +102,6 @@ fn falls_of_a_task_without_a_hit(rt: HostRuntime) -> Result<(), Fail> {
 fn falls_leave_room_for_the_jitter(rt: HostRuntime) -> Result<(), Fail> {
     let four = periodic(10, 4)?;
     let past_it = [late_task(50, 30, 7, 6)?];
-    match hit(Sched::Rm, &past_it, 0, &four) {
-        None => {
-            let falls = falls(rt.alloc(), Sched::Rm, &past_it, 0, &four)?;
-            expect(&rt, falls.as_slice(), &[1, 25]);
-        }
-        Some(t) => panic!(rt; "a hit at {t}"),
-    }
+    expect_falls(&rt, rt.alloc(), &past_it, 0, &four, &[1, 25])?;
     Ok(())
 }

@@ -1,6 +1,6 @@
 //! What the tests of several crates make.
 
-ghost use Rattle.std.specs.Prelude.{◌≡◌};
+ghost use Rattle.std.specs.Prelude.{◌≡◌, IfOk};
 
 use slot_model::{Job, Task};
 use std::fmt::Debug;
@@ -14,7 +14,9 @@ pub fn task(period: u64, deadline: u64, work: u64) -> Result<Task, Fail> {
     Ok(Task::new(period, deadline, work).ok_or(OUT)?)
 }
 
-pub fn late_task(period: u64, deadline: u64, work: u64, jitter: u64) -> Result<Task, Fail> {
+pub fn late_task(period: u64, deadline: u64, work: u64, jitter: u64) -> Result<Task, Fail>
+    ensures { IfOk result (λ task. task.jitter ≡ jitter) }
+{
     Ok(Task::with_jitter(period, deadline, work, jitter).ok_or(OUT)?)
 }
 

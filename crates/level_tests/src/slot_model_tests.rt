@@ -157,7 +157,7 @@ fn an_arrival_before_moment_0_counts_for_the_deadline(rt: HostRuntime) -> Result
         got: 3,
         work: 4,
     };
-    assert!(rt; is_legal(&tasks, &jobs));
+    expect(&rt, is_legal(&tasks, &jobs), true);
     expect(&rt, misses(&jobs, &tasks, &run), 1);
     expect(&rt, first_miss(&jobs, &tasks, &run), Some(miss));
     expect(&rt, first_miss(&[job(0, 0, 4, 0)], &tasks, &run), None);
