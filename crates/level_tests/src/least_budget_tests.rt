@@ -28,10 +28,11 @@ fn budgets_of_small_levels(rt: HostRuntime) -> Result<(), Fail> {
         expect_budget(&rt, sched, &two, 10, budget);
         expect_budget(&rt, sched, &late, 10, budget);
     }
+    let none: [Task; 0] = [];
     let whole = [task(5, 5, 5)?];
     let long = [task(1_000_000_000, 1_000_000_000, 1_000_000_000)?];
     for sched in [Sched::Edf, Sched::Rm, Sched::Dm, Sched::Listed] {
-        expect_budget(&rt, sched, &[], 10, 0);
+        expect_budget(&rt, sched, &none, 10, 0);
         expect_budget(&rt, sched, &whole, 5, 5);
         expect_budget(&rt, sched, &long, 1_000_000_000, 1_000_000_000);
     }
