@@ -1,4 +1,6 @@
-use crate::helpers::{five_long_tasks, late_task, task, two_late_tasks, two_tasks};
+use crate::helpers::{
+    expect, expect_at, five_long_tasks, late_task, task, two_late_tasks, two_tasks,
+};
 use edf_demand::{demand, demand_by, gather, horizon};
 use slot_model::Task;
 use std::test::Fail;
@@ -25,7 +27,7 @@ fn demand_of_windows(rt: HostRuntime) -> Result<(), Fail> {
         (&[], u128::MAX, 0),
     ];
     for (tasks, window, work) in cases {
-        assert_eq!(rt; demand(tasks, window), Some(work), "a window of {window}");
+        expect_at(&rt, window, demand(tasks, window), Some(work));
     }
     Ok(())
 }
@@ -34,9 +36,9 @@ fn demand_of_windows(rt: HostRuntime) -> Result<(), Fail> {
 fn demand_near_the_end_of_u128(rt: HostRuntime) -> Result<(), Fail> {
     let whole = task(1, 1, 1)?;
     let half = task(2, 2, 1)?;
-    assert_eq!(rt; demand(&[whole], u128::MAX), Some(u128::MAX));
-    assert_eq!(rt; demand(&[half, half], u128::MAX), Some(u128::MAX - 1));
-    assert_eq!(rt; demand(&[whole, half], u128::MAX), None);
+    expect(&rt, demand(&[whole], u128::MAX), Some(u128::MAX));
+    expect(&rt, demand(&[half, half], u128::MAX), Some(u128::MAX - 1));
+    expect(&rt, demand(&[whole, half], u128::MAX), None);
     Ok(())
 }
 
@@ -49,12 +51,10 @@ fn demand_by_terms(rt: HostRuntime) -> Result<(), Fail> {
     ];
     let mut terms = [Term::none(); 3];
     let whole = gather(&tasks, &mut terms);
-    assert_eq!(rt; whole.terms, 2);
-    assert_eq!(rt; whole.tasks, 3);
+    expect(&rt, (whole.terms, whole.tasks), (2, 3));
     let mut term = [Term::none()];
     let part = gather(&tasks, &mut term);
-    assert_eq!(rt; part.terms, 1);
-    assert_eq!(rt; part.tasks, 2);
+    expect(&rt, (part.terms, part.tasks), (1, 2));
     for (window, work) in [
         (44, 0),
         (45, 9),
@@ -66,15 +66,17 @@ fn demand_by_terms(rt: HostRuntime) -> Result<(), Fail> {
         (u64::MAX as u128, 5_534_023_222_112_865_480),
         (1 << 127, 51_042_355_038_140_769_519_506_191_114_765_231_707),
     ] {
-        assert_eq!(rt;
+        expect_at(
+            &rt,
+            window,
             demand_by(&tasks, &terms, whole, window),
             Some(work),
-            "a window of {window}"
         );
-        assert_eq!(rt;
+        expect_at(
+            &rt,
+            window,
             demand_by(&tasks, &term, part, window),
             Some(work),
-            "a window of {window}"
         );
     }
     Ok(())
@@ -83,10 +85,10 @@ fn demand_by_terms(rt: HostRuntime) -> Result<(), Fail> {
 #[test]
 fn horizons(rt: HostRuntime) -> Result<(), Fail> {
     let tasks = two_tasks()?;
-    assert_eq!(rt; horizon(&tasks, 10), Some(160));
-    assert_eq!(rt; horizon(&tasks, 1), Some(151));
-    assert_eq!(rt; horizon(&[], 10), Some(20));
+    expect(&rt, horizon(&tasks, 10), Some(160));
+    expect(&rt, horizon(&tasks, 1), Some(151));
+    expect(&rt, horizon(&[], 10), Some(20));
     let long = five_long_tasks()?;
-    assert_eq!(rt; horizon(&long, 1_000_000), None);
+    expect(&rt, horizon(&long, 1_000_000), None);
     Ok(())
 }

@@ -1,6 +1,8 @@
 ghost use Rattle.std.specs.Prelude.{◌^◌, ◌-◌, ◌≤◌};
 
-use crate::helpers::{OUT, five_rates, periodic, task, two_late_tasks, two_tasks};
+use crate::helpers::{
+    OUT, expect, expect_at, five_rates, periodic, task, two_late_tasks, two_tasks,
+};
 use edf_demand::horizon;
 use edf_test::{cover, first_short, passes, settled_past};
 use slot_model::Task;
@@ -23,8 +25,13 @@ fn short_points_of_a_periodic_resource(rt: HostRuntime) -> Result<(), Fail> {
     ] {
         let supply = periodic(10, budget)?;
         let found = first_short(tasks, &supply, window);
-        assert_eq!(rt; found, short, "{budget} in 10 up to {window}");
-        assert!(rt; passes(tasks, &supply, window) == short.is_none());
+        expect_at(&rt, (budget, window), found, short);
+        expect_at(
+            &rt,
+            (budget, window),
+            passes(tasks, &supply, window),
+            short.is_none(),
+        );
     }
     Ok(())
 }
@@ -43,12 +50,13 @@ fn short_points_of_a_full_supply(rt: HostRuntime) -> Result<(), Fail> {
         (100, u128::MAX, Some(4)),
     ] {
         let found = first_short(&tasks, &periodic(period, period)?, window);
-        assert_eq!(rt; found, short, "up to {window} of {period}");
+        expect_at(&rt, (period, window), found, short);
     }
     // two deadlines fall at 20, and together they ask for 21 slots
     let together = [task(10, 10, 5)?, task(20, 20, 11)?];
-    assert_eq!(rt; first_short(&together, &Full, 1000), Some(20));
-    assert!(rt; first_short(&[], &Full, u128::MAX).is_none() && passes(&[], &Full, u128::MAX));
+    expect(&rt, first_short(&together, &Full, 1000), Some(20));
+    expect(&rt, first_short(&[], &Full, u128::MAX), None);
+    expect(&rt, passes(&[], &Full, u128::MAX), true);
     Ok(())
 }
 
@@ -56,11 +64,12 @@ fn short_points_of_a_full_supply(rt: HostRuntime) -> Result<(), Fail> {
 fn a_supply_that_gives_nothing(rt: HostRuntime) -> Result<(), Fail> {
     let tasks = [task(1_000_000_000, 1_000_000_000, 1)?];
     let nothing = periodic(5, 0)?;
-    assert_eq!(rt;
+    expect(
+        &rt,
         first_short(&tasks, &nothing, u128::MAX),
-        Some(1_000_000_000)
+        Some(1_000_000_000),
     );
-    assert!(rt; passes(&tasks, &nothing, 999_999_999));
+    expect(&rt, passes(&tasks, &nothing, 999_999_999), true);
     Ok(())
 }
 
@@ -76,8 +85,8 @@ fn expect_cover<S: Supply>(
     requires { window ≤ 2 ^ 128 - 2 }
 {
     match cover(alloc, tasks, supply, window)? {
-        Some(found) => assert_eq!(rt; found.as_slice(), points, "up to {window}"),
-        None => assert!(rt; points.is_empty(), "no cover up to {window}"),
+        Some(found) => expect_at(rt, window, found.as_slice(), points),
+        None => expect_at(rt, window, points.is_empty(), true),
     }
     Ok(())
 }
@@ -104,8 +113,9 @@ fn periods_with_no_small_common_multiple(rt: HostRuntime) -> Result<(), Fail> {
     let h = horizon(&tasks, 4_000).ok_or(OUT)?;
     for (budget, short) in [(1_217, None), (1_216, Some(100_002))] {
         let supply = periodic(4_000, budget)?;
-        assert_eq!(rt; first_short(&tasks, &supply, h), short, "{budget}");
-        assert!(rt; passes(&tasks, &supply, h) == short.is_none() && supply.cycle() == 4_000);
+        expect_at(&rt, budget, first_short(&tasks, &supply, h), short);
+        expect_at(&rt, budget, passes(&tasks, &supply, h), short.is_none());
+        expect(&rt, supply.cycle(), 4_000);
     }
     Ok(())
 }
@@ -119,9 +129,10 @@ fn a_full_supply_to_the_last_slot(rt: HostRuntime) -> Result<(), Fail> {
         tasks[i] = task(3 * thirds[i], 3 * thirds[i], thirds[i])?;
     }
     let h = horizon(&tasks, 1).ok_or(OUT)?;
-    assert!(rt; passes(&tasks, &Full, h) && first_short(&tasks, &Full, h).is_none());
+    expect(&rt, passes(&tasks, &Full, h), true);
+    expect(&rt, first_short(&tasks, &Full, h), None);
     tasks[0] = task(3 * thirds[0], 3 * thirds[0], thirds[0] + 1)?;
-    assert!(rt; !passes(&tasks, &Full, h));
+    expect(&rt, passes(&tasks, &Full, h), false);
     Ok(())
 }
 
@@ -129,18 +140,18 @@ fn a_full_supply_to_the_last_slot(rt: HostRuntime) -> Result<(), Fail> {
 fn a_rate_that_is_above_the_supply(rt: HostRuntime) -> Result<(), Fail> {
     let third = [task(50, 50, 15)?];
     let supply = periodic(10, 3)?;
-    assert!(rt; !passes(&third, &supply, 60));
-    assert_eq!(rt; first_short(&third, &supply, 60), Some(50));
+    expect(&rt, passes(&third, &supply, 60), false);
+    expect(&rt, first_short(&third, &supply, 60), Some(50));
     Ok(())
 }
 
 #[test]
 fn settled_points(rt: HostRuntime) -> Result<(), Fail> {
     let tasks = two_tasks()?;
-    assert_eq!(rt; settled_past(&tasks, &Full), Some(1));
+    expect(&rt, settled_past(&tasks, &Full), Some(1));
     let third = periodic(10, 3)?;
     // the rates 0.26 and 0.3 meet where the bound is at most 17 slots late: 0.3 * 17 / 0.04 = 127.5
-    assert_eq!(rt; settled_past(&tasks, &third), Some(127));
-    assert_eq!(rt; settled_past(&[task(50, 50, 15)?], &third), None);
+    expect(&rt, settled_past(&tasks, &third), Some(127));
+    expect(&rt, settled_past(&[task(50, 50, 15)?], &third), None);
     Ok(())
 }

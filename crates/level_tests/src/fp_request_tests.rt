@@ -1,7 +1,7 @@
 ghost use Rattle.std.specs.Prelude.{◌≡◌, ◌<◌, ◌≤◌, length};
 ghost use Rattle.slot_model.specs.Task.{sporadic_tasks, task_at};
 
-use crate::helpers::{OUT, job, late_task, task, two_late_tasks, two_tasks};
+use crate::helpers::{OUT, expect, expect_at, job, late_task, task, two_late_tasks, two_tasks};
 use fp_request::{Fixed, gather, gather_above, higher, request, request_by};
 use slot_model::{Job, Order, Sched, Task};
 use std::test::Fail;
@@ -30,7 +30,7 @@ fn requests_of_two_tasks(rt: HostRuntime) -> Result<(), Fail> {
         (Sched::Dm, 1, 100, 23),
         (Sched::Listed, 1, 101, 30),
     ] {
-        assert_eq!(rt; request(sched, &tasks, i, t), Some(want), "task {i} at {t}");
+        expect_at(&rt, (i, t), request(sched, &tasks, i, t), Some(want));
     }
     Ok(())
 }
@@ -38,15 +38,15 @@ fn requests_of_two_tasks(rt: HostRuntime) -> Result<(), Fail> {
 #[test]
 fn requests_with_jitter(rt: HostRuntime) -> Result<(), Fail> {
     let tasks = two_late_tasks()?;
-    assert_eq!(rt; request(Sched::Rm, &tasks, 1, 45), Some(16));
-    assert_eq!(rt; request(Sched::Rm, &tasks, 1, 46), Some(23));
+    expect(&rt, request(Sched::Rm, &tasks, 1, 45), Some(16));
+    expect(&rt, request(Sched::Rm, &tasks, 1, 46), Some(23));
     // The window and the jitter together pass 2^128 slots.
     let long = [
         late_task(1_000_000_000, 1_000_000_000, 1, 999_999_999)?,
         task(1_000_000_000, 1_000_000_000, 1)?,
     ];
     let most = u128::MAX / 1_000_000_000 + 3;
-    assert_eq!(rt; request(Sched::Listed, &long, 1, u128::MAX), Some(most));
+    expect(&rt, request(Sched::Listed, &long, 1, u128::MAX), Some(most));
     Ok(())
 }
 
@@ -61,7 +61,7 @@ fn requests_by_terms(rt: HostRuntime) -> Result<(), Fail> {
     let count = gather(&tasks, &mut room);
     let mut terms = [Term::none(); 3];
     let above = gather_above(Sched::Rm, &tasks, &room[..count], 2, &mut terms);
-    assert!(rt; above.is_some());
+    expect(&rt, above.is_some(), true);
     for (t, want) in [
         (0, 29),
         (1, 36),
@@ -71,10 +71,11 @@ fn requests_by_terms(rt: HostRuntime) -> Result<(), Fail> {
         (71, 52),
         (10_000_000_000, 2_600_000_026),
     ] {
-        assert_eq!(rt;
+        expect_at(
+            &rt,
+            t,
             request_by(Sched::Rm, &tasks, 2, &terms, above, t),
             Some(want),
-            "at {t}"
         );
     }
     Ok(())
@@ -84,12 +85,13 @@ fn requests_by_terms(rt: HostRuntime) -> Result<(), Fail> {
 fn requests_past_128_bits(rt: HostRuntime) -> Result<(), Fail> {
     let each_slot = task(1, 1, 1)?;
     let tasks = [each_slot, each_slot];
-    assert_eq!(rt;
+    expect(
+        &rt,
         request(Sched::Rm, &tasks, 1, u128::MAX - 1),
-        Some(u128::MAX)
+        Some(u128::MAX),
     );
-    assert_eq!(rt; request(Sched::Rm, &tasks, 1, u128::MAX), None);
-    assert_eq!(rt; request(Sched::Rm, &tasks, 0, u128::MAX), Some(1));
+    expect(&rt, request(Sched::Rm, &tasks, 1, u128::MAX), None);
+    expect(&rt, request(Sched::Rm, &tasks, 0, u128::MAX), Some(1));
     Ok(())
 }
 
@@ -107,23 +109,23 @@ fn ranks_and_their_ties(rt: HostRuntime) -> Result<(), Fail> {
         (Sched::Listed, 2, 1, false),
         (Sched::Listed, 1, 1, false),
     ] {
-        assert_eq!(rt; higher(sched, &tasks, i, j), want, "{i} above {j}");
+        expect_at(&rt, (i, j), higher(sched, &tasks, i, j), want);
     }
     Ok(())
 }
 
 #[test]
 fn fixed_orders(rt: HostRuntime) -> Result<(), Fail> {
-    assert_eq!(rt; Fixed::new(Sched::Edf), None);
+    expect(&rt, Fixed::new(Sched::Edf), None);
     let order = Fixed::new(Sched::Rm).ok_or(OUT)?;
     let tasks = [task(75, 75, 9)?, task(50, 50, 7)?];
     let early = job(0, 0, 9, 0);
     let late = job(0, 75, 9, 0);
     let above = job(1, 100, 7, 0);
-    assert!(rt; goes_first(&order, &tasks, &above, &early));
-    assert!(rt; !goes_first(&order, &tasks, &early, &above));
-    assert!(rt; goes_first(&order, &tasks, &early, &late));
-    assert!(rt; !order.before(&tasks, &late, &early));
-    assert!(rt; !order.before(&tasks, &late, &late));
+    expect(&rt, goes_first(&order, &tasks, &above, &early), true);
+    expect(&rt, goes_first(&order, &tasks, &early, &above), false);
+    expect(&rt, goes_first(&order, &tasks, &early, &late), true);
+    expect(&rt, order.before(&tasks, &late, &early), false);
+    expect(&rt, order.before(&tasks, &late, &late), false);
     Ok(())
 }

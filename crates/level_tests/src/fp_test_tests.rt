@@ -1,6 +1,12 @@
-use crate::helpers::{five_long_tasks, late_task, periodic, task, two_late_tasks, two_tasks};
+ghost use Rattle.std.specs.Prelude.{◌<◌, length};
+
+use crate::helpers::{
+    expect, expect_at, five_long_tasks, late_task, periodic, task, two_late_tasks, two_tasks,
+};
 use fp_test::{falls, hit};
 use slot_model::{Sched, Task};
+use std::alloc::{AllocError, Global};
+use std::process::Abort;
 use std::test::Fail;
 use supply_bound::{Full, Periodic};
 
@@ -15,13 +21,9 @@ fn hits_of_two_tasks(rt: HostRuntime) -> Result<(), Fail> {
         (Sched::Listed, 0, 0, None),
     ] {
         let supply = periodic(10, budget)?;
-        assert_eq!(rt;
-            hit(sched, &tasks, i, &supply),
-            want,
-            "task {i} of {budget}"
-        );
+        expect_at(&rt, (i, budget), hit(sched, &tasks, i, &supply), want);
     }
-    assert_eq!(rt; hit(Sched::Dm, &tasks, 1, &Full), Some(16));
+    expect(&rt, hit(Sched::Dm, &tasks, 1, &Full), Some(16));
     Ok(())
 }
 
@@ -30,12 +32,12 @@ fn hits_leave_room_for_the_jitter(rt: HostRuntime) -> Result<(), Fail> {
     let tasks = two_late_tasks()?;
     let four = periodic(10, 4)?;
     for (i, want) in [(0, 25), (1, 65)] {
-        assert_eq!(rt; hit(Sched::Rm, &tasks, i, &four), Some(want), "task {i}");
+        expect_at(&rt, i, hit(Sched::Rm, &tasks, i, &four), Some(want));
     }
     // at its end, and past it
     for (jitter, want) in [(5, Some(25)), (6, None)] {
         let tasks = [late_task(50, 30, 7, jitter)?];
-        assert_eq!(rt; hit(Sched::Rm, &tasks, 0, &four), want, "jitter {jitter}");
+        expect_at(&rt, jitter, hit(Sched::Rm, &tasks, 0, &four), want);
     }
     Ok(())
 }
@@ -51,7 +53,7 @@ fn hits_of_the_longest_tasks(rt: HostRuntime) -> Result<(), Fail> {
         (3, 4_999_999),
         (4, 5_999_999),
     ] {
-        assert_eq!(rt; hit(Sched::Rm, &tasks, i, &second), Some(want), "task {i}");
+        expect_at(&rt, i, hit(Sched::Rm, &tasks, i, &second), Some(want));
     }
     Ok(())
 }
@@ -61,24 +63,38 @@ fn hits_of_equal_tasks(rt: HostRuntime) -> Result<(), Fail> {
     let task = task(10, 8, 4)?;
     let tasks = [task, task, task];
     for sched in [Sched::Rm, Sched::Dm, Sched::Listed] {
-        assert_eq!(rt; hit(sched, &tasks, 0, &Full), Some(4));
-        assert_eq!(rt; hit(sched, &tasks, 1, &Full), Some(8));
-        assert_eq!(rt; hit(sched, &tasks, 2, &Full), None);
+        expect_at(&rt, sched, hit(sched, &tasks, 0, &Full), Some(4));
+        expect_at(&rt, sched, hit(sched, &tasks, 1, &Full), Some(8));
+        expect_at(&rt, sched, hit(sched, &tasks, 2, &Full), None);
+    }
+    Ok(())
+}
+
+/// The task has no hit, and its windows that fall short are these.
+fn expect_falls(
+    rt: &impl Abort,
+    alloc: Global,
+    tasks: &[Task],
+    i: u32,
+    supply: &Periodic,
+    wanted: &[u64],
+) -> Result<(), AllocError>
+    requires { i < length tasks.now }
+{
+    match hit(Sched::Rm, tasks, i, supply) {
+        Some(t) => expect(rt, Some(t), None),
+        None => {
+            let found = falls(alloc, Sched::Rm, tasks, i, supply)?;
+            expect(rt, found.as_slice(), wanted);
+        }
     }
     Ok(())
 }
 
 #[test]
 fn falls_of_a_task_without_a_hit(rt: HostRuntime) -> Result<(), Fail> {
-    let tasks = two_tasks()?;
     let three = periodic(10, 3)?;
-    match hit(Sched::Rm, &tasks, 1, &three) {
-        None => {
-            let falls = falls(rt.alloc(), Sched::Rm, &tasks, 1, &three)?;
-            assert_eq!(rt; falls.as_slice(), &[1, 65, 76][..]);
-        }
-        Some(t) => panic!(rt; "a hit at {t}"),
-    }
+    expect_falls(&rt, rt.alloc(), &two_tasks()?, 1, &three, &[1, 65, 76])?;
     Ok(())
 }
 
@@ -86,12 +102,6 @@ fn falls_of_a_task_without_a_hit(rt: HostRuntime) -> Result<(), Fail> {
 fn falls_leave_room_for_the_jitter(rt: HostRuntime) -> Result<(), Fail> {
     let four = periodic(10, 4)?;
     let past_it = [late_task(50, 30, 7, 6)?];
-    match hit(Sched::Rm, &past_it, 0, &four) {
-        None => {
-            let falls = falls(rt.alloc(), Sched::Rm, &past_it, 0, &four)?;
-            assert_eq!(rt; falls.as_slice(), &[1, 25][..]);
-        }
-        Some(t) => panic!(rt; "a hit at {t}"),
-    }
+    expect_falls(&rt, rt.alloc(), &past_it, 0, &four, &[1, 25])?;
     Ok(())
 }

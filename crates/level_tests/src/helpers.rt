@@ -1,8 +1,9 @@
 //! What the tests of several crates make.
 
-ghost use Rattle.std.specs.Prelude.{◌≡◌};
+ghost use Rattle.std.specs.Prelude.{◌≡◌, IfOk};
 
 use slot_model::{Job, Task};
+use std::fmt::Debug;
 use std::process::Abort;
 use std::test::Fail;
 use supply_bound::Periodic;
@@ -13,7 +14,9 @@ pub fn task(period: u64, deadline: u64, work: u64) -> Result<Task, Fail> {
     Ok(Task::new(period, deadline, work).ok_or(OUT)?)
 }
 
-pub fn late_task(period: u64, deadline: u64, work: u64, jitter: u64) -> Result<Task, Fail> {
+pub fn late_task(period: u64, deadline: u64, work: u64, jitter: u64) -> Result<Task, Fail>
+    ensures { IfOk result (λ task. task.jitter ≡ jitter) }
+{
     Ok(Task::with_jitter(period, deadline, work, jitter).ok_or(OUT)?)
 }
 
@@ -67,10 +70,25 @@ pub fn job(task: u32, release: u64, work: u64, early: u64) -> Job
     }
 }
 
+/// The answer is this one.
+pub fn expect<T: Copy + PartialEq + Debug>(rt: &impl Abort, found: T, wanted: T) {
+    assert_eq!(rt; found, wanted);
+}
+
+/// The answer is this one, in the named row of a table.
+pub fn expect_at<R: Copy + Debug, T: Copy + PartialEq + Debug>(
+    rt: &impl Abort,
+    row: R,
+    found: T,
+    wanted: T,
+) {
+    assert_eq!(rt; found, wanted, "at {row:?}");
+}
+
 /// These are the jobs, each as its task, release, work and how early it arrived.
 pub fn assert_jobs(rt: &impl Abort, jobs: &[Job], wanted: &[(u32, u64, u64, u64)]) {
-    assert_eq!(rt; jobs.len(), wanted.len());
+    expect(rt, jobs.len(), wanted.len());
     for (found, (task, release, work, early)) in jobs.iter().zip(wanted) {
-        assert_eq!(rt; *found, job(*task, *release, *work, *early));
+        expect(rt, *found, job(*task, *release, *work, *early));
     }
 }

@@ -1,7 +1,9 @@
 ghost use Rattle.std.specs.Prelude.{◌^◌, ◌<◌, ◌≤◌, length};
 ghost use Rattle.slot_model.specs.declared.task.TheConstants.{LIMIT};
 
-use crate::helpers::{five_long_tasks, five_rates, periodic, task, two_late_tasks, two_tasks};
+use crate::helpers::{
+    expect, expect_at, five_long_tasks, five_rates, periodic, task, two_late_tasks, two_tasks,
+};
 use least_budget::{Least, Tested, least_budget, test};
 use slot_model::{Sched, Short, Task};
 use std::process::Abort;
@@ -16,7 +18,7 @@ fn expect_budget(rt: &impl Abort, sched: Sched, tasks: &[Task], period: u64, bud
     requires in_limit { period ≤ LIMIT }
 {
     let found = least_budget(sched, tasks, period);
-    assert_eq!(rt; found, Least::Budget(budget), "{sched:?} in {period}");
+    expect_at(rt, (sched, period), found, Least::Budget(budget));
 }
 
 #[test]
@@ -26,10 +28,11 @@ fn budgets_of_small_levels(rt: HostRuntime) -> Result<(), Fail> {
         expect_budget(&rt, sched, &two, 10, budget);
         expect_budget(&rt, sched, &late, 10, budget);
     }
+    let none: [Task; 0] = [];
     let whole = [task(5, 5, 5)?];
     let long = [task(1_000_000_000, 1_000_000_000, 1_000_000_000)?];
     for sched in [Sched::Edf, Sched::Rm, Sched::Dm, Sched::Listed] {
-        expect_budget(&rt, sched, &[], 10, 0);
+        expect_budget(&rt, sched, &none, 10, 0);
         expect_budget(&rt, sched, &whole, 5, 5);
         expect_budget(&rt, sched, &long, 1_000_000_000, 1_000_000_000);
     }
@@ -47,21 +50,25 @@ fn levels_that_ask_for_too_much(rt: HostRuntime) -> Result<(), Fail> {
     ] {
         for period in [2, 100] {
             let found = least_budget(sched, &tasks, period);
-            assert_eq!(rt; found, Least::Over(short), "{sched:?} in {period}");
+            expect_at(&rt, (sched, period), found, Least::Over(short));
         }
     }
     let full = test(Sched::Edf, &tasks, &Full);
-    assert_eq!(rt; full, Tested::Short(Short::At(4)));
+    expect(&rt, full, Tested::Short(Short::At(4)));
     Ok(())
 }
 
 #[test]
 fn horizons_past_128_bits(rt: HostRuntime) -> Result<(), Fail> {
     let tasks = five_long_tasks()?;
-    assert_eq!(rt; least_budget(Sched::Edf, &tasks, 1_000_000), Least::Wide);
-    assert_eq!(rt; test(Sched::Edf, &tasks, &Full), Tested::Wide);
+    expect(
+        &rt,
+        least_budget(Sched::Edf, &tasks, 1_000_000),
+        Least::Wide,
+    );
+    expect(&rt, test(Sched::Edf, &tasks, &Full), Tested::Wide);
     for sched in RANKS {
-        assert_eq!(rt; least_budget(sched, &tasks, 1_000_000), Least::Budget(1));
+        expect_budget(&rt, sched, &tasks, 1_000_000, 1);
     }
     Ok(())
 }
@@ -77,10 +84,10 @@ fn tests_at_the_least_budget(rt: HostRuntime) -> Result<(), Fail> {
         (Sched::Listed, 3, Tested::Short(Short::Task(1))),
     ] {
         let supply = periodic(10, budget)?;
-        assert_eq!(rt; test(sched, &tasks, &supply), want, "{sched:?} of {budget}");
+        expect_at(&rt, (sched, budget), test(sched, &tasks, &supply), want);
     }
     for sched in RANKS {
-        assert_eq!(rt; test(sched, &tasks, &Full), Tested::Passes);
+        expect_at(&rt, sched, test(sched, &tasks, &Full), Tested::Passes);
     }
     Ok(())
 }
@@ -89,14 +96,9 @@ fn tests_at_the_least_budget(rt: HostRuntime) -> Result<(), Fail> {
 #[test]
 fn periods_with_no_small_common_multiple(rt: HostRuntime) -> Result<(), Fail> {
     let tasks = five_rates()?;
-    assert_eq!(rt;
-        least_budget(Sched::Edf, &tasks, 4_000),
-        Least::Budget(1_217)
-    );
+    expect_budget(&rt, Sched::Edf, &tasks, 4_000, 1_217);
     let below = periodic(4_000, 1_216)?;
-    assert_eq!(rt;
-        test(Sched::Edf, &tasks, &below),
-        Tested::Short(Short::At(100_002))
-    );
+    let found = test(Sched::Edf, &tasks, &below);
+    expect(&rt, found, Tested::Short(Short::At(100_002)));
     Ok(())
 }

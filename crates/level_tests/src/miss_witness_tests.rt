@@ -1,7 +1,7 @@
 ghost use Rattle.std.specs.Prelude.{◌≡◌, ◌^◌, ◌<◌, ◌≤◌, length};
 ghost use Rattle.slot_model.specs.declared.task.TheConstants.{LIMIT};
 
-use crate::helpers::{assert_jobs, task, two_late_tasks, two_tasks};
+use crate::helpers::{assert_jobs, expect, expect_at, task, two_late_tasks, two_tasks};
 use least_budget::{Least, least_budget};
 use miss_witness::{Defeat, witness, witness_jobs};
 use slot_model::{Sched, Task};
@@ -40,10 +40,14 @@ fn defeats_of_the_next_smaller_budget(rt: HostRuntime) -> Result<(), Fail> {
         (Sched::Rm, &tasks, defeat(3, 75, Some(1))),
         (Sched::Edf, &jittery, defeat(2, 45, None)),
     ] {
-        assert_eq!(rt; defeat_of(sched, tasks, 10), Some(wanted));
+        expect_at(&rt, sched, defeat_of(sched, tasks, 10), Some(wanted));
     }
     let whole = [task(5, 5, 5)?];
-    assert_eq!(rt; defeat_of(Sched::Edf, &whole, 5), Some(defeat(4, 5, None)));
+    expect(
+        &rt,
+        defeat_of(Sched::Edf, &whole, 5),
+        Some(defeat(4, 5, None)),
+    );
     Ok(())
 }
 

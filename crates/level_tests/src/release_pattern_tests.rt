@@ -1,6 +1,6 @@
 ghost use Rattle.std.specs.Prelude.{◌≤◌, length};
 
-use crate::helpers::{assert_jobs, task, two_late_tasks};
+use crate::helpers::{assert_jobs, expect, task, two_late_tasks};
 use release_pattern::synchronous_jobs;
 use slot_model::{Job, Task};
 use std::alloc::{AllocError, Global};
@@ -42,7 +42,7 @@ fn jobs_of_one_moment_stand_by_place(rt: HostRuntime) -> Result<(), Fail> {
     for place in 0..16u32 {
         wanted.push((place, 92, 1, 0))?;
     }
-    assert_eq!(rt; wanted.len(), 35);
+    expect(&rt, wanted.len(), 35);
     assert_jobs(&rt, &jobs, &wanted);
     Ok(())
 }

@@ -1,4 +1,4 @@
-use crate::helpers::{OUT, job, late_task, task};
+use crate::helpers::{OUT, expect, expect_at, job, late_task, task};
 use slot_model::{
     Edf, Job, LIMIT, Miss, Name, Order, Task, deadline_moment, first_miss, is_legal, misses,
 };
@@ -17,12 +17,12 @@ fn names_have_32_bytes_and_begin_with_a_letter(rt: HostRuntime) -> Result<(), Fa
     ];
     for (bytes, want) in cases {
         let made = Name::new(rt.alloc(), bytes)?;
-        assert_eq!(rt; made.is_some(), want);
+        expect_at(&rt, bytes, made.is_some(), want);
     }
     let name = Name::new(rt.alloc(), b"dom0")?.ok_or(OUT)?;
     let copy = name.copy()?;
-    assert_eq!(rt; copy.as_str(), "dom0");
-    assert_eq!(rt; name.as_str(), "dom0");
+    expect(&rt, copy.as_str(), "dom0");
+    expect(&rt, name.as_str(), "dom0");
     Ok(())
 }
 
@@ -39,11 +39,8 @@ fn tasks_keep_their_range(rt: HostRuntime) {
         (10, 11, 3, false),
     ];
     for (period, deadline, work, want) in cases {
-        assert_eq!(rt;
-            Task::new(period, deadline, work).is_some(),
-            want,
-            "at {period} {deadline} {work}"
-        );
+        let made = Task::new(period, deadline, work);
+        expect_at(&rt, (period, deadline, work), made.is_some(), want);
     }
 }
 
@@ -67,7 +64,7 @@ fn legal_releases_keep_the_period(rt: HostRuntime) -> Result<(), Fail> {
         (&[job(0, far - 1, 1, 0), job(0, u64::MAX, 1, 0)], true),
     ];
     for (jobs, want) in cases {
-        assert_eq!(rt; is_legal(&tasks, jobs), want, "{jobs:?}");
+        expect_at(&rt, jobs, is_legal(&tasks, jobs), want);
     }
     Ok(())
 }
@@ -82,11 +79,8 @@ fn jitter_leaves_room_for_the_work(rt: HostRuntime) {
         (50, 51, 1, 0, false),
     ];
     for (period, deadline, work, jitter, want) in cases {
-        assert_eq!(rt;
-            Task::with_jitter(period, deadline, work, jitter).is_some(),
-            want,
-            "at {period} {deadline} {work} {jitter}"
-        );
+        let made = Task::with_jitter(period, deadline, work, jitter);
+        expect_at(&rt, (period, deadline, work, jitter), made.is_some(), want);
     }
 }
 
@@ -101,7 +95,7 @@ fn legal_releases_go_by_arrivals(rt: HostRuntime) -> Result<(), Fail> {
         (&[job(0, far, 7, 5), job(0, u64::MAX, 7, 0)], true),
     ];
     for (jobs, want) in cases {
-        assert_eq!(rt; is_legal(&tasks, jobs), want, "{jobs:?}");
+        expect_at(&rt, jobs, is_legal(&tasks, jobs), want);
     }
     Ok(())
 }
@@ -109,13 +103,12 @@ fn legal_releases_go_by_arrivals(rt: HostRuntime) -> Result<(), Fail> {
 #[test]
 fn the_earlier_deadline_goes_first(rt: HostRuntime) -> Result<(), Fail> {
     let tasks = [task(10, 4, 3)?, task(20, 9, 1)?];
-    assert_eq!(rt;
-        deadline_moment(&tasks, &job(1, u64::MAX, 1, 0)),
-        18_446_744_073_709_551_624
-    );
-    assert!(rt; Edf.before(&tasks, &job(0, 3, 1, 0), &job(1, 0, 1, 0)));
-    assert!(rt; !Edf.before(&tasks, &job(1, 0, 1, 0), &job(0, 3, 1, 0)));
-    assert!(rt; !Edf.before(&tasks, &job(0, 5, 1, 0), &job(1, 0, 1, 0)));
+    let last = deadline_moment(&tasks, &job(1, u64::MAX, 1, 0));
+    expect(&rt, last, 18_446_744_073_709_551_624);
+    let later = job(1, 0, 1, 0);
+    expect(&rt, Edf.before(&tasks, &job(0, 3, 1, 0), &later), true);
+    expect(&rt, Edf.before(&tasks, &later, &job(0, 3, 1, 0)), false);
+    expect(&rt, Edf.before(&tasks, &job(0, 5, 1, 0), &later), false);
     Ok(())
 }
 
@@ -129,7 +122,7 @@ fn misses_are_counted_and_the_first_is_told(rt: HostRuntime) -> Result<(), Fail>
         job(0, 9, 2, 0),
     ];
     let run = [None, Some(2), None, None, Some(0)];
-    assert_eq!(rt; misses(&jobs, &tasks, &run), 3);
+    expect(&rt, misses(&jobs, &tasks, &run), 3);
     let first = Miss {
         task: 1,
         release: 0,
@@ -137,7 +130,7 @@ fn misses_are_counted_and_the_first_is_told(rt: HostRuntime) -> Result<(), Fail>
         got: 0,
         work: 1,
     };
-    assert_eq!(rt; first_miss(&jobs, &tasks, &run), Some(first));
+    expect(&rt, first_miss(&jobs, &tasks, &run), Some(first));
     Ok(())
 }
 
@@ -146,8 +139,8 @@ fn a_run_in_time_has_no_miss(rt: HostRuntime) -> Result<(), Fail> {
     let tasks = [task(9, 5, 2)?];
     let jobs = [job(0, 1, 2, 0), job(0, 10, 2, 0)];
     let run = [None, None, Some(0), None, None, Some(0), None];
-    assert_eq!(rt; misses(&jobs, &tasks, &run), 0);
-    assert_eq!(rt; first_miss(&jobs, &tasks, &run), None);
+    expect(&rt, misses(&jobs, &tasks, &run), 0);
+    expect(&rt, first_miss(&jobs, &tasks, &run), None);
     Ok(())
 }
 
@@ -164,9 +157,9 @@ fn an_arrival_before_moment_0_counts_for_the_deadline(rt: HostRuntime) -> Result
         got: 3,
         work: 4,
     };
-    assert!(rt; is_legal(&tasks, &jobs));
-    assert_eq!(rt; misses(&jobs, &tasks, &run), 1);
-    assert_eq!(rt; first_miss(&jobs, &tasks, &run), Some(miss));
-    assert_eq!(rt; first_miss(&[job(0, 0, 4, 0)], &tasks, &run), None);
+    expect(&rt, is_legal(&tasks, &jobs), true);
+    expect(&rt, misses(&jobs, &tasks, &run), 1);
+    expect(&rt, first_miss(&jobs, &tasks, &run), Some(miss));
+    expect(&rt, first_miss(&[job(0, 0, 4, 0)], &tasks, &run), None);
     Ok(())
 }

@@ -1,4 +1,4 @@
-use crate::helpers::periodic;
+use crate::helpers::{expect, expect_at, periodic};
 use std::test::Fail;
 use supply_bound::{Full, Periodic, Supply};
 
@@ -20,9 +20,9 @@ fn least_slots_of_windows(rt: HostRuntime) -> Result<(), Fail> {
         (5, 5, u128::MAX, u128::MAX),
     ] {
         let least = periodic(period, budget)?.least(window);
-        assert_eq!(rt; least, slots, "{budget} in {period}, a window of {window}");
+        expect_at(&rt, (period, budget, window), least, slots);
     }
-    assert_eq!(rt; Full.least(7), 7);
+    expect(&rt, Full.least(7), 7);
     Ok(())
 }
 
@@ -46,20 +46,16 @@ fn windows_that_reach_a_bound(rt: HostRuntime) -> Result<(), Fail> {
         (5, 0, 1, None),
     ] {
         let reached = periodic(period, budget)?.reach(slots);
-        assert_eq!(rt; reached, window, "{budget} in {period}, {slots} slots");
+        expect_at(&rt, (period, budget, slots), reached, window);
     }
-    assert_eq!(rt; Full.reach(u128::MAX), Some(u128::MAX));
+    expect(&rt, Full.reach(u128::MAX), Some(u128::MAX));
     Ok(())
 }
 
 #[test]
 fn resources_in_range(rt: HostRuntime) {
     for (period, budget) in [(0, 0), (5, 6), (1_000_000_001, 1), (u64::MAX, u64::MAX)] {
-        assert_eq!(rt;
-            Periodic::new(period, budget),
-            None,
-            "{period} and {budget}"
-        );
+        expect_at(&rt, (period, budget), Periodic::new(period, budget), None);
     }
     for (period, budget) in [
         (1, 0),
@@ -67,10 +63,8 @@ fn resources_in_range(rt: HostRuntime) {
         (1_000_000_000, 0),
         (1_000_000_000, 1_000_000_000),
     ] {
-        assert!(rt;
-            Periodic::new(period, budget).is_some(),
-            "{period} and {budget}"
-        );
+        let made = Periodic::new(period, budget);
+        expect_at(&rt, (period, budget), made.is_some(), true);
     }
 }
 
@@ -81,9 +75,13 @@ fn worst_patterns(rt: HostRuntime) -> Result<(), Fail> {
         true, true, false, false, false, false, false, false, true, true, false, false, false, true,
     ];
     for (x, slot) in given.iter().enumerate() {
-        assert_eq!(rt; part.worst(x as u64), *slot, "slot {x}");
+        expect_at(&rt, x, part.worst(x as u64), *slot);
     }
-    assert_eq!(rt; (part.start(), part.cycle()), (2, 5));
-    assert_eq!(rt; (Full.worst(3), Full.start(), Full.cycle()), (true, 0, 1));
+    expect(&rt, (part.start(), part.cycle()), (2, 5));
+    expect(
+        &rt,
+        (Full.worst(3), Full.start(), Full.cycle()),
+        (true, 0, 1),
+    );
     Ok(())
 }
