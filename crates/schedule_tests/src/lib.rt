@@ -1,5 +1,4 @@
-//! Tests of schedules: of one level, of servers and whole trees, of the scheduler after Xen's RTDS,
-//! and of the generated host.
+//! Tests of schedules: of whole trees, of the scheduler after Xen's RTDS, and of the generated host.
 #![tactic(auto)]
 
 #[cfg(test)]
@@ -7,14 +6,8 @@ mod bulk_host_tests;
 #[cfg(test)]
 mod bulk_run_tests;
 #[cfg(test)]
-mod guest_sched_tests;
-#[cfg(test)]
 mod helpers;
 #[cfg(test)]
 mod rtds_sim_tests;
-#[cfg(test)]
-mod server_sched_tests;
-#[cfg(test)]
-mod span_counts_tests;
 #[cfg(test)]
 mod tree_run_tests;

@@ -1,4 +1,4 @@
-ghost use Rattle.std.specs.Prelude.{◌≤◌, IfOk};
+ghost use Rattle.std.specs.Prelude.{◌≤◌};
 ghost use Rattle.release_file.specs.Workload.{IsWorkload};
 
 use crate::helpers::{planned, system_of};
@@ -43,18 +43,12 @@ task = [{{name = 't', period = 100, work = 1}}]
     Ok(system_of(rt, alloc, text.as_str()))
 }
 
-/// The workload of these rows.
-fn workload(
-    rt: &impl Abort,
-    alloc: Global,
-    sys: &System,
-    rows: &str,
-) -> Result<Vec<Wake>, AllocError>
-    ensures { IfOk result (λ wakes. IsWorkload sys.now wakes.items) }
+/// The workload of a text.
+fn workload(rt: &impl Abort, alloc: Global, sys: &System, rows: &str) -> Vec<Wake>
+    ensures { IsWorkload sys.now result.items }
 {
-    let text = format!(in alloc; "at,vcpu,what\n{rows}")?;
-    match read_workload(alloc, sys, text.as_bytes()) {
-        Ok(wakes) => Ok(wakes),
+    match read_workload(alloc, sys, rows.as_bytes()) {
+        Ok(wakes) => wakes,
         Err(fault) => panic!(rt; "{fault:?}"),
     }
 }
@@ -66,19 +60,19 @@ fn ran(
     sys: &System,
     rows: &str,
     slots: u64,
-) -> Result<Result<(Trace, Vec<u8>), RtdsFault>, AllocError>
+) -> Result<(Trace, Vec<u8>), RtdsFault>
     requires some { 1 ≤ slots }
     requires short { slots ≤ 1000000 }
 {
     let plan = planned(rt, alloc, sys);
-    let wakes = workload(rt, alloc, sys, rows)?;
+    let wakes = workload(rt, alloc, sys, rows);
     let run = run_rtds(alloc, sys, &plan, &wakes, slots);
     let text = print_rtds(alloc, sys, &plan, &wakes, slots);
     match (run, text) {
-        (Ok(trace), Ok(text)) => Ok(Ok((trace, text))),
+        (Ok(trace), Ok(text)) => Ok((trace, text)),
         (Err(fault), Err(other)) => {
             assert_eq!(rt; fault, other);
-            Ok(Err(fault))
+            Err(fault)
         }
         _ => panic!(rt; "one of them is refused"),
     }
@@ -96,8 +90,7 @@ fn expect_trace(
     requires some { 1 ≤ slots }
     requires short { slots ≤ 1000000 }
 {
-    let (trace, text) = ran(rt, alloc, sys, rows, slots)?.expect(rt, "a trace");
-    let wanted = format!(in alloc; "at,core,what,vcpu\n{wanted}")?;
+    let (trace, text) = ran(rt, alloc, sys, rows, slots).expect(rt, "a trace");
     assert!(rt; text.as_slice() == wanted.as_bytes());
     assert!(rt; text == print_trace(alloc, sys, &trace)?);
     assert!(rt; check_events(alloc, sys, trace.events()).is_ok());
@@ -108,7 +101,8 @@ fn expect_trace(
     Ok(())
 }
 
-const EXTRA: &str = "0,cpu0,start,A
+const EXTRA: &str = "at,core,what,vcpu
+0,cpu0,start,A
 0,cpu0,start,B
 0,cpu0,run,A
 3,cpu0,run,B
@@ -119,11 +113,13 @@ const EXTRA: &str = "0,cpu0,start,A
 #[test]
 fn extra_time_comes_after_budgets(rt: HostRuntime) -> Result<(), Fail> {
     let sys = host(&rt, rt.alloc(), true, "edf")?;
-    expect_trace(&rt, rt.alloc(), &sys, "0,A,start\n0,B,start\n", 10, EXTRA)?;
+    let rows = "at,vcpu,what\n0,A,start\n0,B,start\n";
+    expect_trace(&rt, rt.alloc(), &sys, rows, 10, EXTRA)?;
     Ok(())
 }
 
-const IDLE: &str = "0,cpu0,start,A
+const IDLE: &str = "at,core,what,vcpu
+0,cpu0,start,A
 0,cpu0,start,B
 0,cpu0,run,A
 3,cpu0,run,B
@@ -132,7 +128,8 @@ const IDLE: &str = "0,cpu0,start,A
 12,,end,
 ";
 
-const BLOCKS: &str = "1,cpu0,start,A
+const BLOCKS: &str = "at,core,what,vcpu
+1,cpu0,start,A
 1,cpu0,run,A
 2,cpu0,stop,
 2,cpu0,start,B
@@ -146,7 +143,8 @@ const BLOCKS: &str = "1,cpu0,start,A
 12,,end,
 ";
 
-const SIDE_BY_SIDE: &str = "0,cpu1,start,C
+const SIDE_BY_SIDE: &str = "at,core,what,vcpu
+0,cpu1,start,C
 0,cpu1,run,C
 1,cpu1,stop,
 3,cpu0,start,A
@@ -158,7 +156,8 @@ const SIDE_BY_SIDE: &str = "0,cpu1,start,C
 ";
 
 /// Without rows for longer than the stretch that is told at once.
-const LATE: &str = "8999,cpu1,start,C
+const LATE: &str = "at,core,what,vcpu
+8999,cpu1,start,C
 8999,cpu1,run,C
 9000,cpu1,stop,
 9001,,end,
@@ -166,19 +165,16 @@ const LATE: &str = "8999,cpu1,start,C
 
 #[test]
 fn vcpus_without_extra_time(rt: HostRuntime) -> Result<(), Fail> {
-    let sys = host(&rt, rt.alloc(), false, "edf")?;
-    let block = "1,A,start\n2,B,start\n2,A,block\n4,A,wake\n12,B,block\n";
-    expect_trace(&rt, rt.alloc(), &sys, "0,A,start\n0,B,start\n", 12, IDLE)?;
-    expect_trace(&rt, rt.alloc(), &sys, block, 12, BLOCKS)?;
-    expect_trace(
-        &rt,
-        rt.alloc(),
-        &sys,
-        "0,C,start\n3,A,start\n",
-        7,
-        SIDE_BY_SIDE,
-    )?;
-    expect_trace(&rt, rt.alloc(), &sys, "8999,C,start\n", 9_001, LATE)?;
+    let alloc = rt.alloc();
+    let sys = host(&rt, alloc, false, "edf")?;
+    let both = "at,vcpu,what\n0,A,start\n0,B,start\n";
+    let blocks = "at,vcpu,what\n1,A,start\n2,B,start\n2,A,block\n4,A,wake\n12,B,block\n";
+    let sides = "at,vcpu,what\n0,C,start\n3,A,start\n";
+    let late = "at,vcpu,what\n8999,C,start\n";
+    expect_trace(&rt, alloc, &sys, both, 12, IDLE)?;
+    expect_trace(&rt, alloc, &sys, blocks, 12, BLOCKS)?;
+    expect_trace(&rt, alloc, &sys, sides, 7, SIDE_BY_SIDE)?;
+    expect_trace(&rt, alloc, &sys, late, 9_001, LATE)?;
     Ok(())
 }
 
@@ -186,7 +182,7 @@ fn vcpus_without_extra_time(rt: HostRuntime) -> Result<(), Fail> {
 fn cores_go_on_past_a_stretch(rt: HostRuntime) -> Result<(), Fail> {
     let alloc = rt.alloc();
     let sys = host(&rt, alloc, false, "edf")?;
-    let mut wanted = String::from_str(alloc, "0,cpu1,start,C\n")?;
+    let mut wanted = String::from_str(alloc, "at,core,what,vcpu\n0,cpu1,start,C\n")?;
     for period in 0..1_025u64 {
         let begin = 4 * period;
         let end = begin + 1;
@@ -194,7 +190,14 @@ fn cores_go_on_past_a_stretch(rt: HostRuntime) -> Result<(), Fail> {
         wanted.push_str(rows.as_str())?;
     }
     wanted.push_str("4100,,end,\n")?;
-    expect_trace(&rt, alloc, &sys, "0,C,start\n", 4_100, wanted.as_str())?;
+    expect_trace(
+        &rt,
+        alloc,
+        &sys,
+        "at,vcpu,what\n0,C,start\n",
+        4_100,
+        wanted.as_str(),
+    )?;
     Ok(())
 }
 
@@ -261,7 +264,8 @@ budget = 1
 task = [{name = 't', period = 100, work = 1}]
 ";
 
-const ALL_START: &str = "0,U0,start
+const ALL_START: &str = "at,vcpu,what
+0,U0,start
 0,U1,start
 0,U2,start
 0,W0,start
@@ -271,7 +275,8 @@ const ALL_START: &str = "0,U0,start
 8,U0,block
 ";
 
-const SLOT_BY_SLOT: &str = "0,cpu0,start,U0
+const SLOT_BY_SLOT: &str = "at,core,what,vcpu
+0,cpu0,start,U0
 0,cpu0,start,U1
 0,cpu0,start,U2
 0,cpu2,start,W0
@@ -294,24 +299,33 @@ const SLOT_BY_SLOT: &str = "0,cpu0,start,U0
 /// And what was told up to slot 8 is not told again.
 #[test]
 fn switches_are_told_slot_by_slot_and_core_by_core(rt: HostRuntime) -> Result<(), Fail> {
-    let sys = system_of(&rt, rt.alloc(), THREE_CORES);
-    expect_trace(&rt, rt.alloc(), &sys, ALL_START, 9, SLOT_BY_SLOT)?;
+    let alloc = rt.alloc();
+    let sys = system_of(&rt, alloc, THREE_CORES);
+    expect_trace(&rt, alloc, &sys, ALL_START, 9, SLOT_BY_SLOT)?;
     Ok(())
 }
 
-const TEXT: &str = "2,cpu1,start,C\n2,cpu1,run,C\n3,cpu1,stop,\n6,cpu1,run,C\n7,,end,\n";
+const TEXT: &str = "at,core,what,vcpu
+2,cpu1,start,C
+2,cpu1,run,C
+3,cpu1,stop,
+6,cpu1,run,C
+7,,end,
+";
 
 #[test]
 fn text_has_a_row_for_each_event(rt: HostRuntime) -> Result<(), Fail> {
-    let sys = host(&rt, rt.alloc(), false, "edf")?;
-    expect_trace(&rt, rt.alloc(), &sys, "2,C,start\n", 7, TEXT)?;
+    let alloc = rt.alloc();
+    let sys = host(&rt, alloc, false, "edf")?;
+    expect_trace(&rt, alloc, &sys, "at,vcpu,what\n2,C,start\n", 7, TEXT)?;
     Ok(())
 }
 
 #[test]
 fn other_schedulers_are_refused(rt: HostRuntime) -> Result<(), Fail> {
-    let sys = host(&rt, rt.alloc(), false, "rm")?;
-    let refused = ran(&rt, rt.alloc(), &sys, "0,A,start\n", 5)?;
+    let alloc = rt.alloc();
+    let sys = host(&rt, alloc, false, "rm")?;
+    let refused = ran(&rt, alloc, &sys, "at,vcpu,what\n0,A,start\n", 5);
     assert_eq!(rt; refused.err(), Some(RtdsFault::NotRtds(1)));
     Ok(())
 }

@@ -5,7 +5,8 @@ ghost use Rattle.tree_model.specs.Plans.{IsPlan};
 ghost use Rattle.tree_model.specs.Releases.{AreReleases, jobs_at};
 ghost use Rattle.tree_model.specs.System.{IsSystem};
 
-use crate::helpers::{planned, system_of, windows_of};
+use crate::helpers::{planned, system_of};
+use guest_sched::Window;
 use release_file::read_releases;
 use server_sched::{
     NodeSpans, Pattern, TreeCounts, TreeSpans, core_supplies, count_run, count_tree, run_tree,
@@ -228,21 +229,27 @@ period = 10
 task = [{name = 't', period = 100, work = 6}]
 ";
 
+const fn window(from: u64, until: u64) -> Window {
+    Window { from, until }
+}
+
 /// A core of 4 slots in 10 has them at the begin or at the end of each period.
 #[test]
 fn a_core_has_its_slots_by_the_pattern(rt: HostRuntime) -> Result<(), Fail> {
     let alloc = rt.alloc();
     let sys = system_of(&rt, alloc, SUPPLIED);
-    let cases: [(Pattern, &[(u64, u64)]); 3] = [
-        (Pattern::Early, &[(0, 4), (10, 14), (20, 24)]),
-        (Pattern::Late, &[(6, 10), (16, 20)]),
-        (Pattern::Worst, &[(0, 4), (16, 20)]),
+    let cases: [(Pattern, &[Window]); 3] = [
+        (
+            Pattern::Early,
+            &[window(0, 4), window(10, 14), window(20, 24)],
+        ),
+        (Pattern::Late, &[window(6, 10), window(16, 20)]),
+        (Pattern::Worst, &[window(0, 4), window(16, 20)]),
     ];
     for (pattern, wanted) in cases {
         let given = core_supplies(alloc, &sys, pattern, 25)?;
         assert_eq!(rt; given.len(), 1);
-        let wanted = windows_of(alloc, wanted)?;
-        assert_eq!(rt; given[0].as_slice(), wanted.as_slice());
+        assert_eq!(rt; given[0].as_slice(), wanted);
     }
     Ok(())
 }

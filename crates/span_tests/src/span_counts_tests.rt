@@ -10,8 +10,6 @@ use span_counts::{Counts, count_level, count_pending, first_miss, misses};
 use std::alloc::{AllocError, Global};
 use std::test::Fail;
 
-const OUT: &str = "out of range";
-
 fn job(release: u64) -> Job {
     Job {
         task: 0,
@@ -38,13 +36,14 @@ fn spans_of(
     run_spans(alloc, tasks, jobs, &Edf, given, 22)
 }
 
-/// The misses, the first miss and the counts of that schedule.
+/// The misses, the first miss and the counts of that schedule, and the number of pairs of a job and
+/// a slot at which it is pending.
 fn counted(
     alloc: Global,
     tasks: &[Task],
     jobs: &[Job],
     given: &[Window],
-) -> Result<(u64, Option<Miss>, Counts), AllocError>
+) -> Result<(u64, Option<Miss>, Counts, u64), AllocError>
     requires legal { LegalRelease (sporadic_tasks tasks.now) jobs.now }
     requires few { length jobs.now < 2 ^ 32 }
     requires windows { AreWindows given.now 22 }
@@ -53,15 +52,17 @@ fn counted(
     let missed = misses(alloc, jobs, tasks, &spans)?;
     let first = first_miss(alloc, jobs, tasks, &spans)?;
     let counts = count_level(alloc, tasks, jobs, given, &spans, 22)?;
-    Ok((missed, first, counts))
+    let pending = count_pending(alloc, jobs, &spans, 22)?;
+    Ok((missed, first, counts, pending))
 }
 
 /// One task of 3 in 10 slots. The first job gets 1 slot of its 3 by slot 10, the second all of its
-/// slots, and the deadline moment of the third is past the run.
+/// slots, and the deadline moment of the third is past the run. The first gets slots 4, 10 and 11,
+/// so it is pending from 0 to 12; the second gets 12 to 14, so it is pending from 10 to 15; the
+/// third gets nothing before the end.
 #[test]
 fn a_miss_and_what_else_is_counted(rt: HostRuntime) -> Result<(), Fail> {
-    let alloc = rt.alloc();
-    let tasks = [Task::new(10, 10, 3).ok_or(OUT)?];
+    let tasks = [Task::new(10, 10, 3).ok_or("out of range")?];
     let jobs = [job(0), job(10), job(21)];
     let given = [
         Window { from: 4, until: 5 },
@@ -84,38 +85,7 @@ fn a_miss_and_what_else_is_counted(rt: HostRuntime) -> Result<(), Fail> {
         missed: 1,
         first: Some(miss),
     };
-    let (missed, first, counted) = counted(alloc, &tasks, &jobs, &given)?;
-    assert_eq!(rt; missed, 1);
-    assert_eq!(rt; first, Some(miss));
-    assert_eq!(rt; counted, counts);
-    Ok(())
-}
-
-/// The number of pairs of a job and a slot at which it is pending in that schedule.
-fn pending(alloc: Global, tasks: &[Task], jobs: &[Job], given: &[Window]) -> Result<u64, AllocError>
-    requires legal { LegalRelease (sporadic_tasks tasks.now) jobs.now }
-    requires few { length jobs.now < 2 ^ 32 }
-    requires windows { AreWindows given.now 22 }
-{
-    let spans = spans_of(alloc, tasks, jobs, given)?;
-    count_pending(alloc, jobs, &spans, 22)
-}
-
-/// The first job gets slots 4, 10 and 11, so it is pending from 0 to 12; the second gets 12 to 14,
-/// so it is pending from 10 to 15; the third gets nothing before the end.
-#[test]
-fn jobs_are_pending_until_they_have_their_work(rt: HostRuntime) -> Result<(), Fail> {
-    let alloc = rt.alloc();
-    let tasks = [Task::new(10, 10, 3).ok_or(OUT)?];
-    let jobs = [job(0), job(10), job(21)];
-    let given = [
-        Window { from: 4, until: 5 },
-        Window {
-            from: 10,
-            until: 20,
-        },
-    ];
-    assert!(rt; is_legal(&tasks, &jobs));
-    assert_eq!(rt; pending(alloc, &tasks, &jobs, &given)?, 12 + 5 + 1);
+    let counted = counted(rt.alloc(), &tasks, &jobs, &given)?;
+    assert_eq!(rt; counted, (1, Some(miss), counts, 12 + 5 + 1));
     Ok(())
 }

@@ -1,0 +1,259 @@
+use crate::helpers::{jobs_of, tasks_of, windows_of};
+use guest_sched::{
+    Span, Window, are_windows, guest_by, run_level, run_over, run_spans, server_spans, servers_by,
+    worst_windows,
+};
+use slot_model::{Edf, Sched, is_legal};
+use std::alloc::{AllocError, Global};
+use std::fmt::Write;
+use std::process::Abort;
+use std::test::Fail;
+use supply_bound::Periodic;
+
+/// Tasks, jobs as (task, release, work), and their schedule as a text: `.` where no slot is given,
+/// `-` where none has the slot, else the place of the job that has it.
+struct Case {
+    tasks: [(u64, u64); 2],
+    jobs: [(u32, u64, u64); 3],
+    schedule: &'static str,
+}
+
+const CASES: [Case; 4] = [
+    // Equal deadline moments: the first in the list, though the other has begun.
+    Case {
+        tasks: [(10, 3), (13, 3)],
+        jobs: [(0, 3, 2), (1, 0, 3), (0, 13, 1)],
+        schedule: "1.1001-------2",
+    },
+    // The first job is late from the start, and goes on before those with later deadlines.
+    Case {
+        tasks: [(4, 2), (9, 3)],
+        jobs: [(0, 0, 2), (1, 0, 3), (0, 4, 2)],
+        schedule: "...0022111-.",
+    },
+    // Before the first release, and with gaps in a job.
+    Case {
+        tasks: [(20, 3), (30, 2)],
+        jobs: [(0, 2, 3), (1, 3, 1), (1, 33, 2)],
+        schedule: "--.0.0.0..1-",
+    },
+    Case {
+        tasks: [(5, 1), (6, 1)],
+        jobs: [(1, 0, 1), (0, 0, 1), (1, 6, 1)],
+        schedule: "",
+    },
+];
+
+/// The slots that are given.
+fn given_in(alloc: Global, schedule: &str) -> Result<Vec<bool>, AllocError> {
+    let mut given = Vec::new(alloc);
+    for byte in schedule.as_bytes() {
+        given.push(*byte != b'.')?;
+    }
+    Ok(given)
+}
+
+fn spelt(alloc: Global, given: &[bool], run: &[Option<u32>]) -> Result<String, AllocError> {
+    let mut text = String::new(alloc);
+    for (slot, held) in given.iter().zip(run) {
+        match held {
+            Some(place) => write!(text, "{place}")?,
+            None => text.push(if *slot { '-' } else { '.' })?,
+        }
+    }
+    Ok(text)
+}
+
+#[test]
+fn schedules_with_ties_late_jobs_and_gaps(rt: HostRuntime) -> Result<(), Fail> {
+    let alloc = rt.alloc();
+    for case in &CASES {
+        let tasks = tasks_of(alloc, &case.tasks)?;
+        let jobs = jobs_of(alloc, &case.jobs)?;
+        let given = given_in(alloc, case.schedule)?;
+        assert!(rt; is_legal(&tasks, &jobs) && jobs.len() < 1000 && given.len() < 1000);
+        let run = run_over(alloc, &tasks, &jobs, &Edf, &given)?;
+        assert_eq!(rt; run.len(), given.len());
+        assert_eq!(rt; spelt(alloc, &given, &run)?.as_str(), case.schedule);
+    }
+    Ok(())
+}
+
+/// Two slots in every ten, at 0, 18, 28 and so on. The first job has its 7 by slot 49, the second
+/// 5 of its 9 by its deadline moment, 77, and the third, of a later one, none.
+#[test]
+fn worst_pattern_of_a_periodic_resource(rt: HostRuntime) -> Result<(), Fail> {
+    let alloc = rt.alloc();
+    let tasks = tasks_of(alloc, &[(50, 7), (75, 9)])?;
+    let jobs = jobs_of(alloc, &[(0, 2, 7), (1, 2, 9), (0, 52, 7)])?;
+    let supply = Periodic::new(10, 2).ok_or("out of range")?;
+    assert!(rt; is_legal(&tasks, &jobs) && jobs.len() < 1000);
+    let run = run_level(alloc, &tasks, &jobs, &Edf, &supply, 77)?;
+    assert_eq!(rt;
+        spelt(alloc, &[false; 77], &run)?.as_str(),
+        "..................00........00........00........01........11........11......."
+    );
+    Ok(())
+}
+
+/// What a level is given, and its spans as texts at a guest and at a level of servers.
+struct SpanCase {
+    tasks: &'static [(u64, u64)],
+    jobs: &'static [(u32, u64, u64)],
+    windows: &'static [(u64, u64)],
+    slots: u64,
+    guest: &'static str,
+    servers: &'static str,
+}
+
+const LAST: u64 = u64::MAX;
+
+const SPANS: [SpanCase; 7] = [
+    // A late job: at a guest it goes on, and a server is given up at its deadline moment. The last
+    // window ends with the last slot of all.
+    SpanCase {
+        tasks: &[(10, 3)],
+        jobs: &[(0, 0, 3), (0, 12, 3), (0, LAST - 2, 3)],
+        windows: &[(0, 1), (9, 14), (14, 15), (20, LAST)],
+        slots: LAST,
+        guest: "0:0 1:- 9:0 11:- 12:1 15:- 18446744073709551613:2 ",
+        servers: "0:0 1:- 9:0 10:- 12:1 15:- 18446744073709551613:2 ",
+    },
+    // A server whose job is given up gives way to one that it went before.
+    SpanCase {
+        tasks: &[(4, 3), (9, 5)],
+        jobs: &[(1, 0, 5), (0, 1, 3)],
+        windows: &[(0, 1), (3, 12)],
+        slots: 12,
+        guest: "0:0 1:- 3:1 6:0 10:- ",
+        servers: "0:0 1:- 3:1 5:0 9:- ",
+    },
+    SpanCase {
+        tasks: &[(4, 3), (9, 5)],
+        jobs: &[(1, 0, 5), (0, 1, 3)],
+        windows: &[],
+        slots: 0,
+        guest: "",
+        servers: "",
+    },
+    SpanCase {
+        tasks: &[(50, 7), (75, 9)],
+        jobs: &[(0, 0, 7), (1, 0, 9)],
+        windows: &[(0, 20)],
+        slots: 20,
+        guest: "0:0 7:1 16:- ",
+        servers: "0:0 7:1 16:- ",
+    },
+    // Over very many slots.
+    SpanCase {
+        tasks: &[(50, 7), (75, 9)],
+        jobs: &[(0, 0, 7), (1, 0, 9), (0, 500_000_000_000, 7)],
+        windows: &[(10, 1_000_000_000_000)],
+        slots: 1_000_000_000_000,
+        guest: "0:- 10:0 17:1 26:- 500000000000:2 500000000007:- ",
+        servers: "0:- 10:0 17:1 26:- 500000000000:2 500000000007:- ",
+    },
+    SpanCase {
+        tasks: &[(50, 7), (75, 9)],
+        jobs: &[(0, 0, 7)],
+        windows: &[],
+        slots: 5,
+        guest: "0:- ",
+        servers: "0:- ",
+    },
+    SpanCase {
+        tasks: &[(50, 7), (75, 9)],
+        jobs: &[],
+        windows: &[(1, 2), (2, 5)],
+        slots: 5,
+        guest: "0:- ",
+        servers: "0:- ",
+    },
+];
+
+/// Spans as a text: each its first slot and then its job, `-` where it has none.
+fn told(alloc: Global, spans: &[Span]) -> Result<String, AllocError> {
+    let mut text = String::new(alloc);
+    for span in spans {
+        match span.job {
+            Some(place) => write!(text, "{}:{place} ", span.from)?,
+            None => write!(text, "{}:- ", span.from)?,
+        }
+    }
+    Ok(text)
+}
+
+/// The spans of a case.
+fn spans_of(
+    rt: &impl Abort,
+    alloc: Global,
+    case: &SpanCase,
+    are_servers: bool,
+) -> Result<Vec<Span>, AllocError> {
+    let tasks = tasks_of(alloc, case.tasks)?;
+    let jobs = jobs_of(alloc, case.jobs)?;
+    let given = windows_of(alloc, case.windows)?;
+    assert!(rt; is_legal(&tasks, &jobs) && jobs.len() < 1000 && are_windows(&given, case.slots));
+    if are_servers {
+        server_spans(alloc, &tasks, &jobs, &Edf, &given, case.slots)
+    } else {
+        run_spans(alloc, &tasks, &jobs, &Edf, &given, case.slots)
+    }
+}
+
+#[test]
+fn spans_of_guests_and_of_servers(rt: HostRuntime) -> Result<(), Fail> {
+    let alloc = rt.alloc();
+    for case in &SPANS {
+        for (are_servers, wanted) in [(false, case.guest), (true, case.servers)] {
+            let spans = spans_of(&rt, alloc, case, are_servers)?;
+            assert_eq!(rt; told(alloc, &spans)?.as_str(), wanted);
+        }
+    }
+    Ok(())
+}
+
+/// Windows as a text: each its begin and its end.
+fn told_windows(alloc: Global, windows: &[Window]) -> Result<String, AllocError> {
+    let mut text = String::new(alloc);
+    for window in windows {
+        write!(text, "{}-{} ", window.from, window.until)?;
+    }
+    Ok(text)
+}
+
+#[test]
+fn windows_of_the_worst_pattern(rt: HostRuntime) -> Result<(), Fail> {
+    let alloc = rt.alloc();
+    for (budget, slots, wanted) in [
+        (3, 28, "0-3 17-20 27-28 "),
+        (10, u64::MAX, "0-18446744073709551615 "),
+    ] {
+        let supply = Periodic::new(10, budget).ok_or("out of range")?;
+        let windows = worst_windows(alloc, &supply, slots)?;
+        assert_eq!(rt; told_windows(alloc, &windows)?.as_str(), wanted);
+    }
+    Ok(())
+}
+
+#[test]
+fn levels_by_their_scheduler(rt: HostRuntime) -> Result<(), Fail> {
+    let alloc = rt.alloc();
+    let tasks = tasks_of(alloc, &[(9, 5), (4, 3)])?;
+    let jobs = jobs_of(alloc, &[(0, 0, 5), (1, 1, 3)])?;
+    let given = windows_of(alloc, &[(0, 12)])?;
+    assert!(rt; is_legal(&tasks, &jobs) && jobs.len() < 1000 && are_windows(&given, 12));
+    for (are_servers, sched, wanted) in [
+        (false, Sched::Rm, "0:0 1:1 4:0 8:- "),
+        (false, Sched::Listed, "0:0 5:1 8:- "),
+        (true, Sched::Listed, "0:0 5:- "),
+    ] {
+        let spans = if are_servers {
+            servers_by(alloc, sched, &tasks, &jobs, &given, 12)?
+        } else {
+            guest_by(alloc, sched, &tasks, &jobs, &given, 12)?
+        };
+        assert_eq!(rt; told(alloc, &spans)?.as_str(), wanted);
+    }
+    Ok(())
+}
