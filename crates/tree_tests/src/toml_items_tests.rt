@@ -92,7 +92,7 @@ fn a_plain_text_gives_its_items_without_a_table(rt: HostRuntime) -> Result<(), F
 
 #[test]
 fn these_texts_are_plain(rt: HostRuntime) -> Result<(), Fail> {
-    let texts = [
+    for (text, count) in &[
         ("", 0),
         ("\n# nothing\n", 0),
         ("a=1", 1),
@@ -100,17 +100,16 @@ fn these_texts_are_plain(rt: HostRuntime) -> Result<(), Fail> {
         ("b = 1\na = 2\na-b_9 = 1_000\n", 3),
         ("[[a]]\n[[a]]\n[[b]]\n", 2),
         ("[[a]]\n[[a.b]]\n[[a.c]]\nd = 1\n[[a]]\n[[e]]\n", 2),
-    ];
-    for (text, count) in texts {
+    ] {
         let entries = plain_entries(rt.alloc(), text).expect(&rt, "a plain text");
-        assert_eq!(rt; entries.len(), count);
+        assert!(rt; entries.len() == *count, "{text}");
     }
     Ok(())
 }
 
 #[test]
 fn these_texts_are_not(rt: HostRuntime) -> Result<(), Fail> {
-    let texts = [
+    for text in &[
         "\u{feff}a = 1",
         "a = 'b'",
         "a = \"\"",
@@ -131,12 +130,11 @@ fn these_texts_are_not(rt: HostRuntime) -> Result<(), Fail> {
         "a",
         "= 1",
         "[[a]",
-    ];
-    for text in texts {
+    ] {
         match read_document(rt.alloc(), text) {
             Ok(Document::Entries(_entries)) => panic!(rt; "plain: {text}"),
             Ok(Document::Table(_table)) => (),
-            Err(fault) => assert_eq!(rt; fault, DocumentFault::NotToml),
+            Err(fault) => assert!(rt; fault == DocumentFault::NotToml, "{text}"),
         }
     }
     Ok(())
@@ -158,19 +156,16 @@ fn any_other_is_read_by_the_kit(rt: HostRuntime) -> Result<(), Fail> {
 
 #[test]
 fn what_is_no_document_is_refused(rt: HostRuntime) -> Result<(), Fail> {
-    let texts = [
+    for text in &[
         "a = 1\na = 2",
         "a",
         "[[a]",
         "a = 1\n[[a]]",
         "a = \"b",
         "a = 1 b = 2",
-    ];
-    for text in texts {
-        match read_document(rt.alloc(), text) {
-            Err(fault) => assert_eq!(rt; fault, DocumentFault::NotToml),
-            Ok(_) => assert!(rt; false),
-        }
+    ] {
+        let found = read_document(rt.alloc(), text).err();
+        assert!(rt; found == Some(DocumentFault::NotToml), "{text}");
     }
     Ok(())
 }
