@@ -1,5 +1,6 @@
 """What the tools share that go from a host to a system file and back: a refusal with file and line, the text of a system
 file, and the budgets with which the program admits one. It is no tool of its own."""
+import os
 import pathlib
 import re
 import shlex
@@ -48,13 +49,19 @@ def lines_of(path):
 def finished(make):
     """Writes the text that a tool makes, or tells on standard error why there is none. The status."""
     try:
-        sys.stdout.write(make())
-        sys.stdout.flush()
+        text = make()
     except Refused as refused:
         print(refused, file=sys.stderr)
         return 1
     except OSError as fault:
-        print(f"{fault.filename or 'standard output'}: {fault.strerror}", file=sys.stderr)
+        print(f"{fault.filename}: {fault.strerror}", file=sys.stderr)
+        return 1
+    try:
+        sys.stdout.write(text)
+        sys.stdout.flush()
+    except OSError as fault:
+        print(f"standard output: {fault.strerror}", file=sys.stderr)
+        os.dup2(os.open(os.devnull, os.O_WRONLY), sys.stdout.fileno())
         return 1
     return 0
 
@@ -140,6 +147,8 @@ def admitted(path, program):
     if asked.returncode != 0:
         told = "; ".join(answer.split("\n")[:2]).rstrip("; ")
         raise Refused(path, None, f"not admitted, so there is nothing to set: status {asked.returncode}, {told or 'no text'}")
+    if not answer.startswith("verdict=yes\n"):
+        raise Refused(program, None, "this program does not answer as rtadmit does")
     text = held.decode(errors="surrogateescape").removeprefix("\ufeff")
     try:
         tree = tomllib.loads(text)

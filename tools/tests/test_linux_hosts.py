@@ -94,9 +94,10 @@ class FromLinux(unittest.TestCase):
         if number is None:
             self.skipTest("a machine of another kind")
         self.assertEqual(from_linux.reservation(libc, number, 0)[0], os.sched_getscheduler(0))
-        self.assertIsNone(from_linux.reservation(libc, number, 999_999_999))
+        with self.assertRaises(ProcessLookupError):
+            from_linux.reservation(from_linux.ctypes.CDLL(None, use_errno=True), number, 999_999_999)
         held = {7: (6, (6000000, 20000000, 20000000)), os.getpid(): (6, (4000000, 40000000, 40000000))}
-        with mock.patch.object(from_linux, "reservation", lambda libc, number, tid: held.get(tid)):
+        with mock.patch.object(from_linux, "reservation", lambda libc, number, tid: held.get(tid, (0, None))):
             with mock.patch.object(os, "sched_getaffinity", lambda tid: {3}):
                 status, out, err = run(from_linux, "--name", f"{os.getpid()}=own")
         self.assertEqual((status, err), (0, ""))
@@ -193,12 +194,17 @@ class ToLinux(unittest.TestCase):
         self.refused("host.toml:14: guest-1 has no thread: --map guest-1=TID", "--map", "guest-0=7058")
         self.refused("host.toml: no part on a core is inner, which --map tells", *MAP, "--map", "inner=7")
 
+    def test_a_part_that_is_no_thread(self):
+        told = self.call("--map", "guest-0=7058", "--without", "guest-1", "--limit", "300000/1000000")
+        self.assertEqual(told, (0, "# cpu3: 30.0% of at most 30.0%\nchrt -d -T 6000000 -D 20000000 -P 20000000 -p 0 7058\n", ""))
+        self.refused("host.toml: no part on a core is inner, which --without tells", *MAP, "--without", "inner")
+
     def test_files_of_no_linux_host(self):
         self.refused("host.toml: not admitted, so there is nothing to set: status 4, verdict=wide", *MAP, answer="verdict=wide\n", status=4)
         self.refused("cpu2 is not a whole processor under edf, as Linux has it", *MAP, text=HOST.replace('"edf"', '"dm"', 1))
 
     def test_wrong_words(self):
-        for words in ([], ["--map", "a"], ["--map", "a=x"], ["--map", "a=0"], ["--map", "a=7", "--map", "b=7"], [*MAP, "--tick", "-1"],
+        for words in ([], [*MAP, "--without", "guest-0"], ["--map", "a"], ["--map", "a=x"], ["--map", "a=0"], ["--map", "a=7", "--map", "b=7"], [*MAP, "--tick", "-1"],
                       [*MAP, "--limit", "95"], [*MAP, "--limit", "2/1"], [*MAP, "--limit", "1/0"]):
             self.assertEqual(self.call(*words)[:2], (2, ""), words)
 

@@ -38,6 +38,18 @@ class Manual(unittest.TestCase):
         self.assertIn("virtual machines", " ".join(ran.stdout.split()))
 
 
+class Help(unittest.TestCase):
+    def test_each_tool_of_a_host_says_what_it_does(self):
+        for name in ("from-xl", "to-xl", "from-xenalyze", "from-linux", "to-linux"):
+            ran = subprocess.run([load.top / "tools" / name, "--help"], capture_output=True, text=True)
+            self.assertEqual((ran.returncode, ran.stderr), (0, ""), name)
+            self.assertIn(f"tools/{name} ", ran.stdout)
+            self.assertIn("Refused", ran.stdout)
+            source = (load.top / "tools" / name).read_text()
+            for option in re.findall(r'add_argument\("(--[a-z-]+)"', source):
+                self.assertIn(option, ran.stdout.split("options:")[0], name)
+
+
 class Completion(unittest.TestCase):
     def setUp(self):
         room = tempfile.TemporaryDirectory()

@@ -164,6 +164,7 @@ class ToXl(unittest.TestCase):
         self.assertEqual(run(to_xl, "/nowhere/host.toml"), (1, "", "/nowhere/host.toml: No such file or directory\n"))
         file = Room(self).file("host.toml", HOST)
         self.assertEqual(run(to_xl, file, "--program", "/nowhere/rtadmit"), (1, "", "/nowhere/rtadmit: No such file or directory\n"))
+        self.assertEqual(run(to_xl, file, "--program", "true"), (1, "", "true: this program does not answer as rtadmit does\n"))
         self.assertEqual(run(to_xl)[:2], (2, ""))
 
 
@@ -250,14 +251,22 @@ class FromXenalyze(unittest.TestCase):
         rows, err = self.rows(
             "   0.000001000 -x d1v0 rtds:repl_budget d1v0, deadline = 9, budget = 4",
             "   0.000001000 -x d1v0 rtds:repl_budget d2v0, deadline = 9, budget = 4",
-            "]  0.000003000 -x d1v0 runstate_change d1v0 running->blocked",
+            "]  0.000003000 -x d1v0 runstate_change d1v0 running->runnable",
             "]  0.000003000 -x d2v0 runstate_change d2v0 runnable->running",
             "]  0.000005000 -x d2v0 runstate_change d2v0 running->runnable",
             "]  0.000005000 -x d32767v1 runstate_change d32767v1 runnable->running",
         )
         self.assertEqual(rows, [
-            "at,core,what,vcpu", "0,cpu1,start,A", "0,cpu1,run,A", "0,cpu1,start,B", "2,cpu1,run,B", "2,cpu1,block,A", "4,cpu1,stop,", "4,,end,",
+            "at,core,what,vcpu", "0,cpu1,start,A", "0,cpu1,run,A", "0,cpu1,start,B", "2,cpu1,run,B", "4,cpu1,stop,", "4,,end,",
         ])
+        asleep = self.rows(
+            "   0.000001000 -x d1v0 rtds:repl_budget d1v0, deadline = 9, budget = 4",
+            "]  0.000002000 -x d1v0 runstate_change d1v0 running->blocked",
+            "]  0.000002000 -x d32767v1 runstate_change d1v0 blocked->runnable",
+            "]  0.000002000 -x d1v0 runstate_change d1v0 runnable->running",
+            words=["--cpu", "1=cpu1", "--vcpu", "d1v0=A"],
+        )[0]
+        self.assertEqual(asleep[3:], ["1,cpu1,stop,", "1,cpu1,block,A", "1,cpu1,wake,A", "1,cpu1,run,A", "1,,end,"])
 
     def test_a_late_replenishment_is_no_start(self):
         wakes = [
