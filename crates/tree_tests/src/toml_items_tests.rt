@@ -74,17 +74,17 @@ fn plain_entries(alloc: Global, text: &str) -> Option<Vec<Entry<'_>>> {
 
 #[test]
 fn a_plain_text_gives_its_items_without_a_table(rt: HostRuntime) -> Result<(), Fail> {
-    let top = plain_entries(rt.alloc(), PLAIN).ok_or("not plain")?;
+    let top = plain_entries(rt.alloc(), PLAIN).expect(&rt, "a plain text");
     assert!(rt; top.len() == 3 && number_at(&top, "format") == Some(1));
     assert!(rt; count_at(&top, "core") == 1 && count_at(&top, "part") == 2);
-    let core = table_at(&top, "core", 0).ok_or("no core")?;
+    let core = table_at(&top, "core", 0).expect(&rt, "a core");
     assert!(rt; is_text_at(core, "name", "cpu0") && is_text_at(core, "sched", "edf"));
-    let first = table_at(&top, "part", 0).ok_or("no part")?;
+    let first = table_at(&top, "part", 0).expect(&rt, "a part");
     assert!(rt; is_text_at(first, "name", "a b") && is_true_at(first, "extra"));
     assert!(rt; count_at(first, "task") == 2);
-    let task = table_at(first, "task", 1).ok_or("no task")?;
+    let task = table_at(first, "task", 1).expect(&rt, "a task");
     assert!(rt; number_at(task, "period") == Some(-5));
-    let second = table_at(&top, "part", 1).ok_or("no other part")?;
+    let second = table_at(&top, "part", 1).expect(&rt, "another part");
     assert!(rt; second.len() == 1 && is_text_at(second, "name", "c"));
     Ok(())
 }
