@@ -1,10 +1,12 @@
+ghost use Rattle.tree_model.specs.Plans.{IsPlan};
+
 use crate::helpers::{planned, system_of};
 use auditor::{Finding, audit, audit_bytes};
 use std::alloc::{AllocError, Global};
 use std::process::Abort;
 use std::test::Fail;
 use trace_file::{Event, Trace, TraceFault, What, check_events, read_trace};
-use tree_model::System;
+use tree_model::{Plan, System};
 
 const A: u32 = 0;
 
@@ -90,6 +92,13 @@ const TOO_FEW: [(u64, What); 5] = [
     (10_000, What::End),
 ];
 
+/// B has 3 of its 4 slots.
+const SHORT: Finding = Finding::Short {
+    vcpu: B,
+    from: 0,
+    got: 3000,
+};
+
 const LATE_START: [(u64, What); 4] = [
     (4000, What::Start(A)),
     (4000, What::Run(A)),
@@ -131,29 +140,41 @@ const CUT: [(u64, What); 4] = [
     (5000, What::End),
 ];
 
-fn short(vcpu: u32, from: u64, got: u64) -> Finding {
-    Finding::Short { vcpu, from, got }
-}
-
-fn over(vcpu: u32, from: u64, got: u64) -> Finding {
-    Finding::Over { vcpu, from, got }
-}
-
 #[test]
 fn two_vcpus_share_a_core(rt: HostRuntime) -> Result<(), Fail> {
-    let alloc = rt.alloc();
-    let cases: [(&[(u64, What)], Finding); 8] = [
+    const CASES: [(&[(u64, What)], Finding); 8] = [
         (&SHARED, Finding::Yes { periods: 2 }),
         (&BLOCKED_ONCE, Finding::Yes { periods: 1 }),
-        (&TOO_FEW, short(B, 0, 3000)),
+        (&TOO_FEW, SHORT),
         (&LATE_START, Finding::Yes { periods: 1 }),
         (&EXACT, Finding::Yes { periods: 2 }),
-        (&ONE_MORE, over(B, 0, 4001)),
-        (&ONE_LESS, short(B, 0, 3999)),
-        (&CUT, over(B, 0, 5000)),
+        (
+            &ONE_MORE,
+            Finding::Over {
+                vcpu: B,
+                from: 0,
+                got: 4001,
+            },
+        ),
+        (
+            &ONE_LESS,
+            Finding::Short {
+                vcpu: B,
+                from: 0,
+                got: 3999,
+            },
+        ),
+        (
+            &CUT,
+            Finding::Over {
+                vcpu: B,
+                from: 0,
+                got: 5000,
+            },
+        ),
     ];
-    for (rows, finding) in cases {
-        assert_eq!(rt; found(&rt, alloc, 10, (3, 4), rows)?, finding);
+    for (rows, finding) in &CASES {
+        assert_eq!(rt; found(&rt, rt.alloc(), 10, (3, 4), rows)?, *finding);
     }
     Ok(())
 }
@@ -187,27 +208,45 @@ const AT_THE_LIMIT: [(u64, What); 3] = [
 
 #[test]
 fn at_the_edges(rt: HostRuntime) -> Result<(), Fail> {
-    let cases: [(u64, (u64, u64), &[(u64, What)], Finding); 4] = [
+    const CASES: [(u64, (u64, u64), &[(u64, What)], Finding); 4] = [
         (10, (3, 4), &NONE, Finding::Yes { periods: 0 }),
         (10, (3, 4), &AT_THE_END, Finding::Yes { periods: 0 }),
         (10, (3, 10), &AT_THE_LIMIT, Finding::Yes { periods: 1 }),
-        (1, (1, 1), &SLOTS, short(B, 0, 999)),
+        (
+            1,
+            (1, 1),
+            &SLOTS,
+            Finding::Short {
+                vcpu: B,
+                from: 0,
+                got: 999,
+            },
+        ),
     ];
-    for (period, budget, rows, finding) in cases {
-        assert_eq!(rt; found(&rt, rt.alloc(), period, budget, rows)?, finding);
+    for (period, budget, rows, finding) in &CASES {
+        assert_eq!(rt; found(&rt, rt.alloc(), *period, *budget, rows)?, *finding);
     }
     Ok(())
 }
 
 #[test]
 fn over_a_million_periods(rt: HostRuntime) -> Result<(), Fail> {
-    let million = Finding::Yes { periods: 1_000_000 };
-    for (vcpu, budget, finding) in [
-        (A, (3, 4), million),
-        (B, (3, 10), million),
-        (B, (3, 4), over(B, 0, 10_000)),
+    const MILLION: Finding = Finding::Yes { periods: 1_000_000 };
+    for (vcpu, budget, finding) in &[
+        (A, (3, 4), MILLION),
+        (B, (3, 10), MILLION),
+        (
+            B,
+            (3, 4),
+            Finding::Over {
+                vcpu: B,
+                from: 0,
+                got: 10_000,
+            },
+        ),
     ] {
-        assert_eq!(rt; found(&rt, rt.alloc(), 10, budget, &always(vcpu))?, finding);
+        let rows = always(*vcpu);
+        assert_eq!(rt; found(&rt, rt.alloc(), 10, *budget, &rows)?, *finding);
     }
     Ok(())
 }
@@ -229,14 +268,29 @@ const UNKNOWN: &str = "at,core,what,vcpu\n0,cpu0,start,A\n0,cpu0,start,B\n\
 /// With quotes, which the kit's reader reads.
 const QUOTED: &str = "at,core,what,vcpu\r\n0,\"cpu0\",start,\"B\"\r\n5,,end,\r\n";
 
+/// What is found of the events of a text.
+fn found_of_events(
+    alloc: Global,
+    sys: &System,
+    plan: &Plan,
+    text: &str,
+) -> Result<Finding, TraceFault>
+    requires { IsPlan sys.now plan.now }
+{
+    match read_trace(alloc, sys, text.as_bytes()) {
+        Ok(trace) => Ok(audit(sys, plan, &trace)),
+        Err(fault) => Err(fault),
+    }
+}
+
 #[test]
 fn a_text_is_audited_as_its_events(rt: HostRuntime) -> Result<(), Fail> {
     let alloc = rt.alloc();
     let sys = host(&rt, alloc, 10, (3, 4))?;
     let plan = planned(&rt, alloc, &sys);
-    let cases = [
+    for (text, found) in &[
         (SHARED_TEXT, Ok(Finding::Yes { periods: 2 })),
-        (TOO_FEW_TEXT, Ok(short(B, 0, 3000))),
+        (TOO_FEW_TEXT, Ok(SHORT)),
         (WITHOUT_END, Err(TraceFault::NoEnd(6))),
         (UNKNOWN, Err(TraceFault::Unknown(6))),
         (QUOTED, Ok(Finding::Yes { periods: 0 })),
@@ -246,14 +300,10 @@ fn a_text_is_audited_as_its_events(rt: HostRuntime) -> Result<(), Fail> {
             "at,core,what,vcpu\n9,,end,\n",
             Ok(Finding::Yes { periods: 0 }),
         ),
-    ];
-    for (text, found) in cases {
-        assert_eq!(rt; audit_bytes(alloc, &sys, &plan, text.as_bytes()), found);
-        let of_events = match read_trace(alloc, &sys, text.as_bytes()) {
-            Ok(trace) => Ok(audit(&sys, &plan, &trace)),
-            Err(fault) => Err(fault),
-        };
-        assert_eq!(rt; of_events, found);
+    ] {
+        let told = audit_bytes(alloc, &sys, &plan, text.as_bytes());
+        assert!(rt; told == *found, "{text}");
+        assert!(rt; found_of_events(alloc, &sys, &plan, text) == told, "{text}");
     }
     Ok(())
 }

@@ -64,7 +64,7 @@ fn a_workload_is_read(rt: HostRuntime) -> Result<(), Fail> {
 fn the_first_fault_of_a_workload_is_told(rt: HostRuntime) -> Result<(), Fail> {
     let alloc = rt.alloc();
     let sys = system_of(&rt, alloc, HOST);
-    let cases = [
+    for (text, fault) in &[
         ("", ReleaseFault::BadHeader),
         ("at,vcpu\n", ReleaseFault::BadHeader),
         ("at,vcpu,what\n0,A\n", ReleaseFault::BadRow(2)),
@@ -97,10 +97,9 @@ fn the_first_fault_of_a_workload_is_told(rt: HostRuntime) -> Result<(), Fail> {
             "at,vcpu,what\n0,A,start\n1,A,block\n2,A,block\n",
             ReleaseFault::BadOrder(4),
         ),
-    ];
-    for (text, fault) in cases {
+    ] {
         let refused = read_workload(alloc, &sys, text.as_bytes()).err();
-        assert_eq!(rt; refused, Some(fault));
+        assert!(rt; refused == Some(*fault), "{text}");
     }
     Ok(())
 }
@@ -140,7 +139,7 @@ fn releases_of_both_versions_are_read(rt: HostRuntime) -> Result<(), Fail> {
 fn the_first_fault_of_releases_is_told(rt: HostRuntime) -> Result<(), Fail> {
     let alloc = rt.alloc();
     let sys = system_of(&rt, alloc, HOST);
-    let cases = [
+    for (text, fault) in &[
         ("", ReleaseFault::BadHeader),
         ("at,part,task\n", ReleaseFault::BadHeader),
         ("at,part,task,work\n0,A,t1,7,0\n", ReleaseFault::BadRow(2)),
@@ -177,10 +176,9 @@ fn the_first_fault_of_releases_is_told(rt: HostRuntime) -> Result<(), Fail> {
             "at,part,task,work,early\n0,A,t1,7,5\n44,A,t1,7,0\n",
             ReleaseFault::TooEarly(3),
         ),
-    ];
-    for (text, fault) in cases {
+    ] {
         let refused = read_releases(alloc, &sys, text.as_bytes()).err();
-        assert_eq!(rt; refused, Some(fault));
+        assert!(rt; refused == Some(*fault), "{text}");
     }
     Ok(())
 }

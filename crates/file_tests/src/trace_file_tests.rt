@@ -71,7 +71,7 @@ fn both_versions_tell_the_same(rt: HostRuntime) -> Result<(), Fail> {
 fn the_first_fault_is_told(rt: HostRuntime) -> Result<(), Fail> {
     let alloc = rt.alloc();
     let sys = system_of(&rt, alloc, HOST);
-    let cases = [
+    for (text, fault) in &[
         ("", TraceFault::BadHeader),
         ("at,core,what\n", TraceFault::BadHeader),
         ("at,core,what,vcpu\n", TraceFault::NoEnd(2)),
@@ -113,10 +113,9 @@ fn the_first_fault_is_told(rt: HostRuntime) -> Result<(), Fail> {
             "at,core,what,vcpu\n0,,end,\n0,cpu0\n",
             TraceFault::AfterEnd(3),
         ),
-    ];
-    for (text, fault) in cases {
+    ] {
         let refused = read_trace(alloc, &sys, text.as_bytes()).err();
-        assert_eq!(rt; refused, Some(fault));
+        assert!(rt; refused == Some(*fault), "{text}");
     }
     Ok(())
 }

@@ -20,6 +20,13 @@ fn assert_plan(rt: &impl Abort, answer: Result<Plan, Refusal>, budgets: &[u64]) 
     }
 }
 
+fn assert_overfull(rt: &impl Abort, answer: Result<Plan, Refusal>, place: Place, at: u128) {
+    match answer {
+        Ok(_) => panic!(rt; "a plan"),
+        Err(refusal) => assert_eq!(rt; refusal, Refusal::Overfull(place, Short::At(at))),
+    }
+}
+
 /// Two leaves with these budgets, in slots.
 fn two_leaves(rt: &impl Abort, alloc: Global, first: u64, second: u64) -> Result<System, Fail> {
     let parts = format!(in alloc;
@@ -84,10 +91,7 @@ fn given_budgets_stand_where_they_pass(rt: HostRuntime) -> Result<(), Fail> {
     let sys = two_leaves(&rt, alloc, 5, 10)?;
     assert_plan(&rt, compose(alloc, &sys), &[5, 10]);
     let sys = two_leaves(&rt, alloc, 5, 11)?;
-    assert_eq!(rt;
-        compose(alloc, &sys).err(),
-        Some(Refusal::Overfull(Place::Core(0), Short::At(20)))
-    );
+    assert_overfull(&rt, compose(alloc, &sys), Place::Core(0), 20);
     Ok(())
 }
 
@@ -105,10 +109,7 @@ fn least_budgets_go_up_the_tree(rt: HostRuntime) -> Result<(), Fail> {
     let sys = three_levels(&rt, alloc, 16)?;
     assert_plan(&rt, compose(alloc, &sys), &[30, 28, 40]);
     let sys = three_levels(&rt, alloc, 14)?;
-    assert_eq!(rt;
-        compose(alloc, &sys).err(),
-        Some(Refusal::Overfull(Place::Core(0), Short::At(50)))
-    );
+    assert_overfull(&rt, compose(alloc, &sys), Place::Core(0), 50);
     Ok(())
 }
 
@@ -127,9 +128,8 @@ fn assigned_budgets_are_not_tested(rt: HostRuntime) -> Result<(), Fail> {
 #[test]
 fn a_leaf_that_no_budget_serves_refuses(rt: HostRuntime) -> Result<(), Fail> {
     let alloc = rt.alloc();
-    let refusal = Some(Refusal::Overfull(Place::Part(0), Short::At(4)));
     let sys = on_a_core(&rt, alloc, OVERFULL)?;
-    assert_eq!(rt; compose(alloc, &sys).err(), refusal);
-    assert_eq!(rt; assign(alloc, &sys).err(), refusal);
+    assert_overfull(&rt, compose(alloc, &sys), Place::Part(0), 4);
+    assert_overfull(&rt, assign(alloc, &sys), Place::Part(0), 4);
     Ok(())
 }

@@ -56,6 +56,10 @@ period = 1000000000
 work = 1
 "#;
 
+fn assert_text(rt: &impl Abort, bytes: &[u8], text: &str) {
+    assert_eq!(rt; str::from_utf8(bytes), Ok(text));
+}
+
 #[test]
 fn a_tree_is_printed(rt: HostRuntime) -> Result<(), Fail> {
     let alloc = rt.alloc();
@@ -74,9 +78,11 @@ fn a_tree_is_printed(rt: HostRuntime) -> Result<(), Fail> {
     let parts = vec![in alloc; group, web, db]?;
     let sys = System::new(cores, parts).ok().expect(&rt, "a system");
     let text = print_system(alloc, &sys)?;
-    assert_eq!(rt; str::from_utf8(text.as_slice()), Ok(TREE));
+    assert_text(&rt, text.as_slice(), TREE);
     Ok(())
 }
+
+const CORE_ALONE: &str = "format = 1\n\n[[core]]\nname = \"cpu0\"\nsched = \"edf\"\n";
 
 #[test]
 fn a_core_alone_is_printed(rt: HostRuntime) -> Result<(), Fail> {
@@ -86,10 +92,7 @@ fn a_core_alone_is_printed(rt: HostRuntime) -> Result<(), Fail> {
         .ok()
         .expect(&rt, "a system");
     let text = print_system(alloc, &sys)?;
-    assert_eq!(rt;
-        str::from_utf8(text.as_slice()),
-        Ok("format = 1\n\n[[core]]\nname = \"cpu0\"\nsched = \"edf\"\n")
-    );
+    assert_text(&rt, text.as_slice(), CORE_ALONE);
     Ok(())
 }
 
@@ -160,10 +163,9 @@ fn a_host_is_printed_and_read_again(rt: HostRuntime) -> Result<(), Fail> {
     let alloc = rt.alloc();
     let printed = again(&rt, alloc, HOST.as_bytes())?;
     let text = str::from_utf8(printed.as_slice()).expect(&rt, "text");
-    assert!(rt; text.contains(NET));
-    assert!(rt; !text.contains("extra = false"));
+    assert!(rt; text.contains(NET) && !text.contains("extra = false"));
     let second = again(&rt, alloc, printed.as_slice())?;
-    assert_eq!(rt; str::from_utf8(second.as_slice()), Ok(text));
+    assert_text(&rt, second.as_slice(), text);
     Ok(())
 }
 
@@ -201,7 +203,7 @@ fn jitter_is_printed_and_read_again(rt: HostRuntime) -> Result<(), Fail> {
     let tasks = parts[0].tasks();
     assert!(rt; tasks[0].task().jitter == 0 && tasks[1].task().jitter == 3);
     let printed = print_system(alloc, &sys)?;
-    assert_eq!(rt; str::from_utf8(printed.as_slice()), Ok(LATE));
+    assert_text(&rt, printed.as_slice(), LATE);
     Ok(())
 }
 
@@ -209,9 +211,6 @@ fn jitter_is_printed_and_read_again(rt: HostRuntime) -> Result<(), Fail> {
 fn no_jitter_is_printed_in_format_1(rt: HostRuntime) -> Result<(), Fail> {
     let text = "format = 2\n[[core]]\nname = \"cpu0\"\nsched = \"edf\"\n";
     let printed = again(&rt, rt.alloc(), text.as_bytes())?;
-    assert_eq!(rt;
-        str::from_utf8(printed.as_slice()),
-        Ok("format = 1\n\n[[core]]\nname = \"cpu0\"\nsched = \"edf\"\n")
-    );
+    assert_text(&rt, printed.as_slice(), CORE_ALONE);
     Ok(())
 }

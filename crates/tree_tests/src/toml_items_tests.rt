@@ -27,10 +27,10 @@ fn item_at<'e, 't>(entries: &'e [Entry<'t>], key: &str) -> Option<&'e Item<'t>> 
     None
 }
 
-fn text_at<'t>(entries: &[Entry<'t>], key: &str) -> Option<&'t str> {
+fn is_text_at(entries: &[Entry<'_>], key: &str, want: &str) -> bool {
     match item_at(entries, key) {
-        Some(Item::Text(text)) => Some(*text),
-        _ => None,
+        Some(Item::Text(text)) => *text == want,
+        _ => false,
     }
 }
 
@@ -74,25 +74,24 @@ fn plain_entries(alloc: Global, text: &str) -> Option<Vec<Entry<'_>>> {
 
 #[test]
 fn a_plain_text_gives_its_items_without_a_table(rt: HostRuntime) -> Result<(), Fail> {
-    let top = plain_entries(rt.alloc(), PLAIN).ok_or("not plain")?;
-    let counts = (top.len(), count_at(&top, "core"), count_at(&top, "part"));
-    assert_eq!(rt; (number_at(&top, "format"), counts), (Some(1), (3, 1, 2)));
-    let core = table_at(&top, "core", 0).ok_or("no core")?;
-    let texts = (text_at(core, "name"), text_at(core, "sched"));
-    assert_eq!(rt; texts, (Some("cpu0"), Some("edf")));
-    let first = table_at(&top, "part", 0).ok_or("no part")?;
-    let found = (is_true_at(first, "extra"), count_at(first, "task"));
-    assert_eq!(rt; (text_at(first, "name"), found), (Some("a b"), (true, 2)));
-    let task = table_at(first, "task", 1).ok_or("no task")?;
-    assert_eq!(rt; number_at(task, "period"), Some(-5));
-    let second = table_at(&top, "part", 1).ok_or("no other part")?;
-    assert_eq!(rt; (text_at(second, "name"), second.len()), (Some("c"), 1));
+    let top = plain_entries(rt.alloc(), PLAIN).expect(&rt, "a plain text");
+    assert!(rt; top.len() == 3 && number_at(&top, "format") == Some(1));
+    assert!(rt; count_at(&top, "core") == 1 && count_at(&top, "part") == 2);
+    let core = table_at(&top, "core", 0).expect(&rt, "a core");
+    assert!(rt; is_text_at(core, "name", "cpu0") && is_text_at(core, "sched", "edf"));
+    let first = table_at(&top, "part", 0).expect(&rt, "a part");
+    assert!(rt; is_text_at(first, "name", "a b") && is_true_at(first, "extra"));
+    assert!(rt; count_at(first, "task") == 2);
+    let task = table_at(first, "task", 1).expect(&rt, "a task");
+    assert!(rt; number_at(task, "period") == Some(-5));
+    let second = table_at(&top, "part", 1).expect(&rt, "another part");
+    assert!(rt; second.len() == 1 && is_text_at(second, "name", "c"));
     Ok(())
 }
 
 #[test]
 fn these_texts_are_plain(rt: HostRuntime) -> Result<(), Fail> {
-    let texts = [
+    for (text, count) in &[
         ("", 0),
         ("\n# nothing\n", 0),
         ("a=1", 1),
@@ -100,17 +99,16 @@ fn these_texts_are_plain(rt: HostRuntime) -> Result<(), Fail> {
         ("b = 1\na = 2\na-b_9 = 1_000\n", 3),
         ("[[a]]\n[[a]]\n[[b]]\n", 2),
         ("[[a]]\n[[a.b]]\n[[a.c]]\nd = 1\n[[a]]\n[[e]]\n", 2),
-    ];
-    for (text, count) in texts {
+    ] {
         let entries = plain_entries(rt.alloc(), text).expect(&rt, "a plain text");
-        assert_eq!(rt; entries.len(), count);
+        assert!(rt; entries.len() == *count, "{text}");
     }
     Ok(())
 }
 
 #[test]
 fn these_texts_are_not(rt: HostRuntime) -> Result<(), Fail> {
-    let texts = [
+    for text in &[
         "\u{feff}a = 1",
         "a = 'b'",
         "a = \"\"",
@@ -131,12 +129,11 @@ fn these_texts_are_not(rt: HostRuntime) -> Result<(), Fail> {
         "a",
         "= 1",
         "[[a]",
-    ];
-    for text in texts {
+    ] {
         match read_document(rt.alloc(), text) {
             Ok(Document::Entries(_entries)) => panic!(rt; "plain: {text}"),
             Ok(Document::Table(_table)) => (),
-            Err(fault) => assert_eq!(rt; fault, DocumentFault::NotToml),
+            Err(fault) => assert!(rt; fault == DocumentFault::NotToml, "{text}"),
         }
     }
     Ok(())
@@ -147,8 +144,7 @@ fn any_other_is_read_by_the_kit(rt: HostRuntime) -> Result<(), Fail> {
     match read_document(rt.alloc(), "a = 'b'\n[c]\nd = 1.5") {
         Ok(Document::Table(table)) => {
             let entries = table_entries(rt.alloc(), &table)?;
-            assert_eq!(rt; entries.len(), 2);
-            assert_eq!(rt; text_at(&entries, "a"), Some("b"));
+            assert!(rt; entries.len() == 2 && is_text_at(&entries, "a", "b"));
         }
         Ok(Document::Entries(_entries)) => assert!(rt; false),
         Err(_fault) => assert!(rt; false),
@@ -158,19 +154,16 @@ fn any_other_is_read_by_the_kit(rt: HostRuntime) -> Result<(), Fail> {
 
 #[test]
 fn what_is_no_document_is_refused(rt: HostRuntime) -> Result<(), Fail> {
-    let texts = [
+    for text in &[
         "a = 1\na = 2",
         "a",
         "[[a]",
         "a = 1\n[[a]]",
         "a = \"b",
         "a = 1 b = 2",
-    ];
-    for text in texts {
-        match read_document(rt.alloc(), text) {
-            Err(fault) => assert_eq!(rt; fault, DocumentFault::NotToml),
-            Ok(_) => assert!(rt; false),
-        }
+    ] {
+        let found = read_document(rt.alloc(), text).err();
+        assert!(rt; found == Some(DocumentFault::NotToml), "{text}");
     }
     Ok(())
 }
@@ -181,11 +174,9 @@ fn a_table_gives_its_items(rt: HostRuntime) -> Result<(), Fail> {
     match toml::table_from_str(rt.alloc(), text) {
         Ok(table) => {
             let entries = table_entries(rt.alloc(), &table)?;
-            assert_eq!(rt; entries.len(), 3);
-            assert_eq!(rt; text_at(&entries, "a"), Some("b"));
-            assert_eq!(rt; count_at(&entries, "c"), 5);
+            assert!(rt; entries.len() == 3 && is_text_at(&entries, "a", "b"));
             let inner = table_at(&entries, "c", 4).expect(&rt, "a table");
-            assert_eq!(rt; number_at(inner, "d"), Some(7));
+            assert!(rt; count_at(&entries, "c") == 5 && number_at(inner, "d") == Some(7));
         }
         Err(_) => assert!(rt; false),
     }
