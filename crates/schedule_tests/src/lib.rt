@@ -1,4 +1,4 @@
-//! Tests of schedules: of whole trees, of the scheduler after Xen's RTDS, and of the generated host.
+//! Tests of schedules: whole trees, the scheduler after Xen's RTDS, and the generated host.
 #![tactic(auto)]
 
 #[cfg(test)]
