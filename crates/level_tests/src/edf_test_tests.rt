@@ -8,7 +8,7 @@ use edf_test::{cover, first_short, passes, settled_past};
 use slot_model::Task;
 use std::alloc::Global;
 use std::process::Abort;
-use supply_bound::{Full, Periodic, Supply};
+use supply_bound::{Full, Supply};
 
 #[test]
 fn short_points_of_a_periodic_resource(rt: HostRuntime) {

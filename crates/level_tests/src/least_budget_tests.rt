@@ -7,7 +7,7 @@ use crate::helpers::{
 use least_budget::{Least, Tested, least_budget, test};
 use slot_model::{Sched, Short, Task};
 use std::process::Abort;
-use supply_bound::{Full, Periodic};
+use supply_bound::Full;
 
 const RANKS: [Sched; 3] = [Sched::Rm, Sched::Dm, Sched::Listed];
 
