@@ -1,6 +1,6 @@
 ghost use Rattle.std.specs.Prelude.{◌≤◌, length};
 
-use crate::helpers::{MEMORY, assert_jobs, expect, task, two_late_tasks};
+use crate::helpers::{MEMORY, assert_jobs, expect, expect_at, job, task, two_late_tasks};
 use release_pattern::synchronous_jobs;
 use slot_model::{Job, Task};
 use std::alloc::{AllocError, Global};
@@ -25,21 +25,27 @@ fn the_first_job_has_its_jitter_behind_it(rt: HostRuntime) {
     assert_jobs(&rt, &jobs, &wanted);
 }
 
+// Seventeen at once, two of the last task alone, and the other sixteen.
+fn job_at(place: u32) -> Job {
+    if place < 17 {
+        job(place, 2, 1, 0)
+    } else if place == 17 {
+        job(16, 42, 1, 0)
+    } else if place == 18 {
+        job(16, 82, 1, 0)
+    } else {
+        job(place - 19, 92, 1, 0)
+    }
+}
+
 // Sixteen tasks of period 90, and a seventeenth of period 40.
 #[test]
 fn jobs_of_one_moment_stand_by_place(rt: HostRuntime) {
     let mut tasks = [task(&rt, 90, 90, 1); 17];
     tasks[16] = task(&rt, 40, 40, 1);
     let jobs = jobs_of(rt.alloc(), &tasks).expect(&rt, MEMORY);
-    let mut wanted = Vec::new(rt.alloc());
-    for place in 0..17u32 {
-        wanted.push((place, 2, 1, 0)).expect(&rt, MEMORY);
+    expect(&rt, jobs.len(), 35);
+    for (place, found) in (0..35u32).zip(jobs.iter()) {
+        expect_at(&rt, place, *found, job_at(place));
     }
-    wanted.push((16, 42, 1, 0)).expect(&rt, MEMORY);
-    wanted.push((16, 82, 1, 0)).expect(&rt, MEMORY);
-    for place in 0..16u32 {
-        wanted.push((place, 92, 1, 0)).expect(&rt, MEMORY);
-    }
-    expect(&rt, wanted.len(), 35);
-    assert_jobs(&rt, &jobs, &wanted);
 }
