@@ -3,13 +3,12 @@ use crate::helpers::{
 };
 use edf_demand::{demand, demand_by, gather, horizon};
 use slot_model::Task;
-use std::test::Fail;
 use window_terms::Term;
 
 #[test]
-fn demand_of_windows(rt: HostRuntime) -> Result<(), Fail> {
-    let (two, late) = (two_tasks()?, two_late_tasks()?);
-    let early = [task(10, 4, 2)?];
+fn demand_of_windows(rt: HostRuntime) {
+    let (two, late) = (two_tasks(&rt), two_late_tasks(&rt));
+    let early = [task(&rt, 10, 4, 2)];
     let cases: [(&[Task], u128, u128); 14] = [
         (&two, 0, 0),
         (&two, 49, 0),
@@ -29,25 +28,23 @@ fn demand_of_windows(rt: HostRuntime) -> Result<(), Fail> {
     for (tasks, window, work) in cases {
         expect_at(&rt, window, demand(tasks, window), Some(work));
     }
-    Ok(())
 }
 
 #[test]
-fn demand_near_the_end_of_u128(rt: HostRuntime) -> Result<(), Fail> {
-    let whole = task(1, 1, 1)?;
-    let half = task(2, 2, 1)?;
+fn demand_near_the_end_of_u128(rt: HostRuntime) {
+    let whole = task(&rt, 1, 1, 1);
+    let half = task(&rt, 2, 2, 1);
     expect(&rt, demand(&[whole], u128::MAX), Some(u128::MAX));
     expect(&rt, demand(&[half, half], u128::MAX), Some(u128::MAX - 1));
     expect(&rt, demand(&[whole, half], u128::MAX), None);
-    Ok(())
 }
 
 #[test]
-fn demand_by_terms(rt: HostRuntime) -> Result<(), Fail> {
+fn demand_by_terms(rt: HostRuntime) {
     let tasks = [
-        late_task(50, 50, 7, 5)?,
-        late_task(50, 46, 2, 1)?,
-        task(75, 75, 9)?,
+        late_task(&rt, 50, 50, 7, 5),
+        late_task(&rt, 50, 46, 2, 1),
+        task(&rt, 75, 75, 9),
     ];
     let mut terms = [Term::none(); 3];
     let whole = gather(&tasks, &mut terms);
@@ -79,16 +76,14 @@ fn demand_by_terms(rt: HostRuntime) -> Result<(), Fail> {
             Some(work),
         );
     }
-    Ok(())
 }
 
 #[test]
-fn horizons(rt: HostRuntime) -> Result<(), Fail> {
-    let tasks = two_tasks()?;
+fn horizons(rt: HostRuntime) {
+    let tasks = two_tasks(&rt);
     expect(&rt, horizon(&tasks, 10), Some(160));
     expect(&rt, horizon(&tasks, 1), Some(151));
     expect(&rt, horizon(&[], 10), Some(20));
-    let long = five_long_tasks()?;
+    let long = five_long_tasks(&rt);
     expect(&rt, horizon(&long, 1_000_000), None);
-    Ok(())
 }

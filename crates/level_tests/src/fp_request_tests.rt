@@ -4,7 +4,6 @@ ghost use Rattle.slot_model.specs.Task.{sporadic_tasks, task_at};
 use crate::helpers::{OUT, expect, expect_at, job, late_task, task, two_late_tasks, two_tasks};
 use fp_request::{Fixed, gather, gather_above, higher, request, request_by};
 use slot_model::{Job, Order, Sched, Task};
-use std::test::Fail;
 use window_terms::Term;
 
 // A caller that knows an order by its trait alone.
@@ -19,8 +18,8 @@ fn goes_first<O: Order>(order: &O, tasks: &[Task], a: &Job, b: &Job) -> bool
 }
 
 #[test]
-fn requests_of_two_tasks(rt: HostRuntime) -> Result<(), Fail> {
-    let tasks = two_tasks()?;
+fn requests_of_two_tasks(rt: HostRuntime) {
+    let tasks = two_tasks(&rt);
     for (sched, i, t, want) in [
         (Sched::Rm, 1, 0, 9),
         (Sched::Rm, 1, 1, 16),
@@ -32,30 +31,28 @@ fn requests_of_two_tasks(rt: HostRuntime) -> Result<(), Fail> {
     ] {
         expect_at(&rt, (i, t), request(sched, &tasks, i, t), Some(want));
     }
-    Ok(())
 }
 
 #[test]
-fn requests_with_jitter(rt: HostRuntime) -> Result<(), Fail> {
-    let tasks = two_late_tasks()?;
+fn requests_with_jitter(rt: HostRuntime) {
+    let tasks = two_late_tasks(&rt);
     expect(&rt, request(Sched::Rm, &tasks, 1, 45), Some(16));
     expect(&rt, request(Sched::Rm, &tasks, 1, 46), Some(23));
     // The window and the jitter together pass 2^128 slots.
     let long = [
-        late_task(1_000_000_000, 1_000_000_000, 1, 999_999_999)?,
-        task(1_000_000_000, 1_000_000_000, 1)?,
+        late_task(&rt, 1_000_000_000, 1_000_000_000, 1, 999_999_999),
+        task(&rt, 1_000_000_000, 1_000_000_000, 1),
     ];
     let most = u128::MAX / 1_000_000_000 + 3;
     expect(&rt, request(Sched::Listed, &long, 1, u128::MAX), Some(most));
-    Ok(())
 }
 
 #[test]
-fn requests_by_terms(rt: HostRuntime) -> Result<(), Fail> {
+fn requests_by_terms(rt: HostRuntime) {
     let tasks = [
-        task(50, 50, 7)?,
-        late_task(75, 75, 9, 5)?,
-        task(200, 200, 20)?,
+        task(&rt, 50, 50, 7),
+        late_task(&rt, 75, 75, 9, 5),
+        task(&rt, 200, 200, 20),
     ];
     let mut room = [Term::none(); 3];
     let count = gather(&tasks, &mut room);
@@ -78,12 +75,11 @@ fn requests_by_terms(rt: HostRuntime) -> Result<(), Fail> {
             Some(want),
         );
     }
-    Ok(())
 }
 
 #[test]
-fn requests_past_128_bits(rt: HostRuntime) -> Result<(), Fail> {
-    let each_slot = task(1, 1, 1)?;
+fn requests_past_128_bits(rt: HostRuntime) {
+    let each_slot = task(&rt, 1, 1, 1);
     let tasks = [each_slot, each_slot];
     expect(
         &rt,
@@ -92,12 +88,15 @@ fn requests_past_128_bits(rt: HostRuntime) -> Result<(), Fail> {
     );
     expect(&rt, request(Sched::Rm, &tasks, 1, u128::MAX), None);
     expect(&rt, request(Sched::Rm, &tasks, 0, u128::MAX), Some(1));
-    Ok(())
 }
 
 #[test]
-fn ranks_and_their_ties(rt: HostRuntime) -> Result<(), Fail> {
-    let tasks = [task(20, 20, 1)?, task(20, 10, 1)?, task(10, 10, 1)?];
+fn ranks_and_their_ties(rt: HostRuntime) {
+    let tasks = [
+        task(&rt, 20, 20, 1),
+        task(&rt, 20, 10, 1),
+        task(&rt, 10, 10, 1),
+    ];
     for (sched, i, j, want) in [
         (Sched::Rm, 2, 0, true),
         (Sched::Rm, 0, 1, true),
@@ -111,14 +110,13 @@ fn ranks_and_their_ties(rt: HostRuntime) -> Result<(), Fail> {
     ] {
         expect_at(&rt, (i, j), higher(sched, &tasks, i, j), want);
     }
-    Ok(())
 }
 
 #[test]
-fn fixed_orders(rt: HostRuntime) -> Result<(), Fail> {
+fn fixed_orders(rt: HostRuntime) {
     expect(&rt, Fixed::new(Sched::Edf), None);
-    let order = Fixed::new(Sched::Rm).ok_or(OUT)?;
-    let tasks = [task(75, 75, 9)?, task(50, 50, 7)?];
+    let order = Fixed::new(Sched::Rm).expect(&rt, OUT);
+    let tasks = [task(&rt, 75, 75, 9), task(&rt, 50, 50, 7)];
     let early = job(0, 0, 9, 0);
     let late = job(0, 75, 9, 0);
     let above = job(1, 100, 7, 0);
@@ -127,5 +125,4 @@ fn fixed_orders(rt: HostRuntime) -> Result<(), Fail> {
     expect(&rt, goes_first(&order, &tasks, &early, &late), true);
     expect(&rt, order.before(&tasks, &late, &early), false);
     expect(&rt, order.before(&tasks, &late, &late), false);
-    Ok(())
 }

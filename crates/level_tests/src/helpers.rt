@@ -1,59 +1,60 @@
 //! What the tests of several crates make.
 
-ghost use Rattle.std.specs.Prelude.{◌≡◌, IfOk};
+ghost use Rattle.std.specs.Prelude.{◌≡◌};
 
 use slot_model::{Job, Task};
 use std::fmt::Debug;
 use std::process::Abort;
-use std::test::Fail;
 use supply_bound::Periodic;
 
 pub const OUT: &str = "out of range";
 
-pub fn task(period: u64, deadline: u64, work: u64) -> Result<Task, Fail> {
-    Ok(Task::new(period, deadline, work).ok_or(OUT)?)
+pub const MEMORY: &str = "out of memory";
+
+pub fn task(rt: &impl Abort, period: u64, deadline: u64, work: u64) -> Task {
+    Task::new(period, deadline, work).expect(rt, OUT)
 }
 
-pub fn late_task(period: u64, deadline: u64, work: u64, jitter: u64) -> Result<Task, Fail>
-    ensures { IfOk result (λ task. task.jitter ≡ jitter) }
+pub fn late_task(rt: &impl Abort, period: u64, deadline: u64, work: u64, jitter: u64) -> Task
+    ensures { result.jitter ≡ jitter }
 {
-    Ok(Task::with_jitter(period, deadline, work, jitter).ok_or(OUT)?)
+    Task::with_jitter(period, deadline, work, jitter).expect(rt, OUT)
 }
 
-pub fn periodic(period: u64, budget: u64) -> Result<Periodic, Fail> {
-    Ok(Periodic::new(period, budget).ok_or(OUT)?)
+pub fn periodic(rt: &impl Abort, period: u64, budget: u64) -> Periodic {
+    Periodic::new(period, budget).expect(rt, OUT)
 }
 
 /// 7 slots in every 50 and 9 in every 75.
-pub fn two_tasks() -> Result<[Task; 2], Fail> {
-    Ok([task(50, 50, 7)?, task(75, 75, 9)?])
+pub fn two_tasks(rt: &impl Abort) -> [Task; 2] {
+    [task(rt, 50, 50, 7), task(rt, 75, 75, 9)]
 }
 
 /// The same, and the first comes up to 5 slots late.
-pub fn two_late_tasks() -> Result<[Task; 2], Fail> {
-    Ok([late_task(50, 50, 7, 5)?, task(75, 75, 9)?])
+pub fn two_late_tasks(rt: &impl Abort) -> [Task; 2] {
+    [late_task(rt, 50, 50, 7, 5), task(rt, 75, 75, 9)]
 }
 
 /// Five periods that share no factor, each one slot of work.
-pub fn five_long_tasks() -> Result<[Task; 5], Fail> {
-    Ok([
-        task(999_999_996, 999_999_996, 1)?,
-        task(999_999_997, 999_999_997, 1)?,
-        task(999_999_998, 999_999_998, 1)?,
-        task(999_999_999, 999_999_999, 1)?,
-        task(1_000_000_000, 1_000_000_000, 1)?,
-    ])
+pub fn five_long_tasks(rt: &impl Abort) -> [Task; 5] {
+    [
+        task(rt, 999_999_996, 999_999_996, 1),
+        task(rt, 999_999_997, 999_999_997, 1),
+        task(rt, 999_999_998, 999_999_998, 1),
+        task(rt, 999_999_999, 999_999_999, 1),
+        task(rt, 1_000_000_000, 1_000_000_000, 1),
+    ]
 }
 
 /// Five rates of which 1217 slots in every 4000 are just enough. Their horizon is some 10^22 slots.
-pub fn five_rates() -> Result<[Task; 5], Fail> {
-    Ok([
-        task(33_333, 33_333, 3_000)?,
-        task(16_667, 16_667, 1_500)?,
-        task(21_333, 21_333, 900)?,
-        task(12_500, 12_500, 700)?,
-        task(99_991, 99_991, 2_000)?,
-    ])
+pub fn five_rates(rt: &impl Abort) -> [Task; 5] {
+    [
+        task(rt, 33_333, 33_333, 3_000),
+        task(rt, 16_667, 16_667, 1_500),
+        task(rt, 21_333, 21_333, 900),
+        task(rt, 12_500, 12_500, 700),
+        task(rt, 99_991, 99_991, 2_000),
+    ]
 }
 
 /// A job that arrived `early` slots before it was released.

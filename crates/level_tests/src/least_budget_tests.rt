@@ -7,8 +7,7 @@ use crate::helpers::{
 use least_budget::{Least, Tested, least_budget, test};
 use slot_model::{Sched, Short, Task};
 use std::process::Abort;
-use std::test::Fail;
-use supply_bound::{Full, Periodic};
+use supply_bound::Full;
 
 const RANKS: [Sched; 3] = [Sched::Rm, Sched::Dm, Sched::Listed];
 
@@ -22,26 +21,25 @@ fn expect_budget(rt: &impl Abort, sched: Sched, tasks: &[Task], period: u64, bud
 }
 
 #[test]
-fn budgets_of_small_levels(rt: HostRuntime) -> Result<(), Fail> {
-    let (two, late) = (two_tasks()?, two_late_tasks()?);
+fn budgets_of_small_levels(rt: HostRuntime) {
+    let (two, late) = (two_tasks(&rt), two_late_tasks(&rt));
     for (sched, budget) in [(Sched::Edf, 3), (Sched::Rm, 4)] {
         expect_budget(&rt, sched, &two, 10, budget);
         expect_budget(&rt, sched, &late, 10, budget);
     }
     let none: [Task; 0] = [];
-    let whole = [task(5, 5, 5)?];
-    let long = [task(1_000_000_000, 1_000_000_000, 1_000_000_000)?];
+    let whole = [task(&rt, 5, 5, 5)];
+    let long = [task(&rt, 1_000_000_000, 1_000_000_000, 1_000_000_000)];
     for sched in [Sched::Edf, Sched::Rm, Sched::Dm, Sched::Listed] {
         expect_budget(&rt, sched, &none, 10, 0);
         expect_budget(&rt, sched, &whole, 5, 5);
         expect_budget(&rt, sched, &long, 1_000_000_000, 1_000_000_000);
     }
-    Ok(())
 }
 
 #[test]
-fn levels_that_ask_for_too_much(rt: HostRuntime) -> Result<(), Fail> {
-    let tasks = [task(2, 2, 2)?, task(3, 3, 1)?];
+fn levels_that_ask_for_too_much(rt: HostRuntime) {
+    let tasks = [task(&rt, 2, 2, 2), task(&rt, 3, 3, 1)];
     for (sched, short) in [
         (Sched::Edf, Short::At(4)),
         (Sched::Rm, Short::Task(1)),
@@ -55,12 +53,11 @@ fn levels_that_ask_for_too_much(rt: HostRuntime) -> Result<(), Fail> {
     }
     let full = test(Sched::Edf, &tasks, &Full);
     expect(&rt, full, Tested::Short(Short::At(4)));
-    Ok(())
 }
 
 #[test]
-fn horizons_past_128_bits(rt: HostRuntime) -> Result<(), Fail> {
-    let tasks = five_long_tasks()?;
+fn horizons_past_128_bits(rt: HostRuntime) {
+    let tasks = five_long_tasks(&rt);
     expect(
         &rt,
         least_budget(Sched::Edf, &tasks, 1_000_000),
@@ -70,12 +67,11 @@ fn horizons_past_128_bits(rt: HostRuntime) -> Result<(), Fail> {
     for sched in RANKS {
         expect_budget(&rt, sched, &tasks, 1_000_000, 1);
     }
-    Ok(())
 }
 
 #[test]
-fn tests_at_the_least_budget(rt: HostRuntime) -> Result<(), Fail> {
-    let tasks = two_tasks()?;
+fn tests_at_the_least_budget(rt: HostRuntime) {
+    let tasks = two_tasks(&rt);
     for (sched, budget, want) in [
         (Sched::Edf, 2, Tested::Short(Short::At(75))),
         (Sched::Edf, 3, Tested::Passes),
@@ -83,22 +79,20 @@ fn tests_at_the_least_budget(rt: HostRuntime) -> Result<(), Fail> {
         (Sched::Dm, 3, Tested::Short(Short::Task(1))),
         (Sched::Listed, 3, Tested::Short(Short::Task(1))),
     ] {
-        let supply = periodic(10, budget)?;
+        let supply = periodic(&rt, 10, budget);
         expect_at(&rt, (sched, budget), test(sched, &tasks, &supply), want);
     }
     for sched in RANKS {
         expect_at(&rt, sched, test(sched, &tasks, &Full), Tested::Passes);
     }
-    Ok(())
 }
 
 // The horizon is some 10^22 slots.
 #[test]
-fn periods_with_no_small_common_multiple(rt: HostRuntime) -> Result<(), Fail> {
-    let tasks = five_rates()?;
+fn periods_with_no_small_common_multiple(rt: HostRuntime) {
+    let tasks = five_rates(&rt);
     expect_budget(&rt, Sched::Edf, &tasks, 4_000, 1_217);
-    let below = periodic(4_000, 1_216)?;
+    let below = periodic(&rt, 4_000, 1_216);
     let found = test(Sched::Edf, &tasks, &below);
     expect(&rt, found, Tested::Short(Short::At(100_002)));
-    Ok(())
 }

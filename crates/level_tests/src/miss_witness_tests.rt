@@ -1,11 +1,10 @@
 ghost use Rattle.std.specs.Prelude.{◌≡◌, ◌^◌, ◌<◌, ◌≤◌, length};
 ghost use Rattle.slot_model.specs.declared.task.TheConstants.{LIMIT};
 
-use crate::helpers::{assert_jobs, expect, expect_at, task, two_late_tasks, two_tasks};
+use crate::helpers::{MEMORY, assert_jobs, expect, expect_at, task, two_late_tasks, two_tasks};
 use least_budget::{Least, least_budget};
 use miss_witness::{Defeat, witness, witness_jobs};
 use slot_model::{Sched, Task};
-use std::test::Fail;
 
 fn defeat(budget: u64, span: u128, task: Option<u32>) -> Defeat
     ensures start { result.start ≡ budget }
@@ -32,9 +31,9 @@ fn defeat_of(sched: Sched, tasks: &[Task], period: u64) -> Option<Defeat>
 }
 
 #[test]
-fn defeats_of_the_next_smaller_budget(rt: HostRuntime) -> Result<(), Fail> {
-    let tasks = two_tasks()?;
-    let jittery = two_late_tasks()?;
+fn defeats_of_the_next_smaller_budget(rt: HostRuntime) {
+    let tasks = two_tasks(&rt);
+    let jittery = two_late_tasks(&rt);
     for (sched, tasks, wanted) in [
         (Sched::Edf, &tasks, defeat(2, 75, None)),
         (Sched::Rm, &tasks, defeat(3, 75, Some(1))),
@@ -42,25 +41,25 @@ fn defeats_of_the_next_smaller_budget(rt: HostRuntime) -> Result<(), Fail> {
     ] {
         expect_at(&rt, sched, defeat_of(sched, tasks, 10), Some(wanted));
     }
-    let whole = [task(5, 5, 5)?];
+    let whole = [task(&rt, 5, 5, 5)];
     expect(
         &rt,
         defeat_of(Sched::Edf, &whole, 5),
         Some(defeat(4, 5, None)),
     );
-    Ok(())
 }
 
 #[test]
-fn jobs_by_release_and_then_by_place(rt: HostRuntime) -> Result<(), Fail> {
-    let jobs = witness_jobs(rt.alloc(), &two_tasks()?, &defeat(2, 75, None))?;
+fn jobs_by_release_and_then_by_place(rt: HostRuntime) {
+    let jobs = witness_jobs(rt.alloc(), &two_tasks(&rt), &defeat(2, 75, None)).expect(&rt, MEMORY);
     assert_jobs(&rt, &jobs, &[(0, 2, 7, 0), (1, 2, 9, 0), (0, 52, 7, 0)]);
-    Ok(())
 }
 
 #[test]
-fn the_first_job_has_its_jitter_behind_it(rt: HostRuntime) -> Result<(), Fail> {
-    let jobs = witness_jobs(rt.alloc(), &two_late_tasks()?, &defeat(2, 96, None))?;
+fn the_first_job_has_its_jitter_behind_it(rt: HostRuntime) {
+    let jobs = witness_jobs(rt.alloc(), &two_late_tasks(&rt), &defeat(2, 96, None)).expect(
+        &rt, MEMORY,
+    );
     let wanted = [
         (0, 2, 7, 5),
         (1, 2, 9, 0),
@@ -69,5 +68,4 @@ fn the_first_job_has_its_jitter_behind_it(rt: HostRuntime) -> Result<(), Fail> {
         (0, 97, 7, 0),
     ];
     assert_jobs(&rt, &jobs, &wanted);
-    Ok(())
 }

@@ -1,11 +1,16 @@
-use crate::helpers::{OUT, expect, expect_at, job, late_task, task};
+use crate::helpers::{MEMORY, OUT, expect, expect_at, job, late_task, task};
 use slot_model::{
     Edf, Job, LIMIT, Miss, Name, Order, Task, deadline_moment, first_miss, is_legal, misses,
 };
-use std::test::Fail;
+use std::alloc::Global;
+use std::process::Abort;
+
+fn is_name(rt: &impl Abort, alloc: Global, bytes: &[u8]) -> bool {
+    Name::new(alloc, bytes).expect(rt, MEMORY).is_some()
+}
 
 #[test]
-fn names_have_32_bytes_and_begin_with_a_letter(rt: HostRuntime) -> Result<(), Fail> {
+fn names_have_32_bytes_and_begin_with_a_letter(rt: HostRuntime) {
     let long = [b'a'; 33];
     let cases: [(&[u8], bool); 6] = [
         (b"vm-1_b", true),
@@ -16,14 +21,13 @@ fn names_have_32_bytes_and_begin_with_a_letter(rt: HostRuntime) -> Result<(), Fa
         (&long, false),
     ];
     for (bytes, want) in cases {
-        let made = Name::new(rt.alloc(), bytes)?;
-        expect_at(&rt, bytes, made.is_some(), want);
+        expect_at(&rt, bytes, is_name(&rt, rt.alloc(), bytes), want);
     }
-    let name = Name::new(rt.alloc(), b"dom0")?.ok_or(OUT)?;
-    let copy = name.copy()?;
+    let made = Name::new(rt.alloc(), b"dom0").expect(&rt, MEMORY);
+    let name = made.expect(&rt, OUT);
+    let copy = name.copy().expect(&rt, MEMORY);
     expect(&rt, copy.as_str(), "dom0");
     expect(&rt, name.as_str(), "dom0");
-    Ok(())
 }
 
 #[test]
@@ -45,8 +49,8 @@ fn tasks_keep_their_range(rt: HostRuntime) {
 }
 
 #[test]
-fn legal_releases_keep_the_period(rt: HostRuntime) -> Result<(), Fail> {
-    let tasks = [task(10, 4, 3)?, task(2, 2, 1)?];
+fn legal_releases_keep_the_period(rt: HostRuntime) {
+    let tasks = [task(&rt, 10, 4, 3), task(&rt, 2, 2, 1)];
     let far = u64::MAX - 9;
     let first = job(0, 5, 3, 0);
     let cases: [(&[Job], bool); 9] = [
@@ -66,7 +70,6 @@ fn legal_releases_keep_the_period(rt: HostRuntime) -> Result<(), Fail> {
     for (jobs, want) in cases {
         expect_at(&rt, jobs, is_legal(&tasks, jobs), want);
     }
-    Ok(())
 }
 
 #[test]
@@ -85,8 +88,8 @@ fn jitter_leaves_room_for_the_work(rt: HostRuntime) {
 }
 
 #[test]
-fn legal_releases_go_by_arrivals(rt: HostRuntime) -> Result<(), Fail> {
-    let tasks = [late_task(50, 40, 7, 5)?];
+fn legal_releases_go_by_arrivals(rt: HostRuntime) {
+    let tasks = [late_task(&rt, 50, 40, 7, 5)];
     let far = u64::MAX - 45;
     let cases: [(&[Job], bool); 4] = [
         (&[job(0, 0, 7, 5), job(0, 45, 7, 0)], true),
@@ -97,24 +100,22 @@ fn legal_releases_go_by_arrivals(rt: HostRuntime) -> Result<(), Fail> {
     for (jobs, want) in cases {
         expect_at(&rt, jobs, is_legal(&tasks, jobs), want);
     }
-    Ok(())
 }
 
 #[test]
-fn the_earlier_deadline_goes_first(rt: HostRuntime) -> Result<(), Fail> {
-    let tasks = [task(10, 4, 3)?, task(20, 9, 1)?];
+fn the_earlier_deadline_goes_first(rt: HostRuntime) {
+    let tasks = [task(&rt, 10, 4, 3), task(&rt, 20, 9, 1)];
     let last = deadline_moment(&tasks, &job(1, u64::MAX, 1, 0));
     expect(&rt, last, 18_446_744_073_709_551_624);
     let later = job(1, 0, 1, 0);
     expect(&rt, Edf.before(&tasks, &job(0, 3, 1, 0), &later), true);
     expect(&rt, Edf.before(&tasks, &later, &job(0, 3, 1, 0)), false);
     expect(&rt, Edf.before(&tasks, &job(0, 5, 1, 0), &later), false);
-    Ok(())
 }
 
 #[test]
-fn misses_are_counted_and_the_first_is_told(rt: HostRuntime) -> Result<(), Fail> {
-    let tasks = [task(9, 5, 2)?, task(9, 3, 1)?, task(9, 3, 2)?];
+fn misses_are_counted_and_the_first_is_told(rt: HostRuntime) {
+    let tasks = [task(&rt, 9, 5, 2), task(&rt, 9, 3, 1), task(&rt, 9, 3, 2)];
     let jobs = [
         job(0, 0, 2, 0),
         job(1, 0, 1, 0),
@@ -131,22 +132,20 @@ fn misses_are_counted_and_the_first_is_told(rt: HostRuntime) -> Result<(), Fail>
         work: 1,
     };
     expect(&rt, first_miss(&jobs, &tasks, &run), Some(first));
-    Ok(())
 }
 
 #[test]
-fn a_run_in_time_has_no_miss(rt: HostRuntime) -> Result<(), Fail> {
-    let tasks = [task(9, 5, 2)?];
+fn a_run_in_time_has_no_miss(rt: HostRuntime) {
+    let tasks = [task(&rt, 9, 5, 2)];
     let jobs = [job(0, 1, 2, 0), job(0, 10, 2, 0)];
     let run = [None, None, Some(0), None, None, Some(0), None];
     expect(&rt, misses(&jobs, &tasks, &run), 0);
     expect(&rt, first_miss(&jobs, &tasks, &run), None);
-    Ok(())
 }
 
 #[test]
-fn an_arrival_before_moment_0_counts_for_the_deadline(rt: HostRuntime) -> Result<(), Fail> {
-    let tasks = [late_task(10, 10, 4, 5)?];
+fn an_arrival_before_moment_0_counts_for_the_deadline(rt: HostRuntime) {
+    let tasks = [late_task(&rt, 10, 10, 4, 5)];
     // It arrived at -5, so it is due at 5 and gets 3 of its 4 slots before.
     let jobs = [job(0, 0, 4, 5)];
     let run = [None, None, Some(0), Some(0), Some(0), Some(0)];
@@ -161,5 +160,4 @@ fn an_arrival_before_moment_0_counts_for_the_deadline(rt: HostRuntime) -> Result
     expect(&rt, misses(&jobs, &tasks, &run), 1);
     expect(&rt, first_miss(&jobs, &tasks, &run), Some(miss));
     expect(&rt, first_miss(&[job(0, 0, 4, 0)], &tasks, &run), None);
-    Ok(())
 }

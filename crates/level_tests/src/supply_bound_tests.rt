@@ -1,9 +1,8 @@
 use crate::helpers::{expect, expect_at, periodic};
-use std::test::Fail;
 use supply_bound::{Full, Periodic, Supply};
 
 #[test]
-fn least_slots_of_windows(rt: HostRuntime) -> Result<(), Fail> {
+fn least_slots_of_windows(rt: HostRuntime) {
     for (period, budget, window, slots) in [
         (10, 3, 0, 0),
         (10, 3, 14, 0),
@@ -19,15 +18,14 @@ fn least_slots_of_windows(rt: HostRuntime) -> Result<(), Fail> {
         (5, 0, u128::MAX, 0),
         (5, 5, u128::MAX, u128::MAX),
     ] {
-        let least = periodic(period, budget)?.least(window);
+        let least = periodic(&rt, period, budget).least(window);
         expect_at(&rt, (period, budget, window), least, slots);
     }
     expect(&rt, Full.least(7), 7);
-    Ok(())
 }
 
 #[test]
-fn windows_that_reach_a_bound(rt: HostRuntime) -> Result<(), Fail> {
+fn windows_that_reach_a_bound(rt: HostRuntime) {
     for (period, budget, slots, window) in [
         (10, 3, 0, Some(0)),
         (10, 3, 1, Some(15)),
@@ -45,11 +43,10 @@ fn windows_that_reach_a_bound(rt: HostRuntime) -> Result<(), Fail> {
         (5, 0, 0, Some(0)),
         (5, 0, 1, None),
     ] {
-        let reached = periodic(period, budget)?.reach(slots);
+        let reached = periodic(&rt, period, budget).reach(slots);
         expect_at(&rt, (period, budget, slots), reached, window);
     }
     expect(&rt, Full.reach(u128::MAX), Some(u128::MAX));
-    Ok(())
 }
 
 #[test]
@@ -69,8 +66,8 @@ fn resources_in_range(rt: HostRuntime) {
 }
 
 #[test]
-fn worst_patterns(rt: HostRuntime) -> Result<(), Fail> {
-    let part = periodic(5, 2)?;
+fn worst_patterns(rt: HostRuntime) {
+    let part = periodic(&rt, 5, 2);
     let given = [
         true, true, false, false, false, false, false, false, true, true, false, false, false, true,
     ];
@@ -83,5 +80,4 @@ fn worst_patterns(rt: HostRuntime) -> Result<(), Fail> {
         (Full.worst(3), Full.start(), Full.cycle()),
         (true, 0, 1),
     );
-    Ok(())
 }
