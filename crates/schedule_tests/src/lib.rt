@@ -1,4 +1,4 @@
-//! Tests of schedules: of whole trees, of the scheduler after Xen's RTDS, and of the generated host.
+//! Tests of whole runs: of trees, of the scheduler after Xen's RTDS, and of the generated host.
 #![tactic(auto)]
 
 #[cfg(test)]
