@@ -12,17 +12,15 @@ fn hosts_have_these_counts(rt: HostRuntime) -> Result<(), Fail> {
         (256, 32, 33_792, 2176, 35_177_888),
     ];
     for (guests, cores, budgets, jobs, pending) in wanted {
-        assert_eq!(rt;
-            bulk_counts(rt.alloc(), guests)?,
-            BulkCounts {
-                guests,
-                cores,
-                budgets,
-                jobs,
-                missed: 0,
-                pending
-            }
-        );
+        let counts = BulkCounts {
+            guests,
+            cores,
+            budgets,
+            jobs,
+            missed: 0,
+            pending,
+        };
+        assert!(rt; bulk_counts(rt.alloc(), guests)? == counts);
     }
     Ok(())
 }

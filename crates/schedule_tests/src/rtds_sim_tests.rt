@@ -1,10 +1,12 @@
-ghost use Rattle.std.specs.Prelude.{◌≤◌};
+ghost use Rattle.std.specs.Prelude.{◌≤◌, IfOk};
 ghost use Rattle.release_file.specs.Workload.{IsWorkload};
+ghost use Rattle.trace_file.specs.Rules.{Kept};
 
 use crate::helpers::{planned, system_of};
 use release_file::{Wake, read_workload};
 use rtds_sim::{RtdsFault, print_rtds, run_rtds};
 use std::alloc::{AllocError, Global};
+use std::fmt::Write;
 use std::process::Abort;
 use std::test::Fail;
 use trace_file::{Trace, check_events, print_trace, read_trace};
@@ -63,6 +65,7 @@ fn ran(
 ) -> Result<(Trace, Vec<u8>), RtdsFault>
     requires some { 1 ≤ slots }
     requires short { slots ≤ 1000000 }
+    ensures { IfOk result (λ both. Kept sys.now both.0) }
 {
     let plan = planned(rt, alloc, sys);
     let wakes = workload(rt, alloc, sys, rows);
@@ -71,7 +74,7 @@ fn ran(
     match (run, text) {
         (Ok(trace), Ok(text)) => Ok((trace, text)),
         (Err(fault), Err(other)) => {
-            assert_eq!(rt; fault, other);
+            assert!(rt; fault == other);
             Err(fault)
         }
         _ => panic!(rt; "one of them is refused"),
@@ -95,7 +98,7 @@ fn expect_trace(
     assert!(rt; text == print_trace(alloc, sys, &trace)?);
     assert!(rt; check_events(alloc, sys, trace.events()).is_ok());
     match read_trace(alloc, sys, wanted.as_bytes()) {
-        Ok(read) => assert_eq!(rt; trace.events(), read.events()),
+        Ok(read) => assert!(rt; trace.events() == read.events()),
         Err(fault) => panic!(rt; "{fault:?}"),
     }
     Ok(())
@@ -178,26 +181,24 @@ fn vcpus_without_extra_time(rt: HostRuntime) -> Result<(), Fail> {
     Ok(())
 }
 
+/// C runs in the first slot of each of its periods.
+fn many_periods(alloc: Global) -> Result<String, AllocError> {
+    let mut text = String::from_str(alloc, "at,core,what,vcpu\n0,cpu1,start,C\n")?;
+    for period in 0..1_025u64 {
+        let begin = 4 * period;
+        write!(text, "{begin},cpu1,run,C\n{},cpu1,stop,\n", begin + 1)?;
+    }
+    text.push_str("4100,,end,\n")?;
+    Ok(text)
+}
+
 #[test]
 fn cores_go_on_past_a_stretch(rt: HostRuntime) -> Result<(), Fail> {
     let alloc = rt.alloc();
     let sys = host(&rt, alloc, false, "edf")?;
-    let mut wanted = String::from_str(alloc, "at,core,what,vcpu\n0,cpu1,start,C\n")?;
-    for period in 0..1_025u64 {
-        let begin = 4 * period;
-        let end = begin + 1;
-        let rows = format!(in alloc; "{begin},cpu1,run,C\n{end},cpu1,stop,\n")?;
-        wanted.push_str(rows.as_str())?;
-    }
-    wanted.push_str("4100,,end,\n")?;
-    expect_trace(
-        &rt,
-        alloc,
-        &sys,
-        "at,vcpu,what\n0,C,start\n",
-        4_100,
-        wanted.as_str(),
-    )?;
+    let wanted = many_periods(alloc)?;
+    let rows = "at,vcpu,what\n0,C,start\n";
+    expect_trace(&rt, alloc, &sys, rows, 4_100, wanted.as_str())?;
     Ok(())
 }
 
@@ -326,6 +327,6 @@ fn other_schedulers_are_refused(rt: HostRuntime) -> Result<(), Fail> {
     let alloc = rt.alloc();
     let sys = host(&rt, alloc, false, "rm")?;
     let refused = ran(&rt, alloc, &sys, "at,vcpu,what\n0,A,start\n", 5);
-    assert_eq!(rt; refused.err(), Some(RtdsFault::NotRtds(1)));
+    assert!(rt; refused.err() == Some(RtdsFault::NotRtds(1)));
     Ok(())
 }

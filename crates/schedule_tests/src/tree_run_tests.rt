@@ -6,7 +6,7 @@ ghost use Rattle.tree_model.specs.Releases.{AreReleases, jobs_at};
 ghost use Rattle.tree_model.specs.System.{IsSystem};
 
 use crate::helpers::{planned, system_of};
-use guest_sched::Window;
+use guest_sched::{Span, Window};
 use release_file::read_releases;
 use server_sched::{
     NodeSpans, Pattern, TreeCounts, TreeSpans, core_supplies, count_run, count_tree, run_tree,
@@ -27,7 +27,10 @@ fn no_jobs(rt: &impl Abort, alloc: Global, sys: &System) -> Vec<Vec<Job>>
         length (jobs_at (map (λ j. j.items) result.items) q) < 2 ^ 32 }
 {
     match read_releases(alloc, sys, b"at,part,task,work\n") {
-        Ok(jobs) => jobs,
+        Ok(jobs) => {
+            assert!(rt; jobs.len() == sys.parts().len());
+            jobs
+        }
         Err(fault) => panic!(rt; "{fault:?}"),
     }
 }
@@ -78,8 +81,8 @@ fn idle(given: u64) -> Counts {
 }
 
 fn assert_counts(rt: &impl Abort, counts: &TreeCounts, core: Counts, parts: &[Counts]) {
-    assert_eq!(rt; counts.cores(), [core].as_slice());
-    assert_eq!(rt; counts.parts(), parts);
+    assert!(rt; counts.cores() == [core].as_slice());
+    assert!(rt; counts.parts() == parts);
 }
 
 /// On a full core.
@@ -139,11 +142,10 @@ fn it_misses_slot_by_slot(rt: HostRuntime) -> Result<(), Fail> {
     let plan = planned(&rt, alloc, &sys);
     let (run, counts) = idle_run(&rt, alloc, &sys, &plan)?;
     assert_counts(&rt, &counts, two_servers(), &[idle(6), idle(4)]);
-    assert_eq!(rt; run.cores.len(), 1);
-    assert_eq!(rt; run.cores[0].len(), 10);
-    for (x, entry) in run.cores[0].iter().enumerate() {
-        assert_eq!(rt; *entry, Some(if x < 6 { 0 } else { 1 }));
-    }
+    let (a, b) = (Some(0), Some(1));
+    let held = [a, a, a, a, a, a, b, b, b, b];
+    assert!(rt; run.cores.len() == 1);
+    assert!(rt; run.cores[0].as_slice() == held.as_slice());
     Ok(())
 }
 
@@ -195,27 +197,29 @@ fn a_group_gives_to_its_children(rt: HostRuntime) -> Result<(), Fail> {
     let counts = tree.counts(alloc)?;
     assert!(rt; counts.is_kept());
     let parts = [group, idle(6), idle(4), idle(4)];
-    assert_eq!(rt; counts.parts(), parts.as_slice());
-    assert_eq!(rt; counted.parts(), parts.as_slice());
+    assert!(rt; counts.parts() == parts.as_slice());
+    assert!(rt; counted.parts() == parts.as_slice());
     assert!(rt; tree.parts().len() == 4);
     assert_shares(&rt, &tree.parts()[0]);
     Ok(())
+}
+
+const fn span(from: u64, until: u64, job: Option<u32>) -> Span {
+    Span { from, until, job }
 }
 
 /// The group has 0 to 5 and 10 to 15, of which its first two slots go to `web` and the next to
 /// `db`.
 fn assert_shares(rt: &impl Abort, group: &NodeSpans) {
     let shares = [
-        (0, 2, Some(0)),
-        (2, 4, Some(1)),
-        (4, 10, None),
-        (10, 12, Some(2)),
+        span(0, 2, Some(0)),
+        span(2, 4, Some(1)),
+        span(4, 10, None),
+        span(10, 12, Some(2)),
     ];
     let spans = group.spans();
     assert!(rt; spans.len() >= 4);
-    for (span, (from, until, job)) in spans.iter().zip(shares) {
-        assert_eq!(rt; (span.from, span.until, span.job), (from, until, job));
-    }
+    assert!(rt; &spans[..4] == shares.as_slice());
 }
 
 /// On a core of 4 slots in 10.
@@ -233,23 +237,30 @@ const fn window(from: u64, until: u64) -> Window {
     Window { from, until }
 }
 
+/// The windows of a system's one core in 25 slots.
+fn assert_given(
+    rt: &impl Abort,
+    alloc: Global,
+    sys: &System,
+    pattern: Pattern,
+    wanted: &[Window],
+) -> Result<(), AllocError> {
+    let given = core_supplies(alloc, sys, pattern, 25)?;
+    assert!(rt; given.len() == 1);
+    assert!(rt; given[0].as_slice() == wanted);
+    Ok(())
+}
+
 /// A core of 4 slots in 10 has them at the begin or at the end of each period.
 #[test]
 fn a_core_has_its_slots_by_the_pattern(rt: HostRuntime) -> Result<(), Fail> {
     let alloc = rt.alloc();
     let sys = system_of(&rt, alloc, SUPPLIED);
-    let cases: [(Pattern, &[Window]); 3] = [
-        (
-            Pattern::Early,
-            &[window(0, 4), window(10, 14), window(20, 24)],
-        ),
-        (Pattern::Late, &[window(6, 10), window(16, 20)]),
-        (Pattern::Worst, &[window(0, 4), window(16, 20)]),
-    ];
-    for (pattern, wanted) in cases {
-        let given = core_supplies(alloc, &sys, pattern, 25)?;
-        assert_eq!(rt; given.len(), 1);
-        assert_eq!(rt; given[0].as_slice(), wanted);
-    }
+    let early = [window(0, 4), window(10, 14), window(20, 24)];
+    let late = [window(6, 10), window(16, 20)];
+    let worst = [window(0, 4), window(16, 20)];
+    assert_given(&rt, alloc, &sys, Pattern::Early, &early)?;
+    assert_given(&rt, alloc, &sys, Pattern::Late, &late)?;
+    assert_given(&rt, alloc, &sys, Pattern::Worst, &worst)?;
     Ok(())
 }

@@ -1,6 +1,6 @@
-use crate::helpers::{jobs_of, tasks_of, windows_of};
+use crate::helpers::{expect, jobs_of, tasks_of, told_run, windows_of};
 use guest_sched::{
-    Span, Window, are_windows, guest_by, run_level, run_over, run_spans, server_spans, servers_by,
+    Span, are_windows, guest_by, run_level, run_over, run_spans, server_spans, servers_by,
     worst_windows,
 };
 use slot_model::{Edf, Sched, is_legal};
@@ -10,11 +10,12 @@ use std::process::Abort;
 use std::test::Fail;
 use supply_bound::Periodic;
 
-/// Tasks, jobs as (task, release, work), and their schedule as a text: `.` where no slot is given,
-/// `-` where none has the slot, else the place of the job that has it.
+/// Tasks, jobs as (task, release, work), the slots, of which those of a `#` are given, and their
+/// schedule as a text.
 struct Case {
     tasks: [(u64, u64); 2],
     jobs: [(u32, u64, u64); 3],
+    slots: &'static str,
     schedule: &'static str,
 }
 
@@ -23,58 +24,53 @@ const CASES: [Case; 4] = [
     Case {
         tasks: [(10, 3), (13, 3)],
         jobs: [(0, 3, 2), (1, 0, 3), (0, 13, 1)],
-        schedule: "1.1001-------2",
+        slots: "#.############",
+        schedule: "1.1001.......2",
     },
     // The first job is late from the start, and goes on before those with later deadlines.
     Case {
         tasks: [(4, 2), (9, 3)],
         jobs: [(0, 0, 2), (1, 0, 3), (0, 4, 2)],
-        schedule: "...0022111-.",
+        slots: "...########.",
+        schedule: "...0022111..",
     },
     // Before the first release, and with gaps in a job.
     Case {
         tasks: [(20, 3), (30, 2)],
         jobs: [(0, 2, 3), (1, 3, 1), (1, 33, 2)],
-        schedule: "--.0.0.0..1-",
+        slots: "##.#.#.#..##",
+        schedule: "...0.0.0..1.",
     },
     Case {
         tasks: [(5, 1), (6, 1)],
         jobs: [(1, 0, 1), (0, 0, 1), (1, 6, 1)],
+        slots: "",
         schedule: "",
     },
 ];
 
-/// The slots that are given.
-fn given_in(alloc: Global, schedule: &str) -> Result<Vec<bool>, AllocError> {
+/// Of each slot of a text whether it is given.
+fn given_in(alloc: Global, slots: &str) -> Result<Vec<bool>, AllocError> {
     let mut given = Vec::new(alloc);
-    for byte in schedule.as_bytes() {
-        given.push(*byte != b'.')?;
+    for byte in slots.as_bytes() {
+        given.push(*byte == b'#')?;
     }
     Ok(given)
 }
 
-fn spelt(alloc: Global, given: &[bool], run: &[Option<u32>]) -> Result<String, AllocError> {
-    let mut text = String::new(alloc);
-    for (slot, held) in given.iter().zip(run) {
-        match held {
-            Some(place) => write!(text, "{place}")?,
-            None => text.push(if *slot { '-' } else { '.' })?,
-        }
-    }
-    Ok(text)
+fn schedule_of(rt: &impl Abort, alloc: Global, case: &Case) -> Result<String, AllocError> {
+    let tasks = tasks_of(alloc, &case.tasks)?;
+    let jobs = jobs_of(alloc, &case.jobs)?;
+    let given = given_in(alloc, case.slots)?;
+    assert!(rt; is_legal(&tasks, &jobs) && jobs.len() < 1000 && given.len() < 1000);
+    let run = run_over(alloc, &tasks, &jobs, &Edf, &given)?;
+    told_run(alloc, &run)
 }
 
 #[test]
 fn schedules_with_ties_late_jobs_and_gaps(rt: HostRuntime) -> Result<(), Fail> {
-    let alloc = rt.alloc();
     for case in &CASES {
-        let tasks = tasks_of(alloc, &case.tasks)?;
-        let jobs = jobs_of(alloc, &case.jobs)?;
-        let given = given_in(alloc, case.schedule)?;
-        assert!(rt; is_legal(&tasks, &jobs) && jobs.len() < 1000 && given.len() < 1000);
-        let run = run_over(alloc, &tasks, &jobs, &Edf, &given)?;
-        assert_eq!(rt; run.len(), given.len());
-        assert_eq!(rt; spelt(alloc, &given, &run)?.as_str(), case.schedule);
+        expect(&rt, schedule_of(&rt, rt.alloc(), case)?, case.schedule);
     }
     Ok(())
 }
@@ -89,10 +85,8 @@ fn worst_pattern_of_a_periodic_resource(rt: HostRuntime) -> Result<(), Fail> {
     let supply = Periodic::new(10, 2).ok_or("out of range")?;
     assert!(rt; is_legal(&tasks, &jobs) && jobs.len() < 1000);
     let run = run_level(alloc, &tasks, &jobs, &Edf, &supply, 77)?;
-    assert_eq!(rt;
-        spelt(alloc, &[false; 77], &run)?.as_str(),
-        "..................00........00........00........01........11........11......."
-    );
+    let wanted = "..................00........00........00........01........11........11.......";
+    expect(&rt, told_run(alloc, &run)?, wanted);
     Ok(())
 }
 
@@ -183,40 +177,39 @@ fn told(alloc: Global, spans: &[Span]) -> Result<String, AllocError> {
     Ok(text)
 }
 
-/// The spans of a case.
-fn spans_of(
+/// The spans of a case, as a text.
+fn told_of(
     rt: &impl Abort,
     alloc: Global,
     case: &SpanCase,
     are_servers: bool,
-) -> Result<Vec<Span>, AllocError> {
+) -> Result<String, AllocError> {
     let tasks = tasks_of(alloc, case.tasks)?;
     let jobs = jobs_of(alloc, case.jobs)?;
     let given = windows_of(alloc, case.windows)?;
     assert!(rt; is_legal(&tasks, &jobs) && jobs.len() < 1000 && are_windows(&given, case.slots));
-    if are_servers {
-        server_spans(alloc, &tasks, &jobs, &Edf, &given, case.slots)
+    let spans = if are_servers {
+        server_spans(alloc, &tasks, &jobs, &Edf, &given, case.slots)?
     } else {
-        run_spans(alloc, &tasks, &jobs, &Edf, &given, case.slots)
-    }
+        run_spans(alloc, &tasks, &jobs, &Edf, &given, case.slots)?
+    };
+    told(alloc, &spans)
 }
 
 #[test]
 fn spans_of_guests_and_of_servers(rt: HostRuntime) -> Result<(), Fail> {
-    let alloc = rt.alloc();
     for case in &SPANS {
-        for (are_servers, wanted) in [(false, case.guest), (true, case.servers)] {
-            let spans = spans_of(&rt, alloc, case, are_servers)?;
-            assert_eq!(rt; told(alloc, &spans)?.as_str(), wanted);
-        }
+        expect(&rt, told_of(&rt, rt.alloc(), case, false)?, case.guest);
+        expect(&rt, told_of(&rt, rt.alloc(), case, true)?, case.servers);
     }
     Ok(())
 }
 
-/// Windows as a text: each its begin and its end.
-fn told_windows(alloc: Global, windows: &[Window]) -> Result<String, AllocError> {
+/// The windows of the worst pattern of a budget in ten slots, each as its begin and its end.
+fn worst_of(rt: &impl Abort, alloc: Global, budget: u64, slots: u64) -> Result<String, AllocError> {
+    let supply = Periodic::new(10, budget).expect(rt, "a supply");
     let mut text = String::new(alloc);
-    for window in windows {
+    for window in &worst_windows(alloc, &supply, slots)? {
         write!(text, "{}-{} ", window.from, window.until)?;
     }
     Ok(text)
@@ -225,35 +218,44 @@ fn told_windows(alloc: Global, windows: &[Window]) -> Result<String, AllocError>
 #[test]
 fn windows_of_the_worst_pattern(rt: HostRuntime) -> Result<(), Fail> {
     let alloc = rt.alloc();
-    for (budget, slots, wanted) in [
-        (3, 28, "0-3 17-20 27-28 "),
-        (10, u64::MAX, "0-18446744073709551615 "),
-    ] {
-        let supply = Periodic::new(10, budget).ok_or("out of range")?;
-        let windows = worst_windows(alloc, &supply, slots)?;
-        assert_eq!(rt; told_windows(alloc, &windows)?.as_str(), wanted);
-    }
+    expect(&rt, worst_of(&rt, alloc, 3, 28)?, "0-3 17-20 27-28 ");
+    let whole = worst_of(&rt, alloc, 10, u64::MAX)?;
+    expect(&rt, whole, "0-18446744073709551615 ");
     Ok(())
+}
+
+/// The spans of one level by its scheduler.
+fn told_by(
+    rt: &impl Abort,
+    alloc: Global,
+    sched: Sched,
+    are_servers: bool,
+) -> Result<String, AllocError> {
+    let tasks = tasks_of(alloc, &[(9, 5), (4, 3)])?;
+    let jobs = jobs_of(alloc, &[(0, 0, 5), (1, 1, 3)])?;
+    let given = windows_of(alloc, &[(0, 12)])?;
+    assert!(rt; is_legal(&tasks, &jobs) && jobs.len() < 1000 && are_windows(&given, 12));
+    let spans = if are_servers {
+        servers_by(alloc, sched, &tasks, &jobs, &given, 12)?
+    } else {
+        guest_by(alloc, sched, &tasks, &jobs, &given, 12)?
+    };
+    told(alloc, &spans)
 }
 
 #[test]
 fn levels_by_their_scheduler(rt: HostRuntime) -> Result<(), Fail> {
     let alloc = rt.alloc();
-    let tasks = tasks_of(alloc, &[(9, 5), (4, 3)])?;
-    let jobs = jobs_of(alloc, &[(0, 0, 5), (1, 1, 3)])?;
-    let given = windows_of(alloc, &[(0, 12)])?;
-    assert!(rt; is_legal(&tasks, &jobs) && jobs.len() < 1000 && are_windows(&given, 12));
-    for (are_servers, sched, wanted) in [
-        (false, Sched::Rm, "0:0 1:1 4:0 8:- "),
-        (false, Sched::Listed, "0:0 5:1 8:- "),
-        (true, Sched::Listed, "0:0 5:- "),
-    ] {
-        let spans = if are_servers {
-            servers_by(alloc, sched, &tasks, &jobs, &given, 12)?
-        } else {
-            guest_by(alloc, sched, &tasks, &jobs, &given, 12)?
-        };
-        assert_eq!(rt; told(alloc, &spans)?.as_str(), wanted);
-    }
+    expect(
+        &rt,
+        told_by(&rt, alloc, Sched::Rm, false)?,
+        "0:0 1:1 4:0 8:- ",
+    );
+    expect(
+        &rt,
+        told_by(&rt, alloc, Sched::Listed, false)?,
+        "0:0 5:1 8:- ",
+    );
+    expect(&rt, told_by(&rt, alloc, Sched::Listed, true)?, "0:0 5:- ");
     Ok(())
 }

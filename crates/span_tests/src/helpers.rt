@@ -3,6 +3,8 @@
 use guest_sched::Window;
 use slot_model::{Job, Task};
 use std::alloc::{AllocError, Global};
+use std::fmt::Write;
+use std::process::Abort;
 
 /// Tasks of these periods, which are their deadlines, and works.
 pub fn tasks_of(alloc: Global, rows: &[(u64, u64)]) -> Result<Vec<Task>, AllocError> {
@@ -39,4 +41,20 @@ pub fn windows_of(alloc: Global, rows: &[(u64, u64)]) -> Result<Vec<Window>, All
         })?;
     }
     Ok(windows)
+}
+
+/// A run as a text: at each slot the place of the job that has it, `.` where none has.
+pub fn told_run(alloc: Global, run: &[Option<u32>]) -> Result<String, AllocError> {
+    let mut text = String::new(alloc);
+    for held in run {
+        match held {
+            Some(place) => write!(text, "{place}")?,
+            None => write!(text, ".")?,
+        }
+    }
+    Ok(text)
+}
+
+pub fn expect(rt: &impl Abort, told: String, wanted: &str) {
+    assert_eq!(rt; told.as_str(), wanted);
 }

@@ -88,16 +88,16 @@ fn push_jobs(
 
 /// Whether job `place` is pending at slot `x`, where it got so many slots before.
 fn is_pending(level: &Level, got: &[u64], is_server: bool, place: usize, x: u64) -> bool {
-    match (
-        level.jobs.get(place),
-        level.moments.get(place),
-        got.get(place),
-    ) {
-        (Some(job), Some(moment), Some(got)) => {
-            job.release <= x && *got < job.work && !(is_server && *moment <= x)
-        }
-        _ => false,
-    }
+    let Some(job) = level.jobs.get(place) else {
+        return false;
+    };
+    let Some(moment) = level.moments.get(place) else {
+        return false;
+    };
+    let Some(got) = got.get(place) else {
+        return false;
+    };
+    job.release <= x && *got < job.work && !(is_server && *moment <= x)
 }
 
 /// Whether a pending job has an earlier deadline moment than job `place`.

@@ -1,6 +1,6 @@
 ghost use Rattle.std.specs.Prelude.{◌≤◌, length};
 
-use crate::helpers::{jobs_of, tasks_of};
+use crate::helpers::{expect, jobs_of, tasks_of, told_run};
 use server_sched::{run_servers, server_jobs};
 use slot_model::{Edf, Job, Task, is_legal};
 use std::alloc::{AllocError, Global};
@@ -22,13 +22,9 @@ fn servers_release_once_a_period(rt: HostRuntime) -> Result<(), Fail> {
     assert!(rt; tasks.len() == 2);
     let jobs = released(alloc, &tasks)?;
     let wanted = [(0, 0, 3), (1, 0, 4), (0, 4, 3), (1, 6, 4), (0, 8, 3)];
-    assert_eq!(rt; jobs.as_slice(), jobs_of(alloc, &wanted)?.as_slice());
+    assert!(rt; jobs == jobs_of(alloc, &wanted)?);
     assert!(rt; is_legal(&tasks, &jobs) && jobs.len() < 1000);
     let run = run_servers(alloc, &tasks, &jobs, &Edf, &[true; 9])?;
-    let held = [0, 0, 0, 1, 1, 1, 2, 2, 3];
-    assert_eq!(rt; run.len(), held.len());
-    for (entry, place) in run.iter().zip(held) {
-        assert_eq!(rt; *entry, Some(place));
-    }
+    expect(&rt, told_run(alloc, &run)?, "000111223");
     Ok(())
 }
