@@ -5,7 +5,7 @@ use std::process::Abort;
 use std::str;
 use std::test::Fail;
 use system_file::{print_system, read_system};
-use tree_model::{Parent, System};
+use tree_model::{Core, Parent, Part, System};
 
 const TREE: &str = r#"format = 1
 
@@ -60,23 +60,43 @@ fn assert_text(rt: &impl Abort, bytes: &[u8], text: &str) {
     assert_eq!(rt; str::from_utf8(bytes), Ok(text));
 }
 
-#[test]
-fn a_tree_is_printed(rt: HostRuntime) -> Result<(), Fail> {
-    let alloc = rt.alloc();
-    let cores = vec![in alloc;
-        core(alloc, "cpu0", Sched::Edf, None)?,
-        core(alloc, "cpu1", Sched::Rm, Some((10, 4)))?,
-    ]?;
+/// A part with a budget and extra time, and two tasks.
+fn web(alloc: Global) -> Result<Part, Fail> {
     let mut web = inner(alloc, "web", Parent::Part(0), Sched::Dm, 4)?;
     web.budget = Some(3);
     web.extra = true;
     add_task(alloc, &mut web, "net", 10, 8, 2)?;
     add_task(alloc, &mut web, "disk", 20, 20, 5)?;
+    Ok(web)
+}
+
+fn db(alloc: Global) -> Result<Part, Fail> {
     let mut db = inner(alloc, "db", Parent::Core(0), Sched::Edf, 6)?;
     add_task(alloc, &mut db, "net", 1_000_000_000, 1_000_000_000, 1)?;
-    let group = inner(alloc, "group", Parent::Core(1), Sched::Listed, 5)?;
-    let parts = vec![in alloc; group, web, db]?;
-    let sys = System::new(cores, parts).ok().expect(&rt, "a system");
+    Ok(db)
+}
+
+fn tree_cores(alloc: Global) -> Result<Vec<Core>, Fail> {
+    let mut cores = Vec::new(alloc);
+    cores.push(core(alloc, "cpu0", Sched::Edf, None)?)?;
+    cores.push(core(alloc, "cpu1", Sched::Rm, Some((10, 4)))?)?;
+    Ok(cores)
+}
+
+fn tree_parts(alloc: Global) -> Result<Vec<Part>, Fail> {
+    let mut parts = Vec::new(alloc);
+    parts.push(inner(alloc, "group", Parent::Core(1), Sched::Listed, 5)?)?;
+    parts.push(web(alloc)?)?;
+    parts.push(db(alloc)?)?;
+    Ok(parts)
+}
+
+#[test]
+fn a_tree_is_printed(rt: HostRuntime) -> Result<(), Fail> {
+    let alloc = rt.alloc();
+    let sys = System::new(tree_cores(alloc)?, tree_parts(alloc)?)
+        .ok()
+        .expect(&rt, "a system");
     let text = print_system(alloc, &sys)?;
     assert_text(&rt, text.as_slice(), TREE);
     Ok(())

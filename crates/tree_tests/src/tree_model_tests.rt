@@ -60,11 +60,10 @@ fn tasks_at(
 
 /// A group with a guest, and a guest beside it.
 fn group_and_guest(alloc: Global) -> Result<System, Fail> {
-    let parts = vec![in alloc;
-        part(alloc, "group", Parent::Core(0), 5, &[])?,
-        part(alloc, "web", Parent::Part(0), 4, &[2, 3])?,
-        part(alloc, "db", Parent::Core(0), 6, &[1])?,
-    ]?;
+    let mut parts = Vec::new(alloc);
+    parts.push(part(alloc, "group", Parent::Core(0), 5, &[])?)?;
+    parts.push(part(alloc, "web", Parent::Part(0), 4, &[2, 3])?)?;
+    parts.push(part(alloc, "db", Parent::Core(0), 6, &[1])?)?;
     Ok(system(alloc, parts)?.ok_or("no system")?)
 }
 
@@ -72,24 +71,30 @@ fn task(period: u64, deadline: u64, work: u64) -> Result<Task, Fail> {
     Ok(Task::new(period, deadline, work).ok_or("out of range")?)
 }
 
+/// Two tasks are written, and these are they; what stands behind them stays.
+fn assert_tasks(
+    rt: &impl Abort,
+    sys: &System,
+    place: Place,
+    first: Task,
+    second: Task,
+) -> Result<(), Fail> {
+    let other = task(99, 99, 99)?;
+    let mut into = [other; 3];
+    let count = tasks_at(rt, sys, &[3, 2, 4], place, &mut into);
+    assert!(rt; count == Some(2) && into == [first, second, other]);
+    Ok(())
+}
+
 #[test]
 fn a_node_has_its_own_tasks_or_servers(rt: HostRuntime) -> Result<(), Fail> {
     let sys = group_and_guest(rt.alloc())?;
+    assert_tasks(&rt, &sys, Place::Core(0), task(5, 5, 3)?, task(6, 6, 4)?)?;
+    assert_tasks(&rt, &sys, Place::Part(1), task(10, 8, 2)?, task(10, 8, 3)?)?;
     let other = task(99, 99, 99)?;
-    let budgets = [3, 2, 4];
-    let mut into = [other; 3];
-    let servers = tasks_at(&rt, &sys, &budgets, Place::Core(0), &mut into);
-    assert_eq!(rt; servers, Some(2));
-    assert_eq!(rt; into, [task(5, 5, 3)?, task(6, 6, 4)?, other]);
-    let own = tasks_at(&rt, &sys, &budgets, Place::Part(1), &mut into);
-    assert_eq!(rt; own, Some(2));
-    assert_eq!(rt; into, [task(10, 8, 2)?, task(10, 8, 3)?, other]);
     let mut few = [other; 1];
-    assert_eq!(rt;
-        tasks_at(&rt, &sys, &budgets, Place::Core(0), &mut few),
-        None
-    );
-    assert_eq!(rt; few, [other]);
+    let count = tasks_at(&rt, &sys, &[3, 2, 4], Place::Core(0), &mut few);
+    assert!(rt; count.is_none() && few == [other]);
     Ok(())
 }
 

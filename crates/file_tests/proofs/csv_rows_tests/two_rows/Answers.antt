@@ -1,6 +1,6 @@
 use Rattle.std.proofs.Common.{◌≡◌, ℕ, zero, suc, List, [], ◌∷◌, length, refl, arith}
 use Rattle.csv_rows.specs.Printing.{AreOfLength}
-use Rattle.file_tests.proofs.csv_rows_tests.rows_are_read_as_they_were_written.Goals as goal
+use Rattle.file_tests.proofs.csv_rows_tests.two_rows.Goals as goal
 
 -- a row stands alone among itself
 one_row : (row : List (List ℕ)) → length row ≡ 3 → AreOfLength 3 (row ∷ [])
@@ -11,5 +11,5 @@ pub write-requires : goal.write-requires
 write-requires c = ([], c.new-writer.ensures, λ i l. absurd (omega arith))
 
 -- the row before has as many fields
-pub write-2-requires : goal.write-2-requires
-write-2-requires c = (_, c.in_ok.ensures [] c.new-writer.ensures, λ i l. one_row _ refl i l)
+pub write-requires-2 : goal.write-requires-2
+write-requires-2 c = (_, c.in_ok-write.ensures [] c.new-writer.ensures, λ i l. one_row _ refl i l)
