@@ -175,13 +175,13 @@ def pieces_of(folder):
 class Random(unittest.TestCase):
     """The same periods are judged and the same are broken, whole and in pieces."""
 
-    def cuts(self, seeds):
+    def cuts(self, seeds, lengths=(7, 40, 100, 101, 350, 5000)):
         """Random traces of these seeds, each with a folder of its pieces."""
         for seed in seeds:
             rng = random.Random(seed)
             cores, parts = random_parts(rng)
             text = random_trace(parts, rng)
-            length, room = rng.choice((7, 40, 100, 101, 350, 5000)), rng.choice((tool.MOST_BYTES, 2500))
+            length, room = rng.choice(lengths), rng.choice((tool.MOST_BYTES, 2500))
             with tempfile.TemporaryDirectory() as folder, self.subTest(seed=seed, length=length, room=room):
                 told = cut(text, parts, length, pathlib.Path(folder), room)
                 yield cores, parts, text, pathlib.Path(folder), told, room
@@ -232,7 +232,7 @@ class Random(unittest.TestCase):
 
     @unittest.skipUnless(program(), "no program is named (RTADMIT) or built")
     def test_the_program_answers_of_all_pieces_as_of_the_whole(self):
-        for cores, parts, text, folder, _, _ in self.cuts(range(200, 212)):
+        for cores, parts, text, folder, _, _ in self.cuts(range(200, 212), lengths=(100, 101, 350)):
             with tempfile.TemporaryDirectory() as beside:
                 system, trace = pathlib.Path(beside, "system.toml"), pathlib.Path(beside, "trace.csv")
                 system.write_text(system_text(cores, parts))
@@ -511,7 +511,7 @@ class Refusals(unittest.TestCase):
         system.write_text(system_text(["cpu0"], {"A": ("cpu0", 10, 3, False), "B": ("cpu0", 10, 3, False)}))
         self.system = system
         lines = ["0,cpu0,start,A", "0,cpu0,start,B", "1,cpu0,run,A", "2,cpu0,stop,", "2,cpu0,block,A", "3,cpu0,wake,A", "4,,end,"]
-        for seed in range(60):
+        for seed in range(40):
             rng = random.Random(seed)
             rows = rng.sample(lines, rng.randint(1, 7)) if seed % 2 else [*lines[:rng.randint(0, 7)], rng.choice(lines)]
             status, _, err = self.run_tool("\n".join(["at,core,what,vcpu", *rows]) + "\n")
