@@ -354,6 +354,15 @@ class Seams(unittest.TestCase):
         self.assertEqual(sorted(told), [f"piece-{number:06d}.csv" for number in range(1, 8)])
         self.assertEqual(told, [f"piece-{number:06d}.csv" for number in numbers])
 
+    def test_a_period_that_begins_where_a_stretch_ends_is_in_the_next_one(self):
+        parts = {"A": ("cpu0", 20, 1, False), "B": ("cpu0", 4, 1, False)}
+        self.assertEqual(self.pieces("at,core,what,vcpu\n0,cpu0,start,A\n0,cpu0,start,B\n30,,end,\n", 10, parts), [
+            (0, ["0,cpu0,start,A", "0,cpu0,start,B", "12,cpu0,block,B", "20,cpu0,block,A", "20,,end,"]),
+            # no period of A begins in [10, 20)
+            (10, ["2,cpu0,start,B", "10,cpu0,block,B", "10,,end,"]),
+            (20, ["0,cpu0,start,A", "0,cpu0,start,B", "10,,end,"]),
+        ])
+
     def test_nanoseconds_stay_nanoseconds(self):
         with tempfile.TemporaryDirectory() as folder:
             text = "at_ns,core,what,vcpu\n5,cpu0,start,A\n4005,cpu0,run,A\n20007,,end,\n"
