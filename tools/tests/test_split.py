@@ -559,7 +559,8 @@ class Refusals(unittest.TestCase):
         text = "at,core,what,vcpu\n0,cpu0,start,A\n" + "1,cpu0,run,A\n" * 20 + "2,,end,\n"
         with self.assertRaises(tool.Refused) as refused:
             cut(text, AB, 10, self.out, 200)
-        self.assertEqual(str(refused.exception), "a period has more rows than a piece holds (0 pieces were whole before, and stand)")
+        cause = "a period has more rows than a piece holds (pieces that were whole before, and are kept: 0)"
+        self.assertEqual(str(refused.exception), cause)
         self.assertEqual(os.listdir(self.out), ["table.csv"])
 
 
@@ -591,7 +592,7 @@ class Pipe(unittest.TestCase):
         with self.piped() as tool_process:
             told, complaint = tool_process.communicate("at,core,what,vcpu\n0,cpu0,start,A\n25,cpu0,run,A\n25,cpu0,st")
         self.assertEqual((tool_process.returncode, told), (1, "out/piece-000001.csv\n"))
-        self.assertEqual(complaint, "-:4: BadRow: a row has four fields (1 pieces were whole before, and stand)\n")
+        self.assertEqual(complaint, "-:4: BadRow: a row has four fields (pieces that were whole before, and are kept: 1)\n")
         self.assertEqual(sorted(os.listdir(self.folder / "out")), ["piece-000001.csv", "table.csv"])
         self.assertEqual((self.folder / "out/table.csv").read_text().splitlines()[1:], ["piece-000001.csv,0,20000,20000,A,0,2"])
 
