@@ -529,6 +529,14 @@ class Words(unittest.TestCase):
             status, out, err = run_tool("nowhere", *words)
             self.assertEqual((status, out), (2, ""), words)
 
+    def test_a_trace_of_any_length_for_tools_split(self):
+        with tempfile.TemporaryDirectory() as scratch:
+            recording = pathlib.Path(scratch, "recording")
+            recording.write_text("\n".join([BOTH[0], wakeup("1.000001", "calc 11"), mark("90001.000001", "stopped"), ""]))
+            words = str(recording), "--cpu=3=cpu3", "--thread=11=A"
+            self.assertEqual(run_tool(*words)[:2], (1, ""))
+            self.assertEqual(run_tool(*words, "--any-length"), (0, "at,core,what,vcpu\n0,cpu3,start,A\n90000000000,,end,\n", ""))
+
     def test_a_recording_that_is_not_there(self):
         status, out, err = run_tool("/nowhere/recording", "--cpu=3=cpu3", "--thread=11=A")
         self.assertEqual((status, out), (1, ""))
