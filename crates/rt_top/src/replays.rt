@@ -9,7 +9,7 @@ ghost use Rattle.tree_model.specs.Admission.{Admitted};
 ghost use Rattle.rt_report.specs.Admit.{AreReplays};
 ghost use Rattle.rt_report.specs.Replay.{IsReplay, IsReplayed};
 
-use guest_sched::{guest_by, worst_windows};
+use guest_sched::{guest_by, pattern_windows};
 use miss_witness::{Defeat, witness, witness_jobs};
 use rt_report::Replay;
 use slot_model::{Miss, Sched, Task};
@@ -104,7 +104,7 @@ fn seen_miss(
         period,
         budget: defeat.budget,
     };
-    let windows = worst_windows(alloc, &supply, slots)?;
+    let windows = pattern_windows(alloc, &supply, slots)?;
     let jobs = witness_jobs(alloc, tasks, defeat)?;
     let spans = guest_by(alloc, sched, tasks, &jobs, &windows, slots)?;
     first_miss(alloc, &jobs, tasks, &spans)
