@@ -55,10 +55,15 @@ only_list pattern n windows given made follows long =
     ext_get_or false (slots_of windows n) given (slots-long windows n ∙ sym long) (λ i l. made i l ∙ sym (follows i (omega (arith, slots-long windows n))))
 
 -- the next window of the pattern, and none more
-pub one_next_more : (pattern : ℕ → Bool) (from n : ℕ) (window : Window) (windows : List Window) → Spells pattern from windows → IsNextWindow pattern from n (Some window) → Spells pattern window.until (windows ++ window ∷ [])
+pub one_next_more : (pattern : ℕ → Bool) (from n : ℕ) (window : Window) (windows : List Window)
+    → Spells pattern from windows → IsNextWindow pattern from n (Some window)
+    → Spells pattern window.until (windows ++ window ∷ [])
 one_next_more pattern from n window windows h next =
-    let up_to : Spells pattern window.from windows = then_none pattern from window.from windows h next.not_before next.none_before in
-    then_all pattern window.from window.until windows (windows ++ window ∷ []) up_to (one_window windows window.from window.until up_to.fit next.some) next.every
+    let up_to : Spells pattern window.from windows = then_none pattern from window.from windows h next.not_before
+    next.none_before in
+    then_all pattern window.from window.until windows (windows ++ window ∷ []) up_to
+    (one_window windows window.from window.until up_to.fit next.some) next.every
 
-pub no_next_more : (pattern : ℕ → Bool) (from n : ℕ) (windows : List Window) → from ≤ n → Spells pattern from windows → IsNextWindow pattern from n None → Spells pattern n windows
+pub no_next_more : (pattern : ℕ → Bool) (from n : ℕ) (windows : List Window) → from ≤ n → Spells pattern from windows
+    → IsNextWindow pattern from n None → Spells pattern n windows
 no_next_more pattern from n windows l h none = then_none pattern from n windows h l none

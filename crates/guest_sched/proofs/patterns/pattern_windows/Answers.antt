@@ -7,7 +7,9 @@ pub loop-window-preserved : goal.loop-window-preserved
 loop-window-preserved g c =
     let p : ℕ → Bool = g.F.Supply.pattern c.args.supply.now in
     let next = c.in-Some.ensures in (
-      subst (λ (z : List Window). Spells p c.in-Some.window.until z) (sym c.in_ok-push.ensures.items) (one_next_more p c.loop-window.from c.args.slots c.in-Some.window c.loop-window.windows.items c.loop-window.invariant.0 next),
+      subst (λ (z : List Window). Spells p c.in-Some.window.until z) (sym c.in_ok-push.ensures.items)
+          (one_next_more p c.loop-window.from c.args.slots c.in-Some.window c.loop-window.windows.items
+          c.loop-window.invariant.0 next),
       next.in_slots,
     )
 
@@ -15,4 +17,5 @@ pub returns-clause-follows : goal.returns-clause-follows
 returns-clause-follows g c =
     let p : ℕ → Bool = g.F.Supply.pattern c.args.supply.now in
     spelled_follows p c.args.slots c.loop-window.windows.items
-    (no_next_more p c.loop-window.from c.args.slots c.loop-window.windows.items c.loop-window.invariant.1 c.loop-window.invariant.0 c.in_default.ensures)
+    (no_next_more p c.loop-window.from c.args.slots c.loop-window.windows.items c.loop-window.invariant.1
+    c.loop-window.invariant.0 c.in_default.ensures)

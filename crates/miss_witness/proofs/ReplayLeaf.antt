@@ -24,7 +24,7 @@ use Rattle.tree_model.specs.declared.place.Place.TheVariants.{Part}
 use Rattle.tree_model.specs.Admission.{Admitted, BudgetStands}
 use Rattle.tree_model.proofs.InRange.{admitted_in_period}
 use Rattle.tree_model.proofs.NodeTasks.{leaf_tasks}
-use Rattle.rt_report.specs.Replay.{IsReplay, IsReplayed}
+use Rattle.miss_witness.specs.Replay.{IsReplay, IsReplayed}
 use Rattle.miss_witness.specs.Defeat.{IsDefeat}
 
 -- a computed leaf has the least budget of its own tasks
