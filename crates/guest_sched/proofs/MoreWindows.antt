@@ -3,8 +3,7 @@ use Rattle.std.proofs.Common.{◌≡◌, ◌≢◌, ℕ, zero, suc, ◌+◌, ◌
 use Rattle.std.proofs.lemmas.Bool.{cases_eq}
 use Rattle.std.proofs.lemmas.List.{get_or_append_left, get_or_push, get_or_read, length_push}
 use Rattle.std.proofs.lemmas.List.Folds.{list_any_at, list_any-append}
-use Rattle.guest_sched.specs.declared.spans.Window.{Window}
-use Rattle.guest_sched.specs.Spans.{is_within, is_given, window_at, AreWindows}
+use Rattle.guest_sched.specs.Spans.{Window, is_within, is_given, window_at, AreWindows}
 use Rattle.guest_sched.proofs.Given.{all_given, inside, before_it}
 use Rattle.std.specs.List.{list_any}
 use Rattle.guest_sched.specs.MoreWindows.{EndsAt, AddsWindow}

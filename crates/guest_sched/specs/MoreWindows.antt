@@ -1,7 +1,6 @@
 -- Windows as they are made, one after the other.
 use Rattle.std.specs.Prelude.{◌≡◌, ℕ, ◌+◌, ◌<◌, ◌≤◌, true, List, length}
-use Rattle.guest_sched.specs.declared.spans.Window.{Window}
-use Rattle.guest_sched.specs.Spans.{is_given, window_at, AreWindows}
+use Rattle.guest_sched.specs.Spans.{Window, is_given, window_at, AreWindows}
 
 -- the last window ends here
 abbrev pub EndsAt : List Window → ℕ → Type 0

@@ -5,10 +5,11 @@ ghost use Rattle.slot_model.specs.Order.{before_of};
 ghost use Rattle.slot_model.specs.Run.{guest, server, FirstRun};
 ghost use Rattle.guest_sched.specs.Spans.{AreWindows, AreSpans, slots_of, run_of};
 
-use crate::spans::{Span, Window, run_spans, server_spans};
+use crate::spans::{Span, run_spans, server_spans};
 use fp_request::Fixed;
 use slot_model::{Edf, Job, Sched, Task};
 use std::alloc::{AllocError, Global};
+use supply_bound::Window;
 
 /// The schedule of a guest by a scheduler, as `run_spans` answers it for the scheduler's order.
 pub fn guest_by(

@@ -1,5 +1,5 @@
 use crate::helpers::{expect, expect_at, periodic};
-use supply_bound::{Full, Periodic, Supply};
+use supply_bound::{Full, Periodic, Supply, Window, next_window_by};
 
 #[test]
 fn least_slots_of_windows(rt: HostRuntime) {
@@ -80,4 +80,33 @@ fn worst_patterns(rt: HostRuntime) {
         (Full.worst(3), Full.start(), Full.cycle()),
         (true, 0, 1),
     );
+}
+
+const fn window(from: u64, until: u64) -> Option<Window> {
+    Some(Window { from, until })
+}
+
+/// Slots 0, 1, 8, 9, 13, 14 and so on, by slot 4 of each period 0, 1, 7, 8, 12, 13.
+#[test]
+fn next_windows(rt: HostRuntime) {
+    let part = periodic(&rt, 5, 2);
+    for (from, below, next) in [
+        (0, 20, window(0, 2)),
+        (1, 20, window(1, 2)),
+        (2, 20, window(8, 10)),
+        (9, 20, window(9, 10)),
+        (10, 14, window(13, 14)),
+        (2, 8, None),
+        (20, 20, None),
+        (u64::MAX - 1, u64::MAX, window(u64::MAX - 1, u64::MAX)),
+        (u64::MAX, u64::MAX, None),
+    ] {
+        expect_at(&rt, (from, below), part.next_window(from, below), next);
+    }
+    for (from, next) in [(0, window(0, 2)), (2, window(7, 9)), (9, window(12, 14))] {
+        expect_at(&rt, from, next_window_by(5, 2, 4, from, 20), next);
+    }
+    expect(&rt, periodic(&rt, 5, 0).next_window(0, 20), None);
+    expect(&rt, periodic(&rt, 5, 5).next_window(3, 20), window(3, 20));
+    expect(&rt, Full.next_window(3, 20), window(3, 20));
 }

@@ -1,1 +1,2 @@
 pub mod Defeat
+pub mod Replay

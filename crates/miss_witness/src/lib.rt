@@ -1,10 +1,15 @@
-//! Why the next smaller budget of a leaf does not do: a supply and a release that defeat it.
+//! Why the next smaller budget of a leaf does not do: a supply and a release that defeat it, and
+//! what is seen when that release is run.
 #![tactic(auto)]
 
 mod defeat;
 mod jobs;
+mod replay;
+mod replays;
 mod witnesses;
 
 pub use defeat::Defeat;
 pub use jobs::witness_jobs;
+pub use replay::Replay;
+pub use replays::replay_all;
 pub use witnesses::witness;

@@ -17,7 +17,7 @@ use Rattle.release_file.specs.declared.fault.ReleaseFault.TheVariants.{BadHeader
 use Rattle.trace_file.specs.declared.fault.TraceFault.TheVariants.{BadHeader as NoTrace, BadRow, Unknown, OutOfRange as LateMoment, TimeFalls, WrongCore, NotStarted, StartedTwice, NotBlocked, NotRunnable, StillRunning, CoreIdle, AfterEnd, NoEnd}
 use Rattle.cert_reader.specs.declared.fault.CertFault.TheVariants.{NotJson, WrongShape, BadNumber, TooMany as TooManyNodes}
 use Rattle.rt_report.specs.declared.fault.FileFault.TheVariants.{System, Release, Trace, Cert, NotRtds}
-use Rattle.rt_report.specs.declared.replay.Replay.{Replay}
+use Rattle.miss_witness.specs.declared.replay.Replay.{Replay}
 use Rattle.auditor.specs.declared.finding.Finding.TheVariants.{Yes, Short, Over}
 use Rattle.rt_report.specs.Audit.{audit_text}
 use Rattle.rt_report.specs.Admit.{admit_text}

@@ -1,5 +1,4 @@
 mod ChildNames
-pub mod OneReplay
 pub mod OneCounts
 mod Examples
 mod SimulateExamples

@@ -1,14 +1,13 @@
 -- The text of an admission: the verdict, then each part in file order, and below a computed leaf
 -- what defeats the next smaller budget.
-use Rattle.std.specs.Prelude.{◌≡◌, ℕ, if◌then◌else◌, List, [], ◌∷◌, ◌++◌, length, drop, slice_index, slice_get, codes, Option, Some, None}
+use Rattle.std.specs.Prelude.{ℕ, if◌then◌else◌, List, [], ◌∷◌, ◌++◌, drop, codes, Option, Some, None}
 use Rattle.std.specs.Fmt.{decimal}
 use Rattle.slot_model.specs.declared.miss.Miss.{Miss}
 use Rattle.tree_model.specs.View.{PartView, SystemView}
-use Rattle.tree_model.specs.System.{is_computed_leaf, computed_leaves}
+use Rattle.tree_model.specs.System.{is_computed_leaf}
 use Rattle.rt_report.specs.Words.{joined, task_name}
 use Rattle.rt_report.specs.Missed.{missed_words}
-use Rattle.rt_report.specs.declared.replay.Replay.{Replay}
-use Rattle.rt_report.specs.Replay.{IsReplay}
+use Rattle.miss_witness.specs.declared.replay.Replay.{Replay}
 
 abbrev pub origin_word : Option ℕ → List ℕ
 origin_word None = codes " computed\n"
@@ -57,9 +56,3 @@ part_lines (part ∷ parts) (budget ∷ budgets) replays =
 
 abbrev pub admit_text : SystemView → List ℕ → List Replay → List ℕ
 admit_text sys budgets replays = codes "verdict=yes\n" ++ part_lines sys.parts budgets replays
-
--- one replay a computed leaf, in file order
-pub record AreReplays (sys : SystemView) (budgets : List ℕ) (replays : List Replay) : Type 0 where
-  pub one_each : length replays ≡ length (computed_leaves sys)
-  pub each : (k : ℕ) (replay : Replay) → slice_get replays k ≡ Some replay
-      → IsReplay sys budgets (slice_index (computed_leaves sys) k) replay

@@ -1,7 +1,6 @@
 pub mod Bulk
 pub mod Words
 pub mod Missed
-pub mod Replay
 pub mod Admit
 pub mod Simulate
 pub mod Refusal

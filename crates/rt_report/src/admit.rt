@@ -2,7 +2,8 @@ ghost use Rattle.std.specs.Prelude.{◌≡◌, ◌++◌, IfOk, OnOk, string_byte
 ghost use Rattle.rt_report.specs.Admit.{admit_text, part_line, witness_line, miss_words, short_task, first_witness};
 
 use crate::missed::push_missed;
-use crate::{Replay, names};
+use crate::names;
+use miss_witness::Replay;
 use slot_model::Miss;
 use std::alloc::{AllocError, Global};
 use tree_model::{Part, Plan, System};

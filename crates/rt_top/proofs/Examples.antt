@@ -16,7 +16,7 @@ use Rattle.outside.specs.Written.{AppendsProperPrefix}
 use Rattle.system_file.specs.declared.fault.SystemFault.{SystemFault}
 use Rattle.system_file.specs.declared.fault.SystemFault.TheVariants.{NotToml}
 use Rattle.system_file.specs.SystemFile.{system_of}
-use Rattle.rt_report.specs.declared.replay.Replay.{Replay}
+use Rattle.miss_witness.specs.declared.replay.Replay.{Replay}
 use Rattle.rt_report.specs.Admit.{admit_text}
 use Rattle.rt_report.specs.Refusal.{refusal_text}
 use Rattle.rt_top.specs.declared.status.Status.{Status}

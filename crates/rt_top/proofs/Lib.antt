@@ -11,8 +11,6 @@ mod Taking
 mod SlotEach
 mod Laws
 mod Reporting
-mod ReplayLeaf
-mod ReplayList
 mod Examples
 mod AuditExamples
 mod MeansExamples

@@ -7,7 +7,6 @@ mod file;
 mod guests;
 mod one_file;
 mod refusing;
-mod replays;
 mod slot_words;
 mod slots;
 mod status;

@@ -7,8 +7,7 @@ use Rattle.slot_model.specs.Slots.{count_below}
 use Rattle.slot_model.proofs.Runs.{count_below-mono}
 use Rattle.slot_model.proofs.MissedJobs.{count_below-passes}
 use Rattle.span_counts.specs.declared.counts.Counts.{Counts}
-use Rattle.guest_sched.specs.declared.spans.Window.{Window}
-use Rattle.guest_sched.specs.Spans.{AreWindows, slots_of}
+use Rattle.guest_sched.specs.Spans.{Window, AreWindows, slots_of}
 use Rattle.tree_model.specs.declared.place.Place.{Place}
 use Rattle.tree_model.specs.declared.place.Place.TheVariants.{Core, Part}
 use Rattle.tree_model.specs.View.{SystemView}

@@ -11,8 +11,7 @@ use Rattle.slot_model.specs.Miss.{is_missed, IsFirstMiss}
 use Rattle.slot_model.proofs.MissedJobs.{none_where_zero, zero_where_none}
 use Rattle.slot_model.proofs.Synchronous.{legal_synchronous}
 use Rattle.slot_model.proofs.FullSupply.{count_all}
-use Rattle.guest_sched.specs.declared.spans.Window.{Window}
-use Rattle.guest_sched.specs.Spans.{slots_of}
+use Rattle.guest_sched.specs.Spans.{Window, slots_of}
 use Rattle.guest_sched.proofs.Given.{slots-long}
 use Rattle.span_counts.specs.Counts.{is_early, AreCounts}
 use Rattle.server_sched.specs.declared.level.Level.{Level}

@@ -10,8 +10,7 @@ use Rattle.slot_model.specs.Miss.{HoldsReleased}
 use Rattle.slot_model.proofs.FirstRuns.{first_permitted}
 use Rattle.slot_model.proofs.MissedJobs.{permitted_holds_released}
 use Rattle.guest_sched.specs.declared.spans.Span.{Span}
-use Rattle.guest_sched.specs.declared.spans.Window.{Window}
-use Rattle.guest_sched.specs.Spans.{AreSpans, slots_of, run_of}
+use Rattle.guest_sched.specs.Spans.{Window, AreSpans, slots_of, run_of}
 use Rattle.guest_sched.proofs.Given.{slots-long}
 use Rattle.tree_model.specs.declared.place.Place.{Place}
 use Rattle.tree_model.specs.View.{SystemView}

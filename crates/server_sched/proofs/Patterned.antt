@@ -5,8 +5,7 @@ use Rattle.std.proofs.lemmas.List.{get_or_append_left, get_or_push, length_push,
 use Rattle.std.proofs.lemmas.List.FromFn.{get_or-map-range_with_len, length-map-range_with_len}
 use Rattle.std.proofs.lemmas.Nat.{mod-mul-add}
 use Rattle.slot_model.specs.Supply.{Follows}
-use Rattle.guest_sched.specs.declared.spans.Window.{Window}
-use Rattle.guest_sched.specs.Spans.{AreWindows, slots_of}
+use Rattle.guest_sched.specs.Spans.{Window, AreWindows, slots_of}
 use Rattle.tree_model.specs.declared.pinned_core.Core.{Core}
 use Rattle.tree_model.specs.View.{SystemView}
 use Rattle.tree_model.specs.System.{no_core}
@@ -54,16 +53,6 @@ one_period_more period first budget slots from until old new f l e h adds =
 
 pub all_cyclic : (period first budget slots from : ℕ) (windows : List Window) → first + budget ≤ period → slots ≤ from → CyclicTo period first budget slots from windows → Spells (cyclic_slot period first budget) slots windows
 all_cyclic period first budget slots from windows f l h = then_none (cyclic_slot period first budget) (min slots (h.k * period)) slots windows h.spells (omega arith) (λ x a b. before_it period first budget h.k x (omega arith) (omega arith) (omega (arith, h.begins)))
-
--- a full core
-abbrev pub every_slot : ℕ → Bool
-every_slot x = true
-
-pub no_slot : (n : ℕ) → n ≡ 0 → Spells every_slot n []
-no_slot n e = subst (λ (m : ℕ). Spells every_slot m []) (sym e) (nothing_yet every_slot)
-
-pub all_slots : (n : ℕ) (windows : List Window) → AddsWindow [] 0 n windows → Spells every_slot n windows
-all_slots n windows adds = then_all every_slot 0 n [] windows (nothing_yet every_slot) adds (λ x a b. refl)
 
 -- windows that follow a pattern have its list of slots
 pub pattern_exact : (pattern : Pattern) (supply : Option (ℕ × ℕ)) (n : ℕ) (windows : List Window) → Follows (pattern_slot pattern supply) (slots_of windows n) → slots_of windows n ≡ pattern_slots pattern supply n

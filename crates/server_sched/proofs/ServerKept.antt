@@ -11,8 +11,7 @@ use Rattle.slot_model.specs.Order.{before_of}
 use Rattle.slot_model.specs.Release.{synchronous}
 use Rattle.slot_model.specs.Run.{server, FirstRun}
 use Rattle.guest_sched.specs.declared.spans.Span.{Span}
-use Rattle.guest_sched.specs.declared.spans.Window.{Window}
-use Rattle.guest_sched.specs.Spans.{AreSpans, span_at, entries_of, end_of, run_of, slots_of}
+use Rattle.guest_sched.specs.Spans.{Window, AreSpans, span_at, entries_of, end_of, run_of, slots_of}
 use Rattle.guest_sched.proofs.SpanByOne.{no_spans}
 use Rattle.guest_sched.proofs.Grown.{grown_spans, grown_run}
 use Rattle.tree_model.specs.declared.place.Place.{Place}

@@ -5,8 +5,7 @@ use Rattle.std.proofs.lemmas.List.{get_or-map, length-map, ext_get_or, get_or-re
 use Rattle.slot_model.specs.declared.job.Job.{Job}
 use Rattle.slot_model.specs.Task.{job_at}
 use Rattle.slot_model.specs.Run.{held, holds_task, child_supply}
-use Rattle.guest_sched.specs.declared.spans.Window.{Window}
-use Rattle.guest_sched.specs.Spans.{slots_of}
+use Rattle.guest_sched.specs.Spans.{Window, slots_of}
 use Rattle.guest_sched.specs.MoreWindows.{AddsWindow}
 use Rattle.guest_sched.proofs.Given.{slots-long, slot_at}
 use Rattle.guest_sched.proofs.SpanByOne.{Holds}

@@ -14,8 +14,7 @@ use Rattle.slot_model.proofs.FirstRuns.{none_some}
 use Rattle.slot_model.proofs.MissedJobs.{count_below-none}
 use Rattle.slot_model.proofs.Runs.{count_below-le}
 use Rattle.release_pattern.proofs.Moments.{no_task, no_moment}
-use Rattle.guest_sched.specs.declared.spans.Window.{Window}
-use Rattle.guest_sched.specs.Spans.{AreWindows, slots_of, window_at}
+use Rattle.guest_sched.specs.Spans.{Window, AreWindows, slots_of, window_at}
 use Rattle.guest_sched.proofs.Given.{AreOver, slot_at, none_given}
 use Rattle.guest_sched.specs.MoreWindows.{AddsWindow}
 use Rattle.guest_sched.proofs.SpanByOne.{Holds}

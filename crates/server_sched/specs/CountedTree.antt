@@ -2,7 +2,7 @@
 use Rattle.std.specs.Prelude.{◌≡◌, ℕ, ◌<◌, ◌≤◌, Bool, List, [], length, map, set, slice_index_or, Option}
 use Rattle.slot_model.specs.declared.job.Job.{Job}
 use Rattle.span_counts.specs.declared.counts.Counts.{Counts}
-use Rattle.guest_sched.specs.declared.spans.Window.{Window}
+use Rattle.guest_sched.specs.Spans.{Window}
 use Rattle.tree_model.specs.declared.place.Place.{Place}
 use Rattle.tree_model.specs.declared.place.Place.TheVariants.{Core, Part}
 use Rattle.tree_model.specs.View.{SystemView}

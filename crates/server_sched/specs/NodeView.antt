@@ -1,7 +1,7 @@
 -- The run of a node and of a tree as contracts see it: lists for vectors.
 use Rattle.std.specs.Prelude.{List, map}
 use Rattle.span_counts.specs.declared.counts.Counts.{Counts}
-use Rattle.guest_sched.specs.declared.spans.Window.{Window}
+use Rattle.guest_sched.specs.Spans.{Window}
 use Rattle.guest_sched.specs.declared.spans.Span.{Span}
 
 pub record NodeView : Type 0 where

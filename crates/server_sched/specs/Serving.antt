@@ -10,8 +10,7 @@ use Rattle.slot_model.specs.Order.{before_of}
 use Rattle.slot_model.specs.Release.{releases_at, synchronous}
 use Rattle.slot_model.specs.Run.{server, held, service, holds_task, FirstRun, FirstRunTo}
 use Rattle.slot_model.specs.Miss.{miss_of}
-use Rattle.guest_sched.specs.declared.spans.Window.{Window}
-use Rattle.guest_sched.specs.Spans.{AreWindows, is_given, slots_of}
+use Rattle.guest_sched.specs.Spans.{Window, AreWindows, is_given, slots_of}
 use Rattle.release_pattern.specs.Due.{IsNext}
 use Rattle.span_counts.specs.Counts.{AreCounts}
 use Rattle.server_sched.specs.declared.level.Level.{Level}

@@ -2,8 +2,7 @@
 use Rattle.std.specs.Prelude.{◌≡◌, ℕ, ◌<◌, List, [], length, slice_index_or, Option}
 use Rattle.slot_model.specs.declared.job.Job.{Job}
 use Rattle.slot_model.specs.Run.{child_supply}
-use Rattle.guest_sched.specs.declared.spans.Window.{Window}
-use Rattle.guest_sched.specs.Spans.{AreWindows, slots_of}
+use Rattle.guest_sched.specs.Spans.{Window, AreWindows, slots_of}
 
 -- the windows of n slots that give just the slots at which a run holds a job of task k
 pub record AreShare (jobs : List Job) (run : List (Option ℕ)) (n k : ℕ)

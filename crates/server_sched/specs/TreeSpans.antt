@@ -1,8 +1,7 @@
 -- The first run of the tree as spans.
 use Rattle.std.specs.Prelude.{◌≡◌, ℕ, ◌^◌, ◌<◌, Bool, true, false, List, [], length, map, slice_index_or, Option, None}
 use Rattle.slot_model.specs.declared.job.Job.{Job}
-use Rattle.guest_sched.specs.declared.spans.Window.{Window}
-use Rattle.guest_sched.specs.Spans.{AreWindows, AreSpans, slots_of, run_of}
+use Rattle.guest_sched.specs.Spans.{Window, AreWindows, AreSpans, slots_of, run_of}
 use Rattle.span_counts.specs.Counts.{AreCounts}
 use Rattle.tree_model.specs.declared.place.Place.{Place}
 use Rattle.tree_model.specs.declared.place.Place.TheVariants.{Core, Part}

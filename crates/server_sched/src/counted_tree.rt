@@ -1,6 +1,6 @@
 ghost use Rattle.std.specs.Prelude.{◌≡◌, ℕ, ◌^◌, ◌<◌, ◌≤◌, true, List, length, map, IfOk};
 ghost use Rattle.guest_sched.specs.Spans.{AreWindows, slots_of};
-ghost use Rattle.guest_sched.specs.declared.spans.Window.{Window as AnyWindow};
+ghost use Rattle.guest_sched.specs.Spans.{Window as AnyWindow};
 ghost use Rattle.slot_model.specs.Release.{LegalRelease};
 ghost use Rattle.tree_model.specs.declared.place.Place.{Place as AnyPlace};
 ghost use Rattle.tree_model.specs.Plans.{IsPlan};

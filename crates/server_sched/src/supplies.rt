@@ -1,14 +1,14 @@
 ghost use Rattle.std.specs.Prelude.{◌≡◌, ℕ, ◌+◌, ◌<◌, ◌≤◌, [], length, map, slice_index_or, Some, IfOk};
-ghost use Rattle.slot_model.specs.Supply.{Follows, IsFull};
+ghost use Rattle.slot_model.specs.Supply.{Follows};
 ghost use Rattle.guest_sched.specs.Spans.{AreWindows, slots_of};
 ghost use Rattle.tree_model.specs.System.{IsCoreSupply, core_at};
 ghost use Rattle.tree_model.specs.Tree.{CoreConforms};
 ghost use Rattle.server_sched.specs.TreeSpans.{AreSupplies, supplies_of};
 ghost use Rattle.server_sched.specs.Patterns.{cyclic_slot, pattern_slot, pattern_supplies};
 
-use guest_sched::{Window, add_window, worst_windows};
+use guest_sched::{Window, add_window, pattern_windows};
 use std::alloc::{AllocError, Global};
-use supply_bound::Periodic;
+use supply_bound::{Full, Periodic};
 use tree_model::System;
 
 /// Where a core that is not full has its budget in each period.
@@ -60,7 +60,7 @@ fn supply_windows(
         Follows (pattern_slot pattern supply) (slots_of windows.items slots)) }
 {
     match supply {
-        None => whole_windows(alloc, slots),
+        None => pattern_windows(alloc, &Full, slots),
         Some((period, budget)) => periodic_windows(alloc, pattern, period, budget, slots),
     }
 }
@@ -80,20 +80,8 @@ fn periodic_windows(
     match pattern {
         Pattern::Early => cyclic_windows(alloc, period, 0, budget, slots),
         Pattern::Late => cyclic_windows(alloc, period, period - budget, budget, slots),
-        Pattern::Worst => worst_windows(alloc, &Periodic { period, budget }, slots),
+        Pattern::Worst => pattern_windows(alloc, &Periodic { period, budget }, slots),
     }
-}
-
-/// The windows that have every slot.
-fn whole_windows(alloc: Global, slots: u64) -> Result<Vec<Window>, AllocError>
-    ensures windows { IfOk result (λ windows. AreWindows windows.items slots) }
-    ensures full { IfOk result (λ windows. IsFull (slots_of windows.items slots)) }
-{
-    let mut windows = Vec::new(alloc);
-    if slots > 0 {
-        add_window(&mut windows, 0, slots)?;
-    }
-    Ok(windows)
 }
 
 /// The windows with `budget` slots of each period, from its slot `first` on.

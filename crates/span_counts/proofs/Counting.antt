@@ -8,8 +8,7 @@ use Rattle.slot_model.specs.Task.{SporadicTask, job_at, deadline_of}
 use Rattle.slot_model.specs.Run.{held, holds, service}
 use Rattle.slot_model.proofs.Sums.{sum_below-zero, sum_below-suc, sum_below-same}
 use Rattle.slot_model.proofs.Runs.{count_below-le}
-use Rattle.guest_sched.specs.declared.spans.Window.{Window}
-use Rattle.guest_sched.specs.Spans.{is_given, slots_of, window_at, AreWindows}
+use Rattle.guest_sched.specs.Spans.{Window, is_given, slots_of, window_at, AreWindows}
 use Rattle.guest_sched.proofs.Given.{apart, none_given, all_given, slot_at}
 use Rattle.span_counts.specs.Counts.{AreServices}
 use Rattle.guest_sched.proofs.SpanByOne.{Holds}

@@ -1,7 +1,7 @@
 use crate::helpers::{expect, jobs_of, tasks_of, told_run, windows_of};
 use guest_sched::{
-    Span, are_windows, guest_by, run_level, run_over, run_spans, server_spans, servers_by,
-    worst_windows,
+    Span, are_windows, guest_by, pattern_windows, run_level, run_over, run_spans, server_spans,
+    servers_by,
 };
 use slot_model::{Edf, Sched, is_legal};
 use std::alloc::{AllocError, Global};
@@ -209,7 +209,7 @@ fn spans_of_guests_and_of_servers(rt: HostRuntime) -> Result<(), Fail> {
 fn worst_of(rt: &impl Abort, alloc: Global, budget: u64, slots: u64) -> Result<String, AllocError> {
     let supply = Periodic::new(10, budget).expect(rt, "a supply");
     let mut text = String::new(alloc);
-    for window in &worst_windows(alloc, &supply, slots)? {
+    for window in &pattern_windows(alloc, &supply, slots)? {
         write!(text, "{}-{} ", window.from, window.until)?;
     }
     Ok(text)

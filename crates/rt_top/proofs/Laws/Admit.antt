@@ -8,10 +8,10 @@ use Rattle.tree_model.specs.Admission.{FirstRefusal}
 use Rattle.compose_tree.specs.Truth.{RefusalHolds}
 use Rattle.compose_tree.proofs.Refusals.{refusal_holds}
 use Rattle.compose_tree.proofs.Sound.{admitted_no_loss, admitted_tight}
-use Rattle.rt_report.specs.declared.replay.Replay.{Replay}
+use Rattle.miss_witness.specs.declared.replay.Replay.{Replay}
 use Rattle.rt_report.specs.Admit.{admit_text}
 use Rattle.rt_report.specs.Refusal.{refusal_text}
-use Rattle.rt_report.proofs.OneReplay.{one_list_of_replays}
+use Rattle.miss_witness.proofs.OneReplay.{one_list_of_replays}
 use Rattle.rt_top.specs.declared.status.Status.{Status}
 use Rattle.rt_top.specs.declared.status.Status.TheVariants.{Yes, No, Wide}
 use Rattle.rt_top.specs.Answer.{IsOne}

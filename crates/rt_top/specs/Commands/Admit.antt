@@ -8,8 +8,9 @@ use Rattle.tree_model.specs.Tree.{NoLoss}
 use Rattle.tree_model.specs.Admission.{Admitted, FirstRefusal}
 use Rattle.compose_tree.specs.Truth.{IsTight, RefusalHolds}
 use Rattle.system_file.specs.SystemFile.{system_of}
-use Rattle.rt_report.specs.declared.replay.Replay.{Replay}
-use Rattle.rt_report.specs.Admit.{admit_text, AreReplays}
+use Rattle.miss_witness.specs.declared.replay.Replay.{Replay}
+use Rattle.rt_report.specs.Admit.{admit_text}
+use Rattle.miss_witness.specs.Replay.{AreReplays}
 use Rattle.rt_report.specs.Refusal.{refusal_text}
 use Rattle.rt_top.specs.declared.status.Status.{Status}
 use Rattle.rt_top.specs.declared.status.Status.TheVariants.{Yes, No}

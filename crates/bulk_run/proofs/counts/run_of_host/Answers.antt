@@ -1,6 +1,6 @@
 use Rattle.std.proofs.Common.{◌≡◌, ℕ, List, Vec, Global, map, sym, ◌∙◌, ap, subst}
 use Rattle.slot_model.specs.declared.job.Job.{Job}
-use Rattle.guest_sched.specs.declared.spans.Window.{Window}
+use Rattle.guest_sched.specs.Spans.{Window}
 use Rattle.tree_model.specs.View.{SystemView}
 use Rattle.tree_model.specs.Plans.{IsPlan}
 use Rattle.tree_model.specs.Releases.{AreReleases}

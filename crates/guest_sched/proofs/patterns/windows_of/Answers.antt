@@ -1,5 +1,5 @@
 use Rattle.std.proofs.Common.{◌≡◌, ◌<◌, ◌≤◌, ℕ, ◌+◌, Bool, List, length, arith, sym, subst, Vec, Global, get_or, ◌∙◌, ap, refl, false, true}
-use Rattle.guest_sched.specs.declared.spans.Window.{Window}
+use Rattle.guest_sched.specs.Spans.{Window}
 use Rattle.guest_sched.proofs.Spelled.{Spells, then_none, then_all, spelled_same}
 use Rattle.guest_sched.proofs.patterns.windows_of.Goals as goal
 use Rattle.guest_sched.proofs.patterns.windows_of.Goals.{then-given-x+in_ok-add_window, else-given-x}

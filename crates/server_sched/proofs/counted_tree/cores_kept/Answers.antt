@@ -1,6 +1,5 @@
 use Rattle.std.proofs.Common.{ℕ, suc, ◌<◌, List, length, arith, ap, sym, subst, add-one}
-use Rattle.guest_sched.specs.declared.spans.Window.{Window}
-use Rattle.guest_sched.specs.Spans.{AreWindows, slots_of}
+use Rattle.guest_sched.specs.Spans.{Window, AreWindows, slots_of}
 use Rattle.tree_model.specs.declared.place.Place.TheVariants.{Core}
 use Rattle.tree_model.specs.declared.pinned_core.Core.{Core as CoreView}
 use Rattle.server_sched.specs.TreeSpans.{given_at}

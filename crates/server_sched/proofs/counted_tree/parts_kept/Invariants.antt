@@ -1,5 +1,5 @@
 use Rattle.std.proofs.Common.{List, length, map}
-use Rattle.guest_sched.specs.declared.spans.Window.{Window}
+use Rattle.guest_sched.specs.Spans.{Window}
 use Rattle.server_sched.specs.CountedTree.{AreCoresKept, ArePartsRun}
 use Rattle.server_sched.proofs.counted_tree.parts_kept.Given as goal
 

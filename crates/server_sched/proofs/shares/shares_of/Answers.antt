@@ -5,8 +5,7 @@ use Rattle.slot_model.specs.Miss.{AreNamed}
 use Rattle.slot_model.specs.declared.job.Job.{Job}
 use Rattle.slot_model.specs.declared.task.Task.{Task}
 use Rattle.fp_request.proofs.Parts.{sporadic_tasks-length}
-use Rattle.guest_sched.specs.declared.spans.Window.{Window}
-use Rattle.guest_sched.specs.Spans.{run_of, end_of, span_at, AreWindows}
+use Rattle.guest_sched.specs.Spans.{Window, run_of, end_of, span_at, AreWindows}
 use Rattle.guest_sched.specs.MoreWindows.{AddsWindow}
 use Rattle.guest_sched.proofs.SpanByOne.{SpanHere, span_here, span_job}
 use Rattle.server_sched.specs.Shares.{share_at}

@@ -1,7 +1,6 @@
 use Rattle.std.proofs.Common.{◌≡◌, ℕ, ◌<◌, Bool, List, Option, length, map, arith, ap, sym, ◌∙◌, subst, Vec, Global}
 use Rattle.std.proofs.lemmas.List.{length-map}
-use Rattle.guest_sched.specs.declared.spans.Window.{Window}
-use Rattle.guest_sched.specs.Spans.{AreSpans}
+use Rattle.guest_sched.specs.Spans.{Window, AreSpans}
 use Rattle.tree_model.specs.FirstTree.{FirstTree}
 use Rattle.tree_model.proofs.FirstTrees.{first_tree_permitted, first_tree_unique}
 use Rattle.server_sched.specs.NodeView.{NodeView}

@@ -1,7 +1,6 @@
 use Rattle.std.proofs.Common.{◌≡◌, ℕ, ◌+◌, List, length, map, get_or, refl, arith, ap, sym, ◌∙◌, subst, Vec, Global}
 use Rattle.std.proofs.lemmas.List.{map_push, get_or_read}
-use Rattle.guest_sched.specs.declared.spans.Window.{Window}
-use Rattle.guest_sched.specs.Spans.{slots_of}
+use Rattle.guest_sched.specs.Spans.{Window, slots_of}
 use Rattle.tree_model.specs.declared.pinned_core.Core.{Core}
 use Rattle.tree_model.specs.System.{no_core}
 use Rattle.server_sched.specs.Patterns.{pattern_slots}

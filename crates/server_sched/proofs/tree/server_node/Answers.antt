@@ -6,8 +6,7 @@ use Rattle.slot_model.specs.Miss.{HoldsReleased}
 use Rattle.slot_model.specs.declared.job.Job.{Job}
 use Rattle.slot_model.specs.declared.task.Task.{Task}
 use Rattle.guest_sched.specs.declared.spans.Span.{Span}
-use Rattle.guest_sched.specs.declared.spans.Window.{Window}
-use Rattle.guest_sched.specs.Spans.{AreSpans, slots_of, run_of}
+use Rattle.guest_sched.specs.Spans.{Window, AreSpans, slots_of, run_of}
 use Rattle.tree_model.specs.Tree.{server_tasks}
 use Rattle.tree_model.proofs.NodeTasks.{tasks_read}
 use Rattle.fp_request.proofs.Parts.{sporadic_tasks-length}

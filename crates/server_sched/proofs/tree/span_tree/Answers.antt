@@ -1,6 +1,6 @@
 use Rattle.std.proofs.Common.{ℕ, List, length, map, subst, Vec, Global}
 use Rattle.slot_model.specs.declared.job.Job.{Job}
-use Rattle.guest_sched.specs.declared.spans.Window.{Window}
+use Rattle.guest_sched.specs.Spans.{Window}
 use Rattle.tree_model.proofs.FirstTrees.{first_tree_permitted, first_tree_unique, one_first_tree}
 use Rattle.server_sched.specs.NodeView.{NodeView}
 use Rattle.server_sched.specs.TreeSpans.{AreCoreNodes, ArePartNodes}

@@ -1,7 +1,7 @@
 use Rattle.std.proofs.Common.{◌≡◌, [], List, map, set, ◌∙◌, ap, Vec, Global}
 use Rattle.std.proofs.lemmas.List.{map-set}
 use Rattle.span_counts.specs.declared.counts.Counts.{Counts}
-use Rattle.guest_sched.specs.declared.spans.Window.{Window}
+use Rattle.guest_sched.specs.Spans.{Window}
 use Rattle.server_sched.specs.CountedTree.{KeptView, taken}
 use Rattle.server_sched.proofs.counted_tree.Kept.take_share.Goals as goal
 

@@ -3,8 +3,7 @@ use Rattle.std.proofs.lemmas.Bool.{cases_lt}
 use Rattle.slot_model.specs.Task.{SporadicTask, AreConstrained, sporadic_tasks}
 use Rattle.slot_model.specs.declared.sched.Sched.{Sched}
 use Rattle.slot_model.proofs.Constrained.{are_constrained}
-use Rattle.guest_sched.specs.declared.spans.Window.{Window}
-use Rattle.guest_sched.specs.Spans.{AreWindows, slots_of, window_at}
+use Rattle.guest_sched.specs.Spans.{Window, AreWindows, slots_of, window_at}
 use Rattle.guest_sched.proofs.Given.{AreOver}
 use Rattle.server_sched.specs.declared.level.Level.{Level}
 use Rattle.server_sched.specs.Serving.{AreServerTasks, IsUnderway}

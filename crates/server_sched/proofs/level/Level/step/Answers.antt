@@ -1,8 +1,7 @@
 use Rattle.std.specs.Vec.{with_item}
 use Rattle.std.proofs.Common.{◌≡◌, ℕ, ◌+◌, ◌-◌, ◌<◌, ◌≤◌, List, Some, None, length, set, refl, arith, ap, sym, subst, Vec, Global}
 use Rattle.std.proofs.lemmas.List.{map-set, get_or_read}
-use Rattle.guest_sched.specs.declared.spans.Window.{Window}
-use Rattle.guest_sched.specs.Spans.{AreWindows}
+use Rattle.guest_sched.specs.Spans.{Window, AreWindows}
 use Rattle.guest_sched.specs.MoreWindows.{AddsWindow}
 use Rattle.server_sched.specs.declared.serving.Server.{Server}
 use Rattle.server_sched.specs.Serving.{server_at, no_server, IsChosen}

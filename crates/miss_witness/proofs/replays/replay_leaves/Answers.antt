@@ -2,10 +2,10 @@ use Rattle.std.proofs.Common.{◌≡◌, ◌+◌, List, length, arith, sym, ◌�
 use Rattle.tree_model.specs.System.{is_computed_leaf, part_at}
 use Rattle.tree_model.specs.View.{PartView}
 use Rattle.tree_model.proofs.NodeTasks.{part_here}
-use Rattle.rt_report.specs.declared.replay.Replay.{Replay}
-use Rattle.rt_top.proofs.ReplayList.{ReplaysTo, all_replays, no_more_replay, one_more_replay}
-use Rattle.rt_top.proofs.replays.replay_leaves.Goals as goal
-use Rattle.rt_top.proofs.replays.replay_leaves.Goals.{then-is_computed_leaf+in_ok-replay_leaf+in_ok-push, else-is_computed_leaf}
+use Rattle.miss_witness.specs.declared.replay.Replay.{Replay}
+use Rattle.miss_witness.proofs.ReplayList.{ReplaysTo, all_replays, no_more_replay, one_more_replay}
+use Rattle.miss_witness.proofs.replays.replay_leaves.Goals as goal
+use Rattle.miss_witness.proofs.replays.replay_leaves.Goals.{then-is_computed_leaf+in_ok-replay_leaf+in_ok-push, else-is_computed_leaf}
 
 pub loop-q-preserved : goal.loop-q-preserved
 loop-q-preserved c =

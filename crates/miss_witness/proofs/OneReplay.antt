@@ -20,9 +20,8 @@ use Rattle.miss_witness.proofs.OneDefeat.{one_defeat as same_fields}
 use Rattle.tree_model.specs.View.{SystemView}
 use Rattle.tree_model.specs.System.{part_at, own_tasks, computed_leaves}
 use Rattle.tree_model.specs.Tree.{budget_at}
-use Rattle.rt_report.specs.declared.replay.Replay.{Replay}
-use Rattle.rt_report.specs.Replay.{ShowsMiss, IsReplayed, IsReplay}
-use Rattle.rt_report.specs.Admit.{AreReplays}
+use Rattle.miss_witness.specs.declared.replay.Replay.{Replay}
+use Rattle.miss_witness.specs.Replay.{ShowsMiss, IsReplayed, IsReplay, AreReplays}
 
 abbrev defeat_of : ℕ → ℕ → ℕ → Option ℕ → Defeat
 defeat_of budget start span task = record { budget = budget; start = start; span = span; task = task }

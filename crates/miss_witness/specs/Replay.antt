@@ -1,5 +1,5 @@
 -- Replays: what defeats the next smaller budget of a leaf, and what is seen when it is run.
-use Rattle.std.specs.Prelude.{◌≡◌, ℕ, ◌+◌, ◌<◌, ◌≤◌, Bool, List, Option, Some, None}
+use Rattle.std.specs.Prelude.{◌≡◌, ℕ, ◌+◌, ◌<◌, ◌≤◌, Bool, List, length, slice_get, slice_index, Option, Some, None}
 use Rattle.slot_model.specs.declared.sched.Sched.{Sched}
 use Rattle.slot_model.specs.declared.miss.Miss.{Miss}
 use Rattle.slot_model.specs.Supply.{worst_slot}
@@ -11,9 +11,9 @@ use Rattle.slot_model.specs.Miss.{WorstList, IsFirstMiss}
 use Rattle.miss_witness.specs.declared.defeat.Defeat.{Defeat}
 use Rattle.miss_witness.specs.Defeat.{IsDefeat}
 use Rattle.tree_model.specs.View.{SystemView}
-use Rattle.tree_model.specs.System.{part_at, own_tasks}
+use Rattle.tree_model.specs.System.{part_at, own_tasks, computed_leaves}
 use Rattle.tree_model.specs.Tree.{budget_at}
-use Rattle.rt_report.specs.declared.replay.Replay.{Replay}
+use Rattle.miss_witness.specs.declared.replay.Replay.{Replay}
 
 -- the first miss of the first run of the defeat's release over its supply
 pub record ShowsMiss
@@ -39,3 +39,9 @@ pub record IsReplay (sys : SystemView) (budgets : List ℕ) (q : ℕ) (replay : 
       (budget_at budgets q) replay.witness
   pub replayed : IsReplayed (part_at sys q).sched (own_tasks (part_at sys q))
       (part_at sys q).period replay.witness replay.miss
+
+-- one replay a computed leaf, in file order
+pub record AreReplays (sys : SystemView) (budgets : List ℕ) (replays : List Replay) : Type 0 where
+  pub one_each : length replays ≡ length (computed_leaves sys)
+  pub each : (k : ℕ) (replay : Replay) → slice_get replays k ≡ Some replay
+      → IsReplay sys budgets (slice_index (computed_leaves sys) k) replay

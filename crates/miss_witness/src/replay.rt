@@ -1,4 +1,4 @@
-use miss_witness::Defeat;
+use crate::Defeat;
 use slot_model::Miss;
 
 /// What defeats the next smaller budget of the leaf at place `part`, and the first miss that is

@@ -14,8 +14,7 @@ use Rattle.slot_model.specs.Miss.{HoldsReleased, IsFirstMiss, MissesFromStart, W
 use Rattle.slot_model.proofs.MissedJobs.{permitted_holds_released}
 use Rattle.slot_model.proofs.FirstRuns.{first_permitted}
 use Rattle.guest_sched.specs.declared.spans.Span.{Span}
-use Rattle.guest_sched.specs.declared.spans.Window.{Window}
-use Rattle.guest_sched.specs.Spans.{run_of, slots_of}
+use Rattle.guest_sched.specs.Spans.{Window, run_of, slots_of}
 use Rattle.guest_sched.proofs.Given.{slots-long}
 use Rattle.miss_witness.specs.declared.defeat.Defeat.{Defeat}
 use Rattle.tree_model.specs.View.{PartView, SystemView}
@@ -25,7 +24,7 @@ use Rattle.tree_model.specs.declared.place.Place.TheVariants.{Part}
 use Rattle.tree_model.specs.Admission.{Admitted, BudgetStands}
 use Rattle.tree_model.proofs.InRange.{admitted_in_period}
 use Rattle.tree_model.proofs.NodeTasks.{leaf_tasks}
-use Rattle.rt_report.specs.Replay.{IsReplay, IsReplayed}
+use Rattle.miss_witness.specs.Replay.{IsReplay, IsReplayed}
 use Rattle.miss_witness.specs.Defeat.{IsDefeat}
 
 -- a computed leaf has the least budget of its own tasks

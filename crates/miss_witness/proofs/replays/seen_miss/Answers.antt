@@ -4,8 +4,8 @@ use Rattle.slot_model.specs.Task.{sporadic_tasks}
 use Rattle.guest_sched.specs.declared.spans.Span.{Span}
 use Rattle.guest_sched.specs.Spans.{run_of, AreSpans}
 use Rattle.guest_sched.proofs.Given.{slots-long}
-use Rattle.rt_top.proofs.ReplayLeaf.{RunsDefeat, run_holds_released, run_is_replay, runs_over}
-use Rattle.rt_top.proofs.replays.seen_miss.Goals as goal
+use Rattle.miss_witness.proofs.ReplayLeaf.{RunsDefeat, run_holds_released, run_is_replay, runs_over}
+use Rattle.miss_witness.proofs.replays.seen_miss.Goals as goal
 
 pub first_miss-requires-clause-released : goal.first_miss-requires-clause-released
 first_miss-requires-clause-released c =

@@ -1,6 +1,6 @@
 use Rattle.std.proofs.Common.{◌≡◌, ℕ, List, length, take, get_or, arith, sym, ◌∙◌, ap, subst}
 use Rattle.slot_model.specs.declared.sched.Sched.{Sched}
-use Rattle.rt_report.specs.Replay.{IsReplayed}
+use Rattle.miss_witness.specs.Replay.{IsReplayed}
 use Rattle.std.proofs.lemmas.Bool.{and_parts}
 use Rattle.slot_model.specs.Task.{SporadicTask, sporadic_tasks}
 use Rattle.tree_model.specs.System.{part_at}
@@ -8,9 +8,9 @@ use Rattle.tree_model.specs.declared.place.Place.TheVariants.{Part}
 use Rattle.tree_model.specs.View.{PartView}
 use Rattle.tree_model.proofs.NodeTasks.{part_here, leaf_tasks, tasks_read}
 use Rattle.tree_model.proofs.InRange.{admitted_in_period}
-use Rattle.rt_top.proofs.ReplayLeaf.{LeafRead, none_smaller, read_least, read_replay}
-use Rattle.rt_top.proofs.replays.replay_leaf.Goals as goal
-use Rattle.rt_top.proofs.replays.replay_leaf.Goals.{After-period}
+use Rattle.miss_witness.proofs.ReplayLeaf.{LeafRead, none_smaller, read_least, read_replay}
+use Rattle.miss_witness.proofs.replays.replay_leaf.Goals as goal
+use Rattle.miss_witness.proofs.replays.replay_leaf.Goals.{After-period}
 
 pub witness-witness-requires-clause-some_budget : goal.witness-witness-requires-clause-some_budget
 witness-witness-requires-clause-some_budget c = let some = (admitted_in_period c.args.sys.now c.parts.ensures.system c.args.plan.now c.requires.admitted c.args.q c.requires.is_part).0 in omega (arith, some, ap (λ (bs : List ℕ). get_or bs c.args.q 0) c.budgets-budgets.ensures)

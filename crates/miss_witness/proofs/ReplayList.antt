@@ -7,9 +7,8 @@ use Rattle.slot_model.specs.Slots.{push_if, places_where}
 use Rattle.slot_model.proofs.Places.{places_where-suc}
 use Rattle.tree_model.specs.View.{SystemView}
 use Rattle.tree_model.specs.System.{part_at, is_computed_leaf}
-use Rattle.rt_report.specs.declared.replay.Replay.{Replay}
-use Rattle.rt_report.specs.Admit.{AreReplays}
-use Rattle.rt_report.specs.Replay.{IsReplay}
+use Rattle.miss_witness.specs.declared.replay.Replay.{Replay}
+use Rattle.miss_witness.specs.Replay.{AreReplays, IsReplay}
 
 -- what is read of a list with one more at its end
 read_pushed : {X : Type 0} (xs : List X) (y z : X) (k : ℕ) → slice_get (xs ++ y ∷ []) k ≡ Some z → (slice_get xs k ≡ Some z) ⊎ ((k ≡ length xs) × (y ≡ z))

@@ -6,12 +6,10 @@ ghost use Rattle.slot_model.specs.Order.{before_of};
 ghost use Rattle.slot_model.specs.Miss.{MissesFromStart, WorstList};
 ghost use Rattle.tree_model.specs.System.{part_at, is_computed_leaf};
 ghost use Rattle.tree_model.specs.Admission.{Admitted};
-ghost use Rattle.rt_report.specs.Admit.{AreReplays};
-ghost use Rattle.rt_report.specs.Replay.{IsReplay, IsReplayed};
+ghost use Rattle.miss_witness.specs.Replay.{AreReplays, IsReplay, IsReplayed};
 
-use guest_sched::{guest_by, worst_windows};
-use miss_witness::{Defeat, witness, witness_jobs};
-use rt_report::Replay;
+use crate::{Defeat, Replay, witness, witness_jobs};
+use guest_sched::{guest_by, pattern_windows};
 use slot_model::{Miss, Sched, Task};
 use span_counts::first_miss;
 use std::alloc::{AllocError, Global};
@@ -104,7 +102,7 @@ fn seen_miss(
         period,
         budget: defeat.budget,
     };
-    let windows = worst_windows(alloc, &supply, slots)?;
+    let windows = pattern_windows(alloc, &supply, slots)?;
     let jobs = witness_jobs(alloc, tasks, defeat)?;
     let spans = guest_by(alloc, sched, tasks, &jobs, &windows, slots)?;
     first_miss(alloc, &jobs, tasks, &spans)

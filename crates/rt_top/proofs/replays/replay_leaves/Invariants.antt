@@ -1,5 +1,0 @@
-use Rattle.rt_top.proofs.ReplayList.{ReplaysTo}
-use Rattle.rt_top.proofs.replays.replay_leaves.Given as goal
-
-abbrev pub invariant-loop-q : goal.invariant-loop-q
-invariant-loop-q l = ReplaysTo l.sys l.plan l.q l.replays.items
