@@ -1,7 +1,7 @@
 ghost use Rattle.std.specs.Prelude.{◌≡◌, ◌≤◌, ◌↔◌, Bool, List, Some, length};
 ghost use Rattle.slot_model.specs.Bound.{sbf};
 ghost use Rattle.supply_bound.specs.NodeSupplies.{numbers_of, bound_of, cycle_of, amount_of, Conforms};
-ghost use Rattle.tree_model.specs.System.{IsPeriod, IsCoreSupply};
+ghost use Rattle.tree_model.specs.System.{IsPeriod, IsCoreSupply, IsSystem};
 ghost use Rattle.tree_model.specs.Tree.{core_bound, core_cycle, core_budget, CoreConforms, IsNode, node_sched, node_bound, node_cycle, given_budget};
 ghost use Rattle.tree_model.specs.NodeSupply.{node_numbers, node_budget, BudgetFits};
 
@@ -47,7 +47,8 @@ impl Part {
 /// The scheduler of a node.
 pub fn sched_of(sys: &System, place: Place) -> Sched
     requires { IsNode sys.now place }
-    ensures { result ≡ node_sched sys.now place }
+    ensures sched { result ≡ node_sched sys.now place }
+    ensures system { IsSystem sys.now }
 {
     match place {
         Place::Core(c) => sys.cores()[c as usize].sched,
