@@ -11,7 +11,10 @@ use crate::Flaw;
 use crate::claims::check_claims;
 use crate::rooms::Rooms;
 use slot_model::Task;
-use tree_model::{Certificate, MAX_PARTS, Node, Place, System, budget_of, node_supply, period_of, sched_of, write_tasks};
+use tree_model::{
+    Certificate, MAX_PARTS, Node, Place, System, budget_of, node_supply, period_of, sched_of,
+    write_tasks,
+};
 use window_terms::Term;
 
 /// Whether the certificate proves that the system is admitted under its budgets, or its first flaw.

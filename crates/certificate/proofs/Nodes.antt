@@ -140,3 +140,7 @@ none_of o given b e same = sym (flip (is_some o) b e) ∙ (other o ∙ ap (λ (x
     other : (x : Option ℕ) → not (is_some x) ≡ is_none x
     other None = refl
     other (Some n) = refl
+
+pub none_is : (given : Option ℕ) → is_none given ≡ true → given ≡ None
+none_is None e = refl
+none_is (Some n) e = cc
