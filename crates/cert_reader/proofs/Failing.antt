@@ -20,28 +20,6 @@ use Rattle.cert_reader.specs.Steps.{HaveBudgets, AreProved}
 use Rattle.cert_reader.specs.Flaws.{FirstNode, NodeFlaw, NodeFails, HitFails, FirstFalseClaim, FirstFlaw}
 use Rattle.cert_reader.proofs.Shown.{shown_small}
 
--- a flaw at a place
-fails_at : (sys : SystemView) (budgets : List ℕ) (node : NodeView) (place : Place) → node.place ≡ place → (flaw : Flaw)
-    → NodeFlaw (node_sched sys place) (node_tasks sys budgets place) (node_bound sys budgets place) (node_cycle sys place) node flaw → NodeFails sys budgets flaw node
-fails_at sys budgets node place same flaw h = subst (λ (p : Place). NodeFlaw (node_sched sys p) (node_tasks sys budgets p) (node_bound sys budgets p) (node_cycle sys p) node flaw) (sym same) h
-
-pub part_fails : (sys : SystemView) (budgets : List ℕ) (node : NodeView) (q : ℕ) → node.place ≡ Part q → (part : PartView) → part ≡ part_at sys q → (tasks : List SporadicTask) → tasks ≡ node_tasks sys budgets node.place
-    → (sched : Sched) → sched ≡ part.sched → (period : ℕ) → period ≡ part.period → (flaw : Flaw) → NodeFlaw sched tasks (sbf period (budget_at budgets q)) period node flaw → NodeFails sys budgets flaw node
-part_fails sys budgets node q place part here tasks same sched is_sched period is_period flaw h =
-    fails_at sys budgets node (Part q) place flaw
-    (subst (λ (ts : List SporadicTask). NodeFlaw (part_at sys q).sched ts (sbf (part_at sys q).period (budget_at budgets q)) (part_at sys q).period node flaw) (same ∙ ap (node_tasks sys budgets) place)
-    (subst (λ (p : PartView). NodeFlaw p.sched tasks (sbf p.period (budget_at budgets q)) p.period node flaw) here
-    (subst (λ (p : ℕ). NodeFlaw part.sched tasks (sbf p (budget_at budgets q)) p node flaw) is_period
-    (subst (λ (s : Sched). NodeFlaw s tasks (sbf period (budget_at budgets q)) period node flaw) is_sched h))))
-
-pub core_fails : (sys : SystemView) (budgets : List ℕ) (node : NodeView) (c : ℕ) → node.place ≡ Core c → (core : CoreView) → core ≡ core_at sys c → (tasks : List SporadicTask) → tasks ≡ node_tasks sys budgets node.place
-    → (supply : Option (ℕ × ℕ)) → core.supply ≡ supply → (flaw : Flaw) → NodeFlaw core.sched tasks (core_bound supply) (core_cycle supply) node flaw → NodeFails sys budgets flaw node
-core_fails sys budgets node c place core here tasks same supply is_supply flaw h =
-    fails_at sys budgets node (Core c) place flaw
-    (subst (λ (ts : List SporadicTask). NodeFlaw (core_at sys c).sched ts (core_bound (core_at sys c).supply) (core_cycle (core_at sys c).supply) node flaw) (same ∙ ap (node_tasks sys budgets) place)
-    (subst (λ (k : CoreView). NodeFlaw k.sched tasks (core_bound k.supply) (core_cycle k.supply) node flaw) here
-    (subst (λ (s : Option (ℕ × ℕ)). NodeFlaw core.sched tasks (core_bound s) (core_cycle s) node flaw) (sym is_supply) h)))
-
 -- a node with a flaw does not show what it claims
 pub hits_of : (sched : Sched) → sched ≢ Edf → (tasks : List SporadicTask) (bound : ℕ → ℕ) (cycle : ℕ) (node : NodeView) → ShowsPass sched tasks bound cycle node → AreHits (ranks_above sched tasks) tasks bound node
 hits_of Edf fixed tasks bound cycle node shows = absurd (fixed refl)

@@ -1,4 +1,5 @@
 ghost use Rattle.std.specs.Prelude.{◌≡◌, ◌↔◌, ◌^◌, ◌<◌, ◌≤◌, IsTrue, IsOk, IfOk, IfErr, map, take, length};
+ghost use Rattle.tree_model.specs.declared.system.TheConstants.{MAX_PARTS};
 ghost use Rattle.tree_model.specs.Tree.{IsNode};
 ghost use Rattle.tree_model.specs.Admission.{Admitted};
 ghost use Rattle.cert_reader.specs.Proves.{nth_place, AreNodes, IsBudget, HasBudget, budgets_of, NodeProves, Proves};
@@ -10,8 +11,10 @@ use crate::Flaw;
 use crate::claims::check_claims;
 use crate::rooms::Rooms;
 use slot_model::Task;
-use supply_bound::{Full, Periodic};
-use tree_model::{Certificate, MAX_PARTS, Node, Place, System, tasks_of};
+use tree_model::{
+    Certificate, MAX_PARTS, Node, Place, System, budget_of, node_supply, period_of, sched_of,
+    write_tasks,
+};
 use window_terms::Term;
 
 /// Whether the certificate proves that the system is admitted under its budgets, or its first flaw.
@@ -78,16 +81,7 @@ fn has_budget(sys: &System, node: &Node) -> bool
     requires { IsNode sys.now node.now.place }
     ensures { IsTrue result ↔ HasBudget sys.now node.now }
 {
-    match node.place {
-        Place::Part(q) => {
-            let part = &sys.parts()[q as usize];
-            node.period == part.period() && is_budget(part.budget(), node)
-        }
-        Place::Core(c) => {
-            let (period, budget) = sys.cores()[c as usize].supply.unwrap_or((1, 1));
-            node.period == period && is_budget(Some(budget), node)
-        }
-    }
+    node.period == period_of(sys, node.place) && is_budget(budget_of(sys, node.place), node)
 }
 
 fn is_budget(given: Option<u64>, node: &Node) -> bool
@@ -142,30 +136,12 @@ fn check_node(
     requires has { HasBudget sys.now node.now }
     requires one_each { length budgets.now ≡ length sys.now.parts }
     requires fit { BudgetsFit sys.now budgets.now }
-    requires room { 512 ≤ length room.old }
+    requires room { MAX_PARTS ≤ length room.old }
     ensures proved { IfOk result (λ _. NodeProves sys.now budgets.now node.now) }
     ensures flaw { IfErr result (λ flaw. NodeFails sys.now budgets.now flaw node.now) }
 {
-    let count = tasks_of(sys, budgets, node.place, room).unwrap();
-    let tasks = &room[..count];
-    match node.place {
-        Place::Part(q) => {
-            let part = &sys.parts()[q as usize];
-            let supply = Periodic {
-                period: part.period(),
-                budget: budgets[q as usize],
-            };
-            check_claims(rooms, part.sched(), tasks, &supply, node)
-        }
-        Place::Core(c) => {
-            let core = &sys.cores()[c as usize];
-            match core.supply {
-                None => check_claims(rooms, core.sched, tasks, &Full, node),
-                Some((period, budget)) => {
-                    let supply = Periodic { period, budget };
-                    check_claims(rooms, core.sched, tasks, &supply, node)
-                }
-            }
-        }
-    }
+    let sched = sched_of(sys, node.place);
+    let supply = node_supply(sys, budgets, node.place);
+    let count = write_tasks(sys, budgets, node.place, room);
+    check_claims(rooms, sched, &room[..count], &supply, node)
 }

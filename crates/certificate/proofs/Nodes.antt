@@ -6,15 +6,15 @@ use Rattle.std.proofs.lemmas.List.{get_or_append_left, get_or_push, length_push}
 use Rattle.std.proofs.lemmas.Grind.{same_number_lists}
 use Rattle.slot_model.specs.declared.sched.Sched.{Sched}
 use Rattle.slot_model.specs.Task.{SporadicTask}
-use Rattle.slot_model.specs.Bound.{sbf, Passes, IsSmall, IsLeastBudget}
-use Rattle.tree_model.specs.declared.pinned_core.Core.{Core as CoreView}
+use Rattle.slot_model.specs.Bound.{sbf, Passes, IsLeastBudget}
 use Rattle.tree_model.specs.declared.place.Place.{Place}
 use Rattle.tree_model.specs.declared.place.Place.TheVariants.{Core, Part}
 use Rattle.tree_model.specs.CertificateView.{NodeView}
-use Rattle.tree_model.specs.View.{PartView, SystemView}
+use Rattle.tree_model.specs.View.{SystemView}
 use Rattle.tree_model.specs.System.{IsSystem, core_at, part_at}
-use Rattle.tree_model.specs.Tree.{core_bound, core_cycle, budget_at, node_tasks, node_sched, given_budget, node_cycle, node_bound}
-use Rattle.tree_model.specs.Admission.{NodePasses, Admitted, BudgetStands}
+use Rattle.tree_model.specs.Tree.{core_budget, budget_at, IsNode, node_tasks, node_sched, given_budget, node_cycle, node_bound}
+use Rattle.tree_model.specs.NodeSupply.{node_budget}
+use Rattle.tree_model.specs.Admission.{Admitted, BudgetStands}
 use Rattle.tree_model.proofs.InRange.{admitted_in_period}
 use Rattle.cert_reader.specs.Proves.{no_node, node_at, nth_place, AreNodes, IsBudget, budgets_of}
 use Rattle.cert_reader.proofs.Admits.{budget_here, one_budget_each}
@@ -42,15 +42,25 @@ made_for sys budgets node place same made =
     let own : MadeFor sys budgets node node.place = subst (λ (p : Place). MadeFor sys budgets node p) (sym same) made in
     (same, record { has = record { period = own.period; budget = own.budget }; pass = own.pass; least = own.least })
 
-pub part_made : (sys : SystemView) → IsSystem sys → (budgets : List ℕ) → Admitted sys budgets → (q : ℕ) → q < length sys.parts → (node : NodeView) → node.place ≡ Part q → node.period ≡ (part_at sys q).period → node.budget ≡ budget_at budgets q
-    → node.computed ≡ is_none (part_at sys q).budget
-    → ListsPass (part_at sys q).sched (node_tasks sys budgets (Part q)) (sbf (part_at sys q).period (budget_at budgets q)) (part_at sys q).period node.points node.hits
-    → ListsLeast node.computed (part_at sys q).sched (node_tasks sys budgets (Part q)) node.period node.budget node.witness node.falls → IsMadeAt sys budgets (Part q) node
-part_made sys is budgets admitted q h node place period budget computed pass least =
+has_given : (sys : SystemView) → IsSystem sys → (budgets : List ℕ) → Admitted sys budgets → (place : Place) → IsNode sys place
+    → (node : NodeView) → node.period ≡ node_cycle sys place → node.budget ≡ node_budget sys budgets place
+    → node.computed ≡ is_none (given_budget sys place) → IsBudget (given_budget sys place) node
+has_given sys is budgets admitted (Part q) h node period budget computed =
     let fit = admitted_in_period sys is budgets admitted q h in
-    made_for sys budgets node (Part q) place (record {
+    budget_is sys budgets q node budget (omega (arith, budget, fit)) (omega (arith, budget, period, fit)) (part_at sys q).budget
+    computed (admitted.assigned.stands q (omega arith) h)
+has_given sys is budgets admitted (Core c) h node period budget computed = (computed, budget)
+
+pub node_made : (sys : SystemView) → IsSystem sys → (budgets : List ℕ) → Admitted sys budgets → (place : Place) → IsNode sys place
+    → (node : NodeView) → node.place ≡ place → node.period ≡ node_cycle sys place → node.budget ≡ node_budget sys budgets place
+    → node.computed ≡ is_none (given_budget sys place)
+    → ListsPass (node_sched sys place) (node_tasks sys budgets place) (node_bound sys budgets place) (node_cycle sys place) node.points node.hits
+    → ListsLeast node.computed (node_sched sys place) (node_tasks sys budgets place) node.period node.budget node.witness node.falls
+    → IsMadeAt sys budgets place node
+node_made sys is budgets admitted place h node same period budget computed pass least =
+    made_for sys budgets node place same (record {
       period = period;
-      budget = budget_is sys budgets q node budget (omega (arith, budget, fit)) (omega (arith, budget, period, fit)) (part_at sys q).budget computed (admitted.assigned.stands q (omega arith) h);
+      budget = has_given sys is budgets admitted place h node period budget computed;
       pass = pass;
       least = least;
     })
@@ -93,32 +103,16 @@ all_made sys budgets one_each nodes made = record {
 }
 
 -- with one slot less a computed budget does not pass
-pub not_less : (sys : SystemView) → IsSystem sys → (budgets : List ℕ) → Admitted sys budgets → (q : ℕ) → q < length sys.parts → (part : PartView) → part ≡ part_at sys q → (tasks : List SporadicTask) → tasks ≡ node_tasks sys budgets (Part q)
-    → part.budget ≡ None → Passes part.sched tasks (sbf part.period (budget_at budgets q - 1)) → ⊥
-not_less sys is budgets admitted q h part here tasks same none passes =
-    let least = computed_least sys budgets admitted q h (sym (ap (λ (p : PartView). p.budget) here) ∙ none) in
+pub not_less : (sys : SystemView) → IsSystem sys → (budgets : List ℕ) → Admitted sys budgets → (place : Place) → IsNode sys place
+    → given_budget sys place ≡ None
+    → Passes (node_sched sys place) (node_tasks sys budgets place) (sbf (node_cycle sys place) (node_budget sys budgets place - 1)) → ⊥
+not_less sys is budgets admitted (Part q) h none passes =
     let fit = admitted_in_period sys is budgets admitted q h in
-    least.least (budget_at budgets q - 1) (omega (arith, fit))
-    (subst (λ (ts : List SporadicTask). Passes (part_at sys q).sched ts (sbf (part_at sys q).period (budget_at budgets q - 1))) same
-    (subst (λ (p : PartView). Passes p.sched tasks (sbf p.period (budget_at budgets q - 1))) here passes))
-
-pub part_node_made : (sys : SystemView) → IsSystem sys → (budgets : List ℕ) → Admitted sys budgets → (q : ℕ) → q < length sys.parts → (part : PartView) → part ≡ part_at sys q → (tasks : List SporadicTask) → tasks ≡ node_tasks sys budgets (Part q)
-    → (sched : Sched) → sched ≡ part.sched → (period : ℕ) → period ≡ part.period → (computed : Bool) → computed ≡ is_none part.budget → (points hits : List ℕ) (witness : Option ℕ) (falls : List ℕ)
-    → ListsPass sched tasks (sbf period (budget_at budgets q)) period points hits → ListsLeast (is_none part.budget) part.sched tasks part.period (budget_at budgets q) witness falls
-    → IsMadeAt sys budgets (Part q) (record { place = Part q; period = period; budget = budget_at budgets q; computed = computed; points = points; hits = hits; witness = witness; falls = falls })
-part_node_made sys is budgets admitted q h part here tasks same sched is_sched period is_period computed is_computed points hits witness falls pass least =
-    let bound : PartView → ℕ → ℕ = λ (p : PartView). sbf p.period (budget_at budgets q) in
-    let own : ListsPass part.sched tasks (bound part) part.period points hits =
-    subst (λ (z : ℕ). ListsPass part.sched tasks (sbf z (budget_at budgets q)) z points hits) is_period (subst (λ (s : Sched). ListsPass s tasks (sbf period (budget_at budgets q)) period points hits) is_sched pass) in
-    let there : ListsPass (part_at sys q).sched (node_tasks sys budgets (Part q)) (bound (part_at sys q)) (part_at sys q).period points hits =
-    subst (λ (ts : List SporadicTask). ListsPass (part_at sys q).sched ts (bound (part_at sys q)) (part_at sys q).period points hits) same (subst (λ (p : PartView). ListsPass p.sched tasks (bound p) p.period points hits) here own) in
-    let shown : ListsLeast (is_none part.budget) (part_at sys q).sched (node_tasks sys budgets (Part q)) part.period (budget_at budgets q) witness falls =
-    subst (λ (ts : List SporadicTask). ListsLeast (is_none part.budget) (part_at sys q).sched ts part.period (budget_at budgets q) witness falls) same
-    (subst (λ (s : Sched). ListsLeast (is_none part.budget) s tasks part.period (budget_at budgets q) witness falls) (ap (λ (p : PartView). p.sched) here) least) in
-    part_made sys is budgets admitted q h (record { place = Part q; period = period; budget = budget_at budgets q; computed = computed; points = points; hits = hits; witness = witness; falls = falls }) refl (is_period ∙ ap (λ (p : PartView). p.period) here) refl
-    (is_computed ∙ ap (λ (p : PartView). is_none p.budget) here) there
-    (subst (λ (b : Bool). ListsLeast b (part_at sys q).sched (node_tasks sys budgets (Part q)) period (budget_at budgets q) witness falls) (sym is_computed)
-    (subst (λ (z : ℕ). ListsLeast (is_none part.budget) (part_at sys q).sched (node_tasks sys budgets (Part q)) z (budget_at budgets q) witness falls) (sym is_period) shown))
+    (computed_least sys budgets admitted q h none).least (budget_at budgets q - 1) (omega (arith, fit)) passes
+not_less sys is budgets admitted (Core c) h none passes = absurd (some_given (core_budget (core_at sys c).supply) none)
+  where
+    some_given : (b : ℕ) → Some b ≡ None → ⊥
+    some_given b e = cc
 
 -- a part more, and a core more
 pub part_more : (sys : SystemView) (budgets : List ℕ) (nodes : List NodeView) (q : ℕ) (node : NodeView) → AreMade sys budgets nodes q → q < length sys.parts → IsMadeAt sys budgets (Part q) node → node.budget ≡ budget_at budgets q → AreMade sys budgets (nodes ++ node ∷ []) (q + 1)
@@ -147,17 +141,6 @@ none_of o given b e same = sym (flip (is_some o) b e) ∙ (other o ∙ ap (λ (x
     other None = refl
     other (Some n) = refl
 
--- the test of a node, as it is read
-pub core_test : (sys : SystemView) (budgets : List ℕ) (c : ℕ) → NodePasses sys budgets (Core c) → (core : CoreView) → core ≡ core_at sys c → (tasks : List SporadicTask) → tasks ≡ node_tasks sys budgets (Core c)
-    → IsSmall core.sched tasks (core_cycle core.supply) × Passes core.sched tasks (core_bound core.supply)
-core_test sys budgets c passes core here tasks same =
-    subst (λ (k : CoreView). IsSmall k.sched tasks (core_cycle k.supply) × Passes k.sched tasks (core_bound k.supply)) (sym here)
-    (subst (λ (ts : List SporadicTask). IsSmall (core_at sys c).sched ts (core_cycle (core_at sys c).supply) × Passes (core_at sys c).sched ts (core_bound (core_at sys c).supply)) (sym same) passes)
-
-pub part_test : (sys : SystemView) (budgets : List ℕ) (q : ℕ) → NodePasses sys budgets (Part q) → (part : PartView) → part ≡ part_at sys q → (tasks : List SporadicTask) → tasks ≡ node_tasks sys budgets (Part q)
-    → (sched : Sched) → sched ≡ part.sched → (period : ℕ) → period ≡ part.period → IsSmall sched tasks period × Passes sched tasks (sbf period (budget_at budgets q))
-part_test sys budgets q passes part here tasks same sched is_sched period is_period =
-    subst (λ (s : Sched). IsSmall s tasks period × Passes s tasks (sbf period (budget_at budgets q))) (sym is_sched)
-    (subst (λ (z : ℕ). IsSmall part.sched tasks z × Passes part.sched tasks (sbf z (budget_at budgets q))) (sym is_period)
-    (subst (λ (p : PartView). IsSmall p.sched tasks p.period × Passes p.sched tasks (sbf p.period (budget_at budgets q))) (sym here)
-    (subst (λ (ts : List SporadicTask). IsSmall (part_at sys q).sched ts (part_at sys q).period × Passes (part_at sys q).sched ts (sbf (part_at sys q).period (budget_at budgets q))) (sym same) passes)))
+pub none_is : (given : Option ℕ) → is_none given ≡ true → given ≡ None
+none_is None e = refl
+none_is (Some n) e = cc

@@ -88,10 +88,6 @@ settled_admits sys budgets assigned pass cores = record { assigned = assigned; p
     each (Part r) h = pass r (omega arith) h
     each (Core c) h = cores c h
 
--- a node whose tasks are read passes
-pub node_passes : (sys : SystemView) (budgets : List ℕ) (node : Place) (tasks : List SporadicTask) → tasks ≡ node_tasks sys budgets node → TestPasses (node_sched sys node) tasks (node_bound sys budgets node) (node_cycle sys node) → NodePasses sys budgets node
-node_passes sys budgets node tasks same pass = subst (λ (ts : List SporadicTask). TestPasses (node_sched sys node) ts (node_bound sys budgets node) (node_cycle sys node)) same pass
-
 -- the refusal of a node, all before it being settled, is the first
 pub node_refuses : (sys : SystemView) (budgets : List ℕ) (node : Place) → IsNode sys node → SettledBefore sys budgets node → (tasks : List SporadicTask) → tasks ≡ node_tasks sys budgets node → (r : Refusal)
     → NodeRefuses (node_sched sys node) tasks (refusing_bound sys node) (node_cycle sys node) node r → FirstRefusal sys r

@@ -1,4 +1,5 @@
 ghost use Rattle.std.specs.Prelude.{◌≡◌, ◌≢◌, ℕ, suc, ◌<◌, ◌≤◌, List, length, slice_set, IfOk, IfErr, MatchResult};
+ghost use Rattle.tree_model.specs.declared.system.TheConstants.{MAX_PARTS};
 ghost use Rattle.tree_model.specs.Admission.{AssignedFrom, Assigned, Admitted, FirstUnassigned};
 ghost use Rattle.tree_model.specs.Plans.{IsPlan};
 
@@ -6,7 +7,7 @@ use crate::budgets::rooms;
 use crate::nodes::untested_budget;
 use slot_model::Task;
 use std::alloc::Global;
-use tree_model::{Place, Plan, Refusal, System, tasks_of};
+use tree_model::{Place, Plan, Refusal, System, write_tasks};
 
 /// The budgets of all parts, in slots: the given ones, untested, and the least ones that pass.
 /// Parts are visited as `compose` does, and no core is tested; the first part that has no given
@@ -30,7 +31,7 @@ pub fn assign(alloc: Global, sys: &System) -> Result<Plan, Refusal>
 /// Writes the budgets of all parts, from the last to the first, and tests none that is given.
 fn assign_parts(sys: &System, budgets: &mut [u64], room: &mut [Task]) -> Result<(), Refusal>
     requires one_each { length budgets.old ≡ length sys.now.parts }
-    requires room { 512 ≤ length room.old }
+    requires room { MAX_PARTS ≤ length room.old }
     ensures assigned { IfOk result (λ _. Assigned sys.now budgets.new) }
     ensures refusal { IfErr result (λ r. FirstUnassigned sys.now r) }
 {
@@ -44,12 +45,12 @@ fn assign_parts(sys: &System, budgets: &mut [u64], room: &mut [Task]) -> Result<
 fn assign_part(sys: &System, budgets: &[u64], q: u32, room: &mut [Task]) -> Result<u64, Refusal>
     requires is_part { q < length sys.now.parts }
     requires assigned { AssignedFrom sys.now budgets.now (suc q) }
-    requires room { 512 ≤ length room.old }
+    requires room { MAX_PARTS ≤ length room.old }
     ensures assigned { IfOk result (λ b. AssignedFrom sys.now (slice_set budgets.now q b) q) }
     ensures refusal { IfErr result (λ r. FirstUnassigned sys.now r) }
 {
     let part = &sys.parts()[q as usize];
     let node = Place::Part(q);
-    let count = tasks_of(sys, budgets, node, room).unwrap();
+    let count = write_tasks(sys, budgets, node, room);
     untested_budget(part, node, &room[..count])
 }

@@ -1,4 +1,5 @@
 ghost use Rattle.std.specs.Prelude.{◌≡◌, ◌≢◌, ℕ, suc, ◌<◌, ◌≤◌, List, length, slice_set, IfOk, IfErr, MatchResult};
+ghost use Rattle.tree_model.specs.declared.system.TheConstants.{MAX_PARTS};
 ghost use Rattle.tree_model.specs.System.{IsSystem};
 ghost use Rattle.tree_model.specs.Tree.{NoLoss};
 ghost use Rattle.tree_model.specs.Admission.{NodePasses, AssignedFrom, Assigned, Admitted, FirstRefusal};
@@ -6,10 +7,10 @@ ghost use Rattle.tree_model.specs.Plans.{IsPlan};
 ghost use Rattle.compose_tree.specs.Steps.{PartsPassFrom, CoresPassTo};
 ghost use Rattle.compose_tree.specs.Truth.{IsTight, RefusalHolds};
 
-use crate::nodes::{part_budget, test_core_tasks};
+use crate::nodes::{part_budget, test_node};
 use slot_model::Task;
 use std::alloc::Global;
-use tree_model::{MAX_PARTS, Place, Plan, Refusal, System, tasks_of};
+use tree_model::{MAX_PARTS, Place, Plan, Refusal, System, node_supply, sched_of, write_tasks};
 
 /// The budgets of all parts, in slots: the given ones and the least ones that pass. Parts are
 /// visited from the last to the first, and then the cores in order; the first that does not pass
@@ -35,7 +36,7 @@ pub fn compose(alloc: Global, sys: &System) -> Result<Plan, Refusal>
 /// Room for one budget a part, and for the tasks of one node.
 pub fn rooms(alloc: Global, sys: &System) -> Result<(Vec<u64>, Vec<Task>), Refusal>
     ensures one_each { IfOk result (λ rooms. length rooms.0.items ≡ length sys.now.parts) }
-    ensures room { IfOk result (λ rooms. 512 ≤ length rooms.1.items) }
+    ensures room { IfOk result (λ rooms. MAX_PARTS ≤ length rooms.1.items) }
     ensures system { IsSystem sys.now }
     ensures refusal { IfErr result (λ r. r ≡ Refusal.NoMemory) }
 {
@@ -52,7 +53,7 @@ pub fn rooms(alloc: Global, sys: &System) -> Result<(Vec<u64>, Vec<Task>), Refus
 /// node.
 fn settle_parts(sys: &System, budgets: &mut [u64], room: &mut [Task]) -> Result<(), Refusal>
     requires one_each { length budgets.old ≡ length sys.now.parts }
-    requires room { 512 ≤ length room.old }
+    requires room { MAX_PARTS ≤ length room.old }
     ensures assigned { IfOk result (λ _. Assigned sys.now budgets.new) }
     ensures pass { IfOk result (λ _. PartsPassFrom sys.now budgets.new 0) }
     ensures refusal { IfErr result (λ r. FirstRefusal sys.now r) }
@@ -68,14 +69,14 @@ pub fn settle_part(sys: &System, budgets: &[u64], q: u32, room: &mut [Task]) -> 
     requires is_part { q < length sys.now.parts }
     requires assigned { AssignedFrom sys.now budgets.now (suc q) }
     requires pass { PartsPassFrom sys.now budgets.now (suc q) }
-    requires room { 512 ≤ length room.old }
+    requires room { MAX_PARTS ≤ length room.old }
     ensures assigned { IfOk result (λ b. AssignedFrom sys.now (slice_set budgets.now q b) q) }
     ensures pass { IfOk result (λ b. PartsPassFrom sys.now (slice_set budgets.now q b) q) }
     ensures refusal { IfErr result (λ r. FirstRefusal sys.now r) }
 {
     let part = &sys.parts()[q as usize];
     let node = Place::Part(q);
-    let count = tasks_of(sys, budgets, node, room).unwrap();
+    let count = write_tasks(sys, budgets, node, room);
     part_budget(part, node, &room[..count])
 }
 
@@ -83,7 +84,7 @@ pub fn settle_part(sys: &System, budgets: &[u64], q: u32, room: &mut [Task]) -> 
 fn test_cores(sys: &System, budgets: &[u64], room: &mut [Task]) -> Result<(), Refusal>
     requires assigned { Assigned sys.now budgets.now }
     requires pass { PartsPassFrom sys.now budgets.now 0 }
-    requires room { 512 ≤ length room.old }
+    requires room { MAX_PARTS ≤ length room.old }
     ensures pass { IfOk result (λ _. CoresPassTo sys.now budgets.now (length sys.now.cores)) }
     ensures refusal { IfErr result (λ r. FirstRefusal sys.now r) }
 {
@@ -99,12 +100,13 @@ pub fn test_core(sys: &System, budgets: &[u64], c: u32, room: &mut [Task]) -> Re
     requires assigned { Assigned sys.now budgets.now }
     requires pass { PartsPassFrom sys.now budgets.now 0 }
     requires before { CoresPassTo sys.now budgets.now c }
-    requires room { 512 ≤ length room.old }
+    requires room { MAX_PARTS ≤ length room.old }
     ensures passes { IfOk result (λ _. NodePasses sys.now budgets.now (Place.Core c)) }
     ensures refusal { IfErr result (λ r. FirstRefusal sys.now r) }
 {
-    let core = &sys.cores()[c as usize];
     let node = Place::Core(c);
-    let count = tasks_of(sys, budgets, node, room).unwrap();
-    test_core_tasks(core, node, &room[..count])
+    let sched = sched_of(sys, node);
+    let supply = node_supply(sys, budgets, node);
+    let count = write_tasks(sys, budgets, node, room);
+    test_node(sched, node, &room[..count], &supply)
 }

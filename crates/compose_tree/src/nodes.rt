@@ -1,15 +1,14 @@
 ghost use Rattle.std.specs.Prelude.{◌≡◌, ◌^◌, ◌<◌, None, length, IfOk, IfErr};
 ghost use Rattle.slot_model.specs.Task.{sporadic_tasks};
 ghost use Rattle.slot_model.specs.Bound.{sbf, TestPasses};
-ghost use Rattle.tree_model.specs.System.{IsPeriod, IsGivenBudget, IsCoreSupply};
-ghost use Rattle.tree_model.specs.Tree.{core_bound, core_cycle};
+ghost use Rattle.tree_model.specs.System.{IsPeriod, IsGivenBudget};
 ghost use Rattle.tree_model.specs.Admission.{IsGivenOrLeast, largest_budget};
 ghost use Rattle.compose_tree.specs.Steps.{NodeRefuses, IsPartBudget};
 
 use least_budget::{Least, Tested, least_budget, test};
 use slot_model::{Sched, Task};
-use supply_bound::{Full, Periodic, Supply};
-use tree_model::{Core, Part, Place, Refusal};
+use supply_bound::{Periodic, Supply};
+use tree_model::{Part, Place, Refusal};
 
 /// The budget of a part with these tasks, in slots: the given one, which has to pass, and where
 /// none is given the least that passes.
@@ -70,26 +69,8 @@ fn computed_budget(sched: Sched, node: Place, tasks: &[Task], period: u64) -> Re
     }
 }
 
-/// Tests the server tasks of a core under every slot or its own supply.
-pub fn test_core_tasks(core: &Core, node: Place, tasks: &[Task]) -> Result<(), Refusal>
-    requires few { length tasks.now < 2 ^ 32 }
-    requires supply { IsCoreSupply core.now.supply }
-    ensures passes { let T = sporadic_tasks tasks.now in
-        let supply = core.now.supply in
-        IfOk result (λ _. TestPasses core.now.sched T (core_bound supply) (core_cycle supply)) }
-    ensures refuses { let T = sporadic_tasks tasks.now in
-        let supply = core.now.supply in
-        IfErr result (λ r.
-        NodeRefuses core.now.sched T (core_bound supply) (core_cycle supply) node r) }
-{
-    match core.supply {
-        None => test_node(core.sched, node, tasks, &Full),
-        Some((period, budget)) => test_node(core.sched, node, tasks, &Periodic { period, budget }),
-    }
-}
-
 /// The exact test of a node under a supply, and its refusal.
-fn test_node<S: Supply>(sched: Sched, node: Place, tasks: &[Task], s: &S) -> Result<(), Refusal>
+pub fn test_node<S: Supply>(sched: Sched, node: Place, tasks: &[Task], s: &S) -> Result<(), Refusal>
     requires { length tasks.now < 2 ^ 32 }
     ensures passes { let T = sporadic_tasks tasks.now in
         IfOk result (λ _. TestPasses sched T (S.bound s.now) (S.cycle_of s.now)) }

@@ -1,4 +1,5 @@
 ghost use Rattle.std.specs.Prelude.{◌≡◌, ◌≢◌, ℕ, ◌<◌, ◌≤◌, List, length, IfOk, IfErr, MatchResult};
+ghost use Rattle.tree_model.specs.declared.system.TheConstants.{MAX_PARTS};
 ghost use Rattle.tree_model.specs.System.{IsSystem};
 ghost use Rattle.tree_model.specs.Admission.{Admitted, FirstRefusal};
 ghost use Rattle.compose_tree.specs.Kept.{IsKept};
@@ -42,7 +43,7 @@ fn settle_up(
     room: &mut [Task],
 ) -> Result<u32, Refusal>
     requires kept { IsKept sys.now budgets.old start }
-    requires room { 512 ≤ length room.old }
+    requires room { MAX_PARTS ≤ length room.old }
     ensures way { IfOk result (λ c. OnWay sys.now budgets.old start (Place.Core c) budgets.new) }
     ensures system { IsSystem sys.now }
     ensures refusal { IfErr result (λ r. FirstRefusal sys.now r) }

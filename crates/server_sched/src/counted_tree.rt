@@ -2,6 +2,7 @@ ghost use Rattle.std.specs.Prelude.{◌≡◌, ℕ, ◌^◌, ◌<◌, ◌≤◌,
 ghost use Rattle.guest_sched.specs.Spans.{AreWindows, slots_of};
 ghost use Rattle.guest_sched.specs.Spans.{Window as AnyWindow};
 ghost use Rattle.slot_model.specs.Release.{LegalRelease};
+ghost use Rattle.tree_model.specs.declared.system.TheConstants.{MAX_PARTS};
 ghost use Rattle.tree_model.specs.declared.place.Place.{Place as AnyPlace};
 ghost use Rattle.tree_model.specs.Plans.{IsPlan};
 ghost use Rattle.tree_model.specs.System.{IsSystem, own_tasks_at, is_leaf_at};
@@ -15,14 +16,14 @@ use crate::TreeCounts;
 use crate::level::MOST_ROOM;
 use crate::node::NodeSpans;
 use crate::served::serve_level;
-use crate::tree::{leaf_node, rank_of, room_for_tasks, sched_of};
+use crate::tree::{leaf_node, rank_of, room_for_tasks};
 use guest_sched::Window;
 use slot_model::{Job, Task};
 use span_counts::Counts;
 use std::alloc::{AllocError, Global};
 use std::marker::Model;
 use std::mem::replace;
-use tree_model::{Parent, Place, Plan, System, tasks_of};
+use tree_model::{Parent, Place, Plan, System, sched_of, write_tasks};
 
 /// What is kept of the run of a node once it is counted: the windows that each child gets of it,
 /// one list a child in file order, and its counts.
@@ -106,7 +107,7 @@ fn cores_kept(
     requires few { (c : ℕ) → c < length sys.now.cores →
         length (server_jobs sys.now budgets.now (AnyPlace.Core c) slots) < 2 ^ 32 }
     requires short { slots < 2 ^ 63 }
-    requires room { 512 ≤ length room.old }
+    requires room { MAX_PARTS ≤ length room.old }
     ensures system { IsSystem sys.now }
     ensures kept { IfOk result (λ kept. AreCoresKept sys.now budgets.now slots
         (map (λ g. g.items) given.now) (length sys.now.cores) kept.items) }
@@ -135,7 +136,7 @@ fn parts_kept(
     requires few { AreFewJobs sys.now budgets.now slots (map (λ j. j.items) jobs.now) }
     requires cores { HasCores sys.now budgets.now slots cores.old }
     requires short { slots < 2 ^ 63 }
-    requires room { 512 ≤ length room.old }
+    requires room { MAX_PARTS ≤ length room.old }
     ensures { (given : List (List AnyWindow)) →
         (h : AreCoresKept sys.now budgets.now slots given (length sys.now.cores) cores.old) →
         IfOk result (λ kept. ArePartsRun sys.now budgets.now slots (map (λ j. j.items) jobs.now)
@@ -195,7 +196,7 @@ fn part_kept(
     requires few_jobs { length jobs.now < 2 ^ 32 }
     requires windows { AreWindows given.now slots }
     requires short { slots < 2 ^ 63 }
-    requires room { 512 ≤ length room.old }
+    requires room { MAX_PARTS ≤ length room.old }
     ensures { IfOk result (λ kept. IsPartKept sys.now budgets.now slots q jobs.now
         (slots_of given.now slots) kept) }
 {
@@ -224,11 +225,11 @@ fn server_kept(
     requires few { length (server_jobs sys.now budgets.now place slots) < 2 ^ 32 }
     requires windows { AreWindows given.now slots }
     requires short { slots < 2 ^ 63 }
-    requires room { 512 ≤ length room.old }
+    requires room { MAX_PARTS ≤ length room.old }
     ensures { IfOk result (λ kept. IsServerKept sys.now budgets.now slots place
         (slots_of given.now slots) kept) }
 {
-    let count = tasks_of(sys, budgets, place, room).unwrap();
+    let count = write_tasks(sys, budgets, place, room);
     let sched = sched_of(sys, place);
     let kept = serve_level(alloc, sched, &room[..count], given, slots)?;
     Ok(kept)

@@ -4,6 +4,7 @@ ghost use Rattle.slot_model.specs.Release.{LegalRelease};
 ghost use Rattle.slot_model.specs.Run.{child_supply, holds_task};
 ghost use Rattle.slot_model.specs.Miss.{AreInJitter, AreNamed, HoldsReleased};
 ghost use Rattle.span_counts.specs.Counts.{AreCounts};
+ghost use Rattle.tree_model.specs.declared.system.TheConstants.{MAX_PARTS};
 ghost use Rattle.tree_model.specs.declared.place.Place.{Place as AnyPlace};
 ghost use Rattle.tree_model.specs.Plans.{IsPlan};
 ghost use Rattle.tree_model.specs.Releases.{AreReleases, jobs_at};
@@ -21,7 +22,7 @@ use release_pattern::synchronous_jobs;
 use slot_model::{Job, Task};
 use span_counts::{Counts, count_level};
 use std::alloc::{AllocError, Global};
-use tree_model::{Place, Plan, System, TreeRun, tasks_of};
+use tree_model::{Place, Plan, System, TreeRun, write_tasks};
 
 /// What is counted of a run of a tree that stands slot by slot, over these jobs and these lists of
 /// slots. It may be any run of that shape that holds jobs which are released, as `run_tree` answers
@@ -70,7 +71,7 @@ fn core_counts(
     requires holds { (c : ℕ) → c < length sys.now.cores →
         RunHolds (server_jobs sys.now budgets.now (AnyPlace.Core c) slots)
         (slice_index_or (map (λ g. g.items) given.now) c []) (run_at run.now.cores c) }
-    requires room { 512 ≤ length room.old }
+    requires room { MAX_PARTS ≤ length room.old }
     ensures system { IsSystem sys.now }
     ensures counts { IfOk result (λ counts. AreCoreCounts sys.now budgets.now slots
         (map (λ g. g.items) given.now) run.now.cores (length sys.now.cores) counts.items) }
@@ -100,7 +101,7 @@ fn part_counts(
     requires few { AreFewJobs sys.now budgets.now slots (map (λ j. j.items) jobs.now) }
     requires holds { OfTree sys.now budgets.now slots (map (λ j. j.items) jobs.now)
         run.now.cores run.now.parts }
-    requires room { 512 ≤ length room.old }
+    requires room { MAX_PARTS ≤ length room.old }
     ensures { IfOk result (λ counts. ArePartCounts sys.now budgets.now slots
         (map (λ j. j.items) jobs.now) run.now.cores run.now.parts (length sys.now.parts)
         counts.items) }
@@ -135,12 +136,12 @@ fn part_slots(
     requires cores { length run.now.cores ≡ length sys.now.cores }
     requires parts { length run.now.parts ≡ length sys.now.parts }
     requires parent { ParentHolds sys.now budgets.now slots q run.now.cores run.now.parts }
-    requires room { 512 ≤ length room.old }
+    requires room { MAX_PARTS ≤ length room.old }
     ensures { IfOk result (λ given.
         given.items ≡ supply_of sys.now budgets.now slots run.now.cores run.now.parts q) }
 {
     let parent = sys.parts()[q as usize].parent().place();
-    let count = tasks_of(sys, budgets, parent, room).unwrap();
+    let count = write_tasks(sys, budgets, parent, room);
     let jobs = synchronous_jobs(alloc, &room[..count], 0, slots)?;
     child_slots(alloc, &jobs, node_run(run, parent), rank_of(sys, q))
 }
@@ -203,7 +204,7 @@ fn part_count(
     requires inner { is_leaf_at sys.now q ≡ false →
         RunHolds (server_jobs sys.now budgets.now (AnyPlace.Part q) slots) given.now run.now }
     requires leaf { is_leaf_at sys.now q ≡ true → RunHolds jobs.now given.now run.now }
-    requires room { 512 ≤ length room.old }
+    requires room { MAX_PARTS ≤ length room.old }
     ensures { IfOk result (λ counts.
         IsPartCount sys.now budgets.now slots q jobs.now given.now run.now counts) }
 {
@@ -230,11 +231,11 @@ fn leaf_counts(
     requires plan { IsPlan sys.now budgets.now }
     requires legal { LegalRelease (own_tasks_at sys.now q) jobs.now }
     requires holds { RunHolds jobs.now given.now run.now }
-    requires room { 512 ≤ length room.old }
+    requires room { MAX_PARTS ≤ length room.old }
     ensures { IfOk result (λ counts.
         AreCounts (own_tasks_at sys.now q) jobs.now given.now run.now counts) }
 {
-    let count = tasks_of(sys, budgets, Place::Part(q), room).unwrap();
+    let count = write_tasks(sys, budgets, Place::Part(q), room);
     count_slots(alloc, &room[..count], jobs, given, run)
 }
 
@@ -256,11 +257,11 @@ fn server_counts(
     requires few { length (server_jobs sys.now budgets.now place slots) < 2 ^ 32 }
     requires holds { RunHolds (server_jobs sys.now budgets.now place slots) given.now
         run.now }
-    requires room { 512 ≤ length room.old }
+    requires room { MAX_PARTS ≤ length room.old }
     ensures { IfOk result (λ counts. AreCounts (server_tasks sys.now budgets.now place)
         (server_jobs sys.now budgets.now place slots) given.now run.now counts) }
 {
-    let count = tasks_of(sys, budgets, place, room).unwrap();
+    let count = write_tasks(sys, budgets, place, room);
     let tasks = &room[..count];
     let jobs = synchronous_jobs(alloc, tasks, 0, slots)?;
     count_slots(alloc, tasks, &jobs, given, run)

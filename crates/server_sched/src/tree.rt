@@ -1,10 +1,11 @@
 ghost use Rattle.std.specs.Prelude.{◌≡◌, ℕ, ◌^◌, ◌<◌, ◌≤◌, true, List, Option, length, map, IfOk};
 ghost use Rattle.guest_sched.specs.Spans.{AreWindows, slots_of};
 ghost use Rattle.slot_model.specs.Release.{LegalRelease};
+ghost use Rattle.tree_model.specs.declared.system.TheConstants.{MAX_PARTS};
 ghost use Rattle.tree_model.specs.declared.place.Place.{Place as AnyPlace};
 ghost use Rattle.tree_model.specs.Plans.{IsPlan};
 ghost use Rattle.tree_model.specs.System.{IsSystem, own_tasks_at, is_leaf_at};
-ghost use Rattle.tree_model.specs.Tree.{IsNode, node_sched, node_tasks, server_tasks, server_jobs, rank_among, PermittedTree};
+ghost use Rattle.tree_model.specs.Tree.{IsNode, node_tasks, server_tasks, server_jobs, rank_among, PermittedTree};
 ghost use Rattle.tree_model.specs.FirstTree.{FirstTree, OneFirstTree};
 ghost use Rattle.tree_model.specs.Releases.{AreReleases};
 ghost use Rattle.server_sched.specs.Shares.{share_at};
@@ -16,10 +17,10 @@ use crate::node::{NodeSpans, TreeSpans};
 use crate::shares::shares_of;
 use guest_sched::{Window, guest_by, servers_by};
 use release_pattern::synchronous_jobs;
-use slot_model::{Job, Sched, Task};
+use slot_model::{Job, Task};
 use span_counts::count_level;
 use std::alloc::{AllocError, Global};
-use tree_model::{MAX_PARTS, Parent, Place, Plan, System, tasks_of};
+use tree_model::{MAX_PARTS, Parent, Place, Plan, System, sched_of, write_tasks};
 
 /// The one first run of the tree over `slots` slots, of which each core has those of its windows:
 /// cores and inner parts run the servers of their children, leaves their jobs. Its memory is that
@@ -62,7 +63,7 @@ pub fn span_tree(
 
 /// Room for the tasks of one node.
 pub(crate) fn room_for_tasks(alloc: Global) -> Result<Vec<Task>, AllocError>
-    ensures { IfOk result (λ room. 512 ≤ length room.items) }
+    ensures { IfOk result (λ room. MAX_PARTS ≤ length room.items) }
 {
     vec![in alloc; Task::least(); MAX_PARTS]
 }
@@ -80,7 +81,7 @@ fn core_nodes(
     requires windows { AreSupplies sys.now slots (map (λ g. g.items) given.now) }
     requires few { (c : ℕ) → c < length sys.now.cores →
         length (server_jobs sys.now budgets.now (AnyPlace.Core c) slots) < 2 ^ 32 }
-    requires room { 512 ≤ length room.old }
+    requires room { MAX_PARTS ≤ length room.old }
     ensures system { IsSystem sys.now }
     ensures nodes { IfOk result (λ nodes. AreCoreNodes sys.now budgets.now slots
         (map (λ g. g.items) given.now) (length sys.now.cores) nodes.items) }
@@ -107,7 +108,7 @@ fn part_nodes(
     requires jobs { AreReleases sys.now (map (λ j. j.items) jobs.now) }
     requires few { AreFewJobs sys.now budgets.now slots (map (λ j. j.items) jobs.now) }
     requires cores { CoresGive sys.now budgets.now slots cores.now }
-    requires room { 512 ≤ length room.old }
+    requires room { MAX_PARTS ≤ length room.old }
     ensures { IfOk result (λ nodes. ArePartNodes sys.now budgets.now slots
         (map (λ j. j.items) jobs.now) cores.now (length sys.now.parts) nodes.items) }
 {
@@ -175,7 +176,7 @@ fn part_node(
         LegalRelease (own_tasks_at sys.now q) jobs.now }
     requires few_jobs { length jobs.now < 2 ^ 32 }
     requires windows { AreWindows given.now slots }
-    requires room { 512 ≤ length room.old }
+    requires room { MAX_PARTS ≤ length room.old }
     ensures { IfOk result (λ node. IsPartNode sys.now budgets.now slots q jobs.now
         (slots_of given.now slots) node) }
 {
@@ -203,12 +204,12 @@ pub(crate) fn leaf_node(
     requires legal { LegalRelease (own_tasks_at sys.now q) jobs.now }
     requires few { length jobs.now < 2 ^ 32 }
     requires windows { AreWindows given.now slots }
-    requires room { 512 ≤ length room.old }
+    requires room { MAX_PARTS ≤ length room.old }
     ensures { IfOk result (λ node. IsLeafNode sys.now slots q jobs.now
         (slots_of given.now slots) node) }
 {
     let place = Place::Part(q);
-    let count = tasks_of(sys, budgets, place, room).unwrap();
+    let count = write_tasks(sys, budgets, place, room);
     let sched = sched_of(sys, place);
     let tasks = &room[..count];
     let spans = guest_by(alloc, sched, tasks, jobs, given, slots)?;
@@ -236,11 +237,11 @@ fn server_node(
     requires plan { IsPlan sys.now budgets.now }
     requires few { length (server_jobs sys.now budgets.now place slots) < 2 ^ 32 }
     requires windows { AreWindows given.now slots }
-    requires room { 512 ≤ length room.old }
+    requires room { MAX_PARTS ≤ length room.old }
     ensures { IfOk result (λ node. IsServerNode sys.now budgets.now slots place
         (slots_of given.now slots) node) }
 {
-    let count = tasks_of(sys, budgets, place, room).unwrap();
+    let count = write_tasks(sys, budgets, place, room);
     let tasks = &room[..count];
     let jobs = synchronous_jobs(alloc, tasks, 0, slots)?;
     let sched = sched_of(sys, place);
@@ -252,15 +253,4 @@ fn server_node(
         shares,
         counts,
     })
-}
-
-/// The scheduler of a node.
-pub(crate) fn sched_of(sys: &System, place: Place) -> Sched
-    requires { IsNode sys.now place }
-    ensures { result ≡ node_sched sys.now place }
-{
-    match place {
-        Place::Core(c) => sys.cores()[c as usize].sched,
-        Place::Part(q) => sys.parts()[q as usize].sched(),
-    }
 }

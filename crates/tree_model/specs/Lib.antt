@@ -1,6 +1,7 @@
 pub mod View
 pub mod System
 pub mod Tree
+pub mod NodeSupply
 pub mod FirstTree
 pub mod Admission
 pub mod CertificateView

@@ -5,20 +5,20 @@ use Rattle.tree_model.specs.declared.place.Place.TheVariants.{Part}
 use Rattle.tree_model.specs.View.{PartView}
 use Rattle.tree_model.specs.System.{part_at}
 use Rattle.tree_model.specs.Tree.{node_tasks}
-use Rattle.tree_model.proofs.NodeTasks.{part_here, tasks_read}
+use Rattle.tree_model.proofs.NodeTasks.{part_here}
 use Rattle.tree_model.proofs.InRange.{children_fit}
 use Rattle.compose_tree.proofs.Settling.{assign_one, node_unassigned}
 use Rattle.compose_tree.proofs.assignment.assign_part.Goals as goal
 
-pub tasks_of-requires-clause-in_period : goal.tasks_of-requires-clause-in_period
-tasks_of-requires-clause-in_period c = children_fit c.args.sys.now c.parts.ensures.system c.args.budgets.now (Part c.args.q) c.requires.assigned
+pub write_tasks-count-requires-clause-in_period : goal.write_tasks-count-requires-clause-in_period
+write_tasks-count-requires-clause-in_period c = children_fit c.args.sys.now c.parts.ensures.system c.args.budgets.now (Part c.args.q) c.requires.assigned
 
 -- the part as it is read, and its tasks
 here : (c : goal.After-untested_budget) → c.index-parts-q.result ≡ part_at c.args.sys.now c.args.q
 here c = part_here c.args.sys.now c.parts.result.now c.args.q c.index-parts-q.result c.parts.ensures.parts (omega (arith, ap (λ (ps : List PartView). length ps) c.parts.ensures.parts)) c.index-parts-q.is
 
-same : (c : goal.After-untested_budget) → sporadic_tasks (take c.unwrap-count.result c.tasks_of.new.into) ≡ node_tasks c.args.sys.now c.args.budgets.now (Part c.args.q)
-same c = tasks_read c.args.sys.now c.args.budgets.now (Part c.args.q) c.tasks_of.new.into _ c.unwrap-count.result c.unwrap-count.ensures c.tasks_of.ensures.tasks
+same : (c : goal.After-untested_budget) → sporadic_tasks (take c.write_tasks-count.result c.write_tasks-count.new.room) ≡ node_tasks c.args.sys.now c.args.budgets.now (Part c.args.q)
+same c = c.write_tasks-count.ensures.tasks
 
 pub returns-clause-assigned : goal.returns-clause-assigned
 returns-clause-assigned c =

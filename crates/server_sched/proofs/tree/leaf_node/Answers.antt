@@ -6,7 +6,7 @@ use Rattle.guest_sched.specs.declared.spans.Span.{Span}
 use Rattle.guest_sched.specs.Spans.{Window, slots_of, run_of}
 use Rattle.tree_model.specs.declared.place.Place.TheVariants.{Part}
 use Rattle.tree_model.specs.System.{own_tasks_at}
-use Rattle.tree_model.proofs.NodeTasks.{leaf_tasks, tasks_read}
+use Rattle.tree_model.proofs.NodeTasks.{leaf_tasks}
 use Rattle.span_counts.specs.Counts.{AreCounts}
 use Rattle.server_sched.proofs.Nodes.{run_long, first_released, leaf_node_made}
 use Rattle.server_sched.proofs.tree.leaf_node.Goals as goal
@@ -24,8 +24,8 @@ count_level-requires-clause-long c =
 pub returns : goal.returns
 returns c =
     let sys = c.args.sys.now in let q = c.args.q in
-    let T : List SporadicTask = sporadic_tasks (take c.unwrap-count.result c.tasks_of.new.into) in
-    let same : T ≡ own_tasks_at sys q = tasks_read sys c.args.budgets.now (Part q) c.tasks_of.new.into _ c.unwrap-count.result c.unwrap-count.ensures c.tasks_of.ensures.tasks ∙ leaf_tasks sys c.args.budgets.now q c.requires.leaf in
-    leaf_node_made sys c.args.slots q c.args.given.now c.in_ok-spans.spans.items T c.args.jobs.now c.sched_of-sched.result same c.sched_of-sched.ensures c.in_ok-spans.ensures.spans c.in_ok-spans.ensures.first
+    let T : List SporadicTask = sporadic_tasks (take c.write_tasks-count.result c.write_tasks-count.new.room) in
+    let same : T ≡ own_tasks_at sys q = c.write_tasks-count.ensures.tasks ∙ leaf_tasks sys c.args.budgets.now q c.requires.leaf in
+    leaf_node_made sys c.args.slots q c.args.given.now c.in_ok-spans.spans.items T c.args.jobs.now c.sched_of-sched.result same c.sched_of-sched.ensures.sched c.in_ok-spans.ensures.spans c.in_ok-spans.ensures.first
     (map (λ (s : Vec Window Global). s.items) c.new.result.items) c.in_ok-counts.counts
     (subst (λ (ss : List Span). AreCounts T c.args.jobs.now (slots_of c.args.given.now c.args.slots) (run_of ss) c.in_ok-counts.counts) c.deref.ensures.value c.in_ok-counts.ensures)

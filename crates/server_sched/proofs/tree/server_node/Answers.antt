@@ -8,7 +8,6 @@ use Rattle.slot_model.specs.declared.task.Task.{Task}
 use Rattle.guest_sched.specs.declared.spans.Span.{Span}
 use Rattle.guest_sched.specs.Spans.{Window, AreSpans, slots_of, run_of}
 use Rattle.tree_model.specs.Tree.{server_tasks}
-use Rattle.tree_model.proofs.NodeTasks.{tasks_read}
 use Rattle.fp_request.proofs.Parts.{sporadic_tasks-length}
 use Rattle.span_counts.specs.Counts.{AreCounts}
 use Rattle.server_sched.specs.Shares.{AreShares}
@@ -37,12 +36,12 @@ count_level-requires-clause-long c =
 
 pub returns : goal.returns
 returns c =
-    let tasks : List Task = take c.unwrap-count.result c.tasks_of.new.into in
+    let tasks : List Task = take c.write_tasks-count.result c.write_tasks-count.new.room in
     let T : List SporadicTask = sporadic_tasks tasks in
-    let same : T ≡ server_tasks c.args.sys.now c.args.budgets.now c.args.place = tasks_read c.args.sys.now c.args.budgets.now c.args.place c.tasks_of.new.into _ c.unwrap-count.result c.unwrap-count.ensures c.tasks_of.ensures.tasks ∙ c.requires.servers in
+    let same : T ≡ server_tasks c.args.sys.now c.args.budgets.now c.args.place = c.write_tasks-count.ensures.tasks ∙ c.requires.servers in
     let shares : List (List Window) = map (λ (s : Vec Window Global). s.items) c.in_ok-shares.shares.items in
     server_node_made c.args.sys.now c.args.budgets.now c.args.slots c.args.place c.args.given.now c.in_ok-spans.spans.items shares T c.in_ok-jobs.jobs.items c.sched_of-sched.result (length tasks)
-    same c.in_ok-jobs.ensures.exact c.sched_of-sched.ensures (sym (sporadic_tasks-length tasks)) c.in_ok-spans.ensures.spans
+    same c.in_ok-jobs.ensures.exact c.sched_of-sched.ensures.sched (sym (sporadic_tasks-length tasks)) c.in_ok-spans.ensures.spans
     (subst (λ (js : List Job). FirstRun server (before_of c.sched_of-sched.result T) T js (slots_of c.args.given.now c.args.slots) (run_of c.in_ok-spans.spans.items)) c.deref.ensures.value c.in_ok-spans.ensures.first)
     (subst (λ (js : List Job). AreShares js (run_of c.in_ok-spans.spans.items) (length (run_of c.in_ok-spans.spans.items)) (length tasks) shares) c.deref-2.ensures.value
     (subst (λ (ss : List Span). AreShares c.deref-2.result.now (run_of ss) (length (run_of ss)) (length tasks) shares) c.deref-3.ensures.value c.in_ok-shares.ensures))
