@@ -17,7 +17,8 @@ field_is (f ∷ fs) zero x e = same_Some x f e
 field_is (f ∷ fs) (suc i) x e = field_is fs i x e
 
 -- the same of fields that stand in a text
-pub text_there : (fields : List (Bor (List ℕ))) (i : ℕ) (d : Bor (List ℕ)) → i < length fields → Some (get_or fields i d).now ≡ field_at (texts_of fields) i
+pub text_there : (fields : List (Bor (List ℕ))) (i : ℕ) (d : Bor (List ℕ)) → i < length fields
+    → Some (get_or fields i d).now ≡ field_at (texts_of fields) i
 unfolding field_at
 text_there [] i d l = absurd (omega (arith, l))
 text_there (f ∷ fs) zero d l = refl

@@ -4,7 +4,8 @@ use Rattle.std.proofs.lemmas.Bool.{cases_lt}
 use Rattle.std.proofs.lemmas.Option.{same_Some, none-some}
 use Rattle.csv_rows.specs.Rules.{RulesOf, RowsKeep, IsFirstFault, row_at}
 
-pub one_fault : {F : Type 0} (rules : RulesOf F) (rows : List (List (List ℕ))) (a b : F) → IsFirstFault rules rows a → IsFirstFault rules rows b → a ≡ b
+pub one_fault : {F : Type 0} (rules : RulesOf F) (rows : List (List (List ℕ))) (a b : F) → IsFirstFault rules rows a
+    → IsFirstFault rules rows b → a ≡ b
 one_fault rules rows a b x y = elim (cases_lt x.row y.row) [
   | inl before ↦ absurd (none-some a (sym (y.before x.row before) ∙ x.breaks))
   | inr not_before ↦ elim (cases_lt y.row x.row) [
@@ -15,5 +16,6 @@ one_fault rules rows a b x y = elim (cases_lt x.row y.row) [
   ]
 ]
 
-pub no_fault_kept : {F : Type 0} (rules : RulesOf F) (rows : List (List (List ℕ))) (fault : F) → RowsKeep rules rows (length rows) → IsFirstFault rules rows fault → ⊥
+pub no_fault_kept : {F : Type 0} (rules : RulesOf F) (rows : List (List (List ℕ))) (fault : F)
+    → RowsKeep rules rows (length rows) → IsFirstFault rules rows fault → ⊥
 no_fault_kept rules rows fault keep h = none-some fault (sym (keep h.row h.is_row) ∙ h.breaks)

@@ -18,7 +18,8 @@ stands (f ∷ fields) [] = st.StartField
 abbrev pub read_on : List (List ℕ) → List ℕ → List ℕ → Option Read
 read_on fields field xs = next_record default_config (stands fields field) fields field xs
 
-pub on_comma : (fields : List (List ℕ)) (field u : List ℕ) → read_on fields field (44 ∷ u) ≡ read_on (fields ++ field ∷ []) [] u
+pub on_comma : (fields : List (List ℕ)) (field u : List ℕ)
+    → read_on fields field (44 ∷ u) ≡ read_on (fields ++ field ∷ []) [] u
 unfolding next_record
 on_comma [] [] u = refl
 on_comma [] (b ∷ field) u = refl
@@ -29,27 +30,31 @@ pub on_blank : (u : List ℕ) → read_on [] [] (10 ∷ u) ≡ read_on [] [] u
 unfolding next_record
 on_blank u = refl
 
-pub on_line : (fields : List (List ℕ)) (field u : List ℕ) → (length field ≡ 0 → length fields ≡ 0 → ⊥) → read_on fields field (10 ∷ u) ≡ Some (fields ++ field ∷ [], st.StartRecord, u)
+pub on_line : (fields : List (List ℕ)) (field u : List ℕ) → (length field ≡ 0 → length fields ≡ 0 → ⊥)
+    → read_on fields field (10 ∷ u) ≡ Some (fields ++ field ∷ [], st.StartRecord, u)
 unfolding next_record
 on_line [] [] u some = absurd (some refl refl)
 on_line [] (b ∷ field) u some = refl
 on_line (f ∷ fields) [] u some = refl
 on_line (f ∷ fields) (b ∷ field) u some = refl
 
-pub on_other : (fields : List (List ℕ)) (field : List ℕ) (c : ℕ) (u : List ℕ) → (c == 34) ≡ false → (c == 13) ≡ false → (c == 44) ≡ false → (c == 10) ≡ false → read_on fields field (c ∷ u) ≡ read_on fields (field ++ c ∷ []) u
+pub on_other : (fields : List (List ℕ)) (field : List ℕ) (c : ℕ) (u : List ℕ) → (c == 34) ≡ false → (c == 13) ≡ false
+    → (c == 44) ≡ false → (c == 10) ≡ false → read_on fields field (c ∷ u) ≡ read_on fields (field ++ c ∷ []) u
 unfolding next_record
 on_other [] [] c u quote cr comma line = rw (quote, cr, comma, line) refl
 on_other (f ∷ fields) [] c u quote cr comma line = rw (quote, cr, comma, line) refl
 on_other fields (b ∷ field) c u quote cr comma line = rw (cr, comma, line) refl
 
-pub on_end : (fields : List (List ℕ)) (field : List ℕ) → (length field ≡ 0 → length fields ≡ 0 → ⊥) → read_on fields field [] ≡ Some (fields ++ field ∷ [], st.StartRecord, [])
+pub on_end : (fields : List (List ℕ)) (field : List ℕ) → (length field ≡ 0 → length fields ≡ 0 → ⊥)
+    → read_on fields field [] ≡ Some (fields ++ field ∷ [], st.StartRecord, [])
 unfolding next_record
 on_end [] [] some = absurd (some refl refl)
 on_end [] (b ∷ field) some = refl
 on_end (f ∷ fields) [] some = refl
 on_end (f ∷ fields) (b ∷ field) some = refl
 
-pub on_nothing : (fields : List (List ℕ)) (field : List ℕ) → length field ≡ 0 → length fields ≡ 0 → read_on fields field [] ≡ None
+pub on_nothing : (fields : List (List ℕ)) (field : List ℕ) → length field ≡ 0 → length fields ≡ 0
+    → read_on fields field [] ≡ None
 unfolding next_record
 on_nothing [] [] a b = refl
 on_nothing [] (x ∷ field) a b = cc a
@@ -64,41 +69,56 @@ no_mark (a ∷ b ∷ c ∷ rest) (inl e) = cc e
 no_mark (a ∷ b ∷ c ∷ rest) (inr e) = rw e refl
 
 -- the bytes of the field at hand, one byte on
-pub field_more : (text : List ℕ) (from i : ℕ) → from ≤ i → i < length text → take (i + 1 - from) (drop from text) ≡ take (i - from) (drop from text) ++ get_or text i 0 ∷ []
+pub field_more : (text : List ℕ) (from i : ℕ) → from ≤ i → i < length text
+    → take (i + 1 - from) (drop from text) ≡ take (i - from) (drop from text) ++ get_or text i 0 ∷ []
 field_more text from i low high =
     let one : i + 1 - from ≡ (i - from) + 1 = omega arith in
     let there : from + (i - from) ≡ i = omega arith in
     ap (λ (n : ℕ). take n (drop from text)) one
     ∙ (take_more (drop from text) (i - from) 0 (omega (arith, length-drop from text))
-    ∙ ap (λ (b : ℕ). take (i - from) (drop from text) ++ b ∷ []) (get_or-drop from text (i - from) 0 ∙ ap (λ (k : ℕ). get_or text k 0) there))
+    ∙ ap (λ (b : ℕ). take (i - from) (drop from text) ++ b ∷ [])
+    (get_or-drop from text (i - from) 0 ∙ ap (λ (k : ℕ). get_or text k 0) there))
 
 -- behind the first i bytes of a text: these fields, and the field at hand from this place on
 abbrev pub at_hand : List ℕ → ℕ → ℕ → List ℕ
 at_hand text from i = take (i - from) (drop from text)
 
 abbrev pub Reads : List ℕ → List (List ℕ) → ℕ → ℕ → Type 0
-Reads text fields from i = next_record default_config st.StartRecord [] [] text ≡ read_on fields (at_hand text from i) (drop i text)
+Reads text fields from i =
+    next_record default_config st.StartRecord [] [] text ≡ read_on fields (at_hand text from i) (drop i text)
 
 none_at : (text : List ℕ) (i : ℕ) → at_hand text i i ≡ []
 none_at text i = let none : i - i ≡ 0 = omega arith in ap (λ (n : ℕ). take n (drop i text)) none
 
-here : (text : List ℕ) (fields : List (List ℕ)) (from i c : ℕ) → i < length text → get_or text i 0 ≡ c → Reads text fields from i → next_record default_config st.StartRecord [] [] text ≡ read_on fields (at_hand text from i) (c ∷ drop (i + 1) text)
-here text fields from i c l e h = h ∙ ap (read_on fields (at_hand text from i)) (drop_more text i 0 l ∙ ap (λ (b : ℕ). b ∷ drop (i + 1) text) e)
+here : (text : List ℕ) (fields : List (List ℕ)) (from i c : ℕ) → i < length text → get_or text i 0 ≡ c
+    → Reads text fields from i
+    → next_record default_config st.StartRecord [] [] text
+    ≡ read_on fields (at_hand text from i) (c ∷ drop (i + 1) text)
+here text fields from i c l e h =
+    h ∙ ap (read_on fields (at_hand text from i)) (drop_more text i 0 l ∙ ap (λ (b : ℕ). b ∷ drop (i + 1) text) e)
 
-comma_there : (text : List ℕ) (fields : List (List ℕ)) (from i : ℕ) → i < length text → get_or text i 0 ≡ 44 → Reads text fields from i → Reads text (fields ++ at_hand text from i ∷ []) (i + 1) (i + 1)
+comma_there : (text : List ℕ) (fields : List (List ℕ)) (from i : ℕ) → i < length text → get_or text i 0 ≡ 44
+    → Reads text fields from i → Reads text (fields ++ at_hand text from i ∷ []) (i + 1) (i + 1)
 comma_there text fields from i l e h =
     here text fields from i 44 l e h ∙ (on_comma fields (at_hand text from i) (drop (i + 1) text)
-    ∙ ap (λ (field : List ℕ). read_on (fields ++ at_hand text from i ∷ []) field (drop (i + 1) text)) (sym (none_at text (i + 1))))
+    ∙ ap (λ (field : List ℕ). read_on (fields ++ at_hand text from i ∷ []) field (drop (i + 1) text))
+    (sym (none_at text (i + 1))))
 
-pub after_comma : (text : List ℕ) (fields now : List (List ℕ)) (from i : ℕ) → i < length text → get_or text i 0 ≡ 44 → now ≡ fields ++ at_hand text from i ∷ [] → Reads text fields from i → Reads text now (i + 1) (i + 1)
-after_comma text fields now from i l e pushed h = subst (λ (z : List (List ℕ)). Reads text z (i + 1) (i + 1)) (sym pushed) (comma_there text fields from i l e h)
+pub after_comma : (text : List ℕ) (fields now : List (List ℕ)) (from i : ℕ) → i < length text → get_or text i 0 ≡ 44
+    → now ≡ fields ++ at_hand text from i ∷ [] → Reads text fields from i → Reads text now (i + 1) (i + 1)
+after_comma text fields now from i l e pushed h =
+    subst (λ (z : List (List ℕ)). Reads text z (i + 1) (i + 1)) (sym pushed) (comma_there text fields from i l e h)
 
-pub after_other : (text : List ℕ) (fields : List (List ℕ)) (from i : ℕ) → from ≤ i → i < length text → IsPlainText text → get_or text i 0 ≢ 44 → get_or text i 0 ≢ 10 → Reads text fields from i → Reads text fields from (i + 1)
+pub after_other : (text : List ℕ) (fields : List (List ℕ)) (from i : ℕ) → from ≤ i → i < length text → IsPlainText text
+    → get_or text i 0 ≢ 44 → get_or text i 0 ≢ 10 → Reads text fields from i → Reads text fields from (i + 1)
 after_other text fields from i low l plain comma line h =
-    here text fields from i (get_or text i 0) l refl h ∙ (on_other fields (at_hand text from i) (get_or text i 0) (drop (i + 1) text) (plain i l).0 (plain i l).1 (ne_eqb (get_or text i 0) 44 comma) (ne_eqb (get_or text i 0) 10 line)
+    here text fields from i (get_or text i 0) l refl h
+    ∙ (on_other fields (at_hand text from i) (get_or text i 0) (drop (i + 1) text) (plain i l).0 (plain i l).1
+    (ne_eqb (get_or text i 0) 44 comma) (ne_eqb (get_or text i 0) 10 line)
     ∙ ap (λ (field : List ℕ). read_on fields field (drop (i + 1) text)) (sym (field_more text from i low l)))
 
-pub after_blank : (text : List ℕ) (fields : List (List ℕ)) (from i : ℕ) → i < length text → get_or text i 0 ≡ 10 → from ≡ i → length fields ≡ 0 → Reads text fields from i → Reads text fields (i + 1) (i + 1)
+pub after_blank : (text : List ℕ) (fields : List (List ℕ)) (from i : ℕ) → i < length text → get_or text i 0 ≡ 10
+    → from ≡ i → length fields ≡ 0 → Reads text fields from i → Reads text fields (i + 1) (i + 1)
 after_blank text fields from i l e at_from none h =
     here text fields from i 10 l e h
     ∙ (ap (λ (k : ℕ). read_on fields (at_hand text k i) (10 ∷ drop (i + 1) text)) at_from
@@ -118,33 +138,43 @@ left_of text i = take (length text - i) (drop i text)
 left_is : (text : List ℕ) (i : ℕ) → drop i text ≡ left_of text i
 left_is text i = sym (take_all (length text - i) (drop i text) (omega (arith, length-drop i text)))
 
-pub after_line : (text : List ℕ) (fields now : List (List ℕ)) (from i : ℕ) → from ≤ i → i < length text → get_or text i 0 ≡ 10 → (from ≡ i → length fields ≡ 0 → ⊥) → now ≡ fields ++ at_hand text from i ∷ [] → Reads text fields from i
+pub after_line : (text : List ℕ) (fields now : List (List ℕ)) (from i : ℕ) → from ≤ i → i < length text
+    → get_or text i 0 ≡ 10 → (from ≡ i → length fields ≡ 0 → ⊥) → now ≡ fields ++ at_hand text from i ∷ []
+    → Reads text fields from i
     → next_record default_config st.StartRecord [] [] text ≡ Some (now, st.StartRecord, left_of text (i + 1))
 after_line text fields now from i low l e some pushed h =
     here text fields from i 10 l e h
-    ∙ (on_line fields (at_hand text from i) (drop (i + 1) text) (λ none. some (some_at text from i low (omega (arith, l)) none))
+    ∙ (on_line fields (at_hand text from i) (drop (i + 1) text)
+    (λ none. some (some_at text from i low (omega (arith, l)) none))
     ∙ (ap (λ (z : List (List ℕ)). Some (z, st.StartRecord, drop (i + 1) text)) (sym pushed)
     ∙ ap (λ (z : List ℕ). Some (now, st.StartRecord, z)) (left_is text (i + 1))))
 
 -- at the end of the text
-at_end : (text : List ℕ) (fields : List (List ℕ)) (from i : ℕ) → i ≡ length text → Reads text fields from i → next_record default_config st.StartRecord [] [] text ≡ read_on fields (at_hand text from i) []
+at_end : (text : List ℕ) (fields : List (List ℕ)) (from i : ℕ) → i ≡ length text → Reads text fields from i
+    → next_record default_config st.StartRecord [] [] text ≡ read_on fields (at_hand text from i) []
 at_end text fields from i e h = h ∙ ap (read_on fields (at_hand text from i)) (drop_all i text (omega (arith, e)))
 
-pub ends_record : (text : List ℕ) (fields now : List (List ℕ)) (from i : ℕ) → from ≤ i → i ≡ length text → (from ≡ length text → length fields ≡ 0 → ⊥) → now ≡ fields ++ left_of text from ∷ [] → Reads text fields from i
+pub ends_record : (text : List ℕ) (fields now : List (List ℕ)) (from i : ℕ) → from ≤ i → i ≡ length text
+    → (from ≡ length text → length fields ≡ 0 → ⊥) → now ≡ fields ++ left_of text from ∷ [] → Reads text fields from i
     → next_record default_config st.StartRecord [] [] text ≡ Some (now, st.StartRecord, left_of text (length text))
 ends_record text fields now from i low e some pushed h =
     at_end text fields from i e h
     ∙ (on_end fields (at_hand text from i) (λ none. some (some_at text from i low (omega (arith, e)) none ∙ e))
     ∙ (ap (λ (z : ℕ). Some (fields ++ at_hand text from z ∷ [], st.StartRecord, [])) e
     ∙ (ap (λ (z : List (List ℕ)). Some (z, st.StartRecord, [])) (sym pushed)
-    ∙ ap (λ (z : List ℕ). Some (now, st.StartRecord, z)) (sym (drop_all (length text) text (omega arith)) ∙ left_is text (length text)))))
+    ∙ ap (λ (z : List ℕ). Some (now, st.StartRecord, z))
+    (sym (drop_all (length text) text (omega arith)) ∙ left_is text (length text)))))
 
-pub has_none : (text : List ℕ) (fields : List (List ℕ)) (from i : ℕ) → i ≡ length text → from ≡ length text → length fields ≡ 0 → Reads text fields from i → next_record default_config st.StartRecord [] [] text ≡ None
+pub has_none : (text : List ℕ) (fields : List (List ℕ)) (from i : ℕ) → i ≡ length text → from ≡ length text
+    → length fields ≡ 0 → Reads text fields from i → next_record default_config st.StartRecord [] [] text ≡ None
 has_none text fields from i e at_from none h =
-    at_end text fields from i e h ∙ on_nothing fields (at_hand text from i) (ap length (ap (λ (k : ℕ). at_hand text k i) (at_from ∙ sym e) ∙ none_at text i)) none
+    at_end text fields from i e h
+    ∙ on_nothing fields (at_hand text from i)
+    (ap length (ap (λ (k : ℕ). at_hand text k i) (at_from ∙ sym e) ∙ none_at text i)) none
 
 -- one field more
-pub pushed : (old now : List (Bor (List ℕ))) (x : Bor (List ℕ)) → now ≡ old ++ x ∷ [] → texts_of now ≡ texts_of old ++ x.now ∷ []
+pub pushed : (old now : List (Bor (List ℕ))) (x : Bor (List ℕ)) → now ≡ old ++ x ∷ []
+    → texts_of now ≡ texts_of old ++ x.now ∷ []
 pushed old now x e = ap texts_of e ∙ map-append (λ (f : Bor (List ℕ)). f.now) old (x ∷ [])
 
 -- as many fields as texts

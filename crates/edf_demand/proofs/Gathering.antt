@@ -11,15 +11,29 @@ use Rattle.window_terms.specs.Asked.{asked_by}
 use Rattle.window_terms.proofs.Written.{asked_of, written}
 
 -- the term of a task, and a term with a task more
-pub alone : (term : Term) (task : Task) (t : ℕ) → term.period ≡ task.period → term.slack ≡ task.period - (task.deadline - task.jitter) → term.work ≡ task.work → asked_of term t ≡ demand_of (sporadic_task task) t
-alone term task t period slack work = omega (arith, demand_closed (sporadic_task task) (constrained task) t, ap (λ (z : ℕ). ((t + z) / term.period) * term.work) slack, ap (λ (z : ℕ). ((t + (task.period - (task.deadline - task.jitter))) / z) * term.work) period, ap (λ (z : ℕ). ((t + (task.period - (task.deadline - task.jitter))) / task.period) * z) work)
+pub alone : (term : Term) (task : Task) (t : ℕ) → term.period ≡ task.period
+    → term.slack ≡ task.period - (task.deadline - task.jitter) → term.work ≡ task.work
+    → asked_of term t ≡ demand_of (sporadic_task task) t
+alone term task t period slack work =
+    omega (
+      arith,
+      demand_closed (sporadic_task task) (constrained task) t,
+      ap (λ (z : ℕ). ((t + z) / term.period) * term.work) slack,
+      ap (λ (z : ℕ). ((t + (task.period - (task.deadline - task.jitter))) / z) * term.work) period,
+      ap (λ (z : ℕ). ((t + (task.period - (task.deadline - task.jitter))) / task.period) * z) work,
+    )
 
-pub alone_behind : (terms : List Term) (i : ℕ) (term : Term) (task : Task) (t : ℕ) → i < length terms → term.period ≡ task.period → term.slack ≡ task.period - (task.deadline - task.jitter) → term.work ≡ task.work → asked_by (take (i + 1) (set terms i term)) t ≡ asked_by (take i terms) t + demand_of (sporadic_task task) t
-alone_behind terms i term task t l period slack work = omega (arith, written terms i term t l, alone term task t period slack work)
+pub alone_behind : (terms : List Term) (i : ℕ) (term : Term) (task : Task) (t : ℕ) → i < length terms
+    → term.period ≡ task.period → term.slack ≡ task.period - (task.deadline - task.jitter) → term.work ≡ task.work
+    → asked_by (take (i + 1) (set terms i term)) t ≡ asked_by (take i terms) t + demand_of (sporadic_task task) t
+alone_behind terms i term task t l period slack work =
+    omega (arith, written terms i term t l, alone term task t period slack work)
 
 -- the task is one more of the last term's run
-pub longer_by : (terms : List Term) (n : ℕ) (last longer : Term) (task : Task) (t : ℕ) → 1 ≤ n → n ≤ length terms → last ≡ get_or terms (n - 1) last
-    → (longer.period ≡ last.period) × (longer.slack ≡ last.slack) × (longer.work ≡ last.work + task.work) × (last.period ≡ task.period) × (last.slack ≡ task.period - (task.deadline - task.jitter))
+pub longer_by : (terms : List Term) (n : ℕ) (last longer : Term) (task : Task) (t : ℕ) → 1 ≤ n → n ≤ length terms
+    → last ≡ get_or terms (n - 1) last
+    → (longer.period ≡ last.period) × (longer.slack ≡ last.slack) × (longer.work ≡ last.work + task.work)
+    × (last.period ≡ task.period) × (last.slack ≡ task.period - (task.deadline - task.jitter))
     → asked_by (take n (set terms (n - 1) longer)) t ≡ asked_by (take n terms) t + demand_of (sporadic_task task) t
 longer_by terms n last longer task t some l is (period, slack, work, of_task, room) =
     let e : n - 1 + 1 ≡ n = omega arith in
@@ -42,5 +56,9 @@ longer_by terms n last longer task t some l is (period, slack, work, of_task, ro
       more,
     )
   where
-    shape : (term : Term) (task : Task) (t : ℕ) → term.period ≡ task.period → term.slack ≡ task.period - (task.deadline - task.jitter) → asked_of term t ≡ ((t + (task.period - (task.deadline - task.jitter))) / task.period) * term.work
-    shape term task t p s = ap (λ (z : ℕ). ((t + z) / term.period) * term.work) s ∙ ap (λ (z : ℕ). ((t + (task.period - (task.deadline - task.jitter))) / z) * term.work) p
+    shape : (term : Term) (task : Task) (t : ℕ) → term.period ≡ task.period
+        → term.slack ≡ task.period - (task.deadline - task.jitter)
+        → asked_of term t ≡ ((t + (task.period - (task.deadline - task.jitter))) / task.period) * term.work
+    shape term task t p s =
+        ap (λ (z : ℕ). ((t + z) / term.period) * term.work) s
+        ∙ ap (λ (z : ℕ). ((t + (task.period - (task.deadline - task.jitter))) / z) * term.work) p

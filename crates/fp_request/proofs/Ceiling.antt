@@ -16,8 +16,10 @@ div_ceil-is t p l =
 pub arrivals-is : (t p j : ℕ) → 1 ≤ p → (t + j + (p - 1)) / p ≡ t / p + div_ceil (t % p + j) p
 arrivals-is t p j l =
     let e : t + j + (p - 1) ≡ (t % p + j + (p - 1)) + (t / p) * p = omega arith in
-    omega (arith, ap (λ (z : ℕ). z / p) e, add-mul-div_right (t % p + j + (p - 1)) (t / p) l, div_ceil-is (t % p + j) p l)
+    omega
+    (arith, ap (λ (z : ℕ). z / p) e, add-mul-div_right (t % p + j + (p - 1)) (t / p) l, div_ceil-is (t % p + j) p l)
 
 -- so a task's request is that quotient times its work
-pub request_of-is : (task : SporadicTask) (t q : ℕ) → q ≡ (t + task.jitter + (task.period - 1)) / task.period → request_of task t ≡ q * task.work
+pub request_of-is : (task : SporadicTask) (t q : ℕ) → q ≡ (t + task.jitter + (task.period - 1)) / task.period
+    → request_of task t ≡ q * task.work
 request_of-is task t q e = ap (λ (z : ℕ). z * task.work) (sym e)

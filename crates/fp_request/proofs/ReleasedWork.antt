@@ -22,7 +22,9 @@ record Asks (jobs : List Job) (a b i j : ℕ) : Type 0 where
 
 asked : (jobs : List Job) (a b i j : ℕ) → asks jobs a b i j ≡ true → Asks jobs a b i j
 asked jobs a b i j h =
-    let p : (eqb (job_at jobs j).task i ≡ true) × ((leb a (job_at jobs j).release && ltb (job_at jobs j).release b) ≡ true) = and_parts _ _ h in
+    let p : (eqb (job_at jobs j).task i ≡ true)
+    × ((leb a (job_at jobs j).release && ltb (job_at jobs j).release b) ≡ true)
+    = and_parts _ _ h in
     let q : (leb a (job_at jobs j).release ≡ true) × (ltb (job_at jobs j).release b ≡ true) = and_parts _ _ p.1 in
     record { mine = eqb-true _ _ p.0; after = leb-true _ _ q.0; before = ltb-true _ _ q.1 }
 
@@ -31,21 +33,37 @@ periods_cover : (t p : ℕ) → 1 ≤ p → t ≤ ((t + (p - 1)) / p) * p
 periods_cover t p l = omega arith
 
 -- one task's jobs that are released in t slots from a on ask for no more than its request
-pub task_request : (tasks : List SporadicTask) (jobs : List Job) → AreConstrained tasks → LegalRelease tasks jobs → (a t i : ℕ) → i < length tasks
-    → sum_below (λ j. cond (asks jobs a (a + t) i j) (job_at jobs j).work 0) (length jobs) ≤ request_of (task_at tasks i) t
+pub task_request : (tasks : List SporadicTask) (jobs : List Job) → AreConstrained tasks → LegalRelease tasks jobs
+    → (a t i : ℕ) → i < length tasks
+    → sum_below (λ j. cond (asks jobs a (a + t) i j) (job_at jobs j).work 0) (length jobs)
+    ≤ request_of (task_at tasks i) t
 task_request tasks jobs fits legal a t i l =
     let f : IsConstrained (task_at tasks i) = fits i l in
     let late : ℕ = (task_at tasks i).jitter in
-    let far : (x y : ℕ) → x < y → y < length jobs → asks jobs a (a + t) i x ≡ true → asks jobs a (a + t) i y ≡ true → arrival jobs late x + (task_at tasks i).period ≤ arrival jobs late y =
-    λ x y m n p q. arrivals_apart tasks jobs legal i x y m n (asked jobs a (a + t) i x p).mine (asked jobs a (a + t) i y q).mine in
-    let works : (j : ℕ) → j < length jobs → asks jobs a (a + t) i j ≡ true → (job_at jobs j).work ≤ (task_at tasks i).work = λ j m q. subst (λ (z : ℕ). (job_at jobs j).work ≤ (task_at tasks z).work) (asked jobs a (a + t) i j q).mine (legal.in_work j m) in
-    release_window (arrival jobs late) (λ j. (job_at jobs j).work) (asks jobs a (a + t) i) (task_at tasks i).period (task_at tasks i).work a (length jobs) ((t + late + ((task_at tasks i).period - 1)) / (task_at tasks i).period) (a + t + late) far
-    (λ j m q. let early : (job_at jobs j).early ≤ late = early_within tasks jobs legal i j m (asked jobs a (a + t) i j q).mine in (works j m q, omega (arith, early, (asked jobs a (a + t) i j q).after), omega (arith, (asked jobs a (a + t) i j q).before)))
+    let far : (x y : ℕ) → x < y → y < length jobs → asks jobs a (a + t) i x ≡ true → asks jobs a (a + t) i y ≡ true
+    → arrival jobs late x + (task_at tasks i).period ≤ arrival jobs late y
+    =
+    λ x y m n p q. arrivals_apart tasks jobs legal i x y m n (asked jobs a (a + t) i x p).mine
+    (asked jobs a (a + t) i y q).mine in
+    let works : (j : ℕ) → j < length jobs → asks jobs a (a + t) i j ≡ true
+    → (job_at jobs j).work ≤ (task_at tasks i).work
+    = λ j m q. subst (λ (z : ℕ). (job_at jobs j).work ≤ (task_at tasks z).work) (asked jobs a (a + t) i j q).mine
+    (legal.in_work j m) in
+    release_window (arrival jobs late) (λ j. (job_at jobs j).work) (asks jobs a (a + t) i) (task_at tasks i).period
+    (task_at tasks i).work a (length jobs) ((t + late + ((task_at tasks i).period - 1)) / (task_at tasks i).period)
+    (a + t + late) far
+    (λ j m q. let early : (job_at jobs j).early ≤ late
+    = early_within tasks jobs legal i j m (asked jobs a (a + t) i j q).mine in (
+      works j m q,
+      omega (arith, early, (asked jobs a (a + t) i j q).after),
+      omega (arith, (asked jobs a (a + t) i j q).before),
+    ))
     (omega (arith, periods_cover (t + late) (task_at tasks i).period (omega arith)))
 
 -- the jobs of tasks above i that are released in t slots from a on
 abbrev pub urgent : (ℕ → ℕ → Bool) → List Job → ℕ → ℕ → ℕ → ℕ → Bool
-urgent above jobs i a b j = above (job_at jobs j).task i && (leb a (job_at jobs j).release && ltb (job_at jobs j).release b)
+urgent above jobs i a b j =
+    above (job_at jobs j).task i && (leb a (job_at jobs j).release && ltb (job_at jobs j).release b)
 
 by_rank_same : (x u v : Bool) (w : ℕ) → cond x (cond (u && v) w 0) 0 ≡ cond u (cond (x && v) w 0) 0
 by_rank_same true true v w = refl
@@ -53,7 +71,8 @@ by_rank_same true false v w = refl
 by_rank_same false true v w = refl
 by_rank_same false false v w = refl
 
-by_rank : (above : ℕ → ℕ → Bool) (i k z : ℕ) (v : Bool) (w : ℕ) → cond (eqb z k) (cond (above z i && v) w 0) 0 ≡ cond (above k i) (cond (eqb z k && v) w 0) 0
+by_rank : (above : ℕ → ℕ → Bool) (i k z : ℕ) (v : Bool) (w : ℕ)
+    → cond (eqb z k) (cond (above z i && v) w 0) 0 ≡ cond (above k i) (cond (eqb z k && v) w 0) 0
 by_rank above i k z v w = elim (cases_eq z k) [
   | inl e ↦ ap (λ (y : ℕ). cond (eqb z k) (cond (above y i && v) w 0) 0) e ∙ by_rank_same (eqb z k) (above k i) v w
   | inr ne ↦ by_rank_not (eqb z k) (above z i) (above k i) v w (ne_eqb z k ne)
@@ -66,17 +85,27 @@ cond-sum_below : (u : Bool) (f : ℕ → ℕ) (n b : ℕ) → sum_below f n ≤ 
 cond-sum_below true f n b l = l
 cond-sum_below false f n b l = omega (arith, sum_below-none n)
 
-pub request_bound : (above : ℕ → ℕ → Bool) (tasks : List SporadicTask) (jobs : List Job) → AreConstrained tasks → LegalRelease tasks jobs → (a t i : ℕ)
-    → sum_below (λ j. cond (urgent above jobs i a (a + t) j) (job_at jobs j).work 0) (length jobs) ≤ sum_below (λ k. cond (above k i) (request_of (task_at tasks k) t) 0) (length tasks)
+pub request_bound : (above : ℕ → ℕ → Bool) (tasks : List SporadicTask) (jobs : List Job) → AreConstrained tasks
+    → LegalRelease tasks jobs → (a t i : ℕ)
+    → sum_below (λ j. cond (urgent above jobs i a (a + t) j) (job_at jobs j).work 0) (length jobs)
+    ≤ sum_below (λ k. cond (above k i) (request_of (task_at tasks k) t) 0) (length tasks)
 request_bound above tasks jobs fits legal a t i =
     omega (
       arith,
-      by_task (λ j. (job_at jobs j).task) (λ j. cond (urgent above jobs i a (a + t) j) (job_at jobs j).work 0) (length jobs) (length tasks) legal.named,
-      sum_below-le (λ k. sum_below (λ j. cond (eqb (job_at jobs j).task k) (cond (urgent above jobs i a (a + t) j) (job_at jobs j).work 0) 0) (length jobs)) (λ k. cond (above k i) (request_of (task_at tasks k) t) 0) (length tasks)
+      by_task (λ j. (job_at jobs j).task) (λ j. cond (urgent above jobs i a (a + t) j) (job_at jobs j).work 0)
+          (length jobs) (length tasks) legal.named,
+      sum_below-le (λ k. sum_below
+          (λ j. cond (eqb (job_at jobs j).task k) (cond (urgent above jobs i a (a + t) j) (job_at jobs j).work 0) 0)
+          (length jobs)) (λ k. cond (above k i) (request_of (task_at tasks k) t) 0) (length tasks)
           (λ k l. omega (
             arith,
-            sum_below-same (λ j. cond (eqb (job_at jobs j).task k) (cond (urgent above jobs i a (a + t) j) (job_at jobs j).work 0) 0) (λ j. cond (above k i) (cond (asks jobs a (a + t) k j) (job_at jobs j).work 0) 0) (length jobs) (λ j m. by_rank above i k (job_at jobs j).task (leb a (job_at jobs j).release && ltb (job_at jobs j).release (a + t)) (job_at jobs j).work),
-            cond-sum_below (above k i) (λ j. cond (asks jobs a (a + t) k j) (job_at jobs j).work 0) (length jobs) (request_of (task_at tasks k) t) (task_request tasks jobs fits legal a t k l),
+            sum_below-same (λ j. cond (eqb (job_at jobs j).task k)
+                (cond (urgent above jobs i a (a + t) j) (job_at jobs j).work 0) 0)
+                (λ j. cond (above k i) (cond (asks jobs a (a + t) k j) (job_at jobs j).work 0) 0) (length jobs)
+                (λ j m. by_rank above i k (job_at jobs j).task
+                (leb a (job_at jobs j).release && ltb (job_at jobs j).release (a + t)) (job_at jobs j).work),
+            cond-sum_below (above k i) (λ j. cond (asks jobs a (a + t) k j) (job_at jobs j).work 0) (length jobs)
+                (request_of (task_at tasks k) t) (task_request tasks jobs fits legal a t k l),
           )),
     )
 

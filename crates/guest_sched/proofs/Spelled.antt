@@ -16,22 +16,31 @@ pub record Spells (pattern : ℕ → Bool) (m : ℕ) (windows : List Window) : T
 
 pub nothing_yet : (pattern : ℕ → Bool) → Spells pattern 0 []
 nothing_yet pattern = record {
-  fit = record { some = λ i m. absurd (omega arith); in_slots = λ i m. absurd (omega arith); in_turn = λ i m. absurd (omega arith) };
+  fit =
+      record {
+        some = λ i m. absurd (omega arith);
+        in_slots = λ i m. absurd (omega arith);
+        in_turn = λ i m. absurd (omega arith);
+      };
   same = λ x m. absurd (omega arith);
 }
 
 -- no slots up to u
-pub then_none : (pattern : ℕ → Bool) (m u : ℕ) (windows : List Window) → Spells pattern m windows → m ≤ u → ((x : ℕ) → m ≤ x → x < u → pattern x ≡ false) → Spells pattern u windows
+pub then_none : (pattern : ℕ → Bool) (m u : ℕ) (windows : List Window) → Spells pattern m windows → m ≤ u
+    → ((x : ℕ) → m ≤ x → x < u → pattern x ≡ false) → Spells pattern u windows
 then_none pattern m u windows h l none = record {
   fit = record { some = h.fit.some; in_slots = λ i q. omega (arith, h.fit.in_slots i q); in_turn = h.fit.in_turn };
   same = λ x lx. elim (cases_lt x m) [
     | inl before ↦ h.same x before
-    | inr after ↦ none_given windows m (length windows) m x h.fit h.fit.in_slots after (λ q. absurd (omega arith)) ∙ sym (none x after lx)
+    | inr after ↦
+        none_given windows m (length windows) m x h.fit h.fit.in_slots after (λ q. absurd (omega arith))
+        ∙ sym (none x after lx)
   ];
 }
 
 -- all slots up to u
-pub then_all : (pattern : ℕ → Bool) (m u : ℕ) (old new : List Window) → Spells pattern m old → AddsWindow old m u new → ((x : ℕ) → m ≤ x → x < u → pattern x ≡ true) → Spells pattern u new
+pub then_all : (pattern : ℕ → Bool) (m u : ℕ) (old new : List Window) → Spells pattern m old → AddsWindow old m u new
+    → ((x : ℕ) → m ≤ x → x < u → pattern x ≡ true) → Spells pattern u new
 then_all pattern m u old new h adds all = record {
   fit = adds.windows;
   same = λ x lx. elim (cases_lt x m) [
@@ -41,18 +50,24 @@ then_all pattern m u old new h adds all = record {
 }
 
 -- at the end the list of slots follows the pattern
-pub spelled_follows : (pattern : ℕ → Bool) (n : ℕ) (windows : List Window) → Spells pattern n windows → Follows pattern (slots_of windows n)
+pub spelled_follows : (pattern : ℕ → Bool) (n : ℕ) (windows : List Window) → Spells pattern n windows
+    → Follows pattern (slots_of windows n)
 spelled_follows pattern n windows h x l =
     let lx : x < n = omega (arith, slots-long windows n) in
     slot_at windows n x lx ∙ h.same x lx
 
-pub spelled_same : (given : List Bool) (n : ℕ) (windows : List Window) → n ≡ length given → Spells (λ x. get_or given x false) n windows → slots_of windows n ≡ given
-spelled_same given n windows e h = ext_get_or false (slots_of windows n) given (slots-long windows n ∙ e) (λ i l. spelled_follows (λ x. get_or given x false) n windows h i l)
+pub spelled_same : (given : List Bool) (n : ℕ) (windows : List Window) → n ≡ length given
+    → Spells (λ x. get_or given x false) n windows → slots_of windows n ≡ given
+spelled_same given n windows e h =
+    ext_get_or false (slots_of windows n) given (slots-long windows n ∙ e)
+    (λ i l. spelled_follows (λ x. get_or given x false) n windows h i l)
 
 -- a list that follows the pattern is the list of the windows
-pub only_list : (pattern : ℕ → Bool) (n : ℕ) (windows : List Window) (given : List Bool) → Follows pattern (slots_of windows n) → Follows pattern given → length given ≡ n → slots_of windows n ≡ given
+pub only_list : (pattern : ℕ → Bool) (n : ℕ) (windows : List Window) (given : List Bool)
+    → Follows pattern (slots_of windows n) → Follows pattern given → length given ≡ n → slots_of windows n ≡ given
 only_list pattern n windows given made follows long =
-    ext_get_or false (slots_of windows n) given (slots-long windows n ∙ sym long) (λ i l. made i l ∙ sym (follows i (omega (arith, slots-long windows n))))
+    ext_get_or false (slots_of windows n) given (slots-long windows n ∙ sym long)
+    (λ i l. made i l ∙ sym (follows i (omega (arith, slots-long windows n))))
 
 -- the next window of the pattern, and none more
 pub one_next_more : (pattern : ℕ → Bool) (from n : ℕ) (window : Window) (windows : List Window)

@@ -10,7 +10,8 @@ take_both bytes at n =
     rw (take-take at (at + n) bytes (omega arith), drop-take at n bytes) at e
 
 -- bytes that grow twice grow by both pieces
-appends_more : (a b c : Option (List ℕ)) (xs ys zs : List ℕ) → Appends a b xs → Appends b c ys → xs ++ ys ≡ zs → Appends a c zs
+appends_more : (a b c : Option (List ℕ)) (xs ys zs : List ℕ) → Appends a b xs → Appends b c ys → xs ++ ys ≡ zs
+    → Appends a c zs
 appends_more None b c xs ys zs first more e = tt
 appends_more (Some start) None c xs ys zs first more e = absurd first
 appends_more (Some start) (Some bs) None xs ys zs first more e = absurd more
@@ -21,4 +22,5 @@ appends_more (Some start) (Some bs) (Some cs) xs ys zs first more e =
 pub appends_at : (a b c : Option (List ℕ)) (bytes : List ℕ) (at n : ℕ) → Appends a b (take at bytes) →
     Appends b c (take n (take (length bytes - at) (drop at bytes))) → Appends a c (take (at + n) bytes)
 appends_at a b c bytes at n first more =
-    appends_more a b c (take at bytes) (take n (drop at bytes)) (take (at + n) bytes) first (rw take_rest at more) (take_both bytes at n)
+    appends_more a b c (take at bytes) (take n (drop at bytes)) (take (at + n) bytes) first (rw take_rest at more)
+    (take_both bytes at n)

@@ -4,4 +4,5 @@ use Rattle.outside.specs.Files.{Files, Told}
 
 -- where the files are told, the named one is these bytes and then what is left
 abbrev pub HasRead : Option Files → List ℕ → List ℕ → Option (List ℕ) → Type 0
-HasRead files name bytes rest = Told files name (λ file. (left : List ℕ) × (rest ≡ Some left) × (file ≡ Some (bytes ++ left)))
+HasRead files name bytes rest =
+    Told files name (λ file. (left : List ℕ) × (rest ≡ Some left) × (file ≡ Some (bytes ++ left)))

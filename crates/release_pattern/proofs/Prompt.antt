@@ -10,7 +10,8 @@ use Rattle.release_pattern.specs.Multiples.{at_multiples, ArePrompt, prompt_task
 use Rattle.release_pattern.proofs.FewJobs.{synchronous-few}
 
 -- where no task has jitter, both are one list
-pub multiples_synchronous : (tasks : List SporadicTask) → ArePrompt tasks → (n : ℕ) → at_multiples tasks n ≡ synchronous tasks 0 n
+pub multiples_synchronous : (tasks : List SporadicTask) → ArePrompt tasks → (n : ℕ)
+    → at_multiples tasks n ≡ synchronous tasks 0 n
 multiples_synchronous tasks prompt n = staggered_at_zero tasks [] (record { prompt = prompt; at_zero = λ i l. refl }) n
 
 -- the task without jitter at a place
@@ -22,27 +23,41 @@ prompt_at (t ∷ tasks) (suc i) = prompt_at tasks i
 pub are_prompt : (tasks : List SporadicTask) → ArePrompt (prompt_tasks tasks)
 are_prompt tasks i l = ap (λ (t : SporadicTask). t.jitter) (prompt_at tasks i)
 
-same_moment : (tasks : List SporadicTask) (starts : List ℕ) (x i : ℕ) (one two : List Job) → one ≡ two → staggered_at (prompt_tasks tasks) starts x i one ≡ staggered_at tasks starts x i two
+same_moment : (tasks : List SporadicTask) (starts : List ℕ) (x i : ℕ) (one two : List Job) → one ≡ two
+    → staggered_at (prompt_tasks tasks) starts x i one ≡ staggered_at tasks starts x i two
 unfolding staggered_at
 same_moment tasks starts x zero one two e = e
 same_moment tasks starts x (suc i) one two e =
-    ap (λ (t : SporadicTask). push_if (staggered_at (prompt_tasks tasks) starts x i one) (begins_now t (start_at starts i) x) (plain_job i x t.work)) (prompt_at tasks i)
-    ∙ ap (λ (js : List Job). push_if js (begins_now (task_at tasks i) (start_at starts i) x) (plain_job i x (task_at tasks i).work)) (same_moment tasks starts x i one two e)
+    ap (λ (t : SporadicTask). push_if (staggered_at (prompt_tasks tasks) starts x i one)
+    (begins_now t (start_at starts i) x) (plain_job i x t.work)) (prompt_at tasks i)
+    ∙ ap (λ (js : List Job). push_if js (begins_now (task_at tasks i) (start_at starts i) x)
+    (plain_job i x (task_at tasks i).work)) (same_moment tasks starts x i one two e)
 
-same_staggered : (tasks : List SporadicTask) (starts : List ℕ) (n : ℕ) → staggered (prompt_tasks tasks) starts n ≡ staggered tasks starts n
+same_staggered : (tasks : List SporadicTask) (starts : List ℕ) (n : ℕ)
+    → staggered (prompt_tasks tasks) starts n ≡ staggered tasks starts n
 unfolding staggered
 same_staggered tasks starts zero = refl
 same_staggered tasks starts (suc n) =
-    ap (λ (k : ℕ). staggered_at (prompt_tasks tasks) starts n k (staggered (prompt_tasks tasks) starts n)) (length-map tasks prompt_task)
+    ap (λ (k : ℕ). staggered_at (prompt_tasks tasks) starts n k (staggered (prompt_tasks tasks) starts n))
+    (length-map tasks prompt_task)
     ∙ same_moment tasks starts n (length tasks) _ _ (same_staggered tasks starts n)
 
 -- so they are the synchronous release of the tasks without jitter
-pub prompt_synchronous : (tasks : List SporadicTask) (n : ℕ) → synchronous (prompt_tasks tasks) 0 n ≡ at_multiples tasks n
-prompt_synchronous tasks n = sym (multiples_synchronous (prompt_tasks tasks) (are_prompt tasks) n) ∙ same_staggered tasks [] n
+pub prompt_synchronous : (tasks : List SporadicTask) (n : ℕ)
+    → synchronous (prompt_tasks tasks) 0 n ≡ at_multiples tasks n
+prompt_synchronous tasks n =
+    sym (multiples_synchronous (prompt_tasks tasks) (are_prompt tasks) n) ∙ same_staggered tasks [] n
 
 -- at most one job of each task a slot
 pub multiples_few : (tasks : List SporadicTask) (n : ℕ) → length (at_multiples tasks n) ≤ n * length tasks
-multiples_few tasks n = omega (arith, synchronous-few (prompt_tasks tasks) 0 n, ap (λ (js : List Job). length js) (prompt_synchronous tasks n), ap (λ (k : ℕ). n * k) (length-map tasks prompt_task))
+multiples_few tasks n =
+    omega (
+      arith,
+      synchronous-few (prompt_tasks tasks) 0 n,
+      ap (λ (js : List Job). length js) (prompt_synchronous tasks n),
+      ap (λ (k : ℕ). n * k) (length-map tasks prompt_task),
+    )
 
-pub multiples_legal : (tasks : List SporadicTask) → AreConstrained tasks → (n : ℕ) → LegalRelease tasks (at_multiples tasks n)
+pub multiples_legal : (tasks : List SporadicTask) → AreConstrained tasks → (n : ℕ)
+    → LegalRelease tasks (at_multiples tasks n)
 multiples_legal tasks fits n = legal_staggered tasks fits [] n

@@ -12,5 +12,7 @@ digit d l = grind arith
 pub decimal_digits : (n : ℕ) → n < 2 ^ 128 → list_all is_ascii_digit (decimal n) ≡ true
 decimal_digits n l = decimal_by_steps_wide (λ m ds. list_all is_ascii_digit ds ≡ true)
     (λ d l. ap (λ (b : Bool). b && true) (digit d l))
-    (λ m ds l all. list_all-append is_ascii_digit ds ((48 + m % 10) ∷ []) ∙ (ap (λ (b : Bool). b && list_all is_ascii_digit ((48 + m % 10) ∷ [])) all ∙ ap (λ (b : Bool). true && (b && true)) (digit (m % 10) (omega arith))))
+    (λ m ds l all. list_all-append is_ascii_digit ds ((48 + m % 10) ∷ [])
+    ∙ (ap (λ (b : Bool). b && list_all is_ascii_digit ((48 + m % 10) ∷ [])) all
+    ∙ ap (λ (b : Bool). true && (b && true)) (digit (m % 10) (omega arith))))
     n (omega arith)

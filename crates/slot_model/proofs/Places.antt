@@ -12,48 +12,69 @@ pub length-push_if : {X : Type 0} (xs : List X) (b : Bool) (y : X) → length (p
 length-push_if xs true y = length_push xs y
 length-push_if xs false y = omega arith
 
-pub map-push_if : {X Y : Type 0} (f : X → Y) (xs : List X) (b : Bool) (y : X) → map f (push_if xs b y) ≡ push_if (map f xs) b (f y)
+pub map-push_if : {X Y : Type 0} (f : X → Y) (xs : List X) (b : Bool) (y : X)
+    → map f (push_if xs b y) ≡ push_if (map f xs) b (f y)
 map-push_if f xs true y = map-append f xs (y ∷ [])
 map-push_if f xs false y = refl
 
-pub sum_by-push_if : {X : Type 0} (f : X → ℕ) (xs : List X) (b : Bool) (y : X) → sum_by f (push_if xs b y) ≡ sum_by f xs + cond b (f y) 0
+pub sum_by-push_if : {X : Type 0} (f : X → ℕ) (xs : List X) (b : Bool) (y : X)
+    → sum_by f (push_if xs b y) ≡ sum_by f xs + cond b (f y) 0
 sum_by-push_if f xs true y = sum_by_push f xs y
 sum_by-push_if f xs false y = omega arith
 
-pub push_if-kept : {X : Type 0} (xs : List X) (b : Bool) (y d : X) (i : ℕ) → i < length xs → get_or (push_if xs b y) i d ≡ get_or xs i d
+pub push_if-kept : {X : Type 0} (xs : List X) (b : Bool) (y d : X) (i : ℕ) → i < length xs
+    → get_or (push_if xs b y) i d ≡ get_or xs i d
 push_if-kept xs true y d i l = get_or_append_left xs (y ∷ []) d i l
 push_if-kept xs false y d i l = refl
 
-pub push_if-last : {X : Type 0} (xs : List X) (b : Bool) (y d : X) (i : ℕ) → b ≡ true → length xs ≡ i → get_or (push_if xs b y) i d ≡ y
+pub push_if-last : {X : Type 0} (xs : List X) (b : Bool) (y d : X) (i : ℕ) → b ≡ true → length xs ≡ i
+    → get_or (push_if xs b y) i d ≡ y
 push_if-last xs true y d i e l = get_or_push xs y d i l
 push_if-last xs false y d i e l = absurd (false≢true e)
 
 pub places_where-zero : (passes : ℕ → Bool) → places_where passes 0 ≡ []
 places_where-zero passes = refl
 
-pub places_where-suc : (passes : ℕ → Bool) (n : ℕ) → places_where passes (suc n) ≡ push_if (places_where passes n) (passes n) n
+pub places_where-suc : (passes : ℕ → Bool) (n : ℕ)
+    → places_where passes (suc n) ≡ push_if (places_where passes n) (passes n) n
 places_where-suc passes n = refl
 
 -- they are as many as are counted
 pub length-places_where : (passes : ℕ → Bool) (n : ℕ) → length (places_where passes n) ≡ count_below passes n
 length-places_where passes zero = ap length (places_where-zero passes) ∙ sym (sum_below-zero (λ x. cond (passes x) 1 0))
-length-places_where passes (suc n) = omega (arith, ap length (places_where-suc passes n), length-push_if (places_where passes n) (passes n) n, length-places_where passes n, sum_below-suc (λ x. cond (passes x) 1 0) n)
+length-places_where passes (suc n) =
+    omega (
+      arith,
+      ap length (places_where-suc passes n),
+      length-push_if (places_where passes n) (passes n) n,
+      length-places_where passes n,
+      sum_below-suc (λ x. cond (passes x) 1 0) n,
+    )
 
 -- a number that passes is counted
-pub counted_below : (passes : ℕ → Bool) (q n : ℕ) → q < n → passes q ≡ true → count_below passes q < count_below passes n
+pub counted_below : (passes : ℕ → Bool) (q n : ℕ) → q < n → passes q ≡ true
+    → count_below passes q < count_below passes n
 counted_below passes q zero l e = absurd (omega arith)
 counted_below passes q (suc n) l e = elim (cases_eq q n) [
   | inl same ↦
-      let one : cond {A = ℕ} (passes n) 1 0 ≡ 1 = ap (λ (b : Bool). cond {A = ℕ} b 1 0) (subst (λ (z : ℕ). passes z ≡ true) same e) in
+      let one : cond {A = ℕ} (passes n) 1 0 ≡ 1
+      = ap (λ (b : Bool). cond {A = ℕ} b 1 0) (subst (λ (z : ℕ). passes z ≡ true) same e) in
       omega (arith, ap (count_below passes) same, sum_below-suc (λ x. cond (passes x) 1 0) n, one)
   | inr ne ↦ omega (arith, counted_below passes q n (omega arith) e, sum_below-suc (λ x. cond (passes x) 1 0) n)
 ]
 
 -- a number that passes stands behind those below it that pass
-pub stands_at : (passes : ℕ → Bool) (q n d : ℕ) → q < n → passes q ≡ true → get_or (places_where passes n) (count_below passes q) d ≡ q
+pub stands_at : (passes : ℕ → Bool) (q n d : ℕ) → q < n → passes q ≡ true
+    → get_or (places_where passes n) (count_below passes q) d ≡ q
 stands_at passes q zero d l e = absurd (omega arith)
 stands_at passes q (suc n) d l e =
     ap (λ (ys : List ℕ). get_or ys (count_below passes q) d) (places_where-suc passes n) ∙ elim (cases_eq q n) [
-      | inl same ↦ push_if-last (places_where passes n) (passes n) n d (count_below passes q) (subst (λ (z : ℕ). passes z ≡ true) same e) (length-places_where passes n ∙ ap (count_below passes) (sym same)) ∙ sym same
-      | inr ne ↦ push_if-kept (places_where passes n) (passes n) n d (count_below passes q) (omega (arith, length-places_where passes n, counted_below passes q n (omega arith) e)) ∙ stands_at passes q n d (omega arith) e
+      | inl same ↦
+          push_if-last (places_where passes n) (passes n) n d (count_below passes q)
+          (subst (λ (z : ℕ). passes z ≡ true) same e)
+          (length-places_where passes n ∙ ap (count_below passes) (sym same)) ∙ sym same
+      | inr ne ↦
+          push_if-kept (places_where passes n) (passes n) n d (count_below passes q)
+          (omega (arith, length-places_where passes n, counted_below passes q n (omega arith) e))
+          ∙ stands_at passes q n d (omega arith) e
     ]

@@ -17,7 +17,15 @@ abbrev from_three : List ℕ
 from_three = 3 ∷ 12 ∷ []
 
 three_slots_and_the_end_cover : IsCover one_task (λ t. t) 11 from_three
-three_slots_and_the_end_cover = record { some_point = omega arith; some_slots = omega arith; none_before = refl; rising = rising; steps = steps; past = omega arith }
+three_slots_and_the_end_cover =
+    record {
+      some_point = omega arith;
+      some_slots = omega arith;
+      none_before = refl;
+      rising = rising;
+      steps = steps;
+      past = omega arith;
+    }
   where
     rising : (j : ℕ) → j + 1 < 2 → get_or from_three j 0 < get_or from_three (j + 1) 0
     rising zero l = omega arith
@@ -39,7 +47,15 @@ the_end_counts_what_is_due_before_it : dbf one_task 20 ≡ 6
 the_end_counts_what_is_due_before_it = refl
 
 so_the_same_points_cover_up_to_nineteen : IsCover one_task (λ t. t) 19 (3 ∷ 20 ∷ [])
-so_the_same_points_cover_up_to_nineteen = record { some_point = omega arith; some_slots = omega arith; none_before = refl; rising = rising; steps = steps; past = omega arith }
+so_the_same_points_cover_up_to_nineteen =
+    record {
+      some_point = omega arith;
+      some_slots = omega arith;
+      none_before = refl;
+      rising = rising;
+      steps = steps;
+      past = omega arith;
+    }
   where
     rising : (j : ℕ) → j + 1 < 2 → get_or (3 ∷ 20 ∷ []) j 0 < get_or (3 ∷ 20 ∷ []) (j + 1) 0
     rising zero l = omega arith
@@ -59,16 +75,19 @@ no_point_stands_twice : IsCover one_task (λ t. t) 11 (3 ∷ 3 ∷ 12 ∷ []) �
 no_point_stands_twice cover = let rises : 3 < 3 = cover.rising 0 (omega arith) in omega arith
 
 the_first_point_is_not_past_a_deadline : IsCover one_task (λ t. t) 11 (11 ∷ 12 ∷ []) → ⊥
-the_first_point_is_not_past_a_deadline cover = let due : dbf one_task 10 ≡ 3 = refl in omega (arith, due, cover.none_before)
+the_first_point_is_not_past_a_deadline cover =
+    let due : dbf one_task 10 ≡ 3 = refl in omega (arith, due, cover.none_before)
 
 what_a_cover_shows_holds_at_its_end : CoversShow one_task (λ t. t) 11 → dbf one_task 11 ≤ 11
-what_a_cover_shows_holds_at_its_end shows = shows from_three three_slots_and_the_end_cover 11 (omega arith) (omega arith)
+what_a_cover_shows_holds_at_its_end shows =
+    shows from_three three_slots_and_the_end_cover 11 (omega arith) (omega arith)
 
 no_points_are_no_cover : IsCover one_task (λ t. t) 11 [] → ⊥
 no_points_are_no_cover cover = let some : 1 ≤ 0 = cover.some_point in omega arith
 
 a_later_point_is_not_the_walk_backwards : IsBackward one_task (λ t. t) 11 (4 ∷ 12 ∷ []) → ⊥
-a_later_point_is_not_the_walk_backwards walk = let less : 3 < 3 = walk.least 0 3 (omega arith) (omega arith) in omega arith
+a_later_point_is_not_the_walk_backwards walk =
+    let less : 3 < 3 = walk.least 0 3 (omega arith) (omega arith) in omega arith
 
 -- two tasks over 3 slots in each 10, up to 160
 
@@ -76,7 +95,15 @@ abbrev five_points : List ℕ
 five_points = 35 ∷ 65 ∷ 86 ∷ 137 ∷ 161 ∷ []
 
 five_points_cover : IsCover two_tasks (sbf 10 3) 160 five_points
-five_points_cover = record { some_point = omega arith; some_slots = omega arith; none_before = refl; rising = rising; steps = steps; past = omega arith }
+five_points_cover =
+    record {
+      some_point = omega arith;
+      some_slots = omega arith;
+      none_before = refl;
+      rising = rising;
+      steps = steps;
+      past = omega arith;
+    }
   where
     rising : (j : ℕ) → j + 1 < 5 → get_or five_points j 0 < get_or five_points (j + 1) 0
     rising zero l = omega arith
@@ -98,7 +125,15 @@ abbrev three_points : List ℕ
 three_points = 35 ∷ 65 ∷ 96 ∷ []
 
 three_points_cover : IsCover two_tasks (sbf 10 3) 95 three_points
-three_points_cover = record { some_point = omega arith; some_slots = omega arith; none_before = refl; rising = rising; steps = steps; past = omega arith }
+three_points_cover =
+    record {
+      some_point = omega arith;
+      some_slots = omega arith;
+      none_before = refl;
+      rising = rising;
+      steps = steps;
+      past = omega arith;
+    }
   where
     rising : (j : ℕ) → j + 1 < 3 → get_or three_points j 0 < get_or three_points (j + 1) 0
     rising zero l = omega arith
@@ -114,7 +149,15 @@ with_jitter_they_do_not : IsCover with_jitter (sbf 10 3) 95 three_points → ⊥
 with_jitter_they_do_not cover = let step : 23 ≤ 16 = cover.steps 1 (omega arith) in omega arith
 
 with_one_point_more_they_do : IsCover with_jitter (sbf 10 3) 95 (35 ∷ 65 ∷ 86 ∷ 96 ∷ [])
-with_one_point_more_they_do = record { some_point = omega arith; some_slots = omega arith; none_before = refl; rising = rising; steps = steps; past = omega arith }
+with_one_point_more_they_do =
+    record {
+      some_point = omega arith;
+      some_slots = omega arith;
+      none_before = refl;
+      rising = rising;
+      steps = steps;
+      past = omega arith;
+    }
   where
     rising : (j : ℕ) → j + 1 < 4 → get_or (35 ∷ 65 ∷ 86 ∷ 96 ∷ []) j 0 < get_or (35 ∷ 65 ∷ 86 ∷ 96 ∷ []) (j + 1) 0
     rising zero l = omega arith
@@ -122,7 +165,9 @@ with_one_point_more_they_do = record { some_point = omega arith; some_slots = om
     rising (suc (suc zero)) l = omega arith
     rising (suc (suc (suc j))) l = absurd (omega arith)
 
-    steps : (j : ℕ) → j + 1 < 4 → dbf with_jitter (get_or (35 ∷ 65 ∷ 86 ∷ 96 ∷ []) (j + 1) 0 - 1) ≤ sbf 10 3 (get_or (35 ∷ 65 ∷ 86 ∷ 96 ∷ []) j 0)
+    steps : (j : ℕ) → j + 1 < 4
+        → dbf with_jitter (get_or (35 ∷ 65 ∷ 86 ∷ 96 ∷ []) (j + 1) 0 - 1)
+        ≤ sbf 10 3 (get_or (35 ∷ 65 ∷ 86 ∷ 96 ∷ []) j 0)
     steps zero l = omega arith
     steps (suc zero) l = omega arith
     steps (suc (suc zero)) l = omega arith
@@ -132,13 +177,15 @@ with_one_point_more_they_do = record { some_point = omega arith; some_slots = om
 
 past_its_deadline_a_chain_ends : IsChain (ranks_above Listed too_much) too_much (λ t. t) 1 (1 ∷ 3 ∷ [])
 unfolding sum_below
-past_its_deadline_a_chain_ends = record { some_point = omega arith; from_one = refl; rising = rising; steps = steps; to_deadline = refl }
+past_its_deadline_a_chain_ends =
+    record { some_point = omega arith; from_one = refl; rising = rising; steps = steps; to_deadline = refl }
   where
     rising : (j : ℕ) → j + 1 < 2 → get_or (1 ∷ 3 ∷ []) j 0 < get_or (1 ∷ 3 ∷ []) (j + 1) 0
     rising zero l = omega arith
     rising (suc j) l = absurd (omega arith)
 
-    steps : (j : ℕ) → j + 1 < 2 → get_or (1 ∷ 3 ∷ []) (j + 1) 0 - 1 < rbf (ranks_above Listed too_much) too_much 1 (get_or (1 ∷ 3 ∷ []) j 0)
+    steps : (j : ℕ) → j + 1 < 2
+        → get_or (1 ∷ 3 ∷ []) (j + 1) 0 - 1 < rbf (ranks_above Listed too_much) too_much 1 (get_or (1 ∷ 3 ∷ []) j 0)
     steps zero l = omega arith
     steps (suc j) l = absurd (omega arith)
 

@@ -36,7 +36,8 @@ one_that_has_begun_is_cut = record {
 }
 
 it_is_not_the_one_after_it : IsNextWindow (worst_slot 5 2) 2 20 (Some (record { from = 13; until = 15 })) → ⊥
-it_is_not_the_one_after_it next = let none : true ≡ false = next.none_before 8 (omega arith) (omega arith) in absurd (cc)
+it_is_not_the_one_after_it next =
+    let none : true ≡ false = next.none_before 8 (omega arith) (omega arith) in absurd (cc)
 
 it_is_no_part_of_it : IsNextWindow (worst_slot 5 2) 2 20 (Some (record { from = 8; until = 9 })) → ⊥
 it_is_no_part_of_it next = let none : true ≡ false = next.ends (omega arith) in absurd (cc)

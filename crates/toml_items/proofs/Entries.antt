@@ -22,7 +22,8 @@ IsPlace key entries place = record {
       ≡ entries_view (insert entries place (k, item));
 }
 
-IsPlace-behind : (key : List ℕ) (e : Entry) (es : List Entry) (place : ℕ) → slice_cmp nat_cmp key e.0.now ≡ Greater → IsPlace key es place → IsPlace key (e ∷ es) (suc place)
+IsPlace-behind : (key : List ℕ) (e : Entry) (es : List Entry) (place : ℕ) → slice_cmp nat_cmp key e.0.now ≡ Greater
+    → IsPlace key es place → IsPlace key (e ∷ es) (suc place)
 IsPlace-behind key e es place greater h = record {
   new = rw greater h.new;
   within = omega (arith, h.within);
@@ -33,8 +34,12 @@ IsPlace-behind key e es place greater h = record {
 abbrev pub IsPlaceFrom : ℕ → List ℕ → List Entry → ℕ → Type 0
 IsPlaceFrom at key entries place = (at ≤ place) × IsPlace key (drop at entries) (place - at)
 
-pub IsPlaceFrom-behind : (key : List ℕ) (entries : List Entry) (at place : ℕ) (d : Entry) → at < length entries → slice_cmp nat_cmp key (get_or entries at d).0.now ≡ Greater
+pub IsPlaceFrom-behind : (key : List ℕ) (entries : List Entry) (at place : ℕ) (d : Entry) → at < length entries
+    → slice_cmp nat_cmp key (get_or entries at d).0.now ≡ Greater
     → IsPlaceFrom (at + 1) key entries place → IsPlaceFrom at key entries place
 IsPlaceFrom-behind key entries at place d within greater h =
-    let more : place - at ≡ suc (place - (at + 1)) = omega (arith, h.0) in
-    (omega (arith, h.0), rw (more, drop_more entries at d within) (IsPlace-behind key (get_or entries at d) (drop (at + 1) entries) (place - (at + 1)) greater h.1))
+    let more : place - at ≡ suc (place - (at + 1)) = omega (arith, h.0) in (
+      omega (arith, h.0),
+      rw (more, drop_more entries at d within)
+          (IsPlace-behind key (get_or entries at d) (drop (at + 1) entries) (place - (at + 1)) greater h.1),
+    )

@@ -41,13 +41,15 @@ pub key-one : (text k rest : List ℕ) → simple_key text ≡ Some (k, rest) �
 key-one text k rest read stop = key_after_turn 80 [] text (omega arith) ∙ rw (read, stop)
 
 -- the keys of a header, at the bracket behind them
-pub keys-one : (text k rest : List ℕ) → simple_key text ≡ Some (k, rest) → first rest ≡ 93 → key text ≡ Some (([], k), rest)
+pub keys-one : (text k rest : List ℕ) → simple_key text ≡ Some (k, rest) → first rest ≡ 93
+    → key text ≡ Some (([], k), rest)
 keys-one text k rest read closed =
     let here : skip_ws rest ≡ rest = skip_ws_none rest (rw closed refl) in
     let stop : (first (skip_ws rest) == 46) ≡ false = rw (here, closed) refl in
     key-one text k rest read stop ∙ rw here refl
 
-pub keys-two : (text k rest l end : List ℕ) → simple_key text ≡ Some (k, rest) → first rest ≡ 46 → is_bare (first (drop 1 rest)) ≡ true
+pub keys-two : (text k rest l end : List ℕ) → simple_key text ≡ Some (k, rest) → first rest ≡ 46
+    → is_bare (first (drop 1 rest)) ≡ true
     → simple_key (drop 1 rest) ≡ Some (l, end) → first end ≡ 93 → key text ≡ Some ((k ∷ [], l), end)
 keys-two text k rest l end read dot bare more closed =
     let here : skip_ws rest ≡ rest = skip_ws_none rest (rw dot refl) in
@@ -67,7 +69,8 @@ key_equals-one text k rest read found =
     rw (key-one text k rest read stop, equals)
 
 -- a string of plain bytes
-some_plain : (p : ℕ → Bool) (text content end : List ℕ) → (content, end) ≡ split_while p text → 0 < length content → p (first text) ≡ true
+some_plain : (p : ℕ → Bool) (text content end : List ℕ) → (content, end) ≡ split_while p text → 0 < length content
+    → p (first text) ≡ true
 some_plain p [] content end parts some = absurd (omega (arith, ap (λ q. length q.0) parts))
 some_plain p (c ∷ cs) content end parts some =
     elim (cases_Bool (p c)) [
@@ -78,7 +81,8 @@ some_plain p (c ∷ cs) content end parts some =
           absurd (omega arith)
     ]
 
-closed-string : (m : ℕ) (content end : List ℕ) → (first end == 34) ≡ true → prepend content (after_special 34 false m end) ≡ Some (content, drop 1 end)
+closed-string : (m : ℕ) (content end : List ℕ) → (first end == 34) ≡ true
+    → prepend content (after_special 34 false m end) ≡ Some (content, drop 1 end)
 unfolding special
 closed-string m content end closed = rw (closed, append-nil content)
 
@@ -93,31 +97,38 @@ quoted-run text content end parts some closed =
     let back : end ≡ (split_while (is_plain 34 false) text).1 = ap (λ q. q.1) parts in
     rw other (run ∙ rw (← front, ← back) (closed-string m content end closed))
 
-pub quoted-plain : (text content end : List ℕ) → first text ≡ 34 → (content, end) ≡ split_while (is_plain 34 false) (drop 1 text)
+pub quoted-plain : (text content end : List ℕ) → first text ≡ 34
+    → (content, end) ≡ split_while (is_plain 34 false) (drop 1 text)
     → 0 < length content → first end ≡ 34 → quoted text ≡ Some (content, drop 1 end)
 quoted-plain [] content end quote parts some closed = absurd (omega (arith, quote))
-quoted-plain (c ∷ cs) content end quote parts some closed = rw quote (quoted-run cs content end parts some (rw closed refl))
+quoted-plain (c ∷ cs) content end quote parts some closed =
+    rw quote (quoted-run cs content end parts some (rw closed refl))
 
-pub val-text : (text content rest : List ℕ) → first text ≡ 34 → quoted text ≡ Some (content, rest) → val 80 text ≡ Some (string content, rest)
+pub val-text : (text content rest : List ℕ) → first text ≡ 34 → quoted text ≡ Some (content, rest)
+    → val 80 text ≡ Some (string content, rest)
 unfolding atom
 val-text text content rest quote read =
     rw (val_atom 80 text (rw quote refl) (rw quote refl)) (rw (quote, read))
 
-pub val-word : (text : List ℕ) (x : Scalar) (rest : List ℕ) → is_word (first text) ≡ true → unquoted text ≡ Some (x, rest) → val 80 text ≡ Some (scalar_data x, rest)
+pub val-word : (text : List ℕ) (x : Scalar) (rest : List ℕ) → is_word (first text) ≡ true
+    → unquoted text ≡ Some (x, rest) → val 80 text ≡ Some (scalar_data x, rest)
 unfolding atom
 val-word text x rest word read =
     let other : starts_string text ≡ false = grind (arith, nat_tests) in
     rw (val_atom 80 text (grind (arith, nat_tests)) (grind (arith, nat_tests)), other, read)
 
-pub line-pair : (text k at_value : List ℕ) (d : Data) (rest : List ℕ) → is_bare (first text) ≡ true → key_equals text ≡ Some (([], k), at_value)
-    → val 80 at_value ≡ Some (d, rest) → ends_line (skip_ws rest) ≡ true → line text ≡ Some ((([], k), key_value d), rest)
+pub line-pair : (text k at_value : List ℕ) (d : Data) (rest : List ℕ) → is_bare (first text) ≡ true
+    → key_equals text ≡ Some (([], k), at_value)
+    → val 80 at_value ≡ Some (d, rest) → ends_line (skip_ws rest) ≡ true
+    → line text ≡ Some ((([], k), key_value d), rest)
 unfolding line expression
 line-pair text k at_value d rest bare read value ends =
     let other : (first text == 91) ≡ false = grind (arith, nat_tests) in
     rw (other, keyval_ok (val 80) text at_value rest ([], k) d read value, ends)
 
 pub line-array : (text : List ℕ) (k : Key) (rest : List ℕ) → first text ≡ 91 → slice_index text 1 ≡ 91
-    → is_bare (first (drop 2 text)) ≡ true → key (drop 2 text) ≡ Some (k, rest) → first rest ≡ 93 → slice_index rest 1 ≡ 93
+    → is_bare (first (drop 2 text)) ≡ true → key (drop 2 text) ≡ Some (k, rest) → first rest ≡ 93
+    → slice_index rest 1 ≡ 93
     → ends_line (skip_ws (drop 2 rest)) ≡ true → line text ≡ Some ((k, array_table), drop 2 rest)
 unfolding line expression header_key
 line-array text k rest one two bare read close_one close_two ends =

@@ -35,7 +35,8 @@ pub budget_range : (sys : SystemView) → IsSystem sys → (budgets : List ℕ)
 budget_range sys is budgets fit (Part q) h = fit q h
 budget_range sys is budgets fit (Core c) h = go (core_at sys c).supply (is.supplies c h)
   where
-    go : (supply : Option (ℕ × ℕ)) → IsCoreSupply supply → (1 ≤ core_budget supply) × (core_budget supply ≤ core_cycle supply)
+    go : (supply : Option (ℕ × ℕ)) → IsCoreSupply supply
+        → (1 ≤ core_budget supply) × (core_budget supply ≤ core_cycle supply)
     go None u = (omega arith, omega arith)
     go (Some s) range = (range.1, range.2)
 

@@ -8,11 +8,13 @@ use Rattle.std.specs.List.{list_any, prefix_len}
 use Rattle.tree_model.specs.Lists.{first_of, first_fault_or}
 
 -- a test of the images of a list
-pub list_any_map : {A B : Type 0} (p : B → Bool) (f : A → B) (xs : List A) → list_any p (map f xs) ≡ list_any (λ x. p (f x)) xs
+pub list_any_map : {A B : Type 0} (p : B → Bool) (f : A → B) (xs : List A)
+    → list_any p (map f xs) ≡ list_any (λ x. p (f x)) xs
 list_any_map p f [] = refl
 list_any_map p f (x ∷ xs) = ap (λ b. p (f x) || b) (list_any_map p f xs)
 
-prefix_len-map : {A B : Type 0} (p : B → Bool) (f : A → B) (xs : List A) → prefix_len p (map f xs) ≡ prefix_len (λ x. p (f x)) xs
+prefix_len-map : {A B : Type 0} (p : B → Bool) (f : A → B) (xs : List A)
+    → prefix_len p (map f xs) ≡ prefix_len (λ x. p (f x)) xs
 prefix_len-map p f [] = refl
 prefix_len-map p f (x ∷ xs) = ap (λ n. cond {A = ℕ} (p (f x)) (1 + n) 0) (prefix_len-map p f xs)
 
@@ -21,11 +23,14 @@ pub length_map : {A B : Type 0} (f : A → B) (xs : List A) → length (map f xs
 length_map f xs = length-map xs f
 
 -- the place of the first image that passes
-pub position_map : {A B : Type 0} (p : B → Bool) (f : A → B) (xs : List A) → position p (map f xs) ≡ position (λ x. p (f x)) xs
+pub position_map : {A B : Type 0} (p : B → Bool) (f : A → B) (xs : List A)
+    → position p (map f xs) ≡ position (λ x. p (f x)) xs
 position_map p f xs = rw (prefix_len-map (λ x. not (p x)) f xs, length_map f xs)
 
 -- what is said of each entry, once one is put
-pub put_says : {A B : Type 0} (said : A → B) (before now : ℕ → B) (xs : List A) (v : ℕ) (x d : A) → v < length xs → said x ≡ now v → ((u : ℕ) → u ≢ v → before u ≡ now u) → (u : ℕ) → said (get_or xs u d) ≡ before u → said (get_or (set xs v x) u d) ≡ now u
+pub put_says : {A B : Type 0} (said : A → B) (before now : ℕ → B) (xs : List A) (v : ℕ) (x d : A) → v < length xs
+    → said x ≡ now v → ((u : ℕ) → u ≢ v → before u ≡ now u) → (u : ℕ) → said (get_or xs u d) ≡ before u
+    → said (get_or (set xs v x) u d) ≡ now u
 put_says said before now xs v x d l here others u h = elim (cases_eq u v) [
   | inl e ↦ ap said (ap (λ w. get_or (set xs v x) w d) e ∙ get_or-set_same xs v x d l) ∙ (here ∙ ap now (sym e))
   | inr ne ↦ ap said (get_or-set_other xs v u x d ne) ∙ (h ∙ others u ne)
@@ -53,6 +58,7 @@ none_right [] b h = h
 none_right (x ∷ a) b h = cc
 
 -- the first fault decides
-pub first_decides : {Value Fault : Type 0} (value : Value) (found : List Fault) (fault : Fault) → first_of found ≡ Some fault → first_fault_or value found ≡ Err fault
+pub first_decides : {Value Fault : Type 0} (value : Value) (found : List Fault) (fault : Fault)
+    → first_of found ≡ Some fault → first_fault_or value found ≡ Err fault
 first_decides value [] fault h = absurd (none-some fault h)
 first_decides value (x ∷ found) fault h = ap Err (same_Some x fault h)

@@ -18,22 +18,33 @@ use Rattle.tree_model.specs.Tree.{run_at, started_jobs, started_supply, StartedS
 
 abbrev leaf : ℕ → ℕ → PartView
 leaf letter budget =
-    record { name = letter ∷ []; parent = on_core 0; sched = Listed; period = 2; budget = Some budget; extra = false; tasks = record { name = 116 ∷ []; task = plain_task 2 2 1 } ∷ [] }
+    record {
+      name = letter ∷ [];
+      parent = on_core 0;
+      sched = Listed;
+      period = 2;
+      budget = Some budget;
+      extra = false;
+      tasks = record { name = 116 ∷ []; task = plain_task 2 2 1 } ∷ [];
+    }
 
 -- two leaves of one slot in two on a full core; the second starts at 1
 abbrev two : SystemView
-two = record { cores = record { name = 99 ∷ []; sched = Listed; supply = None } ∷ []; parts = leaf 97 1 ∷ leaf 98 1 ∷ [] }
+two =
+    record { cores = record { name = 99 ∷ []; sched = Listed; supply = None } ∷ []; parts = leaf 97 1 ∷ leaf 98 1 ∷ [] }
 
 abbrev ones : List ℕ
 ones = 1 ∷ 1 ∷ []
 
 -- each server's periods count from its own start, neither from moment 0 nor from one start for all
-periods_count_from_each_start : started_jobs two ones (0 ∷ 1 ∷ []) (Core 0) 4 ≡ plain_job 0 0 1 ∷ plain_job 1 1 1 ∷ plain_job 0 2 1 ∷ plain_job 1 3 1 ∷ []
+periods_count_from_each_start : started_jobs two ones (0 ∷ 1 ∷ []) (Core 0) 4
+    ≡ plain_job 0 0 1 ∷ plain_job 1 1 1 ∷ plain_job 0 2 1 ∷ plain_job 1 3 1 ∷ []
 unfolding staggered_at staggered
 periods_count_from_each_start = refl
 
 -- a start past a period is no start at the remainder
-no_job_before_the_start : started_jobs two ones (0 ∷ 3 ∷ []) (Core 0) 4 ≡ plain_job 0 0 1 ∷ plain_job 0 2 1 ∷ plain_job 1 3 1 ∷ []
+no_job_before_the_start : started_jobs two ones (0 ∷ 3 ∷ []) (Core 0) 4
+    ≡ plain_job 0 0 1 ∷ plain_job 0 2 1 ∷ plain_job 1 3 1 ∷ []
 unfolding staggered_at staggered
 no_job_before_the_start = refl
 
@@ -41,7 +52,8 @@ no_job_before_the_start = refl
 abbrev core_runs : List (List (Option ℕ))
 core_runs = (Some 0 ∷ Some 1 ∷ Some 2 ∷ Some 3 ∷ []) ∷ []
 
-the_first_has_every_second_slot : started_supply two ones (0 ∷ 1 ∷ []) 4 core_runs [] 0 ≡ true ∷ false ∷ true ∷ false ∷ []
+the_first_has_every_second_slot : started_supply two ones (0 ∷ 1 ∷ []) 4 core_runs [] 0
+    ≡ true ∷ false ∷ true ∷ false ∷ []
 unfolding sum_below staggered_at staggered
 the_first_has_every_second_slot = refl
 
@@ -53,7 +65,18 @@ the_second_begins_with_a_slot = refl
 abbrev nested : SystemView
 nested = record {
   cores = record { name = 99 ∷ []; sched = Listed; supply = None } ∷ [];
-  parts = record { name = 109 ∷ []; parent = on_core 0; sched = Listed; period = 2; budget = Some 2; extra = false; tasks = [] } ∷ record { name = 97 ∷ []; parent = on_part 0; sched = Listed; period = 2; budget = Some 1; extra = false; tasks = record { name = 116 ∷ []; task = plain_task 2 2 1 } ∷ [] } ∷ [];
+  parts =
+      record
+      { name = 109 ∷ []; parent = on_core 0; sched = Listed; period = 2; budget = Some 2; extra = false; tasks = [] }
+      ∷ record {
+        name = 97 ∷ [];
+        parent = on_part 0;
+        sched = Listed;
+        period = 2;
+        budget = Some 1;
+        extra = false;
+        tasks = record { name = 116 ∷ []; task = plain_task 2 2 1 } ∷ [];
+      } ∷ [];
 }
 
 abbrev budgets : List ℕ
@@ -110,14 +133,19 @@ record Seen (level : Level) (tasks : List SporadicTask) (jobs : List Job) (run :
   idle : get_or run x None ≡ None → Pending level tasks jobs run 0 x → ⊥
   served : (j : ℕ) → get_or run x None ≡ Some j → Pending level tasks jobs run j x
 
-one_job_run : (level : Level) (before : Job → Job → Bool) (tasks : List SporadicTask) (jobs : List Job) (slots : List Bool) (run : List (Option ℕ)) → length jobs ≡ 1 → length run ≡ length slots → ((x : ℕ) → x < length slots → get_or slots x false ≡ true) → before (job_at jobs 0) (job_at jobs 0) ≡ false
+one_job_run : (level : Level) (before : Job → Job → Bool) (tasks : List SporadicTask) (jobs : List Job)
+    (slots : List Bool) (run : List (Option ℕ)) → length jobs ≡ 1 → length run ≡ length slots
+    → ((x : ℕ) → x < length slots → get_or slots x false ≡ true) → before (job_at jobs 0) (job_at jobs 0) ≡ false
     → ((x : ℕ) → x < length slots → Seen level tasks jobs run x) → PermittedRun level before tasks jobs slots run
 one_job_run level before tasks jobs slots run one long full free seen = record {
   same_length = long;
   no_slot = λ x l e. absurd (both_values (get_or slots x false) (full x l) e);
   idle = λ x j l s e p. (seen x l).idle e (subst (λ (z : ℕ). Pending level tasks jobs run z x) (first j p) p);
   served = λ x j l e. (seen x l).served j e;
-  chosen = λ x j k l e p t. both_values (before (job_at jobs 0) (job_at jobs 0)) (subst (λ (z : ℕ). before (job_at jobs 0) (job_at jobs z) ≡ true) (first j ((seen x l).served j e)) (subst (λ (z : ℕ). before (job_at jobs z) (job_at jobs j) ≡ true) (first k p) t)) free;
+  chosen =
+      λ x j k l e p t. both_values (before (job_at jobs 0) (job_at jobs 0))
+      (subst (λ (z : ℕ). before (job_at jobs 0) (job_at jobs z) ≡ true) (first j ((seen x l).served j e))
+      (subst (λ (z : ℕ). before (job_at jobs z) (job_at jobs j) ≡ true) (first k p) t)) free;
 }
   where
     both_values : (b : Bool) → b ≡ true → b ≡ false → ⊥
@@ -127,7 +155,8 @@ one_job_run level before tasks jobs slots run one long full free seen = record {
     first : {x : ℕ} (j : ℕ) → Pending level tasks jobs run j x → j ≡ 0
     first j p = omega (arith, p.is_job, one)
 
-held_by_first : (level : Level) (tasks : List SporadicTask) (jobs : List Job) (run : List (Option ℕ)) (x : ℕ) → get_or run x None ≡ Some 0 → Pending level tasks jobs run 0 x → Seen level tasks jobs run x
+held_by_first : (level : Level) (tasks : List SporadicTask) (jobs : List Job) (run : List (Option ℕ)) (x : ℕ)
+    → get_or run x None ≡ Some 0 → Pending level tasks jobs run 0 x → Seen level tasks jobs run x
 held_by_first level tasks jobs run x e p = record {
   idle = λ f q. none_of (get_or run x None) e f;
   served = λ j f. subst (λ (z : ℕ). Pending level tasks jobs run z x) (which j (get_or run x None) e f) p;
@@ -139,7 +168,8 @@ held_by_first level tasks jobs run x e p = record {
     which : (j : ℕ) (o : Option ℕ) → o ≡ Some 0 → o ≡ Some j → 0 ≡ j
     which j o a b = cc
 
-not_yet : (level : Level) (tasks : List SporadicTask) (jobs : List Job) (run : List (Option ℕ)) (x : ℕ) → get_or run x None ≡ None → x < (job_at jobs 0).release → Seen level tasks jobs run x
+not_yet : (level : Level) (tasks : List SporadicTask) (jobs : List Job) (run : List (Option ℕ)) (x : ℕ)
+    → get_or run x None ≡ None → x < (job_at jobs 0).release → Seen level tasks jobs run x
 not_yet level tasks jobs run x e l = record {
   idle = λ f p. omega (arith, l, p.released);
   served = λ j f. absurd (some_of j (get_or run x None) e f);
@@ -155,26 +185,39 @@ a_start_inside_a_parent = record {
   run_each_core = refl;
   run_each_part = refl;
   cores = only (λ c. StartedServers nested budgets later 3 (Core c) (get_or supplies c []) (run_at nested_cores c))
-      (one_job_run server _ _ _ _ _ refl refl (each_of_three (λ x. get_or (true ∷ true ∷ true ∷ []) x false ≡ true) refl refl refl) refl
+      (one_job_run server _ _ _ _ _ refl refl
+      (each_of_three (λ x. get_or (true ∷ true ∷ true ∷ []) x false ≡ true) refl refl refl) refl
       (each_of_three _ (not_yet server _ _ _ 0 refl (lit< tt))
-      (held_by_first server _ _ _ 1 refl (record { is_job = lit< tt; released = lit≤ tt; unfinished = lit< tt; still_open = lit< tt }))
-      (held_by_first server _ _ _ 2 refl (record { is_job = lit< tt; released = lit≤ tt; unfinished = lit< tt; still_open = lit< tt }))));
-  inner = both _ (λ e. one_job_run server _ _ _ _ _ refl refl (both (λ x. get_or (true ∷ true ∷ []) x false ≡ true) refl refl) refl
+      (held_by_first server _ _ _ 1 refl
+      (record { is_job = lit< tt; released = lit≤ tt; unfinished = lit< tt; still_open = lit< tt }))
+      (held_by_first server _ _ _ 2 refl
+      (record { is_job = lit< tt; released = lit≤ tt; unfinished = lit< tt; still_open = lit< tt }))));
+  inner =
+      both _ (λ e. one_job_run server _ _ _ _ _ refl refl
+      (both (λ x. get_or (true ∷ true ∷ []) x false ≡ true) refl refl) refl
       (both _ (not_yet server _ _ _ 0 refl (lit< tt))
-      (held_by_first server _ _ _ 1 refl (record { is_job = lit< tt; released = lit≤ tt; unfinished = lit< tt; still_open = lit< tt })))) (λ e. cc);
-  leaves = both _ (λ e. cc) (λ e. one_job_run guest _ _ _ _ _ refl refl (only (λ x. get_or (true ∷ []) x false ≡ true) refl) refl
-      (only _ (held_by_first guest _ _ _ 0 refl (record { is_job = lit< tt; released = lit≤ tt; unfinished = lit< tt; still_open = tt }))));
+      (held_by_first server _ _ _ 1 refl
+      (record { is_job = lit< tt; released = lit≤ tt; unfinished = lit< tt; still_open = lit< tt })))) (λ e. cc);
+  leaves =
+      both _ (λ e. cc)
+      (λ e. one_job_run guest _ _ _ _ _ refl refl (only (λ x. get_or (true ∷ []) x false ≡ true) refl) refl
+      (only _ (held_by_first guest _ _ _ 0 refl
+      (record { is_job = lit< tt; released = lit≤ tt; unfinished = lit< tt; still_open = tt }))));
 }
 
 -- a run that serves the inner part from moment 0 on is not permitted: its server is not released
-a_server_before_its_start_is_not_permitted : StartedTree nested budgets later 3 supplies jobs ((Some 0 ∷ Some 0 ∷ None ∷ []) ∷ []) nested_parts → ⊥
+a_server_before_its_start_is_not_permitted : StartedTree nested budgets later 3 supplies jobs
+    ((Some 0 ∷ Some 0 ∷ None ∷ []) ∷ []) nested_parts → ⊥
 unfolding staggered_at staggered
-a_server_before_its_start_is_not_permitted tree = omega (arith, ((tree.cores 0 (lit< tt)).served 0 0 (lit< tt) refl).released)
+a_server_before_its_start_is_not_permitted tree =
+    omega (arith, ((tree.cores 0 (lit< tt)).served 0 0 (lit< tt) refl).released)
 
 -- nor is one whose inner part counts from the core's moment 0: it has two slots and not three
-a_part_counts_from_its_own_start : StartedTree nested budgets later 3 supplies jobs nested_cores ((None ∷ None ∷ Some 0 ∷ []) ∷ (Some 0 ∷ []) ∷ []) → ⊥
+a_part_counts_from_its_own_start : StartedTree nested budgets later 3 supplies jobs nested_cores
+    ((None ∷ None ∷ Some 0 ∷ []) ∷ (Some 0 ∷ []) ∷ []) → ⊥
 unfolding staggered_at staggered
-a_part_counts_from_its_own_start tree = let long : 3 ≡ 2 = (tree.inner 0 (lit< tt) refl).same_length in omega (arith, long)
+a_part_counts_from_its_own_start tree =
+    let long : 3 ≡ 2 = (tree.inner 0 (lit< tt) refl).same_length in omega (arith, long)
 
 -- two starts on one core: each server has the first slot of its own period
 abbrev two_jobs : List Job
@@ -188,7 +231,10 @@ even = plain_task 2 2 1 ∷ plain_task 2 2 1 ∷ []
 
 pending_in_turn : (j : ℕ) → j < 2 → Pending server even two_jobs two_run j j
 unfolding sum_below
-pending_in_turn = both (λ j. Pending server even two_jobs two_run j j) (record { is_job = lit< tt; released = lit≤ tt; unfinished = lit< tt; still_open = lit< tt }) (record { is_job = lit< tt; released = lit≤ tt; unfinished = lit< tt; still_open = lit< tt })
+pending_in_turn =
+    both (λ j. Pending server even two_jobs two_run j j)
+    (record { is_job = lit< tt; released = lit≤ tt; unfinished = lit< tt; still_open = lit< tt })
+    (record { is_job = lit< tt; released = lit≤ tt; unfinished = lit< tt; still_open = lit< tt })
 
 held_in_turn : (x j : ℕ) → x < 2 → get_or two_run x None ≡ Some j → x ≡ j
 held_in_turn zero j l e = cc
@@ -217,8 +263,15 @@ one_after_another = record {
   same_length = refl;
   no_slot = λ x l e. absurd (true_nowhere x l e);
   idle = λ x j l s e p. held_somewhere x l e;
-  served = λ x j l e. subst (λ (z : ℕ). Pending server even two_jobs two_run z x) (held_in_turn x j l e) (pending_in_turn x l);
-  chosen = λ x j k l e p t. both_ways _ (subst (λ (z : ℕ). before_of Listed even (job_at two_jobs z) (job_at two_jobs z) ≡ false) (held_in_turn x j l e) (not_before_itself x l)) (subst (λ (z : ℕ). before_of Listed even (job_at two_jobs z) (job_at two_jobs j) ≡ true) (alone_in_turn x k l p ∙ held_in_turn x j l e) t);
+  served =
+      λ x j l e. subst (λ (z : ℕ). Pending server even two_jobs two_run z x) (held_in_turn x j l e)
+      (pending_in_turn x l);
+  chosen =
+      λ x j k l e p t. both_ways _ (subst
+      (λ (z : ℕ). before_of Listed even (job_at two_jobs z) (job_at two_jobs z) ≡ false) (held_in_turn x j l e)
+      (not_before_itself x l)) (subst
+      (λ (z : ℕ). before_of Listed even (job_at two_jobs z) (job_at two_jobs j) ≡ true)
+      (alone_in_turn x k l p ∙ held_in_turn x j l e) t);
 }
   where
     true_nowhere : (x : ℕ) → x < 2 → get_or (true ∷ true ∷ []) x false ≡ false → ⊥
@@ -226,7 +279,9 @@ one_after_another = record {
     true_nowhere (suc zero) l e = cc
     true_nowhere (suc (suc x)) l e = omega arith
 
-idle_run : (tasks : List SporadicTask) (before : Job → Job → Bool) (slots : List Bool) (run : List (Option ℕ)) → length run ≡ length slots → ((x : ℕ) → x < length slots → get_or run x None ≡ None) → PermittedRun guest before tasks [] slots run
+idle_run : (tasks : List SporadicTask) (before : Job → Job → Bool) (slots : List Bool) (run : List (Option ℕ))
+    → length run ≡ length slots → ((x : ℕ) → x < length slots → get_or run x None ≡ None)
+    → PermittedRun guest before tasks [] slots run
 idle_run tasks before slots run long none = record {
   same_length = long;
   no_slot = λ x l e. none x l;
@@ -241,12 +296,17 @@ nothing = None ∷ []
 abbrev nothing_twice : List (Option ℕ)
 nothing_twice = None ∷ None ∷ []
 
-two_starts_on_a_core : StartedTree two ones (0 ∷ 1 ∷ []) 2 ((true ∷ true ∷ []) ∷ []) ([] ∷ [] ∷ []) (two_run ∷ []) ((None ∷ None ∷ []) ∷ (None ∷ []) ∷ [])
+two_starts_on_a_core : StartedTree two ones (0 ∷ 1 ∷ []) 2 ((true ∷ true ∷ []) ∷ []) ([] ∷ [] ∷ []) (two_run ∷ [])
+    ((None ∷ None ∷ []) ∷ (None ∷ []) ∷ [])
 unfolding staggered_at staggered
 two_starts_on_a_core = record {
   run_each_core = refl;
   run_each_part = refl;
-  cores = only (λ c. StartedServers two ones (0 ∷ 1 ∷ []) 2 (Core c) (get_or ((true ∷ true ∷ []) ∷ []) c []) (run_at (two_run ∷ []) c)) one_after_another;
+  cores =
+      only (λ c. StartedServers two ones (0 ∷ 1 ∷ []) 2 (Core c) (get_or ((true ∷ true ∷ []) ∷ []) c [])
+      (run_at (two_run ∷ []) c)) one_after_another;
   inner = both _ (λ e. cc) (λ e. cc);
-  leaves = both _ (λ e. idle_run _ _ _ _ refl (both (λ x. get_or nothing_twice x None ≡ None) refl refl)) (λ e. idle_run _ _ _ _ refl (only (λ x. get_or nothing x None ≡ None) refl));
+  leaves =
+      both _ (λ e. idle_run _ _ _ _ refl (both (λ x. get_or nothing_twice x None ≡ None) refl refl))
+      (λ e. idle_run _ _ _ _ refl (only (λ x. get_or nothing x None ≡ None) refl));
 }

@@ -18,7 +18,8 @@ reciprocal whole p some lp = record {
 }
 
 -- up to the reciprocal itself the next number's product gives the quotient
-pub near_quotient : (whole p n : ℕ) → 1 ≤ whole → 1 ≤ p → n ≤ (whole - 1) / p → ((n + 1) * ((whole - 1) / p)) / whole ≡ n / p
+pub near_quotient : (whole p n : ℕ) → 1 ≤ whole → 1 ≤ p → n ≤ (whole - 1) / p
+    → ((n + 1) * ((whole - 1) / p)) / whole ≡ n / p
 near_quotient whole p n some lp small =
     let r : ℕ = (whole - 1) / p in
     let q : ℕ = n / p in
@@ -41,10 +42,14 @@ guessed whole p n lp small =
     let i : IsReciprocal whole p r = reciprocal whole p (omega arith) lp in
     let low : guess * whole ≤ n * r = div-mul-le_self (n * r) whole in
     let high : n * r < guess * whole + whole = lt-div-mul-add {a = n * r} {b = whole} (omega arith) in
-    let within : guess * p < n + 1 = lt_of_mul-lt-mul_left whole {m = guess * p} {n = n + 1} (omega (arith, mul-le-mul_right p low, mul-le-mul_left n i.below, small)) in
+    let within : guess * p < n + 1
+    = lt_of_mul-lt-mul_left whole {m = guess * p} {n = n + 1}
+    (omega (arith, mul-le-mul_right p low, mul-le-mul_left n i.below, small)) in
     record {
       below = omega arith;
-      near = lt_of_mul-lt-mul_left whole {m = n} {n = (guess + 2) * p} (omega (arith, mul-lt p high, mul-le-mul_left n i.near, mul-le-mul_right p small));
+      near =
+          lt_of_mul-lt-mul_left whole {m = n} {n = (guess + 2) * p}
+          (omega (arith, mul-lt p high, mul-le-mul_left n i.near, mul-le-mul_right p small));
     }
   where
     mul-lt : {a b : ℕ} (k : ℕ) → a < b → a * k + k ≤ b * k

@@ -7,4 +7,6 @@ pub returns-then-not-is_empty : goal.returns-then-not-is_empty
 returns-then-not-is_empty c other = no_mark c.args.text.now (inr other)
 
 pub returns-else-not-is_empty : goal.returns-else-not-is_empty
-returns-else-not-is_empty c other = no_mark c.args.text.now (inl (eqb-true (length c.args.text.now) 0 (sym c.is_empty.ensures ∙ c.if-not-is_empty.false)))
+returns-else-not-is_empty c other =
+    no_mark c.args.text.now
+    (inl (eqb-true (length c.args.text.now) 0 (sym c.is_empty.ensures ∙ c.if-not-is_empty.false)))

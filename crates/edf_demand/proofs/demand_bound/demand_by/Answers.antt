@@ -11,23 +11,51 @@ use Rattle.edf_demand.proofs.Demands.{dbf_small, dbf_split}
 use Rattle.edf_demand.proofs.demand_bound.demand_by.Goals as goal
 
 -- for each task a window asks for no more slots than it has
-at_most : (gathered : Gathered) (terms : List Term) (tasks : List Task) (t : ℕ) → IsGathered gathered terms tasks → asked_by (take gathered.terms terms) t ≤ gathered.tasks * t
-at_most gathered terms tasks t g = omega (arith, g.same t, dbf_small (take gathered.tasks tasks) t, ap (λ (n : ℕ). n * t) (length-take-le gathered.tasks tasks g.in_tasks))
+at_most : (gathered : Gathered) (terms : List Term) (tasks : List Task) (t : ℕ) → IsGathered gathered terms tasks
+    → asked_by (take gathered.terms terms) t ≤ gathered.tasks * t
+at_most gathered terms tasks t g =
+    omega (
+      arith,
+      g.same t,
+      dbf_small (take gathered.tasks tasks) t,
+      ap (λ (n : ℕ). n * t) (length-take-le gathered.tasks tasks g.in_tasks),
+    )
 
 pub asked-first-requires-clause-near_fits : goal.asked-first-requires-clause-near_fits
-asked-first-requires-clause-near_fits c l = omega (arith, at_most c.args.gathered c.args.terms.now c.args.tasks.now c.args.t c.requires, mul-le-mul_left c.args.gathered.tasks l, c.requires.fits)
+asked-first-requires-clause-near_fits c l =
+    omega (
+      arith,
+      at_most c.args.gathered c.args.terms.now c.args.tasks.now c.args.t c.requires,
+      mul-le-mul_left c.args.gathered.tasks l,
+      c.requires.fits,
+    )
 
 pub asked-first-requires-clause-fits : goal.asked-first-requires-clause-fits
-asked-first-requires-clause-fits c = omega (arith, at_most c.args.gathered c.args.terms.now c.args.tasks.now c.args.t c.requires, mul-le-mul_left c.args.gathered.tasks (let small : c.args.t ≤ 2 ^ 64 - 1 = omega arith in small))
+asked-first-requires-clause-fits c =
+    omega (
+      arith,
+      at_most c.args.gathered c.args.terms.now c.args.tasks.now c.args.t c.requires,
+      mul-le-mul_left c.args.gathered.tasks (let small : c.args.t ≤ 2 ^ 64 - 1 = omega arith in small),
+    )
 
 pub returns-in_err-demand : goal.returns-in_err-demand
 returns-in_err-demand c =
-    subst (λ (o : Option ℕ). MatchOption o (2 ^ 128 ≤ dbf (sporadic_tasks c.args.tasks.now) c.args.t) (λ d. d ≡ dbf (sporadic_tasks c.args.tasks.now) c.args.t)) (sym c.from_residual.ensures)
+    subst (λ (o : Option ℕ). MatchOption o (2 ^ 128 ≤ dbf (sporadic_tasks c.args.tasks.now) c.args.t)
+    (λ d. d ≡ dbf (sporadic_tasks c.args.tasks.now) c.args.t)) (sym c.from_residual.ensures)
     (omega (arith, dbf_split c.args.tasks.now c.args.gathered.tasks c.args.t, c.in_err-demand.ensures.exact))
 
-sum_is : (whole first rest : ℕ) (answer : Option ℕ) → whole ≡ first + rest → SomeIff answer (rest + first < 2 ^ 128) (rest + first) → MatchOption answer (2 ^ 128 ≤ whole) (λ d. d ≡ whole)
+sum_is : (whole first rest : ℕ) (answer : Option ℕ) → whole ≡ first + rest
+    → SomeIff answer (rest + first < 2 ^ 128) (rest + first) → MatchOption answer (2 ^ 128 ≤ whole) (λ d. d ≡ whole)
 sum_is whole first rest None e none = omega arith
 sum_is whole first rest (Some d) e some = omega (arith, some.1)
 
 pub returns : goal.returns
-returns c = sum_is (dbf (sporadic_tasks c.args.tasks.now) c.args.t) c.asked-first.result c.in_ok-demand.field-0 c.checked_add.result (omega (arith, dbf_split c.args.tasks.now c.args.gathered.tasks c.args.t, c.requires.same c.args.t, c.asked-first.ensures, c.in_ok-demand.ensures.exact)) c.checked_add.ensures
+returns c =
+    sum_is (dbf (sporadic_tasks c.args.tasks.now) c.args.t) c.asked-first.result c.in_ok-demand.field-0
+    c.checked_add.result (omega (
+      arith,
+      dbf_split c.args.tasks.now c.args.gathered.tasks c.args.t,
+      c.requires.same c.args.t,
+      c.asked-first.ensures,
+      c.in_ok-demand.ensures.exact,
+    )) c.checked_add.ensures

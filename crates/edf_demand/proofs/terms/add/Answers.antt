@@ -4,7 +4,15 @@ use Rattle.edf_demand.proofs.Gathering.{longer_by, alone_behind}
 use Rattle.edf_demand.proofs.terms.add.Goals as goal
 
 pub returns-in-Some : goal.returns-in-Some
-returns-in-Some c = (omega (arith, length-set {A = Term}), λ t. longer_by c.args.into.now c.args.terms c.index-into-terms.result c.in-Some.longer c.args.task.now t (omega arith) (omega arith) c.index-into-terms.is c.in-Some.ensures)
+returns-in-Some c = (
+  omega (arith, length-set {A = Term}),
+  λ t. longer_by c.args.into.now c.args.terms c.index-into-terms.result c.in-Some.longer c.args.task.now t
+      (omega arith) (omega arith) c.index-into-terms.is c.in-Some.ensures,
+)
 
 pub returns : goal.returns
-returns c = (omega (arith, length-set {A = Term}), λ t. alone_behind c.args.into.now c.args.terms c.new.result c.args.task.now t (omega arith) c.new.ensures.0 (c.new.ensures.1 ∙ c.slack_of.ensures.exact) c.new.ensures.2)
+returns c = (
+  omega (arith, length-set {A = Term}),
+  λ t. alone_behind c.args.into.now c.args.terms c.new.result c.args.task.now t (omega arith) c.new.ensures.0
+      (c.new.ensures.1 ∙ c.slack_of.ensures.exact) c.new.ensures.2,
+)

@@ -5,4 +5,5 @@ use Rattle.fp_request.proofs.Parts.{request_to}
 use Rattle.fp_request.proofs.request_bound.request_past.Given as goal
 
 abbrev pub invariant-loop-k : goal.invariant-loop-k
-invariant-loop-k l = l.sum ≡ request_to (ranks_above l.sched (sporadic_tasks l.tasks)) (sporadic_tasks l.tasks) l.i l.t l.k
+invariant-loop-k l =
+    l.sum ≡ request_to (ranks_above l.sched (sporadic_tasks l.tasks)) (sporadic_tasks l.tasks) l.i l.t l.k

@@ -12,14 +12,30 @@ pub loop-k-init : goal.loop-k-init
 loop-k-init c =
     let own : Task = get_or c.args.tasks.now c.args.i c.index-tasks-i.result in
     record {
-      sum = omega (arith, sum_below-zero (part_of (ranks_above c.args.sched (sporadic_tasks c.args.tasks.now)) (sporadic_tasks c.args.tasks.now) c.args.i c.args.t), ap (λ (z : SporadicTask). z.work) (task_at-is c.args.tasks.now c.args.i c.index-tasks-i.result c.requires.i_named));
+      sum =
+          omega (
+            arith,
+            sum_below-zero (part_of (ranks_above c.args.sched (sporadic_tasks c.args.tasks.now))
+                (sporadic_tasks c.args.tasks.now) c.args.i c.args.t),
+            ap (λ (z : SporadicTask). z.work)
+                (task_at-is c.args.tasks.now c.args.i c.index-tasks-i.result c.requires.i_named),
+          );
       small = omega (arith, own.in_deadline, own.in_period, own.in_limit);
     }
 
 pub loop-k-preserved : goal.loop-k-preserved
 loop-k-preserved c =
-    let part : ℕ → ℕ = part_of (ranks_above c.args.sched (sporadic_tasks c.args.tasks.now)) (sporadic_tasks c.args.tasks.now) c.args.i c.args.t in
+    let part : ℕ → ℕ
+    = part_of (ranks_above c.args.sched (sporadic_tasks c.args.tasks.now)) (sporadic_tasks c.args.tasks.now)
+    c.args.i c.args.t in
     record {
-      sum = omega (arith, c.loop-k.invariant.sum, c.part_within.ensures.exact, sum_below-suc part c.loop-k.k, ap (sum_below part) (let e : c.loop-k.k + 1 ≡ suc c.loop-k.k = omega arith in e));
+      sum =
+          omega (
+            arith,
+            c.loop-k.invariant.sum,
+            c.part_within.ensures.exact,
+            sum_below-suc part c.loop-k.k,
+            ap (sum_below part) (let e : c.loop-k.k + 1 ≡ suc c.loop-k.k = omega arith in e),
+          );
       small = omega (arith, c.loop-k.invariant.small, c.part_within.ensures.fits);
     }

@@ -7,7 +7,15 @@ use Rattle.guest_sched.specs.Spans.{slots_of, run_of}
 use Rattle.guest_sched.proofs.level.servers_by.Goals as goal
 
 pub returns-in-Some-clause-first : goal.returns-in-Some-clause-first
-returns-in-Some-clause-first c = subst (λ (s : Sched). IfOk c.server_spans.result (λ spans. FirstRun server (before_of s (sporadic_tasks c.args.tasks.now)) (sporadic_tasks c.args.tasks.now) c.args.jobs.now (slots_of c.args.given.now c.args.slots) (run_of spans.items))) c.in-Some.ensures.0 c.server_spans.ensures.first
+returns-in-Some-clause-first c =
+    subst (λ (s : Sched). IfOk c.server_spans.result (λ spans. FirstRun server
+    (before_of s (sporadic_tasks c.args.tasks.now)) (sporadic_tasks c.args.tasks.now) c.args.jobs.now
+    (slots_of c.args.given.now c.args.slots) (run_of spans.items))) c.in-Some.ensures.0
+    c.server_spans.ensures.first
 
 pub returns-in-None-clause-first : goal.returns-in-None-clause-first
-returns-in-None-clause-first c = subst (λ (s : Sched). IfOk c.server_spans-in-None.result (λ spans. FirstRun server (before_of s (sporadic_tasks c.args.tasks.now)) (sporadic_tasks c.args.tasks.now) c.args.jobs.now (slots_of c.args.given.now c.args.slots) (run_of spans.items))) (sym c.in-None.ensures) c.server_spans-in-None.ensures.first
+returns-in-None-clause-first c =
+    subst (λ (s : Sched). IfOk c.server_spans-in-None.result (λ spans. FirstRun server
+    (before_of s (sporadic_tasks c.args.tasks.now)) (sporadic_tasks c.args.tasks.now) c.args.jobs.now
+    (slots_of c.args.given.now c.args.slots) (run_of spans.items))) (sym c.in-None.ensures)
+    c.server_spans-in-None.ensures.first

@@ -4,4 +4,8 @@ use Rattle.guest_sched.proofs.releases.listed.Given as goal
 
 -- the releases of the jobs so far
 abbrev pub invariant-loop-place : goal.invariant-loop-place
-invariant-loop-place l = record { long : length l.releases.items ≡ l.place; each : (j : ℕ) → j < l.place → release_at l.releases.items j ≡ release_of l.jobs j }
+invariant-loop-place l =
+    record {
+      long : length l.releases.items ≡ l.place;
+      each : (j : ℕ) → j < l.place → release_at l.releases.items j ≡ release_of l.jobs j;
+    }

@@ -24,9 +24,14 @@ loop-at-init g c =
     let made = c.in_ok-ready.ensures in
     let ready = c.in_ok-ready.ready in
     record {
-      kept = subst (λ (z : List Span). Kept (level_of c.args.keep) before T c.args.jobs.now (slots_of c.args.given.now c.args.slots) (run_of z) ready) (sym c.in_ok-spans.ensures.items)
-          (kept_start (level_of c.args.keep) before T c.args.jobs.now (slots_of c.args.given.now c.args.slots) ready made.time made.releases made.state made.none_come made.left made.ends);
-      spans = subst (λ (z : List Span). AreSpans z ready.time) (sym c.in_ok-spans.ensures.items) (subst (AreSpans []) (sym made.time) no_spans);
+      kept =
+          subst (λ (z : List Span). Kept (level_of c.args.keep) before T c.args.jobs.now
+          (slots_of c.args.given.now c.args.slots) (run_of z) ready) (sym c.in_ok-spans.ensures.items)
+          (kept_start (level_of c.args.keep) before T c.args.jobs.now (slots_of c.args.given.now c.args.slots) ready
+          made.time made.releases made.state made.none_come made.left made.ends);
+      spans =
+          subst (λ (z : List Span). AreSpans z ready.time) (sym c.in_ok-spans.ensures.items)
+          (subst (AreSpans []) (sym made.time) no_spans);
       best = λ j e. absurd (none_some ready.best j made.best e);
       in_list = omega arith;
       over = λ i l. absurd (omega arith);
@@ -34,43 +39,82 @@ loop-at-init g c =
       in_slots = omega (arith, made.time);
     }
 
-in_jitter_each : (tasks : List SporadicTask) (jobs : List Job) → LegalRelease tasks jobs → (d : Job) (k : ℕ) → k < length jobs → (get_or jobs k d).early ≤ (task_at tasks (get_or jobs k d).task).jitter
-in_jitter_each tasks jobs h d k l = subst (λ (a : Job). a.early ≤ (task_at tasks a.task).jitter) (get_or_default jobs k default_job d l) (h.in_jitter k l)
+in_jitter_each : (tasks : List SporadicTask) (jobs : List Job) → LegalRelease tasks jobs → (d : Job) (k : ℕ)
+    → k < length jobs → (get_or jobs k d).early ≤ (task_at tasks (get_or jobs k d).task).jitter
+in_jitter_each tasks jobs h d k l =
+    subst (λ (a : Job). a.early ≤ (task_at tasks a.task).jitter) (get_or_default jobs k default_job d l)
+    (h.in_jitter k l)
 
 pub catch_up-requires-clause-named : goal.catch_up-requires-clause-named
-catch_up-requires-clause-named g c = λ k d l. omega (arith, c.requires.legal.named k l, ap (λ (a : Job). a.task) (get_or_default c.args.jobs.now k d default_job l), length-map c.args.tasks.now sporadic_task)
+catch_up-requires-clause-named g c =
+    λ k d l. omega (
+      arith,
+      c.requires.legal.named k l,
+      ap (λ (a : Job). a.task) (get_or_default c.args.jobs.now k d default_job l),
+      length-map c.args.tasks.now sporadic_task,
+    )
 
 pub catch_up-requires-clause-in_jitter : goal.catch_up-requires-clause-in_jitter
-catch_up-requires-clause-in_jitter g c = λ k d l. in_jitter_each (sporadic_tasks c.args.tasks.now) c.args.jobs.now c.requires.legal d k l
+catch_up-requires-clause-in_jitter g c =
+    λ k d l. in_jitter_each (sporadic_tasks c.args.tasks.now) c.args.jobs.now c.requires.legal d k l
 
 pub serve-span-requires-clause-in_jitter : goal.serve-span-requires-clause-in_jitter
-serve-span-requires-clause-in_jitter g c = λ k d l. in_jitter_each (sporadic_tasks c.args.tasks.now) c.args.jobs.now c.requires.legal d k l
+serve-span-requires-clause-in_jitter g c =
+    λ k d l. in_jitter_each (sporadic_tasks c.args.tasks.now) c.args.jobs.now c.requires.legal d k l
 
 pub serve-span-requires-clause-named : goal.serve-span-requires-clause-named
-serve-span-requires-clause-named g c = λ k d l. omega (arith, c.requires.legal.named k l, ap (λ (a : Job). a.task) (get_or_default c.args.jobs.now k d default_job l), length-map c.args.tasks.now sporadic_task)
+serve-span-requires-clause-named g c =
+    λ k d l. omega (
+      arith,
+      c.requires.legal.named k l,
+      ap (λ (a : Job). a.task) (get_or_default c.args.jobs.now k d default_job l),
+      length-map c.args.tasks.now sporadic_task,
+    )
 
 where_some : (o : Option ℕ) (P : ℕ → Type 0) → IfSome o P → (p : ℕ) → o ≡ Some p → P p
 where_some None P h p e = absurd (none_some None p refl e)
 where_some (Some q) P h p e = subst P (same_Some q p e) h
 
 -- the best of the ready jobs where only the time goes by
-best_later : (before : Job → Job → Bool) (jobs : List Job) (old new : Ready) → new ≡ record old { time = new.time } → IsBest before jobs old.ready.items old.best → IsBest before jobs new.ready.items new.best
+best_later : (before : Job → Job → Bool) (jobs : List Job) (old new : Ready) → new ≡ record old { time = new.time }
+    → IsBest before jobs old.ready.items old.best → IsBest before jobs new.ready.items new.best
 best_later before jobs old new same h = subst (λ (s : Ready). IsBest before jobs s.ready.items s.best) (sym same) h
 
 -- the window of a moment, and the next one where it is over
-window_passed : (windows : List Window) (n at next from now : ℕ) → AreWindows windows n → at < length windows → AreOver windows at from → from ≤ now → now ≤ (window_at windows at).until → ((window_at windows at).until ≡ now → next ≡ at + 1) → ((window_at windows at).until ≢ now → next ≡ at)
-    → (next ≤ length windows) × AreOver windows next now × (next < length windows → now < (window_at windows next).until)
+window_passed : (windows : List Window) (n at next from now : ℕ) → AreWindows windows n → at < length windows
+    → AreOver windows at from → from ≤ now → now ≤ (window_at windows at).until
+    → ((window_at windows at).until ≡ now → next ≡ at + 1) → ((window_at windows at).until ≢ now → next ≡ at)
+    → (next ≤ length windows) × AreOver windows next now
+    × (next < length windows → now < (window_at windows next).until)
 window_passed windows n at next from now h l over m u ends stays = elim (cases_eq (window_at windows at).until now) [
   | inl e ↦ (
     omega (arith, ends e),
-    (λ i k. elim (cases_eq i at) [ inl q ↦ omega (arith, e, ap (λ (z : ℕ). (window_at windows z).until) q) | inr ne ↦ omega (arith, over i (omega (arith, ends e))) ]),
-    λ k. omega (arith, e, ends e, h.in_turn at (omega (arith, ends e)), h.some (at + 1) (omega (arith, ends e)), ap (λ (z : ℕ). (window_at windows z).until) (ends e)),
+    (λ i k. elim (cases_eq i at) [
+      | inl q ↦
+          omega (arith, e, ap (λ (z : ℕ). (window_at windows z).until) q)
+      | inr ne ↦
+          omega (arith, over i (omega (arith, ends e)))
+    ]),
+    λ k. omega (
+      arith,
+      e,
+      ends e,
+      h.in_turn at (omega (arith, ends e)),
+      h.some (at + 1) (omega (arith, ends e)),
+      ap (λ (z : ℕ). (window_at windows z).until) (ends e),
+    ),
   )
-  | inr ne ↦ (omega (arith, stays ne), (λ i k. omega (arith, over i (omega (arith, stays ne)))), λ k. omega (arith, u, ne, stays ne, ap (λ (z : ℕ). (window_at windows z).until) (stays ne)))
+  | inr ne ↦ (
+    omega (arith, stays ne),
+    (λ i k. omega (arith, over i (omega (arith, stays ne)))),
+    λ k. omega (arith, u, ne, stays ne, ap (λ (z : ℕ). (window_at windows z).until) (stays ne)),
+  )
 ]
 
 pub catch_up-requires-clause-best : goal.catch_up-requires-clause-best
-catch_up-requires-clause-best g c = best_later (g.O.Order.goes c.args.order.now (sporadic_tasks c.args.tasks.now)) c.args.jobs.now c.loop-at.ready c.pass_until.new.ready c.in_ok-pass_until.ensures.rest c.loop-at.invariant.best
+catch_up-requires-clause-best g c =
+    best_later (g.O.Order.goes c.args.order.now (sporadic_tasks c.args.tasks.now)) c.args.jobs.now c.loop-at.ready
+    c.pass_until.new.ready c.in_ok-pass_until.ensures.rest c.loop-at.invariant.best
 
 pub loop-at-preserved : goal.loop-at-preserved
 loop-at-preserved g c =
@@ -93,7 +137,12 @@ loop-at-preserved g c =
     let from = (window_at windows at).from in
     let until = (window_at windows at).until in
     let gap : Kept (level_of c.args.keep) before T c.args.jobs.now slots (run_of c.pass_until.new.spans.items) begun
-    = kept_gap (level_of c.args.keep) before T c.args.jobs.now slots (run_of c.loop-at.spans.items) (run_of c.pass_until.new.spans.items) old begun from i.kept (λ x a b. slot_at windows n x (omega (arith, c.requires.windows.some at inside, c.requires.windows.in_slots at inside)) ∙ none_given windows n at old.time x c.requires.windows i.over a (λ l. b)) passed.rest passed.time passed.state passed.run in
+    =
+    kept_gap (level_of c.args.keep) before T c.args.jobs.now slots (run_of c.loop-at.spans.items)
+    (run_of c.pass_until.new.spans.items) old begun from i.kept (λ x a b. slot_at windows n x
+    (omega (arith, c.requires.windows.some at inside, c.requires.windows.in_slots at inside))
+    ∙ none_given windows n at old.time x c.requires.windows i.over a (λ l. b)) passed.rest passed.time
+    passed.state passed.run in
     let some : until ≤ n = c.requires.windows.in_slots at inside in
     let later : begun.time < until = omega (arith, passed.time, i.next inside, c.requires.windows.some at inside) in
     let current : IsCurrent came = record {
@@ -116,10 +165,21 @@ loop-at-preserved g c =
       released = served.released;
       ends = ap (λ v. v.items) served.ends;
     } in
-    let given : AreGiven slots begun.time span.until = λ x a b. slot_at windows n x (omega (arith, served.in_time, some)) ∙ all_given windows at x inside (omega (arith, passed.time)) (omega (arith, served.in_time)) in
+    let given : AreGiven slots begun.time span.until
+    = λ x a b. slot_at windows n x (omega (arith, served.in_time, some))
+    ∙ all_given windows at x inside (omega (arith, passed.time)) (omega (arith, served.in_time)) in
     let kept : Kept (level_of c.args.keep) before T c.args.jobs.now slots (run_of c.add_span.new.spans.items) after
-    = kept_more (level_of c.args.keep) before T c.args.jobs.now windows n (run_of c.pass_until.new.spans.items) (run_of c.add_span.new.spans.items) begun came after span gap current caught.time (ap (λ v. v.items) caught.releases) (ap (λ v. v.items) caught.left) (ap (λ v. v.items) caught.ends) given serves c.in_ok-add_span.ensures.run in
-    let next = window_passed windows n at c.next_after-at.result old.time after.time c.requires.windows inside i.over (omega (arith, passed.time, caught.time, served.some, served.time)) (omega (arith, served.in_time, served.time)) (λ e. c.next_after-at.ensures.over (omega (arith, e, c.time.ensures))) (λ ne. c.next_after-at.ensures.stays (λ e. ne (omega (arith, e, c.time.ensures)))) in
+    =
+    kept_more (level_of c.args.keep) before T c.args.jobs.now windows n (run_of c.pass_until.new.spans.items)
+    (run_of c.add_span.new.spans.items) begun came after span gap current caught.time
+    (ap (λ v. v.items) caught.releases) (ap (λ v. v.items) caught.left) (ap (λ v. v.items) caught.ends) given serves
+    c.in_ok-add_span.ensures.run in
+    let next
+    = window_passed windows n at c.next_after-at.result old.time after.time c.requires.windows inside i.over
+    (omega (arith, passed.time, caught.time, served.some, served.time))
+    (omega (arith, served.in_time, served.time))
+    (λ e. c.next_after-at.ensures.over (omega (arith, e, c.time.ensures)))
+    (λ ne. c.next_after-at.ensures.stays (λ e. ne (omega (arith, e, c.time.ensures)))) in
     record {
       kept = kept;
       spans = subst (AreSpans c.add_span.new.spans.items) (sym served.time) c.in_ok-add_span.ensures.spans;
@@ -136,14 +196,25 @@ returns-clause-first g c =
     let slots = slots_of c.args.given.now c.args.slots in
     let i = c.loop-at.invariant in
     let passed = c.in_ok-pass_until-2.ensures in
-    let end : c.pass_until-2.new.ready.time ≡ length slots = omega (arith, slots-long c.args.given.now c.args.slots, i.in_slots, passed.time) in
-    let all : Kept (level_of c.args.keep) before (sporadic_tasks c.args.tasks.now) c.args.jobs.now slots (run_of c.pass_until-2.new.spans.items) c.pass_until-2.new.ready
-    = kept_gap (level_of c.args.keep) before (sporadic_tasks c.args.tasks.now) c.args.jobs.now slots (run_of c.loop-at.spans.items) (run_of c.pass_until-2.new.spans.items) c.loop-at.ready c.pass_until-2.new.ready c.args.slots i.kept
-    (λ x a b. slot_at c.args.given.now c.args.slots x b ∙ none_given c.args.given.now c.args.slots c.loop-at.at c.loop-at.ready.time x c.requires.windows i.over a (λ l. absurd (omega (arith, l, c.loop-at-test.false))))
+    let end : c.pass_until-2.new.ready.time ≡ length slots
+    = omega (arith, slots-long c.args.given.now c.args.slots, i.in_slots, passed.time) in
+    let all : Kept (level_of c.args.keep) before (sporadic_tasks c.args.tasks.now) c.args.jobs.now slots
+    (run_of c.pass_until-2.new.spans.items) c.pass_until-2.new.ready
+    =
+    kept_gap (level_of c.args.keep) before (sporadic_tasks c.args.tasks.now) c.args.jobs.now slots
+    (run_of c.loop-at.spans.items) (run_of c.pass_until-2.new.spans.items) c.loop-at.ready c.pass_until-2.new.ready
+    c.args.slots i.kept
+    (λ x a b. slot_at c.args.given.now c.args.slots x b
+    ∙ none_given c.args.given.now c.args.slots c.loop-at.at c.loop-at.ready.time x c.requires.windows i.over a
+    (λ l. absurd (omega (arith, l, c.loop-at-test.false))))
     passed.rest passed.time passed.state passed.run in
-    subst (λ (n : ℕ). FirstRunTo (level_of c.args.keep) before (sporadic_tasks c.args.tasks.now) c.args.jobs.now slots n (run_of c.pass_until-2.new.spans.items)) end all.run_so_far
+    subst (λ (n : ℕ). FirstRunTo (level_of c.args.keep) before (sporadic_tasks c.args.tasks.now) c.args.jobs.now slots n
+    (run_of c.pass_until-2.new.spans.items)) end all.run_so_far
 
 pub returns-clause-spans : goal.returns-clause-spans
 returns-clause-spans g c =
     let i = c.loop-at.invariant in
-    subst (AreSpans c.pass_until-2.new.spans.items) (let e : c.pass_until-2.new.ready.time ≡ c.args.slots = omega (arith, i.in_slots, c.in_ok-pass_until-2.ensures.time) in e) c.in_ok-pass_until-2.ensures.spans
+    subst (AreSpans c.pass_until-2.new.spans.items) (
+    let e : c.pass_until-2.new.ready.time ≡ c.args.slots
+    = omega (arith, i.in_slots, c.in_ok-pass_until-2.ensures.time) in
+    e) c.in_ok-pass_until-2.ensures.spans

@@ -6,6 +6,8 @@ pub loop-written-preserved : goal.loop-written-preserved
 loop-written-preserved g c = record {
   within = search rules;
   told = c.in-Ok.ensures.told ∙ c.loop-written.invariant.told;
-  grows = appends_at _ _ _ c.args.bytes.now c.loop-written.written c.in-Ok.count c.loop-written.invariant.grows c.in-Ok.ensures.front;
+  grows =
+      appends_at _ _ _ c.args.bytes.now c.loop-written.written c.in-Ok.count c.loop-written.invariant.grows
+      c.in-Ok.ensures.front;
   quiet = c.in-Ok.ensures.quiet ∙ c.loop-written.invariant.quiet;
 }

@@ -11,7 +11,9 @@ returns c =
     let long : length slots ≡ c.args.slots = slots-long c.args.given.now c.args.slots in
     record {
       given = c.slots_given.ensures c.args.slots c.requires.windows ∙ ap (slots_between slots 0) (sym long);
-      released = c.jobs_before.ensures ∙ ap (λ (n : ℕ). count_below (is_early c.args.jobs.now n) (length c.args.jobs.now)) (sym long);
+      released =
+          c.jobs_before.ensures
+          ∙ ap (λ (n : ℕ). count_below (is_early c.args.jobs.now n) (length c.args.jobs.now)) (sym long);
       missed = c.find_missed-missed.ensures.count;
       none = c.find_missed-missed.ensures.none;
       first = c.find_missed-missed.ensures.first;

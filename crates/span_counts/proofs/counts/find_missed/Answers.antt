@@ -22,23 +22,34 @@ loop-place-preserved c =
     let h = c.loop-place.invariant in
     elim c.match-find_miss.branch [
       | in-Some w ↦
-          let more : count_below missed (n + 1) ≡ count_below missed n + 1 = count_below-passes missed n w.in-Some.ensures.0 in
+          let more : count_below missed (n + 1) ≡ count_below missed n + 1
+          = count_below-passes missed n w.in-Some.ensures.0 in
           record {
             counted = omega (arith, w.count-is, more, h.counted);
             few = omega (arith, w.count-is, h.few);
-            first = subst (FirstMissTo T c.args.jobs.now run (n + 1)) (sym w.first-is) (one_misses T c.args.jobs.now run n c.loop-place.first w.in-Some.miss w.earlier_miss.result h.first w.in-Some.ensures.0 w.in-Some.ensures.1 w.earlier_miss.ensures);
+            first =
+                subst (FirstMissTo T c.args.jobs.now run (n + 1)) (sym w.first-is)
+                (one_misses T c.args.jobs.now run n c.loop-place.first w.in-Some.miss w.earlier_miss.result h.first
+                w.in-Some.ensures.0 w.in-Some.ensures.1 w.earlier_miss.ensures);
           }
       | in_default w ↦
-          let same : count_below missed (n + 1) ≡ count_below missed n = count_below-fails missed n w.in_default.ensures in
+          let same : count_below missed (n + 1) ≡ count_below missed n
+          = count_below-fails missed n w.in_default.ensures in
           record {
             counted = omega (arith, w.count-is, same, h.counted);
             few = omega (arith, w.count-is, h.few);
-            first = subst (FirstMissTo T c.args.jobs.now run (n + 1)) (sym w.first-is) (one_in_time T c.args.jobs.now run n c.loop-place.first h.first w.in_default.ensures);
+            first =
+                subst (FirstMissTo T c.args.jobs.now run (n + 1)) (sym w.first-is)
+                (one_in_time T c.args.jobs.now run n c.loop-place.first h.first w.in_default.ensures);
           }
     ]
 
 pub returns-clause-none : goal.returns-clause-none
 returns-clause-none c =
     let missed : ℕ → Bool = is_missed (sporadic_tasks c.args.tasks.now) c.args.jobs.now (run_of c.args.spans.now) in
-    let all : c.loop-place.count ≡ count_below missed (length c.args.jobs.now) = c.loop-place.invariant.counted ∙ ap (λ (n : ℕ). count_below missed n) (omega arith) in
-    ((λ e. none_where_zero (sporadic_tasks c.args.tasks.now) c.args.jobs.now (run_of c.args.spans.now) (sym all ∙ e)), λ none. all ∙ zero_where_none (sporadic_tasks c.args.tasks.now) c.args.jobs.now (run_of c.args.spans.now) none)
+    let all : c.loop-place.count ≡ count_below missed (length c.args.jobs.now)
+    = c.loop-place.invariant.counted ∙ ap (λ (n : ℕ). count_below missed n) (omega arith) in (
+      (λ e. none_where_zero (sporadic_tasks c.args.tasks.now) c.args.jobs.now (run_of c.args.spans.now)
+          (sym all ∙ e)),
+      λ none. all ∙ zero_where_none (sporadic_tasks c.args.tasks.now) c.args.jobs.now (run_of c.args.spans.now) none,
+    )

@@ -15,9 +15,11 @@ loop-job-preserved c =
     let i : ℕ = c.loop-job.job-index in
     elim c.if-job-moment.branch [
       | then-job-moment w ↦
-          let more : count_below early (i + 1) ≡ count_below early i + 1 = count_below-passes early i (lt-ltb _ _ w.if-job-moment.true) in
+          let more : count_below early (i + 1) ≡ count_below early i + 1
+          = count_below-passes early i (lt-ltb _ _ w.if-job-moment.true) in
           record { counted = omega (arith, w.released-is); few = omega (arith, w.released-is) }
       | else-job-moment w ↦
-          let same : count_below early (i + 1) ≡ count_below early i = count_below-fails early i (le-ltb _ _ w.if-job-moment.false) in
+          let same : count_below early (i + 1) ≡ count_below early i
+          = count_below-fails early i (le-ltb _ _ w.if-job-moment.false) in
           record { counted = omega (arith, w.released-is); few = omega (arith, w.released-is) }
     ]

@@ -4,4 +4,5 @@ use Rattle.span_counts.proofs.Counting.{ServedTo}
 use Rattle.span_counts.proofs.counts.services.Given as goal
 
 abbrev pub invariant-loop-span : goal.invariant-loop-span
-invariant-loop-span l = ServedTo (sporadic_tasks l.tasks) l.jobs (run_of l.spans) (end_of l.spans l.span-index) l.got.items
+invariant-loop-span l =
+    ServedTo (sporadic_tasks l.tasks) l.jobs (run_of l.spans) (end_of l.spans l.span-index) l.got.items

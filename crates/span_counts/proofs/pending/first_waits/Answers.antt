@@ -11,5 +11,6 @@ returns c = λ run. record {
   each = λ j l.
       let jobs = c.args.jobs.now in
       let at = c.loop-job.invariant.each j (omega (arith, c.loop-job-test.false)) in
-      subst (λ (w : Wait). WaitsTo run j (job_at jobs j).work c.args.slots 0 w) (sym at) (first_wait run j (job_at jobs j).work c.args.slots (c.requires.works j l));
+      subst (λ (w : Wait). WaitsTo run j (job_at jobs j).work c.args.slots 0 w) (sym at)
+      (first_wait run j (job_at jobs j).work c.args.slots (c.requires.works j l));
 }

@@ -4,4 +4,9 @@ use Rattle.span_counts.specs.Pending.{wait_at}
 use Rattle.span_counts.proofs.pending.first_waits.Given as goal
 
 abbrev pub invariant-loop-job : goal.invariant-loop-job
-invariant-loop-job l = record { long : length l.waits.items ≡ l.job-index; each : (j : ℕ) → j < l.job-index → wait_at l.waits.items j ≡ record { left = (job_at l.jobs j).work; end = l.slots } }
+invariant-loop-job l =
+    record {
+      long : length l.waits.items ≡ l.job-index;
+      each : (j : ℕ) → j < l.job-index
+          → wait_at l.waits.items j ≡ record { left = (job_at l.jobs j).work; end = l.slots };
+    }

@@ -4,4 +4,9 @@ use Rattle.span_counts.specs.Pending.{slots_pending, AreWaitsTo}
 use Rattle.span_counts.proofs.pending.sum_of_waits.Given as goal
 
 abbrev pub invariant-loop-place : goal.invariant-loop-place
-invariant-loop-place l = record { counted : (run : List (Option ℕ)) → length run ≡ l.slots → AreWaitsTo l.jobs run l.slots l.slots l.waits → l.pending ≡ sum_below (slots_pending l.jobs run) l.place; few : l.pending ≤ l.place * l.slots }
+invariant-loop-place l =
+    record {
+      counted : (run : List (Option ℕ)) → length run ≡ l.slots → AreWaitsTo l.jobs run l.slots l.slots l.waits
+          → l.pending ≡ sum_below (slots_pending l.jobs run) l.place;
+      few : l.pending ≤ l.place * l.slots;
+    }

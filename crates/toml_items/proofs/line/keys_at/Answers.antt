@@ -9,5 +9,6 @@ returns-in-93-clause-keys c =
 pub returns-else-first-ne93-clause-keys : goal.returns-else-first-ne93-clause-keys
 returns-else-first-ne93-clause-keys c =
     let last = c.in_ok-last-in-46.ensures in
-    keys-two c.args.text.now _ _ _ _ c.in_ok-key.ensures.key (sym c.first.ensures ∙ c.in-46.is) (rw c.skip.ensures.rest at last.bare)
+    keys-two c.args.text.now _ _ _ _ c.in_ok-key.ensures.key (sym c.first.ensures ∙ c.in-46.is)
+    (rw c.skip.ensures.rest at last.bare)
     (rw c.skip.ensures.rest at last.key) (sym c.first-in-46.ensures ∙ c.if-first-ne93.false)

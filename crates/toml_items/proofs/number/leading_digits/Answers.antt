@@ -23,22 +23,31 @@ overflow_mul-number c =
 
 pub overflow_add-number : goal.overflow_add-number
 overflow_add-number c =
-    omega (arith, few_below c.loop-len.number c.loop-len.len c.loop-len.invariant.below c.loop-len.invariant.few, c.from.ensures, c.from.type_inv)
+    omega (
+      arith,
+      few_below c.loop-len.number c.loop-len.len c.loop-len.invariant.below c.loop-len.invariant.few,
+      c.from.ensures,
+      c.from.type_inv,
+    )
 
 pub loop-len-preserved : goal.loop-len-preserved
 loop-len-preserved c =
     let number : ℕ = c.loop-len.number in
     let len : ℕ = c.loop-len.len in
     let digit : ℕ = c.from.result in
-    let yes : is_ascii_digit (slice_index c.args.bytes.now len) ≡ true = sym c.is_ascii_digit.ensures.value ∙ c.if-is_ascii_digit.true in
+    let yes : is_ascii_digit (slice_index c.args.bytes.now len) ≡ true
+    = sym c.is_ascii_digit.ensures.value ∙ c.if-is_ascii_digit.true in
     let least : 48 ≤ slice_index c.args.bytes.now len = grind (arith, nat_tests) in
     let most : slice_index c.args.bytes.now len ≤ 57 = grind (arith, nat_tests) in
     let here : slice_index c.args.bytes.now len ≡ 48 + digit = omega (arith, c.from.ensures, least) in
     let small : digit < 10 = omega (arith, here, most) in
-    let fits : 10 * number + digit < 2 ^ 64 = omega (arith, few_below number len c.loop-len.invariant.below c.loop-len.invariant.few, small) in
+    let fits : 10 * number + digit < 2 ^ 64
+    = omega (arith, few_below number len c.loop-len.invariant.below c.loop-len.invariant.few, small) in
     let back : len + 1 - 1 ≡ len = omega arith in
     record {
-      front = digit_more c.args.bytes.now len number digit c.loop-len.invariant.above small fits (omega (arith, c.loop-len-test.true, c.min-end.ensures)) here c.loop-len.invariant.front;
+      front =
+          digit_more c.args.bytes.now len number digit c.loop-len.invariant.above small fits
+          (omega (arith, c.loop-len-test.true, c.min-end.ensures)) here c.loop-len.invariant.front;
       above = omega (arith, c.loop-len.invariant.above);
       below = more_below number digit len c.loop-len.invariant.below small;
       some = omega arith;
@@ -47,7 +56,9 @@ loop-len-preserved c =
     }
 
 pub returns-else-is_ascii_digit-clause-small : goal.returns-else-is_ascii_digit-clause-small
-returns-else-is_ascii_digit-clause-small c = few_below c.loop-len.number c.loop-len.len c.loop-len.invariant.below c.loop-len.invariant.few
+returns-else-is_ascii_digit-clause-small c =
+    few_below c.loop-len.number c.loop-len.len c.loop-len.invariant.below c.loop-len.invariant.few
 
 pub returns-after-loop-len-clause-small : goal.returns-after-loop-len-clause-small
-returns-after-loop-len-clause-small c = few_below c.loop-len.number c.loop-len.len c.loop-len.invariant.below c.loop-len.invariant.few
+returns-after-loop-len-clause-small c =
+    few_below c.loop-len.number c.loop-len.len c.loop-len.invariant.below c.loop-len.invariant.few

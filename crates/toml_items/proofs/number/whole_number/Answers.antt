@@ -11,7 +11,10 @@ returns-clause-number c =
     let rest : List ℕ = c.skip-rest.result.now in
     let number : ℕ = c.leading_digits-number.result.0 in
     let small : number < 2 ^ 63 = omega (arith, c.leading_digits-number.ensures.small) in
-    let is : text ≡ decimal number ++ rest = rw (c.skip-rest.ensures.rest, ← c.as_bytes.ensures.value) c.leading_digits-number.ensures.number in
-    let word : is_word (first rest) ≡ false = ap is_word (sym c.first-behind.ensures) ∙ (sym c.is_word.ensures ∙ c.if-is_word.false) in
-    let space : (first rest == 32) ≡ false = ap (λ (b : ℕ). b == 32) (sym c.first-behind.ensures) ∙ ne_eqb _ 32 c.if-behind-eq32.false in
+    let is : text ≡ decimal number ++ rest
+    = rw (c.skip-rest.ensures.rest, ← c.as_bytes.ensures.value) c.leading_digits-number.ensures.number in
+    let word : is_word (first rest) ≡ false
+    = ap is_word (sym c.first-behind.ensures) ∙ (sym c.is_word.ensures ∙ c.if-is_word.false) in
+    let space : (first rest == 32) ≡ false
+    = ap (λ (b : ℕ). b == 32) (sym c.first-behind.ensures) ∙ ne_eqb _ 32 c.if-behind-eq32.false in
     rw (to_z_pos w64 number small) (unquoted-digits text rest number is small word space)
