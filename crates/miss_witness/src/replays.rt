@@ -19,7 +19,8 @@ use tree_model::{MAX_TASKS, Part, Place, Plan, System, tasks_of};
 /// The longest window that is replayed, in slots.
 const MOST_SLOTS: u64 = 1_000_000;
 
-/// The replays of all computed leaves, in file order.
+/// The replays of all computed leaves, in file order: what defeats the next smaller budget of each,
+/// and what is seen when that is run. It fails only where memory runs out.
 pub fn replay_all(alloc: Global, sys: &System, plan: &Plan) -> Result<Vec<Replay>, AllocError>
     requires { Admitted sys.now plan.now }
     ensures { IfOk result (λ replays. AreReplays sys.now plan.now replays.items) }

@@ -11,7 +11,7 @@ use Rattle.tree_model.specs.View.{SystemView}
 use Rattle.tree_model.specs.System.{no_core}
 use Rattle.guest_sched.specs.MoreWindows.{AddsWindow}
 use Rattle.guest_sched.proofs.Given.{slots-long}
-use Rattle.guest_sched.proofs.Spelled.{Spells, nothing_yet, then_none, then_all}
+use Rattle.guest_sched.proofs.Spelled.{Spells, then_none, then_all}
 use Rattle.server_sched.specs.declared.supplies.Pattern.{Pattern}
 use Rattle.server_sched.specs.Patterns.{cyclic_slot, pattern_slot, pattern_slots, pattern_supplies}
 use Rattle.server_sched.specs.TreeSpans.{given_at, supplies_of}
