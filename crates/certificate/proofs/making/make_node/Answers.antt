@@ -70,8 +70,8 @@ pub least_lists-requires-clause-least : goal.least_lists-requires-clause-least
 least_lists-requires-clause-least c =
     let sys = c.args.sys.now in let budgets = c.args.budgets.now in let place = c.args.place in
     let here = (goal.at.least_lists-requires-clause-least c).After-budget-budget in
-    λ yes passes.
-    not_less sys c.sched_of-sched.ensures.system budgets c.requires.admitted place c.requires.is_node (none_is (given_budget sys place) (sym (computed_is here) ∙ yes))
+    λ t passes.
+    not_less sys c.sched_of-sched.ensures.system budgets c.requires.admitted place c.requires.is_node (none_is (given_budget sys place) (sym (computed_is here) ∙ t))
     (of_level (λ s T f m. Passes s T f) c.sched_of-sched.ensures.sched c.write_tasks-count.ensures.tasks
     (ap (λ (p : ℕ). sbf p (c.budget-budget.result - 1)) (period_is here) ∙ ap (λ (b : ℕ). sbf (node_cycle sys place) (b - 1)) (budget_is here)) (period_is here) passes)
 
