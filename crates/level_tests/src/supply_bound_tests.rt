@@ -1,5 +1,5 @@
 use crate::helpers::{expect, expect_at, periodic};
-use supply_bound::{Full, Periodic, Supply, Window, next_window_by};
+use supply_bound::{Full, NodeSupply, Periodic, Supply, Window, next_window_by};
 
 #[test]
 fn least_slots_of_windows(rt: HostRuntime) {
@@ -109,4 +109,14 @@ fn next_windows(rt: HostRuntime) {
     expect(&rt, periodic(&rt, 5, 0).next_window(0, 20), None);
     expect(&rt, periodic(&rt, 5, 5).next_window(3, 20), window(3, 20));
     expect(&rt, Full.next_window(3, 20), window(3, 20));
+}
+
+#[test]
+fn supplies_of_nodes(rt: HostRuntime) {
+    let part = NodeSupply::Periodic(periodic(&rt, 5, 2));
+    expect(&rt, (part.cycle(), part.budget(), part.start()), (5, 2, 2));
+    expect(&rt, (part.least(8), part.reach(2), part.worst(2)), (2, Some(8), false));
+    let core = NodeSupply::Full;
+    expect(&rt, (core.cycle(), core.budget(), core.start()), (1, 1, 0));
+    expect(&rt, (core.least(8), core.reach(2), core.worst(2)), (8, Some(2), true));
 }

@@ -1,13 +1,16 @@
 ghost use Rattle.std.specs.Prelude.{◌≡◌, IsTrue, length};
-ghost use Rattle.tree_model.specs.Tree.{ChildBudgetsFit};
+ghost use Rattle.tree_model.specs.Tree.{IsNode, ChildBudgetsFit};
 ghost use Rattle.tree_model.specs.declared.place.Place.{Place as AnyPlace};
 
 use crate::helpers::{add_task, core, inner};
-use slot_model::{Sched, Task};
+use slot_model::{LIMIT, Sched, Task};
 use std::alloc::Global;
 use std::process::Abort;
 use std::test::Fail;
-use tree_model::{Parent, Part, Place, System, tasks_of};
+use supply_bound::{NodeSupply, Supply};
+use tree_model::{
+    Parent, Part, Place, System, budget_of, node_supply, period_of, sched_of, tasks_of,
+};
 
 /// A part with a task for each of these works.
 fn part(
@@ -51,11 +54,33 @@ fn tasks_at(
 ) -> Option<usize> {
     assert_eq!(rt; budgets.len(), sys.parts().len());
     assert!(rt; are_in_period(sys, budgets));
+    assert_node(rt, sys, place);
+    tasks_of(sys, budgets, place, into)
+}
+
+fn assert_node(rt: &impl Abort, sys: &System, place: Place)
+    ensures { IsNode sys.now place }
+{
     match place {
         Place::Core(c) => assert!(rt; (c as usize) < sys.cores().len()),
         Place::Part(q) => assert!(rt; (q as usize) < sys.parts().len()),
     }
-    tasks_of(sys, budgets, place, into)
+}
+
+/// What a node is scheduled by, its supply's period, and the budget that is given for it.
+fn assert_level(rt: &impl Abort, sys: &System, place: Place, want: (Sched, u64, Option<u64>)) {
+    assert_node(rt, sys, place);
+    let sched = sched_of(sys, place);
+    let period = period_of(sys, place);
+    let budget = budget_of(sys, place);
+    assert!(rt; sched == want.0 && period == want.1 && budget == want.2);
+}
+
+/// The part's supply under this budget has these slots in a window.
+fn assert_part_supply(rt: &impl Abort, part: &Part, budget: u64, t: u128, want: u128) {
+    assert!(rt; 1 <= part.period() && part.period() <= LIMIT && budget <= part.period());
+    let supply = part.node_supply(budget);
+    assert!(rt; supply.budget() == budget && supply.least(t) == want);
 }
 
 /// A group with a guest, and a guest beside it.
@@ -95,6 +120,21 @@ fn a_node_has_its_own_tasks_or_servers(rt: HostRuntime) -> Result<(), Fail> {
     let mut few = [other; 1];
     let count = tasks_at(&rt, &sys, &[3, 2, 4], Place::Core(0), &mut few);
     assert!(rt; count.is_none() && few == [other]);
+    Ok(())
+}
+
+#[test]
+fn a_node_has_its_scheduler_and_its_supply(rt: HostRuntime) -> Result<(), Fail> {
+    let sys = group_and_guest(rt.alloc())?;
+    assert_level(&rt, &sys, Place::Core(0), (Sched::Edf, 1, Some(1)));
+    assert_level(&rt, &sys, Place::Part(1), (Sched::Rm, 4, None));
+    assert_node(&rt, &sys, Place::Core(0));
+    assert_eq!(rt; sys.parts().len(), 3);
+    assert!(rt; node_supply(&sys, &[3, 2, 4], Place::Core(0)) == NodeSupply::Full);
+    let cases = [(3, 5, 1), (2, 5, 1), (4, 7, 3)];
+    for (part, (budget, t, want)) in sys.parts().iter().zip(cases) {
+        assert_part_supply(&rt, part, budget, t, want);
+    }
     Ok(())
 }
 
