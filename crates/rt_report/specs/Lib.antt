@@ -3,6 +3,7 @@ pub mod Words
 pub mod Missed
 pub mod Replay
 pub mod Admit
+pub mod Responses
 pub mod Simulate
 pub mod Refusal
 pub mod Audit

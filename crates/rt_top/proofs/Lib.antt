@@ -13,6 +13,8 @@ mod Laws
 mod Reporting
 mod ReplayLeaf
 mod ReplayList
+mod OneResponses
+mod RespondLeaf
 mod Examples
 mod AuditExamples
 mod MeansExamples

@@ -8,6 +8,7 @@ mod guests;
 mod one_file;
 mod refusing;
 mod replays;
+mod responding;
 mod slot_words;
 mod slots;
 mod status;
