@@ -13,6 +13,7 @@ use Rattle.slot_model.specs.declared.sched.Sched.TheVariants.{Edf, Rm, Dm, Liste
 use Rattle.slot_model.specs.Task.{SporadicTask}
 use Rattle.slot_model.specs.Order.{ranks_above}
 use Rattle.slot_model.specs.Bound.{sbf, Passes, IsHit, IsShortTask}
+use Rattle.slot_model.proofs.Budgets.{hits_of}
 use Rattle.rtds_sim.specs.Rtds.{is_edf}
 use Rattle.tree_model.specs.declared.place.Place.TheVariants.{Part}
 use Rattle.tree_model.specs.View.{PartView, SystemView}
@@ -50,10 +51,7 @@ short_no_hit : (above : ℕ → ℕ → Bool) (tasks : List SporadicTask) (bound
 short_no_hit above tasks bound i (t, hit) short = omega (arith, hit.enough, short t hit.some_slots hit.in_deadline)
 
 pub not_short : (sched : Sched) → sched ≢ Edf → (tasks : List SporadicTask) (bound : ℕ → ℕ) → Passes sched tasks bound → (i : ℕ) → i < length tasks → IsShortTask (ranks_above sched tasks) tasks bound i → ⊥
-not_short Edf fixed tasks bound passes i l short = absurd (fixed refl)
-not_short Rm fixed tasks bound passes i l short = short_no_hit (ranks_above Rm tasks) tasks bound i (passes i l) short
-not_short Dm fixed tasks bound passes i l short = short_no_hit (ranks_above Dm tasks) tasks bound i (passes i l) short
-not_short Listed fixed tasks bound passes i l short = short_no_hit (ranks_above Listed tasks) tasks bound i (passes i l) short
+not_short sched fixed tasks bound passes i l short = short_no_hit (ranks_above sched tasks) tasks bound i (hits_of sched fixed tasks bound passes i l) short
 
 -- what is answered of what was read is answered of the part
 read_answer : (sys : SystemView) (budgets : List ℕ) (q i : ℕ) (sched : Sched) (tasks : List SporadicTask) (period budget : ℕ) → LeafRead sys budgets q sched tasks period budget
