@@ -19,6 +19,8 @@ mod miss_witness_tests;
 #[cfg(test)]
 mod release_pattern_tests;
 #[cfg(test)]
+mod response_times_tests;
+#[cfg(test)]
 mod slot_model_tests;
 #[cfg(test)]
 mod supply_bound_tests;

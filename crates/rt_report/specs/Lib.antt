@@ -2,6 +2,7 @@ pub mod Bulk
 pub mod Words
 pub mod Missed
 pub mod Admit
+pub mod Responses
 pub mod Simulate
 pub mod Refusal
 pub mod Audit

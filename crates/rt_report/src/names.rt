@@ -1,6 +1,7 @@
 ghost use Rattle.std.specs.Prelude.{◌≡◌, ◌++◌, ◌<◌, OnOk, string_bytes};
 ghost use Rattle.tree_model.specs.declared.place.Place.TheVariants.{Core, Part};
 ghost use Rattle.rt_report.specs.Words.{node_words, child_name, served_name, task_name};
+ghost use Rattle.rt_report.specs.Responses.{part_name, task_name_at};
 ghost use Rattle.tree_model.specs.Tree.{IsNode};
 
 use std::alloc::AllocError;
@@ -49,6 +50,26 @@ pub fn task(part: &Part, i: u32) -> &str
 {
     match part.tasks().get(i as usize) {
         Some(named) => named.name().as_str(),
+        None => "",
+    }
+}
+
+/// The name of the part at a place; nothing past the end.
+pub fn part(sys: &System, q: u32) -> &str
+    ensures { result.now ≡ part_name sys.now q }
+{
+    match sys.parts().get(q as usize) {
+        Some(part) => part.name().as_str(),
+        None => "",
+    }
+}
+
+/// The name of a task of the part at a place; nothing past the end.
+pub fn task_at(sys: &System, q: u32, i: u32) -> &str
+    ensures { result.now ≡ task_name_at sys.now q i }
+{
+    match sys.parts().get(q as usize) {
+        Some(part) => task(part, i),
         None => "",
     }
 }

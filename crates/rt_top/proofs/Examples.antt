@@ -56,7 +56,7 @@ the_words_of_each_command : (word : List ℕ) (rest : List (List ℕ)) → comma
     else None)
 the_words_of_each_command word rest = refl
 
-the_usage : usage_line ≡ codes "usage: rtadmit admit FILE | certify FILE | check FILE CERT | simulate FILE RELEASES PATTERN SLOTS | rtds FILE WORKLOAD SLOTS | audit FILE TRACE | bulk N\n"
+the_usage : usage_line ≡ codes "usage: rtadmit admit FILE | certify FILE | check FILE CERT | simulate FILE RELEASES PATTERN SLOTS | rtds FILE WORKLOAD SLOTS | audit FILE TRACE | bulk N | responses FILE\n"
 the_usage = refl
 
 -- files count from 1, and past the last there is none

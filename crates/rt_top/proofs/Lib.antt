@@ -11,6 +11,8 @@ mod Taking
 mod SlotEach
 mod Laws
 mod Reporting
+mod OneResponses
+mod RespondLeaf
 mod Examples
 mod AuditExamples
 mod MeansExamples

@@ -3,6 +3,7 @@ mod audit;
 mod bulk;
 mod certify;
 mod check;
+mod responses;
 mod rtds;
 mod simulate;
 
@@ -20,6 +21,7 @@ use crate::commands::audit::Audit;
 use crate::commands::bulk::bulk;
 use crate::commands::certify::Certify;
 use crate::commands::check::Check;
+use crate::commands::responses::Responses;
 use crate::commands::rtds::Rtds;
 use crate::commands::simulate::Simulate;
 use crate::guests::Guests;
@@ -49,6 +51,8 @@ pub enum Command<'a> {
     Simulate(&'a str, &'a str, Pattern, Slots),
     /// `bulk N`
     Bulk(Guests),
+    /// `responses FILE`
+    Responses(&'a str),
 }
 
 /// The command that the words spell: its own word, its files, and what else it takes.
@@ -72,6 +76,8 @@ pub fn parse(words: &[String]) -> Option<Command<'_>>
         Some(Command::Audit(file, trace))
     } else if word.as_str() == "bulk" {
         Some(Command::Bulk(guest_number(one_word(rest)?)?))
+    } else if word.as_str() == "responses" {
+        Some(Command::Responses(one_word(rest)?))
     } else {
         None
     }
@@ -82,7 +88,8 @@ fn usage_text() -> &'static str
     ensures { result.now ≡ usage_line }
 {
     "usage: rtadmit admit FILE | certify FILE | check FILE CERT | \
-     simulate FILE RELEASES PATTERN SLOTS | rtds FILE WORKLOAD SLOTS | audit FILE TRACE | bulk N\n"
+     simulate FILE RELEASES PATTERN SLOTS | rtds FILE WORKLOAD SLOTS | audit FILE TRACE | bulk N | \
+     responses FILE\n"
 }
 
 /// The answer to a command, or to words that spell none.
@@ -112,6 +119,7 @@ pub fn answer<S: Store>(alloc: Global, command: Option<Command<'_>>, store: &mut
             ended(over_two(alloc, store, file, releases, &judge))
         }
         Some(Command::Bulk(guests)) => ended(bulk(alloc, guests)),
+        Some(Command::Responses(file)) => ended(over_one(alloc, store, file, &Responses)),
         None => ended(usage(alloc)),
     }
 }

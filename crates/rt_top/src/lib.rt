@@ -7,6 +7,7 @@ mod file;
 mod guests;
 mod one_file;
 mod refusing;
+mod responding;
 mod slot_words;
 mod slots;
 mod status;

@@ -1,14 +1,14 @@
 ghost use Rattle.std.specs.Prelude.{◌≡◌, IfOk, IfErr};
-ghost use Rattle.tree_model.specs.Admission.{Assigned};
+ghost use Rattle.tree_model.specs.Admission.{Admitted, Assigned};
 ghost use Rattle.tree_model.specs.Plans.{IsPlan};
 ghost use Rattle.rt_report.specs.Refusal.{refusal_text, IsRefusalOf};
 ghost use Rattle.rt_top.specs.Attempt.{IsRefused};
-ghost use Rattle.rt_top.specs.Budgets.{assigning, refusal_status};
+ghost use Rattle.rt_top.specs.Budgets.{assigning, composing, refusal_status};
 ghost use Rattle.rt_top.specs.Steps.{IfAnswered, IsJudged, EndsJudged};
 
 use crate::Status;
 use crate::answer::{Answer, Ending};
-use compose_tree::assign;
+use compose_tree::{assign, compose};
 use rt_report::refusal_text;
 use std::alloc::{AllocError, Global};
 use tree_model::{Plan, Refusal, System};
@@ -42,6 +42,21 @@ pub fn assigned(alloc: Global, sys: &System) -> Result<Plan, Ending>
     ensures judged { IfErr result (λ stop. EndsJudged stop) }
 {
     match assign(alloc, sys) {
+        Ok(plan) => Ok(plan),
+        Err(Refusal::NoMemory) => Err(Ending::NoMemory),
+        Err(refusal) => Err(Ending::Answered(refuse(alloc, sys, refusal)?)),
+    }
+}
+
+/// The budgets that admit the system. It stops at the first node that refuses.
+#[tactic(auto, using(crate::proofs::Budgets::refusal_told))]
+pub fn admitted(alloc: Global, sys: &System) -> Result<Plan, Ending>
+    ensures admitted { IfOk result (λ plan. Admitted sys.now plan) }
+    ensures refused { IfErr result (λ stop. IfAnswered stop (λ a.
+        IsRefused (composing sys.now) a.status a.text.items)) }
+    ensures judged { IfErr result (λ stop. EndsJudged stop) }
+{
+    match compose(alloc, sys) {
         Ok(plan) => Ok(plan),
         Err(Refusal::NoMemory) => Err(Ending::NoMemory),
         Err(refusal) => Err(Ending::Answered(refuse(alloc, sys, refusal)?)),

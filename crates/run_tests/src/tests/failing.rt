@@ -196,3 +196,9 @@ fn of_audit(rt: HostRuntime) -> Result<(), Fail> {
 fn of_bulk(rt: HostRuntime) -> Result<(), Fail> {
     all_fail(&rt, rt.alloc(), &["bulk", "1"], &[], HOST_COUNTS)
 }
+
+#[test]
+fn of_responses(rt: HostRuntime) -> Result<(), Fail> {
+    let words = ["responses", "first"];
+    all_fail(&rt, rt.alloc(), &words, &[RATED], RATED_RESPONSES)
+}

@@ -20,6 +20,16 @@ pub const LEAF_RELEASES: &str = "at,part,task,work\n0,leaf,t1,7\n0,leaf,t2,9\n50
 pub const LEAF_COUNTS: &str = "verdict=yes\ncore cpu0 given=100 jobs=10 missed=0\n\
      part leaf given=30 jobs=3 missed=0\n";
 
+/// The same by rate.
+pub const RATED: &str =
+    "format = 1\n[[core]]\nname = \"cpu0\"\nsched = \"edf\"\n[[part]]\nname = \"leaf\"\n\
+     parent = \"cpu0\"\nsched = \"rm\"\nperiod = 10\n[[part.task]]\nname = \"t1\"\n\
+     period = 50\nwork = 7\n[[part.task]]\nname = \"t2\"\nperiod = 75\nwork = 9\n";
+
+pub const RATED_RESPONSES: &str =
+    "verdict=yes\nresponse leaf t1 worst=25 limit=50 replay=25\n\
+     response leaf t2 worst=46 limit=75 replay=46\n";
+
 /// Two guests on one core, of which the first may take what is left.
 pub const SHARED: &str =
     "format = 1\n[[core]]\nname = \"cpu0\"\nsched = \"edf\"\n[[part]]\nname = \"A\"\n\

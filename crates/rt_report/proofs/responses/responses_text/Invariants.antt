@@ -1,0 +1,8 @@
+use Rattle.std.proofs.Common.{◌≡◌, ◌++◌, drop}
+use Rattle.std.specs.Prelude.{string_bytes}
+use Rattle.rt_report.specs.Responses.{response_lines, responses_text}
+use Rattle.rt_report.proofs.responses.responses_text.Given as goal
+
+-- what is written, and then the lines that are left
+abbrev pub invariant-loop-row : goal.invariant-loop-row
+invariant-loop-row l = string_bytes l.text ++ response_lines l.sys (drop l.row-index l.rows) ≡ responses_text l.sys l.rows
