@@ -3,6 +3,7 @@
 
 mod choice;
 mod choosing;
+mod shortness;
 
 pub use choice::Choice;
 pub use choosing::choose;

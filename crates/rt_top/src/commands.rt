@@ -3,12 +3,14 @@ mod audit;
 mod bulk;
 mod certify;
 mod check;
+mod choose;
+mod interface;
 mod rtds;
 mod simulate;
 
 ghost use Rattle.std.specs.Prelude.{◌≡◌, ◌≢◌, Some, map, option_map, string_bytes, IfOk, IfErr};
 ghost use Rattle.std.specs.Option.{option_copied};
-ghost use Rattle.rt_top.specs.Commands.{command_of, command_told, one_word, rtds_of, simulate_of, two_words, usage_line};
+ghost use Rattle.rt_top.specs.Commands.{choose_of, command_of, command_told, interface_of, one_word, rtds_of, simulate_of, two_words, usage_line};
 ghost use Rattle.rt_top.specs.Guests.{guest_number};
 ghost use Rattle.rt_top.specs.Reading.{NamesNoFile};
 ghost use Rattle.rt_top.specs.Steps.{counts_of, IfAnswered, IsSaid, Explains, CommandTakes};
@@ -20,10 +22,14 @@ use crate::commands::audit::Audit;
 use crate::commands::bulk::bulk;
 use crate::commands::certify::Certify;
 use crate::commands::check::Check;
+use crate::commands::choose::Choose;
+use crate::commands::interface::Interface;
 use crate::commands::rtds::Rtds;
 use crate::commands::simulate::Simulate;
 use crate::guests::Guests;
 use crate::one_file::over_one;
+use crate::period_words::{period_of, range_of};
+use crate::periods::{Period, Periods};
 use crate::slot_words::{pattern_of, slot_count};
 use crate::slots::Slots;
 use crate::two_files::over_two;
@@ -49,6 +55,10 @@ pub enum Command<'a> {
     Simulate(&'a str, &'a str, Pattern, Slots),
     /// `bulk N`
     Bulk(Guests),
+    /// `interface FILE PART DEADLINE`
+    Interface(&'a str, &'a str, Period),
+    /// `choose FILE PART LOW HIGH`
+    Choose(&'a str, &'a str, Periods),
 }
 
 /// The command that the words spell: its own word, its files, and what else it takes.
@@ -72,6 +82,10 @@ pub fn parse(words: &[String]) -> Option<Command<'_>>
         Some(Command::Audit(file, trace))
     } else if word.as_str() == "bulk" {
         Some(Command::Bulk(guest_number(one_word(rest)?)?))
+    } else if word.as_str() == "interface" {
+        interface_of(rest)
+    } else if word.as_str() == "choose" {
+        choose_of(rest)
     } else {
         None
     }
@@ -82,7 +96,8 @@ fn usage_text() -> &'static str
     ensures { result.now ≡ usage_line }
 {
     "usage: rtadmit admit FILE | certify FILE | check FILE CERT | \
-     simulate FILE RELEASES PATTERN SLOTS | rtds FILE WORKLOAD SLOTS | audit FILE TRACE | bulk N\n"
+     simulate FILE RELEASES PATTERN SLOTS | rtds FILE WORKLOAD SLOTS | audit FILE TRACE | bulk N | \
+     interface FILE PART DEADLINE | choose FILE PART LOW HIGH\n"
 }
 
 /// The answer to a command, or to words that spell none.
@@ -112,6 +127,12 @@ pub fn answer<S: Store>(alloc: Global, command: Option<Command<'_>>, store: &mut
             ended(over_two(alloc, store, file, releases, &judge))
         }
         Some(Command::Bulk(guests)) => ended(bulk(alloc, guests)),
+        Some(Command::Interface(file, part, deadline)) => {
+            ended(over_one(alloc, store, file, &Interface { part, deadline }))
+        }
+        Some(Command::Choose(file, part, periods)) => {
+            ended(over_one(alloc, store, file, &Choose { part, periods }))
+        }
         None => ended(usage(alloc)),
     }
 }
@@ -150,6 +171,32 @@ fn simulate_of(words: &[String]) -> Option<Command<'_>>
             let pattern = pattern_of(pattern.as_str())?;
             let slots = slot_count(slots.as_str())?;
             Some(Command::Simulate(file.as_str(), releases.as_str(), pattern, slots))
+        }
+        _ => None,
+    }
+}
+
+/// The command whose own word is `interface`.
+fn interface_of(words: &[String]) -> Option<Command<'_>>
+    ensures { option_map command_told result ≡ interface_of (map string_bytes words.now) }
+{
+    match words {
+        [file, part, deadline] => {
+            let deadline = period_of(deadline.as_str())?;
+            Some(Command::Interface(file.as_str(), part.as_str(), deadline))
+        }
+        _ => None,
+    }
+}
+
+/// The command whose own word is `choose`.
+fn choose_of(words: &[String]) -> Option<Command<'_>>
+    ensures { option_map command_told result ≡ choose_of (map string_bytes words.now) }
+{
+    match words {
+        [file, part, low, high] => {
+            let periods = range_of(low.as_str(), high.as_str())?;
+            Some(Command::Choose(file.as_str(), part.as_str(), periods))
         }
         _ => None,
     }
