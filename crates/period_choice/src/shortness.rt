@@ -8,8 +8,8 @@ use least_budget::{Tested, test};
 use slot_model::{Sched, Short, Task};
 use supply_bound::{Periodic, Supply};
 
-/// Whether the tasks pass over the supply. `last` is what was short of another supply, and mostly is
-/// short of this one too; where something else is, it is that from now on.
+/// Whether the tasks pass over the supply. `last` is what was short of another supply, and mostly
+/// is short of this one too; where something else is, it is that from now on.
 pub fn passes(sched: Sched, tasks: &[Task], s: &Periodic, last: &mut Option<Short>) -> bool
     requires { length tasks.now < 2 ^ 32 }
     ensures { IsTrue result ↔ TestPasses sched (sporadic_tasks tasks.now)

@@ -1,5 +1,5 @@
--- `interface FILE PART DEADLINE`: what it answers, and what its yes and no mean to who gives a guest
--- its budget early in each period.
+-- `interface FILE PART DEADLINE`: what it answers, and what its yes and no mean to who gives a
+-- guest its budget early in each period.
 use Rattle.std.specs.Prelude.{◌≡◌, ◌⊎◌, ℕ, ◌<◌, ◌≤◌, List, [], ◌∷◌, None, ⊤}
 use Rattle.slot_model.specs.declared.sched.Short.{Short}
 use Rattle.slot_model.specs.Supply.{GivesByDeadline}

@@ -12,8 +12,8 @@ use rt_report::{best_text, nothing_text};
 use std::alloc::{AllocError, Global};
 use tree_model::System;
 
-/// `choose FILE PART LOW HIGH`: the period of the range at which a leaf needs the least share of the
-/// processor.
+/// `choose FILE PART LOW HIGH`: the period of the range at which a leaf needs the least share of
+/// the processor.
 #[derive(Clone, Copy)]
 pub struct Choose<'a> {
     pub part: &'a str,

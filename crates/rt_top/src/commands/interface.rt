@@ -15,8 +15,8 @@ use rt_report::{FileFault, interface_text};
 use std::alloc::{AllocError, Global};
 use tree_model::{Place, Refusal, System};
 
-/// `interface FILE PART DEADLINE`: the least budget with which a leaf passes where it gets it by the
-/// deadline in each of its periods.
+/// `interface FILE PART DEADLINE`: the least budget with which a leaf passes where it gets it by
+/// the deadline in each of its periods.
 #[derive(Clone, Copy)]
 pub struct Interface<'a> {
     pub part: &'a str,
