@@ -7,6 +7,8 @@ mod edf_demand_tests;
 #[cfg(test)]
 mod edf_test_tests;
 #[cfg(test)]
+mod edp_supply_tests;
+#[cfg(test)]
 mod fp_request_tests;
 #[cfg(test)]
 mod fp_test_tests;
@@ -16,6 +18,8 @@ mod helpers;
 mod least_budget_tests;
 #[cfg(test)]
 mod miss_witness_tests;
+#[cfg(test)]
+mod period_choice_tests;
 #[cfg(test)]
 mod release_pattern_tests;
 #[cfg(test)]

@@ -10,13 +10,13 @@ use Rattle.tree_model.specs.declared.place.Parent.TheVariants.{Core as on_core, 
 use Rattle.tree_model.specs.declared.place.Place.TheVariants.{Core, Part}
 use Rattle.tree_model.specs.declared.plan.Refusal.TheVariants.{Overfull, Wide}
 use Rattle.tree_model.specs.View.{NamedTask, PartView, SystemView}
-use Rattle.tree_model.specs.System.{computed_leaves}
+use Rattle.tree_model.specs.System.{computed_leaves, part_at}
 use Rattle.system_file.specs.declared.fault.Spot.TheVariants.{Top, Core as at_core, Part as at_part, Task as at_task}
 use Rattle.system_file.specs.declared.fault.SystemFault.TheVariants.{NotToml, MissingKey, WrongKind, UnknownKey, BadName, NameTaken, OutOfRange, NoSuchParent, Mixed, Empty, TooMany}
 use Rattle.release_file.specs.declared.fault.ReleaseFault.TheVariants.{BadHeader as NoReleases, BadRow as ReleaseBadRow, Unknown as ReleaseUnknown, OutOfRange as ReleaseOutOfRange, TooEarly, BadOrder}
 use Rattle.trace_file.specs.declared.fault.TraceFault.TheVariants.{BadHeader as NoTrace, BadRow, Unknown, OutOfRange as LateMoment, TimeFalls, WrongCore, NotStarted, StartedTwice, NotBlocked, NotRunnable, StillRunning, CoreIdle, AfterEnd, NoEnd}
 use Rattle.cert_reader.specs.declared.fault.CertFault.TheVariants.{NotJson, WrongShape, BadNumber, TooMany as TooManyNodes}
-use Rattle.rt_report.specs.declared.fault.FileFault.TheVariants.{System, Release, Trace, Cert, NotRtds}
+use Rattle.rt_report.specs.declared.fault.FileFault.TheVariants.{System, Release, Trace, Cert, NotRtds, NoSuchLeaf, BadDeadline}
 use Rattle.miss_witness.specs.declared.replay.Replay.{Replay}
 use Rattle.auditor.specs.declared.finding.Finding.TheVariants.{Yes, Short, Over}
 use Rattle.rt_report.specs.Audit.{audit_text}
@@ -25,7 +25,9 @@ use Rattle.rt_report.specs.Bulk.{bulk_text}
 use Rattle.cert_reader.specs.declared.flaw.Flaw.TheVariants.{Nodes, Budget, Cover, Hit, Least, Wide as TooWide}
 use Rattle.rt_report.specs.Refusal.{refusal_text}
 use Rattle.rt_report.specs.Check.{check_text}
+use Rattle.rt_report.specs.Choose.{best_text, nothing_text}
 use Rattle.rt_report.specs.Fault.{fault_text}
+use Rattle.rt_report.specs.Interface.{interface_text}
 use Rattle.rt_report.specs.Unread.{absent_text, too_long_text}
 use Rattle.rt_report.specs.Words.{served_name}
 
@@ -149,6 +151,18 @@ faults_of_certificates = (refl, refl, refl, refl)
 a_core_that_is_not_rtds : fault_text (Some tree) (NotRtds 0) 1 ≡ codes "fault=NotRtds core=cpu0 file=1\n"
 unfolding digits
 a_core_that_is_not_rtds = refl
+
+words_that_fit_no_leaf : (fault_text None NoSuchLeaf 1 ≡ codes "fault=NoSuchLeaf file=1\n") × (fault_text None BadDeadline 1 ≡ codes "fault=BadDeadline file=1\n")
+unfolding digits
+words_that_fit_no_leaf = (refl, refl)
+
+the_interface_of_a_leaf : interface_text (part_at tree 3) 40 27 ≡ codes "verdict=yes\ninterface ctl period=200 deadline=40 budget=27\n"
+unfolding digits
+the_interface_of_a_leaf = refl
+
+choices_of_a_period : (best_text (part_at tree 3) 7 2 ≡ codes "verdict=yes\nchoose ctl period=7 budget=2\n") × (nothing_text 99 0 ≡ codes "verdict=no\nnothing over=99 wide=0\n")
+unfolding digits
+choices_of_a_period = (refl, refl)
 
 what_an_audit_tells :
     ((audit_text tree (30 ∷ 2 ∷ 28 ∷ 40 ∷ []) (Yes 12) ≡ codes "verdict=yes\nperiods=12\n")

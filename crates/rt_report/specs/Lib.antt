@@ -7,6 +7,8 @@ pub mod Simulate
 pub mod Refusal
 pub mod Audit
 pub mod Check
+pub mod Choose
+pub mod Interface
 pub mod SystemFault
 pub mod RowFault
 pub mod CertFault

@@ -1,5 +1,5 @@
 ghost use Rattle.std.specs.Prelude.{◌≡◌, ◌<◌, IfOk, option_copied};
-ghost use Rattle.rt_report.specs.Fault.{fault_text, not_rtds_text, HasCore, IsFault};
+ghost use Rattle.rt_report.specs.Fault.{fault_text, not_rtds_text, word_fault_text, HasCore, IsFault};
 
 use crate::cert_fault::cert_text;
 use crate::row_fault::{release_text, trace_text};
@@ -21,6 +21,10 @@ pub enum FileFault {
     Cert(CertFault),
     /// The core, by its place, is not full or not under earliest deadline first.
     NotRtds(u32),
+    /// It has no leaf of the name that a word tells.
+    NoSuchLeaf,
+    /// The deadline that a word tells passes the leaf's period.
+    BadDeadline,
 }
 
 /// The line of a fault of the file word `file`, counted from 1. `sys` has the names of nodes that a
@@ -40,6 +44,8 @@ pub fn fault_text(
         FileFault::Trace(fault) => trace_text(alloc, fault, file),
         FileFault::Cert(fault) => cert_text(alloc, fault, file),
         FileFault::NotRtds(c) => not_rtds_text(alloc, sys, c, file),
+        FileFault::NoSuchLeaf => word_fault_text(alloc, "NoSuchLeaf", file),
+        FileFault::BadDeadline => word_fault_text(alloc, "BadDeadline", file),
     }
 }
 
@@ -60,4 +66,10 @@ fn not_rtds_text(
         }
         None => unreachable!(),
     }
+}
+
+fn word_fault_text(alloc: Global, fault: &str, file: u32) -> Result<Vec<u8>, AllocError>
+    ensures { IfOk result (λ text. text.items ≡ word_fault_text fault.now file) }
+{
+    Ok(format!(in alloc; "fault={fault} file={file}\n")?.into_bytes())
 }

@@ -4,6 +4,7 @@ mod Budgets
 mod CommandLaws
 mod OneFile
 mod TwoFiles
+mod NamedLeaf
 mod ReadSecond
 mod Statuses
 mod Steps

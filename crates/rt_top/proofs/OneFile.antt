@@ -10,7 +10,7 @@ use Rattle.system_file.specs.SystemFile.{system_of}
 use Rattle.system_file.proofs.Laws.{read_is_spelled}
 use Rattle.outside.specs.Files.{Files, Told, file_named}
 use Rattle.rt_top.specs.declared.status.Status.{Status}
-use Rattle.rt_top.specs.declared.status.Status.TheVariants.{TooLong}
+use Rattle.rt_top.specs.declared.status.Status.TheVariants.{TooLong, NoMemory}
 use Rattle.rt_top.specs.declared.answer.Ending.{Ending}
 use Rattle.rt_top.specs.declared.answer.Ending.TheVariants.{Answered, Unread, NoMemory as NoRoom}
 use Rattle.rt_top.specs.Commands.{Command, spec_of, file_names}
@@ -22,18 +22,34 @@ use Rattle.rt_top.proofs.AtFile.{more_at, more_on, one_at, one_on, statuses_at, 
 use Rattle.rt_top.proofs.CommandLaws.{CommandLaws}
 use Rattle.rt_top.proofs.Statuses.{IsOfJob, job_of_judged}
 
--- the record of a command over a system file of whose system this is said, which means this
-abbrev pub over_system : List ℕ → (Says Tells : SystemView → Status → List ℕ → Type 0) → CommandSpec
-over_system name Says Tells = record {
+-- the record of a command over a system file of whose system this is said, which means this, and
+-- which ends so
+abbrev pub over_system_ending : List ℕ → (Says Tells : SystemView → Status → List ℕ → Type 0) → (Contents → Status → Type 0) → CommandSpec
+over_system_ending name Says Tells EndsAs = record {
   files = name ∷ [];
   Answers = λ contents. AtFile 1 contents (λ bytes. OnSystem (system_of bytes) Says);
   Means = λ contents status text. IfSystem contents (λ sys. Tells sys status text);
   CanJudge = λ contents. IsReadable 1 contents (λ bytes. IsOk (system_of bytes));
-  EndsAs = λ contents. IsVerdict;
+  EndsAs = EndsAs;
 }
 
--- one thing is said of a system, with the status of a verdict, and it means this; of a file that is
--- too long nothing is told
+-- one that ends with a verdict
+abbrev pub over_system : List ℕ → (Says Tells : SystemView → Status → List ℕ → Type 0) → CommandSpec
+over_system name Says Tells = over_system_ending name Says Tells (λ contents. IsVerdict)
+
+-- one thing is said of a system, and it means this; of a file that is too long nothing is told
+pub record AnswersSystem (Says Tells : SystemView → Status → List ℕ → Type 0) : Type 0 where
+  pub one : (sys : SystemView) → IsSystem sys → IsOne (Says sys)
+  pub judged : (sys : SystemView) (status : Status) (text : List ℕ) → Says sys status text → IsJudged status
+  pub means : (sys : SystemView) → IsSystem sys → (status : Status) (text : List ℕ) → Says sys status text → Tells sys status text
+  pub long : (sys : SystemView) (text : List ℕ) → Tells sys TooLong text
+
+-- what is said of the system that the file spells ends the command so
+pub record EndsSystem (Says : SystemView → Status → List ℕ → Type 0) (EndsAs : Contents → Status → Type 0) : Type 0 where
+  pub verdict : (contents : Contents) (sys : SystemView) → IsReadable 1 contents (λ bytes. system_of bytes ≡ Ok sys) → (status : Status) (text : List ℕ) → Says sys status text → EndsAs contents status
+  pub no_memory : (contents : Contents) → EndsAs contents NoMemory
+
+-- what is said of a system has the status of a verdict
 pub record JudgesSystem (Says Tells : SystemView → Status → List ℕ → Type 0) : Type 0 where
   pub one : (sys : SystemView) → IsSystem sys → IsOne (Says sys)
   pub judged : (sys : SystemView) (status : Status) (text : List ℕ) → Says sys status text → IsJudged status
@@ -46,37 +62,44 @@ long_tells : (Tells : SystemView → Status → List ℕ → Type 0) (spelled : 
 long_tells Tells (Ok sys) text long = long sys text
 long_tells Tells (Err fault) text long = tt
 
-spelled_tells : (Says Tells : SystemView → Status → List ℕ → Type 0) (bytes : List ℕ) → JudgesSystem Says Tells → (spelled : Result SystemView SystemFault) → system_of bytes ≡ spelled → (status : Status) (text : List ℕ) → OnSystem spelled Says status text → IfOk spelled (λ sys. Tells sys status text)
+spelled_tells : (Says Tells : SystemView → Status → List ℕ → Type 0) (bytes : List ℕ) → AnswersSystem Says Tells → (spelled : Result SystemView SystemFault) → system_of bytes ≡ spelled → (status : Status) (text : List ℕ) → OnSystem spelled Says status text → IfOk spelled (λ sys. Tells sys status text)
 spelled_tells Says Tells bytes judges (Ok sys) is status text h = judges.means sys (read_is_spelled bytes sys is).system status text h
 spelled_tells Says Tells bytes judges (Err fault) is status text h = tt
 
-content_tells : (Says Tells : SystemView → Status → List ℕ → Type 0) → JudgesSystem Says Tells → (content : Option (List ℕ)) (status : Status) (text : List ℕ) → AtContent 1 content (λ bytes. OnSystem (system_of bytes) Says) status text → IfSome content (λ bytes. IfOk (system_of bytes) (λ sys. Tells sys status text))
+content_tells : (Says Tells : SystemView → Status → List ℕ → Type 0) → AnswersSystem Says Tells → (content : Option (List ℕ)) (status : Status) (text : List ℕ) → AtContent 1 content (λ bytes. OnSystem (system_of bytes) Says) status text → IfSome content (λ bytes. IfOk (system_of bytes) (λ sys. Tells sys status text))
 content_tells Says Tells judges None status text h = tt
 content_tells Says Tells judges (Some bytes) status text h = elim (cases_lt file_limit (length bytes)) [
   | inl more ↦ subst (λ (s : Status). IfOk (system_of bytes) (λ sys. Tells sys s text)) (sym (h.too_long more).0) (long_tells Tells (system_of bytes) text judges.long)
   | inr short ↦ spelled_tells Says Tells bytes judges (system_of bytes) refl status text (h.said (omega (arith, short)))
 ]
 
--- what is so of what is said of each system is so of a file that can be read
-said_of_spelled : (P : Status → Type 0) (Says : SystemView → Status → List ℕ → Type 0) (status : Status) (text : List ℕ) → ((sys : SystemView) → Says sys status text → P status) → (spelled : Result SystemView SystemFault) → IsOk spelled → OnSystem spelled Says status text → P status
-said_of_spelled P Says status text said (Ok sys) ok h = said sys h
-said_of_spelled P Says status text said (Err fault) ok h = absurd (false≢true ok)
+-- a file that can be read is judged by the system that it spells
+end_of_spelled : (Says : SystemView → Status → List ℕ → Type 0) (EndsAs : Contents → Status → Type 0) → EndsSystem Says EndsAs → (contents : Contents) (bytes : List ℕ) → file_at 1 contents ≡ Some bytes → length bytes ≤ file_limit
+    → (spelled : Result SystemView SystemFault) → system_of bytes ≡ spelled → IsOk spelled → (status : Status) (text : List ℕ) → OnSystem spelled Says status text → EndsAs contents status
+end_of_spelled Says EndsAs ends contents bytes there short (Ok sys) is ok status text h = ends.verdict contents sys (record { bytes = bytes; there = there; short = short; good = is }) status text h
+end_of_spelled Says EndsAs ends contents bytes there short (Err fault) is ok status text h = absurd (false≢true ok)
 
-said_of_readable : (P : Status → Type 0) (Says : SystemView → Status → List ℕ → Type 0) (contents : Contents) (status : Status) (text : List ℕ) → ((sys : SystemView) → Says sys status text → P status) → IsReadable 1 contents (λ bytes. IsOk (system_of bytes)) → AtFile 1 contents (λ bytes. OnSystem (system_of bytes) Says) status text → P status
-said_of_readable P Says contents status text said can h =
+end_of_readable : (Says : SystemView → Status → List ℕ → Type 0) (EndsAs : Contents → Status → Type 0) → EndsSystem Says EndsAs → (contents : Contents) (status : Status) (text : List ℕ) → IsReadable 1 contents (λ bytes. IsOk (system_of bytes))
+    → AtFile 1 contents (λ bytes. OnSystem (system_of bytes) Says) status text → EndsAs contents status
+end_of_readable Says EndsAs ends contents status text can h =
     let read : AtContent 1 (Some can.bytes) (λ bytes. OnSystem (system_of bytes) Says) status text = subst (λ (o : Option (List ℕ)). AtContent 1 o (λ bytes. OnSystem (system_of bytes) Says) status text) can.there h in
-    said_of_spelled P Says status text said (system_of can.bytes) can.good (read.said can.short)
+    end_of_spelled Says EndsAs ends contents can.bytes can.there can.short (system_of can.bytes) refl can.good status text (read.said can.short)
 
-pub system_laws : (name : List ℕ) (Says Tells : SystemView → Status → List ℕ → Type 0) → JudgesSystem Says Tells → CommandLaws (over_system name Says Tells)
-system_laws name Says Tells judges = record {
-  one_answer = λ contents. one_at 1 (λ bytes. OnSystem (system_of bytes) Says) (one_on Says judges.one) (file_at 1 contents);
-  means = λ contents. content_tells Says Tells judges (file_at 1 contents);
+pub ending_laws : (name : List ℕ) (Says Tells : SystemView → Status → List ℕ → Type 0) (EndsAs : Contents → Status → Type 0) → AnswersSystem Says Tells → EndsSystem Says EndsAs → CommandLaws (over_system_ending name Says Tells EndsAs)
+ending_laws name Says Tells EndsAs answers ends = record {
+  one_answer = λ contents. one_at 1 (λ bytes. OnSystem (system_of bytes) Says) (one_on Says answers.one) (file_at 1 contents);
+  means = λ contents. content_tells Says Tells answers (file_at 1 contents);
   of_job = λ contents status text h. statuses_at IsOfJob tt tt 1 (λ bytes. OnSystem (system_of bytes) Says) status text
-      (λ bytes. statuses_on IsOfJob tt Says status text (λ sys said. job_of_judged status (judges.judged sys status text said)) (system_of bytes)) (file_at 1 contents) h;
-  verdict = λ contents status text can h. said_of_readable IsVerdict Says contents status text (λ sys. judges.verdict sys status text) can h;
-  no_memory = λ contents. tt;
+      (λ bytes. statuses_on IsOfJob tt Says status text (λ sys said. job_of_judged status (answers.judged sys status text said)) (system_of bytes)) (file_at 1 contents) h;
+  verdict = λ contents status text can h. end_of_readable Says EndsAs ends contents status text can h;
+  no_memory = ends.no_memory;
   without_file = λ none. absurd (cc);
 }
+
+pub system_laws : (name : List ℕ) (Says Tells : SystemView → Status → List ℕ → Type 0) → JudgesSystem Says Tells → CommandLaws (over_system name Says Tells)
+system_laws name Says Tells judges = ending_laws name Says Tells (λ contents. IsVerdict)
+    (record { one = judges.one; judged = judges.judged; means = judges.means; long = judges.long })
+    (record { verdict = λ contents sys spelled. judges.verdict sys; no_memory = λ contents. tt })
 
 -- the contents of the one file
 held_one : (command : Command) (files : Option Files) (name : List ℕ) (content : Option (List ℕ)) → file_names command ≡ name ∷ [] → Told files name (λ told. told ≡ content) → AreContents (Some command) files (content ∷ [])

@@ -7,12 +7,15 @@ pub mod Audit
 pub mod Simulate
 pub mod Bulk
 pub mod Responses
+pub mod Interface
+pub mod Choose
 use Rattle.std.specs.Prelude.{ℕ, List, [], ◌∷◌, ◌++◌, Option, Some, None, option_map, option_and_then, codes, bytes_eq, if◌then◌else◌}
 use Rattle.server_sched.specs.declared.supplies.Pattern.{Pattern}
 use Rattle.rt_top.specs.declared.commands.Command.{Command as Parsed}
-use Rattle.rt_top.specs.declared.commands.Command.TheVariants.{Admit as ToAdmit, Certify as ToCertify, Check as ToCheck, Rtds as ToRtds, Audit as ToAudit, Simulate as ToSimulate, Bulk as ToBulk, Responses as ToResponses}
+use Rattle.rt_top.specs.declared.commands.Command.TheVariants.{Admit as ToAdmit, Certify as ToCertify, Check as ToCheck, Rtds as ToRtds, Audit as ToAudit, Simulate as ToSimulate, Bulk as ToBulk, Responses as ToResponses, Interface as ToInterface, Choose as ToChoose}
 use Rattle.rt_top.specs.SlotWords.{pattern_of, slot_count}
 use Rattle.rt_top.specs.Guests.{guest_number}
+use Rattle.rt_top.specs.PeriodWords.{period_of, range_of}
 use Rattle.rt_top.specs.CommandSpec.{CommandSpec, Form}
 use Rattle.rt_top.specs.Commands.Admit.{the_admit}
 use Rattle.rt_top.specs.Commands.Certify.{the_certify}
@@ -22,8 +25,11 @@ use Rattle.rt_top.specs.Commands.Audit.{the_audit}
 use Rattle.rt_top.specs.Commands.Simulate.{the_simulate}
 use Rattle.rt_top.specs.Commands.Bulk.{the_bulk}
 use Rattle.rt_top.specs.Commands.Responses.{the_responses}
+use Rattle.rt_top.specs.Commands.Interface.{the_interface}
+use Rattle.rt_top.specs.Commands.Choose.{the_choose}
 
--- one form of words each: the names of its files, in the order of the words, and its numbers
+-- one form of words each: the names of its files, in the order of the words, that of a leaf, and
+-- its numbers
 pub data Command : Type 0 where
   admit : (file : List ℕ) → Command
   certify : (file : List ℕ) → Command
@@ -33,6 +39,8 @@ pub data Command : Type 0 where
   simulate : (file releases : List ℕ) → (pattern : Pattern) → (slots : ℕ) → Command
   bulk : (guests : ℕ) → Command
   responses : (file : List ℕ) → Command
+  interface : (file part : List ℕ) (deadline : ℕ) → Command
+  choose : (file part : List ℕ) (low high : ℕ) → Command
 
 -- what there is to say of each
 abbrev pub spec_of : Command → CommandSpec
@@ -44,6 +52,8 @@ spec_of (audit file trace) = the_audit file trace
 spec_of (simulate file releases pattern slots) = the_simulate file releases pattern slots
 spec_of (bulk guests) = the_bulk guests
 spec_of (responses file) = the_responses file
+spec_of (interface file part deadline) = the_interface file part deadline
+spec_of (choose file part low high) = the_choose file part low high
 
 -- the command that was parsed
 abbrev pub command_told : Parsed → Command
@@ -56,6 +66,8 @@ command_told (ToSimulate file releases pattern slots) =
     simulate file.now releases.now pattern slots.count
 command_told (ToBulk guests) = bulk guests.number
 command_told (ToResponses file) = responses file.now
+command_told (ToInterface file part deadline) = interface file.now part.now deadline.slots
+command_told (ToChoose file part periods) = choose file.now part.now periods.low periods.high
 
 -- the names of a command's files, in the order of its words
 abbrev pub file_names : Command → List (List ℕ)
@@ -98,6 +110,17 @@ simulate_of _ = None
 abbrev pub bulk_of : List (List ℕ) → Option Command
 bulk_of words = option_map bulk (option_and_then guest_number (one_word words))
 
+-- a file, a leaf and a deadline
+abbrev pub interface_of : List (List ℕ) → Option Command
+interface_of (file ∷ part ∷ deadline ∷ []) = option_map (interface file part) (period_of deadline)
+interface_of _ = None
+
+-- a file, a leaf and a range of periods
+abbrev pub choose_of : List (List ℕ) → Option Command
+choose_of (file ∷ part ∷ low ∷ high ∷ []) =
+    option_map (λ range. choose file part range.0 range.1) (range_of low high)
+choose_of _ = None
+
 -- the forms of words, in the order of the usage line
 abbrev pub form : List ℕ → List ℕ → (List (List ℕ) → Option Command) → Form Command
 form word shown spells = record { word = word; shown = shown; spells = spells }
@@ -111,7 +134,9 @@ forms =
     ∷ form (codes "rtds") (codes " FILE WORKLOAD SLOTS") rtds_of
     ∷ form (codes "audit") (codes " FILE TRACE") (of_two audit)
     ∷ form (codes "bulk") (codes " N") bulk_of
+    ∷ form (codes "interface") (codes " FILE PART DEADLINE") interface_of
     ∷ form (codes "responses") (codes " FILE") (of_one responses)
+    ∷ form (codes "choose") (codes " FILE PART LOW HIGH") choose_of
     ∷ []
 
 -- the command that the words spell: its own word, and then its files and numbers

@@ -1,9 +1,11 @@
 pub mod SlotWords
 pub mod Guests
+pub mod PeriodWords
 pub mod Answer
 pub mod Attempt
 pub mod Budgets
 pub mod TwoFiles
+pub mod NamedLeaf
 pub mod CommandSpec
 pub mod Commands
 pub mod Report

@@ -4,12 +4,14 @@ mod bulk;
 mod certify;
 mod check;
 mod responses;
+mod choose;
+mod interface;
 mod rtds;
 mod simulate;
 
 ghost use Rattle.std.specs.Prelude.{◌≡◌, ◌≢◌, Some, map, option_map, string_bytes, IfOk, IfErr};
 ghost use Rattle.std.specs.Option.{option_copied};
-ghost use Rattle.rt_top.specs.Commands.{command_of, command_told, one_word, rtds_of, simulate_of, two_words, usage_line};
+ghost use Rattle.rt_top.specs.Commands.{choose_of, command_of, command_told, interface_of, one_word, rtds_of, simulate_of, two_words, usage_line};
 ghost use Rattle.rt_top.specs.Guests.{guest_number};
 ghost use Rattle.rt_top.specs.Reading.{NamesNoFile};
 ghost use Rattle.rt_top.specs.Steps.{counts_of, IfAnswered, IsSaid, Explains, CommandTakes};
@@ -22,10 +24,14 @@ use crate::commands::bulk::bulk;
 use crate::commands::certify::Certify;
 use crate::commands::check::Check;
 use crate::commands::responses::Responses;
+use crate::commands::choose::Choose;
+use crate::commands::interface::Interface;
 use crate::commands::rtds::Rtds;
 use crate::commands::simulate::Simulate;
 use crate::guests::Guests;
 use crate::one_file::over_one;
+use crate::period_words::{period_of, range_of};
+use crate::periods::{Period, Periods};
 use crate::slot_words::{pattern_of, slot_count};
 use crate::slots::Slots;
 use crate::two_files::over_two;
@@ -53,6 +59,10 @@ pub enum Command<'a> {
     Bulk(Guests),
     /// `responses FILE`
     Responses(&'a str),
+    /// `interface FILE PART DEADLINE`
+    Interface(&'a str, &'a str, Period),
+    /// `choose FILE PART LOW HIGH`
+    Choose(&'a str, &'a str, Periods),
 }
 
 /// The command that the words spell: its own word, its files, and what else it takes.
@@ -78,6 +88,10 @@ pub fn parse(words: &[String]) -> Option<Command<'_>>
         Some(Command::Bulk(guest_number(one_word(rest)?)?))
     } else if word.as_str() == "responses" {
         Some(Command::Responses(one_word(rest)?))
+    } else if word.as_str() == "interface" {
+        interface_of(rest)
+    } else if word.as_str() == "choose" {
+        choose_of(rest)
     } else {
         None
     }
@@ -89,7 +103,7 @@ fn usage_text() -> &'static str
 {
     "usage: rtadmit admit FILE | certify FILE | check FILE CERT | \
      simulate FILE RELEASES PATTERN SLOTS | rtds FILE WORKLOAD SLOTS | audit FILE TRACE | bulk N | \
-     responses FILE\n"
+     interface FILE PART DEADLINE | responses FILE | choose FILE PART LOW HIGH\n"
 }
 
 /// The answer to a command, or to words that spell none.
@@ -120,6 +134,12 @@ pub fn answer<S: Store>(alloc: Global, command: Option<Command<'_>>, store: &mut
         }
         Some(Command::Bulk(guests)) => ended(bulk(alloc, guests)),
         Some(Command::Responses(file)) => ended(over_one(alloc, store, file, &Responses)),
+        Some(Command::Interface(file, part, deadline)) => {
+            ended(over_one(alloc, store, file, &Interface { part, deadline }))
+        }
+        Some(Command::Choose(file, part, periods)) => {
+            ended(over_one(alloc, store, file, &Choose { part, periods }))
+        }
         None => ended(usage(alloc)),
     }
 }
@@ -158,6 +178,32 @@ fn simulate_of(words: &[String]) -> Option<Command<'_>>
             let pattern = pattern_of(pattern.as_str())?;
             let slots = slot_count(slots.as_str())?;
             Some(Command::Simulate(file.as_str(), releases.as_str(), pattern, slots))
+        }
+        _ => None,
+    }
+}
+
+/// The command whose own word is `interface`.
+fn interface_of(words: &[String]) -> Option<Command<'_>>
+    ensures { option_map command_told result ≡ interface_of (map string_bytes words.now) }
+{
+    match words {
+        [file, part, deadline] => {
+            let deadline = period_of(deadline.as_str())?;
+            Some(Command::Interface(file.as_str(), part.as_str(), deadline))
+        }
+        _ => None,
+    }
+}
+
+/// The command whose own word is `choose`.
+fn choose_of(words: &[String]) -> Option<Command<'_>>
+    ensures { option_map command_told result ≡ choose_of (map string_bytes words.now) }
+{
+    match words {
+        [file, part, low, high] => {
+            let periods = range_of(low.as_str(), high.as_str())?;
+            Some(Command::Choose(file.as_str(), part.as_str(), periods))
         }
         _ => None,
     }

@@ -163,6 +163,20 @@ fn of_check(rt: HostRuntime) -> Result<(), Fail> {
 }
 
 #[test]
+fn of_interface(rt: HostRuntime) -> Result<(), Fail> {
+    let words = ["interface", "first", "leaf", "10"];
+    let answer = "verdict=yes\ninterface leaf period=10 deadline=10 budget=3\n";
+    all_fail(&rt, rt.alloc(), &words, &[LEAF], answer)
+}
+
+#[test]
+fn of_choose(rt: HostRuntime) -> Result<(), Fail> {
+    let words = ["choose", "first", "leaf", "5", "14"];
+    let answer = "verdict=yes\nchoose leaf period=7 budget=2\n";
+    all_fail(&rt, rt.alloc(), &words, &[LEAF], answer)
+}
+
+#[test]
 fn of_simulate(rt: HostRuntime) -> Result<(), Fail> {
     let words = ["simulate", "first", "second", "early", "100"];
     all_fail(&rt, rt.alloc(), &words, &[LEAF, LEAF_RELEASES], LEAF_COUNTS)

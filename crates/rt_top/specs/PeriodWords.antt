@@ -1,0 +1,25 @@
+-- The words of a period, and of a range of periods.
+use Rattle.std.specs.Prelude.{ℕ, ◌-◌, ◌&&◌, nat_le, List, Option, Some, None, if◌then◌else◌}
+use Rattle.csv_rows.specs.Decimal.{is_plain, number}
+
+-- a plain decimal number of slots from 1 to the longest period
+abbrev pub longest_period : ℕ
+longest_period = 1000000000
+
+abbrev pub period_of : List ℕ → Option ℕ
+period_of word =
+    if is_plain word && nat_le 1 (number word) && nat_le (number word) longest_period
+    then Some (number word)
+    else None
+
+-- two periods in order, and at most 10,000 from the one to the other
+abbrev pub range_between : ℕ → ℕ → Option (ℕ × ℕ)
+range_between low high =
+    if nat_le low high && nat_le (high - low) 9999 then Some (low, high) else None
+
+abbrev pub range_of_periods : Option ℕ → Option ℕ → Option (ℕ × ℕ)
+range_of_periods (Some low) (Some high) = range_between low high
+range_of_periods _ _ = None
+
+abbrev pub range_of : List ℕ → List ℕ → Option (ℕ × ℕ)
+range_of low high = range_of_periods (period_of low) (period_of high)

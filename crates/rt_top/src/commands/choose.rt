@@ -1,0 +1,55 @@
+ghost use Rattle.std.specs.Prelude.{◌≡◌, ◌<◌, List, ℕ, length, IfOk, refl};
+ghost use Rattle.rt_top.specs.Commands.{choose};
+ghost use Rattle.rt_top.specs.Commands.Choose.{choice_status, choice_text, ChoosesSystem};
+
+use crate::Status;
+use crate::answer::{Answer, Ending};
+use crate::leaf::{find_leaf, leaf_tasks};
+use crate::one_file::JudgeOne;
+use crate::periods::Periods;
+use period_choice::{Choice, choose};
+use rt_report::{best_text, nothing_text};
+use std::alloc::{AllocError, Global};
+use tree_model::System;
+
+/// `choose FILE PART LOW HIGH`: the period of the range at which a leaf needs the least share of
+/// the processor.
+#[derive(Clone, Copy)]
+pub struct Choose<'a> {
+    pub part: &'a str,
+    pub periods: Periods,
+}
+
+impl JudgeOne for Choose<'_> {
+    ghost says = { λ s. ChoosesSystem s.part.now s.periods.low s.periods.high };
+
+    ghost command = { λ s file. choose file s.part.now s.periods.low s.periods.high };
+
+    ghost laws = { λ s file. record { files = refl; answers = λ contents status text said. said } };
+
+    fn judge(&self, alloc: Global, sys: &System) -> Result<Answer, Ending> {
+        let q = find_leaf(alloc, sys, self.part)?;
+        let part = &sys.parts()[q as usize];
+        let tasks = leaf_tasks(alloc, part)?;
+        let choice = choose(part.sched(), &tasks, self.periods.low, self.periods.high);
+        Ok(told(alloc, sys, q, choice)?)
+    }
+}
+
+/// The answer that tells a choice for the leaf at place `q`.
+fn told(alloc: Global, sys: &System, q: u32, choice: Choice) -> Result<Answer, AllocError>
+    requires { q < length sys.now.parts }
+    ensures status { IfOk result (λ a. a.status ≡ choice_status choice) }
+    ensures text { IfOk result (λ a. a.text.items ≡ choice_text sys.now q choice) }
+{
+    match choice {
+        Choice::Best { period, budget } => Ok(Answer {
+            status: Status::Yes,
+            text: best_text(alloc, &sys.parts()[q as usize], period, budget)?,
+        }),
+        Choice::Nothing { over, wide } => Ok(Answer {
+            status: Status::No,
+            text: nothing_text(alloc, over, wide)?,
+        }),
+    }
+}

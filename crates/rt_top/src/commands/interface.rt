@@ -1,0 +1,66 @@
+ghost use Rattle.std.specs.Prelude.{◌≡◌, ◌<◌, List, ℕ, length, IfOk, refl};
+ghost use Rattle.rt_top.specs.Commands.{interface};
+ghost use Rattle.rt_top.specs.Commands.Interface.{least_status, least_text, InterfacesSystem};
+
+use crate::Status;
+use crate::answer::{Answer, Ending};
+use crate::file::bad_file;
+use crate::leaf::{find_leaf, leaf_tasks};
+use crate::one_file::JudgeOne;
+use crate::periods::Period;
+use crate::refusing::refuse;
+use edp_supply::least_explicit;
+use least_budget::Least;
+use rt_report::{FileFault, interface_text};
+use std::alloc::{AllocError, Global};
+use tree_model::{Place, Refusal, System};
+
+/// `interface FILE PART DEADLINE`: the least budget with which a leaf passes where it gets it by
+/// the deadline in each of its periods.
+#[derive(Clone, Copy)]
+pub struct Interface<'a> {
+    pub part: &'a str,
+    pub deadline: Period,
+}
+
+impl JudgeOne for Interface<'_> {
+    ghost says = { λ s. InterfacesSystem s.part.now s.deadline.slots };
+
+    ghost command = { λ s file. interface file s.part.now s.deadline.slots };
+
+    ghost laws = { λ s file. record { files = refl; answers = λ contents status text said. said } };
+
+    fn judge(&self, alloc: Global, sys: &System) -> Result<Answer, Ending> {
+        let q = find_leaf(alloc, sys, self.part)?;
+        let part = &sys.parts()[q as usize];
+        let deadline = self.deadline.slots;
+        if deadline > part.period() {
+            return Ok(bad_file(alloc, FileFault::BadDeadline, 1)?);
+        }
+        let tasks = leaf_tasks(alloc, part)?;
+        let least = least_explicit(part.sched(), &tasks, part.period(), deadline);
+        Ok(told(alloc, sys, q, deadline, least)?)
+    }
+}
+
+/// The answer that tells the least budget of the leaf at place `q`, or that it has none.
+fn told(
+    alloc: Global,
+    sys: &System,
+    q: u32,
+    deadline: u64,
+    least: Least,
+) -> Result<Answer, AllocError>
+    requires { q < length sys.now.parts }
+    ensures status { IfOk result (λ a. a.status ≡ least_status least) }
+    ensures text { IfOk result (λ a. a.text.items ≡ least_text sys.now q deadline least) }
+{
+    match least {
+        Least::Budget(budget) => Ok(Answer {
+            status: Status::Yes,
+            text: interface_text(alloc, &sys.parts()[q as usize], deadline, budget)?,
+        }),
+        Least::Over(short) => refuse(alloc, sys, Refusal::Overfull(Place::Part(q), short)),
+        Least::Wide => refuse(alloc, sys, Refusal::Wide(Place::Part(q))),
+    }
+}

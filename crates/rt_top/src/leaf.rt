@@ -1,0 +1,56 @@
+ghost use Rattle.std.specs.Prelude.{◌≡◌, ◌↔◌, true, IsTrue, IfOk, IfErr, IfSome, IfNone};
+ghost use Rattle.slot_model.specs.Task.{sporadic_tasks};
+ghost use Rattle.tree_model.specs.System.{is_leaf, own_tasks};
+ghost use Rattle.rt_top.specs.Attempt.{IsRefused};
+ghost use Rattle.rt_top.specs.NamedLeaf.{IsLeafNamed, HasNoLeaf, finding};
+ghost use Rattle.rt_top.specs.Steps.{IfAnswered, EndsJudged};
+
+use crate::answer::Ending;
+use crate::file::bad_file;
+use rt_report::FileFault;
+use slot_model::Task;
+use std::alloc::{AllocError, Global};
+use tree_model::{Part, System};
+
+/// The place of the leaf of that name. It stops where no leaf has it.
+pub fn find_leaf(alloc: Global, sys: &System, name: &str) -> Result<u32, Ending>
+    ensures found { IfOk result (λ q. IsLeafNamed sys.now name.now q) }
+    ensures refused { IfErr result (λ stop. IfAnswered stop (λ a.
+        IsRefused (finding sys.now name.now) a.status a.text.items)) }
+    ensures judged { IfErr result (λ stop. EndsJudged stop) }
+{
+    match leaf_named(sys, name) {
+        Some(q) => Ok(q),
+        None => Err(Ending::Answered(bad_file(alloc, FileFault::NoSuchLeaf, 1)?)),
+    }
+}
+
+/// The place of the leaf of that name, and None exactly where no leaf has it.
+fn leaf_named(sys: &System, name: &str) -> Option<u32>
+    ensures found { IfSome result (λ q. IsLeafNamed sys.now name.now q) }
+    ensures none { IfNone result (HasNoLeaf sys.now name.now) }
+{
+    for (q, part) in sys.parts().iter().enumerate() {
+        if is_leaf_of(part, name) {
+            return Some(q as u32);
+        }
+    }
+    None
+}
+
+fn is_leaf_of(part: &Part, name: &str) -> bool
+    ensures { IsTrue result ↔ ((is_leaf part.now.tasks ≡ true) × (part.now.name ≡ name.now)) }
+{
+    part.is_leaf() && part.name().as_str() == name
+}
+
+/// The tasks of a leaf, in file order.
+pub fn leaf_tasks(alloc: Global, part: &Part) -> Result<Vec<Task>, AllocError>
+    ensures { IfOk result (λ tasks. sporadic_tasks tasks.items ≡ own_tasks part.now) }
+{
+    let mut tasks = Vec::new(alloc);
+    for named in part.tasks() {
+        tasks.push(named.task())?;
+    }
+    Ok(tasks)
+}
