@@ -1,0 +1,39 @@
+-- The first piece of a text, and those behind it.
+use Rattle.std.proofs.Common.{◌≡◌, ◌≢◌, ℕ, zero, suc, ◌+◌, ◌<◌, ◌≤◌, List, [], ◌∷◌, length, take, drop, get_or, refl, sym, ◌∙◌, ap, arith, add-one, Bool, true, false, cond}
+use Rattle.std.proofs.lemmas.Bool.{cases_eq, eq-eqb, ne_eqb}
+use Rattle.script_file.specs.Pieces.{pieces, put_front}
+
+-- a first byte at which the text is not cut
+not_cut : (at b : ℕ) (text : List ℕ) → b ≢ at → pieces at (b ∷ text) ≡ put_front b (pieces at text)
+not_cut at b text ne = ap (λ (z : Bool). cond z ([] ∷ pieces at text) (put_front b (pieces at text))) (ne_eqb b at ne)
+
+pub is_cut : (at b : ℕ) (text : List ℕ) → b ≡ at → pieces at (b ∷ text) ≡ [] ∷ pieces at text
+is_cut at b text e = ap (λ (z : Bool). cond z ([] ∷ pieces at text) (put_front b (pieces at text))) (eq-eqb b at e)
+
+-- the text is cut first at place i
+pub cut_first : (at : ℕ) (text : List ℕ) (i : ℕ) → i < length text → get_or text i 0 ≡ at → ((j : ℕ) → j < i → get_or text j 0 ≢ at) → pieces at text ≡ take i text ∷ pieces at (drop (suc i) text)
+cut_first at [] i l e before = absurd (omega (arith, l))
+cut_first at (b ∷ text) zero l e before = is_cut at b text e
+cut_first at (b ∷ text) (suc i) l e before =
+    not_cut at b text (before 0 (omega arith))
+    ∙ ap (put_front b) (cut_first at text i (omega (arith, l)) e (λ j m. before (suc j) (omega (arith, m))))
+
+-- or nowhere
+pub cut_nowhere : (at : ℕ) (text : List ℕ) → ((j : ℕ) → j < length text → get_or text j 0 ≢ at) → pieces at text ≡ text ∷ []
+cut_nowhere at [] none = refl
+cut_nowhere at (b ∷ text) none =
+    not_cut at b text (none 0 (omega arith))
+    ∙ ap (put_front b) (cut_nowhere at text (λ j m. none (suc j) (omega (arith, m))))
+
+-- there is a piece in any text
+filled_front : (b : ℕ) (ps : List (List ℕ)) → 1 ≤ length (put_front b ps)
+filled_front b [] = omega arith
+filled_front b (p ∷ ps) = omega arith
+
+filled_at : (cut : Bool) (b : ℕ) (ps : List (List ℕ)) → 1 ≤ length (cond cut ([] ∷ ps) (put_front b ps))
+filled_at true b ps = omega arith
+filled_at false b ps = filled_front b ps
+
+pub pieces_filled : (at : ℕ) (text : List ℕ) → 1 ≤ length (pieces at text)
+pieces_filled at [] = omega arith
+pieces_filled at (b ∷ text) = filled_at _ b (pieces at text)

@@ -1,0 +1,5 @@
+pub mod Cutting
+mod RowsTaking
+pub mod OneScript
+mod ScriptExamples
+mod Sevens

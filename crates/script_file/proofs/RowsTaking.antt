@@ -1,0 +1,36 @@
+-- The rows of a script that were read.
+use Rattle.std.proofs.Common.{◌≡◌, ℕ, ◌+◌, true, Bool, not, List, [], ◌∷◌, ◌++◌, length, Option, Some, None, refl, sym, ◌∙◌, ap, subst, arith}
+use Rattle.std.proofs.lemmas.List.{map-append}
+use Rattle.csv_rows.specs.Rules.{RowsKeep, IsFirstFault, fault_if, row_of}
+use Rattle.admission_session.specs.RowView.{RowView}
+use Rattle.script_file.specs.declared.fault.ScriptFault.{ScriptFault}
+use Rattle.script_file.specs.declared.fault.ScriptFault.TheVariants.{BadRow}
+use Rattle.script_file.specs.declared.script_rows.ScriptRows.{ScriptRows}
+use Rattle.script_file.specs.Script.{edit_of, edits_of, is_row, script_rules, is_script_header, script_rows, SpellsScript, IsScriptFault}
+use Rattle.script_file.specs.Taken.{HasTakenRows}
+
+pub edits_more : (rows : List (List (List ℕ))) (row : List (List ℕ)) → edits_of (rows ++ row ∷ []) ≡ edits_of rows ++ edit_of row ∷ []
+edits_more rows row = map-append edit_of rows (row ∷ [])
+
+-- a row that is one keeps the rules, and one that is none breaks them
+pub keeps : (rows : List (List (List ℕ))) (row : List (List ℕ)) → is_row row ≡ true → script_rules rows row ≡ None
+keeps rows row e = ap (λ (z : Bool). fault_if (not z) (BadRow (row_of (length rows))) None) e
+
+pub breaks : (rows : List (List (List ℕ))) (row : List (List ℕ)) (number : ℕ) → is_row row ≡ false → number ≡ length rows + 2 → script_rules rows row ≡ Some (BadRow number)
+breaks rows row number e n = ap (λ (z : Bool). fault_if (not z) (BadRow (row_of (length rows))) None) e ∙ ap (λ (m : ℕ). Some (BadRow m)) (sym n)
+
+-- the rows behind a header
+behind_header : (records : List (List (List ℕ))) (header : List (List ℕ)) (read : List (List (List ℕ))) → records ≡ header ∷ read → is_script_header header ≡ true → script_rows records ≡ Some read
+behind_header records header read is told = ap script_rows is ∙ rw (told) refl
+
+pub spelt_all : (records : List (List (List ℕ))) (s t : ScriptRows) (header : List (List ℕ)) → is_script_header header ≡ true
+    → (read : List (List (List ℕ))) × (records ≡ header ∷ read) × RowsKeep script_rules read (length read) × HasTakenRows s t read → SpellsScript records t.rows.items
+spelt_all records s t header told all =
+    let (read, is, keep, taken) = all in
+    record { rows = read; header = behind_header records header read is told; keep = keep; edits_are = taken.edits }
+
+pub first_of_file : (records : List (List (List ℕ))) (header : List (List ℕ)) (fault : ScriptFault) → is_script_header header ≡ true
+    → (read : List (List (List ℕ))) × (records ≡ header ∷ read) × IsFirstFault script_rules read fault → IsScriptFault (script_rows records) fault
+first_of_file records header fault told all =
+    let (read, is, first) = all in
+    subst (λ o. IsScriptFault o fault) (sym (behind_header records header read is told)) first

@@ -1,0 +1,4 @@
+pub mod Pieces
+pub mod Script
+pub mod Spelt
+pub mod Taken

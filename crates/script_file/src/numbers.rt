@@ -1,0 +1,32 @@
+ghost use Rattle.std.specs.Prelude.{◌≡◌, ◌≤◌, true, false, MatchOption, IfSome, IfNone};
+ghost use Rattle.csv_rows.specs.Decimal.{number};
+ghost use Rattle.script_file.specs.Script.{is_number};
+
+use csv_rows::is_plain;
+
+/// The number of a field that is a plain decimal number of 64 bits.
+pub fn number(field: &[u8]) -> Option<u64>
+    ensures { MatchOption result
+        (is_number field.now ≡ false)
+        (λ n. (is_number field.now ≡ true) × (n ≡ number field.now)) }
+{
+    if !is_plain(field) {
+        return None;
+    }
+    long_number(field)
+}
+
+/// The number of some digits, unless it has more than 64 bits.
+fn long_number(field: &[u8]) -> Option<u64>
+    ensures within { IfSome result (λ n. n ≡ number field.now) }
+    ensures past { IfNone result (18_446_744_073_709_551_616 ≤ number field.now) }
+{
+    let mut n: u128 = 0;
+    for digit in field {
+        n = 10 * n + u128::from(digit.saturating_sub(b'0'));
+        if n > u64::MAX as u128 {
+            return None;
+        }
+    }
+    Some(n as u64)
+}
