@@ -11,4 +11,5 @@ pub mod SystemFault
 pub mod RowFault
 pub mod CertFault
 pub mod Fault
+pub mod Session
 pub mod Unread
