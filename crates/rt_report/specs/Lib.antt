@@ -12,4 +12,5 @@ pub mod RowFault
 pub mod CertFault
 pub mod Fault
 pub mod Session
+pub mod Place
 pub mod Unread

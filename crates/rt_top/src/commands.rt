@@ -3,7 +3,9 @@ mod audit;
 mod bulk;
 mod certify;
 mod check;
+mod place;
 mod rtds;
+mod session;
 mod simulate;
 
 ghost use Rattle.std.specs.Prelude.{◌≡◌, ◌≢◌, Some, map, option_map, string_bytes, IfOk, IfErr};
@@ -20,7 +22,9 @@ use crate::commands::audit::Audit;
 use crate::commands::bulk::bulk;
 use crate::commands::certify::Certify;
 use crate::commands::check::Check;
+use crate::commands::place::Placer;
 use crate::commands::rtds::Rtds;
+use crate::commands::session::Editor;
 use crate::commands::simulate::Simulate;
 use crate::guests::Guests;
 use crate::one_file::over_one;
@@ -49,6 +53,10 @@ pub enum Command<'a> {
     Simulate(&'a str, &'a str, Pattern, Slots),
     /// `bulk N`
     Bulk(Guests),
+    /// `session FILE SCRIPT`
+    Session(&'a str, &'a str),
+    /// `place FILE GUESTS`
+    Place(&'a str, &'a str),
 }
 
 /// The command that the words spell: its own word, its files, and what else it takes.
@@ -72,6 +80,12 @@ pub fn parse(words: &[String]) -> Option<Command<'_>>
         Some(Command::Audit(file, trace))
     } else if word.as_str() == "bulk" {
         Some(Command::Bulk(guest_number(one_word(rest)?)?))
+    } else if word.as_str() == "session" {
+        let (file, script) = two_words(rest)?;
+        Some(Command::Session(file, script))
+    } else if word.as_str() == "place" {
+        let (file, guests) = two_words(rest)?;
+        Some(Command::Place(file, guests))
     } else {
         None
     }
@@ -82,7 +96,8 @@ fn usage_text() -> &'static str
     ensures { result.now ≡ usage_line }
 {
     "usage: rtadmit admit FILE | certify FILE | check FILE CERT | \
-     simulate FILE RELEASES PATTERN SLOTS | rtds FILE WORKLOAD SLOTS | audit FILE TRACE | bulk N\n"
+     simulate FILE RELEASES PATTERN SLOTS | rtds FILE WORKLOAD SLOTS | audit FILE TRACE | bulk N | \
+     session FILE SCRIPT | place FILE GUESTS\n"
 }
 
 /// The answer to a command, or to words that spell none.
@@ -112,6 +127,10 @@ pub fn answer<S: Store>(alloc: Global, command: Option<Command<'_>>, store: &mut
             ended(over_two(alloc, store, file, releases, &judge))
         }
         Some(Command::Bulk(guests)) => ended(bulk(alloc, guests)),
+        Some(Command::Session(file, script)) => {
+            ended(over_two(alloc, store, file, script, &Editor))
+        }
+        Some(Command::Place(file, guests)) => ended(over_two(alloc, store, file, guests, &Placer)),
         None => ended(usage(alloc)),
     }
 }

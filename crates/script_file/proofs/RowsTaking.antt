@@ -1,5 +1,5 @@
 -- The rows of a script that were read.
-use Rattle.std.proofs.Common.{◌≡◌, ℕ, ◌+◌, true, Bool, not, List, [], ◌∷◌, ◌++◌, length, Option, Some, None, refl, sym, ◌∙◌, ap, subst, arith}
+use Rattle.std.proofs.Common.{◌≡◌, ℕ, ◌+◌, true, false, Bool, not, List, [], ◌∷◌, ◌++◌, length, Option, Some, None, refl, sym, ◌∙◌, ap, subst, arith}
 use Rattle.std.proofs.lemmas.List.{map-append}
 use Rattle.csv_rows.specs.Rules.{RowsKeep, IsFirstFault, fault_if, row_of}
 use Rattle.admission_session.specs.RowView.{RowView}
@@ -20,7 +20,7 @@ pub breaks : (rows : List (List (List ℕ))) (row : List (List ℕ)) (number : �
 breaks rows row number e n = ap (λ (z : Bool). fault_if (not z) (BadRow (row_of (length rows))) None) e ∙ ap (λ (m : ℕ). Some (BadRow m)) (sym n)
 
 -- the rows behind a header
-behind_header : (records : List (List (List ℕ))) (header : List (List ℕ)) (read : List (List (List ℕ))) → records ≡ header ∷ read → is_script_header header ≡ true → script_rows records ≡ Some read
+pub behind_header : (records : List (List (List ℕ))) (header : List (List ℕ)) (read : List (List (List ℕ))) → records ≡ header ∷ read → is_script_header header ≡ true → script_rows records ≡ Some read
 behind_header records header read is told = ap script_rows is ∙ rw (told) refl
 
 pub spelt_all : (records : List (List (List ℕ))) (s t : ScriptRows) (header : List (List ℕ)) → is_script_header header ≡ true

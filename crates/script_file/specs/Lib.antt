@@ -2,3 +2,4 @@ pub mod Pieces
 pub mod Script
 pub mod Spelt
 pub mod Taken
+pub mod Guests

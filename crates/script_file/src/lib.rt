@@ -3,6 +3,7 @@
 
 mod cutting;
 mod fault;
+mod guests;
 mod numbers;
 mod row_fields;
 mod script_reading;
@@ -11,4 +12,6 @@ mod spelling;
 mod task_spelling;
 
 pub use fault::ScriptFault;
-pub use script_reading::read_script;
+pub use guests::{GuestFault, read_guests};
+pub use script_reading::{read_header, read_script};
+pub use spelling::spell_row;

@@ -11,7 +11,7 @@ use csv_rows::{Records, read_rows};
 use std::alloc::Global;
 
 /// The header of a script.
-fn read_header(records: &mut Records) -> Result<(), ScriptFault>
+pub fn read_header(records: &mut Records) -> Result<(), ScriptFault>
     requires { IsOpen records.old }
     ensures header { (text : List ℕ) → HasRead text [] records.old
         → IfOk result (λ done. (header : List (List ℕ)) × (is_script_header header ≡ true)

@@ -57,7 +57,7 @@ impl ScriptRows {
 
     /// The rows that were taken.
     pub fn finish(self) -> Vec<Row>
-        ensures { result.items ≡ self.entry.rows.items }
+        ensures { result.items ≡ self.rows.items }
     {
         self.rows
     }

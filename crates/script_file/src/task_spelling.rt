@@ -1,4 +1,4 @@
-ghost use Rattle.std.specs.Prelude.{◌≡◌, ◌≢◌, true, false, length, map, IfOk, MatchOption};
+ghost use Rattle.std.specs.Prelude.{◌≡◌, ◌≢◌, ◌≤◌, ◌∷◌, [], true, false, length, map, IfOk, MatchOption};
 ghost use Rattle.std.specs.List.{list_all};
 ghost use Rattle.slot_model.specs.Task.{sporadic_task};
 ghost use Rattle.script_file.specs.Pieces.{pieces};
@@ -21,27 +21,42 @@ struct TaskFields<'t> {
     work: &'t [u8],
 }
 
+/// The front of a text up to its first colon, and what is behind that.
+fn next_piece(text: &[u8]) -> Option<(&[u8], &[u8])>
+    ensures { MatchOption result
+        (length (pieces 58 text.now) ≡ 1)
+        (λ two. pieces 58 text.now ≡ two.0.now ∷ pieces 58 two.1.now) }
+{
+    match cut(text, b':') {
+        (piece, Some(rest)) => Some((piece, rest)),
+        (_, None) => None,
+    }
+}
+
+/// A text without a colon.
+#[tactic(auto, using(crate::proofs::CutPieces::pieces_filled))]
+fn last_piece(text: &[u8]) -> Option<&[u8]>
+    ensures { MatchOption result
+        (2 ≤ length (pieces 58 text.now))
+        (λ last. pieces 58 text.now ≡ last.now ∷ []) }
+{
+    match cut(text, b':') {
+        (piece, None) => Some(piece),
+        (_, Some(_)) => None,
+    }
+}
+
 /// The fields of a text that is cut into five at its colons.
 fn five_fields(text: &[u8]) -> Option<TaskFields<'_>>
     ensures { MatchOption result
         (length (pieces 58 text.now) ≢ 5)
         (λ f. pieces 58 text.now ≡ task_fields f) }
 {
-    let (name, Some(rest)) = cut(text, b':') else {
-        return None;
-    };
-    let (period, Some(rest)) = cut(rest, b':') else {
-        return None;
-    };
-    let (deadline, Some(rest)) = cut(rest, b':') else {
-        return None;
-    };
-    let (jitter, Some(rest)) = cut(rest, b':') else {
-        return None;
-    };
-    let (work, None) = cut(rest, b':') else {
-        return None;
-    };
+    let (name, rest) = next_piece(text)?;
+    let (period, rest) = next_piece(rest)?;
+    let (deadline, rest) = next_piece(rest)?;
+    let (jitter, rest) = next_piece(rest)?;
+    let work = last_piece(rest)?;
     Some(TaskFields {
         name,
         period,

@@ -1,6 +1,7 @@
 -- The first piece of a text, and those behind it.
-use Rattle.std.proofs.Common.{◌≡◌, ◌≢◌, ℕ, zero, suc, ◌+◌, ◌<◌, ◌≤◌, List, [], ◌∷◌, length, take, drop, get_or, refl, sym, ◌∙◌, ap, arith, add-one, Bool, true, false, cond}
-use Rattle.std.proofs.lemmas.Bool.{cases_eq, eq-eqb, ne_eqb}
+use Rattle.std.proofs.Common.{◌≡◌, ◌≢◌, ℕ, zero, suc, ◌+◌, ◌-◌, ◌<◌, ◌≤◌, List, [], ◌∷◌, length, take, drop, get_or, refl, sym, ◌∙◌, ap, arith, add-one, Bool, true, false, cond}
+use Rattle.std.proofs.lemmas.Bool.{eq-eqb, ne_eqb}
+use Rattle.std.proofs.lemmas.List.{take_all, length-drop}
 use Rattle.script_file.specs.Pieces.{pieces, put_front}
 
 -- a first byte at which the text is not cut
@@ -37,3 +38,9 @@ filled_at false b ps = filled_front b ps
 pub pieces_filled : (at : ℕ) (text : List ℕ) → 1 ≤ length (pieces at text)
 pieces_filled at [] = omega arith
 pieces_filled at (b ∷ text) = filled_at _ b (pieces at text)
+
+-- the same with what is left as a slice gives it
+pub cut_at : (at : ℕ) (text : List ℕ) (i : ℕ) → i < length text → get_or text i 0 ≡ at → ((j : ℕ) → j < i → get_or text j 0 ≢ at) → pieces at text ≡ take i text ∷ pieces at (take (length text - (i + 1)) (drop (i + 1) text))
+cut_at at text i l e before =
+    cut_first at text i l e before
+    ∙ ap (λ (z : List ℕ). take i text ∷ pieces at z) (ap (λ (m : ℕ). drop m text) (sym (add-one i)) ∙ sym (take_all (length text - (i + 1)) (drop (i + 1) text) (let h : length (drop (i + 1) text) ≡ length text - (i + 1) = length-drop (i + 1) text in omega (arith, h))))

@@ -1,0 +1,101 @@
+ghost use Rattle.std.specs.Prelude.{◌≡◌, ◌⊎◌, ◌<◌, ◌^◌, List, ℕ, length, IfOk, IfErr, refl};
+ghost use Rattle.csv_rows.specs.Reading.{records_of};
+ghost use Rattle.tree_model.specs.View.{SystemView};
+ghost use Rattle.script_file.specs.declared.fault.ScriptFault.TheVariants.{NoMemory};
+ghost use Rattle.script_file.specs.Script.{IsScriptFault, SpellsScript, script_rows};
+ghost use Rattle.rt_top.specs.Attempt.{IsRefused};
+ghost use Rattle.rt_top.specs.Commands.Session.{scripting, EditsBytes};
+ghost use Rattle.rt_top.specs.Commands.{session};
+ghost use Rattle.rt_top.specs.Steps.{ending_of, IfAnswered, EndsJudged};
+
+use crate::Status;
+use crate::answer::{Answer, Ending};
+use crate::editing::Editing;
+use crate::file::bad_file;
+use crate::refusing::refuse;
+use crate::two_files::JudgeTwo;
+use admission_session::{Row, Session, copy_system};
+use csv_rows::{Records, read_rows};
+use rt_report::FileFault;
+use script_file::{ScriptFault, read_header, read_script};
+use std::alloc::Global;
+use tree_model::{Refusal, System};
+
+/// `session FILE SCRIPT`: the answer to each row of edits of the system, and the plan of the one
+/// that they leave.
+#[derive(Clone, Copy)]
+pub struct Editor;
+
+impl JudgeTwo for Editor {
+    ghost says = { λ _. EditsBytes };
+
+    ghost command = { λ _. session };
+
+    ghost laws = { λ s first second. record {
+      files = refl;
+      answers = λ contents status text said. said;
+    } };
+
+    // A fault of the script goes before a refusal of the system.
+    fn judge(&self, alloc: Global, sys: &System, bytes: &[u8]) -> Result<Answer, Ending> {
+        let copy = copy_system(alloc, sys)?;
+        match Session::open(alloc, copy) {
+            Ok(session) => edited(alloc, session, bytes),
+            Err((_, Refusal::NoMemory)) => Err(Ending::NoMemory),
+            Err((_, refusal)) => {
+                spelled_script(alloc, bytes)?;
+                Ok(refuse(alloc, sys, refusal)?)
+            }
+        }
+    }
+}
+
+// The answers of a session to the rows of a script.
+fn edited(alloc: Global, session: Session, bytes: &[u8]) -> Result<Answer, Ending>
+    ensures answer { IfAnswered (ending_of result)
+        (λ a. EditsBytes session bytes.now a.status a.text.items) }
+    ensures judged { EndsJudged (ending_of result) }
+{
+    let mut records = Records::new(alloc, bytes);
+    if let Err(fault) = read_header(&mut records) {
+        return Err(refuse_script(alloc, fault));
+    }
+    let mut rows = Editing::new(alloc, session)?;
+    if let Err(fault) = read_rows(&mut records, &mut rows) {
+        return Err(refuse_script(alloc, fault));
+    }
+    Ok(Answer {
+        status: Status::Yes,
+        text: rows.finish()?,
+    })
+}
+
+// The rows that the bytes of the second file word spell. It stops where they are refused.
+pub fn spelled_script(alloc: Global, bytes: &[u8]) -> Result<Vec<Row>, Ending>
+    ensures spelled { IfOk result (λ rows. SpellsScript (records_of bytes.now) rows.items) }
+    ensures few { IfOk result (λ rows. length rows.items < 2 ^ 32) }
+    ensures refused { (sys : SystemView) → IfErr result (λ stop. IfAnswered stop (λ a.
+        IsRefused (scripting sys bytes.now) a.status a.text.items)) }
+    ensures judged { IfErr result (λ stop. EndsJudged stop) }
+{
+    match read_script(alloc, bytes) {
+        Ok(rows) => Ok(rows),
+        Err(fault) => Err(refuse_script(alloc, fault)),
+    }
+}
+
+// The answer to a fault of the second file word.
+fn refuse_script(alloc: Global, fault: ScriptFault) -> Ending
+    ensures refused { (sys : SystemView) (bytes : List ℕ)
+        → (fault ≡ NoMemory) ⊎ IsScriptFault (script_rows (records_of bytes)) fault
+        → IfAnswered result (λ a. IsRefused (scripting sys bytes) a.status a.text.items) }
+    ensures judged { EndsJudged result }
+{
+    if fault == ScriptFault::NoMemory {
+        return Ending::NoMemory;
+    }
+    match bad_file(alloc, FileFault::Script(fault), 2) {
+        Ok(answer) => Ending::Answered(answer),
+        Err(_) => Ending::NoMemory,
+    }
+}
