@@ -42,7 +42,7 @@ placed_at sys (guest ∷ later) placed (suc i) l h =
     record { now = next.now; before = (h.0, h.1, next.before); core = next.core; fit = next.fit }
 
 -- so no fault of that guest
-IsNoFit : (SystemView → PartView → Type 0) → Type 0
+abbrev IsNoFit : (SystemView → PartView → Type 0) → Type 0
 IsNoFit Fault = (sys : SystemView) (guest : PartView) (c : ℕ) → IsFirstFit sys guest c → Fault sys guest → ⊥
 
 bad_is_no_fit : IsNoFit IsBadGuest
