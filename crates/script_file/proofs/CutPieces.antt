@@ -1,8 +1,8 @@
 -- The first piece of a text, and those behind it.
-use Rattle.std.proofs.Common.{◌≡◌, ◌≢◌, ℕ, zero, suc, ◌+◌, ◌-◌, ◌<◌, ◌≤◌, List, [], ◌∷◌, length, take, drop, get_or, refl, sym, ◌∙◌, ap, arith, add-one, Bool, true, false, cond}
-use Rattle.std.proofs.lemmas.Bool.{eq-eqb, ne_eqb}
+use Rattle.std.proofs.Common.{◌≡◌, ◌≢◌, ℕ, zero, suc, ◌+◌, ◌-◌, ◌<◌, ◌≤◌, List, [], ◌∷◌, length, take, drop, get_or, refl, sym, ◌∙◌, ap, arith, add-one, Bool, true, false, cond, inl, inr}
+use Rattle.std.proofs.lemmas.Bool.{cases_eq, eq-eqb, ne_eqb}
 use Rattle.std.proofs.lemmas.List.{take_all, length-drop}
-use Rattle.script_file.specs.Pieces.{pieces, put_front}
+use Rattle.script_file.specs.Pieces.{joined_by, pieces, put_front}
 
 -- a first byte at which the text is not cut
 not_cut : (at b : ℕ) (text : List ℕ) → b ≢ at → pieces at (b ∷ text) ≡ put_front b (pieces at text)
@@ -44,3 +44,20 @@ pub cut_at : (at : ℕ) (text : List ℕ) (i : ℕ) → i < length text → get_
 cut_at at text i l e before =
     cut_first at text i l e before
     ∙ ap (λ (z : List ℕ). take i text ∷ pieces at z) (ap (λ (m : ℕ). drop m text) (sym (add-one i)) ∙ sym (take_all (length text - (i + 1)) (drop (i + 1) text) (let h : length (drop (i + 1) text) ≡ length text - (i + 1) = length-drop (i + 1) text in omega (arith, h))))
+
+-- the pieces with the byte between each two are the text again
+joined_put : (at b : ℕ) (ps : List (List ℕ)) → 1 ≤ length ps → joined_by at (put_front b ps) ≡ b ∷ joined_by at ps
+joined_put at b [] l = absurd (omega (arith, l))
+joined_put at b (p ∷ []) l = refl
+joined_put at b (p ∷ q ∷ ps) l = refl
+
+joined_empty : (at : ℕ) (ps : List (List ℕ)) → 1 ≤ length ps → joined_by at ([] ∷ ps) ≡ at ∷ joined_by at ps
+joined_empty at [] l = absurd (omega (arith, l))
+joined_empty at (p ∷ ps) l = refl
+
+pub pieces_joined : (at : ℕ) (text : List ℕ) → joined_by at (pieces at text) ≡ text
+pieces_joined at [] = refl
+pieces_joined at (b ∷ bytes) = elim (cases_eq b at) [
+  | inl e ↦ ap (joined_by at) (is_cut at b bytes e) ∙ (joined_empty at (pieces at bytes) (pieces_filled at bytes) ∙ (ap (λ (z : ℕ). z ∷ joined_by at (pieces at bytes)) (sym e) ∙ ap (λ (z : List ℕ). b ∷ z) (pieces_joined at bytes)))
+  | inr ne ↦ ap (joined_by at) (not_cut at b bytes ne) ∙ (joined_put at b (pieces at bytes) (pieces_filled at bytes) ∙ ap (λ (z : List ℕ). b ∷ z) (pieces_joined at bytes))
+]

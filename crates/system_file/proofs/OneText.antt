@@ -37,13 +37,13 @@ mutual
   one_value (boolean b) t u e p q = p ∙ sym q
   one_value (datetime dt) t u e p q = p ∙ sym q
   one_value (array ds) t u e p q =
-      let (a, is, as) = p in
-      let (b, was, bs) = q in
-      is ∙ (ap (λ (z : List ℕ). codes "[" ++ z) (one_items ds (breaks_lines false ds) true a b e as bs) ∙ sym was)
+      let (a, is, some) = p in
+      let (b, was, others) = q in
+      is ∙ (ap (λ (z : List ℕ). codes "[" ++ z) (one_items ds (breaks_lines false ds) true a b e some others) ∙ sym was)
   one_value (table ms) t u e p q =
-      let (a, is, as) = p in
-      let (b, was, bs) = q in
-      is ∙ (ap (λ (z : List ℕ). codes "{" ++ z) (one_members ms true a b e as bs) ∙ sym was)
+      let (a, is, some) = p in
+      let (b, was, others) = q in
+      is ∙ (ap (λ (z : List ℕ). codes "{" ++ z) (one_members ms true a b e some others) ∙ sym was)
 
   one_items : (ds : Items) (lines first : Bool) (t u : List ℕ) → items_exact ds ≡ true → IsItemsText false lines first ds t → IsItemsText false lines first ds u → t ≡ u
   one_items no_items lines first t u e p q = p ∙ sym q
