@@ -1,6 +1,6 @@
 -- A session that edits by the rows of a script: one row more, and the whole answer.
-use Rattle.std.proofs.Common.{◌≡◌, ◌⊎◌, ℕ, ◌+◌, suc, List, [], ◌∷◌, ◌++◌, length, codes, refl, sym, ◌∙◌, ap, subst, inl, inr, arith, append-nil, append_assoc, true}
-use Rattle.std.specs.Prelude.{string_bytes}
+use Rattle.std.proofs.Common.{◌≡◌, ◌⊎◌, ℕ, ◌+◌, ◌-◌, suc, Result, Ok, Err, Some, None, List, [], ◌∷◌, ◌++◌, length, codes, refl, sym, ◌∙◌, ap, subst, inl, inr, arith, append-nil, append_assoc, true}
+use Rattle.std.specs.Prelude.{OnOk, string_bytes}
 use Rattle.std.proofs.lemmas.List.{length-map}
 use Rattle.csv_rows.specs.Reading.{records_of}
 use Rattle.csv_rows.specs.Rules.{RowsKeep, IsFirstFault}
@@ -15,7 +15,8 @@ use Rattle.admission_session.specs.History.{AreAnswered}
 use Rattle.admission_session.proofs.History.{history_more, history_admitted, one_each}
 use Rattle.script_file.specs.declared.fault.ScriptFault.{ScriptFault}
 use Rattle.script_file.specs.Script.{edit_of, edits_of, script_rules, is_script_header, script_rows, SpellsScript, IsScriptFault}
-use Rattle.script_file.proofs.RowsTaking.{behind_header, edits_more}
+use Rattle.script_file.specs.Spelt.{IsSpelt}
+use Rattle.script_file.proofs.RowsTaking.{behind_header, edits_more, keeps}
 use Rattle.rt_report.specs.Session.{answer_line, answer_lines, plan_lines, session_text, IsToldAnswer}
 use Rattle.rt_report.proofs.AnswerLines.{lines_more}
 use Rattle.rt_top.specs.declared.editing.Editing.{Editing}
@@ -51,6 +52,13 @@ edited_more start before after rows row edit number h is n next =
   where
     count : (answers : List Answer) → AreAnswered start.session (edits_of rows) answers before.session → number ≡ 1 + length answers
     count answers all = omega (arith, n, one_each start.session (edits_of rows) answers before.session all, length-map rows edit_of)
+
+-- a row is answered
+pub took_edit : {A : Type 0} (start before after : Editing) (rows : List (List (List ℕ))) (row : List (List ℕ)) (edit : RowView) (number : ℕ) (result : Result A ScriptFault) → HasEdited start before rows → number ≡ length rows + 2 → IsSpelt row (Some edit)
+    → OnOk result ((answer : Answer) × IsAnswered before.session edit answer after.session × (string_bytes after.text ≡ string_bytes before.text ++ answer_line (number - 1) answer))
+    → OnOk result ((script_rules rows row ≡ None) × HasEdited start after (rows ++ row ∷ []))
+took_edit start before after rows row edit number (Ok done) has n spelt next = (keeps rows row spelt.0, edited_more start before after rows row edit (number - 1) has spelt.1 (omega (arith, n)) next)
+took_edit start before after rows row edit number (Err fault) has n spelt next = tt
 
 -- all rows, and the plan of the system that they leave
 pub edited_all : (sys : SystemView) (bytes : List ℕ) (start now : Editing) (header : List (List ℕ)) (status : Status) (text : List ℕ) → IsAdmitted sys → start.session ≡ sys → string_bytes start.text ≡ codes "verdict=yes\n" → is_script_header header ≡ true

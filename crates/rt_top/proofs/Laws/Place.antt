@@ -24,8 +24,8 @@ use Rattle.rt_top.proofs.Budgets.{refused_status}
 use Rattle.rt_top.proofs.CommandLaws.{CommandLaws}
 use Rattle.rt_top.proofs.ReadSecond.{JudgesRead, is_spelled_system, read_laws, said_of_read}
 
-guesting_decided : (sys : SystemView) (bytes : List ℕ) → IsDecided (guesting sys bytes)
-guesting_decided sys bytes = record {
+guesting_decided : (bytes : List ℕ) → IsDecided (guesting bytes)
+guesting_decided bytes = record {
   one_value = one_guests (records_of bytes);
   never_both = no_guest_fault (records_of bytes);
   one_refusal = one_guest_fault (records_of bytes);
@@ -70,9 +70,9 @@ places_means sys is guests status text h = elim h [
   | inr a ↦ subst (λ (s : Status). MeansOfPlaces sys guests s text) (sym a.status_is) (fault_means sys guests text a.refusal)
 ]
 
-places_read : JudgesRead guesting PlacesGuests
+places_read : JudgesRead (λ sys. guesting) PlacesGuests
 places_read = record {
-  decided = guesting_decided;
+  decided = λ sys. guesting_decided;
   bad_file = λ sys bytes fault. refl;
   one = λ sys is guests. one_attempt (placing sys guests) IsSystemText (placing_decided sys is guests) (λ placed gives. one_text placed);
   judged = λ sys guests. places_status IsJudged tt tt tt tt sys guests;
@@ -81,10 +81,10 @@ places_read = record {
 place_means : (contents : Contents) (status : Status) (text : List ℕ) → Places contents status text → PlaceMeans contents status text
 place_means contents status text h = λ sys guests spelled.
     places_means sys (is_spelled_system contents sys _ spelled) guests status text
-    (said_of_read guesting PlacesGuests places_read contents sys guests status text spelled h)
+    (said_of_read (λ sys. guesting) PlacesGuests places_read contents sys guests status text spelled h)
 
 pub place_laws : (file guests : List ℕ) → CommandLaws (the_place file guests)
-place_laws file guests = read_laws file guests guesting PlacesGuests PlaceMeans AreGuests (λ contents. EndsPlacing) places_read (record {
+place_laws file guests = read_laws file guests (λ sys. guesting) PlacesGuests PlaceMeans AreGuests (λ contents. EndsPlacing) places_read (record {
   means = place_means;
   good = λ sys bytes good. (good.guests, good.spelled);
   verdict = λ contents sys spelled gs. places_status EndsPlacing tt tt tt tt sys gs;

@@ -25,8 +25,8 @@ use Rattle.rt_top.proofs.CommandLaws.{CommandLaws}
 use Rattle.rt_top.proofs.Laws.Admit.{refused_means}
 use Rattle.rt_top.proofs.ReadSecond.{JudgesRead, is_spelled_system, read_laws, said_of_read}
 
-pub scripting_decided : (sys : SystemView) (bytes : List ℕ) → IsDecided (scripting sys bytes)
-scripting_decided sys bytes = record {
+scripting_decided : (bytes : List ℕ) → IsDecided (scripting bytes)
+scripting_decided bytes = record {
   one_value = one_script (records_of bytes);
   never_both = no_script_fault (records_of bytes);
   one_refusal = one_script_fault (script_rows (records_of bytes));
@@ -56,9 +56,9 @@ edits_means sys is rows status text h = elim h [
   | inr a ↦ refused_means (λ z. MeansOfEdits z rows) sys is (λ t over. over) (λ t. tt) a.refusal a.refuses status text a.status_is a.told
 ]
 
-edits_read : JudgesRead scripting EditsSystem
+edits_read : JudgesRead (λ sys. scripting) EditsSystem
 edits_read = record {
-  decided = scripting_decided;
+  decided = λ sys. scripting_decided;
   bad_file = λ sys bytes fault. refl;
   one = λ sys is rows. one_attempt (composing sys) (λ budgets. IsSession sys rows) (composing_decided sys is) (λ budgets admitted. one_session sys is rows);
   judged = λ sys rows. edits_status IsJudged tt tt tt sys rows;
@@ -67,10 +67,10 @@ edits_read = record {
 session_means : (contents : Contents) (status : Status) (text : List ℕ) → Edits contents status text → SessionMeans contents status text
 session_means contents status text h = λ sys rows spelled.
     edits_means sys (is_spelled_system contents sys _ spelled) rows status text
-    (said_of_read scripting EditsSystem edits_read contents sys rows status text spelled h)
+    (said_of_read (λ sys. scripting) EditsSystem edits_read contents sys rows status text spelled h)
 
 pub session_laws : (file script : List ℕ) → CommandLaws (the_session file script)
-session_laws file script = read_laws file script scripting EditsSystem SessionMeans IsScript (λ contents. IsVerdict) edits_read (record {
+session_laws file script = read_laws file script (λ sys. scripting) EditsSystem SessionMeans IsScript (λ contents. IsVerdict) edits_read (record {
   means = session_means;
   good = λ sys bytes script. (script.rows, script.spelled);
   verdict = λ contents sys spelled rows. edits_status IsVerdict tt tt tt sys rows;

@@ -35,8 +35,8 @@ abbrev pub guests_fault_text : GuestFault → List ℕ
 guests_fault_text (NoScript fault) = fault_text None (Script fault) 2
 guests_fault_text (Other row) = fault_text None (BadRow row) 2
 
-abbrev pub guesting : SystemView → List ℕ → Attempt (List PartView) GuestFault
-guesting sys bytes = record {
+abbrev pub guesting : List ℕ → Attempt (List PartView) GuestFault
+guesting bytes = record {
   Gives = SpellsGuests (records_of bytes);
   Refuses = IsGuestFault (records_of bytes);
   status_of = λ fault. BadFile;
@@ -86,7 +86,7 @@ abbrev pub PlacesGuests : SystemView → List PartView → Status → List ℕ �
 PlacesGuests sys guests = OnAttempt (placing sys guests) IsSystemText
 
 abbrev pub PlacesBytes : SystemView → List ℕ → Status → List ℕ → Type 0
-PlacesBytes sys bytes = OnAttempt (guesting sys bytes) (PlacesGuests sys)
+PlacesBytes sys bytes = OnAttempt (guesting bytes) (PlacesGuests sys)
 
 abbrev pub Places : Contents → Status → List ℕ → Type 0
 Places contents = OnTwoFiles contents PlacesBytes

@@ -23,8 +23,8 @@ use Rattle.rt_top.specs.TwoFiles.{OnTwoFiles, SpellsSystem, AreReadable}
 use Rattle.rt_top.specs.Commands.Admit.{IsTrulyOverfull}
 
 -- the bytes of the second file spell rows of edits, or have a first fault
-abbrev pub scripting : SystemView → List ℕ → Attempt (List RowView) ScriptFault
-scripting sys bytes = record {
+abbrev pub scripting : List ℕ → Attempt (List RowView) ScriptFault
+scripting bytes = record {
   Gives = SpellsScript (records_of bytes);
   Refuses = IsScriptFault (script_rows (records_of bytes));
   status_of = λ fault. BadFile;
@@ -47,7 +47,7 @@ abbrev pub EditsSystem : SystemView → List RowView → Status → List ℕ →
 EditsSystem sys rows = OnAdmitted sys (λ budgets. IsSession sys rows)
 
 abbrev pub EditsBytes : SystemView → List ℕ → Status → List ℕ → Type 0
-EditsBytes sys bytes = OnAttempt (scripting sys bytes) (EditsSystem sys)
+EditsBytes sys bytes = OnAttempt (scripting bytes) (EditsSystem sys)
 
 abbrev pub Edits : Contents → Status → List ℕ → Type 0
 Edits contents = OnTwoFiles contents EditsBytes

@@ -1,13 +1,12 @@
-ghost use Rattle.std.specs.Prelude.{◌≡◌, ◌⊎◌, ◌<◌, ◌^◌, List, ℕ, length, IfOk, IfErr, refl};
+ghost use Rattle.std.specs.Prelude.{◌≡◌, ◌<◌, ◌^◌, List, length, IfOk, IfErr, refl};
 ghost use Rattle.csv_rows.specs.Reading.{records_of};
-ghost use Rattle.tree_model.specs.View.{SystemView};
-ghost use Rattle.placement.specs.Answers.{PlaceFails};
-ghost use Rattle.script_file.specs.declared.fault.ScriptFault.TheVariants.{NoMemory};
-ghost use Rattle.script_file.specs.Guests.{IsGuestFault, SpellsGuests};
+ghost use Rattle.tree_model.specs.View.{PartView};
+ghost use Rattle.tree_model.specs.Admission.{FirstRefusal};
+ghost use Rattle.script_file.specs.Guests.{SpellsGuests};
 ghost use Rattle.rt_top.specs.Attempt.{IsRefused};
-ghost use Rattle.rt_top.specs.Commands.Place.{guesting, placing, PlacesBytes};
+ghost use Rattle.rt_top.specs.Commands.Place.{guesting, placing, IsPlacement, IsSystemText, PlacesBytes};
 ghost use Rattle.rt_top.specs.Commands.{place};
-ghost use Rattle.rt_top.specs.Steps.{ending_of, IfAnswered, EndsJudged};
+ghost use Rattle.rt_top.specs.Steps.{IfAnswered, IsJudged, EndsJudged};
 
 use crate::Status;
 use crate::answer::{Answer, Ending};
@@ -17,7 +16,7 @@ use crate::two_files::JudgeTwo;
 use placement::{PlaceFault, place};
 use rt_report::{FileFault, unplaced_text};
 use script_file::{GuestFault, ScriptFault, read_guests};
-use std::alloc::Global;
+use std::alloc::{AllocError, Global};
 use system_file::print_system;
 use tree_model::{Part, Refusal, System};
 
@@ -37,13 +36,8 @@ impl JudgeTwo for Placer {
 
     fn judge(&self, alloc: Global, sys: &System, bytes: &[u8]) -> Result<Answer, Ending> {
         let guests = spelled_guests(alloc, bytes)?;
-        match place(alloc, sys, &guests) {
-            Ok(placed) => Ok(Answer {
-                status: Status::Yes,
-                text: print_system(alloc, &placed)?,
-            }),
-            Err(fault) => unplaced(alloc, sys, &guests, fault),
-        }
+        let placed = placed(alloc, sys, &guests)?;
+        Ok(printed(alloc, &placed)?)
     }
 }
 
@@ -52,8 +46,8 @@ fn spelled_guests(alloc: Global, bytes: &[u8]) -> Result<Vec<Part>, Ending>
     ensures spelled { IfOk result
         (λ guests. SpellsGuests (records_of bytes.now) guests.items) }
     ensures few { IfOk result (λ guests. length guests.items < 2 ^ 32) }
-    ensures refused { (sys : SystemView) → IfErr result (λ stop. IfAnswered stop (λ a.
-        IsRefused (guesting sys bytes.now) a.status a.text.items)) }
+    ensures refused { IfErr result (λ stop. IfAnswered stop (λ a.
+        IsRefused (guesting bytes.now) a.status a.text.items)) }
     ensures judged { IfErr result (λ stop. EndsJudged stop) }
 {
     match read_guests(alloc, bytes) {
@@ -68,30 +62,50 @@ fn spelled_guests(alloc: Global, bytes: &[u8]) -> Result<Vec<Part>, Ending>
     }
 }
 
-// The answer to guests that are not placed.
-#[tactic(auto, using(crate::proofs::Budgets::refusal_told))]
-fn unplaced(
-    alloc: Global,
-    sys: &System,
-    guests: &[Part],
-    fault: PlaceFault,
-) -> Result<Answer, Ending>
-    requires { PlaceFails sys.now guests.now fault }
-    ensures answer { IfAnswered (ending_of result)
-        (λ a. IsRefused (placing sys.now guests.now) a.status a.text.items) }
-    ensures judged { EndsJudged (ending_of result) }
+// The system with the guests on their cores. It stops where they are not placed.
+fn placed(alloc: Global, sys: &System, guests: &[Part]) -> Result<System, Ending>
+    requires few { length guests.now < 2 ^ 32 }
+    ensures placed { IfOk result (IsPlacement sys.now guests.now) }
+    ensures refused { IfErr result (λ stop. IfAnswered stop (λ a.
+        IsRefused (placing sys.now guests.now) a.status a.text.items)) }
+    ensures judged { IfErr result (λ stop. EndsJudged stop) }
 {
-    match fault {
-        PlaceFault::NoMemory => Err(Ending::NoMemory),
-        PlaceFault::Refused(Refusal::NoMemory) => Err(Ending::NoMemory),
-        PlaceFault::Refused(refusal) => Ok(refuse(alloc, sys, refusal)?),
-        PlaceFault::BadGuest(i) => {
-            let row = u64::from(i) + 2;
-            Ok(bad_file(alloc, FileFault::BadGuest(row), 2)?)
+    match place(alloc, sys, guests) {
+        Ok(placed) => Ok(placed),
+        Err(PlaceFault::NoMemory) => Err(Ending::NoMemory),
+        Err(PlaceFault::Refused(Refusal::NoMemory)) => Err(Ending::NoMemory),
+        Err(PlaceFault::Refused(refusal)) => {
+            Err(Ending::Answered(refuse_placing(alloc, sys, refusal)?))
         }
-        PlaceFault::Unplaced(i) => Ok(Answer {
+        Err(PlaceFault::BadGuest(i)) => {
+            let row = u64::from(i) + 2;
+            Err(Ending::Answered(bad_file(alloc, FileFault::BadGuest(row), 2)?))
+        }
+        Err(PlaceFault::Unplaced(i)) => Err(Ending::Answered(Answer {
             status: Status::No,
             text: unplaced_text(alloc, &guests[i as usize])?,
-        }),
+        })),
     }
+}
+
+// The answer where the system is refused as it stands.
+#[tactic(auto, using(crate::proofs::Budgets::refusal_told))]
+fn refuse_placing(alloc: Global, sys: &System, refusal: Refusal) -> Result<Answer, AllocError>
+    requires { FirstRefusal sys.now refusal }
+    ensures refused { (guests : List PartView)
+        → IfOk result (λ a. IsRefused (placing sys.now guests) a.status a.text.items) }
+    ensures judged { IfOk result (λ a. IsJudged a.status) }
+{
+    refuse(alloc, sys, refusal)
+}
+
+// The system file of the placed system.
+fn printed(alloc: Global, placed: &System) -> Result<Answer, AllocError>
+    ensures text { IfOk result (λ a. IsSystemText placed.now a.status a.text.items) }
+    ensures judged { IfOk result (λ a. IsJudged a.status) }
+{
+    Ok(Answer {
+        status: Status::Yes,
+        text: print_system(alloc, placed)?,
+    })
 }

@@ -1,12 +1,13 @@
-ghost use Rattle.std.specs.Prelude.{◌≡◌, ◌⊎◌, ◌<◌, ◌^◌, List, ℕ, length, IfOk, IfErr, refl};
+ghost use Rattle.std.specs.Prelude.{◌≡◌, ◌⊎◌, List, ℕ, IfOk, IfErr, refl};
 ghost use Rattle.csv_rows.specs.Reading.{records_of};
-ghost use Rattle.tree_model.specs.View.{SystemView};
+ghost use Rattle.tree_model.specs.Admission.{FirstRefusal};
 ghost use Rattle.script_file.specs.declared.fault.ScriptFault.TheVariants.{NoMemory};
 ghost use Rattle.script_file.specs.Script.{IsScriptFault, SpellsScript, script_rows};
 ghost use Rattle.rt_top.specs.Attempt.{IsRefused};
+ghost use Rattle.rt_top.specs.Budgets.{composing};
 ghost use Rattle.rt_top.specs.Commands.Session.{scripting, EditsBytes};
 ghost use Rattle.rt_top.specs.Commands.{session};
-ghost use Rattle.rt_top.specs.Steps.{ending_of, IfAnswered, EndsJudged};
+ghost use Rattle.rt_top.specs.Steps.{ending_of, IfAnswered, IsJudged, EndsJudged};
 
 use crate::Status;
 use crate::answer::{Answer, Ending};
@@ -18,7 +19,7 @@ use admission_session::{Row, Session, copy_system};
 use csv_rows::{Records, read_rows};
 use rt_report::FileFault;
 use script_file::{ScriptFault, read_header, read_script};
-use std::alloc::Global;
+use std::alloc::{AllocError, Global};
 use tree_model::{Refusal, System};
 
 /// `session FILE SCRIPT`: the answer to each row of edits of the system, and the plan of the one
@@ -40,20 +41,26 @@ impl JudgeTwo for Editor {
     fn judge(&self, alloc: Global, sys: &System, bytes: &[u8]) -> Result<Answer, Ending> {
         let copy = copy_system(alloc, sys)?;
         match Session::open(alloc, copy) {
-            Ok(session) => edited(alloc, session, bytes),
+            Ok(session) => edited(alloc, sys, session, bytes),
             Err((_, Refusal::NoMemory)) => Err(Ending::NoMemory),
             Err((_, refusal)) => {
                 spelled_script(alloc, bytes)?;
-                Ok(refuse(alloc, sys, refusal)?)
+                Ok(refuse_system(alloc, sys, refusal)?)
             }
         }
     }
 }
 
-// The answers of a session to the rows of a script.
-fn edited(alloc: Global, session: Session, bytes: &[u8]) -> Result<Answer, Ending>
+// The answers of a session of the system to the rows of a script.
+fn edited(
+    alloc: Global,
+    sys: &System,
+    session: Session,
+    bytes: &[u8],
+) -> Result<Answer, Ending>
+    requires { session ≡ sys.now }
     ensures answer { IfAnswered (ending_of result)
-        (λ a. EditsBytes session bytes.now a.status a.text.items) }
+        (λ a. EditsBytes sys.now bytes.now a.status a.text.items) }
     ensures judged { EndsJudged (ending_of result) }
 {
     let mut records = Records::new(alloc, bytes);
@@ -71,11 +78,10 @@ fn edited(alloc: Global, session: Session, bytes: &[u8]) -> Result<Answer, Endin
 }
 
 // The rows that the bytes of the second file word spell. It stops where they are refused.
-pub fn spelled_script(alloc: Global, bytes: &[u8]) -> Result<Vec<Row>, Ending>
+fn spelled_script(alloc: Global, bytes: &[u8]) -> Result<Vec<Row>, Ending>
     ensures spelled { IfOk result (λ rows. SpellsScript (records_of bytes.now) rows.items) }
-    ensures few { IfOk result (λ rows. length rows.items < 2 ^ 32) }
-    ensures refused { (sys : SystemView) → IfErr result (λ stop. IfAnswered stop (λ a.
-        IsRefused (scripting sys bytes.now) a.status a.text.items)) }
+    ensures refused { IfErr result (λ stop. IfAnswered stop (λ a.
+        IsRefused (scripting bytes.now) a.status a.text.items)) }
     ensures judged { IfErr result (λ stop. EndsJudged stop) }
 {
     match read_script(alloc, bytes) {
@@ -86,9 +92,9 @@ pub fn spelled_script(alloc: Global, bytes: &[u8]) -> Result<Vec<Row>, Ending>
 
 // The answer to a fault of the second file word.
 fn refuse_script(alloc: Global, fault: ScriptFault) -> Ending
-    ensures refused { (sys : SystemView) (bytes : List ℕ)
+    ensures refused { (bytes : List ℕ)
         → (fault ≡ NoMemory) ⊎ IsScriptFault (script_rows (records_of bytes)) fault
-        → IfAnswered result (λ a. IsRefused (scripting sys bytes) a.status a.text.items) }
+        → IfAnswered result (λ a. IsRefused (scripting bytes) a.status a.text.items) }
     ensures judged { EndsJudged result }
 {
     if fault == ScriptFault::NoMemory {
@@ -98,4 +104,14 @@ fn refuse_script(alloc: Global, fault: ScriptFault) -> Ending
         Ok(answer) => Ending::Answered(answer),
         Err(_) => Ending::NoMemory,
     }
+}
+
+// The answer where the system is refused.
+#[tactic(auto, using(crate::proofs::Budgets::refusal_told))]
+fn refuse_system(alloc: Global, sys: &System, refusal: Refusal) -> Result<Answer, AllocError>
+    requires { FirstRefusal sys.now refusal }
+    ensures refused { IfOk result (λ a. IsRefused (composing sys.now) a.status a.text.items) }
+    ensures judged { IfOk result (λ a. IsJudged a.status) }
+{
+    refuse(alloc, sys, refusal)
 }
