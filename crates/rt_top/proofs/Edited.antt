@@ -25,7 +25,7 @@ use Rattle.rt_top.specs.declared.status.Status.TheVariants.{Yes}
 use Rattle.rt_top.specs.Budgets.{composing}
 use Rattle.rt_top.specs.Attempt.{IsGiven}
 use Rattle.rt_top.specs.Commands.Session.{scripting, IsSession, EditsSystem, EditsBytes}
-use Rattle.rt_top.specs.Editing.{HasEdited}
+use Rattle.rt_top.specs.Editing.{HasEdited, IsToldSession}
 use Rattle.rt_top.proofs.Budgets.{refusal_told}
 
 -- an answer can be told
@@ -61,27 +61,33 @@ took_edit start before after rows row edit number (Ok done) has n spelt next = (
 took_edit start before after rows row edit number (Err fault) has n spelt next = tt
 
 -- all rows, and the plan of the system that they leave
-pub edited_all : (sys : SystemView) (bytes : List ℕ) (start now : Editing) (header : List (List ℕ)) (status : Status) (text : List ℕ) → IsAdmitted sys → start.session ≡ sys → string_bytes start.text ≡ codes "verdict=yes\n" → is_script_header header ≡ true
+pub told_all : (sys : SystemView) (bytes text : List ℕ) (start now : Editing) (header : List (List ℕ)) → start.session ≡ sys → string_bytes start.text ≡ codes "verdict=yes\n" → is_script_header header ≡ true
     → (read : List (List (List ℕ))) × (records_of bytes ≡ header ∷ read) × RowsKeep script_rules read (length read) × HasEdited start now read
-    → status ≡ Yes → (budgets : List ℕ) × Admitted now.session budgets × (text ≡ string_bytes now.text ++ plan_lines now.session.parts budgets)
-    → EditsBytes sys bytes status text
-edited_all sys bytes start now header status text admitted same begun told all is_yes end =
+    → (budgets : List ℕ) × Admitted now.session budgets × (text ≡ string_bytes now.text ++ plan_lines now.session.parts budgets)
+    → IsToldSession sys bytes text
+told_all sys bytes text start now header same begun told all end =
     let (read, is, keep, edited) = all in
     let (budgets, under, written) = end in
+    record {
+      rows = edits_of read;
+      spelled = record { rows = read; header = behind_header (records_of bytes) header read is told; keep = keep; edits_are = refl };
+      answers = edited.answers;
+      last = now.session;
+      answered = subst (λ (s : SystemView). AreAnswered s (edits_of read) edited.answers now.session) same edited.answered;
+      budgets = budgets;
+      admitted = under;
+      told = written ∙ (ap (λ (z : List ℕ). z ++ plan_lines now.session.parts budgets) (edited.told ∙ ap (λ (z : List ℕ). z ++ answer_lines 1 edited.answers) begun) ∙ append_assoc (codes "verdict=yes\n") (answer_lines 1 edited.answers) (plan_lines now.session.parts budgets));
+    }
+
+-- so the answer is that to the system and the bytes
+pub edits_told : (sys : SystemView) (bytes text : List ℕ) (status : Status) → IsAdmitted sys → IsToldSession sys bytes text → status ≡ Yes → EditsBytes sys bytes status text
+edits_told sys bytes text status admitted t is_yes =
     inl (record {
-      value = edits_of read;
-      gives = record { rows = read; header = behind_header (records_of bytes) header read is told; keep = keep; edits_are = refl };
+      value = t.rows;
+      gives = t.spelled;
       said = inl (record {
         value = admitted.0;
         gives = admitted.1;
-        said = record {
-          is_yes = is_yes;
-          answers = edited.answers;
-          last = now.session;
-          answered = subst (λ (s : SystemView). AreAnswered s (edits_of read) edited.answers now.session) same edited.answered;
-          budgets = budgets;
-          admitted = under;
-          told = written ∙ (ap (λ (z : List ℕ). z ++ plan_lines now.session.parts budgets) (edited.told ∙ ap (λ (z : List ℕ). z ++ answer_lines 1 edited.answers) begun) ∙ append_assoc (codes "verdict=yes\n") (answer_lines 1 edited.answers) (plan_lines now.session.parts budgets));
-        };
+        said = record { is_yes = is_yes; answers = t.answers; last = t.last; answered = t.answered; budgets = t.budgets; admitted = t.admitted; told = t.told };
       });
     })

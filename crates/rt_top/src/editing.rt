@@ -1,14 +1,18 @@
-ghost use Rattle.std.specs.Prelude.{◌≡◌, ◌++◌, codes, IfOk, OnOk, IfErr, string_bytes};
+ghost use Rattle.std.specs.Prelude.{◌≡◌, ◌⊎◌, IfOk, IfErr};
+ghost use Rattle.csv_rows.specs.Reading.{records_of};
+ghost use Rattle.script_file.specs.declared.fault.ScriptFault.TheVariants.{NoMemory};
+ghost use Rattle.script_file.specs.Script.{IsScriptFault, script_rows};
+ghost use Rattle.rt_top.specs.Editing.{IsToldSession};
 
 use admission_session::{Row, Session};
-use csv_rows::RowRules;
+use csv_rows::{Records, RowRules, read_rows};
 use rt_report::{push_answer, session_begun, session_text};
-use script_file::{ScriptFault, spell_row};
+use script_file::{ScriptFault, read_header, spell_row};
 use std::alloc::{AllocError, Global};
 
 /// A session that edits by the rows of a script as they are read, and the text of its answers.
 #[derive(Drop)]
-pub struct Editing {
+struct Editing {
     alloc: Global,
     session: Session,
     text: String,
@@ -51,7 +55,7 @@ impl Editing {
     ghost use Rattle.rt_top.specs.Editing.{HasEdited};
 
     /// Before the first row.
-    pub fn new(alloc: Global, session: Session) -> Result<Editing, AllocError>
+    fn new(alloc: Global, session: Session) -> Result<Editing, AllocError>
         ensures taken { IfOk result (λ t. HasEdited t t []) }
         ensures session { IfOk result (λ t. t.session ≡ session) }
         ensures text { IfOk result (λ t. string_bytes t.text ≡ codes "verdict=yes\n") }
@@ -64,7 +68,7 @@ impl Editing {
     }
 
     /// The whole text, with the plan of the system that the rows left.
-    pub fn finish(self) -> Result<Vec<u8>, AllocError>
+    fn finish(self) -> Result<Vec<u8>, AllocError>
         ensures { IfOk result (λ text. (budgets : List ℕ) × Admitted self.session budgets
             × (text.items ≡ string_bytes self.text
             ++ plan_lines self.session.parts budgets)) }
@@ -88,5 +92,29 @@ impl Editing {
             Ok(()) => Ok(()),
             Err(_) => Err(ScriptFault::NoMemory),
         }
+    }
+}
+
+/// The text of the answers of a session to the rows of a script, with the plan of the system that
+/// they leave.
+pub fn edit_all(alloc: Global, session: Session, bytes: &[u8]) -> Result<Vec<u8>, ScriptFault>
+    ensures told { IfOk result (λ text. IsToldSession session bytes.now text.items) }
+    ensures fault { IfErr result (λ fault. (fault ≡ NoMemory)
+        ⊎ IsScriptFault (script_rows (records_of bytes.now)) fault) }
+{
+    let mut records = Records::new(alloc, bytes);
+    if let Err(fault) = read_header(&mut records) {
+        return Err(fault);
+    }
+    let mut rows = match Editing::new(alloc, session) {
+        Ok(rows) => rows,
+        Err(_) => return Err(ScriptFault::NoMemory),
+    };
+    if let Err(fault) = read_rows(&mut records, &mut rows) {
+        return Err(fault);
+    }
+    match rows.finish() {
+        Ok(text) => Ok(text),
+        Err(_) => Err(ScriptFault::NoMemory),
     }
 }

@@ -1,5 +1,5 @@
 -- Records spell one list of guests at most, and where they spell one they have no fault.
-use Rattle.std.proofs.Common.{◌≡◌, ◌<◌, ℕ, suc, Bool, true, false, List, [], ◌∷◌, map, length, refl, sym, ◌∙◌, ap, subst, inl, inr, arith}
+use Rattle.std.proofs.Common.{◌≡◌, ◌<◌, ℕ, zero, suc, Bool, true, false, List, [], ◌∷◌, map, length, refl, sym, ◌∙◌, ap, subst, inl, inr, arith}
 use Rattle.std.specs.List.{list_all}
 use Rattle.std.proofs.lemmas.Bool.{cases_lt, false≢true, and_parts, and_from}
 use Rattle.tree_model.specs.View.{PartView}
@@ -19,7 +19,7 @@ all_guests (row ∷ rows) each = and_from (is_guest row) (list_all is_guest rows
 
 guest_at : (rows : List RowView) (i : ℕ) → i < length rows → list_all is_guest rows ≡ true → is_guest (row_at rows i) ≡ true
 guest_at [] i l all = absurd (omega (arith, l))
-guest_at (row ∷ rows) 0 l all = (and_parts (is_guest row) (list_all is_guest rows) all).0
+guest_at (row ∷ rows) zero l all = (and_parts (is_guest row) (list_all is_guest rows) all).0
 guest_at (row ∷ rows) (suc i) l all = guest_at rows i (omega (arith, l)) (and_parts (is_guest row) (list_all is_guest rows) all).1
 
 clash : (b : Bool) → b ≡ true → b ≡ false → ⊥

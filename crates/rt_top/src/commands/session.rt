@@ -1,6 +1,7 @@
 ghost use Rattle.std.specs.Prelude.{◌≡◌, ◌⊎◌, List, ℕ, IfOk, IfErr, refl};
 ghost use Rattle.csv_rows.specs.Reading.{records_of};
 ghost use Rattle.tree_model.specs.Admission.{FirstRefusal};
+ghost use Rattle.admission_session.specs.Answers.{IsAdmitted};
 ghost use Rattle.script_file.specs.declared.fault.ScriptFault.TheVariants.{NoMemory};
 ghost use Rattle.script_file.specs.Script.{IsScriptFault, SpellsScript, script_rows};
 ghost use Rattle.rt_top.specs.Attempt.{IsRefused};
@@ -11,14 +12,13 @@ ghost use Rattle.rt_top.specs.Steps.{ending_of, IfAnswered, IsJudged, EndsJudged
 
 use crate::Status;
 use crate::answer::{Answer, Ending};
-use crate::editing::Editing;
+use crate::editing::edit_all;
 use crate::file::bad_file;
 use crate::refusing::refuse;
 use crate::two_files::JudgeTwo;
 use admission_session::{Row, Session, copy_system};
-use csv_rows::{Records, read_rows};
 use rt_report::FileFault;
-use script_file::{ScriptFault, read_header, read_script};
+use script_file::{ScriptFault, read_script};
 use std::alloc::{AllocError, Global};
 use tree_model::{Refusal, System};
 
@@ -58,23 +58,19 @@ fn edited(
     session: Session,
     bytes: &[u8],
 ) -> Result<Answer, Ending>
-    requires { session ≡ sys.now }
+    requires session { session ≡ sys.now }
+    requires admitted { IsAdmitted sys.now }
     ensures answer { IfAnswered (ending_of result)
         (λ a. EditsBytes sys.now bytes.now a.status a.text.items) }
     ensures judged { EndsJudged (ending_of result) }
 {
-    let mut records = Records::new(alloc, bytes);
-    if let Err(fault) = read_header(&mut records) {
-        return Err(refuse_script(alloc, fault));
+    match edit_all(alloc, session, bytes) {
+        Ok(text) => Ok(Answer {
+            status: Status::Yes,
+            text,
+        }),
+        Err(fault) => Err(refuse_script(alloc, fault)),
     }
-    let mut rows = Editing::new(alloc, session)?;
-    if let Err(fault) = read_rows(&mut records, &mut rows) {
-        return Err(refuse_script(alloc, fault));
-    }
-    Ok(Answer {
-        status: Status::Yes,
-        text: rows.finish()?,
-    })
 }
 
 // The rows that the bytes of the second file word spell. It stops where they are refused.

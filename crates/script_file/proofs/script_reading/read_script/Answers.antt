@@ -16,4 +16,11 @@ pub returns-clause-spelt : goal.returns-clause-spelt
 returns-clause-spelt c =
     let text = c.args.bytes.now in
     let (header, told, has) = c.in_default.ensures.header text c.new-records.ensures.read in
-    rw (c.finish.ensures) (spelt_all (records_of text) c.new.result c.read_rows.new.rows header told (c.in_default-read_rows.ensures.all text header has))
+    rw (c.finish.ensures) (spelt_all (records_of text) c.new-rows.result c.read_rows.new.rows header told (c.in_default-read_rows.ensures.all text header has))
+
+pub returns-clause-few : goal.returns-clause-few
+returns-clause-few c =
+    let text = c.args.bytes.now in
+    let (header, told, has) = c.in_default.ensures.header text c.new-records.ensures.read in
+    let (read, is, keep, taken) = c.in_default-read_rows.ensures.all text header has in
+    rw (c.finish.ensures) taken.few
