@@ -32,6 +32,7 @@ impl RowRules for Editing {
 
     ghost is_memory = { λ fault. fault ≡ NoMemory };
 
+    #[tactic(auto, using(crate::proofs::Edited::took_edit))]
     fn take(&mut self, row: &csv_rows::Row, number: u64) -> Result<(), ScriptFault> {
         match spell_row(self.alloc, row) {
             Ok(Some(edit)) => self.edit(edit, number - 1),
@@ -55,6 +56,7 @@ impl Editing {
     ghost use Rattle.rt_top.specs.Editing.{HasEdited};
 
     /// Before the first row.
+    #[tactic(auto, using(crate::proofs::Edited::none_edited))]
     fn new(alloc: Global, session: Session) -> Result<Editing, AllocError>
         ensures taken { IfOk result (λ t. HasEdited t t []) }
         ensures session { IfOk result (λ t. t.session ≡ session) }
@@ -78,6 +80,7 @@ impl Editing {
     }
 
     /// Answers row `number`, counted from 1.
+    #[tactic(auto, using(crate::proofs::Edited::can_tell))]
     fn edit(&mut self, row: Row, number: u64) -> Result<(), ScriptFault>
         ensures answered { OnOk result ((answer : Answer)
             × IsAnswered self.old.session row answer self.new.session

@@ -70,9 +70,7 @@ fn assert_composed(rt: &impl Abort, alloc: Global, session: &Session) -> Result<
 }
 
 #[test]
-fn rows_are_answered_and_the_plan_is_that_of_the_whole_system(
-    rt: HostRuntime,
-) -> Result<(), Fail> {
+fn rows_are_answered_and_the_plan_is_that_of_the_whole_system(rt: HostRuntime) -> Result<(), Fail> {
     let alloc = rt.alloc();
     let mut session = open(&rt, alloc)?;
     assert_composed(&rt, alloc, &session)?;

@@ -34,6 +34,9 @@ fn guests_go_to_the_first_core_on_which_they_fit(rt: HostRuntime) -> Result<(), 
         Err(_) => panic!(&rt; "not placed"),
     }
     guests.push(guest(alloc, "d", 6)?)?;
-    assert_eq!(&rt; place(alloc, &sys, &guests).err(), Some(PlaceFault::Unplaced(3)));
+    assert_eq!(&rt;
+        place(alloc, &sys, &guests).err(),
+        Some(PlaceFault::Unplaced(3))
+    );
     Ok(())
 }

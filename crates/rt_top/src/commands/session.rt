@@ -52,12 +52,7 @@ impl JudgeTwo for Editor {
 }
 
 // The answers of a session of the system to the rows of a script.
-fn edited(
-    alloc: Global,
-    sys: &System,
-    session: Session,
-    bytes: &[u8],
-) -> Result<Answer, Ending>
+fn edited(alloc: Global, sys: &System, session: Session, bytes: &[u8]) -> Result<Answer, Ending>
     requires session { session ≡ sys.now }
     requires admitted { IsAdmitted sys.now }
     ensures answer { IfAnswered (ending_of result)

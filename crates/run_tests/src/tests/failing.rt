@@ -201,7 +201,13 @@ fn of_bulk(rt: HostRuntime) -> Result<(), Fail> {
 fn of_session(rt: HostRuntime) -> Result<(), Fail> {
     let words = ["session", "first", "second"];
     let script = "op,part,parent,sched,period,budget,tasks\nremove,leaf,,,,,\n";
-    all_fail(&rt, rt.alloc(), &words, &[LEAF, script], "verdict=yes\n1 yes\n")
+    all_fail(
+        &rt,
+        rt.alloc(),
+        &words,
+        &[LEAF, script],
+        "verdict=yes\n1 yes\n",
+    )
 }
 
 #[test]
