@@ -15,4 +15,6 @@ mod outside_tests;
 #[cfg(test)]
 mod release_file_tests;
 #[cfg(test)]
+mod script_file_tests;
+#[cfg(test)]
 mod trace_file_tests;

@@ -5,14 +5,15 @@ use Rattle.system_file.specs.declared.fault.SystemFault.TheVariants.{NoMemory as
 use Rattle.release_file.specs.declared.fault.ReleaseFault.TheVariants.{NoMemory as ReleaseNoMemory}
 use Rattle.trace_file.specs.declared.fault.TraceFault.TheVariants.{NoMemory as TraceNoMemory}
 use Rattle.cert_reader.specs.declared.fault.CertFault.TheVariants.{NoMemory as CertNoMemory}
+use Rattle.script_file.specs.declared.fault.ScriptFault.TheVariants.{NoMemory as ScriptNoMemory}
 use Rattle.tree_model.specs.View.{SystemView}
 use Rattle.tree_model.specs.System.{core_at}
 use Rattle.rt_report.specs.Words.{joined}
 use Rattle.rt_report.specs.SystemFault.{system_fault_text}
-use Rattle.rt_report.specs.RowFault.{release_fault_text, trace_fault_text}
+use Rattle.rt_report.specs.RowFault.{release_fault_text, trace_fault_text, script_fault_text, guest_fault_text}
 use Rattle.rt_report.specs.CertFault.{cert_fault_text}
 use Rattle.rt_report.specs.declared.fault.FileFault.{FileFault}
-use Rattle.rt_report.specs.declared.fault.FileFault.TheVariants.{System, Release, Trace, Cert, NotRtds, NoSuchLeaf, BadDeadline}
+use Rattle.rt_report.specs.declared.fault.FileFault.TheVariants.{System, Release, Trace, Cert, Script, BadGuest, NotRtds, NoSuchLeaf, BadDeadline}
 
 -- `fault=NotRtds core=NAME file=K`, over the system that has the core
 abbrev pub not_rtds_text : Option SystemView → ℕ → ℕ → List ℕ
@@ -32,6 +33,8 @@ fault_text sys (System fault) file = system_fault_text fault file
 fault_text sys (Release fault) file = release_fault_text fault file
 fault_text sys (Trace fault) file = trace_fault_text fault file
 fault_text sys (Cert fault) file = cert_fault_text fault file
+fault_text sys (Script fault) file = script_fault_text fault file
+fault_text sys (BadGuest row) file = guest_fault_text row file
 fault_text sys (NotRtds c) file = not_rtds_text sys c file
 fault_text sys NoSuchLeaf file = word_fault_text (codes "NoSuchLeaf") file
 fault_text sys BadDeadline file = word_fault_text (codes "BadDeadline") file
@@ -48,6 +51,8 @@ IsFault sys (System fault) = fault ≢ SystemNoMemory
 IsFault sys (Release fault) = fault ≢ ReleaseNoMemory
 IsFault sys (Trace fault) = fault ≢ TraceNoMemory
 IsFault sys (Cert fault) = fault ≢ CertNoMemory
+IsFault sys (Script fault) = fault ≢ ScriptNoMemory
+IsFault sys (BadGuest row) = ⊤
 IsFault sys (NotRtds c) = HasCore sys c
 IsFault sys NoSuchLeaf = ⊤
 IsFault sys BadDeadline = ⊤

@@ -13,4 +13,6 @@ pub mod SystemFault
 pub mod RowFault
 pub mod CertFault
 pub mod Fault
+pub mod Session
+pub mod Place
 pub mod Unread

@@ -5,6 +5,8 @@ use Rattle.release_file.specs.declared.fault.ReleaseFault.{ReleaseFault}
 use Rattle.release_file.specs.declared.fault.ReleaseFault.TheVariants.{BadHeader, BadRow, Unknown, OutOfRange, TooEarly, BadOrder, NoMemory}
 use Rattle.trace_file.specs.declared.fault.TraceFault.{TraceFault}
 use Rattle.trace_file.specs.declared.fault.TraceFault.TheVariants.{BadHeader as TraceBadHeader, BadRow as TraceBadRow, Unknown as TraceUnknown, OutOfRange as TraceOutOfRange, TimeFalls, WrongCore, NotStarted, StartedTwice, NotBlocked, NotRunnable, StillRunning, CoreIdle, AfterEnd, NoEnd, NoMemory as TraceNoMemory}
+use Rattle.script_file.specs.declared.fault.ScriptFault.{ScriptFault}
+use Rattle.script_file.specs.declared.fault.ScriptFault.TheVariants.{BadHeader as ScriptBadHeader, BadRow as ScriptBadRow, NoMemory as ScriptNoMemory}
 use Rattle.rt_report.specs.Words.{joined}
 
 -- `fault=WORD row=R file=K`
@@ -39,3 +41,11 @@ trace_fault_text (CoreIdle row) file = row_line (codes "CoreIdle") row file
 trace_fault_text (AfterEnd row) file = row_line (codes "AfterEnd") row file
 trace_fault_text (NoEnd row) file = row_line (codes "NoEnd") row file
 trace_fault_text TraceNoMemory file = []
+
+abbrev pub script_fault_text : ScriptFault → ℕ → List ℕ
+script_fault_text ScriptBadHeader file = row_line (codes "BadHeader") 1 file
+script_fault_text (ScriptBadRow row) file = row_line (codes "BadRow") row file
+script_fault_text ScriptNoMemory file = []
+
+abbrev pub guest_fault_text : ℕ → ℕ → List ℕ
+guest_fault_text row file = row_line (codes "BadGuest") row file

@@ -31,7 +31,8 @@ pub fn admit_text(
     Ok(text.into_bytes())
 }
 
-fn push_part(text: &mut String, part: &Part, budget: u64) -> Result<(), AllocError>
+/// Writes the line of a part.
+pub fn push_part(text: &mut String, part: &Part, budget: u64) -> Result<(), AllocError>
     ensures { OnOk result
         (string_bytes text.new ≡ string_bytes text.old ++ part_line part.now budget) }
 {

@@ -2,10 +2,11 @@ ghost use Rattle.std.specs.Prelude.{◌≡◌, ◌<◌, IfOk, option_copied};
 ghost use Rattle.rt_report.specs.Fault.{fault_text, not_rtds_text, word_fault_text, HasCore, IsFault};
 
 use crate::cert_fault::cert_text;
-use crate::row_fault::{release_text, trace_text};
+use crate::row_fault::{guest_text, release_text, script_text, trace_text};
 use crate::system_fault::system_text;
 use cert_reader::CertFault;
 use release_file::ReleaseFault;
+use script_file::ScriptFault;
 use std::alloc::{AllocError, Global};
 use system_file::SystemFault;
 use trace_file::TraceFault;
@@ -19,6 +20,9 @@ pub enum FileFault {
     Release(ReleaseFault),
     Trace(TraceFault),
     Cert(CertFault),
+    Script(ScriptFault),
+    /// The row of a guest that can't be a leaf, or that is no row of a guest.
+    BadGuest(u64),
     /// The core, by its place, is not full or not under earliest deadline first.
     NotRtds(u32),
     /// It has no leaf of the name that a word tells.
@@ -43,6 +47,8 @@ pub fn fault_text(
         FileFault::Release(fault) => release_text(alloc, fault, file),
         FileFault::Trace(fault) => trace_text(alloc, fault, file),
         FileFault::Cert(fault) => cert_text(alloc, fault, file),
+        FileFault::Script(fault) => script_text(alloc, fault, file),
+        FileFault::BadGuest(row) => guest_text(alloc, row, file),
         FileFault::NotRtds(c) => not_rtds_text(alloc, sys, c, file),
         FileFault::NoSuchLeaf => word_fault_text(alloc, "NoSuchLeaf", file),
         FileFault::BadDeadline => word_fault_text(alloc, "BadDeadline", file),

@@ -30,7 +30,13 @@ pub fn refusal_text(alloc: Global, sys: &System, r: &Refusal) -> Result<Vec<u8>,
     Ok(text.into_bytes())
 }
 
-fn push_short(text: &mut String, sys: &System, node: Place, short: Short) -> Result<(), AllocError>
+/// Writes what is short at a node.
+pub fn push_short(
+    text: &mut String,
+    sys: &System,
+    node: Place,
+    short: Short,
+) -> Result<(), AllocError>
     requires { IsNode sys.now node }
     ensures { OnOk result (
         string_bytes text.new ≡ string_bytes text.old ++ short_words sys.now node short) }

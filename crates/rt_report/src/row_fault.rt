@@ -1,7 +1,8 @@
 ghost use Rattle.std.specs.Prelude.{◌≡◌, ◌≢◌, IfOk};
-ghost use Rattle.rt_report.specs.RowFault.{row_line, release_fault_text, trace_fault_text};
+ghost use Rattle.rt_report.specs.RowFault.{row_line, release_fault_text, trace_fault_text, script_fault_text, guest_fault_text};
 
 use release_file::ReleaseFault;
+use script_file::ScriptFault;
 use std::alloc::{AllocError, Global};
 use trace_file::TraceFault;
 
@@ -45,6 +46,26 @@ pub fn trace_text(alloc: Global, fault: TraceFault, file: u32) -> Result<Vec<u8>
         TraceFault::NoMemory => unreachable!(),
     };
     at_row(alloc, word, row, file)
+}
+
+/// The line of the fault of a script.
+pub fn script_text(alloc: Global, fault: ScriptFault, file: u32) -> Result<Vec<u8>, AllocError>
+    requires { fault ≢ ScriptFault.NoMemory }
+    ensures { IfOk result (λ text. text.items ≡ script_fault_text fault file) }
+{
+    let (word, row) = match fault {
+        ScriptFault::BadHeader => ("BadHeader", 1),
+        ScriptFault::BadRow(row) => ("BadRow", row),
+        ScriptFault::NoMemory => unreachable!(),
+    };
+    at_row(alloc, word, row, file)
+}
+
+/// The line of the row of a guest that can't be placed anywhere.
+pub fn guest_text(alloc: Global, row: u64, file: u32) -> Result<Vec<u8>, AllocError>
+    ensures { IfOk result (λ text. text.items ≡ guest_fault_text row file) }
+{
+    at_row(alloc, "BadGuest", row, file)
 }
 
 fn at_row(alloc: Global, word: &str, row: u64, file: u32) -> Result<Vec<u8>, AllocError>

@@ -9,6 +9,7 @@ mod ReadSecond
 mod Statuses
 mod Steps
 mod Taking
+mod Edited
 mod SlotEach
 mod Laws
 mod Reporting

@@ -9,10 +9,12 @@ pub mod Bulk
 pub mod Responses
 pub mod Interface
 pub mod Choose
+pub mod Session
+pub mod Place
 use Rattle.std.specs.Prelude.{ℕ, List, [], ◌∷◌, ◌++◌, Option, Some, None, option_map, option_and_then, codes, bytes_eq, if◌then◌else◌}
 use Rattle.server_sched.specs.declared.supplies.Pattern.{Pattern}
 use Rattle.rt_top.specs.declared.commands.Command.{Command as Parsed}
-use Rattle.rt_top.specs.declared.commands.Command.TheVariants.{Admit as ToAdmit, Certify as ToCertify, Check as ToCheck, Rtds as ToRtds, Audit as ToAudit, Simulate as ToSimulate, Bulk as ToBulk, Responses as ToResponses, Interface as ToInterface, Choose as ToChoose}
+use Rattle.rt_top.specs.declared.commands.Command.TheVariants.{Admit as ToAdmit, Certify as ToCertify, Check as ToCheck, Rtds as ToRtds, Audit as ToAudit, Simulate as ToSimulate, Bulk as ToBulk, Responses as ToResponses, Interface as ToInterface, Choose as ToChoose, Session as ToSession, Place as ToPlace}
 use Rattle.rt_top.specs.SlotWords.{pattern_of, slot_count}
 use Rattle.rt_top.specs.Guests.{guest_number}
 use Rattle.rt_top.specs.PeriodWords.{period_of, range_of}
@@ -27,6 +29,8 @@ use Rattle.rt_top.specs.Commands.Bulk.{the_bulk}
 use Rattle.rt_top.specs.Commands.Responses.{the_responses}
 use Rattle.rt_top.specs.Commands.Interface.{the_interface}
 use Rattle.rt_top.specs.Commands.Choose.{the_choose}
+use Rattle.rt_top.specs.Commands.Session.{the_session}
+use Rattle.rt_top.specs.Commands.Place.{the_place}
 
 -- one form of words each: the names of its files, in the order of the words, that of a leaf, and
 -- its numbers
@@ -41,6 +45,8 @@ pub data Command : Type 0 where
   responses : (file : List ℕ) → Command
   interface : (file part : List ℕ) (deadline : ℕ) → Command
   choose : (file part : List ℕ) (low high : ℕ) → Command
+  session : (file script : List ℕ) → Command
+  place : (file guests : List ℕ) → Command
 
 -- what there is to say of each
 abbrev pub spec_of : Command → CommandSpec
@@ -54,6 +60,8 @@ spec_of (bulk guests) = the_bulk guests
 spec_of (responses file) = the_responses file
 spec_of (interface file part deadline) = the_interface file part deadline
 spec_of (choose file part low high) = the_choose file part low high
+spec_of (session file script) = the_session file script
+spec_of (place file guests) = the_place file guests
 
 -- the command that was parsed
 abbrev pub command_told : Parsed → Command
@@ -68,6 +76,8 @@ command_told (ToBulk guests) = bulk guests.number
 command_told (ToResponses file) = responses file.now
 command_told (ToInterface file part deadline) = interface file.now part.now deadline.slots
 command_told (ToChoose file part periods) = choose file.now part.now periods.low periods.high
+command_told (ToSession file script) = session file.now script.now
+command_told (ToPlace file guests) = place file.now guests.now
 
 -- the names of a command's files, in the order of its words
 abbrev pub file_names : Command → List (List ℕ)
@@ -137,6 +147,8 @@ forms =
     ∷ form (codes "interface") (codes " FILE PART DEADLINE") interface_of
     ∷ form (codes "responses") (codes " FILE") (of_one responses)
     ∷ form (codes "choose") (codes " FILE PART LOW HIGH") choose_of
+    ∷ form (codes "session") (codes " FILE SCRIPT") (of_two session)
+    ∷ form (codes "place") (codes " FILE GUESTS") (of_two place)
     ∷ []
 
 -- the command that the words spell: its own word, and then its files and numbers

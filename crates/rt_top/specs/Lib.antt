@@ -13,3 +13,4 @@ pub mod Causes
 pub mod Reading
 pub mod Statuses
 pub mod Steps
+pub mod Editing

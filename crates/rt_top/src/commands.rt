@@ -6,7 +6,9 @@ mod check;
 mod responses;
 mod choose;
 mod interface;
+mod place;
 mod rtds;
+mod session;
 mod simulate;
 
 ghost use Rattle.std.specs.Prelude.{◌≡◌, ◌≢◌, Some, map, option_map, string_bytes, IfOk, IfErr};
@@ -26,7 +28,9 @@ use crate::commands::check::Check;
 use crate::commands::responses::Responses;
 use crate::commands::choose::Choose;
 use crate::commands::interface::Interface;
+use crate::commands::place::Placer;
 use crate::commands::rtds::Rtds;
+use crate::commands::session::Editor;
 use crate::commands::simulate::Simulate;
 use crate::guests::Guests;
 use crate::one_file::over_one;
@@ -63,6 +67,10 @@ pub enum Command<'a> {
     Interface(&'a str, &'a str, Period),
     /// `choose FILE PART LOW HIGH`
     Choose(&'a str, &'a str, Periods),
+    /// `session FILE SCRIPT`
+    Session(&'a str, &'a str),
+    /// `place FILE GUESTS`
+    Place(&'a str, &'a str),
 }
 
 /// The command that the words spell: its own word, its files, and what else it takes.
@@ -92,6 +100,12 @@ pub fn parse(words: &[String]) -> Option<Command<'_>>
         interface_of(rest)
     } else if word.as_str() == "choose" {
         choose_of(rest)
+    } else if word.as_str() == "session" {
+        let (file, script) = two_words(rest)?;
+        Some(Command::Session(file, script))
+    } else if word.as_str() == "place" {
+        let (file, guests) = two_words(rest)?;
+        Some(Command::Place(file, guests))
     } else {
         None
     }
@@ -103,7 +117,8 @@ fn usage_text() -> &'static str
 {
     "usage: rtadmit admit FILE | certify FILE | check FILE CERT | \
      simulate FILE RELEASES PATTERN SLOTS | rtds FILE WORKLOAD SLOTS | audit FILE TRACE | bulk N | \
-     interface FILE PART DEADLINE | responses FILE | choose FILE PART LOW HIGH\n"
+     interface FILE PART DEADLINE | responses FILE | choose FILE PART LOW HIGH | \
+     session FILE SCRIPT | place FILE GUESTS\n"
 }
 
 /// The answer to a command, or to words that spell none.
@@ -140,6 +155,10 @@ pub fn answer<S: Store>(alloc: Global, command: Option<Command<'_>>, store: &mut
         Some(Command::Choose(file, part, periods)) => {
             ended(over_one(alloc, store, file, &Choose { part, periods }))
         }
+        Some(Command::Session(file, script)) => {
+            ended(over_two(alloc, store, file, script, &Editor))
+        }
+        Some(Command::Place(file, guests)) => ended(over_two(alloc, store, file, guests, &Placer)),
         None => ended(usage(alloc)),
     }
 }

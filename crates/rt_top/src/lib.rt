@@ -3,6 +3,7 @@
 
 mod answer;
 mod commands;
+mod editing;
 mod file;
 mod guests;
 mod leaf;

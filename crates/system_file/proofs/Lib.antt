@@ -23,3 +23,4 @@ pub mod PrintedParents
 pub mod PrintedSystem
 pub mod PrintedText
 pub mod PrintedPut
+pub mod OneText

@@ -1,8 +1,9 @@
-ghost use Rattle.std.specs.Prelude.{◌≡◌, ℕ, ◌≤◌, ◌<◌, true, map, length, slice_index_or, Some, IfOk, OnOk, IfSome, Ok as Spelled};
+ghost use Rattle.std.specs.Prelude.{◌≡◌, ℕ, ◌≤◌, ◌<◌, true, false, map, length, slice_index_or, Some, IfOk, OnOk, IfSome, Ok as Spelled};
 ghost use Rattle.std.specs.List.{list_any};
 ghost use Rattle.slot_model.specs.Name.{is_name};
 ghost use Rattle.slot_model.specs.declared.task.TheConstants.{LIMIT};
 ghost use Rattle.toml.specs.Data.{string};
+ghost use Rattle.toml.specs.Text.{IsDocumentText};
 ghost use Rattle.toml.specs.View.{view, table_view};
 ghost use Rattle.tree_model.specs.System.{IsSystem, IsPart, IsCoreSupply, no_core};
 ghost use Rattle.tree_model.specs.Tree.{place_of, IsNode};
@@ -21,6 +22,8 @@ use tree_model::{Core, Named, Parent, Part, System};
 pub fn print_system(alloc: Global, sys: &System) -> Result<Vec<u8>, AllocError>
     ensures spells { IfOk result (λ text. system_of text.items ≡ Spelled sys.now) }
     ensures format { IfOk result (λ text. file_format text.items ≡ Some (format_needed sys.now)) }
+    // the text of the printed document, of which there is one
+    ensures text { IfOk result (λ text. IsDocumentText false (printed sys.now) text.items) }
 {
     let table = system_table(alloc, sys)?;
     match toml::table_to_string(alloc, &table) {

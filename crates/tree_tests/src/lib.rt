@@ -2,9 +2,13 @@
 #![tactic(auto)]
 
 #[cfg(test)]
+mod admission_session_tests;
+#[cfg(test)]
 mod compose_tree_tests;
 #[cfg(test)]
 mod helpers;
+#[cfg(test)]
+mod placement_tests;
 #[cfg(test)]
 mod print_tests;
 #[cfg(test)]

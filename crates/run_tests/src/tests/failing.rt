@@ -216,3 +216,24 @@ fn of_responses(rt: HostRuntime) -> Result<(), Fail> {
     let words = ["responses", "first"];
     all_fail(&rt, rt.alloc(), &words, &[RATED], RATED_RESPONSES)
 }
+
+#[test]
+fn of_session(rt: HostRuntime) -> Result<(), Fail> {
+    let words = ["session", "first", "second"];
+    let script = "op,part,parent,sched,period,budget,tasks\nremove,leaf,,,,,\n";
+    all_fail(
+        &rt,
+        rt.alloc(),
+        &words,
+        &[LEAF, script],
+        "verdict=yes\n1 yes\n",
+    )
+}
+
+#[test]
+fn of_place(rt: HostRuntime) -> Result<(), Fail> {
+    let words = ["place", "first", "second"];
+    let guests = "op,part,parent,sched,period,budget,tasks\n";
+    let host = "format = 1\n\n[[core]]\nname = \"cpu0\"\nsched = \"edf\"\n";
+    all_fail(&rt, rt.alloc(), &words, &[host, guests], host)
+}

@@ -14,6 +14,7 @@ returns-in-Ok c =
     rw c.into_bytes.ensures.value (record {
       spells = reads_back c.args.sys.now (string_bytes c.in-Ok.text) c.in_ok-table.ensures.system c.in_ok-table.ensures.cores c.in_ok-table.ensures.parts (IsUtf8-string_bytes c.in-Ok.text) document;
       format = format_told c.args.sys.now (string_bytes c.in-Ok.text) (IsUtf8-string_bytes c.in-Ok.text) document;
+      text = rw c.in_ok-table.ensures.printed at c.in-Ok.ensures.text;
     })
 
 pub unreachable-requires : goal.unreachable-requires

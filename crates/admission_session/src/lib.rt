@@ -1,0 +1,21 @@
+//! Sessions that edit an admitted system row by row, and stay admitted.
+#![tactic(auto)]
+
+mod answer;
+mod copies;
+mod edited;
+mod fault;
+mod find;
+mod op;
+mod row;
+mod rules;
+mod session;
+
+pub use answer::Answer;
+pub use copies::copy_on;
+pub use edited::copy_system;
+pub use fault::EditFault;
+pub use op::Op;
+pub use row::Row;
+pub use rules::is_new_leaf;
+pub use session::Session;

@@ -1,0 +1,7 @@
+pub mod CutPieces
+pub mod RowsTaking
+pub mod OneScript
+pub mod OneGuests
+mod ScriptExamples
+mod Sevens
+mod Digits

@@ -1,0 +1,51 @@
+ghost use Rattle.std.specs.Prelude.{◌≡◌, ◌⊎◌, ◌∷◌, ◌<◌, ◌^◌, [], List, ℕ, true, None, length, IfOk, IfErr, OnOk};
+ghost use Rattle.csv_rows.specs.Reading.{HasRead, IsOpen, records_of};
+ghost use Rattle.script_file.specs.declared.fault.ScriptFault.TheVariants.{BadHeader, NoMemory};
+ghost use Rattle.script_file.specs.Script.{SpellsScript, IsScriptFault, is_script_header, script_rows};
+
+use crate::ScriptFault;
+use crate::row_fields::is_script_header;
+use crate::script_rows::ScriptRows;
+use admission_session::Row;
+use csv_rows::{Records, read_rows};
+use std::alloc::Global;
+
+/// The header of a script.
+pub fn read_header(records: &mut Records) -> Result<(), ScriptFault>
+    requires { IsOpen records.old }
+    ensures header { (text : List ℕ) → HasRead text [] records.old
+        → IfOk result (λ done. (header : List (List ℕ)) × (is_script_header header ≡ true)
+        × HasRead text (header ∷ []) records.new) }
+    ensures fault { (text : List ℕ) → HasRead text [] records.old
+        → IfErr result (λ fault. (fault ≡ NoMemory)
+        ⊎ ((fault ≡ BadHeader) × (script_rows (records_of text) ≡ None))) }
+    ensures takes_any { OnOk result (IsOpen records.new) }
+{
+    match records.advance() {
+        Ok(true) => {}
+        Ok(false) => return Err(ScriptFault::BadHeader),
+        Err(_) => return Err(ScriptFault::NoMemory),
+    }
+    if !is_script_header(&records.row()) {
+        return Err(ScriptFault::BadHeader);
+    }
+    Ok(())
+}
+
+/// The rows of edits that the records of a text spell, or the first rule that the text breaks.
+pub fn read_script(alloc: Global, bytes: &[u8]) -> Result<Vec<Row>, ScriptFault>
+    ensures spelt { IfOk result (λ rows. SpellsScript (records_of bytes.now) rows.items) }
+    ensures few { IfOk result (λ rows. length rows.items < 2 ^ 32) }
+    ensures fault { IfErr result (λ fault. (fault ≡ NoMemory)
+        ⊎ IsScriptFault (script_rows (records_of bytes.now)) fault) }
+{
+    let mut records = Records::new(alloc, bytes);
+    if let Err(fault) = read_header(&mut records) {
+        return Err(fault);
+    }
+    let mut rows = ScriptRows::new(alloc);
+    if let Err(fault) = read_rows(&mut records, &mut rows) {
+        return Err(fault);
+    }
+    Ok(rows.finish())
+}

@@ -1,0 +1,193 @@
+ghost use Rattle.std.specs.Prelude.{◌≡◌, true, false, Some, IfOk, MatchOption};
+ghost use Rattle.csv_rows.specs.Row.{fields_of};
+ghost use Rattle.csv_rows.specs.Decimal.{number};
+ghost use Rattle.system_file.specs.Document.{sched_named};
+ghost use Rattle.script_file.specs.Script.{budget_of, is_bare, is_leaf, is_served, leaf_row, op_named, sched_of};
+ghost use Rattle.script_file.specs.Spelt.{IsSpelt, row_fields};
+
+use crate::numbers::number;
+use crate::row_fields::{RowFields, seven_fields};
+use crate::task_spelling::spell_tasks;
+use admission_session::{Op, Row};
+use csv_rows::is_word;
+use slot_model::{Name, Sched};
+use std::alloc::{AllocError, Global};
+
+/// The word of an operation.
+fn op_named(word: &[u8]) -> Option<Op>
+    ensures { result ≡ op_named word.now }
+{
+    if is_word(word, "add") {
+        return Some(Op::Add);
+    }
+    if is_word(word, "remove") {
+        return Some(Op::Remove);
+    }
+    if is_word(word, "change") {
+        return Some(Op::Change);
+    }
+    None
+}
+
+/// The word of a scheduler.
+fn sched_named(word: &[u8]) -> Option<Sched>
+    ensures { result ≡ sched_named word.now }
+{
+    if is_word(word, "edf") {
+        return Some(Sched::Edf);
+    }
+    if is_word(word, "rm") {
+        return Some(Sched::Rm);
+    }
+    if is_word(word, "dm") {
+        return Some(Sched::Dm);
+    }
+    if is_word(word, "listed") {
+        return Some(Sched::Listed);
+    }
+    None
+}
+
+/// How a leaf is served: its scheduler, and the period and the budget of its server.
+#[derive(Clone, Copy)]
+struct Served {
+    sched: Sched,
+    period: u64,
+    budget: Option<u64>,
+}
+
+/// What the fields of a row say of how a leaf is served, where they say it.
+fn spell_served(f: &RowFields) -> Option<Served>
+    ensures { let g = f.now in MatchOption result
+        (is_served g.sched.now g.period.now g.budget.now ≡ false)
+        (λ s. (is_served g.sched.now g.period.now g.budget.now ≡ true)
+        × (s.sched ≡ sched_of g.sched.now) × (s.period ≡ number g.period.now)
+        × (s.budget ≡ budget_of g.budget.now)) }
+{
+    let sched = sched_named(f.sched)?;
+    let period = number(f.period)?;
+    if f.budget.is_empty() {
+        return Some(Served {
+            sched,
+            period,
+            budget: None,
+        });
+    }
+    let budget = Some(number(f.budget)?);
+    Some(Served {
+        sched,
+        period,
+        budget,
+    })
+}
+
+/// The row of an operation that gives a leaf.
+fn spell_leaf(
+    alloc: Global,
+    op: Op,
+    parent: Option<Name>,
+    f: &RowFields,
+) -> Result<Option<Row>, AllocError>
+    ensures { let g = f.now in IfOk result (λ made. MatchOption made
+        (is_leaf g.part.now g.sched.now g.period.now g.budget.now g.tasks.now ≡ false)
+        (λ row. (is_leaf g.part.now g.sched.now g.period.now g.budget.now g.tasks.now ≡ true)
+        × (row ≡ leaf_row op parent
+        g.part.now g.sched.now g.period.now g.budget.now g.tasks.now))) }
+{
+    let Some(served) = spell_served(f) else {
+        return Ok(None);
+    };
+    let Some(tasks) = spell_tasks(alloc, f.tasks)? else {
+        return Ok(None);
+    };
+    let Some(name) = Name::new(alloc, f.part)? else {
+        return Ok(None);
+    };
+    Ok(Some(Row {
+        op,
+        name,
+        parent,
+        sched: served.sched,
+        period: served.period,
+        budget: served.budget,
+        tasks,
+    }))
+}
+
+fn spell_addition(alloc: Global, f: &RowFields) -> Result<Option<Row>, AllocError>
+    requires { op_named f.now.op.now ≡ Some Op.Add }
+    ensures { IfOk result (IsSpelt (row_fields f.now)) }
+{
+    if f.parent.is_empty() {
+        return spell_leaf(alloc, Op::Add, None, f);
+    }
+    match Name::new(alloc, f.parent)? {
+        None => Ok(None),
+        Some(parent) => spell_leaf(alloc, Op::Add, Some(parent), f),
+    }
+}
+
+fn spell_change(alloc: Global, f: &RowFields) -> Result<Option<Row>, AllocError>
+    requires { op_named f.now.op.now ≡ Some Op.Change }
+    ensures { IfOk result (IsSpelt (row_fields f.now)) }
+{
+    if !f.parent.is_empty() {
+        return Ok(None);
+    }
+    spell_leaf(alloc, Op::Change, None, f)
+}
+
+/// Whether all fields are empty but the operation and the part.
+fn is_bare(f: &RowFields) -> bool
+    ensures { let g = f.now in result
+        ≡ is_bare g.parent.now g.sched.now g.period.now g.budget.now g.tasks.now }
+{
+    f.parent.is_empty()
+        && f.sched.is_empty()
+        && f.period.is_empty()
+        && f.budget.is_empty()
+        && f.tasks.is_empty()
+}
+
+fn spell_removal(alloc: Global, f: &RowFields) -> Result<Option<Row>, AllocError>
+    requires { op_named f.now.op.now ≡ Some Op.Remove }
+    ensures { IfOk result (IsSpelt (row_fields f.now)) }
+{
+    if !is_bare(f) {
+        return Ok(None);
+    }
+    match Name::new(alloc, f.part)? {
+        None => Ok(None),
+        Some(name) => Ok(Some(Row {
+            op: Op::Remove,
+            name,
+            parent: None,
+            sched: Sched::Edf,
+            period: 1,
+            budget: None,
+            tasks: Vec::new(alloc),
+        })),
+    }
+}
+
+/// The row that seven fields spell, where they spell one.
+fn spell_fields(alloc: Global, f: &RowFields) -> Result<Option<Row>, AllocError>
+    ensures { IfOk result (IsSpelt (row_fields f.now)) }
+{
+    match op_named(f.op) {
+        None => Ok(None),
+        Some(Op::Add) => spell_addition(alloc, f),
+        Some(Op::Remove) => spell_removal(alloc, f),
+        Some(Op::Change) => spell_change(alloc, f),
+    }
+}
+
+/// The row that a record spells, where it spells one.
+pub fn spell_row(alloc: Global, row: &csv_rows::Row) -> Result<Option<Row>, AllocError>
+    ensures { IfOk result (IsSpelt (fields_of row.now)) }
+{
+    match seven_fields(row) {
+        None => Ok(None),
+        Some(f) => spell_fields(alloc, &f),
+    }
+}
