@@ -6,9 +6,11 @@ pub mod Admit
 pub mod Simulate
 pub mod Refusal
 pub mod Audit
+pub mod Tally
 pub mod Check
 pub mod SystemFault
 pub mod RowFault
 pub mod CertFault
 pub mod Fault
 pub mod Unread
+pub mod Version

@@ -14,7 +14,9 @@ mod replay;
 mod row_fault;
 mod simulate;
 mod system_fault;
+mod tally;
 mod unread;
+mod version;
 
 pub use admit::admit_text;
 pub use audit::audit_text;
@@ -24,4 +26,6 @@ pub use fault::{FileFault, fault_text};
 pub use refusal::refusal_text;
 pub use replay::Replay;
 pub use simulate::{counts_text, simulate_text};
+pub use tally::tally_text;
 pub use unread::{absent_text, too_long_text};
+pub use version::version_text;

@@ -6,10 +6,12 @@ pub mod Rtds
 pub mod Audit
 pub mod Simulate
 pub mod Bulk
+pub mod Tally
+pub mod Version
 use Rattle.std.specs.Prelude.{ℕ, List, [], ◌∷◌, ◌++◌, Option, Some, None, option_map, option_and_then, codes, bytes_eq, if◌then◌else◌}
 use Rattle.server_sched.specs.declared.supplies.Pattern.{Pattern}
 use Rattle.rt_top.specs.declared.commands.Command.{Command as Parsed}
-use Rattle.rt_top.specs.declared.commands.Command.TheVariants.{Admit as ToAdmit, Certify as ToCertify, Check as ToCheck, Rtds as ToRtds, Audit as ToAudit, Simulate as ToSimulate, Bulk as ToBulk}
+use Rattle.rt_top.specs.declared.commands.Command.TheVariants.{Admit as ToAdmit, Certify as ToCertify, Check as ToCheck, Rtds as ToRtds, Audit as ToAudit, Simulate as ToSimulate, Bulk as ToBulk, Tally as ToTally, Version as ToVersion}
 use Rattle.rt_top.specs.SlotWords.{pattern_of, slot_count}
 use Rattle.rt_top.specs.Guests.{guest_number}
 use Rattle.rt_top.specs.CommandSpec.{CommandSpec, Form}
@@ -20,6 +22,8 @@ use Rattle.rt_top.specs.Commands.Rtds.{the_rtds}
 use Rattle.rt_top.specs.Commands.Audit.{the_audit}
 use Rattle.rt_top.specs.Commands.Simulate.{the_simulate}
 use Rattle.rt_top.specs.Commands.Bulk.{the_bulk}
+use Rattle.rt_top.specs.Commands.Tally.{the_tally}
+use Rattle.rt_top.specs.Commands.Version.{the_version}
 
 -- one form of words each: the names of its files, in the order of the words, and its numbers
 pub data Command : Type 0 where
@@ -30,6 +34,8 @@ pub data Command : Type 0 where
   audit : (file trace : List ℕ) → Command
   simulate : (file releases : List ℕ) → (pattern : Pattern) → (slots : ℕ) → Command
   bulk : (guests : ℕ) → Command
+  tally : (file trace : List ℕ) → Command
+  version : Command
 
 -- what there is to say of each
 abbrev pub spec_of : Command → CommandSpec
@@ -40,6 +46,8 @@ spec_of (rtds file workload slots) = the_rtds file workload slots
 spec_of (audit file trace) = the_audit file trace
 spec_of (simulate file releases pattern slots) = the_simulate file releases pattern slots
 spec_of (bulk guests) = the_bulk guests
+spec_of (tally file trace) = the_tally file trace
+spec_of version = the_version
 
 -- the command that was parsed
 abbrev pub command_told : Parsed → Command
@@ -51,6 +59,8 @@ command_told (ToAudit file trace) = audit file.now trace.now
 command_told (ToSimulate file releases pattern slots) =
     simulate file.now releases.now pattern slots.count
 command_told (ToBulk guests) = bulk guests.number
+command_told (ToTally file trace) = tally file.now trace.now
+command_told ToVersion = version
 
 -- the names of a command's files, in the order of its words
 abbrev pub file_names : Command → List (List ℕ)
@@ -93,6 +103,11 @@ simulate_of _ = None
 abbrev pub bulk_of : List (List ℕ) → Option Command
 bulk_of words = option_map bulk (option_and_then guest_number (one_word words))
 
+-- no further word
+abbrev pub version_of : List (List ℕ) → Option Command
+version_of [] = Some version
+version_of (word ∷ rest) = None
+
 -- the forms of words, in the order of the usage line
 abbrev pub form : List ℕ → List ℕ → (List (List ℕ) → Option Command) → Form Command
 form word shown spells = record { word = word; shown = shown; spells = spells }
@@ -106,6 +121,8 @@ forms =
     ∷ form (codes "rtds") (codes " FILE WORKLOAD SLOTS") rtds_of
     ∷ form (codes "audit") (codes " FILE TRACE") (of_two audit)
     ∷ form (codes "bulk") (codes " N") bulk_of
+    ∷ form (codes "tally") (codes " FILE TRACE") (of_two tally)
+    ∷ form (codes "version") [] version_of
     ∷ []
 
 -- the command that the words spell: its own word, and then its files and numbers

@@ -5,10 +5,12 @@ mod certify;
 mod check;
 mod rtds;
 mod simulate;
+mod tally;
+mod version;
 
 ghost use Rattle.std.specs.Prelude.{◌≡◌, ◌≢◌, Some, map, option_map, string_bytes, IfOk, IfErr};
 ghost use Rattle.std.specs.Option.{option_copied};
-ghost use Rattle.rt_top.specs.Commands.{command_of, command_told, one_word, rtds_of, simulate_of, two_words, usage_line};
+ghost use Rattle.rt_top.specs.Commands.{command_of, command_told, one_word, rtds_of, simulate_of, two_words, usage_line, version_of};
 ghost use Rattle.rt_top.specs.Guests.{guest_number};
 ghost use Rattle.rt_top.specs.Reading.{NamesNoFile};
 ghost use Rattle.rt_top.specs.Steps.{counts_of, IfAnswered, IsSaid, Explains, CommandTakes};
@@ -22,6 +24,8 @@ use crate::commands::certify::Certify;
 use crate::commands::check::Check;
 use crate::commands::rtds::Rtds;
 use crate::commands::simulate::Simulate;
+use crate::commands::tally::Tally;
+use crate::commands::version::version;
 use crate::guests::Guests;
 use crate::one_file::over_one;
 use crate::slot_words::{pattern_of, slot_count};
@@ -49,6 +53,10 @@ pub enum Command<'a> {
     Simulate(&'a str, &'a str, Pattern, Slots),
     /// `bulk N`
     Bulk(Guests),
+    /// `tally FILE TRACE`
+    Tally(&'a str, &'a str),
+    /// `version`
+    Version,
 }
 
 /// The command that the words spell: its own word, its files, and what else it takes.
@@ -72,6 +80,11 @@ pub fn parse(words: &[String]) -> Option<Command<'_>>
         Some(Command::Audit(file, trace))
     } else if word.as_str() == "bulk" {
         Some(Command::Bulk(guest_number(one_word(rest)?)?))
+    } else if word.as_str() == "tally" {
+        let (file, trace) = two_words(rest)?;
+        Some(Command::Tally(file, trace))
+    } else if word.as_str() == "version" {
+        version_of(rest)
     } else {
         None
     }
@@ -82,7 +95,8 @@ fn usage_text() -> &'static str
     ensures { result.now ≡ usage_line }
 {
     "usage: rtadmit admit FILE | certify FILE | check FILE CERT | \
-     simulate FILE RELEASES PATTERN SLOTS | rtds FILE WORKLOAD SLOTS | audit FILE TRACE | bulk N\n"
+     simulate FILE RELEASES PATTERN SLOTS | rtds FILE WORKLOAD SLOTS | audit FILE TRACE | bulk N | \
+     tally FILE TRACE | version\n"
 }
 
 /// The answer to a command, or to words that spell none.
@@ -112,6 +126,8 @@ pub fn answer<S: Store>(alloc: Global, command: Option<Command<'_>>, store: &mut
             ended(over_two(alloc, store, file, releases, &judge))
         }
         Some(Command::Bulk(guests)) => ended(bulk(alloc, guests)),
+        Some(Command::Tally(file, trace)) => ended(over_two(alloc, store, file, trace, &Tally)),
+        Some(Command::Version) => ended(version(alloc)),
         None => ended(usage(alloc)),
     }
 }
@@ -170,6 +186,16 @@ fn two_words(words: &[String]) -> Option<(&str, &str)>
 {
     match words {
         [first, second] => Some((first.as_str(), second.as_str())),
+        _ => None,
+    }
+}
+
+/// The command whose own word is `version`, which has no further word.
+fn version_of(words: &[String]) -> Option<Command<'_>>
+    ensures { option_map command_told result ≡ version_of (map string_bytes words.now) }
+{
+    match words {
+        [] => Some(Command::Version),
         _ => None,
     }
 }
