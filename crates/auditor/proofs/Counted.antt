@@ -1,13 +1,13 @@
 -- The tally of one VCPU in a whole trace.
-use Rattle.std.proofs.Common.{◌≡◌, ℕ, zero, suc, ◌+◌, ◌<◌, ◌≤◌, Bool, true, false, cond, ltb, List, length, Option, Some, None, refl, sym, ◌∙◌, ap, subst, arith, inl, inr}
+use Rattle.std.proofs.Common.{◌≡◌, ℕ, zero, suc, ◌+◌, ◌<◌, ◌≤◌, Bool, true, false, cond, ltb, List, [], ◌∷◌, ◌++◌, length, Option, Some, None, is_some, refl, sym, ◌∙◌, ap, subst, arith, inl, inr}
 use Rattle.std.proofs.Math.Nat.{mul-le-mul_right}
-use Rattle.std.proofs.lemmas.Bool.{cases_lt, lt-ltb, le-ltb}
+use Rattle.std.proofs.Math.ListN.{get_or-append}
+use Rattle.std.proofs.Math.Seq.{get_or-append_seam}
+use Rattle.std.proofs.lemmas.Bool.{cases_lt, lt-ltb, le-ltb, false≢true}
 use Rattle.std.proofs.lemmas.Option.{same_Some, none-some}
-use Rattle.slot_model.specs.Slots.{count_below}
-use Rattle.slot_model.proofs.Sums.{sum_below-zero, sum_below-suc}
 use Rattle.tree_model.specs.View.{SystemView}
 use Rattle.trace_file.specs.declared.event.Event.{Event}
-use Rattle.trace_file.specs.Events.{start_of, end_of}
+use Rattle.trace_file.specs.Events.{last_among, starts, moment_of, start_of, end_of}
 use Rattle.trace_file.specs.Periods.{period_of, running, blocked, count_between, begins, is_clear, is_judged, got_in, HasPeriod, IsShort, IsOver}
 use Rattle.auditor.specs.declared.tally.Tally.{Tally}
 use Rattle.auditor.specs.declared.watch.Watch.{Watch}
@@ -15,17 +15,13 @@ use Rattle.auditor.specs.declared.watch.Broken.{Broken}
 use Rattle.auditor.specs.declared.watch.Breach.{Breach}
 use Rattle.auditor.specs.declared.watch.Breach.TheVariants.{Short, Over}
 use Rattle.auditor.specs.declared.watch.Reservation.{Reservation}
-use Rattle.auditor.specs.Tally.{IsNumberOf, IsJudged, IsTimeOf, IsTally, no_tally}
+use Rattle.auditor.specs.Tally.{IsJudged, IsTimeOf, IsTally, no_tally, tally_at}
 use Rattle.auditor.specs.Watch.{breach_of, whole_got, whole_breach, first_broken, is_short_breach, is_over_breach, counted, cut_tally, IsTimeBelow, IsTallied, TellsOn}
-use Rattle.auditor.specs.Told.{IsTold, TellsOf, reservation_of}
+use Rattle.auditor.specs.Told.{IsTold, TellsOf, Watched, reservation_of}
 use Rattle.auditor.specs.First.{IsFirstOfVcpu, IsSettled}
 use Rattle.auditor.proofs.Breaches.{short_breach, over_breach}
-use Rattle.auditor.proofs.Tallying.{least_same, most_same, tallied_one, tallied_same}
-use Rattle.auditor.proofs.Settling.{ends_by, judged_then, judged_never, period_breach, breaks_so, got_whole, got_cut, whole_is, cut_is, settled_broken}
-
-count_true : (n : ℕ) → count_below (λ _. true) n ≡ n
-count_true zero = sum_below-zero (λ _. 1)
-count_true (suc n) = omega (arith, sum_below-suc (λ _. 1) n, count_true n)
+use Rattle.auditor.proofs.Tallying.{count_true, none_has, least_same, most_same, tallied_one, tallied_same}
+use Rattle.auditor.proofs.Settling.{has_period, ends_by, judged_then, judged_never, period_breach, breaks_so, got_whole, got_cut, whole_is, cut_is, settled_broken}
 
 short_of : (o : Option Breach) → is_short_breach o ≡ true → o ≡ Some Short
 short_of None e = absurd (let wrong : false ≡ true = e in cc)
@@ -139,9 +135,6 @@ tally_on sys budgets events v f ended from got t part some start e h l eg of =
     ]
 
 -- a VCPU that does not start has no periods
-none_has : (has : ℕ → Type 0) → ((k : ℕ) → has k → ⊥) → IsNumberOf has 0
-none_has has never = record { test = λ _. true; limit = 0; have = λ k l _. absurd (omega arith); pass = λ k is. absurd (never k is); count = sym (count_true 0) }
-
 no_period : (sys : SystemView) (events : List Event) (v f k : ℕ) → start_of events v ≡ None → HasPeriod sys events v f k → ⊥
 no_period sys events v f k none has = none-some f (sym none ∙ has.started)
 
@@ -178,3 +171,31 @@ settled_on sys budgets events v at r w new tally broken part some er ea t tells 
           subst (IsFirstOfVcpu sys budgets events v) (sym (eb ∙ ap (λ (z : Reservation). first_broken new.broken (breach_of z false new.got) new.from new.got) er))
           (settled_broken sys budgets events v t.start told.ended new.from new.got new.broken (breach_of own false new.got) part some t.starts_at told.begun begun cut got refl told.broken);
     }
+
+-- a VCPU whose watch never started
+pub unsettled : (sys : SystemView) (budgets : List ℕ) (events : List Event) (v : ℕ) (w : Watch) → Watched sys budgets events (length events) v w → w.started ≡ false → IsSettled sys budgets events v no_tally None
+unsettled sys budgets events v w h off =
+    let none : start_of events v ≡ None = go (last_among (starts v) events (length events)) (sym h.started ∙ off) in
+    record { counted = tally_none sys budgets events v none; broken = λ f k broken. no_period sys events v f k none (has_period sys budgets events v f k broken) }
+  where
+    go : (o : Option Event) → is_some o ≡ false → moment_of o ≡ None
+    go None e = refl
+    go (Some event) e = absurd (false≢true (sym e))
+
+-- a period that is cut is not judged
+pub cut_judged : (w : Watch) (b : Option Breach) → (cut_tally w b).judged ≡ w.tally.judged
+cut_judged w b = go (ltb w.from w.now)
+  where
+    go : (is : Bool) → (cond {A = Tally} is (counted w.tally 1 false w.got b) w.tally).judged ≡ w.tally.judged
+    go true = omega arith
+    go false = refl
+
+-- the tallies of one part more
+pub tallies_more : (sys : SystemView) (budgets : List ℕ) (events : List Event) (n : ℕ) (ts us : List Tally) (t : Tally) → length ts ≡ n → us ≡ ts ++ t ∷ [] → ((u : ℕ) → u < n → IsTally sys budgets events u (tally_at ts u)) → IsTally sys budgets events n t → (u : ℕ) → u < n + 1 → IsTally sys budgets events u (tally_at us u)
+tallies_more sys budgets events n ts us t long is each own u l = elim (cases_lt u n) [
+  | inl before ↦ subst (IsTally sys budgets events u) (sym (ap (λ (z : List Tally). tally_at z u) is ∙ get_or-append ts (t ∷ []) no_tally u (let b : u < length ts = omega (arith, before, long) in b))) (each u before)
+  | inr last ↦
+      let at : u ≡ length ts = omega (arith, l, last, long) in
+      subst (λ (z : ℕ). IsTally sys budgets events z (tally_at us z)) (sym at)
+      (subst (IsTally sys budgets events (length ts)) (sym (ap (λ (z : List Tally). tally_at z (length ts)) is ∙ get_or-append_seam ts t [] no_tally)) (subst (λ (z : ℕ). IsTally sys budgets events z t) (sym long) own))
+]

@@ -13,7 +13,7 @@ use Rattle.trace_file.specs.Events.{start_of, end_of}
 use Rattle.trace_file.specs.Periods.{period_of, blocked, begins, is_clear, is_judged, HasPeriod, judged_of, judged_periods}
 use Rattle.auditor.specs.declared.tally.Tally.{Tally}
 use Rattle.auditor.specs.Tally.{IsNumberOf, IsLeast, IsLeastOf, IsMost, IsMostOf, IsJudged, IsTally, no_tally, tally_at, AreTallies}
-use Rattle.auditor.proofs.Tallying.{count_alike, count_same}
+use Rattle.auditor.proofs.Tallying.{count_alike, count_same, none_has}
 
 -- the numbers below a limit that pass a test, and no others
 clip : (ℕ → Bool) → ℕ → ℕ → Bool
@@ -57,8 +57,15 @@ one_most has None (Some y) a b = absurd (a y b.is)
 one_most has (Some x) None a b = absurd (b x a.is)
 one_most has (Some x) (Some y) a b = ap (λ (z : ℕ). Some z) (let e : x ≡ y = omega (arith, a.most y b.is, b.most x a.is) in e)
 
+made : ℕ → ℕ → ℕ → ℕ → Option ℕ → Option ℕ → Tally
+made begun judged short over least most = record { begun = begun; judged = judged; short = short; over = over; least = least; most = most }
+
+same_made : (t u : Tally) → t.begun ≡ u.begun → t.judged ≡ u.judged → t.short ≡ u.short → t.over ≡ u.over → t.least ≡ u.least → t.most ≡ u.most → made t.begun t.judged t.short t.over t.least t.most ≡ made u.begun u.judged u.short u.over u.least u.most
+same_made t u a b c d e f = cc
+
 same_tally : (t u : Tally) → t.begun ≡ u.begun → t.judged ≡ u.judged → t.short ≡ u.short → t.over ≡ u.over → t.least ≡ u.least → t.most ≡ u.most → t ≡ u
-same_tally t u a b c d e f = cc
+unfolding made
+same_tally t u a b c d e f = same_made t u a b c d e f
 
 pub one_tally : (sys : SystemView) (budgets : List ℕ) (events : List Event) (v : ℕ) (t u : Tally) → IsTally sys budgets events v t → IsTally sys budgets events v u → t ≡ u
 one_tally sys budgets events v t u a b =
@@ -69,13 +76,7 @@ one_tallies sys budgets events ts us a b = ext_get_or no_tally ts us (a.each_par
 
 -- the number of judged periods, where the VCPU starts or not
 judged_none : (sys : SystemView) (events : List Event) (v n : ℕ) → start_of events v ≡ None → IsNumberOf (λ k. (f : ℕ) × IsJudged sys events v f k) n → n ≡ 0
-judged_none sys events v n none h = one_number (λ k. (f : ℕ) × IsJudged sys events v f k) n 0 h (record {
-  test = λ _. true;
-  limit = 0;
-  have = λ k l _. absurd (omega arith);
-  pass = λ k is. absurd (none-some is.0 (sym none ∙ is.1.period.started));
-  count = sym (count_alike (λ _. true) true 0 0 (λ k _ l. absurd (omega arith)) ∙ refl);
-})
+judged_none sys events v n none h = one_number (λ k. (f : ℕ) × IsJudged sys events v f k) n 0 h (none_has _ (λ k is. none-some is.0 (sym none ∙ is.1.period.started)))
 
 judged_some : (sys : SystemView) (events : List Event) (v f n : ℕ) → v < length sys.parts → 1 ≤ period_of sys v → start_of events v ≡ Some f → IsNumberOf (λ k. (g : ℕ) × IsJudged sys events v g k) n
     → n ≡ count_below (is_judged (blocked events v) (period_of sys v) f (end_of events)) (end_of events)

@@ -2,11 +2,11 @@
 use Rattle.std.proofs.Common.{◌≡◌, ℕ, zero, suc, ◌+◌, ◌<◌, ◌≤◌, ◌⊎◌, Bool, true, false, cond, ltb, Option, Some, None, refl, sym, ◌∙◌, ap, subst, arith, inl, inr}
 use Rattle.std.proofs.lemmas.Bool.{cases_lt, lt-ltb, le-ltb}
 use Rattle.slot_model.specs.Slots.{sum_below, count_below}
-use Rattle.slot_model.proofs.Sums.{sum_below-suc, sum_below-same, cond-none}
+use Rattle.slot_model.proofs.Sums.{sum_below-zero, sum_below-suc, sum_below-same, cond-none}
 use Rattle.slot_model.proofs.Runs.{count_below-le}
 use Rattle.auditor.specs.declared.tally.Tally.{Tally}
 use Rattle.auditor.specs.declared.watch.Breach.{Breach}
-use Rattle.auditor.specs.Tally.{IsLeast, IsLeastOf, IsMost, IsMostOf, no_tally}
+use Rattle.auditor.specs.Tally.{IsNumberOf, IsLeast, IsLeastOf, IsMost, IsMostOf, no_tally}
 use Rattle.auditor.specs.Watch.{is_short_breach, is_over_breach, lesser, greater, least_if, counted, AreAtMost, IsTimeBelow, IsTallied}
 
 suc_cond : (v : Bool) (m : ℕ) → cond {A = ℕ} v (suc m) 0 ≡ cond {A = ℕ} v m 0 + cond {A = ℕ} v 1 0
@@ -22,6 +22,14 @@ count_alike passes v n (suc m) h =
 
 pub count_same : (passes other : ℕ → Bool) (n : ℕ) → ((k : ℕ) → k < n → passes k ≡ other k) → count_below passes n ≡ count_below other n
 count_same passes other n h = sum_below-same (λ k. cond {A = ℕ} (passes k) 1 0) (λ k. cond {A = ℕ} (other k) 1 0) n (λ k l. ap (λ (z : Bool). cond {A = ℕ} z 1 0) (h k l))
+
+pub count_true : (n : ℕ) → count_below (λ _. true) n ≡ n
+count_true zero = sum_below-zero (λ _. 1)
+count_true (suc n) = omega (arith, sum_below-suc (λ _. 1) n, count_true n)
+
+-- no number has a property
+pub none_has : (has : ℕ → Type 0) → ((k : ℕ) → has k → ⊥) → IsNumberOf has 0
+none_has has never = record { test = λ _. true; limit = 0; have = λ k l _. absurd (omega arith); pass = λ k is. absurd (never k is); count = sym (count_true 0) }
 
 -- the least and the greatest of numbers that have one property or another that comes to the same
 pub least_same : (has other : ℕ → Type 0) (o : Option ℕ) → ((x : ℕ) → has x → other x) → ((x : ℕ) → other x → has x) → IsLeastOf has o → IsLeastOf other o
