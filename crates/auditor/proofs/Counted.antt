@@ -87,14 +87,14 @@ tally_is sys budgets events v f n t h of =
       least = least_same (IsTimeBelow (is_judged (blocked events v) (period_of sys v) f (end_of events)) (got_in sys events v f) n) (IsTimeOf sys events v (IsJudged sys events v)) t.least
           (λ x is. record { f = f; k = is.k; is = record { period = has_at sys events v f n is.k h is.below; judged = is.passes }; time = is.time_is })
           (λ x is.
-              let e = same_start sys events v f n is.f is.k h is.is.period in
-              let own : IsJudged sys events v f is.k = subst (λ (z : ℕ). IsJudged sys events v z is.k) e is.is in
-              record { k = is.k; below = has_below sys events v f n f is.k h own.period; passes = own.judged; time_is = is.time ∙ ap (λ (z : ℕ). got_in sys events v z is.k) e }) of.least;
+          let e = same_start sys events v f n is.f is.k h is.is.period in
+          let own : IsJudged sys events v f is.k = subst (λ (z : ℕ). IsJudged sys events v z is.k) e is.is in
+          record { k = is.k; below = has_below sys events v f n f is.k h own.period; passes = own.judged; time_is = is.time ∙ ap (λ (z : ℕ). got_in sys events v z is.k) e }) of.least;
       most = most_same (IsTimeBelow (λ _. true) (got_in sys events v f) n) (IsTimeOf sys events v (HasPeriod sys events v)) t.most
           (λ x is. record { f = f; k = is.k; is = has_at sys events v f n is.k h is.below; time = is.time_is })
           (λ x is.
-              let e = same_start sys events v f n is.f is.k h is.is in
-              record { k = is.k; below = has_below sys events v f n is.f is.k h is.is; passes = refl; time_is = is.time ∙ ap (λ (z : ℕ). got_in sys events v z is.k) e }) of.most;
+          let e = same_start sys events v f n is.f is.k h is.is in
+          record { k = is.k; below = has_below sys events v f n is.f is.k h is.is; passes = refl; time_is = is.time ∙ ap (λ (z : ℕ). got_in sys events v z is.k) e }) of.most;
     }
 
 -- the periods that begin before the end: those that have ended, and the one that the end cuts
@@ -119,16 +119,16 @@ tally_on sys budgets events v f ended from got t part some start e h l eg of =
     let period = period_of sys v in
     let r = reservation_of sys budgets v in
     let whole = tallied_same (is_clear (blocked events v) period f) (is_judged (blocked events v) period f end) (whole_got (running sys events v) r f) (got_in sys events v f) (whole_breach (running sys events v) (blocked events v) r f) (period_breach sys budgets events v f) ended t
-        (λ k m. sym (judged_then (blocked events v) period f ended from end k e h m))
-        (λ k m. sym (got_whole (running sys events v) period f end k (ends_by period f ended from end k e h m)))
-        (λ k m. sym (whole_is sys budgets events v f ended from k e h m)) of in
+    (λ k m. sym (judged_then (blocked events v) period f ended from end k e h m))
+    (λ k m. sym (got_whole (running sys events v) period f end k (ends_by period f ended from end k e h m)))
+    (λ k m. sym (whole_is sys budgets events v f ended from k e h m)) of in
     elim (cases_lt from end) [
       | inl inside ↦
           subst (IsTally sys budgets events v) (ap (λ (z : Bool). cond z (counted t 1 false got (breach_of r false got)) t) (sym (lt-ltb from end inside)))
           (tally_is sys budgets events v f (suc ended) (counted t 1 false got (breach_of r false got))
-            (record { is_part = part; started = start; inside = cut_inside period f ended from end e inside; below = cut_below period f ended from end e l })
-            (tallied_one (is_judged (blocked events v) period f end) (got_in sys events v f) (period_breach sys budgets events v f) ended t false got (breach_of r false got)
-              (judged_never (blocked events v) period f ended from end ended e l (omega arith)) (got_cut (running sys events v) period f ended from end e l ∙ sym eg) (cut_is sys budgets events v f ended from got e l eg) whole))
+          (record { is_part = part; started = start; inside = cut_inside period f ended from end e inside; below = cut_below period f ended from end e l })
+          (tallied_one (is_judged (blocked events v) period f end) (got_in sys events v f) (period_breach sys budgets events v f) ended t false got (breach_of r false got)
+          (judged_never (blocked events v) period f ended from end ended e l (omega arith)) (got_cut (running sys events v) period f ended from end e l ∙ sym eg) (cut_is sys budgets events v f ended from got e l eg) whole))
       | inr behind ↦
           subst (IsTally sys budgets events v) (ap (λ (z : Bool). cond z (counted t 1 false got (breach_of r false got)) t) (sym (le-ltb from end behind)))
           (tally_is sys budgets events v f ended t (record { is_part = part; started = start; inside = whole_inside period f ended from end some e h; below = whole_below period f ended from end e behind }) whole)
@@ -163,7 +163,7 @@ settled_on sys budgets events v at r w new tally broken part some er ea t tells 
     let begun : new.from ≤ end_of events = omega (arith, told.after, ends) in
     let got : new.got ≡ count_between (running sys events v) new.from (end_of events) = told.got ∙ ap (count_between (running sys events v) new.from) ends in
     let is : tally ≡ cond (ltb new.from (end_of events)) (counted new.tally 1 false new.got (breach_of own false new.got)) new.tally =
-        et ∙ (ap (λ (z : Reservation). cut_tally new (breach_of z false new.got)) er ∙ ap (λ (z : ℕ). cond (ltb new.from z) (counted new.tally 1 false new.got (breach_of own false new.got)) new.tally) ends) in
+    et ∙ (ap (λ (z : Reservation). cut_tally new (breach_of z false new.got)) er ∙ ap (λ (z : ℕ). cond (ltb new.from z) (counted new.tally 1 false new.got (breach_of own false new.got)) new.tally) ends) in
     let whole : IsTally sys budgets events v tally = subst (IsTally sys budgets events v) (sym is) (tally_on sys budgets events v t.start told.ended new.from new.got new.tally part some t.starts_at told.begun begun cut got told.tally) in
     record {
       counted = whole;

@@ -99,6 +99,7 @@ judged_is sys is budgets events v t part h = go (start_of events v) refl
   where
     some : 1 ≤ period_of sys v
     some = omega (arith, (is.parts v part).period.0)
+
     go : (o : Option ℕ) → start_of events v ≡ o → t.judged ≡ judged_of sys events v o
     go None e = judged_none sys events v t.judged e h.judged
     go (Some f) e = judged_some sys events v f t.judged part some e h.judged

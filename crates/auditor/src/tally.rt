@@ -55,13 +55,7 @@ fn lesser(least: Option<u64>, got: u64) -> u64
 {
     match least {
         None => got,
-        Some(time) => {
-            if got < time {
-                got
-            } else {
-                time
-            }
-        }
+        Some(time) => { if got < time { got } else { time } }
     }
 }
 
@@ -71,13 +65,7 @@ fn greater(most: Option<u64>, got: u64) -> u64
 {
     match most {
         None => got,
-        Some(time) => {
-            if time < got {
-                got
-            } else {
-                time
-            }
-        }
+        Some(time) => { if time < got { got } else { time } }
     }
 }
 

@@ -35,9 +35,10 @@ TalliesEvents sys events = OnAssigned sys (λ budgets. IsToldTally sys budgets e
 one_told : (sys : SystemView) (budgets : List ℕ) (events : List Event) → IsOne (IsToldTally sys budgets events)
 one_told sys budgets events = λ s t x y p q.
     let same : p.finding ≡ q.finding = one_finding sys budgets events p.finding q.finding p.found q.found in
-    let alike : p.tallies ≡ q.tallies = one_tallies sys budgets events p.tallies q.tallies p.counted q.counted in
-    (p.status_is ∙ ap finding_status same ∙ sym q.status_is,
-    p.told ∙ (ap (λ (f : Finding). tally_text sys budgets f p.tallies) same ∙ ap (λ (ts : List Tally). tally_text sys budgets q.finding ts) alike) ∙ sym q.told)
+    let alike : p.tallies ≡ q.tallies = one_tallies sys budgets events p.tallies q.tallies p.counted q.counted in (
+      p.status_is ∙ ap finding_status same ∙ sym q.status_is,
+      p.told ∙ (ap (λ (f : Finding). tally_text sys budgets f p.tallies) same ∙ ap (λ (ts : List Tally). tally_text sys budgets q.finding ts) alike) ∙ sym q.told,
+    )
 
 -- its statuses
 told_status : (P : Status → Type 0) → P Yes → P No → (sys : SystemView) (budgets : List ℕ) (events : List Event) (status : Status) (text : List ℕ) → IsToldTally sys budgets events status text → P status
