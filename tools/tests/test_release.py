@@ -15,7 +15,7 @@ from unittest import mock
 from load import load
 
 tool, summing = load("release"), load("program-sum")
-PROGRAM = b"\x7fELF and what a program has\n"
+PROGRAM = b"#!/bin/sh\necho rtadmit 7.1\n"
 OWN = ["-c", "user.name=a", "-c", "user.email=a@b"]
 
 
@@ -29,7 +29,7 @@ class Case(unittest.TestCase):
         for name, text in (
             ("README.md", "# page\n"), ("docs/a.md", "a\n"), ("docs/b.md", "b\n"), ("examples/compare", "#!/bin/sh\nexit 0\n"),
             ("tools/from-ftrace", "f\n"), ("tools/record-deadline", "r\n"), ("tools/timeline", "t\n"), ("tools/other", "o\n"),
-            ("crates.txt", "a\n"), ("crates/a/src/a.rt", "fn\n"), (".gitignore", "*.log\n"),
+            ("crates.txt", "a\n"), ("crates/a/src/a.rt", "fn\n"), (tool.VERSION, 'pub const VERSION: &str = "7.1";\n'), (".gitignore", "*.log\n"),
         ):
             path = self.top / name
             path.parent.mkdir(parents=True, exist_ok=True)
@@ -90,7 +90,7 @@ class Made(Case):
         about = (folder / "RELEASE").read_text()
         self.assertIn(f"sha256 {hashlib.sha256(PROGRAM).hexdigest()}\n", about)
         self.assertIn(f"commit: {self.git('rev-parse', 'HEAD')}", about)
-        self.assertIn("logic: logic 7\n", about)
+        self.assertIn("version: rtadmit 7.1\nlogic: logic 7\n", about)
         self.assertIn(f"last line: program sha256={hashlib.sha256(PROGRAM).hexdigest()} commit=", about)
         self.assertTrue(out.startswith(about))
         self.assertEqual(sorted(path.name for path in self.out.iterdir()), ["r", "r.tar.gz"])
@@ -148,6 +148,12 @@ class Refusals(Case):
         self.git("checkout", "-q", "docs/a.md")
         self.gate.write_text(line + "\n")
         self.refused("the gate ran over changes that were not committed")
+
+    def test_another_version_than_the_source_tells(self):
+        (self.top / tool.VERSION).write_text('pub const VERSION: &str = "7.2";\n')
+        self.commit()
+        self.gate.write_text(summing.line_of(self.program) + "\n")
+        self.refused("says that it is 'rtadmit 7.1'")
 
     def test_sources_that_are_newer(self):
         os.utime(self.program, (1_000_000_000, 1_000_000_000))

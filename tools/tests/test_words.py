@@ -21,10 +21,10 @@ class Manual(unittest.TestCase):
         return re.search(rf"^\.SH {name}\n(.*?)(?=^\.SH |\Z)", MANUAL, re.M | re.S)[1]
 
     def test_the_forms_of_words(self):
-        told = re.findall(r"^\.B rtadmit (\w+)\n\.I (.*)$", self.section("SYNOPSIS"), re.M)
-        self.assertEqual([" ".join(form) for form in told], FORMS)
-        told = re.findall(r'^\.BI "(\w+) " "?([A-Z ]+)"?$', self.section("COMMANDS"), re.M)
-        self.assertEqual([" ".join(form) for form in told], FORMS)
+        told = re.findall(r"^\.B rtadmit (\w+)(?:\n\.I (.*))?$", self.section("SYNOPSIS"), re.M)
+        self.assertEqual([" ".join(form).strip() for form in told], FORMS)
+        told = re.findall(r'^\.TP\n\.BI? "?(\w+) ?"?(?: "?([A-Z ]+)"?)?$', self.section("COMMANDS"), re.M)
+        self.assertEqual([" ".join(form).strip() for form in told], FORMS)
 
     def test_the_statuses(self):
         table = re.findall(r"^\| (\d) \| \w+ \|", FORMATS, re.M)

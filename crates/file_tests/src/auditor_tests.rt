@@ -1,7 +1,7 @@
 ghost use Rattle.tree_model.specs.Plans.{IsPlan};
 
 use crate::helpers::{planned, system_of};
-use auditor::{Finding, audit, audit_bytes};
+use auditor::{Finding, Tally, audit, audit_bytes, tally_bytes};
 use std::alloc::{AllocError, Global};
 use std::process::Abort;
 use std::test::Fail;
@@ -304,6 +304,43 @@ fn a_text_is_audited_as_its_events(rt: HostRuntime) -> Result<(), Fail> {
         let told = audit_bytes(alloc, &sys, &plan, text.as_bytes());
         assert!(rt; told == *found, "{text}");
         assert!(rt; found_of_events(alloc, &sys, &plan, text) == told, "{text}");
+    }
+    Ok(())
+}
+
+/// The tally of one judged period, in which the VCPU got this time.
+fn counted(short: u64, time: u64) -> Tally {
+    Tally {
+        begun: 1,
+        judged: 1,
+        short,
+        over: 0,
+        least: Some(time),
+        most: Some(time),
+    }
+}
+
+#[test]
+fn what_is_counted_of_a_text(rt: HostRuntime) -> Result<(), Fail> {
+    let alloc = rt.alloc();
+    let sys = host(&rt, alloc, 10, (3, 4))?;
+    let plan = planned(&rt, alloc, &sys);
+    for (text, finding, first, second) in &[
+        (
+            SHARED_TEXT,
+            Finding::Yes { periods: 2 },
+            counted(0, 6000),
+            counted(0, 4000),
+        ),
+        (TOO_FEW_TEXT, SHORT, counted(0, 7000), counted(1, 3000)),
+    ] {
+        match tally_bytes(alloc, &sys, &plan, text.as_bytes()) {
+            Ok(tallied) => {
+                assert!(rt; tallied.finding == *finding, "{text}");
+                assert!(rt; tallied.vcpus.as_slice() == &[*first, *second], "{text}");
+            }
+            Err(_) => assert!(rt; false, "{text}"),
+        }
     }
     Ok(())
 }

@@ -6,6 +6,7 @@ pub mod Responses
 pub mod Simulate
 pub mod Refusal
 pub mod Audit
+pub mod Tally
 pub mod Check
 pub mod Choose
 pub mod Interface
@@ -16,3 +17,4 @@ pub mod Fault
 pub mod Session
 pub mod Place
 pub mod Unread
+pub mod Version

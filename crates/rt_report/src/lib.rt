@@ -18,7 +18,9 @@ mod row_fault;
 mod session;
 mod simulate;
 mod system_fault;
+mod tally;
 mod unread;
+mod version;
 
 pub use admit::admit_text;
 pub use audit::audit_text;
@@ -32,4 +34,6 @@ pub use refusal::refusal_text;
 pub use responses::{Response, responses_text};
 pub use session::{push_answer, session_begun, session_text};
 pub use simulate::{counts_text, simulate_text};
+pub use tally::tally_text;
 pub use unread::{absent_text, too_long_text};
+pub use version::version_text;

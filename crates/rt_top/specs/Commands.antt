@@ -11,10 +11,12 @@ pub mod Interface
 pub mod Choose
 pub mod Session
 pub mod Place
+pub mod Tally
+pub mod Version
 use Rattle.std.specs.Prelude.{ℕ, List, [], ◌∷◌, ◌++◌, Option, Some, None, option_map, option_and_then, codes, bytes_eq, if◌then◌else◌}
 use Rattle.server_sched.specs.declared.supplies.Pattern.{Pattern}
 use Rattle.rt_top.specs.declared.commands.Command.{Command as Parsed}
-use Rattle.rt_top.specs.declared.commands.Command.TheVariants.{Admit as ToAdmit, Certify as ToCertify, Check as ToCheck, Rtds as ToRtds, Audit as ToAudit, Simulate as ToSimulate, Bulk as ToBulk, Responses as ToResponses, Interface as ToInterface, Choose as ToChoose, Session as ToSession, Place as ToPlace}
+use Rattle.rt_top.specs.declared.commands.Command.TheVariants.{Admit as ToAdmit, Certify as ToCertify, Check as ToCheck, Rtds as ToRtds, Audit as ToAudit, Simulate as ToSimulate, Bulk as ToBulk, Responses as ToResponses, Interface as ToInterface, Choose as ToChoose, Session as ToSession, Place as ToPlace, Tally as ToTally, Version as ToVersion}
 use Rattle.rt_top.specs.SlotWords.{pattern_of, slot_count}
 use Rattle.rt_top.specs.Guests.{guest_number}
 use Rattle.rt_top.specs.PeriodWords.{period_of, range_of}
@@ -31,6 +33,8 @@ use Rattle.rt_top.specs.Commands.Interface.{the_interface}
 use Rattle.rt_top.specs.Commands.Choose.{the_choose}
 use Rattle.rt_top.specs.Commands.Session.{the_session}
 use Rattle.rt_top.specs.Commands.Place.{the_place}
+use Rattle.rt_top.specs.Commands.Tally.{the_tally}
+use Rattle.rt_top.specs.Commands.Version.{the_version}
 
 -- one form of words each: the names of its files, in the order of the words, that of a leaf, and
 -- its numbers
@@ -47,6 +51,8 @@ pub data Command : Type 0 where
   choose : (file part : List ℕ) (low high : ℕ) → Command
   session : (file script : List ℕ) → Command
   place : (file guests : List ℕ) → Command
+  tally : (file trace : List ℕ) → Command
+  version : Command
 
 -- what there is to say of each
 abbrev pub spec_of : Command → CommandSpec
@@ -62,6 +68,8 @@ spec_of (interface file part deadline) = the_interface file part deadline
 spec_of (choose file part low high) = the_choose file part low high
 spec_of (session file script) = the_session file script
 spec_of (place file guests) = the_place file guests
+spec_of (tally file trace) = the_tally file trace
+spec_of version = the_version
 
 -- the command that was parsed
 abbrev pub command_told : Parsed → Command
@@ -78,6 +86,8 @@ command_told (ToInterface file part deadline) = interface file.now part.now dead
 command_told (ToChoose file part periods) = choose file.now part.now periods.low periods.high
 command_told (ToSession file script) = session file.now script.now
 command_told (ToPlace file guests) = place file.now guests.now
+command_told (ToTally file trace) = tally file.now trace.now
+command_told ToVersion = version
 
 -- the names of a command's files, in the order of its words
 abbrev pub file_names : Command → List (List ℕ)
@@ -131,6 +141,11 @@ choose_of (file ∷ part ∷ low ∷ high ∷ []) =
     option_map (λ range. choose file part range.0 range.1) (range_of low high)
 choose_of _ = None
 
+-- no further word
+abbrev pub version_of : List (List ℕ) → Option Command
+version_of [] = Some version
+version_of (word ∷ rest) = None
+
 -- the forms of words, in the order of the usage line
 abbrev pub form : List ℕ → List ℕ → (List (List ℕ) → Option Command) → Form Command
 form word shown spells = record { word = word; shown = shown; spells = spells }
@@ -149,6 +164,8 @@ forms =
     ∷ form (codes "choose") (codes " FILE PART LOW HIGH") choose_of
     ∷ form (codes "session") (codes " FILE SCRIPT") (of_two session)
     ∷ form (codes "place") (codes " FILE GUESTS") (of_two place)
+    ∷ form (codes "tally") (codes " FILE TRACE") (of_two tally)
+    ∷ form (codes "version") [] version_of
     ∷ []
 
 -- the command that the words spell: its own word, and then its files and numbers

@@ -10,10 +10,12 @@ mod place;
 mod rtds;
 mod session;
 mod simulate;
+mod tally;
+mod version;
 
 ghost use Rattle.std.specs.Prelude.{◌≡◌, ◌≢◌, Some, map, option_map, string_bytes, IfOk, IfErr};
 ghost use Rattle.std.specs.Option.{option_copied};
-ghost use Rattle.rt_top.specs.Commands.{choose_of, command_of, command_told, interface_of, one_word, rtds_of, simulate_of, two_words, usage_line};
+ghost use Rattle.rt_top.specs.Commands.{choose_of, command_of, command_told, interface_of, one_word, rtds_of, simulate_of, two_words, usage_line, version_of};
 ghost use Rattle.rt_top.specs.Guests.{guest_number};
 ghost use Rattle.rt_top.specs.Reading.{NamesNoFile};
 ghost use Rattle.rt_top.specs.Steps.{counts_of, IfAnswered, IsSaid, Explains, CommandTakes};
@@ -32,6 +34,8 @@ use crate::commands::place::Placer;
 use crate::commands::rtds::Rtds;
 use crate::commands::session::Editor;
 use crate::commands::simulate::Simulate;
+use crate::commands::tally::Tally;
+use crate::commands::version::version;
 use crate::guests::Guests;
 use crate::one_file::over_one;
 use crate::period_words::{period_of, range_of};
@@ -71,6 +75,10 @@ pub enum Command<'a> {
     Session(&'a str, &'a str),
     /// `place FILE GUESTS`
     Place(&'a str, &'a str),
+    /// `tally FILE TRACE`
+    Tally(&'a str, &'a str),
+    /// `version`
+    Version,
 }
 
 /// The command that the words spell: its own word, its files, and what else it takes.
@@ -106,6 +114,11 @@ pub fn parse(words: &[String]) -> Option<Command<'_>>
     } else if word.as_str() == "place" {
         let (file, guests) = two_words(rest)?;
         Some(Command::Place(file, guests))
+    } else if word.as_str() == "tally" {
+        let (file, trace) = two_words(rest)?;
+        Some(Command::Tally(file, trace))
+    } else if word.as_str() == "version" {
+        version_of(rest)
     } else {
         None
     }
@@ -118,7 +131,7 @@ fn usage_text() -> &'static str
     "usage: rtadmit admit FILE | certify FILE | check FILE CERT | \
      simulate FILE RELEASES PATTERN SLOTS | rtds FILE WORKLOAD SLOTS | audit FILE TRACE | bulk N | \
      interface FILE PART DEADLINE | responses FILE | choose FILE PART LOW HIGH | \
-     session FILE SCRIPT | place FILE GUESTS\n"
+     session FILE SCRIPT | place FILE GUESTS | tally FILE TRACE | version\n"
 }
 
 /// The answer to a command, or to words that spell none.
@@ -159,6 +172,8 @@ pub fn answer<S: Store>(alloc: Global, command: Option<Command<'_>>, store: &mut
             ended(over_two(alloc, store, file, script, &Editor))
         }
         Some(Command::Place(file, guests)) => ended(over_two(alloc, store, file, guests, &Placer)),
+        Some(Command::Tally(file, trace)) => ended(over_two(alloc, store, file, trace, &Tally)),
+        Some(Command::Version) => ended(version(alloc)),
         None => ended(usage(alloc)),
     }
 }
@@ -243,6 +258,16 @@ fn two_words(words: &[String]) -> Option<(&str, &str)>
 {
     match words {
         [first, second] => Some((first.as_str(), second.as_str())),
+        _ => None,
+    }
+}
+
+/// The command whose own word is `version`, which has no further word.
+fn version_of(words: &[String]) -> Option<Command<'_>>
+    ensures { option_map command_told result ≡ version_of (map string_bytes words.now) }
+{
+    match words {
+        [] => Some(Command::Version),
         _ => None,
     }
 }

@@ -22,7 +22,7 @@ use Rattle.rt_top.proofs.Budgets.{one_assigned, said_of_assigned, statuses_assig
 use Rattle.rt_top.proofs.CommandLaws.{CommandLaws}
 use Rattle.rt_top.proofs.ReadSecond.{JudgesRead, is_spelled_system, read_laws, said_of_read}
 
-tracing_decided : (sys : SystemView) (bytes : List ℕ) → IsDecided (tracing sys bytes)
+pub tracing_decided : (sys : SystemView) (bytes : List ℕ) → IsDecided (tracing sys bytes)
 tracing_decided sys bytes = record {
   one_value = same_events sys (records_of bytes);
   never_both = no_fault sys (records_of bytes);
@@ -40,7 +40,7 @@ one_audit sys budgets events = λ s t x y p q.
     (p.status_is ∙ ap finding_status same ∙ sym q.status_is, p.told ∙ ap (λ (f : Finding). audit_text sys budgets f) same ∙ sym q.told)
 
 -- its statuses
-finding_is : (P : Status → Type 0) → P Yes → P No → (finding : Finding) → P (finding_status finding)
+pub finding_is : (P : Status → Type 0) → P Yes → P No → (finding : Finding) → P (finding_status finding)
 finding_is P at_yes at_no (Kept periods) = at_yes
 finding_is P at_yes at_no (Short v from got) = at_no
 finding_is P at_yes at_no (Over v from got) = at_no
@@ -52,7 +52,7 @@ audits_status : (P : Status → Type 0) → P Yes → P No → P Wide → (sys :
 audits_status P at_yes at_no at_wide sys events status text h = statuses_assigned P at_no at_wide sys (λ budgets. IsAudited sys budgets events) status text (λ budgets. audited_status P at_yes at_no sys budgets events status text) h
 
 -- what it means
-finding_tells : (sys : SystemView) (budgets : List ℕ) (events : List Event) (finding : Finding) → IsFinding sys budgets events finding → TellsSatisfied sys budgets events (finding_status finding)
+pub finding_tells : (sys : SystemView) (budgets : List ℕ) (events : List Event) (finding : Finding) → IsFinding sys budgets events finding → TellsSatisfied sys budgets events (finding_status finding)
 finding_tells sys budgets events (Kept periods) found = record { only = λ told. found.0; always = λ satisfied. refl }
 finding_tells sys budgets events (Short v from got) found = record { only = λ told. absurd (cc); always = λ satisfied. absurd (satisfied v found.start found.period (inl found.short)) }
 finding_tells sys budgets events (Over v from got) found = record { only = λ told. absurd (cc); always = λ satisfied. absurd (satisfied v found.start found.period (inr found.over)) }

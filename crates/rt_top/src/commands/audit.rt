@@ -59,7 +59,7 @@ impl JudgeTwo for Audit {
 
 // What is found of the trace that the bytes of the second file word spell. It stops where they are
 // refused.
-fn found(alloc: Global, sys: &System, plan: &Plan, bytes: &[u8]) -> Result<Finding, Ending>
+pub fn found(alloc: Global, sys: &System, plan: &Plan, bytes: &[u8]) -> Result<Finding, Ending>
     requires { IsPlan sys.now plan.now }
     ensures found { IfOk result (IsFindingOf sys.now plan.now bytes.now) }
     ensures refused { IfErr result (λ stop. IfAnswered stop (λ a.
@@ -74,7 +74,7 @@ fn found(alloc: Global, sys: &System, plan: &Plan, bytes: &[u8]) -> Result<Findi
 
 #[tactic(auto, using(crate::proofs::SlotEach::is_plan))]
 // A budget of one slot for each part: enough to look for the faults of a trace.
-fn one_slot_each(alloc: Global, sys: &System) -> Result<Plan, AllocError>
+pub fn one_slot_each(alloc: Global, sys: &System) -> Result<Plan, AllocError>
     ensures plan { IfOk result (IsPlan sys.now) }
     ensures system { IsSystem sys.now }
 {
@@ -84,7 +84,7 @@ fn one_slot_each(alloc: Global, sys: &System) -> Result<Plan, AllocError>
 }
 
 // The answer to a fault of the second file word.
-fn refuse(alloc: Global, fault: TraceFault) -> Ending
+pub fn refuse(alloc: Global, fault: TraceFault) -> Ending
     ensures refused { (sys : SystemView) (bytes : List ℕ)
         → (fault ≡ NoMemory) ⊎ IsFileFault sys (rows_of (records_of bytes)) fault
         → IfAnswered result (λ a. IsRefused (tracing sys bytes) a.status a.text.items) }
@@ -99,7 +99,7 @@ fn refuse(alloc: Global, fault: TraceFault) -> Ending
     }
 }
 
-fn status_of(finding: Finding) -> Status
+pub fn status_of(finding: Finding) -> Status
     ensures { result ≡ finding_status finding }
 {
     match finding {

@@ -207,6 +207,23 @@ fn of_audit(rt: HostRuntime) -> Result<(), Fail> {
 }
 
 #[test]
+fn of_tally(rt: HostRuntime) -> Result<(), Fail> {
+    let words = ["tally", "first", "second"];
+    all_fail(
+        &rt,
+        rt.alloc(),
+        &words,
+        &[SHARED, SHARED_TRACE],
+        SHARED_TALLY,
+    )
+}
+
+#[test]
+fn of_version(rt: HostRuntime) -> Result<(), Fail> {
+    all_fail(&rt, rt.alloc(), &["version"], &[], "rtadmit 1.0.0\n")
+}
+
+#[test]
 fn of_bulk(rt: HostRuntime) -> Result<(), Fail> {
     all_fail(&rt, rt.alloc(), &["bulk", "1"], &[], HOST_COUNTS)
 }

@@ -1,11 +1,12 @@
-use Rattle.std.proofs.Common.{ap, Option}
+use Rattle.std.proofs.Common.{◌∙◌, ap, not, Option}
 use Rattle.auditor.specs.declared.watch.Breach.{Breach}
-use Rattle.auditor.specs.Watch.{first_broken}
+use Rattle.auditor.specs.Watch.{counted, first_broken}
 use Rattle.auditor.proofs.Telling.{tells_closed}
 use Rattle.auditor.proofs.watch.Watch.close.Goals as goal
 
 pub returns-clause-tells : goal.returns-clause-tells
 returns-clause-tells c runs blocks f st t =
     let w = c.args.self.now in
-    rw c.note.ensures (tells_closed runs blocks c.args.reservation f w _ _ c.requires.at_end (rw c.note.ensures at c.time_if.ensures)
-    (ap (λ (z : Option Breach). first_broken w.broken z w.from w.got) c.breach.ensures) t)
+    let breach = c.breach-breach.ensures in
+    rw c.note.ensures (tells_closed runs blocks c.args.reservation f w _ _ c.requires.at_end (c.count.ensures ∙ ap (counted w.tally 1 (not w.was_blocked) w.got) breach)
+    (ap (λ (z : Option Breach). first_broken w.broken z w.from w.got) breach) t)

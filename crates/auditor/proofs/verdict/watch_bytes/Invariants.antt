@@ -2,7 +2,7 @@ use Rattle.std.proofs.Common.{List}
 use Rattle.trace_file.specs.declared.event.Event.{Event}
 use Rattle.trace_file.specs.Given.{HasGiven}
 use Rattle.auditor.proofs.Streaming.{Behind}
-use Rattle.auditor.proofs.verdict.audit_bytes.Given as goal
+use Rattle.auditor.proofs.verdict.watch_bytes.Given as goal
 
 -- the watches are behind the events that were given
 abbrev pub invariant-loop : goal.invariant-loop
