@@ -89,7 +89,8 @@ module _ (sys : SystemView) (budgets : List ℕ) (plan : IsPlan sys budgets) (c 
   some_period : (u : ℕ) → u < m → 1 ≤ period u
   some_period u l = omega (arith, plan.some_budget u l, plan.in_period u l)
 
-  abbrev r : ℕ
+  -- twice its longest period
+  abbrev pub r : ℕ
   r = longest + longest
 
   abbrev due : ℕ → ℕ

@@ -17,7 +17,7 @@ use Rattle.isolation.specs.Demand.{no_tie, later, asked_of, IsIsolatedBy, AsksTo
 use Rattle.isolation.specs.Keeping.{IsExposed}
 use Rattle.isolation.specs.Answer.{IsIsolation, Means}
 use Rattle.isolation.proofs.Least.{in_file_order}
-use Rattle.isolation.proofs.Served.{keeps, keeps_openly}
+use Rattle.isolation.proofs.Isolated.{keeps, keeps_openly}
 use Rattle.isolation.proofs.Short.{IsWitness, short_period}
 use Rattle.isolation.proofs.Breaking.{r, rows, is_workload, is_witness}
 

@@ -1,9 +1,11 @@
 pub mod Counts
 pub mod Demands
+pub mod Asked
 pub mod Windows
-pub mod Orders
+pub mod Goes
 pub mod Starts
-pub mod Served
+pub mod Serving
+pub mod Isolated
 pub mod Witness
 pub mod Plain
 pub mod Short

@@ -19,10 +19,11 @@ use Rattle.rtds_sim.specs.Giving.{IsStartedOn, ServersFit}
 use Rattle.isolation.specs.Demand.{later, asked_of, AsksTooMuch}
 use Rattle.isolation.specs.Keeping.{IsAwakeLast, got_in}
 use Rattle.isolation.proofs.Counts.{between_zero}
-use Rattle.isolation.proofs.Demands.{steady_demand, last_demand, asked-le-last}
+use Rattle.isolation.proofs.Demands.{steady_demand, last_demand}
+use Rattle.isolation.proofs.Asked.{asked-le-last}
 use Rattle.isolation.proofs.Plain.{dbf-parts}
-use Rattle.isolation.proofs.Orders.{place_goes}
-use Rattle.isolation.proofs.Served.{by_place, serves, on_is, on_from, runs_from}
+use Rattle.isolation.proofs.Goes.{place_goes}
+use Rattle.isolation.proofs.Serving.{by_place, serves, on_is, on_from, runs_from}
 use Rattle.isolation.proofs.Witness.{WakesAt, IsOther, falls_short}
 
 -- VCPU u has been blocked in the period that is under way at r, and one of its periods ends with v's

@@ -2,7 +2,7 @@ ghost use Rattle.std.specs.Prelude.{◌≡◌, ◌<◌, ◌≤◌, true, length,
 ghost use Rattle.slot_model.specs.declared.task.TheConstants.{LIMIT};
 ghost use Rattle.tree_model.specs.declared.place.Place.TheVariants.{Core};
 ghost use Rattle.tree_model.specs.Plans.{IsPlan};
-ghost use Rattle.tree_model.specs.System.{part_at};
+ghost use Rattle.tree_model.specs.System.{IsSystem, part_at};
 ghost use Rattle.tree_model.specs.Tree.{is_child, budget_at};
 ghost use Rattle.isolation.specs.Demand.{deferrable_demand, asked_of, asked, IsLeastBy, AsksTooMuch};
 ghost use Rattle.isolation.specs.Answer.{tie_of};
@@ -17,9 +17,10 @@ pub fn least_window(sys: &System, plan: &Plan, core: u32, v: usize, ties: Ties) 
     requires plan { IsPlan sys.now plan.now }
     requires is_part { v < length sys.now.parts }
     requires on_core { is_child sys.now (Core core) v ≡ true }
-    ensures { MatchOption result
+    ensures least { MatchOption result
         (AsksTooMuch (tie_of ties) sys.now plan.now core v)
         (IsLeastBy (tie_of ties) sys.now plan.now core v) }
+    ensures system { IsSystem sys.now }
 {
     let period = sys.parts()[v].period();
     let mut last = plan.budgets()[v];

@@ -1,21 +1,14 @@
--- What goes first where two periods end at once, by the order of the file and where ties are left open.
-use Rattle.std.proofs.Common.{◌≡◌, ℕ, ◌+◌, ◌<◌, ◌≤◌, Bool, true, refl, arith}
+-- An order of VCPUs by level and deadline, and where periods end at once by the order of the file.
+use Rattle.std.proofs.Common.{◌≡◌, ℕ, ◌+◌, ◌<◌, ◌≤◌, Bool, true, arith}
 use Rattle.std.proofs.lemmas.Bool.Decides.{nat_tests}
 use Rattle.rtds_sim.specs.Rtds.{goes_first}
 use Rattle.rtds_sim.proofs.Order.{first_by_level}
-use Rattle.isolation.specs.Demand.{later, no_tie}
-use Rattle.isolation.specs.Open.{goes_sooner}
+use Rattle.isolation.specs.Demand.{later}
 use Rattle.isolation.proofs.Windows.{later_few, later_itself, later_in_turn}
 
 -- of those that end at once the one that stands first
 first_by_end : (l d p l' d' p' : ℕ) → l ≡ l' → d < d' + later p p' → goes_first l d p l' d' p' ≡ true
 first_by_end l d p l' d' p' e h = grind (arith, nat_tests)
-
-sooner_by_level : (l d p l' d' p' : ℕ) → l < l' → goes_sooner l d p l' d' p' ≡ true
-sooner_by_level l d p l' d' p' h = grind (arith, nat_tests)
-
-sooner_by_end : (l d p l' d' p' : ℕ) → l ≡ l' → d < d' → goes_sooner l d p l' d' p' ≡ true
-sooner_by_end l d p l' d' p' e h = grind (arith, nat_tests)
 
 -- an order by which the least level goes first, and then the least deadline, and where some tie
 pub record Goes (sooner : ℕ → ℕ → ℕ → ℕ → ℕ → ℕ → Bool) (tie : ℕ → ℕ → ℕ) : Type 0 where
@@ -27,6 +20,3 @@ pub record Goes (sooner : ℕ → ℕ → ℕ → ℕ → ℕ → ℕ → Bool) 
 
 pub place_goes : Goes goes_first later
 place_goes = record { by_level = first_by_level; by_end = first_by_end; tie_few = later_few; tie_itself = later_itself; tie_in_turn = later_in_turn }
-
-pub open_goes : Goes goes_sooner no_tie
-open_goes = record { by_level = sooner_by_level; by_end = λ l d p l' d' p' e h. sooner_by_end l d p l' d' p' e (omega arith); tie_few = λ v u. omega arith; tie_itself = λ v. refl; tie_in_turn = λ v w h. omega arith }

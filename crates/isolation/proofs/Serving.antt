@@ -1,12 +1,9 @@
--- A run of a core serves by deadline on level 0: what is enough for all at the end of a period gives its
--- VCPU its budget.
-use Rattle.std.proofs.Common.{◌≡◌, ℕ, suc, ◌+◌, ◌<◌, ◌≤◌, Bool, true, false, cond, not, ◌&&◌, ◌||◌, nat_lt, List, length, Option, Some, None, refl, sym, ◌∙◌, ap, arith, subst, inl, inr, ltb-true, lt-ltb}
+-- A run of a core serves by deadline on level 0.
+use Rattle.std.proofs.Common.{◌≡◌, ℕ, suc, ◌+◌, ◌<◌, ◌≤◌, Bool, true, false, not, ◌&&◌, ◌||◌, nat_lt, List, length, Option, Some, None, refl, sym, ◌∙◌, ap, arith, inl, inr, ltb-true, lt-ltb}
 use Rattle.std.proofs.Math.Nat.{div-eq_of_lt}
 use Rattle.std.proofs.lemmas.Nat.{le-div}
-use Rattle.std.proofs.lemmas.Bool.{cases_lt, cases_Bool, cond-true, cond-false, both_ways, and_from, and_parts}
-use Rattle.slot_model.specs.Slots.{sum_below}
+use Rattle.std.proofs.lemmas.Bool.{cases_lt, both_ways, and_from, and_parts}
 use Rattle.slot_model.specs.Run.{held}
-use Rattle.slot_model.proofs.Sums.{sum_below-le}
 use Rattle.tree_model.specs.declared.place.Place.TheVariants.{Core}
 use Rattle.tree_model.specs.View.{SystemView}
 use Rattle.tree_model.specs.System.{part_at}
@@ -16,12 +13,8 @@ use Rattle.release_file.specs.declared.workload.Wake.{Wake}
 use Rattle.release_file.specs.Workload.{is_started, is_started_at, is_blocked_at, start_of, IsWorkload}
 use Rattle.rtds_sim.specs.Rtds.{deadline_at, used, level_at, can_run, is_eligible, CoreRun, goes_first}
 use Rattle.rtds_sim.specs.Giving.{IsStartedOn}
-use Rattle.isolation.specs.Demand.{asked_of, asked, no_tie, later, IsIsolatedBy}
-use Rattle.isolation.specs.Open.{goes_sooner, OpenRun}
-use Rattle.isolation.specs.Keeping.{IsAwakeLast, got_in, KeepsBudget, KeepsOpenly}
-use Rattle.isolation.proofs.Demands.{last_demand, last-le-asked}
-use Rattle.isolation.proofs.Windows.{ServesByDeadline, has_budget_late}
-use Rattle.isolation.proofs.Orders.{Goes, place_goes, open_goes}
+use Rattle.isolation.proofs.Windows.{ServesByDeadline}
+use Rattle.isolation.proofs.Goes.{Goes}
 use Rattle.isolation.proofs.Starts.{started_from, started_some, started_by}
 
 -- a run by an order
@@ -32,9 +25,6 @@ pub record RunBy (sooner : ℕ → ℕ → ℕ → ℕ → ℕ → ℕ → Bool)
 
 pub by_place : (sys : SystemView) (budgets : List ℕ) (rows : List Wake) (n c : ℕ) (run : List (Option ℕ)) → CoreRun sys budgets rows n c run → RunBy goes_first sys budgets rows n c run
 by_place sys budgets rows n c run is = record { idle = λ x l e. (is.each x l).idle e; named = λ x v l e. (is.each x l).named v e; first = λ x u v l e h. (is.each x l).first u v e h }
-
-by_open : (sys : SystemView) (budgets : List ℕ) (rows : List Wake) (n c : ℕ) (run : List (Option ℕ)) → OpenRun sys budgets rows n c run → RunBy goes_sooner sys budgets rows n c run
-by_open sys budgets rows n c run is = record { idle = λ x l e. (is.each x l).idle e; named = λ x v l e. (is.each x l).named v e; first = λ x u v l e h. (is.each x l).first u v e h }
 
 module _ (sys : SystemView) (budgets : List ℕ) (plan : IsPlan sys budgets) (rows : List Wake) (is_workload : IsWorkload sys rows) (n c : ℕ) (run : List (Option ℕ)) (sooner : ℕ → ℕ → ℕ → ℕ → ℕ → ℕ → Bool) (tie : ℕ → ℕ → ℕ) (goes : Goes sooner tie) (is : RunBy sooner sys budgets rows n c run) where
   abbrev m : ℕ
@@ -134,31 +124,3 @@ module _ (sys : SystemView) (budgets : List ℕ) (plan : IsPlan sys budgets) (ro
     is_started = λ x u l e. (holder_runs x u l e).by_then;
     chosen = chosen;
   }
-
-  -- what those that are on ask for is no more than what all of the core do
-  no_more : (v t u : ℕ) → t ≤ period v → u < m → cond (on u) (last_demand tie v u (period u) (budget u) t) 0 ≤ cond (is_child sys (Core c) u) (asked_of tie v u (period u) (budget u) t) 0
-  no_more v t u within l = elim (cases_Bool (on u)) [
-    | inr e ↦ omega (arith, cond-false {A = ℕ} (on u) (last_demand tie v u (period u) (budget u) t) 0 e)
-    | inl e ↦ omega (
-      arith,
-      cond-true {A = ℕ} (on u) (last_demand tie v u (period u) (budget u) t) 0 e,
-      cond-true {A = ℕ} (is_child sys (Core c) u) (asked_of tie v u (period u) (budget u) t) 0 (on_is u e).on_core,
-      last-le-asked tie v u (period u) (budget u) t (omega (arith, plan.some_budget u l, plan.in_period u l)) (λ same. subst (λ (w : ℕ). t ≤ period w) (sym same) within),
-    )
-  ]
-
-  isolated : (v t k : ℕ) → IsIsolatedBy tie sys budgets c v t → IsAwakeLast sys rows n c v k t → budget v ≤ got_in sys rows run v k
-  isolated v t k by h =
-      let o : on v ≡ true = on_from v h.starts in
-      has_budget_late tie m n period budget start on able run serves
-      v k t h.starts.is_part o h.in_run by.in_period
-      (λ x lo hi. runs_from v x h.starts (omega (arith, by.in_period)) (h.awake x lo hi))
-      (omega (arith, by.enough, sum_below-le (λ u. cond (on u) (last_demand tie v u (period u) (budget u) t) 0) (λ u. cond (is_child sys (Core c) u) (asked_of tie v u (period u) (budget u) t) 0) m (λ u l. no_more v t u by.in_period l)))
-
--- in the order of the file
-pub keeps : (sys : SystemView) (budgets : List ℕ) → IsPlan sys budgets → (c v t : ℕ) → IsIsolatedBy later sys budgets c v t → KeepsBudget sys budgets c v t
-keeps sys budgets plan c v t by rows n run k is_workload is awake = isolated sys budgets plan rows is_workload n c run goes_first later place_goes (by_place sys budgets rows n c run is) v t k by awake
-
--- and however ties are broken
-pub keeps_openly : (sys : SystemView) (budgets : List ℕ) → IsPlan sys budgets → (c v t : ℕ) → IsIsolatedBy no_tie sys budgets c v t → KeepsOpenly sys budgets c v t
-keeps_openly sys budgets plan c v t by rows n run k is_workload is awake = isolated sys budgets plan rows is_workload n c run goes_sooner no_tie open_goes (by_open sys budgets rows n c run is) v t k by awake
