@@ -1,5 +1,5 @@
--- Slots between two moments: counts of those that pass, of several tests together, and of the VCPUs of
--- a run.
+-- Slots between two moments: counts of those that pass, of several tests together, and of the VCPUs
+-- of a run.
 use Rattle.std.proofs.Common.{◌≡◌, ◌⊎◌, ℕ, zero, suc, min, ◌+◌, ◌-◌, ◌<◌, ◌≤◌, Bool, true, false, cond, ◌&&◌, leb, eqb, List, Option, Some, None, refl, sym, ◌∙◌, ap, arith, subst, inl, inr, le-leb}
 use Rattle.std.proofs.lemmas.Bool.{cases_eq, cases_lt, cases_Bool, cond-true, cond-false, and_left, lt-leb}
 use Rattle.slot_model.specs.Slots.{sum_below}
@@ -118,4 +118,3 @@ few_counted run m a (suc c) l = elim (cases_eq a (suc c)) [
     one_holder (held run c) m,
   )
 ]
-

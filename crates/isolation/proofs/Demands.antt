@@ -5,14 +5,16 @@ use Rattle.std.proofs.lemmas.Nat.{div-mul-add, le-div}
 use Rattle.std.proofs.lemmas.Bool.{cases_eq, cases_lt, cases_Bool, cond-true, cond-false}
 use Rattle.isolation.specs.Demand.{deferrable_demand}
 
--- what a server asks for in t slots by deadlines at their end where it never blocks, as a periodic task
+-- what a server asks for in t slots by deadlines at their end where it never blocks, as a periodic
+-- task
 abbrev pub steady_demand : ℕ → ℕ → ℕ → ℕ
 steady_demand period budget t = (t / period) * budget
 
 abbrev pub demand_of : Bool → ℕ → ℕ → ℕ → ℕ
 demand_of steady period budget t = cond steady (steady_demand period budget t) (deferrable_demand period budget t)
 
--- what u asks for of the last t slots of a period of v, and v itself, where it lacks some of its budget
+-- what u asks for of the last t slots of a period of v, and v itself, where it lacks some of its
+-- budget
 abbrev pub last_demand : (ℕ → ℕ → ℕ) → ℕ → ℕ → ℕ → ℕ → ℕ → ℕ
 last_demand tie v u period budget t = cond (u == v) (max budget (deferrable_demand period budget (t - tie v u))) (deferrable_demand period budget (t - tie v u))
 

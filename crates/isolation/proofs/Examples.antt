@@ -1,5 +1,5 @@
--- Worked cores: what is asked of the last slots of a period, who is isolated and by how many, and a run in
--- which one that is not falls short. A definition that says otherwise breaks one of these.
+-- Worked cores: what is asked of the last slots of a period, who is isolated and by how many, and a
+-- run in which one that is not falls short. A definition that says otherwise breaks one of these.
 use Rattle.std.proofs.Common.{◌≡◌, ℕ, ◌<◌, ◌≤◌, nat_lt, true, false, Bool, Option, Some, None, List, [], ◌∷◌, refl, lit≤}
 use Rattle.csv_rows.specs.Last.{last_below}
 use Rattle.slot_model.specs.Slots.{sum_below, count_below}
@@ -47,9 +47,9 @@ too_few_for_the_first : count_below (λ t. nat_lt t (asked later pair pair_budge
 unfolding sum_below
 too_few_for_the_first = refl
 
--- the first starts at 0, blocks at 1 and wakes at 6, where the second starts: its budget of the period that
--- ends at 8 and that of the next, which ends with the second's first, go before the second's, which gets 2
--- of its 3 slots
+-- the first starts at 0, blocks at 1 and wakes at 6, where the second starts: its budget of the
+-- period that ends at 8 and that of the next, which ends with the second's first, go before the
+-- second's, which gets 2 of its 3 slots
 abbrev row : ℕ → ℕ → WakeKind → Wake
 row at vcpu what = record { at = at; vcpu = vcpu; what = what }
 
@@ -79,8 +79,8 @@ second_is_short : (start_of wakes_late 1 ≡ 6) × (deadline_at pair wakes_late 
 unfolding last_below sum_below
 second_is_short = (refl, refl, refl)
 
--- with that of 6 slots first in the file 5 slots are enough for it, since ties go its way, and no fewer;
--- where ties are left open no number is
+-- with that of 6 slots first in the file 5 slots are enough for it, since ties go its way, and no
+-- fewer; where ties are left open no number is
 abbrev other_way : SystemView
 other_way = system (server (on_core 0) 6 3 false ∷ server (on_core 0) 4 2 false ∷ [])
 
@@ -99,7 +99,8 @@ by_ties_alone : count_below (λ t. nat_lt t (asked no_tie other_way other_budget
 unfolding sum_below
 by_ties_alone = refl
 
--- servers of one period that fit are isolated by it, however ties are broken; extra time does not matter
+-- servers of one period that fit are isolated by it, however ties are broken; extra time does not
+-- matter
 abbrev equal : SystemView
 equal = system (server (on_core 0) 10 3 true ∷ server (on_core 0) 10 4 false ∷ server (on_core 0) 10 3 true ∷ [])
 

@@ -1,5 +1,5 @@
--- What is enough for all at the end of a period gives its VCPU its budget, in the order of the file and
--- where ties are left open.
+-- What is enough for all at the end of a period gives its VCPU its budget, in the order of the file
+-- and where ties are left open.
 use Rattle.std.proofs.Common.{◌≡◌, ℕ, suc, ◌+◌, ◌<◌, ◌≤◌, Bool, true, false, cond, ◌&&◌, nat_lt, List, length, Option, Some, None, refl, sym, ◌∙◌, ap, arith, subst, inl, inr}
 use Rattle.std.proofs.lemmas.Bool.{cases_Bool, cond-true, cond-false}
 use Rattle.std.proofs.lemmas.Bool.Decides.{nat_tests}

@@ -1,5 +1,5 @@
--- The least number of slots that is enough, found step by step: what all ask of so many slots is the
--- next number to try.
+-- The least number of slots that is enough, found step by step: what all ask of so many slots is
+-- the next number to try.
 use Rattle.std.proofs.Common.{◌≡◌, ℕ, suc, ◌+◌, ◌-◌, ◌<◌, ◌≤◌, ◌==◌, Bool, true, false, cond, List, length, refl, ap, arith, inl, inr}
 use Rattle.std.proofs.lemmas.Bool.{cases_lt, cases_Bool, cond-true, cond-false}
 use Rattle.slot_model.specs.Slots.{sum_below}
@@ -62,9 +62,13 @@ module _ (tie : ℕ → ℕ → ℕ) (sys : SystemView) (budgets : List ℕ) (c 
 pub in_file_order : (sys : SystemView) (budgets : List ℕ) → IsPlan sys budgets → (c v t : ℕ) → IsIsolatedBy no_tie sys budgets c v t → IsIsolatedBy later sys budgets c v t
 in_file_order sys budgets plan c v t h = record {
   in_period = h.in_period;
-  enough = omega (arith, h.enough, sum_below-le (part_asks later sys budgets c v t) (part_asks no_tie sys budgets c v t) (length sys.parts)
-      (λ u k. cond_rises (is_child sys (Core c) u) (asked_of later v u (part_at sys u).period (budget_at budgets u) t) (asked_of no_tie v u (part_at sys u).period (budget_at budgets u) t)
-      (fewer u (part_at sys u).period (budget_at budgets u) (omega (arith, plan.some_budget u k, plan.in_period u k)))));
+  enough = omega (
+    arith,
+    h.enough,
+    sum_below-le (part_asks later sys budgets c v t) (part_asks no_tie sys budgets c v t) (length sys.parts)
+        (λ u k. cond_rises (is_child sys (Core c) u) (asked_of later v u (part_at sys u).period (budget_at budgets u) t) (asked_of no_tie v u (part_at sys u).period (budget_at budgets u) t)
+        (fewer u (part_at sys u).period (budget_at budgets u) (omega (arith, plan.some_budget u k, plan.in_period u k)))),
+  );
 }
   where
     fewer : (u P B : ℕ) → 1 ≤ P → asked_of later v u P B t ≤ asked_of no_tie v u P B t

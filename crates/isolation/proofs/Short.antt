@@ -1,5 +1,5 @@
--- Where every number of slots is too few, a workload by which all others wake as a period of v begins,
--- each with a whole budget, makes that period short.
+-- Where every number of slots is too few, a workload by which all others wake as a period of v
+-- begins, each with a whole budget, makes that period short.
 use Rattle.std.proofs.Common.{◌≡◌, ◌≢◌, ℕ, suc, ◌+◌, ◌-◌, ◌<◌, ◌≤◌, Bool, true, false, cond, not, ◌&&◌, ◌||◌, nat_lt, List, length, Option, refl, sym, ◌∙◌, ap, arith, subst, inl, inr}
 use Rattle.std.proofs.lemmas.Bool.{cases_lt, cases_Bool, cond-true, cond-false, both_ways, and_parts}
 use Rattle.slot_model.specs.Slots.{sum_below}
@@ -26,8 +26,8 @@ use Rattle.isolation.proofs.Goes.{place_goes}
 use Rattle.isolation.proofs.Serving.{by_place, serves, on_is, on_from, runs_from}
 use Rattle.isolation.proofs.Witness.{WakesAt, IsOther, falls_short}
 
--- VCPU u has been blocked in the period that is under way at r, and one of its periods ends with v's
--- that begins at r, or a slot before where u stands behind v
+-- VCPU u has been blocked in the period that is under way at r, and one of its periods ends with
+-- v's that begins at r, or a slot before where u stands behind v
 pub record WakesWith (sys : SystemView) (rows : List Wake) (c v r u : ℕ) : Type 0 where
   pub starts : IsStartedOn sys rows c u
   pub by_then : start_of rows u ≤ r

@@ -1,5 +1,6 @@
--- Where too much is asked of the slots at the end of a period of v: all others wake at its begin with
--- a whole budget each, in periods that end as late as can go before it; and v lacks some of its own.
+-- Where too much is asked of the slots at the end of a period of v: all others wake at its begin
+-- with a whole budget each, in periods that end as late as can go before it; and v lacks some of
+-- its own.
 use Rattle.std.proofs.Common.{◌≡◌, ◌≢◌, ◌⊎◌, ℕ, zero, suc, min, max, ◌+◌, ◌*◌, ◌-◌, ◌/◌, ◌%◌, ◌<◌, ◌≤◌, ◌==◌, Bool, true, false, cond, not, ◌&&◌, nat_lt, List, Option, Some, None, refl, sym, ◌∙◌, ap, arith, subst, inl, inr, lt-ltb, eqb-true, eq-eqb}
 use Rattle.std.proofs.Math.Nat.{mul-le-mul_right}
 use Rattle.std.proofs.lemmas.Bool.{cases_eq, cases_lt, cases_Bool, cond-true, cond-false, and_parts, and_from, both_ways}
@@ -135,7 +136,8 @@ module _ (m n : ℕ) (period budget start : ℕ → ℕ) (on : ℕ → Bool) (ab
       | inl z ↦ absurd (both_ways _ b (serves.is_on x w l (urgent_is later m n period budget start on able run serves (cap c w) w x (and_parts (not (w == v)) (urgent_test (cap c w) w x) z).1).holder))
     ]
 
-    -- a window that is full asks for more than there is where one has not all of a period at its end
+    -- a window that is full asks for more than there is where one has not all of a period at its
+    -- end
     too_full : (c a u i : ℕ) → r < a → a ≤ c → c ≤ d → IsOther v u → c ≡ begins (period u) (start u) (suc i) → c ≤ d - later v u → a ≤ begins (period u) (start u) i → got_of u (begins (period u) (start u) i) c < budget u →
         ((x : ℕ) → a ≤ x → x < c → SomeOther c x) → ((x : ℕ) → suc x ≡ a → SomeOther c x → ⊥) → ⊥
     too_full c a u i ra al cd ou is_end due lo short each none =

@@ -54,7 +54,10 @@ task = [{name = 't', period = 100, work = 1}]
 fn ties_decide_for_the_first_and_the_second_is_exposed(rt: HostRuntime) {
     let sys = system_of(&rt, rt.alloc(), PAIR);
     let plan = planned(&rt, rt.alloc(), &sys);
-    assert_eq!(rt; isolation_in(&rt, &sys, &plan, 0), Isolation::ByTies { last: 5 });
+    assert_eq!(rt;
+        isolation_in(&rt, &sys, &plan, 0),
+        Isolation::ByTies { last: 5 }
+    );
     assert_eq!(rt; isolation_in(&rt, &sys, &plan, 1), Isolation::ByBlock);
 }
 
@@ -81,5 +84,8 @@ task = [{name = 't', period = 100, work = 1}]
 fn equal_periods_are_isolated(rt: HostRuntime) {
     let sys = system_of(&rt, rt.alloc(), EQUAL);
     let plan = planned(&rt, rt.alloc(), &sys);
-    assert_eq!(rt; isolation_in(&rt, &sys, &plan, 0), Isolation::Isolated { last: 7 });
+    assert_eq!(rt;
+        isolation_in(&rt, &sys, &plan, 0),
+        Isolation::Isolated { last: 7 }
+    );
 }
