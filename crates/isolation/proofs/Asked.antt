@@ -1,5 +1,5 @@
 -- What is asked of the last slots of a period, beside what is counted in a window.
-use Rattle.std.proofs.Common.{◌≡◌, ℕ, max, ◌==◌, ◌-◌, ◌≤◌, true, false, cond, refl, arith, inl, inr, eq-eqb, eqb-true}
+use Rattle.std.proofs.Common.{◌≡◌, ℕ, max, ◌==◌, ◌-◌, ◌≤◌, false, refl, arith, inl, inr, eq-eqb, eqb-true}
 use Rattle.std.proofs.lemmas.Bool.{cases_Bool, cond-true, cond-false}
 use Rattle.isolation.specs.Demand.{deferrable_demand, asked_of}
 use Rattle.isolation.proofs.Demands.{last_demand, own_last, demand_rises}

@@ -1,7 +1,7 @@
 -- A workload that is a witness: each VCPU of a core starts in its first period, blocks a slot
 -- later, and wakes at r, so that a period of each ends with v's that begins there. Its rows stand
 -- slot by slot, and at each slot in the order of the file.
-use Rattle.std.proofs.Common.{◌≡◌, ◌≢◌, ◌⊎◌, ℕ, zero, suc, ◌+◌, ◌*◌, ◌-◌, ◌/◌, ◌%◌, ◌<◌, ◌≤◌, ◌==◌, Bool, true, false, cond, not, ◌&&◌, ◌||◌, nat_lt, nat_le, List, length, get_or, map, Option, Some, None, refl, sym, ◌∙◌, ap, arith, subst, inl, inr, eq-eqb, eqb-true, le-leb, lt-ltb}
+use Rattle.std.proofs.Common.{◌≡◌, ◌≢◌, ◌⊎◌, ℕ, zero, suc, ◌+◌, ◌*◌, ◌-◌, ◌/◌, ◌%◌, ◌<◌, ◌≤◌, ◌==◌, Bool, true, false, cond, not, ◌&&◌, ◌||◌, nat_lt, nat_le, List, length, get_or, map, Option, Some, refl, sym, ◌∙◌, ap, arith, subst, inl, inr, eq-eqb, eqb-true, le-leb, lt-ltb}
 use Rattle.std.specs.Prelude.{is_some}
 use Rattle.std.proofs.Math.Nat.{mul-le-mul_right}
 use Rattle.std.proofs.lemmas.Nat.{le-div}
@@ -31,7 +31,7 @@ use Rattle.csv_rows.proofs.Last.{last_is, none_below}
 use Rattle.isolation.specs.Demand.{later}
 use Rattle.isolation.specs.Keeping.{PeriodsUpTo}
 use Rattle.isolation.proofs.Demands.{quotient_is}
-use Rattle.isolation.proofs.Windows.{later_few, later_itself}
+use Rattle.isolation.proofs.Windows.{later_itself}
 use Rattle.isolation.proofs.Short.{WakesWith, IsWitness}
 
 and_no : (b : Bool) → (b && false) ≡ false

@@ -1,10 +1,10 @@
 -- Slots between two moments: counts of those that pass, of several tests together, and of the VCPUs
 -- of a run.
-use Rattle.std.proofs.Common.{◌≡◌, ◌⊎◌, ℕ, zero, suc, min, ◌+◌, ◌-◌, ◌<◌, ◌≤◌, Bool, true, false, cond, ◌&&◌, leb, eqb, List, Option, Some, None, refl, sym, ◌∙◌, ap, arith, subst, inl, inr, le-leb}
-use Rattle.std.proofs.lemmas.Bool.{cases_eq, cases_lt, cases_Bool, cond-true, cond-false, and_left, lt-leb}
+use Rattle.std.proofs.Common.{◌≡◌, ◌⊎◌, ℕ, zero, suc, min, ◌+◌, ◌-◌, ◌<◌, ◌≤◌, Bool, true, false, cond, ◌&&◌, List, Option, Some, None, refl, ◌∙◌, ap, arith, subst, inl, inr, le-leb}
+use Rattle.std.proofs.lemmas.Bool.{cases_eq, cases_lt, cases_Bool, cond-true, cond-false}
 use Rattle.slot_model.specs.Slots.{sum_below}
 use Rattle.slot_model.specs.Run.{held, holds}
-use Rattle.slot_model.proofs.Sums.{cond_at_most_one, sum_below-zero, sum_below-suc, sum_below-same, sum_below-none, sum_below-add, sum_below_one, get-le-sum_below}
+use Rattle.slot_model.proofs.Sums.{cond_at_most_one, sum_below-same, sum_below-none, sum_below-add, sum_below_one, get-le-sum_below}
 use Rattle.trace_file.specs.Periods.{count_between}
 use Rattle.trace_file.proofs.Counting.{between_more, between_none}
 

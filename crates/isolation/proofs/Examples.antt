@@ -1,9 +1,8 @@
 -- Worked cores: what is asked of the last slots of a period, who is isolated and by how many, and a
 -- run in which one that is not falls short. A definition that says otherwise breaks one of these.
-use Rattle.std.proofs.Common.{◌≡◌, ℕ, ◌<◌, ◌≤◌, nat_lt, true, false, Bool, Option, Some, None, List, [], ◌∷◌, refl, lit≤}
+use Rattle.std.proofs.Common.{◌≡◌, ℕ, nat_lt, true, false, Bool, Option, Some, None, List, [], ◌∷◌, refl, lit≤}
 use Rattle.csv_rows.specs.Last.{last_below}
 use Rattle.slot_model.specs.Slots.{sum_below, count_below}
-use Rattle.slot_model.specs.Run.{held, holds}
 use Rattle.slot_model.specs.declared.sched.Sched.TheVariants.{Edf}
 use Rattle.tree_model.specs.declared.pinned_core.Core.{Core as CoreView}
 use Rattle.tree_model.specs.declared.place.Parent.{Parent}

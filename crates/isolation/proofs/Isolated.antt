@@ -1,10 +1,8 @@
 -- What is enough for all at the end of a period gives its VCPU its budget, in the order of the file
 -- and where ties are left open.
-use Rattle.std.proofs.Common.{◌≡◌, ℕ, suc, ◌+◌, ◌<◌, ◌≤◌, Bool, true, false, cond, ◌&&◌, nat_lt, List, length, Option, Some, None, refl, sym, ◌∙◌, ap, arith, subst, inl, inr}
+use Rattle.std.proofs.Common.{◌≡◌, ℕ, ◌<◌, ◌≤◌, Bool, true, cond, ◌&&◌, nat_lt, List, length, Option, refl, sym, arith, subst, inl, inr}
 use Rattle.std.proofs.lemmas.Bool.{cases_Bool, cond-true, cond-false}
 use Rattle.std.proofs.lemmas.Bool.Decides.{nat_tests}
-use Rattle.slot_model.specs.Slots.{sum_below}
-use Rattle.slot_model.specs.Run.{held}
 use Rattle.slot_model.proofs.Sums.{sum_below-le}
 use Rattle.tree_model.specs.declared.place.Place.TheVariants.{Core}
 use Rattle.tree_model.specs.View.{SystemView}
@@ -13,8 +11,7 @@ use Rattle.tree_model.specs.Tree.{is_child, budget_at}
 use Rattle.tree_model.specs.Plans.{IsPlan}
 use Rattle.release_file.specs.declared.workload.Wake.{Wake}
 use Rattle.release_file.specs.Workload.{is_started, start_of, IsWorkload}
-use Rattle.rtds_sim.specs.Rtds.{can_run, CoreRun, goes_first}
-use Rattle.rtds_sim.specs.Giving.{IsStartedOn}
+use Rattle.rtds_sim.specs.Rtds.{can_run, goes_first}
 use Rattle.isolation.specs.Demand.{asked_of, no_tie, later, IsIsolatedBy}
 use Rattle.isolation.specs.Open.{goes_sooner, OpenRun}
 use Rattle.isolation.specs.Keeping.{IsAwakeLast, got_in, KeepsBudget, KeepsOpenly}

@@ -1,6 +1,6 @@
 -- The least number of slots that is enough, found step by step: what all ask of so many slots is
 -- the next number to try.
-use Rattle.std.proofs.Common.{◌≡◌, ℕ, suc, ◌+◌, ◌-◌, ◌<◌, ◌≤◌, ◌==◌, Bool, true, false, cond, List, length, refl, ap, arith, inl, inr}
+use Rattle.std.proofs.Common.{◌≡◌, ℕ, suc, ◌+◌, ◌-◌, ◌<◌, ◌≤◌, ◌==◌, true, false, cond, List, length, arith, inl, inr}
 use Rattle.std.proofs.lemmas.Bool.{cases_lt, cases_Bool, cond-true, cond-false}
 use Rattle.slot_model.specs.Slots.{sum_below}
 use Rattle.slot_model.proofs.Sums.{cond_rises, sum_below-zero, sum_below-suc, sum_below-le, get-le-sum_below}

@@ -1,7 +1,7 @@
 -- Where every number of slots is too few, a workload by which all others wake as a period of v
 -- begins, each with a whole budget, makes that period short.
-use Rattle.std.proofs.Common.{◌≡◌, ◌≢◌, ℕ, suc, ◌+◌, ◌-◌, ◌<◌, ◌≤◌, Bool, true, false, cond, not, ◌&&◌, ◌||◌, nat_lt, List, length, Option, refl, sym, ◌∙◌, ap, arith, subst, inl, inr}
-use Rattle.std.proofs.lemmas.Bool.{cases_lt, cases_Bool, cond-true, cond-false, both_ways, and_parts}
+use Rattle.std.proofs.Common.{◌≡◌, ℕ, suc, ◌+◌, ◌-◌, ◌<◌, ◌≤◌, Bool, true, false, cond, not, ◌&&◌, ◌||◌, nat_lt, List, length, Option, refl, ap, arith, inl, inr}
+use Rattle.std.proofs.lemmas.Bool.{cases_Bool, cond-true, cond-false, both_ways, and_parts}
 use Rattle.slot_model.specs.Slots.{sum_below}
 use Rattle.slot_model.specs.Run.{held, holds}
 use Rattle.slot_model.proofs.Sums.{sum_below-le}
@@ -17,7 +17,7 @@ use Rattle.release_file.specs.Workload.{is_started, is_started_at, is_blocked_at
 use Rattle.rtds_sim.specs.Rtds.{goes_first, period_from, used, can_run, CoreRun}
 use Rattle.rtds_sim.specs.Giving.{IsStartedOn, ServersFit}
 use Rattle.isolation.specs.Demand.{later, asked_of, AsksTooMuch}
-use Rattle.isolation.specs.Keeping.{IsAwakeLast, got_in}
+use Rattle.isolation.specs.Keeping.{got_in}
 use Rattle.isolation.proofs.Counts.{between_zero}
 use Rattle.isolation.proofs.Demands.{steady_demand, last_demand}
 use Rattle.isolation.proofs.Asked.{asked-le-last}

@@ -1,7 +1,7 @@
 -- Servers under earliest deadline first on level 0: how many slots of a window one has there, in
 -- periods that end by the window's end. The VCPUs, their periods and their starts are plain
 -- functions.
-use Rattle.std.proofs.Common.{◌≡◌, ◌⊎◌, ℕ, zero, suc, min, ◌+◌, ◌*◌, ◌-◌, ◌/◌, ◌<◌, ◌≤◌, Bool, true, false, cond, ◌&&◌, nat_lt, nat_le, List, Option, Some, None, refl, sym, ◌∙◌, ap, arith, subst, inl, inr, leb-true, le-leb, ltb-true, lt-ltb, le-ltb, eqb-true, eq-eqb}
+use Rattle.std.proofs.Common.{◌≡◌, ◌⊎◌, ℕ, zero, suc, min, ◌+◌, ◌*◌, ◌-◌, ◌/◌, ◌<◌, ◌≤◌, Bool, true, false, cond, ◌&&◌, nat_lt, nat_le, List, Option, Some, None, refl, sym, ◌∙◌, ap, arith, subst, inl, inr, leb-true, le-leb, ltb-true, lt-ltb, le-ltb, eq-eqb}
 use Rattle.std.proofs.Math.Nat.{mul-le-mul_right}
 use Rattle.std.proofs.lemmas.Bool.{cases_lt, cases_Bool, cond-true, cond-false, and_parts, and_from, both_ways, false≢true}
 use Rattle.std.proofs.lemmas.Option.{same_Some}

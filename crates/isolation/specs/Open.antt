@@ -10,8 +10,8 @@ abbrev pub goes_sooner : ℕ → ℕ → ℕ → ℕ → ℕ → ℕ → Bool
 goes_sooner level deadline place level' deadline' place' =
     nat_lt level level' || (level == level' && nat_lt deadline deadline')
 
--- what slot x of core c may hold: an eligible VCPU before which no eligible one goes, and none where
--- none is eligible
+-- what slot x of core c may hold: an eligible VCPU before which no eligible one goes, and none
+-- where none is eligible
 pub record OpenEntry (sys : SystemView) (budgets : List ℕ) (rows : List Wake) (c : ℕ)
     (run : List (Option ℕ)) (x : ℕ) (entry : Option ℕ) : Type 0 where
   pub idle : entry ≡ None → (v : ℕ) → is_eligible sys budgets rows c run v x ≡ false

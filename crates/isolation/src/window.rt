@@ -10,9 +10,9 @@ ghost use Rattle.isolation.specs.Answer.{tie_of};
 use crate::ties::Ties;
 use tree_model::{MAX_PARTS, Place, Plan, System};
 
-/// The least number of slots at the end of a period of VCPU `v` that is enough for it and all others
-/// of its core; none where its whole period is not. It goes from each number that is too few to what
-/// is asked of so many slots.
+/// The least number of slots at the end of a period of VCPU `v` that is enough for it and all
+/// others of its core; none where its whole period is not. It goes from each number that is too few
+/// to what is asked of so many slots.
 pub fn least_window(sys: &System, plan: &Plan, core: u32, v: usize, ties: Ties) -> Option<u64>
     requires plan { IsPlan sys.now plan.now }
     requires is_part { v < length sys.now.parts }

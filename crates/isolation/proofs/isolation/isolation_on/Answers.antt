@@ -1,4 +1,3 @@
-use Rattle.std.proofs.Common.{ℕ}
 use Rattle.isolation.specs.declared.isolation.Isolation.TheVariants.{Isolated, ByTies, ByBlock}
 use Rattle.isolation.proofs.Exposed.{means}
 use Rattle.isolation.proofs.isolation.isolation_on.Goals as goal

@@ -1,4 +1,4 @@
-use Rattle.std.proofs.Common.{◌≡◌, ℕ, ◌+◌, suc, length, arith, sym, ap, ◌∙◌}
+use Rattle.std.proofs.Common.{◌≡◌, ℕ, ◌+◌, suc, arith, sym, ap}
 use Rattle.isolation.specs.Answer.{tie_of}
 use Rattle.isolation.proofs.Least.{asked_by, asked_none, asked_more}
 use Rattle.isolation.proofs.window.asked_in.Goals as goal
