@@ -8,6 +8,8 @@ mod bulk_run_tests;
 #[cfg(test)]
 mod helpers;
 #[cfg(test)]
+mod isolation_tests;
+#[cfg(test)]
 mod rtds_sim_tests;
 #[cfg(test)]
 mod tree_run_tests;

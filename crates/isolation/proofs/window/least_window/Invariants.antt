@@ -1,0 +1,11 @@
+use Rattle.std.proofs.Common.{◌+◌, ◌-◌}
+use Rattle.isolation.specs.Answer.{tie_of}
+use Rattle.isolation.proofs.Least.{TooFewBelow}
+use Rattle.isolation.proofs.window.least_window.Given as goal
+
+-- all numbers below the one that is tried are too few
+abbrev pub invariant-loop-last : goal.invariant-loop-last
+invariant-loop-last l = TooFewBelow (tie_of l.ties) l.sys l.plan l.core l.v l.last
+
+abbrev pub decreases-loop-last : goal.decreases-loop-last
+decreases-loop-last l = l.period + 1 - l.last

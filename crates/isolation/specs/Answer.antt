@@ -1,0 +1,30 @@
+-- What is answered of a VCPU, and what each answer means.
+use Rattle.std.specs.Prelude.{ℕ, List}
+use Rattle.tree_model.specs.View.{SystemView}
+use Rattle.isolation.specs.declared.ties.Ties.{Ties}
+use Rattle.isolation.specs.declared.ties.Ties.TheVariants.{Open, InFileOrder}
+use Rattle.isolation.specs.declared.isolation.Isolation.{Isolation}
+use Rattle.isolation.specs.declared.isolation.Isolation.TheVariants.{Isolated, ByTies, ByBlock}
+use Rattle.isolation.specs.Demand.{no_tie, later, IsLeastBy, AsksTooMuch}
+use Rattle.isolation.specs.Keeping.{KeepsBudget, KeepsOpenly, IsExposed}
+
+-- the slots that a tie costs
+abbrev pub tie_of : Ties → ℕ → ℕ → ℕ
+tie_of Open = no_tie
+tie_of InFileOrder = later
+
+-- isolated by the least number of slots with ties left open, else by the least in the order of the
+-- file, else by none
+abbrev pub IsIsolation : SystemView → List ℕ → ℕ → ℕ → Isolation → Type 0
+IsIsolation sys budgets c v (Isolated last) = IsLeastBy no_tie sys budgets c v last
+IsIsolation sys budgets c v (ByTies last) =
+    AsksTooMuch no_tie sys budgets c v × IsLeastBy later sys budgets c v last
+IsIsolation sys budgets c v ByBlock = AsksTooMuch later sys budgets c v
+
+-- it keeps its budget in every run, or in the one in the order of the file, or some workload is
+-- such that it does not
+abbrev pub Means : SystemView → List ℕ → ℕ → ℕ → Isolation → Type 0
+Means sys budgets c v (Isolated last) =
+    KeepsOpenly sys budgets c v last × KeepsBudget sys budgets c v last
+Means sys budgets c v (ByTies last) = KeepsBudget sys budgets c v last
+Means sys budgets c v ByBlock = IsExposed sys budgets c v

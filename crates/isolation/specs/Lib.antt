@@ -1,0 +1,4 @@
+pub mod Demand
+pub mod Open
+pub mod Keeping
+pub mod Answer

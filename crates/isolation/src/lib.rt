@@ -1,0 +1,9 @@
+//! What a VCPU keeps under RTDS whatever the others of its core do: the least number of slots at
+//! the end of its periods that is enough for all of them, and what that means for each run.
+#![tactic(auto)]
+
+mod isolation;
+mod ties;
+mod window;
+
+pub use isolation::{Isolation, isolation_on};

@@ -1,0 +1,81 @@
+ghost use Rattle.std.specs.Prelude.{◌≡◌, ◌<◌, ◌≤◌, true, length, MatchOption, if◌then◌else◌};
+ghost use Rattle.slot_model.specs.declared.task.TheConstants.{LIMIT};
+ghost use Rattle.tree_model.specs.declared.place.Place.TheVariants.{Core};
+ghost use Rattle.tree_model.specs.Plans.{IsPlan};
+ghost use Rattle.tree_model.specs.System.{IsSystem, part_at};
+ghost use Rattle.tree_model.specs.Tree.{is_child, budget_at};
+ghost use Rattle.isolation.specs.Demand.{deferrable_demand, asked_of, asked, IsLeastBy, AsksTooMuch};
+ghost use Rattle.isolation.specs.Answer.{tie_of};
+
+use crate::ties::Ties;
+use tree_model::{MAX_PARTS, Place, Plan, System};
+
+/// The least number of slots at the end of a period of VCPU `v` that is enough for it and all
+/// others of its core; none where its whole period is not. It goes from each number that is too few
+/// to what is asked of so many slots.
+pub fn least_window(sys: &System, plan: &Plan, core: u32, v: usize, ties: Ties) -> Option<u64>
+    requires plan { IsPlan sys.now plan.now }
+    requires is_part { v < length sys.now.parts }
+    requires on_core { is_child sys.now (Core core) v ≡ true }
+    ensures least { MatchOption result
+        (AsksTooMuch (tie_of ties) sys.now plan.now core v)
+        (IsLeastBy (tie_of ties) sys.now plan.now core v) }
+    ensures system { IsSystem sys.now }
+{
+    let period = sys.parts()[v].period();
+    let mut last = plan.budgets()[v];
+    while last <= period {
+        let needed = asked_in(sys, plan, core, v, ties, last);
+        if needed <= last {
+            return Some(last);
+        }
+        last = needed;
+    }
+    None
+}
+
+/// What the VCPUs of the core ask of the last `t` slots of a period of `v`.
+fn asked_in(sys: &System, plan: &Plan, core: u32, v: usize, ties: Ties, t: u64) -> u64
+    requires plan { IsPlan sys.now plan.now }
+    requires in_limit { t ≤ LIMIT }
+    ensures { result ≡ asked (tie_of ties) sys.now plan.now core v t }
+{
+    prove!(sys.parts().len() <= MAX_PARTS);
+    let mut total: u64 = 0;
+    for u in 0..sys.parts().len() {
+        total += asked_by(sys, plan, core, v, ties, t, u);
+    }
+    total
+}
+
+/// What VCPU `u` asks of them, if it stands on the core.
+fn asked_by(sys: &System, plan: &Plan, core: u32, v: usize, ties: Ties, t: u64, u: usize) -> u64
+    requires plan { IsPlan sys.now plan.now }
+    requires is_part { u < length sys.now.parts }
+    requires in_limit { t ≤ LIMIT }
+    ensures exact { result ≡ (if is_child sys.now (Core core) u
+        then asked_of (tie_of ties) v u (part_at sys.now u).period (budget_at plan.now u) t
+        else 0) }
+    ensures in_limit { result ≤ LIMIT }
+{
+    let part = &sys.parts()[u];
+    let budget = plan.budgets()[u];
+    if !part.is_child_of(Place::Core(core)) {
+        return 0;
+    }
+    if u == v {
+        return budget;
+    }
+    taken_of(part.period(), budget, t.saturating_sub(ties.slots(v, u)))
+}
+
+/// The most that a server takes of the last `t` slots before one of its periods ends.
+fn taken_of(period: u64, budget: u64, t: u64) -> u64
+    requires some { 1 ≤ budget }
+    requires in_period { budget ≤ period }
+    requires in_limit { t ≤ LIMIT }
+    ensures exact { result ≡ deferrable_demand period budget t }
+    ensures few { result ≤ t }
+{
+    t / period * budget + budget.min(t % period)
+}

@@ -1,0 +1,91 @@
+ghost use Rattle.tree_model.specs.Plans.{IsPlan};
+
+use crate::helpers::{planned, system_of};
+use isolation::{Isolation, isolation_on};
+use std::process::Abort;
+use tree_model::{Place, Plan, System};
+
+/// What VCPU `v` of the first core keeps.
+fn isolation_in(rt: &impl Abort, sys: &System, plan: &Plan, v: usize) -> Isolation
+    requires { IsPlan sys.now plan.now }
+{
+    if v < sys.parts().len() && sys.parts()[v].is_child_of(Place::Core(0)) {
+        isolation_on(sys, plan, 0, v)
+    } else {
+        panic!(rt; "no part of the first core");
+    }
+}
+
+/// Of two cores the first is full: 3 slots in 6, ahead of 2 in 4. Neither the part of the second
+/// core nor that of a part asks for any of it.
+const PAIR: &str = "format = 1
+core = [{name = 'cpu0', sched = 'edf'}, {name = 'cpu1', sched = 'edf'}]
+[[part]]
+name = 'B'
+parent = 'cpu0'
+sched = 'edf'
+period = 6
+budget = 3
+[[part]]
+name = 'A'
+parent = 'cpu0'
+sched = 'edf'
+period = 4
+budget = 2
+extra = true
+task = [{name = 't', period = 100, work = 1}]
+[[part]]
+name = 'C'
+parent = 'B'
+sched = 'edf'
+period = 100
+budget = 1
+task = [{name = 't', period = 100, work = 1}]
+[[part]]
+name = 'D'
+parent = 'cpu1'
+sched = 'edf'
+period = 4
+budget = 4
+task = [{name = 't', period = 100, work = 1}]
+";
+
+#[test]
+fn ties_decide_for_the_first_and_the_second_is_exposed(rt: HostRuntime) {
+    let sys = system_of(&rt, rt.alloc(), PAIR);
+    let plan = planned(&rt, rt.alloc(), &sys);
+    assert_eq!(rt;
+        isolation_in(&rt, &sys, &plan, 0),
+        Isolation::ByTies { last: 5 }
+    );
+    assert_eq!(rt; isolation_in(&rt, &sys, &plan, 1), Isolation::ByBlock);
+}
+
+/// Budgets of one period that fit on a core: whoever wakes late, 4 slots and 3 fit in 7.
+const EQUAL: &str = "format = 1
+core = [{name = 'cpu0', sched = 'edf'}]
+[[part]]
+name = 'A'
+parent = 'cpu0'
+sched = 'edf'
+period = 10
+budget = 4
+task = [{name = 't', period = 100, work = 1}]
+[[part]]
+name = 'B'
+parent = 'cpu0'
+sched = 'edf'
+period = 10
+budget = 3
+task = [{name = 't', period = 100, work = 1}]
+";
+
+#[test]
+fn equal_periods_are_isolated(rt: HostRuntime) {
+    let sys = system_of(&rt, rt.alloc(), EQUAL);
+    let plan = planned(&rt, rt.alloc(), &sys);
+    assert_eq!(rt;
+        isolation_in(&rt, &sys, &plan, 0),
+        Isolation::Isolated { last: 7 }
+    );
+}
