@@ -127,7 +127,7 @@ class Words(Case):
         status, lines = self.judged(HOST)
         self.assertEqual(status, 1)
         self.assertEqual(lines[1:11], [
-            "", "core cpu0, under earliest deadline first, has every slot.",
+            "", "The core cpu0, under earliest deadline first, has every slot.",
             "In a window of 10 slots up to 12 slots of work must be done, and 10 are sure to come: 2 are missing.", "",
             "    part  period  budget    share  jobs  asked for",
             "    A         10       4   40.00%     1          4",
@@ -141,7 +141,7 @@ class Words(Case):
         """With 3 of 10, in 75 slots 6 * 3 + 1 come; the two jobs of t1 and the one of t2 are 23."""
         status, lines = self.judged((top / "examples/rate-short.toml").read_text())
         self.assertEqual(lines[2:9], [
-            "part leaf, under rate monotonic, has 3 slots of every 10.",
+            "The part leaf, under rate monotonic, has 3 slots of every 10.",
             "t2 must be done within 75 slots, in which it and what ranks above it ask for up to 23. 19 are sure to come: 4 are missing, "
             "and no shorter window is enough.", "",
             "    task  period  deadline  jitter  work   share  jobs  asked for",
@@ -155,7 +155,7 @@ class Words(Case):
         tasks = "".join(f'[[part.task]]\nname = "{name}"\nperiod = 10\ndeadline = 5\nwork = 3\n' for name in "xy")
         head = '[[core]]\nname = "cpu0"\nsched = "edf"\n[[part]]\nname = "P"\nparent = "cpu0"\nsched = "edf"\nperiod = 4\n'
         status, lines = self.judged("format = 1\n" + head + tasks)
-        self.assertIn("part P, under earliest deadline first, has no budget that is enough, not all 4 slots of every 4.", lines)
+        self.assertIn("The part P, under earliest deadline first, has no budget that is enough, not all 4 slots of every 4.", lines)
         self.assertIn("In a window of 5 slots up to 6 slots of work must be done, and 5 are sure to come: 1 is missing.", lines)
         self.assertEqual(set(self.changes(lines)), {"P.x.work=2", "P.y.work=2"})
 
