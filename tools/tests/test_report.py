@@ -245,6 +245,12 @@ class Opened(Case):
             for width in (400, 1400):
                 self.assertEqual(self.look(page, width), ([], []), width)
 
+    def test_between_the_widths_and_as_printed(self):
+        """The narrowest page with tables, and what is printed on a sheet of 190 mm."""
+        page = self.long()
+        self.assertEqual(self.look(page, 1001), ([], []))
+        self.assertEqual(self.look(page.replace("@media screen and", "@media print and").replace("@media print {", "@media all {"), 718), ([], []))
+
     def test_it_would_be_found(self):
         """A word that is wider than its box, and an error."""
         page = '<!DOCTYPE html><html><body><p style="width:80px">' + "m" * 60 + '</p><script>console.error("seen"); undefined.x</script></body></html>'
