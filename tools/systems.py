@@ -3,6 +3,7 @@ in it, and the program that is asked about it. It is no tool of its own."""
 import copy
 import importlib.machinery
 import importlib.util
+import os
 import pathlib
 import re
 import shlex
@@ -212,6 +213,18 @@ def read_system(path):
         raise Refused(path, None, f"spelled in a way of TOML 1.1 that this tool does not read: {fault}") from None
 
 
+def written(text, status):
+    """Writes a text to standard output. The status, or 3 where that fails."""
+    try:
+        sys.stdout.write(text)
+        sys.stdout.flush()
+    except OSError as fault:
+        print(f"standard output: {fault.strerror}", file=sys.stderr)
+        os.dup2(os.open(os.devnull, os.O_WRONLY), sys.stdout.fileno())
+        return 3
+    return status
+
+
 # The program
 
 
@@ -260,6 +273,14 @@ class Program:
 
     def admit(self, system):
         return self.ask("admit", "/dev/stdin", text=system.text())
+
+
+def budget_of(system, name, program):
+    """The budget of a part: the given one, or that which the program computes for the part by itself."""
+    budget = system.nodes[name].budget or program.admit(system.alone(name)).budgets().get(name, (None,))[0]
+    if budget is None:
+        raise Refused(system.path, None, f"the program tells no budget of {name}")
+    return budget
 
 
 def add_program(parser):
