@@ -152,8 +152,11 @@ class System:
                 found.add(part.name)
         return [part.name for part in self.parts() if part.name in found and part.name != name]
 
-    def tables(self, kind):
-        return {table["name"]: table for table in self.tree.get(kind, [])}
+    def root(self, name):
+        """The core on which a node stands, or that it is."""
+        while self.nodes[name].parent:
+            name = self.nodes[name].parent
+        return name
 
     def text(self):
         """The system as the text of a system file."""
@@ -184,6 +187,12 @@ class System:
         else:
             raise Refused(self.path, None, f"{change!r}: {value!r} is no number")
         return System(self.path, tree)
+
+    def only(self, cores):
+        """Some of the cores, and all that stands on them."""
+        kept = [table for table in self.tree["core"] if table["name"] in cores]
+        parts = [table for table in self.tree.get("part", []) if self.root(table["name"]) in cores]
+        return System(self.path, {"format": self.tree["format"], "core": kept, "part": parts})
 
     def alone(self, name):
         """A part and all that stands on it, on a full core of its own: what it needs does not depend on what it stands on."""

@@ -230,7 +230,7 @@ class Changes(Case):
         self.file.write_text((top / "examples/guest-short.toml").read_text())
         judge = Judge()
         offer = tool.Offer("work", 1, "leaf.t1.work=5", "")
-        with self.assertRaisesRegex(Refused, "leaf.t1.work=5 helped, and asked again it does not: verdict=no overfull part leaf at=50"):
+        with self.assertRaisesRegex(Refused, "leaf.t1.work=5 helped on its core, and in the whole file it does not: verdict=no"):
             list(tool.confirmed(str(self.file), judge, [offer], lambda answer: answer.is_yes))
 
 
@@ -248,6 +248,15 @@ class Systems(Case):
             ("cpu0", None, 1, 1), ("mid", "cpu0", 50, None), ("video", "mid", 100, None), ("ctl", "mid", 200, None)])
         alone = systems.read_system(str(top / "examples/tree.toml")).alone("ctl")
         self.assertEqual([(node.name, node.parent) for node in alone.nodes.values()], [("mid", None), ("ctl", "mid")])
+
+    def test_some_cores(self):
+        """All that stands on them, also where a part stands on a part."""
+        system = systems.System("file", tomllib.loads(HOST.replace('[[part]]\nname = "B"\nparent = "cpu0"', '[[part]]\nname = "B"\nparent = "cpu1"')))
+        self.assertEqual(list(system.only(["cpu1"]).nodes), ["cpu1", "B", "D"])
+        self.assertEqual(system.only(["cpu1", "cpu0"]).tree, system.tree)
+        tree = systems.read_system(str(top / "examples/tree.toml"))
+        self.assertEqual((tree.root("ctl"), tree.root("cpu0")), ("cpu0", "cpu0"))
+        self.assertEqual(tree.only(["cpu0"]).tree, tree.tree)
 
     def test_changes(self):
         system = systems.System("file", tomllib.loads(HOST))
