@@ -11,6 +11,7 @@ import tempfile
 import unittest
 
 from load import load, program, top
+import recordings
 import systems
 import test_split
 from hostfile import Refused
@@ -168,6 +169,26 @@ class Pieces(Case):
                 status, lines = tool.answered(tool.words_of([str(LINUX / name), folder]), found)
                 whole = found.ask("audit", str(LINUX / name), str(LINUX / "trace.csv"))
                 self.assertEqual((status, lines[:2]), (whole.status, whole.lines))
+
+
+@unittest.skipUnless(program(), "no program is built")
+class Minute(Case):
+    """A minute of 24 VCPUs in pieces of 7 seconds, and what one command says of all of it."""
+
+    def test_a_minute(self):
+        self.file.write_text(recordings.system())
+        trace, found = self.room / "trace.csv", systems.Program([program()])
+        trace.write_text("".join(recordings.rows(60)))
+        with contextlib.redirect_stdout(io.StringIO()):
+            self.assertEqual(test_split.tool.main([str(trace), str(self.pieces), "--system", str(self.file), "--seconds", "7"]), 0)
+        status, lines, err = self.answered(found, str(self.pieces))
+        told, whole = list(recordings.told(60)), found.ask("tally", str(self.file), str(trace))
+        if whole.status == 2:
+            whole = found.ask("audit", str(self.file), str(trace))
+            self.assertEqual((status, lines[:2]), (1, whole.lines))
+            self.skipTest("the program has no `tally`; its `audit` says the same of the whole")
+        self.assertEqual((status, lines, err), (1, told, ""))
+        self.assertEqual(whole.lines, [*told[:2], *(line for line in told if line.startswith("vcpu"))])
 
 
 class Elsewhere(Case):
