@@ -175,7 +175,7 @@ class Pages(Case):
     def test_a_no(self):
         page = self.page(OVER, top / "examples/pair-over.toml")
         text = self.text(page)
-        self.assertIn("No. The core cpu0 does not do: in a window of 20 slots more is asked for than is sure to come.", text)
+        self.assertIn("No. The core cpu0 is overfull: in a window of 20 slots more is asked for than is sure to come.", text)
         self.assertIn("In a window of 20 slots up to 21 slots of work must be done, and 20 are sure to come: 1 is missing.", text)
         self.assertIn("B: 3 of every 20 is computed, where 11 was given", text)
         self.assertIn("--copy B.budget=open | ./rtadmit admit /dev/stdin", text)
