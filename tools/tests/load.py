@@ -7,6 +7,7 @@ import sys
 
 sys.dont_write_bytecode = True
 top = pathlib.Path(__file__).resolve().parent.parent.parent
+sys.path.insert(0, str(top / "tools"))
 
 
 def load(name):

@@ -13,6 +13,7 @@ import unittest
 from unittest import mock
 
 from load import load
+import sealed
 
 tool, summing = load("release"), load("program-sum")
 PROGRAM = b"#!/bin/sh\necho rtadmit 7.1\n"
@@ -84,7 +85,7 @@ class Made(Case):
         folder = self.out / "r"
         files = sorted(str(path.relative_to(folder)) for path in folder.rglob("*") if path.is_file())
         self.assertEqual(files, [
-            "README.md", "RELEASE", "docs/a.md", "docs/b.md", "examples/compare", "rtadmit", "tools/from-ftrace", "tools/record-deadline",
+            "GATE", "README.md", "RELEASE", "docs/a.md", "docs/b.md", "examples/compare", "rtadmit", "tools/from-ftrace", "tools/record-deadline",
             "tools/timeline"])
         self.assertEqual((folder / "rtadmit").read_bytes(), PROGRAM)
         about = (folder / "RELEASE").read_text()
@@ -93,6 +94,7 @@ class Made(Case):
         self.assertIn("version: rtadmit 7.1\nlogic: logic 7\n", about)
         self.assertIn(f"last line: program sha256={hashlib.sha256(PROGRAM).hexdigest()} commit=", about)
         self.assertTrue(out.startswith(about))
+        self.assertEqual(tool.gate_line(folder / "GATE"), tool.gate_line(self.gate))
         self.assertEqual(sorted(path.name for path in self.out.iterdir()), ["r", "r.tar.gz"])
 
     def test_the_same_archive_twice(self):
@@ -174,15 +176,15 @@ class NothingIsLeft(Case):
         self.refused("an example prints something else")
 
     def test_where_a_step_fails(self):
-        for step in ("fill", "pack", "try_elsewhere"):
-            with mock.patch.object(tool, step, side_effect=OSError(28, "No space left on device", "somewhere")):
+        for module, step in ((tool, "fill"), (sealed, "pack"), (tool, "try_elsewhere")):
+            with mock.patch.object(module, step, side_effect=OSError(28, "No space left on device", "somewhere")):
                 self.refused("somewhere: No space left on device")
 
     def test_where_it_is_stopped(self):
         def stop(*_):
             os.kill(os.getpid(), signal.SIGTERM)
 
-        with mock.patch.object(tool, "pack", stop), self.assertRaises(SystemExit) as ended:
+        with mock.patch.object(sealed, "pack", stop), self.assertRaises(SystemExit) as ended:
             self.run_tool()
         self.assertEqual(ended.exception.code, 128 + signal.SIGTERM)
         self.assertEqual(list(self.out.iterdir()), [])
