@@ -14,10 +14,7 @@ pub fn best_text(
     ensures { IfOk result (λ text. text.items ≡ best_text part.now period budget) }
 {
     let name = part.name().as_str();
-    let text = format!(
-        in alloc;
-        "verdict=yes\nchoose {name} period={period} budget={budget}\n"
-    )?;
+    let text = format!(in alloc; "verdict=yes\nchoose {name} period={period} budget={budget}\n")?;
     Ok(text.into_bytes())
 }
 

@@ -16,8 +16,7 @@ pub fn interface_text(
 {
     let name = part.name().as_str();
     let period = part.period();
-    let text = format!(
-        in alloc;
+    let text = format!(in alloc;
         "verdict=yes\ninterface {name} period={period} deadline={deadline} budget={budget}\n"
     )?;
     Ok(text.into_bytes())

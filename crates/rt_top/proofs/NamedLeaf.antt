@@ -6,9 +6,12 @@ use Rattle.tree_model.specs.View.{PartView, SystemView}
 use Rattle.tree_model.specs.System.{IsSystem, AreDistinct, core_names, part_names, no_part, part_at}
 use Rattle.tree_model.proofs.Distinct.{distinct_back}
 use Rattle.rt_top.specs.declared.status.Status.{Status}
-use Rattle.rt_top.specs.declared.status.Status.TheVariants.{BadFile}
+use Rattle.rt_top.specs.declared.answer.Ending.{Ending}
+use Rattle.rt_top.specs.declared.answer.Ending.TheVariants.{Answered, Unread, NoMemory as NoRoom}
 use Rattle.rt_top.specs.Answer.{IsOne}
+use Rattle.rt_top.specs.Attempt.{IsRefused}
 use Rattle.rt_top.specs.NamedLeaf.{IsLeafNamed, HasNoLeaf, finding, OnLeaf}
+use Rattle.rt_top.specs.Steps.{IfAnswered}
 use Rattle.rt_top.proofs.Attempt.{IsDecided, one_attempt}
 
 -- the names of the parts of a system are different
@@ -43,3 +46,12 @@ none_more sys name n none here q l found = elim (cases_eq q n) [
   | inl same ↦ here (subst (IsLeafNamed sys name) same found)
   | inr other ↦ none q (omega (arith, l, other)) found
 ]
+
+-- what was said of the leaf, and that there is none, is the answer to the system
+pub leaf_said : (sys : SystemView) (name : List ℕ) (Says : ℕ → Status → List ℕ → Type 0) (q : ℕ) (status : Status) (text : List ℕ) → IsLeafNamed sys name q → Says q status text → OnLeaf sys name Says status text
+leaf_said sys name Says q status text found said = inl (record { value = q; gives = found; said = said })
+
+pub leaf_refused : (sys : SystemView) (name : List ℕ) (Says : ℕ → Status → List ℕ → Type 0) (stop : Ending) → IfAnswered stop (λ a. IsRefused (finding sys name) a.status a.text.items) → IfAnswered stop (λ a. OnLeaf sys name Says a.status a.text.items)
+leaf_refused sys name Says (Answered a) refused = inr refused
+leaf_refused sys name Says Unread refused = tt
+leaf_refused sys name Says NoRoom refused = tt

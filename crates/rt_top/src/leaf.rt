@@ -1,6 +1,6 @@
-ghost use Rattle.std.specs.Prelude.{◌≡◌, ◌↔◌, true, IsTrue, IfOk, IfErr, IfSome, IfNone};
+ghost use Rattle.std.specs.Prelude.{◌≡◌, ◌↔◌, ◌<◌, length, true, IsTrue, IfOk, IfErr, IfSome, IfNone};
 ghost use Rattle.slot_model.specs.Task.{sporadic_tasks};
-ghost use Rattle.tree_model.specs.System.{is_leaf, own_tasks};
+ghost use Rattle.tree_model.specs.System.{is_leaf, own_tasks, part_at};
 ghost use Rattle.rt_top.specs.Attempt.{IsRefused};
 ghost use Rattle.rt_top.specs.NamedLeaf.{IsLeafNamed, HasNoLeaf, finding};
 ghost use Rattle.rt_top.specs.Steps.{IfAnswered, EndsJudged};
@@ -42,6 +42,14 @@ fn is_leaf_of(part: &Part, name: &str) -> bool
     ensures { IsTrue result ↔ ((is_leaf part.now.tasks ≡ true) × (part.now.name ≡ name.now)) }
 {
     part.is_leaf() && part.name().as_str() == name
+}
+
+/// The part at a place.
+pub fn part_at(sys: &System, q: u32) -> &Part
+    requires { q < length sys.now.parts }
+    ensures { result.now ≡ part_at sys.now q }
+{
+    &sys.parts()[q as usize]
 }
 
 /// The tasks of a leaf, in file order.

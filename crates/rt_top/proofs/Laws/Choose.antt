@@ -26,6 +26,10 @@ one_chosen sys low high q some = λ s t x y a b.
     let same : a.choice ≡ b.choice = one_choice (part_at sys q).sched (own_tasks_at sys q) low high some a.choice b.choice a.chosen b.chosen in
     (a.status_is ∙ ap choice_status same ∙ sym b.status_is, a.told ∙ ap (choice_text sys q) same ∙ sym b.told)
 
+-- the choice that is told
+pub told_chosen : (sys : SystemView) (low high q : ℕ) (status : Status) (text : List ℕ) (choice : Choice) → IsChoice (part_at sys q).sched (own_tasks_at sys q) low high choice → status ≡ choice_status choice → text ≡ choice_text sys q choice → IsChosen sys low high q status text
+told_chosen sys low high q status text choice chosen is told = record { choice = choice; chosen = chosen; status_is = is; told = told }
+
 -- its statuses
 of_choice : (P : Status → Type 0) → P Yes → P No → (choice : Choice) → P (choice_status choice)
 of_choice P at_yes at_no (Best period budget) = at_yes

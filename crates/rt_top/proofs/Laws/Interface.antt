@@ -1,5 +1,5 @@
 -- What `interface` answers: one thing, its statuses, and what it means.
-use Rattle.std.proofs.Common.{◌≡◌, ℕ, ◌<◌, ◌≤◌, List, refl, sym, ◌∙◌, ap, subst, inl, inr, arith}
+use Rattle.std.proofs.Common.{◌≡◌, ℕ, ◌<◌, ◌≤◌, List, None, refl, sym, ◌∙◌, ap, subst, inl, inr, arith}
 use Rattle.std.proofs.lemmas.Bool.{cases_lt}
 use Rattle.slot_model.specs.Task.{SporadicTask, AreConstrained}
 use Rattle.slot_model.specs.Supply.{GivesByDeadline}
@@ -15,6 +15,8 @@ use Rattle.edp_supply.specs.Least.{IsLeastExplicit}
 use Rattle.tree_model.specs.View.{SystemView}
 use Rattle.tree_model.specs.System.{IsSystem, part_at, own_tasks_at}
 use Rattle.tree_model.proofs.Parents.{leaf_constrained}
+use Rattle.rt_report.specs.declared.fault.FileFault.TheVariants.{BadDeadline}
+use Rattle.rt_report.specs.Fault.{fault_text}
 use Rattle.rt_top.specs.declared.status.Status.{Status}
 use Rattle.rt_top.specs.declared.status.Status.TheVariants.{Yes, No, Wide, BadFile}
 use Rattle.rt_top.specs.Answer.{Contents, IsOne}
@@ -37,6 +39,14 @@ one_at_deadline sys deadline q some = λ s t x y a b. elim (cases_lt (part_at sy
   | inl past ↦ (let p = a.past past in let r = b.past past in (p.0 ∙ sym r.0, p.1 ∙ sym r.1))
   | inr within ↦ one_interface sys q deadline some within s t x y (a.within within) (b.within within)
 ]
+
+-- a deadline past the period, and the least budget that is told
+pub told_past : (sys : SystemView) (deadline q : ℕ) (status : Status) (text : List ℕ) → (part_at sys q).period < deadline → status ≡ BadFile → text ≡ fault_text None BadDeadline 1 → AtDeadline sys deadline q status text
+told_past sys deadline q status text past is told = record { past = λ l. (is, told); within = λ m. absurd (omega (arith, past, m)) }
+
+pub told_within : (sys : SystemView) (deadline q : ℕ) (status : Status) (text : List ℕ) (answer : Least) → deadline ≤ (part_at sys q).period → IsLeastExplicit (part_at sys q).sched (own_tasks_at sys q) (part_at sys q).period deadline answer
+    → status ≡ least_status answer → text ≡ least_text sys q deadline answer → AtDeadline sys deadline q status text
+told_within sys deadline q status text answer within least is told = record { past = λ l. absurd (omega (arith, within, l)); within = λ m. record { answer = answer; least = least; status_is = is; told = told } }
 
 -- its statuses
 of_least : (P : Status → Type 0) → P Yes → P No → P Wide → (answer : Least) → P (least_status answer)

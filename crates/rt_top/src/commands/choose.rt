@@ -1,10 +1,11 @@
 ghost use Rattle.std.specs.Prelude.{◌≡◌, ◌<◌, List, ℕ, length, IfOk, refl};
 ghost use Rattle.rt_top.specs.Commands.{choose};
-ghost use Rattle.rt_top.specs.Commands.Choose.{choice_status, choice_text, ChoosesSystem};
+ghost use Rattle.rt_top.specs.Commands.Choose.{choice_status, choice_text, IsChosen, ChoosesSystem};
+ghost use Rattle.rt_top.specs.Steps.{IsJudged};
 
 use crate::Status;
 use crate::answer::{Answer, Ending};
-use crate::leaf::{find_leaf, leaf_tasks};
+use crate::leaf::{find_leaf, leaf_tasks, part_at};
 use crate::one_file::JudgeOne;
 use crate::periods::Periods;
 use period_choice::{Choice, choose};
@@ -27,13 +28,25 @@ impl JudgeOne for Choose<'_> {
 
     ghost laws = { λ s file. record { files = refl; answers = λ contents status text said. said } };
 
+    #[tactic(auto, using(crate::proofs::NamedLeaf::leaf_said, crate::proofs::NamedLeaf::leaf_refused))]
     fn judge(&self, alloc: Global, sys: &System) -> Result<Answer, Ending> {
         let q = find_leaf(alloc, sys, self.part)?;
-        let part = &sys.parts()[q as usize];
-        let tasks = leaf_tasks(alloc, part)?;
-        let choice = choose(part.sched(), &tasks, self.periods.low, self.periods.high);
-        Ok(told(alloc, sys, q, choice)?)
+        Ok(of_leaf(alloc, sys, q, self.periods)?)
     }
+}
+
+/// The answer for the leaf at place `q`.
+#[tactic(auto, using(crate::proofs::Laws::Choose::told_chosen))]
+fn of_leaf(alloc: Global, sys: &System, q: u32, periods: Periods) -> Result<Answer, AllocError>
+    requires { q < length sys.now.parts }
+    ensures answer { IfOk result
+        (λ a. IsChosen sys.now periods.low periods.high q a.status a.text.items) }
+    ensures judged { IfOk result (λ a. IsJudged a.status) }
+{
+    let part = part_at(sys, q);
+    let tasks = leaf_tasks(alloc, part)?;
+    let choice = choose(part.sched(), &tasks, periods.low, periods.high);
+    told(alloc, sys, q, choice)
 }
 
 /// The answer that tells a choice for the leaf at place `q`.
@@ -41,11 +54,12 @@ fn told(alloc: Global, sys: &System, q: u32, choice: Choice) -> Result<Answer, A
     requires { q < length sys.now.parts }
     ensures status { IfOk result (λ a. a.status ≡ choice_status choice) }
     ensures text { IfOk result (λ a. a.text.items ≡ choice_text sys.now q choice) }
+    ensures judged { IfOk result (λ a. IsJudged a.status) }
 {
     match choice {
         Choice::Best { period, budget } => Ok(Answer {
             status: Status::Yes,
-            text: best_text(alloc, &sys.parts()[q as usize], period, budget)?,
+            text: best_text(alloc, part_at(sys, q), period, budget)?,
         }),
         Choice::Nothing { over, wide } => Ok(Answer {
             status: Status::No,

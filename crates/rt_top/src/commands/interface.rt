@@ -1,11 +1,12 @@
 ghost use Rattle.std.specs.Prelude.{◌≡◌, ◌<◌, List, ℕ, length, IfOk, refl};
 ghost use Rattle.rt_top.specs.Commands.{interface};
-ghost use Rattle.rt_top.specs.Commands.Interface.{least_status, least_text, InterfacesSystem};
+ghost use Rattle.rt_top.specs.Commands.Interface.{least_status, least_text, AtDeadline, InterfacesSystem};
+ghost use Rattle.rt_top.specs.Steps.{IsJudged};
 
 use crate::Status;
 use crate::answer::{Answer, Ending};
 use crate::file::bad_file;
-use crate::leaf::{find_leaf, leaf_tasks};
+use crate::leaf::{find_leaf, leaf_tasks, part_at};
 use crate::one_file::JudgeOne;
 use crate::periods::Period;
 use crate::refusing::refuse;
@@ -30,17 +31,28 @@ impl JudgeOne for Interface<'_> {
 
     ghost laws = { λ s file. record { files = refl; answers = λ contents status text said. said } };
 
+    #[tactic(auto, using(crate::proofs::NamedLeaf::leaf_said, crate::proofs::NamedLeaf::leaf_refused))]
     fn judge(&self, alloc: Global, sys: &System) -> Result<Answer, Ending> {
         let q = find_leaf(alloc, sys, self.part)?;
-        let part = &sys.parts()[q as usize];
-        let deadline = self.deadline.slots;
-        if deadline > part.period() {
-            return Ok(bad_file(alloc, FileFault::BadDeadline, 1)?);
-        }
-        let tasks = leaf_tasks(alloc, part)?;
-        let least = least_explicit(part.sched(), &tasks, part.period(), deadline);
-        Ok(told(alloc, sys, q, deadline, least)?)
+        Ok(of_leaf(alloc, sys, q, self.deadline)?)
     }
+}
+
+/// The answer for the leaf at place `q`.
+#[tactic(auto, using(crate::proofs::Laws::Interface::told_past, crate::proofs::Laws::Interface::told_within))]
+fn of_leaf(alloc: Global, sys: &System, q: u32, deadline: Period) -> Result<Answer, AllocError>
+    requires { q < length sys.now.parts }
+    ensures answer { IfOk result
+        (λ a. AtDeadline sys.now deadline.slots q a.status a.text.items) }
+    ensures judged { IfOk result (λ a. IsJudged a.status) }
+{
+    let part = part_at(sys, q);
+    if deadline.slots > part.period() {
+        return bad_file(alloc, FileFault::BadDeadline, 1);
+    }
+    let tasks = leaf_tasks(alloc, part)?;
+    let least = least_explicit(part.sched(), &tasks, part.period(), deadline.slots);
+    told(alloc, sys, q, deadline.slots, least)
 }
 
 /// The answer that tells the least budget of the leaf at place `q`, or that it has none.
@@ -54,11 +66,12 @@ fn told(
     requires { q < length sys.now.parts }
     ensures status { IfOk result (λ a. a.status ≡ least_status least) }
     ensures text { IfOk result (λ a. a.text.items ≡ least_text sys.now q deadline least) }
+    ensures judged { IfOk result (λ a. IsJudged a.status) }
 {
     match least {
         Least::Budget(budget) => Ok(Answer {
             status: Status::Yes,
-            text: interface_text(alloc, &sys.parts()[q as usize], deadline, budget)?,
+            text: interface_text(alloc, part_at(sys, q), deadline, budget)?,
         }),
         Least::Over(short) => refuse(alloc, sys, Refusal::Overfull(Place::Part(q), short)),
         Least::Wide => refuse(alloc, sys, Refusal::Wide(Place::Part(q))),
