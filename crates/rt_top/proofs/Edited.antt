@@ -34,6 +34,10 @@ can_tell sys row Done now h = tt
 can_tell sys row (Refused fault) now h = tt
 can_tell sys row (Denied denied refusal) now h = refusal_told denied refusal h.2
 
+-- a plan has a budget a part
+pub one_budget_each : (sys : SystemView) (budgets : List ℕ) → Admitted sys budgets → length budgets ≡ length sys.parts
+one_budget_each sys budgets h = h.assigned.one_each
+
 -- before the first row
 pub none_edited : (t : Editing) → HasEdited t t []
 none_edited t = record { answers = []; answered = (refl, refl); told = sym (append-nil (string_bytes t.text)) }

@@ -70,6 +70,7 @@ impl Editing {
     }
 
     /// The whole text, with the plan of the system that the rows left.
+    #[tactic(auto, using(crate::proofs::Edited::one_budget_each))]
     fn finish(self) -> Result<Vec<u8>, AllocError>
         ensures { IfOk result (λ text. (budgets : List ℕ) × Admitted self.session budgets
             × (text.items ≡ string_bytes self.text

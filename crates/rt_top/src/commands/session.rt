@@ -41,7 +41,7 @@ impl JudgeTwo for Editor {
     fn judge(&self, alloc: Global, sys: &System, bytes: &[u8]) -> Result<Answer, Ending> {
         let copy = copy_system(alloc, sys)?;
         match Session::open(alloc, copy) {
-            Ok(session) => edited(alloc, sys, session, bytes),
+            Ok(opened) => edited(alloc, sys, opened, bytes),
             Err((_, Refusal::NoMemory)) => Err(Ending::NoMemory),
             Err((_, refusal)) => {
                 spelled_script(alloc, bytes)?;
@@ -52,14 +52,14 @@ impl JudgeTwo for Editor {
 }
 
 // The answers of a session of the system to the rows of a script.
-fn edited(alloc: Global, sys: &System, session: Session, bytes: &[u8]) -> Result<Answer, Ending>
-    requires session { session ≡ sys.now }
+fn edited(alloc: Global, sys: &System, opened: Session, bytes: &[u8]) -> Result<Answer, Ending>
+    requires same { opened ≡ sys.now }
     requires admitted { IsAdmitted sys.now }
     ensures answer { IfAnswered (ending_of result)
         (λ a. EditsBytes sys.now bytes.now a.status a.text.items) }
     ensures judged { EndsJudged (ending_of result) }
 {
-    match edit_all(alloc, session, bytes) {
+    match edit_all(alloc, opened, bytes) {
         Ok(text) => Ok(Answer {
             status: Status::Yes,
             text,
