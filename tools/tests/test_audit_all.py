@@ -113,7 +113,7 @@ class Pieces(Case):
             "vcpu B begun=4 judged=4 short=0 over=0 least_ns=6000 most_ns=8000"], ""))
 
     def test_random_recordings_are_answered_as_the_whole(self):
-        for seed in range(24):
+        for seed in range(12):
             rng = random.Random(seed)
             _, parts = test_split.random_parts(rng)
             text = test_split.random_trace(parts, rng)
