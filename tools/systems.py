@@ -18,6 +18,8 @@ HERE = pathlib.Path(__file__).resolve().parent
 MOST_STEPS = 20_000
 NO_LINE = re.compile(r"overfull (part|core) (\S+) (?:at=(\d+)|task=(\S+))")
 PART_LINE = re.compile(r"part (\S+) period=(\d+) budget=(\d+) (given|computed)")
+BROKEN_LINE = re.compile(r"(short|over) (\S+) from_ns=(\d+) got_ns=(\d+) of_ns=(\d+)")
+TALLY_LINE = re.compile(r"vcpu (\S+) begun=(\d+) judged=(\d+) short=(\d+) over=(\d+) least_ns=(\d+|-) most_ns=(\d+|-)")
 SCHEDS = {"edf": "earliest deadline first", "rm": "rate monotonic", "dm": "deadline monotonic", "listed": "in the order of the file"}
 CHANGE = re.compile(r"([^.=]+)\.(?:(period|budget|parent)|([^.=]+)\.(work))=([^.=]+)")
 KEYS = {"core": ("name", "sched", "supply_period", "supply_budget"), "part": ("name", "parent", "sched", "period", "budget", "extra")}

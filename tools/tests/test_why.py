@@ -5,7 +5,6 @@ import io
 import math
 import pathlib
 import tempfile
-import time
 import tomllib
 import unittest
 
