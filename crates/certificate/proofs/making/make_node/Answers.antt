@@ -11,7 +11,7 @@ use Rattle.tree_model.proofs.Levels.{of_level, cycle_range, budget_range, budget
 use Rattle.certificate.specs.Made.{ListsPass, ListsLeast}
 use Rattle.certificate.proofs.Nodes.{none_of, none_is, not_less, node_made}
 use Rattle.certificate.proofs.making.make_node.Goals as goal
-use Rattle.certificate.proofs.making.make_node.Goals.{After-write_tasks-count}
+use Rattle.certificate.proofs.making.make_node.Goals.{After-write_tasks-count, After-budget-budget}
 
 pub node_supply-supply-requires-clause-in_period : goal.node_supply-supply-requires-clause-in_period
 node_supply-supply-requires-clause-in_period c =
@@ -37,29 +37,29 @@ pub pass_lists-requires-clause-passes : goal.pass_lists-requires-clause-passes
 pass_lists-requires-clause-passes c = (tested (goal.at.pass_lists-requires-clause-passes c).After-write_tasks-count).1
 
 -- the numbers of the supply
-period_is : (c : goal.After-budget-budget) → c.cycle-period.result ≡ node_cycle c.args.sys.now c.args.place
+period_is : (c : After-budget-budget) → c.cycle-period.result ≡ node_cycle c.args.sys.now c.args.place
 period_is c = c.cycle-period.ensures ∙ c.node_supply-supply.ensures.cycle
 
-budget_is : (c : goal.After-budget-budget) → c.budget-budget.result ≡ node_budget c.args.sys.now c.args.budgets.now c.args.place
+budget_is : (c : After-budget-budget) → c.budget-budget.result ≡ node_budget c.args.sys.now c.args.budgets.now c.args.place
 budget_is c = c.budget-budget.ensures ∙ c.node_supply-supply.ensures.budget
 
-in_period : (c : goal.After-budget-budget) → (1 ≤ c.budget-budget.result) × (c.budget-budget.result ≤ c.cycle-period.result)
+in_period : (c : After-budget-budget) → (1 ≤ c.budget-budget.result) × (c.budget-budget.result ≤ c.cycle-period.result)
 in_period c =
     let range = budget_range c.args.sys.now c.sched_of-sched.ensures.system c.args.budgets.now (admitted_in_period c.args.sys.now c.sched_of-sched.ensures.system c.args.budgets.now c.requires.admitted) c.args.place c.requires.is_node in
     (omega (arith, range, budget_is c), omega (arith, range, budget_is c, period_is c))
 
-computed_is : (c : goal.After-budget-budget) → c.is_none-computed.result ≡ is_none (given_budget c.args.sys.now c.args.place)
+computed_is : (c : After-budget-budget) → c.is_none-computed.result ≡ is_none (given_budget c.args.sys.now c.args.place)
 computed_is c = none_of c.budget_of.result _ c.is_none-computed.result c.is_none-computed.ensures c.budget_of.ensures
 
 pub least_lists-requires-clause-some_budget : goal.least_lists-requires-clause-some_budget
-least_lists-requires-clause-some_budget c = (in_period (goal.at.least_lists-requires-clause-some_budget c).After-budget-budget).0
+least_lists-requires-clause-some_budget c = (in_period c).0
 
 pub least_lists-requires-clause-in_period : goal.least_lists-requires-clause-in_period
-least_lists-requires-clause-in_period c = (in_period (goal.at.least_lists-requires-clause-in_period c).After-budget-budget).1
+least_lists-requires-clause-in_period c = (in_period c).1
 
 pub least_lists-requires-clause-in_limit : goal.least_lists-requires-clause-in_limit
 least_lists-requires-clause-in_limit c =
-    omega (arith, period_is (goal.at.least_lists-requires-clause-in_limit c).After-budget-budget, (cycle_range c.args.sys.now c.sched_of-sched.ensures.system c.args.place c.requires.is_node).1)
+    omega (arith, period_is c, (cycle_range c.args.sys.now c.sched_of-sched.ensures.system c.args.place c.requires.is_node).1)
 
 pub least_lists-requires-clause-small : goal.least_lists-requires-clause-small
 least_lists-requires-clause-small c =
@@ -69,9 +69,9 @@ least_lists-requires-clause-small c =
 pub least_lists-requires-clause-least : goal.least_lists-requires-clause-least
 least_lists-requires-clause-least c =
     let sys = c.args.sys.now in let budgets = c.args.budgets.now in let place = c.args.place in
-    let here = (goal.at.least_lists-requires-clause-least c).After-budget-budget in
-    λ yes passes.
-    not_less sys c.sched_of-sched.ensures.system budgets c.requires.admitted place c.requires.is_node (none_is (given_budget sys place) (sym (computed_is here) ∙ yes))
+    let here = c in
+    λ t passes.
+    not_less sys c.sched_of-sched.ensures.system budgets c.requires.admitted place c.requires.is_node (none_is (given_budget sys place) (sym (computed_is here) ∙ t))
     (of_level (λ s T f m. Passes s T f) c.sched_of-sched.ensures.sched c.write_tasks-count.ensures.tasks
     (ap (λ (p : ℕ). sbf p (c.budget-budget.result - 1)) (period_is here) ∙ ap (λ (b : ℕ). sbf (node_cycle sys place) (b - 1)) (budget_is here)) (period_is here) passes)
 
