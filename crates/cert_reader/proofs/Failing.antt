@@ -1,18 +1,13 @@
 -- The flaw of a node under its own scheduler, tasks and supply; and a certificate with a flaw
 -- proves nothing.
-use Rattle.std.proofs.Common.{◌≡◌, ◌≢◌, ℕ, Bool, List, length, Option, sym, ◌∙◌, ap, subst, refl, inl, inr, rules, ◌↔◌, Result, Ok, Err, IsOk, IfOk, IfErr}
+use Rattle.std.proofs.Common.{◌≡◌, ◌≢◌, ℕ, Bool, List, length, ◌∙◌, subst, refl, inl, inr, rules, ◌↔◌, Result, Ok, Err, IsOk, IfOk, IfErr}
 use Rattle.slot_model.specs.declared.sched.Sched.{Sched}
 use Rattle.slot_model.specs.declared.sched.Sched.TheVariants.{Edf, Rm, Dm, Listed}
 use Rattle.slot_model.specs.Task.{SporadicTask}
 use Rattle.slot_model.specs.Order.{ranks_above}
-use Rattle.slot_model.specs.Bound.{sbf}
-use Rattle.tree_model.specs.declared.pinned_core.Core.{Core as CoreView}
-use Rattle.tree_model.specs.declared.place.Place.{Place}
-use Rattle.tree_model.specs.declared.place.Place.TheVariants.{Core, Part}
 use Rattle.tree_model.specs.CertificateView.{NodeView}
-use Rattle.tree_model.specs.View.{PartView, SystemView}
-use Rattle.tree_model.specs.System.{core_at, part_at}
-use Rattle.tree_model.specs.Tree.{core_bound, core_cycle, budget_at, node_tasks, node_sched, node_bound, node_cycle}
+use Rattle.tree_model.specs.View.{SystemView}
+use Rattle.tree_model.specs.Tree.{node_tasks, node_sched, node_bound, node_cycle}
 use Rattle.cert_reader.specs.declared.flaw.Flaw.{Flaw}
 use Rattle.cert_reader.specs.declared.flaw.Flaw.TheVariants.{Nodes, Budget, Cover, Hit, Least, Wide}
 use Rattle.cert_reader.specs.Proves.{node_at, AreNodes, AreHits, ShowsPass, IsShown, NodeProves, Proves, budgets_of}

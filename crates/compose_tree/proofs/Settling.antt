@@ -10,7 +10,7 @@ use Rattle.tree_model.specs.declared.plan.Refusal.{Refusal}
 use Rattle.tree_model.specs.declared.plan.Refusal.TheVariants.{Overfull, Wide, NoMemory}
 use Rattle.tree_model.specs.View.{SystemView}
 use Rattle.tree_model.specs.System.{IsSystem, part_at}
-use Rattle.tree_model.specs.Tree.{IsNode, budget_at, node_tasks, node_sched, node_bound, node_cycle, given_budget}
+use Rattle.tree_model.specs.Tree.{IsNode, budget_at, node_tasks, node_sched, node_cycle, given_budget}
 use Rattle.tree_model.specs.Admission.{NodePasses, IsGivenOrLeast, BudgetStands, AssignedFrom, Assigned, Admitted, VisitedBefore, visited_from, SettledBefore, refusing_bound, FirstRefusal, FirstUnassigned}
 use Rattle.tree_model.proofs.Parents.{part_tasks_same}
 use Rattle.tree_model.proofs.Unique.{never_both, never_assigned}

@@ -1,4 +1,4 @@
-use Rattle.std.proofs.Common.{◌≡◌, ℕ, ◌≤◌, ◌-◌, true, List, take, Option, None, sym, ◌∙◌, ap, subst, refl, arith}
+use Rattle.std.proofs.Common.{◌≡◌, ℕ, ◌≤◌, ◌-◌, List, take, sym, ◌∙◌, ap, subst, refl, arith}
 use Rattle.std.specs.Prelude.{is_none}
 use Rattle.slot_model.specs.declared.sched.Sched.{Sched}
 use Rattle.slot_model.specs.Task.{SporadicTask, sporadic_tasks}
@@ -69,11 +69,10 @@ least_lists-requires-clause-small c =
 pub least_lists-requires-clause-least : goal.least_lists-requires-clause-least
 least_lists-requires-clause-least c =
     let sys = c.args.sys.now in let budgets = c.args.budgets.now in let place = c.args.place in
-    let here = c in
     λ t passes.
-    not_less sys c.sched_of-sched.ensures.system budgets c.requires.admitted place c.requires.is_node (none_is (given_budget sys place) (sym (computed_is here) ∙ t))
+    not_less sys c.sched_of-sched.ensures.system budgets c.requires.admitted place c.requires.is_node (none_is (given_budget sys place) (sym (computed_is c) ∙ t))
     (of_level (λ s T f m. Passes s T f) c.sched_of-sched.ensures.sched c.write_tasks-count.ensures.tasks
-    (ap (λ (p : ℕ). sbf p (c.budget-budget.result - 1)) (period_is here) ∙ ap (λ (b : ℕ). sbf (node_cycle sys place) (b - 1)) (budget_is here)) (period_is here) passes)
+    (ap (λ (p : ℕ). sbf p (c.budget-budget.result - 1)) (period_is c) ∙ ap (λ (b : ℕ). sbf (node_cycle sys place) (b - 1)) (budget_is c)) (period_is c) passes)
 
 pub returns-clause-made : goal.returns-clause-made
 returns-clause-made c =

@@ -1,8 +1,6 @@
-use Rattle.std.proofs.Common.{ℕ, List, refl}
+use Rattle.std.proofs.Common.{refl}
 use Rattle.std.proofs.lemmas.Result.{IfOk-weaker, IfErr-weaker}
-use Rattle.slot_model.specs.declared.sched.Sched.{Sched}
 use Rattle.slot_model.specs.Bound.{TestPasses}
-use Rattle.slot_model.specs.Task.{SporadicTask}
 use Rattle.tree_model.specs.declared.place.Place.TheVariants.{Core}
 use Rattle.tree_model.proofs.InRange.{children_fit}
 use Rattle.tree_model.proofs.Levels.{of_level}

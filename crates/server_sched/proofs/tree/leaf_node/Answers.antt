@@ -4,7 +4,6 @@ use Rattle.slot_model.specs.Run.{guest}
 use Rattle.slot_model.specs.Miss.{HoldsReleased}
 use Rattle.guest_sched.specs.declared.spans.Span.{Span}
 use Rattle.guest_sched.specs.Spans.{Window, slots_of, run_of}
-use Rattle.tree_model.specs.declared.place.Place.TheVariants.{Part}
 use Rattle.tree_model.specs.System.{own_tasks_at}
 use Rattle.tree_model.proofs.NodeTasks.{leaf_tasks}
 use Rattle.span_counts.specs.Counts.{AreCounts}
