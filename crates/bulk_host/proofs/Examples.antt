@@ -12,7 +12,9 @@ use Rattle.bulk_host.specs.Host.{bulk_host, bulk_budgets, full_jobs}
 first_guest : (part_at (bulk_host 1) 0).period ≡ 1000
 first_guest = refl
 
-first_tasks : (part_at (bulk_host 1) 0).tasks ≡ record { name = codes "a"; task = plain_task 10000 10000 250 } ∷ record { name = codes "b"; task = plain_task 20000 20000 500 } ∷ []
+first_tasks : (part_at (bulk_host 1) 0).tasks
+    ≡ record { name = codes "a"; task = plain_task 10000 10000 250 }
+    ∷ record { name = codes "b"; task = plain_task 20000 20000 500 } ∷ []
 first_tasks = refl
 
 -- the ninth guest stands on the second core, under earliest deadline first, and the second guest
@@ -29,7 +31,8 @@ eighth_guest = refl
 second_rule : (part_at (bulk_host 9) 1).sched ≡ Rm
 second_rule = refl
 
-cores : length (bulk_host 1).cores ∷ length (bulk_host 8).cores ∷ length (bulk_host 9).cores ∷ length (bulk_host 256).cores ∷ [] ≡ 1 ∷ 1 ∷ 2 ∷ 32 ∷ []
+cores : length (bulk_host 1).cores ∷ length (bulk_host 8).cores ∷ length (bulk_host 9).cores
+    ∷ length (bulk_host 256).cores ∷ [] ≡ 1 ∷ 1 ∷ 2 ∷ 32 ∷ []
 cores = refl
 
 -- the budgets of four guests and of one more
@@ -39,8 +42,24 @@ budgets = refl
 -- two tasks of periods of 2 and 3 slots, the second with a jitter of 1, and their jobs in five,
 -- each of which is released as it arrives
 small : SystemView
-small = record { cores = []; parts = record { name = codes "g"; parent = Core 0; sched = Edf; period = 2; budget = None; extra = false; tasks = record { name = codes "a"; task = plain_task 2 2 1 } ∷ record { name = codes "b"; task = jittery_task 3 3 2 1 } ∷ [] } ∷ [] }
+small =
+    record {
+      cores = [];
+      parts =
+          record {
+            name = codes "g";
+            parent = Core 0;
+            sched = Edf;
+            period = 2;
+            budget = None;
+            extra = false;
+            tasks =
+                record { name = codes "a"; task = plain_task 2 2 1 }
+                ∷ record { name = codes "b"; task = jittery_task 3 3 2 1 } ∷ [];
+          } ∷ [];
+    }
 
-jobs_in_five : full_jobs small 5 ≡ (plain_job 0 0 1 ∷ plain_job 1 0 2 ∷ plain_job 0 2 1 ∷ plain_job 1 3 2 ∷ plain_job 0 4 1 ∷ []) ∷ []
+jobs_in_five : full_jobs small 5
+    ≡ (plain_job 0 0 1 ∷ plain_job 1 0 2 ∷ plain_job 0 2 1 ∷ plain_job 1 3 2 ∷ plain_job 0 4 1 ∷ []) ∷ []
 unfolding small staggered_at staggered
 jobs_in_five = refl

@@ -22,7 +22,9 @@ abbrev pub kind_server : ℕ → SporadicTask
 kind_server r = plain_task (kind_period r) (kind_period r) (kind_budget r)
 
 server_here : (n q : ℕ) → q < n → server_task (bulk_host n) (bulk_budgets n) q ≡ kind_server (q % 4)
-server_here n q l = ap (λ (p : PartView). plain_task p.period p.period (budget_at (bulk_budgets n) q)) (guest_here n q l) ∙ ap (λ (b : ℕ). plain_task (guest_period q) (guest_period q) b) (budget_here n q l)
+server_here n q l =
+    ap (λ (p : PartView). plain_task p.period p.period (budget_at (bulk_budgets n) q)) (guest_here n q l)
+    ∙ ap (λ (b : ℕ). plain_task (guest_period q) (guest_period q) b) (budget_here n q l)
 
 -- how many of the first m guests stand on core c, and the servers of the first k guests of a core
 abbrev pub guests_on : ℕ → ℕ → ℕ
@@ -53,20 +55,27 @@ rank_here n q l =
     ∙ (counted_on n (q / 8) q (omega arith) ∙ omega arith)
 
 servers_to : (n c m : ℕ) → m ≤ n → child_tasks (bulk_host n) (bulk_budgets n) (Core c) m ≡ core_servers (guests_on m c)
-servers_to n c zero l = child_tasks-zero (bulk_host n) (bulk_budgets n) (Core c) ∙ ap core_servers (let e : 0 ≡ guests_on 0 c = omega arith in e)
+servers_to n c zero l =
+    child_tasks-zero (bulk_host n) (bulk_budgets n) (Core c)
+    ∙ ap core_servers (let e : 0 ≡ guests_on 0 c = omega arith in e)
 servers_to n c (suc m) l =
     let tasks : List SporadicTask = core_servers (guests_on m c) in
-    let before : child_tasks (bulk_host n) (bulk_budgets n) (Core c) (suc m) ≡ push_if tasks (eqb (m / 8) c) (kind_server (m % 4)) =
+    let before : child_tasks (bulk_host n) (bulk_budgets n) (Core c) (suc m)
+    ≡ push_if tasks (eqb (m / 8) c) (kind_server (m % 4))
+    =
     child_tasks-suc (bulk_host n) (bulk_budgets n) (Core c) m
-    ∙ (ap (λ (ts : List SporadicTask). push_if ts (is_child (bulk_host n) (Core c) m) (server_task (bulk_host n) (bulk_budgets n) m)) (servers_to n c m (omega arith))
-    ∙ (ap (λ (b : Bool). push_if tasks b (server_task (bulk_host n) (bulk_budgets n) m)) (child_here n c m (omega arith))
+    ∙ (ap (λ (ts : List SporadicTask). push_if ts (is_child (bulk_host n) (Core c) m)
+    (server_task (bulk_host n) (bulk_budgets n) m)) (servers_to n c m (omega arith))
+    ∙ (ap (λ (b : Bool). push_if tasks b (server_task (bulk_host n) (bulk_budgets n) m))
+    (child_here n c m (omega arith))
     ∙ ap (push_if tasks (eqb (m / 8) c)) (server_here n m (omega arith)))) in
     elim (cases_eq (m / 8) c) [
       | inl is ↦
           before
           ∙ (ap (λ (b : Bool). push_if tasks b (kind_server (m % 4))) (eq-eqb (m / 8) c is)
           ∙ (ap (λ (r : ℕ). tasks ++ kind_server r ∷ []) (let e : m % 4 ≡ guests_on m c % 4 = omega arith in e)
-          ∙ (sym (map-range_with_len_more (λ (i : ℕ). kind_server (i % 4)) 0 (guests_on m c) (guests_on m c) (omega arith))
+          ∙ (sym (map-range_with_len_more (λ (i : ℕ). kind_server (i % 4)) 0 (guests_on m c) (guests_on m c)
+          (omega arith))
           ∙ ap core_servers (let e : guests_on m c + 1 ≡ guests_on (suc m) c = omega arith in e))))
       | inr isnt ↦
           before
@@ -75,4 +84,5 @@ servers_to n c (suc m) l =
     ]
 
 pub servers_here : (n c : ℕ) → server_tasks (bulk_host n) (bulk_budgets n) (Core c) ≡ core_servers (guests_on n c)
-servers_here n c = ap (child_tasks (bulk_host n) (bulk_budgets n) (Core c)) (guests-many n) ∙ servers_to n c n (omega arith)
+servers_here n c =
+    ap (child_tasks (bulk_host n) (bulk_budgets n) (Core c)) (guests-many n) ∙ servers_to n c n (omega arith)

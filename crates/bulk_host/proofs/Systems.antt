@@ -23,29 +23,39 @@ third false true e f h = refl
 third false false e f h = cc
 
 digit_goes_on : (d : ℕ) → 48 ≤ d → d ≤ 57 → is_name_byte d ≡ true
-digit_goes_on d l m = third (is_letter d) (leb 48 d && leb d 57) (eqb d 95) (eqb d 45) (and_from (leb 48 d) (leb d 57) (le-leb 48 d l) (le-leb d 57 m))
+digit_goes_on d l m =
+    third (is_letter d) (leb 48 d && leb d 57) (eqb d 95) (eqb d 45)
+    (and_from (leb 48 d) (leb d 57) (le-leb 48 d l) (le-leb d 57 m))
 
 digits_go_on : (ds : List ℕ) → AllDigits 10 ds → list_all is_name_byte ds ≡ true
 digits_go_on [] h = refl
 digits_go_on (d ∷ ds) h =
     let at = digit_at (d ∷ ds) 0 h (let some : 0 < length (d ∷ ds) = omega arith in some) in
-    and_from (is_name_byte d) (list_all is_name_byte ds) (digit_goes_on d (omega (arith, at)) (omega (arith, at))) (digits_go_on ds h.1)
+    and_from (is_name_byte d) (list_all is_name_byte ds) (digit_goes_on d (omega (arith, at)) (omega (arith, at)))
+    (digits_go_on ds h.1)
 
 -- the texts of cores and guests are names
-lettered : (b : ℕ) (ds : List ℕ) → is_letter b ≡ true → is_name_byte b ≡ true → list_all is_name_byte ds ≡ true → length ds ≤ 3 → is_name (b ∷ ds) ≡ true
+lettered : (b : ℕ) (ds : List ℕ) → is_letter b ≡ true → is_name_byte b ≡ true → list_all is_name_byte ds ≡ true
+    → length ds ≤ 3 → is_name (b ∷ ds) ≡ true
 lettered b ds first goes rest few =
-    and_from (leb 1 (length (b ∷ ds)) && leb (length (b ∷ ds)) 32 && is_letter b) (is_name_byte b && list_all is_name_byte ds)
-    (and_from (leb 1 (length (b ∷ ds)) && leb (length (b ∷ ds)) 32) (is_letter b) (and_from (leb 1 (length (b ∷ ds))) (leb (length (b ∷ ds)) 32) (le-leb 1 (length (b ∷ ds)) (omega arith)) (le-leb (length (b ∷ ds)) 32 (omega arith))) first)
+    and_from (leb 1 (length (b ∷ ds)) && leb (length (b ∷ ds)) 32 && is_letter b)
+    (is_name_byte b && list_all is_name_byte ds)
+    (and_from (leb 1 (length (b ∷ ds)) && leb (length (b ∷ ds)) 32) (is_letter b)
+    (and_from (leb 1 (length (b ∷ ds))) (leb (length (b ∷ ds)) 32) (le-leb 1 (length (b ∷ ds)) (omega arith))
+    (le-leb (length (b ∷ ds)) 32 (omega arith))) first)
     (and_from (is_name_byte b) (list_all is_name_byte ds) goes rest)
 
 number_goes_on : (n : ℕ) → n < 256 → list_all is_name_byte (decimal n) ≡ true
 number_goes_on n l = digits_go_on (decimal n) (decimal_is_IsNumeral n (omega arith)).0.1
 
 pub core_name : (c : ℕ) → c < 256 → is_name (99 ∷ decimal c) ≡ true
-core_name c l = lettered 99 (decimal c) refl refl (number_goes_on c l) (length-decimal-le 3 c (lit< tt) (omega arith) (omega arith))
+core_name c l =
+    lettered 99 (decimal c) refl refl (number_goes_on c l) (length-decimal-le 3 c (lit< tt) (omega arith) (omega arith))
 
 pub guest_name : (i : ℕ) → i < 256 → is_name (103 ∷ decimal i) ≡ true
-guest_name i l = lettered 103 (decimal i) refl refl (number_goes_on i l) (length-decimal-le 3 i (lit< tt) (omega arith) (omega arith))
+guest_name i l =
+    lettered 103 (decimal i) refl refl (number_goes_on i l)
+    (length-decimal-le 3 i (lit< tt) (omega arith) (omega arith))
 
 -- the core and the guest at a place
 pub core_here : (n c : ℕ) → c < cores_for n → core_at (bulk_host n) c ≡ host_core c
@@ -64,17 +74,22 @@ name_of_core : (n i : ℕ) (d : List ℕ) → i < cores_for n → get_or (node_n
 name_of_core n i d l =
     let cs : List (List ℕ) = core_names (bulk_host n).cores in
     let ps : List (List ℕ) = part_names (bulk_host n).parts in
-    get_or_append_left cs ps d i (omega (arith, length-map (bulk_host n).cores (λ (c : CoreView). c.name), cores-many n))
-    ∙ (get_or-map (λ (c : CoreView). c.name) (bulk_host n).cores i no_core d (omega (arith, cores-many n)) ∙ ap (λ (c : CoreView). c.name) (core_here n i l))
+    get_or_append_left cs ps d i
+    (omega (arith, length-map (bulk_host n).cores (λ (c : CoreView). c.name), cores-many n))
+    ∙ (get_or-map (λ (c : CoreView). c.name) (bulk_host n).cores i no_core d (omega (arith, cores-many n))
+    ∙ ap (λ (c : CoreView). c.name) (core_here n i l))
 
-name_of_guest : (n i : ℕ) (d : List ℕ) → cores_for n ≤ i → i < cores_for n + n → get_or (node_names (bulk_host n)) i d ≡ codes "g" ++ decimal (i - cores_for n)
+name_of_guest : (n i : ℕ) (d : List ℕ) → cores_for n ≤ i → i < cores_for n + n
+    → get_or (node_names (bulk_host n)) i d ≡ codes "g" ++ decimal (i - cores_for n)
 name_of_guest n i d l m =
     let cs : List (List ℕ) = core_names (bulk_host n).cores in
     let ps : List (List ℕ) = part_names (bulk_host n).parts in
     let long : length cs ≡ cores_for n = length-map (bulk_host n).cores (λ (c : CoreView). c.name) ∙ cores-many n in
     get_or-append_right cs ps (length cs) i d refl (omega (arith, long))
-    ∙ (get_or-map (λ (p : PartView). p.name) (bulk_host n).parts (i - length cs) no_part d (omega (arith, long, guests-many n))
-    ∙ (ap (λ (p : PartView). p.name) (guest_here n (i - length cs) (omega (arith, long))) ∙ ap (λ (z : ℕ). codes "g" ++ decimal z) (omega (arith, long))))
+    ∙ (get_or-map (λ (p : PartView). p.name) (bulk_host n).parts (i - length cs) no_part d
+    (omega (arith, long, guests-many n))
+    ∙ (ap (λ (p : PartView). p.name) (guest_here n (i - length cs) (omega (arith, long)))
+    ∙ ap (λ (z : ℕ). codes "g" ++ decimal z) (omega (arith, long))))
 
 tail_same : (a : ℕ) (xs ys : List ℕ) → a ∷ xs ≡ a ∷ ys → xs ≡ ys
 tail_same a xs ys e = cc
@@ -89,14 +104,34 @@ distinct : (n : ℕ) → n ≤ 256 → AreDistinct (node_names (bulk_host n))
 distinct n few i j d l h e =
     let cs : List (List ℕ) = core_names (bulk_host n).cores in
     let ps : List (List ℕ) = part_names (bulk_host n).parts in
-    let long : j < cores_for n + n = omega (arith, h, length-append cs ps, length-map (bulk_host n).cores (λ (c : CoreView). c.name), cores-many n, length-map (bulk_host n).parts (λ (p : PartView). p.name), guests-many n) in
+    let long : j < cores_for n + n
+    = omega (
+      arith,
+      h,
+      length-append cs ps,
+      length-map (bulk_host n).cores (λ (c : CoreView). c.name),
+      cores-many n,
+      length-map (bulk_host n).parts (λ (p : PartView). p.name),
+      guests-many n,
+    ) in
     elim (cases_lt j (cores_for n)) [
       | inl core ↦
-          (let same = decimal_injective i j (omega arith) (omega arith) (tail_same 99 (decimal i) (decimal j) (sym (name_of_core n i d (omega arith)) ∙ (e ∙ name_of_core n j d core))) in omega arith)
+          (
+          let same
+          = decimal_injective i j (omega arith) (omega arith) (tail_same 99 (decimal i) (decimal j)
+          (sym (name_of_core n i d (omega arith)) ∙ (e ∙ name_of_core n j d core))) in
+          omega arith)
       | inr guest ↦ elim (cases_lt i (cores_for n)) [
-        | inl core ↦ heads_differ (decimal i) (decimal (j - cores_for n)) (sym (name_of_core n i d core) ∙ (e ∙ name_of_guest n j d guest long))
+        | inl core ↦
+            heads_differ (decimal i) (decimal (j - cores_for n))
+            (sym (name_of_core n i d core) ∙ (e ∙ name_of_guest n j d guest long))
         | inr other ↦
-            (let same = decimal_injective (i - cores_for n) (j - cores_for n) (omega arith) (omega arith) (tail_same 103 (decimal (i - cores_for n)) (decimal (j - cores_for n)) (sym (name_of_guest n i d other (omega arith)) ∙ (e ∙ name_of_guest n j d guest long))) in omega arith)
+            (
+            let same
+            = decimal_injective (i - cores_for n) (j - cores_for n) (omega arith) (omega arith)
+            (tail_same 103 (decimal (i - cores_for n)) (decimal (j - cores_for n))
+            (sym (name_of_guest n i d other (omega arith)) ∙ (e ∙ name_of_guest n j d guest long))) in
+            omega arith)
       ]
     ]
 
@@ -131,11 +166,16 @@ host_is_system n some few = record {
   few_cores = omega (arith, cores-many n);
   few_parts = omega (arith, guests-many n);
   names = distinct n few;
-  supplies = λ c l. subst (λ (core : CoreView). IsCoreSupply core.supply) (sym (core_here n c (omega (arith, cores-many n)))) tt;
+  supplies =
+      λ c l. subst (λ (core : CoreView). IsCoreSupply core.supply) (sym (core_here n c (omega (arith, cores-many n))))
+      tt;
   parts = λ q l. subst IsPart (sym (guest_here n q (omega (arith, guests-many n)))) (guest_is_part q);
-  parents = λ q l. subst (λ (part : PartView). Stands (bulk_host n) q part.parent) (sym (guest_here n q (omega (arith, guests-many n)))) (omega (arith, cores-many n, guests-many n));
+  parents =
+      λ q l. subst (λ (part : PartView). Stands (bulk_host n) q part.parent)
+      (sym (guest_here n q (omega (arith, guests-many n)))) (omega (arith, cores-many n, guests-many n));
   not_empty = λ q l e. absurd (leaf q (omega (arith, guests-many n)) e);
 }
   where
     leaf : (q : ℕ) → q < n → is_leaf_at (bulk_host n) q ≡ false → ⊥
-    leaf q l e = let is : is_leaf_at (bulk_host n) q ≡ true = ap (λ (p : PartView). is_leaf p.tasks) (guest_here n q l) in cc
+    leaf q l e =
+        let is : is_leaf_at (bulk_host n) q ≡ true = ap (λ (p : PartView). is_leaf p.tasks) (guest_here n q l) in cc

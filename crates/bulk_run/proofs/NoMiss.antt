@@ -35,31 +35,53 @@ use Rattle.bulk_run.specs.Summary.{bulk_slots, bulk_supplies, bulk_jobs, core_mi
 use Rattle.bulk_run.proofs.HostRun.{leaf_here, host_releases, supply_here, supply_long}
 
 -- a run in which no job is lost misses none
-none_missed : (tasks : List SporadicTask) (jobs : List Job) (run : List (Option ℕ)) → AreConstrained tasks → LegalRelease tasks jobs → ((j x : ℕ) → Lost tasks jobs run j x → ⊥) → NoneMissed tasks jobs run
-none_missed tasks jobs run fits legal none = λ j miss. none j (deadline_of tasks (job_at jobs j)) (missed_is_lost tasks jobs run j (early_in_deadline tasks jobs fits legal j miss.is_job) miss)
+none_missed : (tasks : List SporadicTask) (jobs : List Job) (run : List (Option ℕ)) → AreConstrained tasks
+    → LegalRelease tasks jobs → ((j x : ℕ) → Lost tasks jobs run j x → ⊥) → NoneMissed tasks jobs run
+none_missed tasks jobs run fits legal none =
+    λ j miss. none j (deadline_of tasks (job_at jobs j))
+    (missed_is_lost tasks jobs run j (early_in_deadline tasks jobs fits legal j miss.is_job) miss)
 
-servers_miss_none : (sys : SystemView) (budgets : List ℕ) (node : Place) (n : ℕ) (run : List (Option ℕ)) → AreConstrained (server_tasks sys budgets node) → ((j x : ℕ) → Lost (server_tasks sys budgets node) (started_jobs sys budgets [] node n) run j x → ⊥) → NoneMissed (server_tasks sys budgets node) (server_jobs sys budgets node n) run
+servers_miss_none : (sys : SystemView) (budgets : List ℕ) (node : Place) (n : ℕ) (run : List (Option ℕ))
+    → AreConstrained (server_tasks sys budgets node)
+    → ((j x : ℕ) → Lost (server_tasks sys budgets node) (started_jobs sys budgets [] node n) run j x → ⊥)
+    → NoneMissed (server_tasks sys budgets node) (server_jobs sys budgets node n) run
 servers_miss_none sys budgets node n run fits none =
-    none_missed (server_tasks sys budgets node) (server_jobs sys budgets node n) run fits (legal_synchronous (server_tasks sys budgets node) fits 0 n)
-    (subst (λ (jobs : List Job). (j x : ℕ) → Lost (server_tasks sys budgets node) jobs run j x → ⊥) (jobs_at_zero sys budgets [] node n (λ q. refl)) none)
+    none_missed (server_tasks sys budgets node) (server_jobs sys budgets node n) run fits
+    (legal_synchronous (server_tasks sys budgets node) fits 0 n)
+    (subst (λ (jobs : List Job). (j x : ℕ) → Lost (server_tasks sys budgets node) jobs run j x → ⊥)
+    (jobs_at_zero sys budgets [] node n (λ q. refl)) none)
 
 -- the first run of a tree is permitted, so nothing is lost in it
-pub first_run_misses_none : (sys : SystemView) → IsSystem sys → (budgets : List ℕ) → Admitted sys budgets → (n : ℕ) (supplies : List (List Bool)) (jobs : List (List Job)) (core_runs part_runs : List (List (Option ℕ))) → TreeInputs sys n supplies jobs → FirstTree sys budgets n supplies jobs core_runs part_runs → NoneMisses sys budgets n jobs core_runs part_runs
+pub first_run_misses_none : (sys : SystemView) → IsSystem sys → (budgets : List ℕ) → Admitted sys budgets
+    → (n : ℕ) (supplies : List (List Bool)) (jobs : List (List Job)) (core_runs part_runs : List (List (Option ℕ)))
+    → TreeInputs sys n supplies jobs → FirstTree sys budgets n supplies jobs core_runs part_runs
+    → NoneMisses sys budgets n jobs core_runs part_runs
 first_run_misses_none sys is budgets admitted n supplies jobs core_runs part_runs inputs first =
     let range : (q : ℕ) → q < length sys.parts → InPeriod sys budgets q = admitted_in_period sys is budgets admitted in
     let kept : NothingLost sys budgets [] n jobs core_runs part_runs =
-    (admitted_no_loss sys is budgets admitted).keeps [] n supplies jobs core_runs part_runs inputs (started_of_permitted sys budgets [] n supplies jobs core_runs part_runs (λ q. refl) (first_tree_permitted sys budgets n supplies jobs core_runs part_runs first)) in
+    (admitted_no_loss sys is budgets admitted).keeps [] n supplies jobs core_runs part_runs inputs
+    (started_of_permitted sys budgets [] n supplies jobs core_runs part_runs (λ q. refl)
+    (first_tree_permitted sys budgets n supplies jobs core_runs part_runs first)) in
     record {
-      cores = λ c l. servers_miss_none sys budgets (Core c) n (run_at core_runs c) (servers_constrained sys budgets (Core c) (λ q i child. range q i)) (kept.cores c l);
-      inner = λ q l inner. servers_miss_none sys budgets (Part q) n (run_at part_runs q) (servers_constrained sys budgets (Part q) (λ r i child. range r i)) (kept.inner q l inner);
-      leaves = λ q l leaf. none_missed (own_tasks_at sys q) (get_or jobs q []) (run_at part_runs q) (leaf_constrained sys is q l) (inputs.releases q l leaf) (kept.leaves q l leaf);
+      cores =
+          λ c l. servers_miss_none sys budgets (Core c) n (run_at core_runs c)
+          (servers_constrained sys budgets (Core c) (λ q i child. range q i)) (kept.cores c l);
+      inner =
+          λ q l inner. servers_miss_none sys budgets (Part q) n (run_at part_runs q)
+          (servers_constrained sys budgets (Part q) (λ r i child. range r i)) (kept.inner q l inner);
+      leaves =
+          λ q l leaf. none_missed (own_tasks_at sys q) (get_or jobs q []) (run_at part_runs q)
+          (leaf_constrained sys is q l) (inputs.releases q l leaf) (kept.leaves q l leaf);
     }
 
 -- the inputs of a generated host: every slot of each core, and a legal release
 all_given : (n : ℕ) → IsFull (pattern_slots Early None n)
-all_given n x l = get_or-map-range_with_len (pattern_slot Early None) 0 n x x false (omega (arith, l, length-map-range_with_len (pattern_slot Early None) 0 n)) (omega arith)
+all_given n x l =
+    get_or-map-range_with_len (pattern_slot Early None) 0 n x x false
+    (omega (arith, l, length-map-range_with_len (pattern_slot Early None) 0 n)) (omega arith)
 
-conforms_here : (n c : ℕ) → c < cores_for n → CoreConforms (core_at (bulk_host n) c).supply (get_or (bulk_supplies n) c [])
+conforms_here : (n c : ℕ) → c < cores_for n
+    → CoreConforms (core_at (bulk_host n) c).supply (get_or (bulk_supplies n) c [])
 conforms_here n c l =
     subst (λ (core : CoreView). CoreConforms core.supply (get_or (bulk_supplies n) c [])) (sym (core_here n c l))
     (subst IsFull (sym (supply_here n c l)) (all_given bulk_slots))
@@ -75,16 +97,25 @@ host_inputs n = record {
 }
 
 -- so no job of a generated host misses, and none is counted
-pub host_misses_none : (n : ℕ) → 1 ≤ n → n ≤ 256 → (budgets : List ℕ) → Admitted (bulk_host n) budgets → (core_runs part_runs : List (List (Option ℕ))) →
-    FirstTree (bulk_host n) budgets bulk_slots (bulk_supplies n) (bulk_jobs n) core_runs part_runs → NoneMisses (bulk_host n) budgets bulk_slots (bulk_jobs n) core_runs part_runs
-host_misses_none n some few budgets admitted core_runs part_runs first = first_run_misses_none (bulk_host n) (host_is_system n some few) budgets admitted bulk_slots (bulk_supplies n) (bulk_jobs n) core_runs part_runs (host_inputs n) first
+pub host_misses_none : (n : ℕ) → 1 ≤ n → n ≤ 256 → (budgets : List ℕ) → Admitted (bulk_host n) budgets
+    → (core_runs part_runs : List (List (Option ℕ))) →
+    FirstTree (bulk_host n) budgets bulk_slots (bulk_supplies n) (bulk_jobs n) core_runs part_runs
+    → NoneMisses (bulk_host n) budgets bulk_slots (bulk_jobs n) core_runs part_runs
+host_misses_none n some few budgets admitted core_runs part_runs first =
+    first_run_misses_none (bulk_host n) (host_is_system n some few) budgets admitted bulk_slots (bulk_supplies n)
+    (bulk_jobs n) core_runs part_runs (host_inputs n) first
 
 all_zero : (f : ℕ → ℕ) (n : ℕ) → ((x : ℕ) → x < n → f x ≡ 0) → sum_below f n ≡ 0
 all_zero f n zeros = sum_below-same f (λ x. 0) n zeros ∙ sum_below-none n
 
 pub none_is_counted : (n : ℕ) → 1 ≤ n → n ≤ 256 → (counts : BulkCounts) → AreBulkCounts n counts → counts.missed ≡ 0
 none_is_counted n some few counts h =
-    let none : NoneMisses (bulk_host n) h.budgets bulk_slots (bulk_jobs n) h.core_runs h.part_runs = host_misses_none n some few h.budgets h.admitted h.core_runs h.part_runs h.first in
-    let at_cores : sum_below (core_misses n h.budgets h.core_runs) (length (bulk_host n).cores) ≡ 0 = all_zero (core_misses n h.budgets h.core_runs) (length (bulk_host n).cores) (λ c l. zero_where_none _ _ _ (none.cores c l)) in
-    let at_guests : sum_below (guest_misses n h.part_runs) (length (bulk_host n).parts) ≡ 0 = all_zero (guest_misses n h.part_runs) (length (bulk_host n).parts) (λ q l. zero_where_none _ _ _ (none.leaves q l (leaf_here n q (omega (arith, l, guests-many n))))) in
+    let none : NoneMisses (bulk_host n) h.budgets bulk_slots (bulk_jobs n) h.core_runs h.part_runs
+    = host_misses_none n some few h.budgets h.admitted h.core_runs h.part_runs h.first in
+    let at_cores : sum_below (core_misses n h.budgets h.core_runs) (length (bulk_host n).cores) ≡ 0
+    = all_zero (core_misses n h.budgets h.core_runs) (length (bulk_host n).cores)
+    (λ c l. zero_where_none _ _ _ (none.cores c l)) in
+    let at_guests : sum_below (guest_misses n h.part_runs) (length (bulk_host n).parts) ≡ 0
+    = all_zero (guest_misses n h.part_runs) (length (bulk_host n).parts)
+    (λ q l. zero_where_none _ _ _ (none.leaves q l (leaf_here n q (omega (arith, l, guests-many n))))) in
     ap (λ (c : BulkCounts). c.missed) h.counted ∙ omega (arith, at_cores, at_guests)

@@ -39,40 +39,49 @@ record SameBehind (t : Token) (r u : List ℕ) : Type 0 where
   left : ends t ≡ true → ends_word r ≡ true
   right : ends t ≡ true → ends_word u ≡ true
 
-token_same : (t : Token) (r u : List ℕ) → IsPrintable t → SameBehind t r u → lex between (token_text t ++ r) ≡ lex between (token_text t ++ u)
+token_same : (t : Token) (r u : List ℕ) → IsPrintable t → SameBehind t r u
+    → lex between (token_text t ++ r) ≡ lex between (token_text t ++ u)
 unfolding lex word
 token_same begin_object r u h s = ap (λ l. token begin_object ∷ l) s.lexes
 token_same end_object r u h s = ap (λ l. token end_object ∷ l) s.lexes
 token_same begin_array r u h s = ap (λ l. token begin_array ∷ l) s.lexes
 token_same end_array r u h s = ap (λ l. token end_array ∷ l) s.lexes
 token_same (key k) r u h s =
-    ap (lex between) (append_assoc (quoted k) (58 ∷ []) r) ∙ lex_quoted k (58 ∷ r) ∙ ap (λ l. token (string k) ∷ colon ∷ l) s.lexes
+    ap (lex between) (append_assoc (quoted k) (58 ∷ []) r) ∙ lex_quoted k (58 ∷ r)
+    ∙ ap (λ l. token (string k) ∷ colon ∷ l) s.lexes
     ∙ sym (ap (lex between) (append_assoc (quoted k) (58 ∷ []) u) ∙ lex_quoted k (58 ∷ u))
 token_same (string k) r u h s = lex_quoted k r ∙ ap (λ l. token (string k) ∷ l) s.lexes ∙ sym (lex_quoted k u)
-token_same (number n) r u h s = lex-number n r h (s.left refl) ∙ ap (λ l. token (number n) ∷ l) s.lexes ∙ sym (lex-number n u h (s.right refl))
+token_same (number n) r u h s =
+    lex-number n r h (s.left refl) ∙ ap (λ l. token (number n) ∷ l) s.lexes ∙ sym (lex-number n u h (s.right refl))
 token_same (boolean true) r u h s =
-    ap₂ (λ b l. token (cond b (boolean true) bad) ∷ l) (s.left refl) (in_word-ended r (s.left refl)) ∙ ap (λ l. token (boolean true) ∷ l) s.lexes
+    ap₂ (λ b l. token (cond b (boolean true) bad) ∷ l) (s.left refl) (in_word-ended r (s.left refl))
+    ∙ ap (λ l. token (boolean true) ∷ l) s.lexes
     ∙ sym (ap₂ (λ b l. token (cond b (boolean true) bad) ∷ l) (s.right refl) (in_word-ended u (s.right refl)))
 token_same (boolean false) r u h s =
-    ap₂ (λ b l. token (cond b (boolean false) bad) ∷ l) (s.left refl) (in_word-ended r (s.left refl)) ∙ ap (λ l. token (boolean false) ∷ l) s.lexes
+    ap₂ (λ b l. token (cond b (boolean false) bad) ∷ l) (s.left refl) (in_word-ended r (s.left refl))
+    ∙ ap (λ l. token (boolean false) ∷ l) s.lexes
     ∙ sym (ap₂ (λ b l. token (cond b (boolean false) bad) ∷ l) (s.right refl) (in_word-ended u (s.right refl)))
 token_same null r u h s =
-    ap₂ (λ b l. token (cond b null bad) ∷ l) (s.left refl) (in_word-ended r (s.left refl)) ∙ ap (λ l. token null ∷ l) s.lexes
+    ap₂ (λ b l. token (cond b null bad) ∷ l) (s.left refl) (in_word-ended r (s.left refl))
+    ∙ ap (λ l. token null ∷ l) s.lexes
     ∙ sym (ap₂ (λ b l. token (cond b null bad) ∷ l) (s.right refl) (in_word-ended u (s.right refl)))
 token_same bad r u h s = absurd h
 
-separator_same : (b : Bool) (r u : List ℕ) → lex between r ≡ lex between u → lex between (cond b (44 ∷ []) [] ++ r) ≡ lex between (cond b (44 ∷ []) [] ++ u)
+separator_same : (b : Bool) (r u : List ℕ) → lex between r ≡ lex between u
+    → lex between (cond b (44 ∷ []) [] ++ r) ≡ lex between (cond b (44 ∷ []) [] ++ u)
 unfolding lex
 separator_same true r u e = ap (λ l. comma ∷ l) e
 separator_same false r u e = e
 
-same_print : (c : Bool) (ts : List Token) → ArePrintable ts → lex between (print_from c ts ++ 10 ∷ []) ≡ lex between (print_from c ts)
+same_print : (c : Bool) (ts : List Token) → ArePrintable ts
+    → lex between (print_from c ts ++ 10 ∷ []) ≡ lex between (print_from c ts)
 unfolding lex print_from ArePrintable
 same_print c [] h = refl
 same_print c (t ∷ ts) h =
     let rest : List ℕ = print_from (ends t) ts in
     let sep : List ℕ = cond (c && begins t) (44 ∷ []) [] in
-    ap (lex between) (append_assoc sep (token_text t ++ rest) (10 ∷ []) ∙ ap (λ l. sep ++ l) (append_assoc (token_text t) rest (10 ∷ [])))
+    ap (lex between) (append_assoc sep (token_text t ++ rest) (10 ∷ [])
+    ∙ ap (λ l. sep ++ l) (append_assoc (token_text t) rest (10 ∷ [])))
     ∙ separator_same (c && begins t) (token_text t ++ (rest ++ 10 ∷ [])) (token_text t ++ rest)
     (token_same t (rest ++ 10 ∷ []) rest h.0 (record {
       lexes = same_print (ends t) ts h.1;

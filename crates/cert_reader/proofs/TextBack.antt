@@ -45,17 +45,36 @@ comma_utf8 true = IsUtf8-are_ascii (44 ∷ []) refl
 comma_utf8 false = IsUtf8-are_ascii [] refl
 
 number_back : (n : ℕ) → n < 2 ^ 64 → Back (number_value n) 0
-number_back n l = record { numbers = IsNumber-decimal n l; reads = ap (option_map number) (number_of-decimal n l); depth = omega arith; utf8 = decimal_utf8 n (omega (arith, l)) }
+number_back n l =
+    record {
+      numbers = IsNumber-decimal n l;
+      reads = ap (option_map number) (number_of-decimal n l);
+      depth = omega arith;
+      utf8 = decimal_utf8 n (omega (arith, l));
+    }
 
-each_back : {A : Type 0} (value : A → Data) (deep : ℕ) (xs : List A) (d : A) → ((k : ℕ) → k < length xs → Back (value (get_or xs k d)) deep) → ItemsBack (items_from value xs) deep
-each_back value deep [] d backs = record { numbers = tt; reads = refl; depth = omega arith; utf8 = λ later. IsUtf8-are_ascii (93 ∷ []) refl }
+each_back : {A : Type 0} (value : A → Data) (deep : ℕ) (xs : List A) (d : A)
+    → ((k : ℕ) → k < length xs → Back (value (get_or xs k d)) deep) → ItemsBack (items_from value xs) deep
+each_back value deep [] d backs =
+    record { numbers = tt; reads = refl; depth = omega arith; utf8 = λ later. IsUtf8-are_ascii (93 ∷ []) refl }
 each_back value deep (x ∷ xs) d backs =
     let first : Back (value x) deep = backs 0 (omega arith) in
     let rest : ItemsBack (items_from value xs) deep = each_back value deep xs d (λ k l. backs (suc k) (omega arith)) in
-    record { numbers = (first.numbers, rest.numbers); reads = rw (first.reads, rest.reads); depth = omega (arith, first.depth, rest.depth); utf8 = λ later. IsUtf8-append _ _ (comma_utf8 later) (IsUtf8-append _ _ first.utf8 (rest.utf8 true)) }
+    record {
+      numbers = (first.numbers, rest.numbers);
+      reads = rw (first.reads, rest.reads);
+      depth = omega (arith, first.depth, rest.depth);
+      utf8 = λ later. IsUtf8-append _ _ (comma_utf8 later) (IsUtf8-append _ _ first.utf8 (rest.utf8 true));
+    }
 
 array_back : (ds : Items) (deep : ℕ) → ItemsBack ds deep → Back (array ds) (suc deep)
-array_back ds deep b = record { numbers = b.numbers; reads = ap (option_map array) b.reads; depth = omega (arith, b.depth); utf8 = IsUtf8-append (91 ∷ []) _ (IsUtf8-are_ascii (91 ∷ []) refl) (b.utf8 false) }
+array_back ds deep b =
+    record {
+      numbers = b.numbers;
+      reads = ap (option_map array) b.reads;
+      depth = omega (arith, b.depth);
+      utf8 = IsUtf8-append (91 ∷ []) _ (IsUtf8-are_ascii (91 ∷ []) refl) (b.utf8 false);
+    }
 
 text_back : (s : List ℕ) → IsUtf8 s → Back (string s) 0
 text_back s text = record { numbers = tt; reads = refl; depth = omega arith; utf8 = IsUtf8-quoted s text }
@@ -64,17 +83,25 @@ witness_back : (o : Option ℕ) → IsBelow (2 ^ 128) o → Back (witness_value 
 witness_back None l = record { numbers = tt; reads = refl; depth = omega arith; utf8 = IsUtf8-are_ascii _ refl }
 witness_back (Some n) l = text_back (decimal n) (decimal_utf8 n l)
 
-numbers_back : (ns : List ℕ) → ((k : ℕ) → k < length ns → get_or ns k 0 < 2 ^ 64) → Back (array (items_from number_value ns)) 1
-numbers_back ns r = array_back (items_from number_value ns) 0 (each_back number_value 0 ns 0 (λ k l. number_back (get_or ns k 0) (r k l)))
+numbers_back : (ns : List ℕ) → ((k : ℕ) → k < length ns → get_or ns k 0 < 2 ^ 64)
+    → Back (array (items_from number_value ns)) 1
+numbers_back ns r =
+    array_back (items_from number_value ns) 0
+    (each_back number_value 0 ns 0 (λ k l. number_back (get_or ns k 0) (r k l)))
 
-texts_back : (ns : List ℕ) → ((k : ℕ) → k < length ns → get_or ns k 0 < 2 ^ 128) → Back (array (items_from written_value ns)) 1
-texts_back ns r = array_back (items_from written_value ns) 0 (each_back written_value 0 ns 0 (λ k l. text_back (decimal (get_or ns k 0)) (decimal_utf8 (get_or ns k 0) (r k l))))
+texts_back : (ns : List ℕ) → ((k : ℕ) → k < length ns → get_or ns k 0 < 2 ^ 128)
+    → Back (array (items_from written_value ns)) 1
+texts_back ns r =
+    array_back (items_from written_value ns) 0
+    (each_back written_value 0 ns 0 (λ k l. text_back (decimal (get_or ns k 0)) (decimal_utf8 (get_or ns k 0) (r k l))))
 
 -- an object, a key at a time
-member_utf8 : (later : Bool) (k : List ℕ) (d : Data) (ms : Members) → IsUtf8 (quoted k ++ 58 ∷ []) → IsUtf8 (compact_text d) → IsUtf8 (members_text true ms) → IsUtf8 (members_text later (member k d ms))
+member_utf8 : (later : Bool) (k : List ℕ) (d : Data) (ms : Members) → IsUtf8 (quoted k ++ 58 ∷ [])
+    → IsUtf8 (compact_text d) → IsUtf8 (members_text true ms) → IsUtf8 (members_text later (member k d ms))
 member_utf8 later k d ms key value rest =
     IsUtf8-append _ _ (comma_utf8 later)
-    (subst IsUtf8 (append_assoc (quoted k) (58 ∷ []) (compact_text d ++ members_text true ms)) (IsUtf8-append _ _ key (IsUtf8-append _ _ value rest)))
+    (subst IsUtf8 (append_assoc (quoted k) (58 ∷ []) (compact_text d ++ members_text true ms))
+    (IsUtf8-append _ _ key (IsUtf8-append _ _ value rest)))
 
 kind_utf8 : (p : Place) → IsUtf8 (compact_text (string (kind_text p)))
 unfolding escape_byte
@@ -89,35 +116,62 @@ flag_utf8 false = IsUtf8-are_ascii _ refl
 key : (k : List ℕ) → are_ascii (quoted k ++ 58 ∷ []) ≡ true → IsUtf8 (quoted k ++ 58 ∷ [])
 key k e = IsUtf8-are_ascii (quoted k ++ 58 ∷ []) e
 
-node_utf8 : (node : NodeView) → IsUtf8 (compact_text (number_value node.budget)) → IsUtf8 (compact_text (array (items_from number_value node.falls))) → IsUtf8 (compact_text (array (items_from number_value node.hits)))
-    → IsUtf8 (compact_text (number_value node.period)) → IsUtf8 (compact_text (number_value (place_number node.place))) → IsUtf8 (compact_text (array (items_from written_value node.points))) → IsUtf8 (compact_text (witness_value node.witness))
+node_utf8 : (node : NodeView) → IsUtf8 (compact_text (number_value node.budget))
+    → IsUtf8 (compact_text (array (items_from number_value node.falls)))
+    → IsUtf8 (compact_text (array (items_from number_value node.hits)))
+    → IsUtf8 (compact_text (number_value node.period)) → IsUtf8 (compact_text (number_value (place_number node.place)))
+    → IsUtf8 (compact_text (array (items_from written_value node.points)))
+    → IsUtf8 (compact_text (witness_value node.witness))
     → IsUtf8 (compact_text (node_value node))
 unfolding escape_byte
 node_utf8 node budget falls hits period place points witness =
     let m8 : Members = member (codes "witness") (witness_value node.witness) no_members in
-    let u8 : IsUtf8 (members_text true m8) = member_utf8 true (codes "witness") (witness_value node.witness) no_members (key (codes "witness") refl) witness (IsUtf8-are_ascii (125 ∷ []) refl) in
+    let u8 : IsUtf8 (members_text true m8)
+    = member_utf8 true (codes "witness") (witness_value node.witness) no_members (key (codes "witness") refl)
+    witness (IsUtf8-are_ascii (125 ∷ []) refl) in
     let m7 : Members = member (codes "points") (array (items_from written_value node.points)) m8 in
-    let u7 : IsUtf8 (members_text true m7) = member_utf8 true (codes "points") (array (items_from written_value node.points)) m8 (key (codes "points") refl) points u8 in
+    let u7 : IsUtf8 (members_text true m7)
+    = member_utf8 true (codes "points") (array (items_from written_value node.points)) m8
+    (key (codes "points") refl) points u8 in
     let m6 : Members = member (codes "place") (number_value (place_number node.place)) m7 in
-    let u6 : IsUtf8 (members_text true m6) = member_utf8 true (codes "place") (number_value (place_number node.place)) m7 (key (codes "place") refl) place u7 in
+    let u6 : IsUtf8 (members_text true m6)
+    = member_utf8 true (codes "place") (number_value (place_number node.place)) m7 (key (codes "place") refl) place
+    u7 in
     let m5 : Members = member (codes "period") (number_value node.period) m6 in
-    let u5 : IsUtf8 (members_text true m5) = member_utf8 true (codes "period") (number_value node.period) m6 (key (codes "period") refl) period u6 in
+    let u5 : IsUtf8 (members_text true m5)
+    = member_utf8 true (codes "period") (number_value node.period) m6 (key (codes "period") refl) period u6 in
     let m4 : Members = member (codes "kind") (string (kind_text node.place)) m5 in
-    let u4 : IsUtf8 (members_text true m4) = member_utf8 true (codes "kind") (string (kind_text node.place)) m5 (key (codes "kind") refl) (kind_utf8 node.place) u5 in
+    let u4 : IsUtf8 (members_text true m4)
+    = member_utf8 true (codes "kind") (string (kind_text node.place)) m5 (key (codes "kind") refl)
+    (kind_utf8 node.place) u5 in
     let m3 : Members = member (codes "hits") (array (items_from number_value node.hits)) m4 in
-    let u3 : IsUtf8 (members_text true m3) = member_utf8 true (codes "hits") (array (items_from number_value node.hits)) m4 (key (codes "hits") refl) hits u4 in
+    let u3 : IsUtf8 (members_text true m3)
+    = member_utf8 true (codes "hits") (array (items_from number_value node.hits)) m4 (key (codes "hits") refl) hits
+    u4 in
     let m2 : Members = member (codes "falls") (array (items_from number_value node.falls)) m3 in
-    let u2 : IsUtf8 (members_text true m2) = member_utf8 true (codes "falls") (array (items_from number_value node.falls)) m3 (key (codes "falls") refl) falls u3 in
+    let u2 : IsUtf8 (members_text true m2)
+    = member_utf8 true (codes "falls") (array (items_from number_value node.falls)) m3 (key (codes "falls") refl)
+    falls u3 in
     let m1 : Members = member (codes "computed") (boolean node.computed) m2 in
-    let u1 : IsUtf8 (members_text true m1) = member_utf8 true (codes "computed") (boolean node.computed) m2 (key (codes "computed") refl) (flag_utf8 node.computed) u2 in
-    IsUtf8-append (123 ∷ []) (members_text false (member (codes "budget") (number_value node.budget) m1)) (IsUtf8-are_ascii (123 ∷ []) refl) (member_utf8 false (codes "budget") (number_value node.budget) m1 (key (codes "budget") refl) budget u1)
+    let u1 : IsUtf8 (members_text true m1)
+    = member_utf8 true (codes "computed") (boolean node.computed) m2 (key (codes "computed") refl)
+    (flag_utf8 node.computed) u2 in
+    IsUtf8-append (123 ∷ []) (members_text false (member (codes "budget") (number_value node.budget) m1))
+    (IsUtf8-are_ascii (123 ∷ []) refl)
+    (member_utf8 false (codes "budget") (number_value node.budget) m1 (key (codes "budget") refl) budget u1)
 
-nodes_utf8 : (ds : Items) → IsUtf8 (compact_text (number_value 1)) → IsUtf8 (compact_text (array ds)) → IsUtf8 (compact_text (object (member (codes "format") (number_value 1) (member (codes "nodes") (array ds) no_members))))
+nodes_utf8 : (ds : Items) → IsUtf8 (compact_text (number_value 1)) → IsUtf8 (compact_text (array ds))
+    → IsUtf8 (compact_text
+    (object (member (codes "format") (number_value 1) (member (codes "nodes") (array ds) no_members))))
 unfolding escape_byte
 nodes_utf8 ds one list =
     let m1 : Members = member (codes "nodes") (array ds) no_members in
-    let u1 : IsUtf8 (members_text true m1) = member_utf8 true (codes "nodes") (array ds) no_members (key (codes "nodes") refl) list (IsUtf8-are_ascii (125 ∷ []) refl) in
-    IsUtf8-append (123 ∷ []) (members_text false (member (codes "format") (number_value 1) m1)) (IsUtf8-are_ascii (123 ∷ []) refl) (member_utf8 false (codes "format") (number_value 1) m1 (key (codes "format") refl) one u1)
+    let u1 : IsUtf8 (members_text true m1)
+    = member_utf8 true (codes "nodes") (array ds) no_members (key (codes "nodes") refl) list
+    (IsUtf8-are_ascii (125 ∷ []) refl) in
+    IsUtf8-append (123 ∷ []) (members_text false (member (codes "format") (number_value 1) m1))
+    (IsUtf8-are_ascii (123 ∷ []) refl)
+    (member_utf8 false (codes "format") (number_value 1) m1 (key (codes "format") refl) one u1)
 
 node_back : (node : NodeView) → IsInRange node → Back (node_value node) 2
 node_back node r =
@@ -129,29 +183,52 @@ node_back node r =
     let points = texts_back node.points r.points in
     let witness = witness_back node.witness r.witness in
     record {
-      numbers = (budget.numbers, (tt, (falls.numbers, (hits.numbers, (tt, (period.numbers, (place.numbers, (points.numbers, (witness.numbers, tt)))))))));
+      numbers = (
+        budget.numbers,
+        (
+          tt,
+          (
+            falls.numbers,
+            (hits.numbers, (tt, (period.numbers, (place.numbers, (points.numbers, (witness.numbers, tt)))))),
+          ),
+        ),
+      );
       reads = rw (budget.reads, falls.reads, hits.reads, period.reads, place.reads, points.reads, witness.reads);
-      depth = omega (arith, budget.depth, falls.depth, hits.depth, period.depth, place.depth, points.depth, witness.depth);
+      depth =
+          omega (arith, budget.depth, falls.depth, hits.depth, period.depth, place.depth, points.depth, witness.depth);
       utf8 = node_utf8 node budget.utf8 falls.utf8 hits.utf8 period.utf8 place.utf8 points.utf8 witness.utf8;
     }
 
-nodes_back : (nodes : List NodeView) → ((k : ℕ) → k < length nodes → IsInRange (node_at nodes k)) → Back (certificate_value nodes) 4
+nodes_back : (nodes : List NodeView) → ((k : ℕ) → k < length nodes → IsInRange (node_at nodes k))
+    → Back (certificate_value nodes) 4
 nodes_back nodes r =
-    let list : Back (array (items_from node_value nodes)) 3 = array_back (items_from node_value nodes) 2 (each_back node_value 2 nodes no_node (λ k l. node_back (node_at nodes k) (r k l))) in
+    let list : Back (array (items_from node_value nodes)) 3
+    = array_back (items_from node_value nodes) 2
+    (each_back node_value 2 nodes no_node (λ k l. node_back (node_at nodes k) (r k l))) in
     let format : Back (number_value 1) 0 = number_back 1 (omega arith) in
-    record { numbers = (format.numbers, (list.numbers, tt)); reads = rw (format.reads, list.reads); depth = omega (arith, format.depth, list.depth); utf8 = nodes_utf8 (items_from node_value nodes) format.utf8 list.utf8 }
+    record {
+      numbers = (format.numbers, (list.numbers, tt));
+      reads = rw (format.reads, list.reads);
+      depth = omega (arith, format.depth, list.depth);
+      utf8 = nodes_utf8 (items_from node_value nodes) format.utf8 list.utf8;
+    }
 
 text_reads : (d : Data) (deep : ℕ) → Back d deep → deep ≤ max_depth → read (compact_text d ++ 10 ∷ []) ≡ Some d
 text_reads d deep b l =
     let same : tokens (compact_text d ++ 10 ∷ []) ≡ tree.json_tokens (outline d) =
-    ap (λ (s : List ℕ). tokens (s ++ 10 ∷ [])) (sym (print-outline d)) ∙ tokens_newline (tree.json_tokens (outline d)) (ArePrintable-json_tokens (outline d) b.numbers) in
-    ap (λ ts. option_and_then of_json (option_and_then (λ p. json.if_last p.0 p.1) (json.value max_depth ts))) (same ∙ sym (append-nil (tree.json_tokens (outline d))))
-    ∙ (ap (λ o. option_and_then of_json (option_and_then (λ p. json.if_last p.0 p.1) o)) (value-json_tokens (outline d) max_depth [] (omega (arith, b.depth, l))) ∙ b.reads)
+    ap (λ (s : List ℕ). tokens (s ++ 10 ∷ [])) (sym (print-outline d))
+    ∙ tokens_newline (tree.json_tokens (outline d)) (ArePrintable-json_tokens (outline d) b.numbers) in
+    ap (λ ts. option_and_then of_json (option_and_then (λ p. json.if_last p.0 p.1) (json.value max_depth ts)))
+    (same ∙ sym (append-nil (tree.json_tokens (outline d))))
+    ∙ (ap (λ o. option_and_then of_json (option_and_then (λ p. json.if_last p.0 p.1) o))
+    (value-json_tokens (outline d) max_depth [] (omega (arith, b.depth, l))) ∙ b.reads)
 
-pub text_spells : (nodes : List NodeView) → ((k : ℕ) → k < length nodes → IsInRange (node_at nodes k)) → length nodes ≤ 576 → certificate_of (certificate_text nodes) ≡ Ok nodes
+pub text_spells : (nodes : List NodeView) → ((k : ℕ) → k < length nodes → IsInRange (node_at nodes k))
+    → length nodes ≤ 576 → certificate_of (certificate_text nodes) ≡ Ok nodes
 unfolding certificate_text
 text_spells nodes r few =
     let b : Back (certificate_value nodes) 4 = nodes_back nodes r in
     let text : List ℕ = compact_text (certificate_value nodes) ++ 10 ∷ [] in
     let utf8 : IsUtf8 text = IsUtf8-append _ _ b.utf8 (IsUtf8-are_ascii (10 ∷ []) refl) in
-    reads_back text nodes (value_text text (certificate_value nodes) utf8 (text_reads (certificate_value nodes) 4 b (omega arith))) r few
+    reads_back text nodes
+    (value_text text (certificate_value nodes) utf8 (text_reads (certificate_value nodes) 4 b (omega arith))) r few

@@ -21,10 +21,13 @@ with_work tasks i work = jittery_task (task_at tasks i).period (task_at tasks i)
 
 pub record Heavier (light heavy : List SporadicTask) : Type 0 where
   pub same_length : length light ≡ length heavy
-  pub each : (i : ℕ) → i < length light → (work : ℕ) × (task_at heavy i ≡ with_work light i work) × ((task_at light i).work ≤ work)
+  pub each : (i : ℕ) → i < length light
+      → (work : ℕ) × (task_at heavy i ≡ with_work light i work) × ((task_at light i).work ≤ work)
 
 -- one more task of each
-heavier_push : (light heavy : List SporadicTask) (b : Bool) (period deadline less more : ℕ) → less ≤ more → Heavier light heavy → Heavier (push_if light b (plain_task period deadline less)) (push_if heavy b (plain_task period deadline more))
+heavier_push : (light heavy : List SporadicTask) (b : Bool) (period deadline less more : ℕ) → less ≤ more
+    → Heavier light heavy
+    → Heavier (push_if light b (plain_task period deadline less)) (push_if heavy b (plain_task period deadline more))
 heavier_push light heavy false period deadline less more l h = h
 heavier_push light heavy true period deadline less more l h =
     let a : SporadicTask = plain_task period deadline less in
@@ -34,54 +37,96 @@ heavier_push light heavy true period deadline less more l h =
       each = λ i li. elim (cases_lt i (length light)) [
         | inl old ↦
             let w = h.each i old in
-            let e : task_at (light ++ a ∷ []) i ≡ task_at light i = get_or_append_left light (a ∷ []) default_task i old in (
+            let e : task_at (light ++ a ∷ []) i ≡ task_at light i
+            = get_or_append_left light (a ∷ []) default_task i old in (
               w.0,
-              get_or_append_left heavy (b ∷ []) default_task i (omega (arith, h.same_length)) ∙ (w.1 ∙ ap (λ (t : SporadicTask). record { period = t.period; deadline = t.deadline; work = w.0; jitter = t.jitter }) (sym e)),
+              get_or_append_left heavy (b ∷ []) default_task i (omega (arith, h.same_length))
+                  ∙ (w.1
+                  ∙ ap (λ (t : SporadicTask). record
+                  { period = t.period; deadline = t.deadline; work = w.0; jitter = t.jitter }) (sym e)),
               omega (arith, w.2, ap (λ (t : SporadicTask). t.work) e),
             )
         | inr new ↦
-            let e : task_at (light ++ a ∷ []) i ≡ a = get_or_push light a default_task i (omega (arith, length_push light a)) in (
+            let e : task_at (light ++ a ∷ []) i ≡ a
+            = get_or_push light a default_task i (omega (arith, length_push light a)) in (
               more,
-              get_or_push heavy b default_task i (omega (arith, h.same_length, length_push light a)) ∙ ap (λ (t : SporadicTask). jittery_task t.period t.deadline more t.jitter) (sym e),
+              get_or_push heavy b default_task i (omega (arith, h.same_length, length_push light a))
+                  ∙ ap (λ (t : SporadicTask). jittery_task t.period t.deadline more t.jitter) (sym e),
               omega (arith, ap (λ (t : SporadicTask). t.work) e),
             )
       ];
     }
 
-pub heavier_push_if : (light heavy : List SporadicTask) (b : Bool) (period deadline less more : ℕ) → (b ≡ true → less ≤ more) → Heavier light heavy → Heavier (push_if light b (plain_task period deadline less)) (push_if heavy b (plain_task period deadline more))
-heavier_push_if light heavy true period deadline less more l h = heavier_push light heavy true period deadline less more (l refl) h
+pub heavier_push_if : (light heavy : List SporadicTask) (b : Bool) (period deadline less more : ℕ)
+    → (b ≡ true → less ≤ more) → Heavier light heavy
+    → Heavier (push_if light b (plain_task period deadline less)) (push_if heavy b (plain_task period deadline more))
+heavier_push_if light heavy true period deadline less more l h =
+    heavier_push light heavy true period deadline less more (l refl) h
 heavier_push_if light heavy false period deadline less more l h = h
 
 -- more work asks for no less
-demand_more : (task : SporadicTask) (work t : ℕ) → task.work ≤ work → demand_of task t ≤ demand_of (jittery_task task.period task.deadline work task.jitter) t
-demand_more task work t l = cond_rises (leb task.deadline (t + task.jitter)) _ _ (mul-le-mul_left ((t + task.jitter - task.deadline) / task.period + 1) l)
+demand_more : (task : SporadicTask) (work t : ℕ) → task.work ≤ work
+    → demand_of task t ≤ demand_of (jittery_task task.period task.deadline work task.jitter) t
+demand_more task work t l =
+    cond_rises (leb task.deadline (t + task.jitter)) _ _
+    (mul-le-mul_left ((t + task.jitter - task.deadline) / task.period + 1) l)
 
-request_more : (task : SporadicTask) (work t : ℕ) → task.work ≤ work → request_of task t ≤ request_of (jittery_task task.period task.deadline work task.jitter) t
+request_more : (task : SporadicTask) (work t : ℕ) → task.work ≤ work
+    → request_of task t ≤ request_of (jittery_task task.period task.deadline work task.jitter) t
 request_more task work t l = mul-le-mul_left ((t + task.jitter + (task.period - 1)) / task.period) l
 
 pub dbf_more : (light heavy : List SporadicTask) → Heavier light heavy → (t : ℕ) → dbf light t ≤ dbf heavy t
 dbf_more light heavy h t =
     let d : SporadicTask = default_task in
-    let term : (i : ℕ) → i < length light → demand_of (task_at light i) t ≤ demand_of (task_at heavy i) t = λ i l. subst (λ (b : SporadicTask). demand_of (task_at light i) t ≤ demand_of b t) (sym (h.each i l).1) (demand_more (task_at light i) (h.each i l).0 t (h.each i l).2) in
-    omega (arith, sum_by-places (λ (b : SporadicTask). demand_of b t) d light, sum_by-places (λ (b : SporadicTask). demand_of b t) d heavy, sum_below-le (λ i. demand_of (task_at light i) t) (λ i. demand_of (task_at heavy i) t) (length light) term, ap (sum_below (λ i. demand_of (task_at heavy i) t)) h.same_length)
+    let term : (i : ℕ) → i < length light → demand_of (task_at light i) t ≤ demand_of (task_at heavy i) t
+    = λ i l. subst (λ (b : SporadicTask). demand_of (task_at light i) t ≤ demand_of b t) (sym (h.each i l).1)
+    (demand_more (task_at light i) (h.each i l).0 t (h.each i l).2) in
+    omega (
+      arith,
+      sum_by-places (λ (b : SporadicTask). demand_of b t) d light,
+      sum_by-places (λ (b : SporadicTask). demand_of b t) d heavy,
+      sum_below-le (λ i. demand_of (task_at light i) t) (λ i. demand_of (task_at heavy i) t) (length light) term,
+      ap (sum_below (λ i. demand_of (task_at heavy i) t)) h.same_length,
+    )
 
 -- ranks look at periods, deadlines and places alone
 same_keys : (f g : ℕ → ℕ) (i j : ℕ) → f i ≡ g i → f j ≡ g j → ranks_by f i j ≡ ranks_by g i j
-same_keys f g i j a b = ap (λ (x : ℕ). ltb x (f j) || (eqb x (f j) && ltb i j)) a ∙ ap (λ (y : ℕ). ltb (g i) y || (eqb (g i) y && ltb i j)) b
+same_keys f g i j a b =
+    ap (λ (x : ℕ). ltb x (f j) || (eqb x (f j) && ltb i j)) a
+    ∙ ap (λ (y : ℕ). ltb (g i) y || (eqb (g i) y && ltb i j)) b
 
-same_ranks : (sched : Sched) (light heavy : List SporadicTask) → Heavier light heavy → (i j : ℕ) → i < length light → j < length light → ranks_above sched light i j ≡ ranks_above sched heavy i j
+same_ranks : (sched : Sched) (light heavy : List SporadicTask) → Heavier light heavy → (i j : ℕ) → i < length light
+    → j < length light → ranks_above sched light i j ≡ ranks_above sched heavy i j
 same_ranks Rm light heavy h i j l m =
-    same_keys (λ k. (task_at light k).period) (λ k. (task_at heavy k).period) i j (ap (λ (t : SporadicTask). t.period) (sym (h.each i l).1)) (ap (λ (t : SporadicTask). t.period) (sym (h.each j m).1))
+    same_keys (λ k. (task_at light k).period) (λ k. (task_at heavy k).period) i j
+    (ap (λ (t : SporadicTask). t.period) (sym (h.each i l).1))
+    (ap (λ (t : SporadicTask). t.period) (sym (h.each j m).1))
 same_ranks Dm light heavy h i j l m =
-    same_keys (λ k. (task_at light k).deadline) (λ k. (task_at heavy k).deadline) i j (ap (λ (t : SporadicTask). t.deadline) (sym (h.each i l).1)) (ap (λ (t : SporadicTask). t.deadline) (sym (h.each j m).1))
+    same_keys (λ k. (task_at light k).deadline) (λ k. (task_at heavy k).deadline) i j
+    (ap (λ (t : SporadicTask). t.deadline) (sym (h.each i l).1))
+    (ap (λ (t : SporadicTask). t.deadline) (sym (h.each j m).1))
 same_ranks other light heavy h i j l m = refl
 
-pub rbf_more : (sched : Sched) (light heavy : List SporadicTask) → Heavier light heavy → (i t : ℕ) → i < length light → rbf (ranks_above sched light) light i t ≤ rbf (ranks_above sched heavy) heavy i t
+pub rbf_more : (sched : Sched) (light heavy : List SporadicTask) → Heavier light heavy → (i t : ℕ) → i < length light
+    → rbf (ranks_above sched light) light i t ≤ rbf (ranks_above sched heavy) heavy i t
 rbf_more sched light heavy h i t l =
-    let term : (k : ℕ) → k < length light → cond (ranks_above sched light k i) (request_of (task_at light k) t) 0 ≤ cond (ranks_above sched heavy k i) (request_of (task_at heavy k) t) 0 =
-    λ k m. subst (λ (b : Bool). cond (ranks_above sched light k i) (request_of (task_at light k) t) 0 ≤ cond b (request_of (task_at heavy k) t) 0) (same_ranks sched light heavy h k i m l)
-    (cond_rises (ranks_above sched light k i) _ _ (subst (λ (b : SporadicTask). request_of (task_at light k) t ≤ request_of b t) (sym (h.each k m).1) (request_more (task_at light k) (h.each k m).0 t (h.each k m).2))) in
-    omega (arith, ap (λ (b : SporadicTask). b.work) (h.each i l).1, (h.each i l).2, sum_below-le (λ k. cond (ranks_above sched light k i) (request_of (task_at light k) t) 0) (λ k. cond (ranks_above sched heavy k i) (request_of (task_at heavy k) t) 0) (length light) term, ap (sum_below (λ k. cond (ranks_above sched heavy k i) (request_of (task_at heavy k) t) 0)) h.same_length)
+    let term : (k : ℕ) → k < length light
+    → cond (ranks_above sched light k i) (request_of (task_at light k) t) 0
+    ≤ cond (ranks_above sched heavy k i) (request_of (task_at heavy k) t) 0
+    =
+    λ k m. subst (λ (b : Bool). cond (ranks_above sched light k i) (request_of (task_at light k) t) 0
+    ≤ cond b (request_of (task_at heavy k) t) 0) (same_ranks sched light heavy h k i m l)
+    (cond_rises (ranks_above sched light k i) _ _ (subst
+    (λ (b : SporadicTask). request_of (task_at light k) t ≤ request_of b t) (sym (h.each k m).1)
+    (request_more (task_at light k) (h.each k m).0 t (h.each k m).2))) in
+    omega (
+      arith,
+      ap (λ (b : SporadicTask). b.work) (h.each i l).1,
+      (h.each i l).2,
+      sum_below-le (λ k. cond (ranks_above sched light k i) (request_of (task_at light k) t) 0)
+          (λ k. cond (ranks_above sched heavy k i) (request_of (task_at heavy k) t) 0) (length light) term,
+      ap (sum_below (λ k. cond (ranks_above sched heavy k i) (request_of (task_at heavy k) t) 0)) h.same_length,
+    )
 
 -- what falls short, first or not
 pub record IsShortPlace (above : ℕ → ℕ → Bool) (tasks : List SporadicTask) (bound : ℕ → ℕ) (i : ℕ) : Type 0 where
@@ -94,20 +139,28 @@ FallsShort Edf tasks bound (Task i) = ⊥
 FallsShort rule tasks bound (At t) = ⊥
 FallsShort rule tasks bound (Task i) = IsShortPlace (ranks_above rule tasks) tasks bound i
 
-pub shortfall_falls : (sched : Sched) (tasks : List SporadicTask) (bound : ℕ → ℕ) (short : Short) → IsShortfall sched tasks bound short → FallsShort sched tasks bound short
+pub shortfall_falls : (sched : Sched) (tasks : List SporadicTask) (bound : ℕ → ℕ) (short : Short)
+    → IsShortfall sched tasks bound short → FallsShort sched tasks bound short
 shortfall_falls Edf tasks bound (At t) h = h.short
 shortfall_falls Edf tasks bound (Task i) h = h
 shortfall_falls rule tasks bound (At t) h = h
 shortfall_falls rule tasks bound (Task i) h = record { is_task = h.is_task; short = h.short }
 
-heavier_place : (sched : Sched) (light heavy : List SporadicTask) → Heavier light heavy → (bound : ℕ → ℕ) (i : ℕ) → IsShortPlace (ranks_above sched light) light bound i → IsShortPlace (ranks_above sched heavy) heavy bound i
+heavier_place : (sched : Sched) (light heavy : List SporadicTask) → Heavier light heavy → (bound : ℕ → ℕ) (i : ℕ)
+    → IsShortPlace (ranks_above sched light) light bound i → IsShortPlace (ranks_above sched heavy) heavy bound i
 heavier_place sched light heavy h bound i s = record {
   is_task = omega (arith, s.is_task, h.same_length);
-  short = λ t some within. omega (arith, s.short t some (omega (arith, ap room_of (h.each i s.is_task).1)), rbf_more sched light heavy h i t s.is_task);
+  short =
+      λ t some within. omega (
+        arith,
+        s.short t some (omega (arith, ap room_of (h.each i s.is_task).1)),
+        rbf_more sched light heavy h i t s.is_task,
+      );
 }
 
 -- more work falls short where less does
-pub heavier_falls : (sched : Sched) (light heavy : List SporadicTask) → Heavier light heavy → (bound : ℕ → ℕ) (short : Short) → FallsShort sched light bound short → FallsShort sched heavy bound short
+pub heavier_falls : (sched : Sched) (light heavy : List SporadicTask) → Heavier light heavy
+    → (bound : ℕ → ℕ) (short : Short) → FallsShort sched light bound short → FallsShort sched heavy bound short
 heavier_falls Edf light heavy h bound (At t) s = omega (arith, s, dbf_more light heavy h t)
 heavier_falls Edf light heavy h bound (Task i) s = s
 heavier_falls rule light heavy h bound (At t) s = s

@@ -57,7 +57,9 @@ five_idle = None ∷ None ∷ None ∷ None ∷ None ∷ []
 
 it_misses_by_its_deadline_moment : MissesBy one_task one_job five_idle 5
 unfolding sum_below
-it_misses_by_its_deadline_moment = record { job = 0; missed = record { is_job = omega arith; in_run = omega arith; short = omega arith }; by = omega arith }
+it_misses_by_its_deadline_moment =
+    record
+    { job = 0; missed = record { is_job = omega arith; in_run = omega arith; short = omega arith }; by = omega arith }
 
 and_not_sooner : MissesBy one_task one_job five_idle 4 → ⊥
 and_not_sooner misses = go misses.job misses.missed.is_job misses.by
@@ -70,7 +72,9 @@ and_not_sooner misses = go misses.job misses.missed.is_job misses.by
 abbrev on_one_core : Option (ℕ × ℕ) → List NamedTask → SystemView
 on_one_core supply tasks = record {
   cores = record { name = 99 ∷ []; sched = Edf; supply = supply } ∷ [];
-  parts = record { name = 97 ∷ []; parent = on_core 0; sched = Edf; period = 5; budget = None; extra = false; tasks = tasks } ∷ [];
+  parts =
+      record
+      { name = 97 ∷ []; parent = on_core 0; sched = Edf; period = 5; budget = None; extra = false; tasks = tasks } ∷ [];
 }
 
 abbrev some_tasks : List NamedTask
@@ -94,42 +98,70 @@ a_part_with_no_tasks_is_not : IsFlat (on_one_core None []) → ⊥
 a_part_with_no_tasks_is_not flat = false≢true (flat.parts 0 (omega arith))
 
 -- a refused leaf must miss with its given budget, or with no slot and with its whole period
-a_given_budget_must_miss : (sys : SystemView) (q given : ℕ) → LeafIsOverfull sys q (Some given) → LeafMustMiss sys q given
+a_given_budget_must_miss : (sys : SystemView) (q given : ℕ) → LeafIsOverfull sys q (Some given)
+    → LeafMustMiss sys q given
 a_given_budget_must_miss sys q given overfull = overfull
 
-an_open_one_must_miss_at_both_ends : (sys : SystemView) (q : ℕ) → LeafIsOverfull sys q None → LeafMustMiss sys q 0 × LeafMustMiss sys q (part_at sys q).period
-an_open_one_must_miss_at_both_ends sys q overfull = (overfull 0 (omega arith), overfull (part_at sys q).period (omega arith))
+an_open_one_must_miss_at_both_ends : (sys : SystemView) (q : ℕ) → LeafIsOverfull sys q None
+    → LeafMustMiss sys q 0 × LeafMustMiss sys q (part_at sys q).period
+an_open_one_must_miss_at_both_ends sys q overfull =
+    (overfull 0 (omega arith), overfull (part_at sys q).period (omega arith))
 
 -- a computed budget of b + 1 is tight at b and at 0
-a_tight_budget_has_none_below : (sys : SystemView) (budgets : List ℕ) (q b : ℕ) → IsTight sys budgets → q < length sys.parts → is_leaf_at sys q ≡ true → (part_at sys q).budget ≡ None → budget_at budgets q ≡ suc b
+a_tight_budget_has_none_below : (sys : SystemView) (budgets : List ℕ) (q b : ℕ) → IsTight sys budgets
+    → q < length sys.parts → is_leaf_at sys q ≡ true → (part_at sys q).budget ≡ None → budget_at budgets q ≡ suc b
     → LeafMustMiss sys q b × LeafMustMiss sys q 0
-a_tight_budget_has_none_below sys budgets q b tight h leaf none e = (tight.below q h leaf none b (omega arith), tight.below q h leaf none 0 (omega arith))
+a_tight_budget_has_none_below sys budgets q b tight h leaf none e =
+    (tight.below q h leaf none b (omega arith), tight.below q h leaf none 0 (omega arith))
 
 -- a run that ends just where the shortfall shows is long enough
-an_overfull_core_misses_in_the_shortest_run : (sys : SystemView) (c : ℕ) (short : Short) (o : CoreIsOverfull sys c short)
-    → CoreMustMiss sys o.budgets c (shows_by (server_tasks sys o.budgets (Core c)) short) (shows_by (server_tasks sys o.budgets (Core c)) short)
-an_overfull_core_misses_in_the_shortest_run sys c short o = o.misses (shows_by (server_tasks sys o.budgets (Core c)) short) (omega arith)
+an_overfull_core_misses_in_the_shortest_run : (sys : SystemView) (c : ℕ) (short : Short)
+    (o : CoreIsOverfull sys c short)
+    → CoreMustMiss sys o.budgets c (shows_by (server_tasks sys o.budgets (Core c)) short)
+    (shows_by (server_tasks sys o.budgets (Core c)) short)
+an_overfull_core_misses_in_the_shortest_run sys c short o =
+    o.misses (shows_by (server_tasks sys o.budgets (Core c)) short) (omega arith)
 
 -- a core that must miss loses a job, so no budgets that lose none make it miss
-a_core_that_must_miss_loses_a_job : (sys : SystemView) (budgets : List ℕ) (c t n : ℕ) → c < length sys.cores → AreConstrained (server_tasks sys budgets (Core c)) → CoreMustMiss sys budgets c t n → NoLoss sys budgets → ⊥
+a_core_that_must_miss_loses_a_job : (sys : SystemView) (budgets : List ℕ) (c t n : ℕ) → c < length sys.cores
+    → AreConstrained (server_tasks sys budgets (Core c)) → CoreMustMiss sys budgets c t n → NoLoss sys budgets → ⊥
 a_core_that_must_miss_loses_a_job sys budgets c t n h fits must none =
     let inputs = must.some_inputs in
     let any = any_inputs sys n inputs.0 inputs.1 inputs.2 in
     let run = must.some_run inputs.0 inputs.1 any in
-    let miss : MissesBy (server_tasks sys budgets (Core c)) (server_jobs sys budgets (Core c) n) (run_at run.0 c) t = must.misses inputs.0 inputs.1 run.0 run.1 any run.2 in
-    let legal : LegalRelease (server_tasks sys budgets (Core c)) (server_jobs sys budgets (Core c) n) = legal_synchronous (server_tasks sys budgets (Core c)) fits 0 n in
-    let same : started_jobs sys budgets [] (Core c) n ≡ server_jobs sys budgets (Core c) n = jobs_at_zero sys budgets [] (Core c) n (λ q. refl) in
-    (none.keeps [] n inputs.0 inputs.1 run.0 run.1 inputs.2 (started_of_permitted sys budgets [] n inputs.0 inputs.1 run.0 run.1 (λ q. refl) run.2)).cores c h miss.job (deadline_of (server_tasks sys budgets (Core c)) (job_at (server_jobs sys budgets (Core c) n) miss.job))
-    (subst (λ (jobs : List Job). Lost (server_tasks sys budgets (Core c)) jobs (run_at run.0 c) miss.job (deadline_of (server_tasks sys budgets (Core c)) (job_at (server_jobs sys budgets (Core c) n) miss.job))) (sym same) (missed_is_lost (server_tasks sys budgets (Core c)) (server_jobs sys budgets (Core c) n) (run_at run.0 c) miss.job (omega (arith, legal.in_jitter miss.job miss.missed.is_job, (fits _ (legal.named miss.job miss.missed.is_job)).in_deadline)) miss.missed))
+    let miss : MissesBy (server_tasks sys budgets (Core c)) (server_jobs sys budgets (Core c) n) (run_at run.0 c) t
+    = must.misses inputs.0 inputs.1 run.0 run.1 any run.2 in
+    let legal : LegalRelease (server_tasks sys budgets (Core c)) (server_jobs sys budgets (Core c) n)
+    = legal_synchronous (server_tasks sys budgets (Core c)) fits 0 n in
+    let same : started_jobs sys budgets [] (Core c) n ≡ server_jobs sys budgets (Core c) n
+    = jobs_at_zero sys budgets [] (Core c) n (λ q. refl) in
+    (none.keeps [] n inputs.0 inputs.1 run.0 run.1 inputs.2
+    (started_of_permitted sys budgets [] n inputs.0 inputs.1 run.0 run.1 (λ q. refl) run.2)).cores c h miss.job
+    (deadline_of (server_tasks sys budgets (Core c)) (job_at (server_jobs sys budgets (Core c) n) miss.job))
+    (subst (λ (jobs : List Job). Lost (server_tasks sys budgets (Core c)) jobs (run_at run.0 c) miss.job
+    (deadline_of (server_tasks sys budgets (Core c)) (job_at (server_jobs sys budgets (Core c) n) miss.job)))
+    (sym same) (missed_is_lost (server_tasks sys budgets (Core c)) (server_jobs sys budgets (Core c) n)
+    (run_at run.0 c) miss.job (omega (
+      arith,
+      legal.in_jitter miss.job miss.missed.is_job,
+      (fits _ (legal.named miss.job miss.missed.is_job)).in_deadline,
+    )) miss.missed))
 
 -- it misses also where the core gives no slot
-it_misses_without_a_slot : (sys : SystemView) (budgets : List ℕ) (c t n : ℕ) → CoreMustMiss sys budgets c t n → (supplies : List (List Bool)) (jobs : List (List Job)) (core_runs part_runs : List (List (Option ℕ))) → AnyInputs sys n supplies jobs
-    → ((x : ℕ) → get_or (get_or supplies c []) x false ≡ false) → PermittedTree sys budgets n supplies jobs core_runs part_runs → MissesBy (server_tasks sys budgets (Core c)) (server_jobs sys budgets (Core c) n) (run_at core_runs c) t
-it_misses_without_a_slot sys budgets c t n must supplies jobs core_runs part_runs any none tree = must.misses supplies jobs core_runs part_runs any tree
+it_misses_without_a_slot : (sys : SystemView) (budgets : List ℕ) (c t n : ℕ) → CoreMustMiss sys budgets c t n
+    → (supplies : List (List Bool)) (jobs : List (List Job)) (core_runs part_runs : List (List (Option ℕ)))
+    → AnyInputs sys n supplies jobs
+    → ((x : ℕ) → get_or (get_or supplies c []) x false ≡ false)
+    → PermittedTree sys budgets n supplies jobs core_runs part_runs
+    → MissesBy (server_tasks sys budgets (Core c)) (server_jobs sys budgets (Core c) n) (run_at core_runs c) t
+it_misses_without_a_slot sys budgets c t n must supplies jobs core_runs part_runs any none tree =
+    must.misses supplies jobs core_runs part_runs any tree
 
 -- a refusal speaks of the node that it names
-the_second_core_is_overfull : (sys : SystemView) (short : Short) → RefusalHolds sys (Overfull (Core 1) short) → (core_at sys 1).supply ≡ None → CoreIsOverfull sys 1 short
+the_second_core_is_overfull : (sys : SystemView) (short : Short) → RefusalHolds sys (Overfull (Core 1) short)
+    → (core_at sys 1).supply ≡ None → CoreIsOverfull sys 1 short
 the_second_core_is_overfull sys short holds full = holds.core full
 
-the_second_part_is_overfull : (sys : SystemView) (short : Short) → RefusalHolds sys (Overfull (Part 1) short) → is_leaf_at sys 1 ≡ true → LeafIsOverfull sys 1 (part_at sys 1).budget
+the_second_part_is_overfull : (sys : SystemView) (short : Short) → RefusalHolds sys (Overfull (Part 1) short)
+    → is_leaf_at sys 1 ≡ true → LeafIsOverfull sys 1 (part_at sys 1).budget
 the_second_part_is_overfull sys short holds leaf = holds.leaf leaf

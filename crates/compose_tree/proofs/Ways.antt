@@ -52,7 +52,8 @@ later sys is q h = go (part_at sys q).parent (is.parents q h) (same_itself (unde
     above_part p l (Part r) x = omega (arith, x)
     above_part p l (Core d) x = absurd x
 
-    go : (parent : Parent) → Stands sys q parent → is_child sys (place_of parent) q ≡ true → Later sys q (place_of parent)
+    go : (parent : Parent) → Stands sys q parent → is_child sys (place_of parent) q ≡ true
+        → Later sys q (place_of parent)
     go (on_core c) s child = record {
       is_node = s;
       not_reached = λ r l e. cc;
@@ -70,10 +71,12 @@ later sys is q h = go (part_at sys q).parent (is.parents q h) (same_itself (unde
 
 -- the start of the way is no node that is visited later, and does not stand on one that is not
 -- reached next
-not_start : (sys : SystemView) (kept : List ℕ) (start node : Place) (b : List ℕ) → OnWay sys kept start node b → (y : Place) → (Reached node y → ⊥) → y ≡ start → ⊥
+not_start : (sys : SystemView) (kept : List ℕ) (start node : Place) (b : List ℕ) → OnWay sys kept start node b
+    → (y : Place) → (Reached node y → ⊥) → y ≡ start → ⊥
 not_start sys kept start node b on y far e = far (subst (Reached node) (sym e) on.reached)
 
-start_not_on : (sys : SystemView) (kept : List ℕ) (start : Place) (q : ℕ) (b : List ℕ) → OnWay sys kept start (Part q) b → (y : Place) → (Reached (Part q) y → ⊥) → (y ≡ under sys q → ⊥) → StandsOn sys start y → ⊥
+start_not_on : (sys : SystemView) (kept : List ℕ) (start : Place) (q : ℕ) (b : List ℕ) → OnWay sys kept start (Part q) b
+    → (y : Place) → (Reached (Part q) y → ⊥) → (y ≡ under sys q → ⊥) → StandsOn sys start y → ⊥
 start_not_on sys kept (Core c) q b on y far other stands = stands
 start_not_on sys kept (Part e) q b on y far other stands = elim (cases_eq e q) [
   | inl same ↦ other (sym (same_is (under sys q) y (subst (λ (k : ℕ). is_child sys y k ≡ true) same stands)))
@@ -81,12 +84,19 @@ start_not_on sys kept (Part e) q b on y far other stands = elim (cases_eq e q) [
 ]
 
 -- a node that is not reached yet, nor next, is settled by the kept budgets
-settled_yet : (sys : SystemView) (kept : List ℕ) (start : Place) (q : ℕ) (b : List ℕ) (budget : ℕ) → IsSystem sys → IsKept sys kept start → OnWay sys kept start (Part q) b → q < length sys.parts →
+settled_yet : (sys : SystemView) (kept : List ℕ) (start : Place) (q : ℕ) (b : List ℕ) (budget : ℕ) → IsSystem sys
+    → IsKept sys kept start → OnWay sys kept start (Part q) b → q < length sys.parts →
     (r : ℕ) → r < q → (Part r ≡ under sys q → ⊥) → IsSettledNode sys (set b q budget) (Part r)
 settled_yet sys kept start q b budget is keeps on h r l other =
-    keeps.nodes (Part r) (omega (arith, h)) (not_start sys kept start (Part q) b on (Part r) far) (start_not_on sys kept start q b on (Part r) far other) (set b q budget) (record {
-      own = get_or-set_other b q r budget 0 (λ e. omega arith) ∙ on.others r (omega (arith, h)) (λ x. (later sys is r (omega (arith, h))).no_core_part r (lower (under sys r) x));
-      children = λ s i child. get_or-set_other b q s budget 0 (λ e. other (sym (same_is (under sys q) (Part r) (subst (λ (k : ℕ). is_child sys (Part r) k ≡ true) e child))))
+    keeps.nodes (Part r) (omega (arith, h)) (not_start sys kept start (Part q) b on (Part r) far)
+    (start_not_on sys kept start q b on (Part r) far other) (set b q budget) (record {
+      own =
+          get_or-set_other b q r budget 0 (λ e. omega arith)
+          ∙ on.others r (omega (arith, h))
+          (λ x. (later sys is r (omega (arith, h))).no_core_part r (lower (under sys r) x));
+      children =
+          λ s i child. get_or-set_other b q s budget 0 (λ e. other
+          (sym (same_is (under sys q) (Part r) (subst (λ (k : ℕ). is_child sys (Part r) k ≡ true) e child))))
           ∙ on.others s i (λ x. far (subst (Reached (Part q)) (same_is (under sys s) (Part r) child) x));
     })
   where
@@ -98,7 +108,8 @@ settled_yet sys kept start q b budget is keeps on h r l other =
     lower (Core c) x = x
 
 -- the way begins where all that is visited before its start is settled
-pub way_begins : (sys : SystemView) → IsSystem sys → (kept : List ℕ) (start : Place) → IsKept sys kept start → OnWay sys kept start start kept
+pub way_begins : (sys : SystemView) → IsSystem sys → (kept : List ℕ) (start : Place) → IsKept sys kept start
+    → OnWay sys kept start start kept
 way_begins sys is kept start keeps = record {
   one_each = keeps.one_each;
   is_node = keeps.is_node;
@@ -118,17 +129,24 @@ way_begins sys is kept start keeps = record {
     not_on (Core c) r h g stands = stands
 
     settled : (r : ℕ) → visited_from start ≤ r → r < length sys.parts → IsSettledNode sys kept (Part r)
-    settled r g h = keeps.nodes (Part r) h (not_it start r g) (not_on start r keeps.is_node g) kept (record { own = refl; children = λ q i child. refl })
+    settled r g h =
+        keeps.nodes (Part r) h (not_it start r g) (not_on start r keeps.is_node g) kept
+        (record { own = refl; children = λ q i child. refl })
 
 -- and goes on to the node on which a part stands, once that part is settled
-pub way_goes_on : (sys : SystemView) → IsSystem sys → (kept : List ℕ) (start : Place) → IsKept sys kept start → (q : ℕ) (b : List ℕ) → OnWay sys kept start (Part q) b → (budget : ℕ) →
-    AssignedFrom sys (set b q budget) q → PartsPassFrom sys (set b q budget) q → OnWay sys kept start (under sys q) (set b q budget)
+pub way_goes_on : (sys : SystemView) → IsSystem sys → (kept : List ℕ) (start : Place) → IsKept sys kept start
+    → (q : ℕ) (b : List ℕ) → OnWay sys kept start (Part q) b → (budget : ℕ) →
+    AssignedFrom sys (set b q budget) q → PartsPassFrom sys (set b q budget) q
+    → OnWay sys kept start (under sys q) (set b q budget)
 way_goes_on sys is kept start keeps q b on budget assigned pass = record {
   one_each = length-set b q budget ∙ on.one_each;
   is_node = next.is_node;
   assigned = record { one_each = assigned.one_each; stands = stands };
   pass = passes;
-  others = λ s h far. get_or-set_other b q s budget 0 (λ e. far (subst (λ (k : ℕ). Reached (under sys q) (under sys k)) (sym e) (itself (under sys q)))) ∙ on.others s h (λ x. far (next.above (under sys s) x));
+  others =
+      λ s h far. get_or-set_other b q s budget 0
+      (λ e. far (subst (λ (k : ℕ). Reached (under sys q) (under sys k)) (sym e) (itself (under sys q))))
+      ∙ on.others s h (λ x. far (next.above (under sys s) x));
   reached = next.above start on.reached;
   above = λ ne y on_y. above start refl y on_y;
 }
@@ -140,7 +158,8 @@ way_goes_on sys is kept start keeps q b on budget assigned pass = record {
     not_next (Part p) r g e = let same : r ≡ p = part_is r p e in absurd (omega arith)
     not_next (Core c) r g e = cc
 
-    stands : (r : ℕ) → visited_from (under sys q) ≤ r → r < length sys.parts → BudgetStands sys (set b q budget) r (part_at sys r).budget
+    stands : (r : ℕ) → visited_from (under sys q) ≤ r → r < length sys.parts
+        → BudgetStands sys (set b q budget) r (part_at sys r).budget
     stands r g h = elim (cases_lt r q) [
       | inl l ↦ (settled_yet sys kept start q b budget is keeps on on.is_node r l (not_next (under sys q) r g)).stands
       | inr l ↦ assigned.stands r l h
@@ -155,26 +174,33 @@ way_goes_on sys is kept start keeps q b on budget assigned pass = record {
     above : (s : Place) → s ≡ start → (y : Place) → StandsOn sys start y → Reached (under sys q) y
     above (Core c) e y on_y = absurd (subst (λ (x : Place). StandsOn sys x y) (sym e) on_y)
     above (Part k) e y on_y = elim (cases_eq k q) [
-      | inl same ↦ subst (Reached (under sys q)) (same_is (under sys q) y (subst (λ (i : ℕ). is_child sys y i ≡ true) same (subst (λ (x : Place). StandsOn sys x y) (sym e) on_y))) (itself (under sys q))
+      | inl same ↦
+          subst (Reached (under sys q)) (same_is (under sys q) y (subst (λ (i : ℕ). is_child sys y i ≡ true) same
+          (subst (λ (x : Place). StandsOn sys x y) (sym e) on_y))) (itself (under sys q))
       | inr differ ↦ next.above y (on.above (λ p. differ (part_is k q (e ∙ p))) y on_y)
     ]
 
 -- at a core all parts are settled, and every other core passes
-pub core_passes : (sys : SystemView) (kept : List ℕ) (start : Place) → IsKept sys kept start → (c : ℕ) (b : List ℕ) → OnWay sys kept start (Core c) b → (d : ℕ) → d < length sys.cores → d ≢ c → NodePasses sys b (Core d)
+pub core_passes : (sys : SystemView) (kept : List ℕ) (start : Place) → IsKept sys kept start → (c : ℕ) (b : List ℕ)
+    → OnWay sys kept start (Core c) b → (d : ℕ) → d < length sys.cores → d ≢ c → NodePasses sys b (Core d)
 core_passes sys kept start keeps c b on d h ne =
     (keeps.nodes (Core d) h (not_start sys kept start (Core c) b on (Core d) ne) (not_on start refl) b (record {
       own = tt;
-      children = λ s i child. on.others s i (λ x. ne (subst (Reached (Core c)) (same_is (under sys s) (Core d) child) x));
+      children =
+          λ s i child. on.others s i (λ x. ne (subst (Reached (Core c)) (same_is (under sys s) (Core d) child) x));
     })).passes
   where
     not_on : (s : Place) → s ≡ start → StandsOn sys start (Core d) → ⊥
     not_on (Core k) e stands = subst (λ (x : Place). StandsOn sys x (Core d)) (sym e) stands
     not_on (Part k) e stands = ne (on.above (λ p. let bad : Part k ≡ Core c = e ∙ p in cc) (Core d) stands)
 
-pub other_cores : (sys : SystemView) (kept : List ℕ) (start : Place) → IsKept sys kept start → (c : ℕ) (b : List ℕ) → OnWay sys kept start (Core c) b → CoresPassTo sys b c
-other_cores sys kept start keeps c b on d l = core_passes sys kept start keeps c b on d (omega (arith, l, on.is_node)) (λ e. omega arith)
+pub other_cores : (sys : SystemView) (kept : List ℕ) (start : Place) → IsKept sys kept start → (c : ℕ) (b : List ℕ)
+    → OnWay sys kept start (Core c) b → CoresPassTo sys b c
+other_cores sys kept start keeps c b on d l =
+    core_passes sys kept start keeps c b on d (omega (arith, l, on.is_node)) (λ e. omega arith)
 
-pub all_cores : (sys : SystemView) (kept : List ℕ) (start : Place) → IsKept sys kept start → (c : ℕ) (b : List ℕ) → OnWay sys kept start (Core c) b → NodePasses sys b (Core c) → CoresPassTo sys b (length sys.cores)
+pub all_cores : (sys : SystemView) (kept : List ℕ) (start : Place) → IsKept sys kept start → (c : ℕ) (b : List ℕ)
+    → OnWay sys kept start (Core c) b → NodePasses sys b (Core c) → CoresPassTo sys b (length sys.cores)
 all_cores sys kept start keeps c b on passes d h = elim (cases_eq d c) [
   | inl same ↦ subst (λ (k : ℕ). NodePasses sys b (Core k)) (sym same) passes
   | inr differ ↦ core_passes sys kept start keeps c b on d h differ
@@ -189,5 +215,7 @@ fewer_left sys is q h = go (under sys q) (λ x. (later sys is q h).no_core_part 
     go (Core c) far = omega arith
 
 -- the core at which the way ends, tested, admits the system
-pub way_ends : (sys : SystemView) (kept : List ℕ) (start : Place) → IsKept sys kept start → (c : ℕ) (b : List ℕ) → OnWay sys kept start (Core c) b → NodePasses sys b (Core c) → Admitted sys b
-way_ends sys kept start keeps c b on passes = settled_admits sys b on.assigned on.pass (all_cores sys kept start keeps c b on passes)
+pub way_ends : (sys : SystemView) (kept : List ℕ) (start : Place) → IsKept sys kept start → (c : ℕ) (b : List ℕ)
+    → OnWay sys kept start (Core c) b → NodePasses sys b (Core c) → Admitted sys b
+way_ends sys kept start keeps c b on passes =
+    settled_admits sys b on.assigned on.pass (all_cores sys kept start keeps c b on passes)

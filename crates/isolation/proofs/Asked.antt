@@ -5,23 +5,58 @@ use Rattle.isolation.specs.Demand.{deferrable_demand, asked_of}
 use Rattle.isolation.proofs.Demands.{last_demand, own_last, demand_rises}
 
 -- in windows no longer than v's period that is what is asked of them
-pub last-le-asked : (tie : ℕ → ℕ → ℕ) (v u P B t : ℕ) → 1 ≤ P → (u ≡ v → t ≤ P) → last_demand tie v u P B t ≤ asked_of tie v u P B t
+pub last-le-asked : (tie : ℕ → ℕ → ℕ) (v u P B t : ℕ) → 1 ≤ P → (u ≡ v → t ≤ P)
+    → last_demand tie v u P B t ≤ asked_of tie v u P B t
 last-le-asked tie v u P B t p l = elim (cases_Bool (u == v)) [
-  | inl e ↦ omega (arith, own_last tie v u P B t p (l (eqb-true u v e)), cond-true {A = ℕ} (u == v) B (deferrable_demand P B (t - tie v u)) e)
-  | inr e ↦ omega (arith, cond-false {A = ℕ} (u == v) (max B (deferrable_demand P B (t - tie v u))) (deferrable_demand P B (t - tie v u)) e, cond-false {A = ℕ} (u == v) B (deferrable_demand P B (t - tie v u)) e)
+  | inl e ↦
+      omega (
+        arith,
+        own_last tie v u P B t p (l (eqb-true u v e)),
+        cond-true {A = ℕ} (u == v) B (deferrable_demand P B (t - tie v u)) e,
+      )
+  | inr e ↦
+      omega (
+        arith,
+        cond-false {A = ℕ} (u == v) (max B (deferrable_demand P B (t - tie v u)))
+            (deferrable_demand P B (t - tie v u)) e,
+        cond-false {A = ℕ} (u == v) B (deferrable_demand P B (t - tie v u)) e,
+      )
 ]
 
 pub asked-le-last : (tie : ℕ → ℕ → ℕ) (v u P B t : ℕ) → asked_of tie v u P B t ≤ last_demand tie v u P B t
 asked-le-last tie v u P B t = elim (cases_Bool (u == v)) [
-  | inl e ↦ omega (arith, cond-true {A = ℕ} (u == v) (max B (deferrable_demand P B (t - tie v u))) (deferrable_demand P B (t - tie v u)) e, cond-true {A = ℕ} (u == v) B (deferrable_demand P B (t - tie v u)) e)
-  | inr e ↦ omega (arith, cond-false {A = ℕ} (u == v) (max B (deferrable_demand P B (t - tie v u))) (deferrable_demand P B (t - tie v u)) e, cond-false {A = ℕ} (u == v) B (deferrable_demand P B (t - tie v u)) e)
+  | inl e ↦
+      omega (
+        arith,
+        cond-true {A = ℕ} (u == v) (max B (deferrable_demand P B (t - tie v u)))
+            (deferrable_demand P B (t - tie v u)) e,
+        cond-true {A = ℕ} (u == v) B (deferrable_demand P B (t - tie v u)) e,
+      )
+  | inr e ↦
+      omega (
+        arith,
+        cond-false {A = ℕ} (u == v) (max B (deferrable_demand P B (t - tie v u)))
+            (deferrable_demand P B (t - tie v u)) e,
+        cond-false {A = ℕ} (u == v) B (deferrable_demand P B (t - tie v u)) e,
+      )
 ]
 
 -- more slots ask for no less
 pub asked-rises : (tie : ℕ → ℕ → ℕ) (v u P B s t : ℕ) → 1 ≤ P → s ≤ t → asked_of tie v u P B s ≤ asked_of tie v u P B t
 asked-rises tie v u P B s t p l = elim (cases_Bool (u == v)) [
-  | inl e ↦ omega (arith, cond-true {A = ℕ} (u == v) B (deferrable_demand P B (s - tie v u)) e, cond-true {A = ℕ} (u == v) B (deferrable_demand P B (t - tie v u)) e)
-  | inr e ↦ omega (arith, cond-false {A = ℕ} (u == v) B (deferrable_demand P B (s - tie v u)) e, cond-false {A = ℕ} (u == v) B (deferrable_demand P B (t - tie v u)) e, demand_rises false P B (s - tie v u) (t - tie v u) p (omega arith))
+  | inl e ↦
+      omega (
+        arith,
+        cond-true {A = ℕ} (u == v) B (deferrable_demand P B (s - tie v u)) e,
+        cond-true {A = ℕ} (u == v) B (deferrable_demand P B (t - tie v u)) e,
+      )
+  | inr e ↦
+      omega (
+        arith,
+        cond-false {A = ℕ} (u == v) B (deferrable_demand P B (s - tie v u)) e,
+        cond-false {A = ℕ} (u == v) B (deferrable_demand P B (t - tie v u)) e,
+        demand_rises false P B (s - tie v u) (t - tie v u) p (omega arith),
+      )
 ]
 
 -- v itself asks for its budget

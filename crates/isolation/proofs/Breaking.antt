@@ -67,14 +67,18 @@ is_third : (x a b d : ℕ) → x ≡ d → (x == a || (x == b || x == d)) ≡ tr
 is_third x a b d e = grind (arith, nat_tests)
 
 -- a child of a core is a VCPU, and its core is one of the system
-child_is_vcpu : (sys : SystemView) (c u : ℕ) → u < length sys.parts → is_child sys (Core c) u ≡ true → is_vcpu sys u ≡ true
-child_is_vcpu sys c u l child = and_from (nat_lt u (length sys.parts)) (is_core (part_at sys u).parent) (lt-ltb u (length sys.parts) l) (go (part_at sys u).parent child)
+child_is_vcpu : (sys : SystemView) (c u : ℕ) → u < length sys.parts → is_child sys (Core c) u ≡ true
+    → is_vcpu sys u ≡ true
+child_is_vcpu sys c u l child =
+    and_from (nat_lt u (length sys.parts)) (is_core (part_at sys u).parent) (lt-ltb u (length sys.parts) l)
+    (go (part_at sys u).parent child)
   where
     go : (p : Parent) → same_place (place_of p) (Core c) ≡ true → is_core p ≡ true
     go (core_parent d) h = refl
     go (part_parent q) h = absurd (false≢true h)
 
-module _ (sys : SystemView) (budgets : List ℕ) (plan : IsPlan sys budgets) (c v longest : ℕ) (lv : v < length sys.parts) (cv : is_child sys (Core c) v ≡ true) (up_to : PeriodsUpTo sys c longest) (in_limit : 2 * longest ≤ LIMIT) where
+module _ (sys : SystemView) (budgets : List ℕ) (plan : IsPlan sys budgets) (c v longest : ℕ) (lv : v < length sys.parts)
+    (cv : is_child sys (Core c) v ≡ true) (up_to : PeriodsUpTo sys c longest) (in_limit : 2 * longest ≤ LIMIT) where
   abbrev m : ℕ
   m = length sys.parts
 
@@ -122,16 +126,24 @@ module _ (sys : SystemView) (budgets : List ℕ) (plan : IsPlan sys budgets) (c 
   mk at vcpu what = record { at = at; vcpu = vcpu; what = what }
 
   kind_start : (u : ℕ) → kind u (first u) ≡ Start
-  kind_start u = cond-true {A = WakeKind} (first u == first u) Start (cond (first u == suc (first u)) Block Wake) (eq-eqb (first u) (first u) refl)
+  kind_start u =
+      cond-true {A = WakeKind} (first u == first u) Start (cond (first u == suc (first u)) Block Wake)
+      (eq-eqb (first u) (first u) refl)
 
   kind_later : (u x : ℕ) → x ≢ first u → kind u x ≡ cond (x == suc (first u)) Block Wake
-  kind_later u x ne = cond-false {A = WakeKind} (x == first u) Start (cond (x == suc (first u)) Block Wake) (differs x (first u) ne)
+  kind_later u x ne =
+      cond-false {A = WakeKind} (x == first u) Start (cond (x == suc (first u)) Block Wake) (differs x (first u) ne)
 
   kind_block : (u : ℕ) → kind u (suc (first u)) ≡ Block
-  kind_block u = kind_later u (suc (first u)) (λ e. omega arith) ∙ cond-true {A = WakeKind} (suc (first u) == suc (first u)) Block Wake (eq-eqb (suc (first u)) (suc (first u)) refl)
+  kind_block u =
+      kind_later u (suc (first u)) (λ e. omega arith)
+      ∙ cond-true {A = WakeKind} (suc (first u) == suc (first u)) Block Wake
+      (eq-eqb (suc (first u)) (suc (first u)) refl)
 
   kind_wake : (u x : ℕ) → suc (first u) < x → kind u x ≡ Wake
-  kind_wake u x l = kind_later u x (λ e. omega arith) ∙ cond-false {A = WakeKind} (x == suc (first u)) Block Wake (differs x (suc (first u)) (λ e. omega arith))
+  kind_wake u x l =
+      kind_later u x (λ e. omega arith)
+      ∙ cond-false {A = WakeKind} (x == suc (first u)) Block Wake (differs x (suc (first u)) (λ e. omega arith))
 
   no_start : (u x : ℕ) → first u < x → is_start (kind u x) ≡ false
   no_start u x l = ap is_start (kind_later u x (λ e. omega arith)) ∙ either (x == suc (first u))
@@ -201,7 +213,9 @@ module _ (sys : SystemView) (budgets : List ℕ) (plan : IsPlan sys budgets) (c 
 
   is_row : (i : ℕ) → i < length rows → IsRow i
   is_row i l =
-      let p = and_parts (is_child sys (Core c) (vcpu i)) (slot i == first (vcpu i) || (slot i == suc (first (vcpu i)) || slot i == r)) (place i l).passes_it in
+      let p
+      = and_parts (is_child sys (Core c) (vcpu i))
+      (slot i == first (vcpu i) || (slot i == suc (first (vcpu i)) || slot i == r)) (place i l).passes_it in
       record {
         stands = record { is_part = (let q : 1 ≤ m = some_part in omega arith); on_core = p.0 };
         when = one_of (slot i) (first (vcpu i)) (suc (first (vcpu i))) r p.1;
@@ -210,22 +224,36 @@ module _ (sys : SystemView) (budgets : List ℕ) (plan : IsPlan sys budgets) (c 
   by_r : (i : ℕ) → i < length rows → slot i ≤ r
   by_r i l =
       let h : IsRow i = is_row i l in
-      elim h.when [ inl e ↦ omega (arith, e, early (vcpu i) h.stands) | inr o ↦ elim o [ inl e ↦ omega (arith, e, early (vcpu i) h.stands) | inr e ↦ omega (arith, e) ] ]
+      elim h.when [
+        | inl e ↦
+            omega (arith, e, early (vcpu i) h.stands)
+        | inr o ↦
+            elim o [ inl e ↦ omega (arith, e, early (vcpu i) h.stands) | inr e ↦ omega (arith, e) ]
+      ]
 
   from_first : (i : ℕ) → i < length rows → first (vcpu i) ≤ slot i
   from_first i l =
       let h : IsRow i = is_row i l in
-      elim h.when [ inl e ↦ omega (arith, e) | inr o ↦ elim o [ inl e ↦ omega (arith, e) | inr e ↦ omega (arith, e, early (vcpu i) h.stands) ] ]
+      elim h.when [
+        | inl e ↦
+            omega (arith, e)
+        | inr o ↦
+            elim o [ inl e ↦ omega (arith, e) | inr e ↦ omega (arith, e, early (vcpu i) h.stands) ]
+      ]
 
   -- behind its block a VCPU has a row at r alone
   at_last : (i : ℕ) → i < length rows → suc (first (vcpu i)) < slot i → slot i ≡ r
-  at_last i l h = elim (is_row i l).when [ inl e ↦ absurd (omega (arith, e)) | inr o ↦ elim o [ inl e ↦ absurd (omega (arith, e)) | inr e ↦ e ] ]
+  at_last i l h =
+      elim (is_row i l).when
+      [ inl e ↦ absurd (omega (arith, e)) | inr o ↦ elim o [ inl e ↦ absurd (omega (arith, e)) | inr e ↦ e ] ]
 
   -- the numbers rise, and so do the slots
   rising : (i j : ℕ) → i < j → j < length rows → key i < key j
   rising i j l k = elim (cases_lt (key i) (key j)) [
     | inl h ↦ h
-    | inr h ↦ absurd (omega (arith, count_below-mono has (key j) (key i) h, (place i (omega arith)).counted, (place j k).counted))
+    | inr h ↦
+        absurd
+        (omega (arith, count_below-mono has (key j) (key i) h, (place i (omega arith)).counted, (place j k).counted))
   ]
 
   no_earlier : (i j : ℕ) → i < j → j < length rows → slot i ≤ slot j
@@ -261,10 +289,12 @@ module _ (sys : SystemView) (budgets : List ℕ) (plan : IsPlan sys budgets) (c 
   find u x l h here =
       let k : ℕ = number u x in
       let inside : k < all = omega (arith, mul-le-mul_right m h) in
-      let passes : has k ≡ true = ap (λ (z : ℕ). has_at z (k / m)) (vcpu_is u x l) ∙ (ap (has_at u) (slot_is u x l) ∙ here) in
+      let passes : has k ≡ true
+      = ap (λ (z : ℕ). has_at z (k / m)) (vcpu_is u x l) ∙ (ap (has_at u) (slot_is u x l) ∙ here) in
       let i : ℕ = count_below has k in
       let stands : key i ≡ k = stands_at has k all 0 inside passes in
-      let within : i < length rows = omega (arith, rows-long, length-places_where has all, counted_below has k all inside passes) in
+      let within : i < length rows
+      = omega (arith, rows-long, length-places_where has all, counted_below has k all inside passes) in
       let s : slot i ≡ x = ap (λ (z : ℕ). z / m) stands ∙ slot_is u x l in
       let w : vcpu i ≡ u = ap (λ (z : ℕ). z % m) stands ∙ vcpu_is u x l in
       record {
@@ -272,17 +302,26 @@ module _ (sys : SystemView) (budgets : List ℕ) (plan : IsPlan sys budgets) (c 
         within = within;
         slot_there = s;
         vcpu_there = w;
-        is = row_is i within ∙ (ap (λ (z : ℕ). mk z (vcpu i) (kind (vcpu i) z)) s ∙ ap (λ (z : ℕ). mk x z (kind z x)) w);
+        is =
+            row_is i within ∙ (ap (λ (z : ℕ). mk z (vcpu i) (kind (vcpu i) z)) s ∙ ap (λ (z : ℕ). mk x z (kind z x)) w);
       }
 
   start_of_u : (u : ℕ) → Stands u → Found u (first u)
-  start_of_u u s = find u (first u) s.is_part (omega (arith, early u s)) (and_from (is_child sys (Core c) u) (first u == first u || (first u == suc (first u) || first u == r)) s.on_core (is_first (first u) (first u) (suc (first u)) r refl))
+  start_of_u u s =
+      find u (first u) s.is_part (omega (arith, early u s)) (and_from (is_child sys (Core c) u)
+      (first u == first u || (first u == suc (first u) || first u == r)) s.on_core
+      (is_first (first u) (first u) (suc (first u)) r refl))
 
   block_of_u : (u : ℕ) → Stands u → Found u (suc (first u))
-  block_of_u u s = find u (suc (first u)) s.is_part (omega (arith, early u s)) (and_from (is_child sys (Core c) u) (suc (first u) == first u || (suc (first u) == suc (first u) || suc (first u) == r)) s.on_core (is_second (suc (first u)) (first u) (suc (first u)) r refl))
+  block_of_u u s =
+      find u (suc (first u)) s.is_part (omega (arith, early u s)) (and_from (is_child sys (Core c) u)
+      (suc (first u) == first u || (suc (first u) == suc (first u) || suc (first u) == r)) s.on_core
+      (is_second (suc (first u)) (first u) (suc (first u)) r refl))
 
   wake_of_u : (u : ℕ) → Stands u → Found u r
-  wake_of_u u s = find u r s.is_part (omega arith) (and_from (is_child sys (Core c) u) (r == first u || (r == suc (first u) || r == r)) s.on_core (is_third r (first u) (suc (first u)) r refl))
+  wake_of_u u s =
+      find u r s.is_part (omega arith) (and_from (is_child sys (Core c) u)
+      (r == first u || (r == suc (first u) || r == r)) s.on_core (is_third r (first u) (suc (first u)) r refl))
 
   -- a row that is not one of u
   other_row : (u j : ℕ) → j < length rows → (vcpu j ≡ u → ⊥) → is_of u (row_at rows j) ≡ false
@@ -296,10 +335,14 @@ module _ (sys : SystemView) (budgets : List ℕ) (plan : IsPlan sys budgets) (c 
   last_start u s =
       let f : Found u (first u) = start_of_u u s in
       last_is (starts u) (row_at rows) f.at (length rows) f.within
-      (ap (starts u) f.is ∙ and_from (u == u) (is_start (kind u (first u))) (eq-eqb u u refl) (ap is_start (kind_start u)))
+      (ap (starts u) f.is
+      ∙ and_from (u == u) (is_start (kind u (first u))) (eq-eqb u u refl) (ap is_start (kind_start u)))
       (λ j lo hi. ap (starts u) (row_is j hi) ∙ elim (cases_eq (vcpu j) u) [
         | inr ne ↦ and_left (vcpu j == u) (is_start (kind (vcpu j) (slot j))) (differs (vcpu j) u ne)
-        | inl e ↦ ap (λ (b : Bool). (vcpu j == u) && b) (no_start (vcpu j) (slot j) (omega (arith, apart f.at j lo hi (f.vcpu_there ∙ sym e), f.slot_there, ap first e))) ∙ and_no (vcpu j == u)
+        | inl e ↦
+            ap (λ (b : Bool). (vcpu j == u) && b) (no_start (vcpu j) (slot j)
+            (omega (arith, apart f.at j lo hi (f.vcpu_there ∙ sym e), f.slot_there, ap first e)))
+            ∙ and_no (vcpu j == u)
       ])
 
   started : (u : ℕ) → Stands u → is_started rows u ≡ true
@@ -313,11 +356,20 @@ module _ (sys : SystemView) (budgets : List ℕ) (plan : IsPlan sys budgets) (c 
   asleep u x s lo hi =
       let f : Found u (suc (first u)) = block_of_u u s in
       let test : Row → Bool = λ row. is_by x row && is_of u row in
-      let last : last_row test rows (length rows) ≡ Some (row_at rows f.at) = last_is test (row_at rows) f.at (length rows) f.within
-      (ap test f.is ∙ and_from (nat_le (suc (first u)) x) (u == u) (le-leb (suc (first u)) x (omega arith)) (eq-eqb u u refl))
+      let last : last_row test rows (length rows) ≡ Some (row_at rows f.at)
+      = last_is test (row_at rows) f.at (length rows) f.within
+      (ap test f.is
+      ∙ and_from (nat_le (suc (first u)) x) (u == u) (le-leb (suc (first u)) x (omega arith)) (eq-eqb u u refl))
       (λ j a b. ap test (row_is j b) ∙ elim (cases_eq (vcpu j) u) [
         | inr ne ↦ ap (λ (z : Bool). nat_le (slot j) x && z) (differs (vcpu j) u ne) ∙ and_no (nat_le (slot j) x)
-        | inl e ↦ and_left (nat_le (slot j) x) (vcpu j == u) (lt-leb (slot j) x (omega (arith, hi, at_last j b (omega (arith, apart f.at j a b (f.vcpu_there ∙ sym e), f.slot_there, ap first e)))))
+        | inl e ↦
+            and_left (nat_le (slot j) x) (vcpu j == u) (lt-leb (slot j) x
+            (omega (
+              arith,
+              hi,
+              at_last j b
+                  (omega (arith, apart f.at j a b (f.vcpu_there ∙ sym e), f.slot_there, ap first e)),
+            )))
       ])
       in
       ap blocks last ∙ (ap (λ (row : Row). is_block row.what) f.is ∙ ap is_block (kind_block u))
@@ -326,41 +378,65 @@ module _ (sys : SystemView) (budgets : List ℕ) (plan : IsPlan sys budgets) (c 
   awake u x s lo =
       let f : Found u r = wake_of_u u s in
       let test : Row → Bool = λ row. is_by x row && is_of u row in
-      let last : last_row test rows (length rows) ≡ Some (row_at rows f.at) = last_is test (row_at rows) f.at (length rows) f.within
+      let last : last_row test rows (length rows) ≡ Some (row_at rows f.at)
+      = last_is test (row_at rows) f.at (length rows) f.within
       (ap test f.is ∙ and_from (nat_le r x) (u == u) (le-leb r x lo) (eq-eqb u u refl))
       (λ j a b. ap test (row_is j b) ∙ elim (cases_eq (vcpu j) u) [
         | inr ne ↦ ap (λ (z : Bool). nat_le (slot j) x && z) (differs (vcpu j) u ne) ∙ and_no (nat_le (slot j) x)
         | inl e ↦ absurd (omega (arith, apart f.at j a b (f.vcpu_there ∙ sym e), f.slot_there, by_r j b))
       ])
       in
-      ap blocks last ∙ (ap (λ (row : Row). is_block row.what) f.is ∙ ap is_block (kind_wake u r (omega (arith, early u s, some_longest))))
+      ap blocks last
+      ∙ (ap (λ (row : Row). is_block row.what) f.is
+      ∙ ap is_block (kind_wake u r (omega (arith, early u s, some_longest))))
 
   -- the rows of a VCPU before each of its own
   abbrev Follows : ℕ → Row → Type 0
   Follows i row = may_follow (last_row (is_of row.vcpu) rows i) row.what ≡ true
 
   start_follows : (i : ℕ) → i < length rows → slot i ≡ first (vcpu i) → Follows i (mk (slot i) (vcpu i) Start)
-  start_follows i l e = ap (λ (o : Option Row). may_follow o Start) (none_below (is_of (vcpu i)) (row_at rows) i (λ j h. other_row (vcpu i) j (omega arith) (λ same. omega (arith, e, apart j i h l same, from_first j (omega arith), ap first same))))
+  start_follows i l e =
+      ap (λ (o : Option Row). may_follow o Start) (none_below (is_of (vcpu i)) (row_at rows) i
+      (λ j h. other_row (vcpu i) j (omega arith)
+      (λ same. omega (arith, e, apart j i h l same, from_first j (omega arith), ap first same))))
 
   -- behind one of its own, with no other between
-  behind : (i x : ℕ) (what : WakeKind) → (l : i < length rows) → (f : Found (vcpu i) x) → x < slot i → ((j : ℕ) → j < length rows → vcpu j ≡ vcpu i → x < slot j → slot j < slot i → ⊥) → may_follow (Some (mk x (vcpu i) (kind (vcpu i) x))) what ≡ true → Follows i (mk (slot i) (vcpu i) what)
+  behind : (i x : ℕ) (what : WakeKind) → (l : i < length rows) → (f : Found (vcpu i) x) → x < slot i
+      → ((j : ℕ) → j < length rows → vcpu j ≡ vcpu i → x < slot j → slot j < slot i → ⊥)
+      → may_follow (Some (mk x (vcpu i) (kind (vcpu i) x))) what ≡ true → Follows i (mk (slot i) (vcpu i) what)
   behind i x what l f before none may =
-      ap (λ (o : Option Row). may_follow o what) (last_is (is_of (vcpu i)) (row_at rows) f.at i (in_order_of f.at i f.within (omega (arith, f.slot_there)) l) (own_row (vcpu i) x f)
-      (λ j a b. other_row (vcpu i) j (omega arith) (λ same. none j (omega arith) same (omega (arith, apart f.at j a (omega arith) (f.vcpu_there ∙ sym same), f.slot_there)) (apart j i b l same))))
+      ap (λ (o : Option Row). may_follow o what) (last_is (is_of (vcpu i)) (row_at rows) f.at i
+      (in_order_of f.at i f.within (omega (arith, f.slot_there)) l) (own_row (vcpu i) x f)
+      (λ j a b. other_row (vcpu i) j (omega arith) (λ same. none j (omega arith) same
+      (omega (arith, apart f.at j a (omega arith) (f.vcpu_there ∙ sym same), f.slot_there))
+      (apart j i b l same))))
       ∙ (ap (λ (row : Row). may_follow (Some row) what) f.is ∙ may)
 
   block_follows : (i : ℕ) → i < length rows → slot i ≡ suc (first (vcpu i)) → Follows i (mk (slot i) (vcpu i) Block)
-  block_follows i l e = behind i (first (vcpu i)) Block l (start_of_u (vcpu i) (is_row i l).stands) (omega (arith, e)) (λ j k same a b. omega (arith, e)) (ap (λ (w : WakeKind). not (is_block w)) (kind_start (vcpu i)))
+  block_follows i l e =
+      behind i (first (vcpu i)) Block l (start_of_u (vcpu i) (is_row i l).stands) (omega (arith, e))
+      (λ j k same a b. omega (arith, e)) (ap (λ (w : WakeKind). not (is_block w)) (kind_start (vcpu i)))
 
   wake_follows : (i : ℕ) → i < length rows → slot i ≡ r → Follows i (mk (slot i) (vcpu i) Wake)
-  wake_follows i l e = behind i (suc (first (vcpu i))) Wake l (block_of_u (vcpu i) (is_row i l).stands) (omega (arith, e, early (vcpu i) (is_row i l).stands, some_longest)) (λ j k same a b. omega (arith, e, at_last j k (omega (arith, a, ap first same)))) (ap is_block (kind_block (vcpu i)))
+  wake_follows i l e =
+      behind i (suc (first (vcpu i))) Wake l (block_of_u (vcpu i) (is_row i l).stands)
+      (omega (arith, e, early (vcpu i) (is_row i l).stands, some_longest))
+      (λ j k same a b. omega (arith, e, at_last j k (omega (arith, a, ap first same))))
+      (ap is_block (kind_block (vcpu i)))
 
   in_turn : (i : ℕ) → i < length rows → Follows i (row_at rows i)
   in_turn i l = subst (Follows i) (sym (row_is i l)) (elim (is_row i l).when [
-    | inl e ↦ subst (λ (w : WakeKind). Follows i (mk (slot i) (vcpu i) w)) (sym (ap (kind (vcpu i)) e ∙ kind_start (vcpu i))) (start_follows i l e)
+    | inl e ↦
+        subst (λ (w : WakeKind). Follows i (mk (slot i) (vcpu i) w))
+        (sym (ap (kind (vcpu i)) e ∙ kind_start (vcpu i))) (start_follows i l e)
     | inr o ↦ elim o [
-      | inl e ↦ subst (λ (w : WakeKind). Follows i (mk (slot i) (vcpu i) w)) (sym (ap (kind (vcpu i)) e ∙ kind_block (vcpu i))) (block_follows i l e)
-      | inr e ↦ subst (λ (w : WakeKind). Follows i (mk (slot i) (vcpu i) w)) (sym (kind_wake (vcpu i) (slot i) (omega (arith, e, early (vcpu i) (is_row i l).stands, some_longest)))) (wake_follows i l e)
+      | inl e ↦
+          subst (λ (w : WakeKind). Follows i (mk (slot i) (vcpu i) w))
+          (sym (ap (kind (vcpu i)) e ∙ kind_block (vcpu i))) (block_follows i l e)
+      | inr e ↦
+          subst (λ (w : WakeKind). Follows i (mk (slot i) (vcpu i) w))
+          (sym (kind_wake (vcpu i) (slot i) (omega (arith, e, early (vcpu i) (is_row i l).stands, some_longest))))
+          (wake_follows i l e)
     ]
   ])
 
@@ -374,7 +450,9 @@ module _ (sys : SystemView) (budgets : List ℕ) (plan : IsPlan sys budgets) (c 
     in_limit = λ i l. omega (arith, at_is i l, by_r i l, in_limit);
     in_order = λ i l. omega (arith, at_is i (omega arith), at_is (i + 1) l, no_earlier i (i + 1) (omega arith) l);
     known = is_workload_row;
-    one_a_slot = λ i j l k same at. omega (arith, at, at_is i (omega arith), at_is j k, apart i j l k (sym (of_is i (omega arith)) ∙ (same ∙ of_is j k)));
+    one_a_slot =
+        λ i j l k same at. omega
+        (arith, at, at_is i (omega arith), at_is j k, apart i j l k (sym (of_is i (omega arith)) ∙ (same ∙ of_is j k)));
     in_turn = in_turn;
   }
 

@@ -19,7 +19,9 @@ use Rattle.isolation.specs.Open.{goes_sooner}
 use Rattle.isolation.specs.Keeping.{got_in}
 
 abbrev server : Parent → ℕ → ℕ → Bool → PartView
-server parent period budget extra = record { name = 65 ∷ []; parent = parent; sched = Edf; period = period; budget = Some budget; extra = extra; tasks = [] }
+server parent period budget extra =
+    record
+    { name = 65 ∷ []; parent = parent; sched = Edf; period = period; budget = Some budget; extra = extra; tasks = [] }
 
 abbrev core : CoreView
 core = record { name = 99 ∷ []; sched = Edf; supply = None }
@@ -28,7 +30,9 @@ abbrev system : List PartView → SystemView
 system parts = record { cores = core ∷ core ∷ []; parts = parts }
 
 -- what a server of 2 slots in 4 takes of 1 to 8 slots
-takes : (deferrable_demand 4 2 0 ≡ 0) × (deferrable_demand 4 2 1 ≡ 1) × (deferrable_demand 4 2 3 ≡ 2) × (deferrable_demand 4 2 4 ≡ 2) × (deferrable_demand 4 2 5 ≡ 3) × (deferrable_demand 4 2 6 ≡ 4) × (deferrable_demand 4 2 8 ≡ 4)
+takes : (deferrable_demand 4 2 0 ≡ 0) × (deferrable_demand 4 2 1 ≡ 1) × (deferrable_demand 4 2 3 ≡ 2)
+    × (deferrable_demand 4 2 4 ≡ 2) × (deferrable_demand 4 2 5 ≡ 3) × (deferrable_demand 4 2 6 ≡ 4)
+    × (deferrable_demand 4 2 8 ≡ 4)
 takes = (refl, refl, refl, refl, refl, refl, refl)
 
 -- 2 slots in 4 and 3 in 6 fill a core. Up to its period every number of slots is too few for each.
@@ -74,7 +78,8 @@ short_chosen = refl
 short_is : CoreRun pair pair_budgets wakes_late 12 0 short_run
 short_is = is_run pair pair_budgets wakes_late 0 short_run short_chosen
 
-second_is_short : (start_of wakes_late 1 ≡ 6) × (deadline_at pair wakes_late 1 6 ≡ 12) × (got_in pair wakes_late short_run 1 0 ≡ 2)
+second_is_short : (start_of wakes_late 1 ≡ 6) × (deadline_at pair wakes_late 1 6 ≡ 12)
+    × (got_in pair wakes_late short_run 1 0 ≡ 2)
 unfolding last_below sum_below
 second_is_short = (refl, refl, refl)
 
@@ -128,5 +133,6 @@ unfolding sum_below
 others_are_not_asked = refl
 
 -- where ties are left open the place in the file is nothing, and the level goes before the deadline
-sooner : (goes_sooner 0 5 1 0 6 0 ≡ true) × (goes_sooner 0 5 0 0 5 1 ≡ false) × (goes_sooner 0 9 1 1 5 0 ≡ true) × (goes_sooner 1 5 0 0 9 1 ≡ false)
+sooner : (goes_sooner 0 5 1 0 6 0 ≡ true) × (goes_sooner 0 5 0 0 5 1 ≡ false) × (goes_sooner 0 9 1 1 5 0 ≡ true)
+    × (goes_sooner 1 5 0 0 9 1 ≡ false)
 sooner = (refl, refl, refl, refl)

@@ -22,14 +22,16 @@ use Rattle.isolation.proofs.Short.{IsWitness, short_period}
 use Rattle.isolation.proofs.Breaking.{r, rows, is_workload, is_witness}
 
 -- the core of a VCPU is one of the system
-core_of_child : (sys : SystemView) → IsSystem sys → (c v : ℕ) → v < length sys.parts → is_child sys (Core c) v ≡ true → c < length sys.cores
+core_of_child : (sys : SystemView) → IsSystem sys → (c v : ℕ) → v < length sys.parts → is_child sys (Core c) v ≡ true
+    → c < length sys.cores
 core_of_child sys is c v l child = go (part_at sys v).parent child (is.parents v l)
   where
     go : (p : Parent) → same_place (place_of p) (Core c) ≡ true → Stands sys v p → c < length sys.cores
     go (core_parent d) h stands = subst (λ (z : ℕ). z < length sys.cores) (eqb-true d c h) stands
     go (part_parent q) h stands = absurd (false≢true h)
 
-exposed : (sys : SystemView) → IsSystem sys → (budgets : List ℕ) → IsPlan sys budgets → (c v : ℕ) → v < length sys.parts → is_child sys (Core c) v ≡ true → AsksTooMuch later sys budgets c v → IsExposed sys budgets c v
+exposed : (sys : SystemView) → IsSystem sys → (budgets : List ℕ) → IsPlan sys budgets → (c v : ℕ) → v < length sys.parts
+    → is_child sys (Core c) v ≡ true → AsksTooMuch later sys budgets c v → IsExposed sys budgets c v
 exposed sys is_sys budgets plan c v lv cv too_much longest fit up_to in_limit =
     let from : ℕ = r sys budgets plan c v longest lv cv up_to in_limit in
     let P : ℕ = (part_at sys v).period in
@@ -49,11 +51,20 @@ exposed sys is_sys budgets plan c v lv cv too_much longest fit up_to in_limit =
         in_run = omega (arith, start);
         awake = λ x lo hi. w.awake v x lv cv (omega (arith, start)) (omega (arith, start));
       };
-      some_run = (run_at (rtds_run sys budgets all_rows slots) c, (rtds_run-is sys budgets all_rows slots).cores c (core_of_child sys is_sys c v lv cv));
-      short = λ run is. short_period sys budgets plan all_rows workload slots c run is v from fit (omega arith) w too_much;
+      some_run = (
+        run_at (rtds_run sys budgets all_rows slots) c,
+        (rtds_run-is sys budgets all_rows slots).cores c (core_of_child sys is_sys c v lv cv),
+      );
+      short =
+          λ run is. short_period sys budgets plan all_rows workload slots c run is v from fit (omega arith) w too_much;
     }
 
-pub means : (sys : SystemView) → IsSystem sys → (budgets : List ℕ) → IsPlan sys budgets → (c v : ℕ) → v < length sys.parts → is_child sys (Core c) v ≡ true → (answer : Isolation) → IsIsolation sys budgets c v answer → Means sys budgets c v answer
-means sys is_sys budgets plan c v lv cv (Isolated last) h = (keeps_openly sys budgets plan c v last h.isolated, keeps sys budgets plan c v last (in_file_order sys budgets plan c v last h.isolated))
+pub means : (sys : SystemView) → IsSystem sys → (budgets : List ℕ) → IsPlan sys budgets → (c v : ℕ)
+    → v < length sys.parts → is_child sys (Core c) v ≡ true → (answer : Isolation) → IsIsolation sys budgets c v answer
+    → Means sys budgets c v answer
+means sys is_sys budgets plan c v lv cv (Isolated last) h = (
+  keeps_openly sys budgets plan c v last h.isolated,
+  keeps sys budgets plan c v last (in_file_order sys budgets plan c v last h.isolated),
+)
 means sys is_sys budgets plan c v lv cv (ByTies last) h = keeps sys budgets plan c v last h.1.isolated
 means sys is_sys budgets plan c v lv cv ByBlock h = exposed sys is_sys budgets plan c v lv cv h

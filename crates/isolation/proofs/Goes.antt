@@ -19,4 +19,11 @@ pub record Goes (sooner : ℕ → ℕ → ℕ → ℕ → ℕ → ℕ → Bool) 
   pub tie_in_turn : (v w h : ℕ) → tie v h ≤ tie v w + tie w h
 
 pub place_goes : Goes goes_first later
-place_goes = record { by_level = first_by_level; by_end = first_by_end; tie_few = later_few; tie_itself = later_itself; tie_in_turn = later_in_turn }
+place_goes =
+    record {
+      by_level = first_by_level;
+      by_end = first_by_end;
+      tie_few = later_few;
+      tie_itself = later_itself;
+      tie_in_turn = later_in_turn;
+    }

@@ -31,8 +31,10 @@ module _ (tie : ℕ → ℕ → ℕ) (sys : SystemView) (budgets : List ℕ) (c 
   -- more slots ask for no less
   rises : IsPlan sys budgets → (s t : ℕ) → s ≤ t → asked tie sys budgets c v s ≤ asked tie sys budgets c v t
   rises plan s t l = sum_below-le (part_asks s) (part_asks t) (length sys.parts)
-      (λ u k. cond_rises (is_child sys (Core c) u) (asked_of tie v u (part_at sys u).period (budget_at budgets u) s) (asked_of tie v u (part_at sys u).period (budget_at budgets u) t)
-      (asked-rises tie v u (part_at sys u).period (budget_at budgets u) s t (omega (arith, plan.some_budget u k, plan.in_period u k)) l))
+      (λ u k. cond_rises (is_child sys (Core c) u) (asked_of tie v u (part_at sys u).period (budget_at budgets u) s)
+      (asked_of tie v u (part_at sys u).period (budget_at budgets u) t)
+      (asked-rises tie v u (part_at sys u).period (budget_at budgets u) s t
+      (omega (arith, plan.some_budget u k, plan.in_period u k)) l))
 
   -- all numbers below t are too few
   abbrev pub TooFewBelow : ℕ → Type 0
@@ -41,7 +43,8 @@ module _ (tie : ℕ → ℕ → ℕ) (sys : SystemView) (budgets : List ℕ) (c 
   pub few_first : v < length sys.parts → is_child sys (Core c) v ≡ true → TooFewBelow (budget_at budgets v)
   few_first l child s k = omega (
     arith,
-    cond-true {A = ℕ} (is_child sys (Core c) v) (asked_of tie v v (part_at sys v).period (budget_at budgets v) s) 0 child,
+    cond-true {A = ℕ} (is_child sys (Core c) v) (asked_of tie v v (part_at sys v).period (budget_at budgets v) s) 0
+        child,
     asked-own tie v (part_at sys v).period (budget_at budgets v) s,
     get-le-sum_below (part_asks s) v (length sys.parts) l,
   )
@@ -52,27 +55,42 @@ module _ (tie : ℕ → ℕ → ℕ) (sys : SystemView) (budgets : List ℕ) (c 
     | inr q ↦ omega (arith, rises plan t s q)
   ]
 
-  pub found : (t : ℕ) → t ≤ (part_at sys v).period → asked tie sys budgets c v t ≤ t → TooFewBelow t → IsLeastBy tie sys budgets c v t
+  pub found : (t : ℕ) → t ≤ (part_at sys v).period → asked tie sys budgets c v t ≤ t → TooFewBelow t
+      → IsLeastBy tie sys budgets c v t
   found t h enough few = record { isolated = record { in_period = h; enough = enough }; least = few }
 
   pub not_found : (t : ℕ) → (part_at sys v).period < t → TooFewBelow t → AsksTooMuch tie sys budgets c v
   not_found t h few s k = few s (omega arith)
 
 -- what is enough where ties are left open is enough in the order of the file
-pub in_file_order : (sys : SystemView) (budgets : List ℕ) → IsPlan sys budgets → (c v t : ℕ) → IsIsolatedBy no_tie sys budgets c v t → IsIsolatedBy later sys budgets c v t
+pub in_file_order : (sys : SystemView) (budgets : List ℕ) → IsPlan sys budgets → (c v t : ℕ)
+    → IsIsolatedBy no_tie sys budgets c v t → IsIsolatedBy later sys budgets c v t
 in_file_order sys budgets plan c v t h = record {
   in_period = h.in_period;
   enough = omega (
     arith,
     h.enough,
     sum_below-le (part_asks later sys budgets c v t) (part_asks no_tie sys budgets c v t) (length sys.parts)
-        (λ u k. cond_rises (is_child sys (Core c) u) (asked_of later v u (part_at sys u).period (budget_at budgets u) t) (asked_of no_tie v u (part_at sys u).period (budget_at budgets u) t)
-        (fewer u (part_at sys u).period (budget_at budgets u) (omega (arith, plan.some_budget u k, plan.in_period u k)))),
+        (λ u k. cond_rises (is_child sys (Core c) u) (asked_of later v u (part_at sys u).period (budget_at budgets u) t)
+        (asked_of no_tie v u (part_at sys u).period (budget_at budgets u) t)
+        (fewer u (part_at sys u).period (budget_at budgets u)
+        (omega (arith, plan.some_budget u k, plan.in_period u k)))),
   );
 }
   where
     fewer : (u P B : ℕ) → 1 ≤ P → asked_of later v u P B t ≤ asked_of no_tie v u P B t
     fewer u P B p = elim (cases_Bool (u == v)) [
-      | inl e ↦ omega (arith, cond-true {A = ℕ} (u == v) B (deferrable_demand P B (t - later v u)) e, cond-true {A = ℕ} (u == v) B (deferrable_demand P B (t - no_tie v u)) e)
-      | inr e ↦ omega (arith, cond-false {A = ℕ} (u == v) B (deferrable_demand P B (t - later v u)) e, cond-false {A = ℕ} (u == v) B (deferrable_demand P B (t - no_tie v u)) e, demand_rises false P B (t - later v u) (t - no_tie v u) p (omega arith))
+      | inl e ↦
+          omega (
+            arith,
+            cond-true {A = ℕ} (u == v) B (deferrable_demand P B (t - later v u)) e,
+            cond-true {A = ℕ} (u == v) B (deferrable_demand P B (t - no_tie v u)) e,
+          )
+      | inr e ↦
+          omega (
+            arith,
+            cond-false {A = ℕ} (u == v) B (deferrable_demand P B (t - later v u)) e,
+            cond-false {A = ℕ} (u == v) B (deferrable_demand P B (t - no_tie v u)) e,
+            demand_rises false P B (t - later v u) (t - no_tie v u) p (omega arith),
+          )
     ]

@@ -10,37 +10,47 @@ use Rattle.release_file.specs.Workload.{row_at, last_row, is_of, is_start, start
 use Rattle.csv_rows.proofs.Last.{FoundRow, some_found, some_row}
 
 -- from its start on a VCPU is started
-pub started_from : (rows : List Row) (v x : ℕ) → is_started rows v ≡ true → start_of rows v ≤ x → is_started_at rows v x ≡ true
+pub started_from : (rows : List Row) (v x : ℕ) → is_started rows v ≡ true → start_of rows v ≤ x
+    → is_started_at rows v x ≡ true
 started_from rows v x h z =
-    let w : (row : Row) × (last_row (starts v) rows (length rows) ≡ Some row) × FoundRow (starts v) (row_at rows) (length rows) row = some_found (starts v) (row_at rows) (length rows) h in
+    let w : (row : Row) × (last_row (starts v) rows (length rows) ≡ Some row)
+    × FoundRow (starts v) (row_at rows) (length rows) row
+    = some_found (starts v) (row_at rows) (length rows) h in
     let at : w.0.at ≡ start_of rows v = sym (ap slot_of w.1) in
     some_row (λ row. is_by x row && starts v row) (row_at rows) (length rows) w.2.place w.2.within
-    (subst (λ (r : Row). (is_by x r && starts v r) ≡ true) (sym w.2.is) (and_from (is_by x w.0) (starts v w.0) (le-leb w.0.at x (omega arith)) w.2.passes))
+    (subst (λ (r : Row). (is_by x r && starts v r) ≡ true) (sym w.2.is)
+    (and_from (is_by x w.0) (starts v w.0) (le-leb w.0.at x (omega arith)) w.2.passes))
 
 -- and one that is started at a slot is started
 pub started_some : (rows : List Row) (v x : ℕ) → is_started_at rows v x ≡ true → is_started rows v ≡ true
 started_some rows v x h =
     let w = some_found (λ row. is_by x row && starts v row) (row_at rows) (length rows) h in
-    some_row (starts v) (row_at rows) (length rows) w.2.place w.2.within (subst (λ (r : Row). starts v r ≡ true) (sym w.2.is) (and_parts (is_by x w.0) (starts v w.0) w.2.passes).1)
+    some_row (starts v) (row_at rows) (length rows) w.2.place w.2.within
+    (subst (λ (r : Row). starts v r ≡ true) (sym w.2.is) (and_parts (is_by x w.0) (starts v w.0) w.2.passes).1)
 
 -- a start follows on no row
-start_is_first : (o : Option Row) (what : WakeKind) → is_start what ≡ true → may_follow o what ≡ true → is_some o ≡ false
+start_is_first : (o : Option Row) (what : WakeKind) → is_start what ≡ true → may_follow o what ≡ true
+    → is_some o ≡ false
 start_is_first None what s h = refl
 start_is_first (Some last) Start s h = absurd (false≢true h)
 start_is_first (Some last) Wake s h = absurd (false≢true s)
 start_is_first (Some last) Block s h = absurd (false≢true s)
 
 -- of two rows of a VCPU the later one is no start
-one_start : (sys : SystemView) (rows : List Row) → IsWorkload sys rows → (v i j : ℕ) → i < j → j < length rows → starts v (row_at rows i) ≡ true → starts v (row_at rows j) ≡ true → ⊥
+one_start : (sys : SystemView) (rows : List Row) → IsWorkload sys rows → (v i j : ℕ) → i < j → j < length rows
+    → starts v (row_at rows i) ≡ true → starts v (row_at rows j) ≡ true → ⊥
 one_start sys rows is v i j l m a b =
     let p = and_parts (is_of v (row_at rows i)) (is_start (row_at rows i).what) a in
     let q = and_parts (is_of v (row_at rows j)) (is_start (row_at rows j).what) b in
     let of : (row_at rows j).vcpu ≡ v = eqb-true _ _ q.0 in
-    let none : is_some (last_row (is_of (row_at rows j).vcpu) rows j) ≡ false = start_is_first (last_row (is_of (row_at rows j).vcpu) rows j) (row_at rows j).what q.1 (is.in_turn j m) in
-    both_ways _ (subst (λ (z : ℕ). is_some (last_row (is_of z) rows j) ≡ false) of none) (some_row (is_of v) (row_at rows) j i l p.0)
+    let none : is_some (last_row (is_of (row_at rows j).vcpu) rows j) ≡ false
+    = start_is_first (last_row (is_of (row_at rows j).vcpu) rows j) (row_at rows j).what q.1 (is.in_turn j m) in
+    both_ways _ (subst (λ (z : ℕ). is_some (last_row (is_of z) rows j) ≡ false) of none)
+    (some_row (is_of v) (row_at rows) j i l p.0)
 
 -- so one that is started at a slot starts no later
-pub started_by : (sys : SystemView) (rows : List Row) → IsWorkload sys rows → (v x : ℕ) → is_started_at rows v x ≡ true → start_of rows v ≤ x
+pub started_by : (sys : SystemView) (rows : List Row) → IsWorkload sys rows → (v x : ℕ) → is_started_at rows v x ≡ true
+    → start_of rows v ≤ x
 started_by sys rows is v x h =
     let w = some_found (λ row. is_by x row && starts v row) (row_at rows) (length rows) h in
     let p = and_parts (is_by x w.0) (starts v w.0) w.2.passes in

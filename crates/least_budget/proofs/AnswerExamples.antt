@@ -13,24 +13,38 @@ use Rattle.least_budget.specs.declared.answers.Least.TheVariants.{Budget, Over, 
 use Rattle.least_budget.specs.Answers.{IsTested, Foretells, IsLeast, Separates}
 
 what_a_test_says : (sched : Sched) (tasks : List SporadicTask) (bound : ℕ → ℕ) (cycle : ℕ) (short : Short) →
-    (IsTested sched tasks bound cycle AllPasses → IsSmall sched tasks cycle × Passes sched tasks bound) × (IsTested sched tasks bound cycle (FirstShort short) → IsSmall sched tasks cycle × IsShortfall sched tasks bound short)
+    (IsTested sched tasks bound cycle AllPasses → IsSmall sched tasks cycle × Passes sched tasks bound)
+    × (IsTested sched tasks bound cycle (FirstShort short)
+    → IsSmall sched tasks cycle × IsShortfall sched tasks bound short)
     × (IsTested sched tasks bound cycle TestWide → IsSmall sched tasks cycle → ⊥)
 what_a_test_says sched tasks bound cycle short = (λ h. h, λ h. h, λ h. h)
 
-what_it_foretells : (Conforms : List Bool → Type 0) (before : Job → Job → Bool) (tasks : List SporadicTask) (short : Short) →
-    (Foretells Conforms before tasks AllPasses → NoJobLost Conforms before tasks) × (Foretells Conforms before tasks (FirstShort short) → MustMiss Conforms before tasks)
+what_it_foretells : (Conforms : List Bool → Type 0) (before : Job → Job → Bool) (tasks : List SporadicTask)
+    (short : Short) →
+    (Foretells Conforms before tasks AllPasses → NoJobLost Conforms before tasks)
+    × (Foretells Conforms before tasks (FirstShort short) → MustMiss Conforms before tasks)
 what_it_foretells Conforms before tasks short = (λ h. h, λ h. h)
 
 what_a_least_budget_says : (sched : Sched) (tasks : List SporadicTask) (period budget : ℕ) (short : Short) →
-    (IsLeast sched tasks period (Budget budget) → IsSmall sched tasks period × IsLeastBudget sched tasks period budget) × (IsLeast sched tasks period (Over short) → IsSmall sched tasks period × IsShortfall sched tasks (sbf period period) short)
+    (IsLeast sched tasks period (Budget budget) → IsSmall sched tasks period × IsLeastBudget sched tasks period budget)
+    × (IsLeast sched tasks period (Over short)
+    → IsSmall sched tasks period × IsShortfall sched tasks (sbf period period) short)
     × (IsLeast sched tasks period Wide → IsSmall sched tasks period → ⊥)
 what_a_least_budget_says sched tasks period budget short = (λ h. h, λ h. h, λ h. h)
 
-below_the_least_budget_some_release_must_miss : (before : Job → Job → Bool) (tasks : List SporadicTask) (period least budget : ℕ) → Separates before tasks period (Budget least) → budget ≤ period → budget < least → MustMiss (GivesBudget period budget) before tasks
-below_the_least_budget_some_release_must_miss before tasks period least budget separates within less = (separates budget within).0 less
+below_the_least_budget_some_release_must_miss : (before : Job → Job → Bool) (tasks : List SporadicTask)
+    (period least budget : ℕ) → Separates before tasks period (Budget least) → budget ≤ period → budget < least
+    → MustMiss (GivesBudget period budget) before tasks
+below_the_least_budget_some_release_must_miss before tasks period least budget separates within less =
+    (separates budget within).0 less
 
-from_the_least_budget_on_no_job_is_lost : (before : Job → Job → Bool) (tasks : List SporadicTask) (period least budget : ℕ) → Separates before tasks period (Budget least) → budget ≤ period → least ≤ budget → NoJobLost (GivesBudget period budget) before tasks
-from_the_least_budget_on_no_job_is_lost before tasks period least budget separates within more = (separates budget within).1 more
+from_the_least_budget_on_no_job_is_lost : (before : Job → Job → Bool) (tasks : List SporadicTask)
+    (period least budget : ℕ) → Separates before tasks period (Budget least) → budget ≤ period → least ≤ budget
+    → NoJobLost (GivesBudget period budget) before tasks
+from_the_least_budget_on_no_job_is_lost before tasks period least budget separates within more =
+    (separates budget within).1 more
 
-over_a_whole_period_no_budget_serves : (before : Job → Job → Bool) (tasks : List SporadicTask) (period budget : ℕ) (short : Short) → Separates before tasks period (Over short) → budget ≤ period → MustMiss (GivesBudget period budget) before tasks
+over_a_whole_period_no_budget_serves : (before : Job → Job → Bool) (tasks : List SporadicTask) (period budget : ℕ)
+    (short : Short) → Separates before tasks period (Over short) → budget ≤ period
+    → MustMiss (GivesBudget period budget) before tasks
 over_a_whole_period_no_budget_serves before tasks period budget short separates within = separates budget within

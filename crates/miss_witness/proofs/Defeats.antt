@@ -17,33 +17,60 @@ use Rattle.fp_request.specs.Ranks.{ranks_is_rank}
 use Rattle.fp_test.proofs.Witness.{short_misses_from_start}
 
 pub shortfall_defeats : (sched : Sched) (tasks : List SporadicTask) → AreConstrained tasks
-    → {bound : ℕ → ℕ} {amount cycle : ℕ} {pattern : ℕ → Bool} {start : ℕ} {Conforms : List Bool → Type 0} → SupplyLaws bound amount cycle pattern start Conforms
+    → {bound : ℕ → ℕ} {amount cycle : ℕ} {pattern : ℕ → Bool} {start : ℕ} {Conforms : List Bool → Type 0}
+    → SupplyLaws bound amount cycle pattern start Conforms
     → (short : Short) → IsShortfall sched tasks bound short
-    → (slots : List Bool) → WorstList pattern start (shows_by tasks short) slots → Conforms slots × MissesFromStart pattern start (shows_by tasks short) (before_of sched tasks) tasks slots
-shortfall_defeats Edf tasks fits {bound} {amount} {cycle} {pattern} {start} {Conforms} laws (At t) h slots worst = (laws.worst_conforms slots worst.follows, edf_misses_from_start bound amount cycle pattern start Conforms laws tasks fits t h.short slots worst)
+    → (slots : List Bool) → WorstList pattern start (shows_by tasks short) slots
+    → Conforms slots × MissesFromStart pattern start (shows_by tasks short) (before_of sched tasks) tasks slots
+shortfall_defeats Edf tasks fits {bound} {amount} {cycle} {pattern} {start} {Conforms} laws (At t) h slots worst = (
+  laws.worst_conforms slots worst.follows,
+  edf_misses_from_start bound amount cycle pattern start Conforms laws tasks fits t h.short slots worst,
+)
 shortfall_defeats Edf tasks fits laws (Task i) h slots worst = absurd h
 shortfall_defeats Rm tasks fits laws (At t) h slots worst = absurd h
-shortfall_defeats Rm tasks fits laws (Task i) h slots worst = (laws.worst_conforms slots worst.follows, short_misses_from_start (ranks_above Rm tasks) (ranks_is_rank Rm tasks) tasks fits laws i h.is_task h.short slots worst)
+shortfall_defeats Rm tasks fits laws (Task i) h slots worst = (
+  laws.worst_conforms slots worst.follows,
+  short_misses_from_start (ranks_above Rm tasks) (ranks_is_rank Rm tasks) tasks fits laws i h.is_task h.short slots
+      worst,
+)
 shortfall_defeats Dm tasks fits laws (At t) h slots worst = absurd h
-shortfall_defeats Dm tasks fits laws (Task i) h slots worst = (laws.worst_conforms slots worst.follows, short_misses_from_start (ranks_above Dm tasks) (ranks_is_rank Dm tasks) tasks fits laws i h.is_task h.short slots worst)
+shortfall_defeats Dm tasks fits laws (Task i) h slots worst = (
+  laws.worst_conforms slots worst.follows,
+  short_misses_from_start (ranks_above Dm tasks) (ranks_is_rank Dm tasks) tasks fits laws i h.is_task h.short slots
+      worst,
+)
 shortfall_defeats Listed tasks fits laws (At t) h slots worst = absurd h
-shortfall_defeats Listed tasks fits laws (Task i) h slots worst = (laws.worst_conforms slots worst.follows, short_misses_from_start (ranks_above Listed tasks) (ranks_is_rank Listed tasks) tasks fits laws i h.is_task h.short slots worst)
+shortfall_defeats Listed tasks fits laws (Task i) h slots worst = (
+  laws.worst_conforms slots worst.follows,
+  short_misses_from_start (ranks_above Listed tasks) (ranks_is_rank Listed tasks) tasks fits laws i h.is_task h.short
+      slots worst,
+)
 
 -- so it is of a budget
-pub budget_defeated : (sched : Sched) (tasks : List SporadicTask) → AreConstrained tasks → (period budget : ℕ) → 1 ≤ period → budget ≤ period → (short : Short) (span : ℕ) → shows_by tasks short ≡ span → IsShortfall sched tasks (sbf period budget) short
-    → (slots : List Bool) → WorstList (worst_slot period budget) budget span slots → GivesBudget period budget slots × MissesFromStart (worst_slot period budget) budget span (before_of sched tasks) tasks slots
+pub budget_defeated : (sched : Sched) (tasks : List SporadicTask) → AreConstrained tasks → (period budget : ℕ)
+    → 1 ≤ period → budget ≤ period → (short : Short) (span : ℕ) → shows_by tasks short ≡ span
+    → IsShortfall sched tasks (sbf period budget) short
+    → (slots : List Bool) → WorstList (worst_slot period budget) budget span slots
+    → GivesBudget period budget slots
+    × MissesFromStart (worst_slot period budget) budget span (before_of sched tasks) tasks slots
 budget_defeated sched tasks fits period budget l m short span e h =
-    subst (λ (z : ℕ). (slots : List Bool) → WorstList (worst_slot period budget) budget z slots → GivesBudget period budget slots × MissesFromStart (worst_slot period budget) budget z (before_of sched tasks) tasks slots) e (shortfall_defeats sched tasks fits (periodic_laws period budget l m) short h)
+    subst (λ (z : ℕ). (slots : List Bool) → WorstList (worst_slot period budget) budget z slots
+    → GivesBudget period budget slots
+    × MissesFromStart (worst_slot period budget) budget z (before_of sched tasks) tasks slots) e
+    (shortfall_defeats sched tasks fits (periodic_laws period budget l m) short h)
 
 -- a task that is short first is one of the tasks, and its window is what its deadline leaves past
 -- its jitter
-pub short_task_inside : (sched : Sched) (tasks : List SporadicTask) (bound : ℕ → ℕ) (i : ℕ) → IsShortfall sched tasks bound (Task i) → i < length tasks
+pub short_task_inside : (sched : Sched) (tasks : List SporadicTask) (bound : ℕ → ℕ) (i : ℕ)
+    → IsShortfall sched tasks bound (Task i) → i < length tasks
 short_task_inside Edf tasks bound i h = absurd h
 short_task_inside Rm tasks bound i h = h.is_task
 short_task_inside Dm tasks bound i h = h.is_task
 short_task_inside Listed tasks bound i h = h.is_task
 
-pub short_task_window : (sched : Sched) (tasks : List SporadicTask) (bound : ℕ → ℕ) (i span : ℕ) → room_of (task_at tasks i) ≡ span → IsShortfall sched tasks bound (Task i) → IsShortWindow sched tasks bound span (Some i)
+pub short_task_window : (sched : Sched) (tasks : List SporadicTask) (bound : ℕ → ℕ) (i span : ℕ)
+    → room_of (task_at tasks i) ≡ span → IsShortfall sched tasks bound (Task i)
+    → IsShortWindow sched tasks bound span (Some i)
 short_task_window Edf tasks bound i span e h = absurd h
 short_task_window Rm tasks bound i span e h = (h, sym e)
 short_task_window Dm tasks bound i span e h = (h, sym e)

@@ -29,48 +29,72 @@ use Rattle.miss_witness.specs.Defeat.{IsDefeat}
 
 -- a computed leaf has the least budget of its own tasks
 abbrev pub LeastOf : PartView → ℕ → Type 0
-LeastOf part budget = IsSmall part.sched (own_tasks part) part.period × IsLeastBudget part.sched (own_tasks part) part.period budget
+LeastOf part budget =
+    IsSmall part.sched (own_tasks part) part.period × IsLeastBudget part.sched (own_tasks part) part.period budget
 
-pub leaf_least : (sys : SystemView) (budgets : List ℕ) → Admitted sys budgets → (q : ℕ) → q < length sys.parts → is_computed_leaf (part_at sys q) ≡ true → LeastOf (part_at sys q) (budget_at budgets q)
+pub leaf_least : (sys : SystemView) (budgets : List ℕ) → Admitted sys budgets → (q : ℕ) → q < length sys.parts
+    → is_computed_leaf (part_at sys q) ≡ true → LeastOf (part_at sys q) (budget_at budgets q)
 leaf_least sys budgets h q l computed =
     let kinds = and_parts _ _ computed in
-    subst (λ (tasks : List SporadicTask). IsSmall (part_at sys q).sched tasks (part_at sys q).period × IsLeastBudget (part_at sys q).sched tasks (part_at sys q).period (budget_at budgets q)) (leaf_tasks sys budgets q kinds.1) (go (part_at sys q).budget kinds.0 (h.assigned.stands q (omega arith) l))
+    subst (λ (tasks : List SporadicTask). IsSmall (part_at sys q).sched tasks (part_at sys q).period
+    × IsLeastBudget (part_at sys q).sched tasks (part_at sys q).period (budget_at budgets q))
+    (leaf_tasks sys budgets q kinds.1) (go (part_at sys q).budget kinds.0 (h.assigned.stands q (omega arith) l))
   where
-    go : (given : Option ℕ) → is_none given ≡ true → BudgetStands sys budgets q given → IsSmall (part_at sys q).sched (node_tasks sys budgets (Part q)) (part_at sys q).period × IsLeastBudget (part_at sys q).sched (node_tasks sys budgets (Part q)) (part_at sys q).period (budget_at budgets q)
+    go : (given : Option ℕ) → is_none given ≡ true → BudgetStands sys budgets q given
+        → IsSmall (part_at sys q).sched (node_tasks sys budgets (Part q)) (part_at sys q).period
+        × IsLeastBudget (part_at sys q).sched (node_tasks sys budgets (Part q)) (part_at sys q).period
+        (budget_at budgets q)
     go None e stands = stands
     go (Some given) e stands = absurd (cc)
 
 -- the first run of the defeat's jobs over its worst pattern
-pub record RunsDefeat (sched : Sched) (tasks : List SporadicTask) (period : ℕ) (defeat : Defeat) (jobs : List Job) (run : List (Option ℕ)) : Type 0 where
+pub record RunsDefeat (sched : Sched) (tasks : List SporadicTask) (period : ℕ) (defeat : Defeat) (jobs : List Job)
+    (run : List (Option ℕ)) : Type 0 where
   pub jobs_are : jobs ≡ synchronous tasks defeat.start defeat.span
   pub slots : List Bool
   pub worst : WorstList (worst_slot period defeat.budget) defeat.start defeat.span slots
   pub first : FirstRun guest (before_of sched tasks) tasks jobs slots run
 
 -- as the code makes it: the windows of the pattern, and the spans of the run over them
-pub runs_over : (sched : Sched) (tasks : List SporadicTask) (period : ℕ) (defeat : Defeat) (end : ℕ) → end ≡ defeat.start + defeat.span → (made jobs read : List Job) (drawn windows : List Window) (told spans : List Span)
+pub runs_over : (sched : Sched) (tasks : List SporadicTask) (period : ℕ) (defeat : Defeat) (end : ℕ)
+    → end ≡ defeat.start + defeat.span
+    → (made jobs read : List Job) (drawn windows : List Window) (told spans : List Span)
     → made ≡ synchronous tasks defeat.start defeat.span → jobs ≡ made → read ≡ made → windows ≡ drawn → spans ≡ told
-    → Follows (worst_slot period defeat.budget) (slots_of drawn end) → FirstRun guest (before_of sched tasks) tasks jobs (slots_of windows end) (run_of told)
+    → Follows (worst_slot period defeat.budget) (slots_of drawn end)
+    → FirstRun guest (before_of sched tasks) tasks jobs (slots_of windows end) (run_of told)
     → RunsDefeat sched tasks period defeat read (run_of spans)
 runs_over sched tasks period defeat end e made jobs read drawn windows told spans exact j r w s follows first = record {
   jobs_are = r ∙ exact;
   slots = slots_of drawn end;
   worst = record { follows = follows; long = slots-long drawn end ∙ e };
-  first = subst (λ (z : List Job). FirstRun guest (before_of sched tasks) tasks z (slots_of drawn end) (run_of spans)) (j ∙ sym r)
+  first =
+      subst (λ (z : List Job). FirstRun guest (before_of sched tasks) tasks z (slots_of drawn end) (run_of spans))
+      (j ∙ sym r)
       (subst (λ (z : List Window). FirstRun guest (before_of sched tasks) tasks jobs (slots_of z end) (run_of spans)) w
-      (subst (λ (z : List Span). FirstRun guest (before_of sched tasks) tasks jobs (slots_of windows end) (run_of z)) (sym s) first));
+      (subst (λ (z : List Span). FirstRun guest (before_of sched tasks) tasks jobs (slots_of windows end) (run_of z))
+      (sym s) first));
 }
 
-pub run_holds_released : (sched : Sched) (tasks : List SporadicTask) (period : ℕ) (defeat : Defeat) (jobs : List Job) (run : List (Option ℕ)) → RunsDefeat sched tasks period defeat jobs run → HoldsReleased jobs run
-run_holds_released sched tasks period defeat jobs run h = permitted_holds_released guest (before_of sched tasks) tasks jobs h.slots run (first_permitted guest (before_of sched tasks) tasks jobs h.slots run h.first)
+pub run_holds_released : (sched : Sched) (tasks : List SporadicTask) (period : ℕ) (defeat : Defeat) (jobs : List Job)
+    (run : List (Option ℕ)) → RunsDefeat sched tasks period defeat jobs run → HoldsReleased jobs run
+run_holds_released sched tasks period defeat jobs run h =
+    permitted_holds_released guest (before_of sched tasks) tasks jobs h.slots run
+    (first_permitted guest (before_of sched tasks) tasks jobs h.slots run h.first)
 
 -- its first miss is there
-pub run_is_replay : (sched : Sched) (tasks : List SporadicTask) (period : ℕ) (defeat : Defeat) → defeat.start + defeat.span ≤ 1000000
-    → ((slots : List Bool) → WorstList (worst_slot period defeat.budget) defeat.start defeat.span slots → MissesFromStart (worst_slot period defeat.budget) defeat.start defeat.span (before_of sched tasks) tasks slots)
-    → (jobs : List Job) (run : List (Option ℕ)) → RunsDefeat sched tasks period defeat jobs run → (miss : Option Miss) → IsFirstMiss tasks jobs run miss → IsReplayed sched tasks period defeat miss
+pub run_is_replay : (sched : Sched) (tasks : List SporadicTask) (period : ℕ) (defeat : Defeat)
+    → defeat.start + defeat.span ≤ 1000000
+    → ((slots : List Bool) → WorstList (worst_slot period defeat.budget) defeat.start defeat.span slots
+    → MissesFromStart (worst_slot period defeat.budget) defeat.start defeat.span (before_of sched tasks) tasks
+    slots)
+    → (jobs : List Job) (run : List (Option ℕ)) → RunsDefeat sched tasks period defeat jobs run → (miss : Option Miss)
+    → IsFirstMiss tasks jobs run miss → IsReplayed sched tasks period defeat miss
 run_is_replay sched tasks period defeat reach misses jobs run h None none =
-    let first : FirstRun guest (before_of sched tasks) tasks (synchronous tasks defeat.start defeat.span) h.slots run = subst (λ (z : List Job). FirstRun guest (before_of sched tasks) tasks z h.slots run) h.jobs_are h.first in
-    let missed = (misses h.slots h.worst).misses run (first_permitted guest (before_of sched tasks) tasks (synchronous tasks defeat.start defeat.span) h.slots run first) in
+    let first : FirstRun guest (before_of sched tasks) tasks (synchronous tasks defeat.start defeat.span) h.slots run
+    = subst (λ (z : List Job). FirstRun guest (before_of sched tasks) tasks z h.slots run) h.jobs_are h.first in
+    let missed
+    = (misses h.slots h.worst).misses run (first_permitted guest (before_of sched tasks) tasks
+    (synchronous tasks defeat.start defeat.span) h.slots run first) in
     absurd (subst (λ (z : List Job). IsFirstMiss tasks z run None) h.jobs_are none missed.0 missed.1)
 run_is_replay sched tasks period defeat reach misses jobs run h (Some miss) first = (
   reach,
@@ -84,25 +108,34 @@ run_is_replay sched tasks period defeat reach misses jobs run h (Some miss) firs
 )
 
 -- what the code reads of a leaf
-pub record LeafRead (sys : SystemView) (budgets : List ℕ) (q : ℕ) (sched : Sched) (tasks : List SporadicTask) (period least : ℕ) : Type 0 where
+pub record LeafRead (sys : SystemView) (budgets : List ℕ) (q : ℕ) (sched : Sched) (tasks : List SporadicTask)
+    (period least : ℕ) : Type 0 where
   pub sched_is : sched ≡ (part_at sys q).sched
   pub tasks_are : tasks ≡ own_tasks (part_at sys q)
   pub period_is : period ≡ (part_at sys q).period
   pub least_is : least ≡ budget_at budgets q
 
 -- its budget is the least of what was read, and 1 or more
-pub read_least : (sys : SystemView) → IsSystem sys → (budgets : List ℕ) → Admitted sys budgets → (q : ℕ) → q < length sys.parts → is_computed_leaf (part_at sys q) ≡ true
-    → (sched : Sched) (tasks : List SporadicTask) (period least : ℕ) → LeafRead sys budgets q sched tasks period least → IsSmall sched tasks period × IsLeastBudget sched tasks period least × (1 ≤ least)
+pub read_least : (sys : SystemView) → IsSystem sys → (budgets : List ℕ) → Admitted sys budgets → (q : ℕ)
+    → q < length sys.parts → is_computed_leaf (part_at sys q) ≡ true
+    → (sched : Sched) (tasks : List SporadicTask) (period least : ℕ) → LeafRead sys budgets q sched tasks period least
+    → IsSmall sched tasks period × IsLeastBudget sched tasks period least × (1 ≤ least)
 read_least sys is budgets h q l computed sched tasks period least read =
     let known = leaf_least sys budgets h q l computed in
-    rw (read.sched_is, read.tasks_are, read.period_is, read.least_is) (known.0, known.1, (admitted_in_period sys is budgets h q l).0)
+    rw (read.sched_is, read.tasks_are, read.period_is, read.least_is)
+    (known.0, known.1, (admitted_in_period sys is budgets h q l).0)
 
-pub none_smaller : (sched : Sched) (tasks : List SporadicTask) (period least : ℕ) → IsSmall sched tasks period × IsLeastBudget sched tasks period least × (1 ≤ least) → Passes sched tasks (sbf period (least - 1)) → ⊥
+pub none_smaller : (sched : Sched) (tasks : List SporadicTask) (period least : ℕ)
+    → IsSmall sched tasks period × IsLeastBudget sched tasks period least × (1 ≤ least)
+    → Passes sched tasks (sbf period (least - 1)) → ⊥
 none_smaller sched tasks period least h = h.1.least (least - 1) (omega (arith, h.2))
 
 -- so what was found is its replay
-pub read_replay : (sys : SystemView) (budgets : List ℕ) (q : ℕ) (sched : Sched) (tasks : List SporadicTask) (period least : ℕ) → LeafRead sys budgets q sched tasks period least
-    → (witness : Defeat) (miss : Option Miss) → IsDefeat sched tasks period least witness → IsReplayed sched tasks period witness miss → IsReplay sys budgets q (record { part = q; witness = witness; miss = miss })
+pub read_replay : (sys : SystemView) (budgets : List ℕ) (q : ℕ) (sched : Sched) (tasks : List SporadicTask)
+    (period least : ℕ) → LeafRead sys budgets q sched tasks period least
+    → (witness : Defeat) (miss : Option Miss) → IsDefeat sched tasks period least witness
+    → IsReplayed sched tasks period witness miss
+    → IsReplay sys budgets q (record { part = q; witness = witness; miss = miss })
 read_replay sys budgets q sched tasks period least read witness miss defeat replayed = record {
   of_part = refl;
   defeat = rw (← read.sched_is, ← read.tasks_are, ← read.period_is, ← read.least_is) defeat;

@@ -19,15 +19,21 @@ use Rattle.release_file.specs.WorkloadFile.{wakes_of, wake_rules, wake_rows}
 use Rattle.release_file.specs.ReleaseFile.{jobs_of, releases_of, release_rules, release_rows}
 
 abbrev part : ℕ → Parent → List NamedTask → PartView
-part letter parent tasks = record { name = letter ∷ []; parent = parent; sched = Edf; period = 10; budget = Some 3; extra = false; tasks = tasks }
+part letter parent tasks =
+    record
+    { name = letter ∷ []; parent = parent; sched = Edf; period = 10; budget = Some 3; extra = false; tasks = tasks }
 
 abbrev own : List NamedTask
-own = record { name = codes "t1"; task = jittery_task 50 50 7 5 } ∷ record { name = codes "t2"; task = plain_task 75 75 9 } ∷ []
+own =
+    record { name = codes "t1"; task = jittery_task 50 50 7 5 }
+    ∷ record { name = codes "t2"; task = plain_task 75 75 9 } ∷ []
 
 abbrev host : SystemView
 host = record {
   cores = record { name = codes "cpu0"; sched = Edf; supply = None } ∷ [];
-  parts = part 65 (on_core 0) own ∷ part 66 (on_core 0) [] ∷ part 67 (on_part 1) (record { name = codes "t1"; task = plain_task 100 100 1 } ∷ []) ∷ [];
+  parts =
+      part 65 (on_core 0) own ∷ part 66 (on_core 0) []
+      ∷ part 67 (on_part 1) (record { name = codes "t1"; task = plain_task 100 100 1 } ∷ []) ∷ [];
 }
 
 abbrev Row : Type 0
@@ -43,7 +49,9 @@ a_blocks = codes "3" ∷ codes "A" ∷ codes "block" ∷ []
 abbrev a_wakes : ℕ → Row
 a_wakes digit = (digit ∷ []) ∷ codes "A" ∷ codes "wake" ∷ []
 
-they_spell : wakes_of host (a_starts ∷ a_blocks ∷ a_wakes 53 ∷ []) ≡ record { at = 0; vcpu = 0; what = Start } ∷ record { at = 3; vcpu = 0; what = Block } ∷ record { at = 5; vcpu = 0; what = ToWake } ∷ []
+they_spell : wakes_of host (a_starts ∷ a_blocks ∷ a_wakes 53 ∷ [])
+    ≡ record { at = 0; vcpu = 0; what = Start } ∷ record { at = 3; vcpu = 0; what = Block }
+    ∷ record { at = 5; vcpu = 0; what = ToWake } ∷ []
 they_spell = refl
 
 a_wake_behind_a_block : wake_rules host (a_starts ∷ a_blocks ∷ []) (a_wakes 53) ≡ None
@@ -58,15 +66,18 @@ a_wake_of_one_that_runs : wake_rules host (a_starts ∷ []) (a_wakes 51) ≡ Som
 unfolding last_below
 a_wake_of_one_that_runs = refl
 
-a_block_of_one_that_is_blocked : wake_rules host (a_starts ∷ a_blocks ∷ []) (codes "4" ∷ codes "A" ∷ codes "block" ∷ []) ≡ Some (BadOrder 4)
+a_block_of_one_that_is_blocked : wake_rules host (a_starts ∷ a_blocks ∷ []) (codes "4" ∷ codes "A" ∷ codes "block" ∷ [])
+    ≡ Some (BadOrder 4)
 unfolding last_below
 a_block_of_one_that_is_blocked = refl
 
-a_start_of_one_that_is_blocked : wake_rules host (a_starts ∷ a_blocks ∷ []) (codes "4" ∷ codes "A" ∷ codes "start" ∷ []) ≡ Some (BadOrder 4)
+a_start_of_one_that_is_blocked : wake_rules host (a_starts ∷ a_blocks ∷ []) (codes "4" ∷ codes "A" ∷ codes "start" ∷ [])
+    ≡ Some (BadOrder 4)
 unfolding last_below
 a_start_of_one_that_is_blocked = refl
 
-a_start_past_the_longest_period : wake_rules host [] (codes "1000000001" ∷ codes "A" ∷ codes "start" ∷ []) ≡ Some (OutOfRange 2)
+a_start_past_the_longest_period : wake_rules host [] (codes "1000000001" ∷ codes "A" ∷ codes "start" ∷ [])
+    ≡ Some (OutOfRange 2)
 a_start_past_the_longest_period = refl
 
 a_wake_before_the_start : wake_rules host [] (a_wakes 48) ≡ Some (BadOrder 2)
@@ -76,13 +87,15 @@ a_wake_before_the_start = refl
 an_inner_parts_child_is_no_vcpu : wake_rules host [] (codes "0" ∷ codes "C" ∷ codes "start" ∷ []) ≡ Some (Unknown 2)
 an_inner_parts_child_is_no_vcpu = refl
 
-a_falling_slot : wake_rules host (a_starts ∷ a_blocks ∷ []) (codes "2" ∷ codes "B" ∷ codes "start" ∷ []) ≡ Some (BadOrder 4)
+a_falling_slot : wake_rules host (a_starts ∷ a_blocks ∷ []) (codes "2" ∷ codes "B" ∷ codes "start" ∷ [])
+    ≡ Some (BadOrder 4)
 a_falling_slot = refl
 
 another_word : wake_rules host [] (codes "0" ∷ codes "A" ∷ codes "run" ∷ []) ≡ Some (BadRow 2)
 another_word = refl
 
-a_header_of_three_fields : wake_rows ((codes "at" ∷ codes "vcpu" ∷ codes "what" ∷ []) ∷ a_starts ∷ []) ≡ Some (a_starts ∷ [])
+a_header_of_three_fields : wake_rows ((codes "at" ∷ codes "vcpu" ∷ codes "what" ∷ []) ∷ a_starts ∷ [])
+    ≡ Some (a_starts ∷ [])
 a_header_of_three_fields = refl
 
 a_header_of_four_fields_is_none : wake_rows ((codes "at" ∷ codes "vcpu" ∷ codes "what" ∷ codes "why" ∷ []) ∷ []) ≡ None
@@ -107,14 +120,17 @@ a_start_and_a_block_are_a_workload = record {
   in_order = in_order;
   known = two (λ i. is_vcpu host (row_at start_and_block i).vcpu ≡ true) refl refl;
   one_a_slot = one_a_slot;
-  in_turn = two (λ i. may_follow (last_row (is_of (row_at start_and_block i).vcpu) start_and_block i) (row_at start_and_block i).what ≡ true) refl refl;
+  in_turn =
+      two (λ i. may_follow (last_row (is_of (row_at start_and_block i).vcpu) start_and_block i)
+      (row_at start_and_block i).what ≡ true) refl refl;
 }
   where
     in_order : (i : ℕ) → i + 1 < 2 → (row_at start_and_block i).at ≤ (row_at start_and_block (i + 1)).at
     in_order zero h = lit≤ tt
     in_order (suc i) h = absurd (omega arith)
 
-    one_a_slot : (i j : ℕ) → i < j → j < 2 → (row_at start_and_block i).vcpu ≡ (row_at start_and_block j).vcpu → (row_at start_and_block i).at ≢ (row_at start_and_block j).at
+    one_a_slot : (i j : ℕ) → i < j → j < 2 → (row_at start_and_block i).vcpu ≡ (row_at start_and_block j).vcpu
+        → (row_at start_and_block i).at ≢ (row_at start_and_block j).at
     one_a_slot zero (suc zero) l h same = λ e. omega (arith, e)
     one_a_slot i (suc (suc j)) l h same = absurd (omega arith)
     one_a_slot i j l h same = absurd (omega arith)
@@ -139,15 +155,19 @@ a_row_past_the_longest_period_is_none is = let within : 1000000001 ≤ 100000000
 abbrev four_rows : List Wake
 four_rows = wake 1 0 Start ∷ wake 3 0 Block ∷ wake 5 0 ToWake ∷ wake 5 1 Start ∷ []
 
-from_its_start_on_a_vcpu_is_started : (is_started_at four_rows 0 0 ≡ false) × (is_started_at four_rows 0 1 ≡ true) × (is_started_at four_rows 1 4 ≡ false) × (is_started_at four_rows 1 5 ≡ true)
+from_its_start_on_a_vcpu_is_started : (is_started_at four_rows 0 0 ≡ false) × (is_started_at four_rows 0 1 ≡ true)
+    × (is_started_at four_rows 1 4 ≡ false) × (is_started_at four_rows 1 5 ≡ true)
 unfolding last_below
 from_its_start_on_a_vcpu_is_started = (refl, refl, refl, refl)
 
-from_its_block_up_to_its_wake_it_is_blocked : (is_blocked_at four_rows 0 2 ≡ false) × (is_blocked_at four_rows 0 3 ≡ true) × (is_blocked_at four_rows 0 4 ≡ true) × (is_blocked_at four_rows 0 5 ≡ false)
+from_its_block_up_to_its_wake_it_is_blocked : (is_blocked_at four_rows 0 2 ≡ false)
+    × (is_blocked_at four_rows 0 3 ≡ true) × (is_blocked_at four_rows 0 4 ≡ true)
+    × (is_blocked_at four_rows 0 5 ≡ false)
 unfolding last_below
 from_its_block_up_to_its_wake_it_is_blocked = (refl, refl, refl, refl)
 
-its_start_is_told_with_its_slot : (is_started four_rows 0 ≡ true) × (is_started four_rows 2 ≡ false) × (start_of four_rows 0 ≡ 1) × (start_of four_rows 1 ≡ 5)
+its_start_is_told_with_its_slot : (is_started four_rows 0 ≡ true) × (is_started four_rows 2 ≡ false)
+    × (start_of four_rows 0 ≡ 1) × (start_of four_rows 1 ≡ 5)
 unfolding last_below
 its_start_is_told_with_its_slot = (refl, refl, refl, refl)
 
@@ -164,54 +184,71 @@ t1_at_0 = first_of (codes "0") (codes "A") (codes "t1") (codes "7")
 abbrev late_at_0 : Row
 late_at_0 = second_of (codes "0") (codes "7") (codes "5")
 
-jobs_go_to_their_parts : jobs_of 0 (releases_of host First (t1_at_0 ∷ first_of (codes "0") (codes "C") (codes "t1") (codes "1") ∷ first_of (codes "2") (codes "A") (codes "t2") (codes "9") ∷ [])) ≡ early_job 0 0 7 0 ∷ early_job 1 2 9 0 ∷ []
+jobs_go_to_their_parts : jobs_of 0 (releases_of host First (t1_at_0
+    ∷ first_of (codes "0") (codes "C") (codes "t1") (codes "1")
+    ∷ first_of (codes "2") (codes "A") (codes "t2") (codes "9") ∷ []))
+    ≡ early_job 0 0 7 0 ∷ early_job 1 2 9 0 ∷ []
 jobs_go_to_their_parts = refl
 
-a_period_after : release_rules host First (t1_at_0 ∷ []) (first_of (codes "50") (codes "A") (codes "t1") (codes "7")) ≡ None
+a_period_after : release_rules host First (t1_at_0 ∷ []) (first_of (codes "50") (codes "A") (codes "t1") (codes "7"))
+    ≡ None
 a_period_after = refl
 
-a_slot_less : release_rules host First (t1_at_0 ∷ []) (first_of (codes "49") (codes "A") (codes "t1") (codes "7")) ≡ Some (TooEarly 3)
+a_slot_less : release_rules host First (t1_at_0 ∷ []) (first_of (codes "49") (codes "A") (codes "t1") (codes "7"))
+    ≡ Some (TooEarly 3)
 a_slot_less = refl
 
-a_slot_before_that_of_the_row_before : release_rules host First (t1_at_0 ∷ first_of (codes "50") (codes "A") (codes "t1") (codes "7") ∷ []) (first_of (codes "49") (codes "A") (codes "t2") (codes "9")) ≡ Some (BadOrder 4)
+a_slot_before_that_of_the_row_before : release_rules host First
+    (t1_at_0 ∷ first_of (codes "50") (codes "A") (codes "t1") (codes "7") ∷ [])
+    (first_of (codes "49") (codes "A") (codes "t2") (codes "9")) ≡ Some (BadOrder 4)
 a_slot_before_that_of_the_row_before = refl
 
-a_slot_past_the_longest_period : release_rules host First [] (first_of (codes "1000000001") (codes "A") (codes "t1") (codes "7")) ≡ Some (OutOfRange 2)
+a_slot_past_the_longest_period : release_rules host First []
+    (first_of (codes "1000000001") (codes "A") (codes "t1") (codes "7")) ≡ Some (OutOfRange 2)
 a_slot_past_the_longest_period = refl
 
-another_task_at_the_same_slot : release_rules host First (t1_at_0 ∷ []) (first_of (codes "0") (codes "A") (codes "t2") (codes "9")) ≡ None
+another_task_at_the_same_slot : release_rules host First (t1_at_0 ∷ [])
+    (first_of (codes "0") (codes "A") (codes "t2") (codes "9")) ≡ None
 another_task_at_the_same_slot = refl
 
 -- the first arrived at -5, so the next may arrive at 45
-an_arrival_a_period_after : release_rules host Second (late_at_0 ∷ []) (second_of (codes "45") (codes "7") (codes "0")) ≡ None
+an_arrival_a_period_after : release_rules host Second (late_at_0 ∷ []) (second_of (codes "45") (codes "7") (codes "0"))
+    ≡ None
 an_arrival_a_period_after = refl
 
-an_arrival_a_slot_less : release_rules host Second (late_at_0 ∷ []) (second_of (codes "44") (codes "7") (codes "0")) ≡ Some (TooEarly 3)
+an_arrival_a_slot_less : release_rules host Second (late_at_0 ∷ []) (second_of (codes "44") (codes "7") (codes "0"))
+    ≡ Some (TooEarly 3)
 an_arrival_a_slot_less = refl
 
 past_the_jitter : release_rules host Second [] (second_of (codes "0") (codes "7") (codes "6")) ≡ Some (OutOfRange 2)
 past_the_jitter = refl
 
-more_than_the_work : release_rules host First [] (first_of (codes "0") (codes "A") (codes "t1") (codes "8")) ≡ Some (OutOfRange 2)
+more_than_the_work : release_rules host First [] (first_of (codes "0") (codes "A") (codes "t1") (codes "8"))
+    ≡ Some (OutOfRange 2)
 more_than_the_work = refl
 
 no_work : release_rules host First [] (first_of (codes "0") (codes "A") (codes "t1") (codes "0")) ≡ Some (OutOfRange 2)
 no_work = refl
 
-an_inner_part : release_rules host First [] (first_of (codes "0") (codes "B") (codes "t1") (codes "1")) ≡ Some (Unknown 2)
+an_inner_part : release_rules host First [] (first_of (codes "0") (codes "B") (codes "t1") (codes "1"))
+    ≡ Some (Unknown 2)
 an_inner_part = refl
 
-no_such_task : release_rules host First [] (first_of (codes "0") (codes "C") (codes "t2") (codes "1")) ≡ Some (Unknown 2)
+no_such_task : release_rules host First [] (first_of (codes "0") (codes "C") (codes "t2") (codes "1"))
+    ≡ Some (Unknown 2)
 no_such_task = refl
 
 five_fields_under_version_1 : release_rules host First [] late_at_0 ≡ Some (BadRow 2)
 five_fields_under_version_1 = refl
 
-headers : release_rows ((codes "at" ∷ codes "part" ∷ codes "task" ∷ codes "work" ∷ []) ∷ t1_at_0 ∷ []) ≡ Some (First, t1_at_0 ∷ [])
+headers : release_rows ((codes "at" ∷ codes "part" ∷ codes "task" ∷ codes "work" ∷ []) ∷ t1_at_0 ∷ [])
+    ≡ Some (First, t1_at_0 ∷ [])
 headers = refl
 
 -- the header of version 2, and two that are of neither
 headers_of_five_fields :
-    (release_rows ((codes "at" ∷ codes "part" ∷ codes "task" ∷ codes "work" ∷ codes "early" ∷ []) ∷ late_at_0 ∷ []) ≡ Some (Second, late_at_0 ∷ []))
-    × (release_rows ((codes "at" ∷ codes "part" ∷ codes "task" ∷ codes "work" ∷ codes "late" ∷ []) ∷ []) ≡ None) × (release_rows ((codes "at" ∷ codes "part" ∷ codes "work" ∷ codes "task" ∷ []) ∷ []) ≡ None)
+    (release_rows ((codes "at" ∷ codes "part" ∷ codes "task" ∷ codes "work" ∷ codes "early" ∷ []) ∷ late_at_0 ∷ [])
+    ≡ Some (Second, late_at_0 ∷ []))
+    × (release_rows ((codes "at" ∷ codes "part" ∷ codes "task" ∷ codes "work" ∷ codes "late" ∷ []) ∷ []) ≡ None)
+    × (release_rows ((codes "at" ∷ codes "part" ∷ codes "work" ∷ codes "task" ∷ []) ∷ []) ≡ None)
 headers_of_five_fields = (refl, refl, refl)

@@ -22,82 +22,123 @@ use Rattle.rtds_sim.proofs.Telling.{told_more}
 use Rattle.rtds_sim.proofs.Visits.{left_before, switch_quiet}
 
 -- how core c stands as slot t comes, when it has run from slot x on
-pub record StandsAt (sys : SystemView) (rows : List Row) (c : ℕ) (run : List (Option ℕ)) (x to k t : ℕ) (host : Host) (before told : List Event) : Type 0 where
+pub record StandsAt (sys : SystemView) (rows : List Row) (c : ℕ) (run : List (Option ℕ)) (x to k t : ℕ) (host : Host)
+    (before told : List Event) : Type 0 where
   pub are : AreOn sys rows c run t k host.accounts
   pub left_is : t < to → holder_at host.holders c ≡ holder_left rows run t
   pub before_is : x < t → holder_at host.holders c ≡ holder_before run t
   pub told_is : told ≡ before ++ told_on (λ y. switch_on rows run y c) x (t - x)
 
 -- at first
-pub stands_first : (sys : SystemView) (budgets : List ℕ) (rows : List Row) (n c : ℕ) (run : List (Option ℕ)) (x to k : ℕ) (host now : Host) (before : List Event) → now.accounts ≡ host.accounts → now.holders ≡ host.holders → IsUnderway sys budgets rows n c run x to k host → StandsAt sys rows c run x to k x now before before
+pub stands_first : (sys : SystemView) (budgets : List ℕ) (rows : List Row) (n c : ℕ) (run : List (Option ℕ))
+    (x to k : ℕ) (host now : Host) (before : List Event) → now.accounts ≡ host.accounts → now.holders ≡ host.holders
+    → IsUnderway sys budgets rows n c run x to k host → StandsAt sys rows c run x to k x now before before
 stands_first sys budgets rows n c run x to k host now before a h u = record {
   are = subst (AreOn sys rows c run x k) (sym a) u.are;
   left_is = λ l. ap (λ (hs : List (Option ℕ)). holder_at hs c) h ∙ u.holder_is;
   before_is = λ l. absurd (omega (arith, l));
-  told_is = sym (ap (λ (es : List Event). before ++ es) (ap (told_on (λ y. switch_on rows run y c) x) (let e : x - x ≡ 0 = omega arith in e) ∙ gathered-zero (λ i. switch_on rows run (x + i) c)) ∙ append-nil before);
+  told_is =
+      sym (ap (λ (es : List Event). before ++ es) (ap (told_on (λ y. switch_on rows run y c) x)
+      (let e : x - x ≡ 0 = omega arith in e) ∙ gathered-zero (λ i. switch_on rows run (x + i) c))
+      ∙ append-nil before);
 }
 
 -- at last
-pub stands_last : (sys : SystemView) (rows : List Row) (c : ℕ) (run : List (Option ℕ)) (x to k t : ℕ) (host : Host) (before told : List Event) → x < to → t ≡ to → StandsAt sys rows c run x to k t host before told → HasRun sys rows c run x to k host before told
+pub stands_last : (sys : SystemView) (rows : List Row) (c : ℕ) (run : List (Option ℕ)) (x to k t : ℕ) (host : Host)
+    (before told : List Event) → x < to → t ≡ to → StandsAt sys rows c run x to k t host before told
+    → HasRun sys rows c run x to k host before told
 stands_last sys rows c run x to k t host before told l e h =
-    subst (λ (y : ℕ). HasRun sys rows c run x y k host before told) e (record { are = h.are; holder_is = h.before_is (omega (arith, l, e)); told_is = h.told_is })
+    subst (λ (y : ℕ). HasRun sys rows c run x y k host before told) e
+    (record { are = h.are; holder_is = h.before_is (omega (arith, l, e)); told_is = h.told_is })
 
 -- from slot t, at which the core goes on to the VCPU that goes first, to slot u, before which
 -- nothing changes on it
-module _ (sys : SystemView) (budgets : List ℕ) (plan : IsPlan sys budgets) (rows : List Row) (n c : ℕ) (run : List (Option ℕ)) (x to k : ℕ) (first : Host) (underway : IsUnderway sys budgets rows n c run x to k first)
-    (t u : ℕ) (l : x ≤ t) (m : t < u) (in_time : u ≤ to) (old : Host) (before told : List Event) (at : StandsAt sys rows c run x to k t old before told) (holder : Option ℕ) (chosen : IsChoice sys budgets old.accounts c holder)
-    (bound : IsEnd sys old.accounts c u) (in_budget : (v : ℕ) → holder ≡ Some v → u ≤ t + left_of (account_at old.accounts v) (budget_at budgets v)) where
-  taken : AreBefore rows k (suc t)
-  taken = taken_by rows k x to t underway.taken underway.rows_later l (omega (arith, m, in_time))
+module _ (sys : SystemView) (budgets : List ℕ) (plan : IsPlan sys budgets) (rows : List Row) (n c : ℕ)
+    (run : List (Option ℕ)) (x to k : ℕ) (first : Host) (underway : IsUnderway sys budgets rows n c run x to k first)
+    (t u : ℕ) (l : x ≤ t) (m : t < u) (in_time : u ≤ to) (old : Host) (before told : List Event)
+    (at : StandsAt sys rows c run x to k t old before told) (holder : Option ℕ)
+    (chosen : IsChoice sys budgets old.accounts c holder)
+    (bound : IsEnd sys old.accounts c u)
+    (in_budget : (v : ℕ) → holder ≡ Some v → u ≤ t + left_of (account_at old.accounts v) (budget_at budgets v))
+  where
+    taken : AreBefore rows k (suc t)
+    taken = taken_by rows k x to t underway.taken underway.rows_later l (omega (arith, m, in_time))
 
-  chosen_is : holder ≡ held run t
-  chosen_is = entry_unique sys budgets rows c run t holder (held run t) (choice_entry sys budgets rows c run t k taken old.accounts at.are holder chosen) (underway.is_run.each t (omega (arith, m, in_time, underway.fits)))
+    chosen_is : holder ≡ held run t
+    chosen_is =
+        entry_unique sys budgets rows c run t holder (held run t)
+        (choice_entry sys budgets rows c run t k taken old.accounts at.are holder chosen)
+        (underway.is_run.each t (omega (arith, m, in_time, underway.fits)))
 
-  next : IsNext sys budgets rows c run t k old.accounts holder u
-  next = record {
-    taken = taken;
-    are = at.are;
-    holder_is = chosen_is;
-    later = m;
-    rows_later = λ i a b. omega (arith, underway.rows_later i a b, in_time);
-    in_period = bound;
-    in_budget = in_budget;
-  }
+    next : IsNext sys budgets rows c run t k old.accounts holder u
+    next = record {
+      taken = taken;
+      are = at.are;
+      holder_is = chosen_is;
+      later = m;
+      rows_later = λ i a b. omega (arith, underway.rows_later i a b, in_time);
+      in_period = bound;
+      in_budget = in_budget;
+    }
 
-  same : (z : ℕ) → t ≤ z → z < u → held run z ≡ held run t
-  same = alike sys budgets plan rows n c run underway.is_run t k old.accounts holder u next (omega (arith, in_time, underway.fits))
+    same : (z : ℕ) → t ≤ z → z < u → held run z ≡ held run t
+    same =
+        alike sys budgets plan rows n c run underway.is_run t k old.accounts holder u next
+        (omega (arith, in_time, underway.fits))
 
-  before_same : (y : ℕ) → t < y → y ≤ u → holder_before run y ≡ held run t
-  before_same zero a b = absurd (omega (arith, a))
-  before_same (suc y) a b = same y (omega (arith, a)) (omega (arith, b))
+    before_same : (y : ℕ) → t < y → y ≤ u → holder_before run y ≡ held run t
+    before_same zero a b = absurd (omega (arith, a))
+    before_same (suc y) a b = same y (omega (arith, a)) (omega (arith, b))
 
-  quiet : (y : ℕ) → t < y → y < u → switch_on rows run y c ≡ None
-  quiet y a b = switch_quiet sys budgets rows n c run underway.is_run x k to underway.fits underway.taken underway.rows_later y (omega (arith, l, a)) (omega (arith, b, in_time)) (before_same y a (omega (arith, b)) ∙ sym (same y (omega (arith, a)) b))
+    quiet : (y : ℕ) → t < y → y < u → switch_on rows run y c ≡ None
+    quiet y a b =
+        switch_quiet sys budgets rows n c run underway.is_run x k to underway.fits underway.taken underway.rows_later y
+        (omega (arith, l, a)) (omega (arith, b, in_time))
+        (before_same y a (omega (arith, b)) ∙ sym (same y (omega (arith, a)) b))
 
-  pub stands_on : (now : Host) (telling : List Event) → ((v : ℕ) → v < length sys.parts → is_child sys (Core c) v ≡ true → account_at now.accounts v ≡ gone_on (account_at old.accounts v) (holds holder v) (u - t) (part_at sys v).period u)
-      → holder_at now.holders c ≡ holder → telling ≡ push_some told (on_core_at c t (switch_to (holder_at old.holders c) holder)) → StandsAt sys rows c run x to k u now before telling
-  stands_on now telling gone kept told_now =
-      let held_is : holder_at now.holders c ≡ holder_before run u = kept ∙ (chosen_is ∙ sym (before_same u m (omega arith))) in
-      record {
-        are = gone_accounts sys budgets plan rows n c run underway.is_run t k old.accounts holder u next (omega (arith, in_time, underway.fits)) now.accounts gone;
-        left_is = λ more. held_is ∙ sym (left_before sys budgets rows n c run underway.is_run x k to underway.fits underway.taken underway.rows_later u (omega (arith, l, m)) more);
-        before_is = λ _. held_is;
-        told_is = told_now ∙ (ap (λ (o : Option Event). push_some told o)
-            (ap (λ (o : Option ℕ). on_core_at c t (switch_to o holder)) (at.left_is (omega (arith, m, in_time))) ∙ ap (λ (o : Option ℕ). on_core_at c t (switch_to (holder_left rows run t) o)) chosen_is)
-            ∙ told_more (λ y. switch_on rows run y c) x t u before told l m quiet at.told_is);
-      }
+    pub stands_on : (now : Host) (telling : List Event)
+        → ((v : ℕ) → v < length sys.parts → is_child sys (Core c) v ≡ true
+        → account_at now.accounts v
+        ≡ gone_on (account_at old.accounts v) (holds holder v) (u - t) (part_at sys v).period u)
+        → holder_at now.holders c ≡ holder
+        → telling ≡ push_some told (on_core_at c t (switch_to (holder_at old.holders c) holder))
+        → StandsAt sys rows c run x to k u now before telling
+    stands_on now telling gone kept told_now =
+        let held_is : holder_at now.holders c ≡ holder_before run u
+        = kept ∙ (chosen_is ∙ sym (before_same u m (omega arith))) in
+        record {
+          are =
+              gone_accounts sys budgets plan rows n c run underway.is_run t k old.accounts holder u next
+              (omega (arith, in_time, underway.fits)) now.accounts gone;
+          left_is =
+              λ more. held_is
+              ∙ sym (left_before sys budgets rows n c run underway.is_run x k to underway.fits underway.taken
+              underway.rows_later u (omega (arith, l, m)) more);
+          before_is = λ _. held_is;
+          told_is = told_now ∙ (ap (λ (o : Option Event). push_some told o)
+              (ap (λ (o : Option ℕ). on_core_at c t (switch_to o holder)) (at.left_is (omega (arith, m, in_time)))
+              ∙ ap (λ (o : Option ℕ). on_core_at c t (switch_to (holder_left rows run t) o)) chosen_is)
+              ∙ told_more (λ y. switch_on rows run y c) x t u before told l m quiet at.told_is);
+        }
 
 -- what a VCPU used is no more than the slots that went by
-pub gone_few : (a : Account) (has : Bool) (x to period : ℕ) → a.used ≤ x → x < to → (gone_on a has (to - x) period to).used ≤ to
+pub gone_few : (a : Account) (has : Bool) (x to period : ℕ) → a.used ≤ x → x < to
+    → (gone_on a has (to - x) period to).used ≤ to
 gone_few a has x to period few l = go (a.started && (to == (a.from + period))) has
   where
-    go : (ended has : Bool) → (cond ended (record a { from = to; used = 0 }) (cond has (record a { used = a.used + (to - x) }) a)).used ≤ to
+    go : (ended has : Bool)
+        → (cond ended (record a { from = to; used = 0 }) (cond has (record a { used = a.used + (to - x) }) a)).used ≤ to
     go true has = omega arith
     go false true = omega (arith, few, l)
     go false false = omega (arith, few, l)
 
 -- what is known of a core holds where its accounts and its VCPU are the same
-pub underway_same : (sys : SystemView) (budgets : List ℕ) (rows : List Row) (n c : ℕ) (run : List (Option ℕ)) (x to k : ℕ) (host other : Host) → ((v : ℕ) → v < length sys.parts → is_child sys (Core c) v ≡ true → account_at other.accounts v ≡ account_at host.accounts v) → holder_at other.holders c ≡ holder_at host.holders c → IsUnderway sys budgets rows n c run x to k host → IsUnderway sys budgets rows n c run x to k other
+pub underway_same : (sys : SystemView) (budgets : List ℕ) (rows : List Row) (n c : ℕ) (run : List (Option ℕ))
+    (x to k : ℕ) (host other : Host)
+    → ((v : ℕ) → v < length sys.parts → is_child sys (Core c) v ≡ true
+    → account_at other.accounts v ≡ account_at host.accounts v)
+    → holder_at other.holders c ≡ holder_at host.holders c → IsUnderway sys budgets rows n c run x to k host
+    → IsUnderway sys budgets rows n c run x to k other
 underway_same sys budgets rows n c run x to k host other same holder u = record {
   is_run = u.is_run;
   fits = u.fits;
@@ -107,12 +148,25 @@ underway_same sys budgets rows n c run x to k host other same holder u = record 
   holder_is = holder ∙ u.holder_is;
 }
 
-pub has_run_same : (sys : SystemView) (rows : List Row) (c : ℕ) (run : List (Option ℕ)) (x to k : ℕ) (host other : Host) (before told others : List Event) → ((v : ℕ) → v < length sys.parts → is_child sys (Core c) v ≡ true → account_at other.accounts v ≡ account_at host.accounts v) → holder_at other.holders c ≡ holder_at host.holders c → others ≡ told → HasRun sys rows c run x to k host before told → HasRun sys rows c run x to k other before others
+pub has_run_same : (sys : SystemView) (rows : List Row) (c : ℕ) (run : List (Option ℕ)) (x to k : ℕ) (host other : Host)
+    (before told others : List Event)
+    → ((v : ℕ) → v < length sys.parts → is_child sys (Core c) v ≡ true
+    → account_at other.accounts v ≡ account_at host.accounts v)
+    → holder_at other.holders c ≡ holder_at host.holders c → others ≡ told
+    → HasRun sys rows c run x to k host before told → HasRun sys rows c run x to k other before others
 has_run_same sys rows c run x to k host other before told others same holder e h = record {
   are = λ v l child. subst (IsAccount sys rows run v to k) (sym (same v l child)) (h.are v l child);
   holder_is = holder ∙ h.holder_is;
   told_is = e ∙ h.told_is;
 }
 
-pub end_same : (sys : SystemView) (accounts others : List Account) (c end other : ℕ) → other ≡ end → ((v : ℕ) → v < length sys.parts → is_child sys (Core c) v ≡ true → account_at others v ≡ account_at accounts v) → IsEnd sys accounts c end → IsEnd sys others c other
-end_same sys accounts others c end other e same bound v l child started = omega (arith, e, bound v l child (sym (ap (λ (a : Account). a.started) (same v l child)) ∙ started), ap (λ (a : Account). a.from) (same v l child))
+pub end_same : (sys : SystemView) (accounts others : List Account) (c end other : ℕ) → other ≡ end
+    → ((v : ℕ) → v < length sys.parts → is_child sys (Core c) v ≡ true → account_at others v ≡ account_at accounts v)
+    → IsEnd sys accounts c end → IsEnd sys others c other
+end_same sys accounts others c end other e same bound v l child started =
+    omega (
+      arith,
+      e,
+      bound v l child (sym (ap (λ (a : Account). a.started) (same v l child)) ∙ started),
+      ap (λ (a : Account). a.from) (same v l child),
+    )

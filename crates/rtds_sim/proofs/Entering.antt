@@ -27,16 +27,22 @@ child_core sys c v h = go (part_at sys v).parent h
 
 -- the last row among those at or before x is the last of the first k, where those are the rows at
 -- or before x
-pub by_slot : (p : Row → Bool) (rows : List Row) (x k : ℕ) → AreBefore rows k (suc x) → last_row (λ r. is_by x r && p r) rows (length rows) ≡ last_row p rows k
-by_slot p rows x k h = last_by_moment (λ r. r.at) p (row_at rows) x k (length rows) h.in_rows (λ i l. omega (arith, h.past i l)) (λ i a b. omega (arith, h.to_come i a b))
+pub by_slot : (p : Row → Bool) (rows : List Row) (x k : ℕ) → AreBefore rows k (suc x)
+    → last_row (λ r. is_by x r && p r) rows (length rows) ≡ last_row p rows k
+by_slot p rows x k h =
+    last_by_moment (λ r. r.at) p (row_at rows) x k (length rows) h.in_rows (λ i l. omega (arith, h.past i l))
+    (λ i a b. omega (arith, h.to_come i a b))
 
-pub started_by : (rows : List Row) (v x k : ℕ) → AreBefore rows k (suc x) → is_started_at rows v x ≡ started_after rows k v
+pub started_by : (rows : List Row) (v x k : ℕ) → AreBefore rows k (suc x)
+    → is_started_at rows v x ≡ started_after rows k v
 started_by rows v x k h = ap is_some (by_slot (starts v) rows x k h)
 
-pub blocked_by : (rows : List Row) (v x k : ℕ) → AreBefore rows k (suc x) → is_blocked_at rows v x ≡ blocked_after rows k v
+pub blocked_by : (rows : List Row) (v x k : ℕ) → AreBefore rows k (suc x)
+    → is_blocked_at rows v x ≡ blocked_after rows k v
 blocked_by rows v x k h = ap blocks (by_slot (is_of v) rows x k h)
 
-module _ (sys : SystemView) (budgets : List ℕ) (rows : List Row) (c : ℕ) (run : List (Option ℕ)) (x k : ℕ) (taken : AreBefore rows k (suc x)) (accounts : List Account) (are : AreOn sys rows c run x k accounts) where
+module _ (sys : SystemView) (budgets : List ℕ) (rows : List Row) (c : ℕ) (run : List (Option ℕ)) (x k : ℕ)
+    (taken : AreBefore rows k (suc x)) (accounts : List Account) (are : AreOn sys rows c run x k accounts) where
   abbrev on_this : ℕ → Type 0
   on_this v = (v < length sys.parts) × (is_child sys (Core c) v ≡ true)
 
@@ -44,50 +50,79 @@ module _ (sys : SystemView) (budgets : List ℕ) (rows : List Row) (c : ℕ) (ru
   account_on v on = are v on.0 on.1
 
   -- Bool algebra
-  eligible_same : (p child started blocked left extra started' blocked' left' : Bool) → p ≡ true → child ≡ true → started ≡ started' → blocked ≡ blocked' → (started ≡ true → left ≡ left') →
-      (((p && child) && (started' && not blocked')) && (left' || extra)) ≡ (child && ((started && not blocked) && (left || extra)))
+  eligible_same : (p child started blocked left extra started' blocked' left' : Bool) → p ≡ true → child ≡ true
+      → started ≡ started' → blocked ≡ blocked' → (started ≡ true → left ≡ left') →
+      (((p && child) && (started' && not blocked')) && (left' || extra))
+      ≡ (child && ((started && not blocked) && (left || extra)))
   eligible_same p child started blocked left extra started' blocked' left' hp hc hs hb hl = grind arith
 
   -- the account tells who is eligible
   eligible_is : (v : ℕ) → on_this v → is_eligible sys budgets rows c run v x ≡ ranked sys budgets accounts c v
   eligible_is v on =
       let h : IsAccount sys rows run v x k (account_at accounts v) = account_on v on in
-      eligible_same (nat_lt v (length sys.parts)) (is_child sys (Core c) v) (account_at accounts v).started (account_at accounts v).blocked (nat_lt (account_at accounts v).used (budget_at budgets v)) (part_at sys v).extra (is_started_at rows v x) (is_blocked_at rows v x) (nat_lt (used sys rows run v x) (budget_at budgets v))
-      (lt-ltb v (length sys.parts) on.0) on.1 (h.started ∙ sym (started_by rows v x k taken)) (h.blocked ∙ sym (blocked_by rows v x k taken))
+      eligible_same (nat_lt v (length sys.parts)) (is_child sys (Core c) v) (account_at accounts v).started
+      (account_at accounts v).blocked (nat_lt (account_at accounts v).used (budget_at budgets v))
+      (part_at sys v).extra (is_started_at rows v x) (is_blocked_at rows v x)
+      (nat_lt (used sys rows run v x) (budget_at budgets v))
+      (lt-ltb v (length sys.parts) on.0) on.1 (h.started ∙ sym (started_by rows v x k taken))
+      (h.blocked ∙ sym (blocked_by rows v x k taken))
       (λ s. ap (λ (g : ℕ). nat_lt g (budget_at budgets v)) (h.in_period s).used_is)
 
   eligible_on : (v : ℕ) → is_eligible sys budgets rows c run v x ≡ true → on_this v
   eligible_on v e =
-      let p = and_parts (nat_lt v (length sys.parts)) (is_child sys (Core c) v) (and_parts (nat_lt v (length sys.parts) && is_child sys (Core c) v) (is_started_at rows v x && not (is_blocked_at rows v x)) (and_parts (can_run sys rows c v x) (nat_lt (used sys rows run v x) (budget_at budgets v) || (part_at sys v).extra) e).0).0 in
+      let p
+      = and_parts (nat_lt v (length sys.parts)) (is_child sys (Core c) v)
+      (and_parts (nat_lt v (length sys.parts) && is_child sys (Core c) v)
+      (is_started_at rows v x && not (is_blocked_at rows v x))
+      (and_parts (can_run sys rows c v x)
+      (nat_lt (used sys rows run v x) (budget_at budgets v) || (part_at sys v).extra) e).0).0 in
       (ltb-true v (length sys.parts) p.0, p.1)
 
-  ranked_started : (v : ℕ) → ranked sys budgets accounts c v ≡ true → (is_child sys (Core c) v ≡ true) × ((account_at accounts v).started ≡ true)
+  ranked_started : (v : ℕ) → ranked sys budgets accounts c v ≡ true
+      → (is_child sys (Core c) v ≡ true) × ((account_at accounts v).started ≡ true)
   ranked_started v e =
-      let p = and_parts (is_child sys (Core c) v) (account_eligible (account_at accounts v) (budget_at budgets v) (part_at sys v).extra) e in
-      (p.0, (and_parts (account_at accounts v).started (not (account_at accounts v).blocked) (and_parts ((account_at accounts v).started && not (account_at accounts v).blocked) (nat_lt (account_at accounts v).used (budget_at budgets v) || (part_at sys v).extra) p.1).0).0)
+      let p
+      = and_parts (is_child sys (Core c) v)
+      (account_eligible (account_at accounts v) (budget_at budgets v) (part_at sys v).extra) e in (
+        p.0,
+        (and_parts (account_at accounts v).started (not (account_at accounts v).blocked)
+            (and_parts ((account_at accounts v).started && not (account_at accounts v).blocked)
+            (nat_lt (account_at accounts v).used (budget_at budgets v) || (part_at sys v).extra) p.1).0).0,
+      )
 
   -- and in which order
-  rank_numbers : (v : ℕ) → v < length sys.parts → ranked sys budgets accounts c v ≡ true → (level_of (account_at accounts v) (budget_at budgets v) ≡ level_at sys budgets rows run v x) × (deadline_of (account_at accounts v) (part_at sys v).period ≡ deadline_at sys rows v x)
+  rank_numbers : (v : ℕ) → v < length sys.parts → ranked sys budgets accounts c v ≡ true
+      → (level_of (account_at accounts v) (budget_at budgets v) ≡ level_at sys budgets rows run v x)
+      × (deadline_of (account_at accounts v) (part_at sys v).period ≡ deadline_at sys rows v x)
   rank_numbers v l e =
       let s : (is_child sys (Core c) v ≡ true) × ((account_at accounts v).started ≡ true) = ranked_started v e in
       let h : IsInPeriod sys rows run v x (account_at accounts v) = (account_on v (l, s.0)).in_period s.1 in
       (ap (λ (g : ℕ). g / budget_at budgets v) h.used_is, omega (arith, h.from_is))
 
-  before_is : (u v : ℕ) → u < length sys.parts → v < length sys.parts → ranked sys budgets accounts c u ≡ true → ranked sys budgets accounts c v ≡ true → ranks_before sys budgets accounts u v ≡ goes_before sys budgets rows run x u v
+  before_is : (u v : ℕ) → u < length sys.parts → v < length sys.parts → ranked sys budgets accounts c u ≡ true
+      → ranked sys budgets accounts c v ≡ true
+      → ranks_before sys budgets accounts u v ≡ goes_before sys budgets rows run x u v
   before_is u v lu lv eu ev =
       let a = rank_numbers u lu eu in
       let b = rank_numbers v lv ev in
-      ap (λ (l : ℕ). goes_first l (deadline_of (account_at accounts u) (part_at sys u).period) u (level_of (account_at accounts v) (budget_at budgets v)) (deadline_of (account_at accounts v) (part_at sys v).period) v) a.0
-      ∙ (ap (λ (d : ℕ). goes_first (level_at sys budgets rows run u x) d u (level_of (account_at accounts v) (budget_at budgets v)) (deadline_of (account_at accounts v) (part_at sys v).period) v) a.1
-      ∙ (ap (λ (l : ℕ). goes_first (level_at sys budgets rows run u x) (deadline_at sys rows u x) u l (deadline_of (account_at accounts v) (part_at sys v).period) v) b.0
-      ∙ ap (λ (d : ℕ). goes_first (level_at sys budgets rows run u x) (deadline_at sys rows u x) u (level_at sys budgets rows run v x) d v) b.1))
+      ap (λ (l : ℕ). goes_first l (deadline_of (account_at accounts u) (part_at sys u).period) u
+      (level_of (account_at accounts v) (budget_at budgets v))
+      (deadline_of (account_at accounts v) (part_at sys v).period) v) a.0
+      ∙ (ap (λ (d : ℕ). goes_first (level_at sys budgets rows run u x) d u
+      (level_of (account_at accounts v) (budget_at budgets v))
+      (deadline_of (account_at accounts v) (part_at sys v).period) v) a.1
+      ∙ (ap (λ (l : ℕ). goes_first (level_at sys budgets rows run u x) (deadline_at sys rows u x) u l
+      (deadline_of (account_at accounts v) (part_at sys v).period) v) b.0
+      ∙ ap (λ (d : ℕ). goes_first (level_at sys budgets rows run u x) (deadline_at sys rows u x) u
+      (level_at sys budgets rows run v x) d v) b.1))
 
   -- so the choice is the entry
   pub choice_entry : (o : Option ℕ) → IsChoice sys budgets accounts c o → RtdsEntry sys budgets rows c run x o
   choice_entry o h = record {
     idle = λ q v. elim (cases_Bool (is_eligible sys budgets rows c run v x)) [
       | inr e ↦ e
-      | inl e ↦ let on : on_this v = eligible_on v e in absurd (both_ways _ (h.idle q v on.0) (sym (eligible_is v on) ∙ e))
+      | inl e ↦
+          let on : on_this v = eligible_on v e in absurd (both_ways _ (h.idle q v on.0) (sym (eligible_is v on) ∙ e))
     ];
     named = λ v q. eligible_is v (h.within v q, (ranked_started v (h.named v q)).0) ∙ h.named v q;
     first = λ u v q e.

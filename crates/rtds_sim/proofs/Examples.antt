@@ -17,7 +17,17 @@ use Rattle.rtds_sim.specs.Printed.{gathered, printed_below, printed}
 use Rattle.rtds_sim.proofs.Runs.{better, choice, chosen, is_run}
 
 abbrev pub server : ℕ → ℕ → Bool → PartView
-server letter budget extra = record { name = letter ∷ []; parent = on_core 0; sched = Edf; period = 10; budget = Some budget; extra = extra; tasks = record { name = 116 ∷ []; task = record { period = 100; deadline = 100; work = budget; jitter = 0 } } ∷ [] }
+server letter budget extra =
+    record {
+      name = letter ∷ [];
+      parent = on_core 0;
+      sched = Edf;
+      period = 10;
+      budget = Some budget;
+      extra = extra;
+      tasks =
+          record { name = 116 ∷ []; task = record { period = 100; deadline = 100; work = budget; jitter = 0 } } ∷ [];
+    }
 
 abbrev pub core : CoreView
 core = record { name = 99 ∷ []; sched = Edf; supply = None }
@@ -62,7 +72,8 @@ unfolding last_below sum_below
 extra_level = refl
 
 with_extra_printed : printed (host true) both_start (with_extra ∷ []) 10
-    ≡ event 0 (Starts 0) ∷ event 0 (Starts 1) ∷ event 0 (Run 0) ∷ event 3000 (Run 1) ∷ event 7000 (Run 0) ∷ event 10000 End ∷ []
+    ≡ event 0 (Starts 0) ∷ event 0 (Starts 1) ∷ event 0 (Run 0) ∷ event 3000 (Run 1) ∷ event 7000 (Run 0)
+    ∷ event 10000 End ∷ []
 unfolding printed_below gathered last_below
 with_extra_printed = refl
 
@@ -75,7 +86,8 @@ unfolding chosen choice better last_below sum_below
 without_extra_chosen = refl
 
 without_extra_printed : printed (host false) both_start (without_extra ∷ []) 12
-    ≡ event 0 (Starts 0) ∷ event 0 (Starts 1) ∷ event 0 (Run 0) ∷ event 3000 (Run 1) ∷ event 7000 Stop ∷ event 10000 (Run 0) ∷ event 12000 End ∷ []
+    ≡ event 0 (Starts 0) ∷ event 0 (Starts 1) ∷ event 0 (Run 0) ∷ event 3000 (Run 1) ∷ event 7000 Stop
+    ∷ event 10000 (Run 0) ∷ event 12000 End ∷ []
 unfolding printed_below gathered last_below
 without_extra_printed = refl
 
@@ -92,7 +104,9 @@ unfolding chosen choice better last_below sum_below
 blocked_chosen = refl
 
 blocked_printed : printed (host false) one_blocks (blocked_run ∷ []) 12
-    ≡ event 1000 (Starts 0) ∷ event 1000 (Run 0) ∷ event 2000 Stop ∷ event 2000 (Starts 1) ∷ event 2000 (Blocks 0) ∷ event 2000 (Run 1) ∷ event 4000 (Wakes 0) ∷ event 4000 (Run 0) ∷ event 6000 (Run 1) ∷ event 8000 Stop ∷ event 11000 (Run 0) ∷ event 12000 End ∷ []
+    ≡ event 1000 (Starts 0) ∷ event 1000 (Run 0) ∷ event 2000 Stop ∷ event 2000 (Starts 1) ∷ event 2000 (Blocks 0)
+    ∷ event 2000 (Run 1) ∷ event 4000 (Wakes 0) ∷ event 4000 (Run 0) ∷ event 6000 (Run 1) ∷ event 8000 Stop
+    ∷ event 11000 (Run 0) ∷ event 12000 End ∷ []
 unfolding printed_below gathered last_below
 blocked_printed = refl
 

@@ -16,28 +16,31 @@ one_way b u v strict h = elim (cases_Bool (b v u)) [
 ]
 
 -- where the same pass, in the same order
-module _ (p q : ℕ → Bool) (b e : ℕ → ℕ → Bool) (m : ℕ) (to : (u : ℕ) → u < m → p u ≡ true → q u ≡ true) (from : (u : ℕ) → u < m → q u ≡ true → p u ≡ true) (alike : (u v : ℕ) → p u ≡ true → p v ≡ true → e u v ≡ b u v) where
-  pub first_same : (x : ℕ) → IsFirstOf p b m x → IsFirstOf q e m x
-  first_same x h = record {
-    within = h.within;
-    here = λ l. to x l (h.here l);
-    some = λ u l is. h.some u l (from u l is);
-    first = λ u l is ne. alike x u (h.here (h.some u l (from u l is))) (from u l is) ∙ h.first u l (from u l is) ne;
-  }
+module _ (p q : ℕ → Bool) (b e : ℕ → ℕ → Bool) (m : ℕ) (to : (u : ℕ) → u < m → p u ≡ true → q u ≡ true)
+    (from : (u : ℕ) → u < m → q u ≡ true → p u ≡ true) (alike : (u v : ℕ) → p u ≡ true → p v ≡ true → e u v ≡ b u v)
+  where
+    pub first_same : (x : ℕ) → IsFirstOf p b m x → IsFirstOf q e m x
+    first_same x h = record {
+      within = h.within;
+      here = λ l. to x l (h.here l);
+      some = λ u l is. h.some u l (from u l is);
+      first = λ u l is ne. alike x u (h.here (h.some u l (from u l is))) (from u l is) ∙ h.first u l (from u l is) ne;
+    }
 
-  pub last_same : (o : Option ℕ) → IsLastOf p b m o → IsLastOf q e m o
-  last_same o h = record {
-    none = λ is u l. elim (cases_Bool (q u)) [
-      | inr n ↦ n
-      | inl y ↦ absurd (both_ways (p u) (h.none is u l) (from u l y))
-    ];
-    within = h.within;
-    here = λ a is. to a (h.within a is) (h.here a is);
-    last = λ a u is l its ne. alike u a (from u l its) (h.here a is) ∙ h.last a u is l (from u l its) ne;
-  }
+    pub last_same : (o : Option ℕ) → IsLastOf p b m o → IsLastOf q e m o
+    last_same o h = record {
+      none = λ is u l. elim (cases_Bool (q u)) [
+        | inr n ↦ n
+        | inl y ↦ absurd (both_ways (p u) (h.none is u l) (from u l y))
+      ];
+      within = h.within;
+      here = λ a is. to a (h.within a is) (h.here a is);
+      last = λ a u is l its ne. alike u a (from u l its) (h.here a is) ∙ h.last a u is l (from u l its) ne;
+    }
 
 -- one more or less behind one that passes changes nothing
-pub first_past : (p q : ℕ → Bool) (b : ℕ → ℕ → Bool) (m x a v : ℕ) → IsStrict b → ((u : ℕ) → u ≢ v → q u ≡ p u) → a < m → p a ≡ true → b a v ≡ true → IsFirstOf p b m x → IsFirstOf q b m x
+pub first_past : (p q : ℕ → Bool) (b : ℕ → ℕ → Bool) (m x a v : ℕ) → IsStrict b → ((u : ℕ) → u ≢ v → q u ≡ p u) → a < m
+    → p a ≡ true → b a v ≡ true → IsFirstOf p b m x → IsFirstOf q b m x
 first_past p q b m x a v strict same la its behind h =
     let l : x < m = h.some a la its in
     let ahead : b x v ≡ true = elim (cases_eq a x) [

@@ -12,18 +12,28 @@ use Rattle.rtds_sim.specs.Soonest.{moment_of, next_moment}
 use Rattle.rtds_sim.proofs.Merging.{AreMoments}
 
 -- what is read at a core is its list
-pub list_read : {X : Type 0} (lists : List (Vec X Global)) (c : ℕ) (own : Vec X Global) → c < length lists → own ≡ get_or lists c own → list_at lists c ≡ own.items
-list_read {X} lists c own l r = get_or-map (λ (s : Vec X Global). s.items) lists c own [] l ∙ ap (λ (s : Vec X Global). s.items) (sym r)
+pub list_read : {X : Type 0} (lists : List (Vec X Global)) (c : ℕ) (own : Vec X Global) → c < length lists
+    → own ≡ get_or lists c own → list_at lists c ≡ own.items
+list_read {X} lists c own l r =
+    get_or-map (λ (s : Vec X Global). s.items) lists c own [] l ∙ ap (λ (s : Vec X Global). s.items) (sym r)
 
 -- one list is written
-pub list_here : {X : Type 0} (lists : List (Vec X Global)) (i : ℕ) (new : Vec X Global) → i < length lists → list_at (set lists i new) i ≡ new.items
-list_here {X} lists i new l = ap (λ (es : List (List X)). get_or es i []) (map-set (λ (s : Vec X Global). s.items) lists i new) ∙ get_or-set_same (map (λ (s : Vec X Global). s.items) lists) i new.items [] (omega (arith, l, length-map lists (λ (s : Vec X Global). s.items)))
+pub list_here : {X : Type 0} (lists : List (Vec X Global)) (i : ℕ) (new : Vec X Global) → i < length lists
+    → list_at (set lists i new) i ≡ new.items
+list_here {X} lists i new l =
+    ap (λ (es : List (List X)). get_or es i []) (map-set (λ (s : Vec X Global). s.items) lists i new)
+    ∙ get_or-set_same (map (λ (s : Vec X Global). s.items) lists) i new.items []
+    (omega (arith, l, length-map lists (λ (s : Vec X Global). s.items)))
 
-pub list_there : {X : Type 0} (lists : List (Vec X Global)) (i d : ℕ) (new : Vec X Global) → d ≢ i → list_at (set lists i new) d ≡ list_at lists d
-list_there {X} lists i d new ne = ap (λ (es : List (List X)). get_or es d []) (map-set (λ (s : Vec X Global). s.items) lists i new) ∙ get_or-set_other (map (λ (s : Vec X Global). s.items) lists) i d new.items [] ne
+pub list_there : {X : Type 0} (lists : List (Vec X Global)) (i d : ℕ) (new : Vec X Global) → d ≢ i
+    → list_at (set lists i new) d ≡ list_at lists d
+list_there {X} lists i d new ne =
+    ap (λ (es : List (List X)). get_or es d []) (map-set (λ (s : Vec X Global). s.items) lists i new)
+    ∙ get_or-set_other (map (λ (s : Vec X Global). s.items) lists) i d new.items [] ne
 
 -- one list more is emptied
-pub empty_more : (lists : List (Vec Event Global)) (i : ℕ) (new : Vec Event Global) → i < length lists → new.items ≡ [] → ((c : ℕ) → c < i → list_at lists c ≡ []) → (c : ℕ) → c < i + 1 → list_at (set lists i new) c ≡ []
+pub empty_more : (lists : List (Vec Event Global)) (i : ℕ) (new : Vec Event Global) → i < length lists → new.items ≡ []
+    → ((c : ℕ) → c < i → list_at lists c ≡ []) → (c : ℕ) → c < i + 1 → list_at (set lists i new) c ≡ []
 empty_more lists i new l none so_far c b = elim (cases_eq c i) [
   | inl e ↦ ap (list_at (set lists i new)) e ∙ (list_here lists i new l ∙ none)
   | inr ne ↦ list_there lists i c new ne ∙ so_far c (omega arith)
@@ -37,23 +47,41 @@ has_event events told l = elim (cases_lt told (length events)) [
 ]
 
 -- the moments behind an event
-pub moments_more : (lists : List (Vec Event Global)) (told moments : List ℕ) (n d place moment : ℕ) → AreMoments lists told moments n → d < length told → d < length moments → moment ≡ next_moment (list_at lists d) place → AreMoments lists (set told d place) (set moments d moment) n
+pub moments_more : (lists : List (Vec Event Global)) (told moments : List ℕ) (n d place moment : ℕ)
+    → AreMoments lists told moments n → d < length told → d < length moments
+    → moment ≡ next_moment (list_at lists d) place → AreMoments lists (set told d place) (set moments d moment) n
 moments_more lists told moments n d place moment are in_told in_moments is c l = elim (cases_eq c d) [
-  | inl e ↦ subst (λ (z : ℕ). get_or (set moments d moment) z 0 ≡ next_moment (list_at lists z) (get_or (set told d place) z 0)) (sym e)
-      (get_or-set_same moments d moment 0 in_moments ∙ (is ∙ sym (ap (next_moment (list_at lists d)) (get_or-set_same told d place 0 in_told))))
-  | inr ne ↦ get_or-set_other moments d c moment 0 ne ∙ (are c l ∙ sym (ap (next_moment (list_at lists c)) (get_or-set_other told d c place 0 ne)))
+  | inl e ↦
+      subst
+      (λ (z : ℕ). get_or (set moments d moment) z 0 ≡ next_moment (list_at lists z) (get_or (set told d place) z 0))
+      (sym e)
+      (get_or-set_same moments d moment 0 in_moments
+      ∙ (is ∙ sym (ap (next_moment (list_at lists d)) (get_or-set_same told d place 0 in_told))))
+  | inr ne ↦
+      get_or-set_other moments d c moment 0 ne
+      ∙ (are c l ∙ sym (ap (next_moment (list_at lists c)) (get_or-set_other told d c place 0 ne)))
 ]
 
 -- how many events are left
 abbrev pub left_of : List (Vec Event Global) → List ℕ → ℕ → ℕ
 left_of lists told n = sum_below (λ c. length (list_at lists c) - get_or told c 0) n
 
-pub left_less : (lists : List (Vec Event Global)) (told : List ℕ) (n d : ℕ) → d < n → d < length told → get_or told d 0 < length (list_at lists d) → left_of lists (set told d (get_or told d 0 + 1)) n < left_of lists told n
+pub left_less : (lists : List (Vec Event Global)) (told : List ℕ) (n d : ℕ) → d < n → d < length told
+    → get_or told d 0 < length (list_at lists d)
+    → left_of lists (set told d (get_or told d 0 + 1)) n < left_of lists told n
 left_less lists told n d in_n in_told l =
     let more : List ℕ = set told d (get_or told d 0 + 1) in
     let here : get_or more d 0 ≡ get_or told d 0 + 1 = get_or-set_same told d (get_or told d 0 + 1) 0 in_told in
-    let each : (c : ℕ) → c < n → length (list_at lists c) - get_or more c 0 ≤ length (list_at lists c) - get_or told c 0 = λ c k. elim (cases_eq c d) [
-      | inl e ↦ subst (λ (z : ℕ). length (list_at lists z) - get_or more z 0 ≤ length (list_at lists z) - get_or told z 0) (sym e) (omega (arith, here))
+    let each : (c : ℕ) → c < n
+    → length (list_at lists c) - get_or more c 0 ≤ length (list_at lists c) - get_or told c 0
+    = λ c k. elim (cases_eq c d) [
+      | inl e ↦
+          subst (λ (z : ℕ). length (list_at lists z) - get_or more z 0 ≤ length (list_at lists z) - get_or told z 0)
+          (sym e) (omega (arith, here))
       | inr ne ↦ omega (arith, get_or-set_other told d c (get_or told d 0 + 1) 0 ne)
     ] in
-    omega (arith, sum_below-lt (λ c. length (list_at lists c) - get_or more c 0) (λ c. length (list_at lists c) - get_or told c 0) d n 1 each in_n (omega (arith, here)))
+    omega (
+      arith,
+      sum_below-lt (λ c. length (list_at lists c) - get_or more c 0)
+          (λ c. length (list_at lists c) - get_or told c 0) d n 1 each in_n (omega (arith, here)),
+    )

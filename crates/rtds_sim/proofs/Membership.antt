@@ -13,20 +13,39 @@ pub record IsPlace (passes : ℕ → Bool) (n i v : ℕ) : Type 0 where
   pub passes_it : passes v ≡ true
   pub counted : count_below passes v ≡ i
 
-pub is_place : (passes : ℕ → Bool) (n i d : ℕ) → i < length (places_where passes n) → IsPlace passes n i (get_or (places_where passes n) i d)
+pub is_place : (passes : ℕ → Bool) (n i d : ℕ) → i < length (places_where passes n)
+    → IsPlace passes n i (get_or (places_where passes n) i d)
 is_place passes zero i d l = absurd (omega arith)
 is_place passes (suc n) i d l = elim (cases_lt i (length (places_where passes n))) [
   | inl q ↦
       let old : IsPlace passes n i (get_or (places_where passes n) i d) = is_place passes n i d q in
-      subst (IsPlace passes (suc n) i) (sym (push_if-kept (places_where passes n) (passes n) n d i q)) (record { within = omega (arith, old.within); passes_it = old.passes_it; counted = old.counted })
+      subst (IsPlace passes (suc n) i) (sym (push_if-kept (places_where passes n) (passes n) n d i q))
+      (record { within = omega (arith, old.within); passes_it = old.passes_it; counted = old.counted })
   | inr q ↦ elim (cases_Bool (passes n)) [
     | inl e ↦
-        let long : length (places_where passes n) ≡ i = omega (arith, l, q, length-push_if (places_where passes n) (passes n) n, ap (λ (b : Bool). cond {A = ℕ} b 1 0) e) in
-        subst (IsPlace passes (suc n) i) (sym (push_if-last (places_where passes n) (passes n) n d i e long)) (record { within = omega arith; passes_it = e; counted = sym (length-places_where passes n) ∙ long })
-    | inr e ↦ absurd (omega (arith, l, q, length-push_if (places_where passes n) (passes n) n, ap (λ (b : Bool). cond {A = ℕ} b 1 0) e))
+        let long : length (places_where passes n) ≡ i
+        = omega (
+          arith,
+          l,
+          q,
+          length-push_if (places_where passes n) (passes n) n,
+          ap (λ (b : Bool). cond {A = ℕ} b 1 0) e,
+        ) in
+        subst (IsPlace passes (suc n) i) (sym (push_if-last (places_where passes n) (passes n) n d i e long))
+        (record { within = omega arith; passes_it = e; counted = sym (length-places_where passes n) ∙ long })
+    | inr e ↦
+        absurd (omega (
+          arith,
+          l,
+          q,
+          length-push_if (places_where passes n) (passes n) n,
+          ap (λ (b : Bool). cond {A = ℕ} b 1 0) e,
+        ))
   ]
 ]
 
 -- the part that was looked at
-pub part_here : (sys : SystemView) (parts : List PartView) (v : ℕ) (p : PartView) → parts ≡ sys.parts → v < length sys.parts → p ≡ slice_index_or parts v p → p ≡ part_at sys v
-part_here sys parts v p e l is = is ∙ (ap (λ (ps : List PartView). slice_index_or ps v p) e ∙ get_or_default sys.parts v _ _ l)
+pub part_here : (sys : SystemView) (parts : List PartView) (v : ℕ) (p : PartView) → parts ≡ sys.parts
+    → v < length sys.parts → p ≡ slice_index_or parts v p → p ≡ part_at sys v
+part_here sys parts v p e l is =
+    is ∙ (ap (λ (ps : List PartView). slice_index_or ps v p) e ∙ get_or_default sys.parts v _ _ l)

@@ -41,20 +41,23 @@ lt_same g m b some l = elim (cases_lt g b) [
 ]
 
 -- a slot of the same period
-pub number_same : (period f x y : ℕ) → begins period f (period_number period f x) ≤ x → x ≤ y → y < begins period f (period_number period f x) + period → period_number period f y ≡ period_number period f x
+pub number_same : (period f x y : ℕ) → begins period f (period_number period f x) ≤ x → x ≤ y
+    → y < begins period f (period_number period f x) + period → period_number period f y ≡ period_number period f x
 number_same period f x y lo l hi =
     let q : ℕ = (x - f) / period in
     let e : y - f ≡ q * period + (y - (f + q * period)) = omega arith in
     ap (λ (z : ℕ). z / period) e ∙ div-mul-add q period (y - (f + q * period)) (omega arith)
 
 -- the first slot of the next one
-number_next : (period f x y : ℕ) → 1 ≤ period → y ≡ begins period f (period_number period f x) + period → period_number period f y ≡ suc (period_number period f x)
+number_next : (period f x y : ℕ) → 1 ≤ period → y ≡ begins period f (period_number period f x) + period
+    → period_number period f y ≡ suc (period_number period f x)
 number_next period f x y some e =
     let q : ℕ = (x - f) / period in
     let e' : y - f ≡ suc q * period + 0 = omega arith in
     ap (λ (z : ℕ). z / period) e' ∙ div-mul-add (suc q) period 0 some
 
-pub core_in : (sys : SystemView) → IsSystem sys → (v : ℕ) → v < length sys.parts → core_of (part_at sys v).parent < length sys.cores
+pub core_in : (sys : SystemView) → IsSystem sys → (v : ℕ) → v < length sys.parts
+    → core_of (part_at sys v).parent < length sys.cores
 core_in sys is v l = go (part_at sys v).parent (is.parents v l)
   where
     go : (p : Parent) → Stands sys v p → core_of p < length sys.cores
@@ -63,7 +66,8 @@ core_in sys is v l = go (part_at sys v).parent (is.parents v l)
 
 -- what is known of core c at slot x, whose rows are taken and whose VCPU has it, and of a later
 -- slot
-pub record IsNext (sys : SystemView) (budgets : List ℕ) (rows : List Row) (c : ℕ) (run : List (Option ℕ)) (x k : ℕ) (accounts : List Account) (holder : Option ℕ) (to : ℕ) : Type 0 where
+pub record IsNext (sys : SystemView) (budgets : List ℕ) (rows : List Row) (c : ℕ) (run : List (Option ℕ)) (x k : ℕ)
+    (accounts : List Account) (holder : Option ℕ) (to : ℕ) : Type 0 where
   pub taken : AreBefore rows k (suc x)
   pub are : AreOn sys rows c run x k accounts
   pub holder_is : holder ≡ held run x
@@ -73,11 +77,19 @@ pub record IsNext (sys : SystemView) (budgets : List ℕ) (rows : List Row) (c :
   pub in_budget : (v : ℕ) → holder ≡ Some v → to ≤ x + left_of (account_at accounts v) (budget_at budgets v)
 
 -- no row comes from slot x on and before a later one
-pub taken_by : (rows : List Row) (k x to y : ℕ) → AreBefore rows k (suc x) → RowsFrom rows k to → x ≤ y → y < to → AreBefore rows k (suc y)
-taken_by rows k x to y taken rows_later l m = record { in_rows = taken.in_rows; past = λ i h. omega (arith, taken.past i h); to_come = λ i a b. omega (arith, rows_later i a b) }
+pub taken_by : (rows : List Row) (k x to y : ℕ) → AreBefore rows k (suc x) → RowsFrom rows k to → x ≤ y → y < to
+    → AreBefore rows k (suc y)
+taken_by rows k x to y taken rows_later l m =
+    record {
+      in_rows = taken.in_rows;
+      past = λ i h. omega (arith, taken.past i h);
+      to_come = λ i a b. omega (arith, rows_later i a b);
+    }
 
-module _ (sys : SystemView) (budgets : List ℕ) (plan : IsPlan sys budgets) (rows : List Row) (n c : ℕ) (run : List (Option ℕ)) (is : CoreRun sys budgets rows n c run)
-    (x k : ℕ) (accounts : List Account) (holder : Option ℕ) (to : ℕ) (next : IsNext sys budgets rows c run x k accounts holder to) where
+module _ (sys : SystemView) (budgets : List ℕ) (plan : IsPlan sys budgets) (rows : List Row) (n c : ℕ)
+    (run : List (Option ℕ)) (is : CoreRun sys budgets rows n c run)
+    (x k : ℕ) (accounts : List Account) (holder : Option ℕ) (to : ℕ)
+    (next : IsNext sys budgets rows c run x k accounts holder to) where
   taken_at : (y : ℕ) → x ≤ y → y < to → AreBefore rows k (suc y)
   taken_at y l m = taken_by rows k x to y next.taken next.rows_later l m
 
@@ -87,9 +99,14 @@ module _ (sys : SystemView) (budgets : List ℕ) (plan : IsPlan sys budgets) (ro
 
   runs_same : (v y : ℕ) → x ≤ y → y < to → can_run sys rows c v y ≡ can_run sys rows c v x
   runs_same v y l m =
-      let s : is_started_at rows v y ≡ is_started_at rows v x = started_by rows v y k (taken_at y l m) ∙ sym (started_by rows v x k next.taken) in
-      let b : is_blocked_at rows v y ≡ is_blocked_at rows v x = blocked_by rows v y k (taken_at y l m) ∙ sym (blocked_by rows v x k next.taken) in
-      ap (λ (s : Bool). (nat_lt v (length sys.parts) && is_child sys (Core c) v) && (s && not (is_blocked_at rows v y))) s ∙ ap (λ (b : Bool). (nat_lt v (length sys.parts) && is_child sys (Core c) v) && (is_started_at rows v x && not b)) b
+      let s : is_started_at rows v y ≡ is_started_at rows v x
+      = started_by rows v y k (taken_at y l m) ∙ sym (started_by rows v x k next.taken) in
+      let b : is_blocked_at rows v y ≡ is_blocked_at rows v x
+      = blocked_by rows v y k (taken_at y l m) ∙ sym (blocked_by rows v x k next.taken) in
+      ap (λ (s : Bool). (nat_lt v (length sys.parts) && is_child sys (Core c) v) && (s && not (is_blocked_at rows v y)))
+      s
+      ∙ ap (λ (b : Bool). (nat_lt v (length sys.parts) && is_child sys (Core c) v)
+      && (is_started_at rows v x && not b)) b
 
   -- a VCPU that can run, and its account
   record Runs (v : ℕ) : Type 0 where
@@ -100,76 +117,112 @@ module _ (sys : SystemView) (budgets : List ℕ) (plan : IsPlan sys budgets) (ro
 
   runs_is : (v : ℕ) → can_run sys rows c v x ≡ true → Runs v
   runs_is v h =
-      let p = and_parts (nat_lt v (length sys.parts) && is_child sys (Core c) v) (is_started_at rows v x && not (is_blocked_at rows v x)) h in
+      let p
+      = and_parts (nat_lt v (length sys.parts) && is_child sys (Core c) v)
+      (is_started_at rows v x && not (is_blocked_at rows v x)) h in
       let q = and_parts (nat_lt v (length sys.parts)) (is_child sys (Core c) v) p.0 in
       let l : v < length sys.parts = ltb-true v (length sys.parts) q.0 in
       let a : IsAccount sys rows run v x k (account_at accounts v) = next.are v l q.1 in
-      let s : (account_at accounts v).started ≡ true = a.started ∙ (sym (started_by rows v x k next.taken) ∙ (and_parts (is_started_at rows v x) (not (is_blocked_at rows v x)) p.1).0) in
+      let s : (account_at accounts v).started ≡ true
+      = a.started
+      ∙ (sym (started_by rows v x k next.taken)
+      ∙ (and_parts (is_started_at rows v x) (not (is_blocked_at rows v x)) p.1).0) in
       record { is_part = l; child = q.1; started = s; in_period = a.in_period s }
 
-  from_same : (v y : ℕ) → x ≤ y → y < to → Runs v → period_number (part_at sys v).period (start_of rows v) y ≡ period_number (part_at sys v).period (start_of rows v) x
-  from_same v y l m r = number_same (part_at sys v).period (start_of rows v) x y (omega (arith, r.in_period.from_is, r.in_period.begun)) l (omega (arith, r.in_period.from_is, next.in_period v r.is_part r.child r.started))
+  from_same : (v y : ℕ) → x ≤ y → y < to → Runs v
+      → period_number (part_at sys v).period (start_of rows v) y
+      ≡ period_number (part_at sys v).period (start_of rows v) x
+  from_same v y l m r =
+      number_same (part_at sys v).period (start_of rows v) x y (omega (arith, r.in_period.from_is, r.in_period.begun)) l
+      (omega (arith, r.in_period.from_is, next.in_period v r.is_part r.child r.started))
 
   -- what it had by y
-  used_is : (v y : ℕ) → x ≤ y → y < to → AlikeTo y → Runs v → used sys rows run v y ≡ used sys rows run v x + cond (holds (held run x) v) (y - x) 0
+  used_is : (v y : ℕ) → x ≤ y → y < to → AlikeTo y → Runs v
+      → used sys rows run v y ≡ used sys rows run v x + cond (holds (held run x) v) (y - x) 0
   used_is v y l m alike r =
       let e : x + (y - x) ≡ y = omega arith in
       let p : ℕ → Bool = λ z. holds (held run z) v in
       ap (λ (q : ℕ). count_between p (begins (part_at sys v).period (start_of rows v) q) y) (from_same v y l m r)
       ∙ (ap (λ (z : ℕ). count_between p (period_from sys rows v x) z) (sym e)
-      ∙ between_alike p (holds (held run x) v) (period_from sys rows v x) x (y - x) (omega (arith, r.in_period.from_is, r.in_period.begun)) (λ z i j. ap (λ (o : Option ℕ). holds o v) (alike z i (omega arith))))
+      ∙ between_alike p (holds (held run x) v) (period_from sys rows v x) x (y - x)
+      (omega (arith, r.in_period.from_is, r.in_period.begun))
+      (λ z i j. ap (λ (o : Option ℕ). holds o v) (alike z i (omega arith))))
 
   record Same (v y : ℕ) : Type 0 where
     level : level_at sys budgets rows run v y ≡ level_at sys budgets rows run v x
     deadline : deadline_at sys rows v y ≡ deadline_at sys rows v x
     left : nat_lt (used sys rows run v y) (budget_at budgets v) ≡ nat_lt (used sys rows run v x) (budget_at budgets v)
 
-  same_by : (v y m : ℕ) → x ≤ y → y < to → Runs v → used sys rows run v y ≡ used sys rows run v x + m → m < budget_at budgets v - used sys rows run v x % budget_at budgets v → Same v y
+  same_by : (v y m : ℕ) → x ≤ y → y < to → Runs v → used sys rows run v y ≡ used sys rows run v x + m
+      → m < budget_at budgets v - used sys rows run v x % budget_at budgets v → Same v y
   same_by v y m l t r e left = record {
-    level = ap (λ (g : ℕ). g / budget_at budgets v) e ∙ same_quotient (used sys rows run v x) m (budget_at budgets v) (plan.some_budget v r.is_part) left;
+    level =
+        ap (λ (g : ℕ). g / budget_at budgets v) e
+        ∙ same_quotient (used sys rows run v x) m (budget_at budgets v) (plan.some_budget v r.is_part) left;
     deadline = ap (λ (q : ℕ). begins (part_at sys v).period (start_of rows v) (suc q)) (from_same v y l t r);
-    left = ap (λ (g : ℕ). nat_lt g (budget_at budgets v)) e ∙ lt_same (used sys rows run v x) m (budget_at budgets v) (plan.some_budget v r.is_part) left;
+    left =
+        ap (λ (g : ℕ). nat_lt g (budget_at budgets v)) e
+        ∙ lt_same (used sys rows run v x) m (budget_at budgets v) (plan.some_budget v r.is_part) left;
   }
 
   same_at : (v y : ℕ) → x ≤ y → y < to → AlikeTo y → Runs v → Same v y
   same_at v y l t alike r = elim (cases_Bool (holds (held run x) v)) [
     | inl b ↦
-        let left : to ≤ x + left_of (account_at accounts v) (budget_at budgets v) = next.in_budget v (next.holder_is ∙ holds-is (held run x) v b) in
-        let g : (account_at accounts v).used % budget_at budgets v ≡ used sys rows run v x % budget_at budgets v = ap (λ (z : ℕ). z % budget_at budgets v) r.in_period.used_is in
-        same_by v y (y - x) l t r (used_is v y l t alike r ∙ ap (λ (z : ℕ). used sys rows run v x + z) (cond-true {A = ℕ} (holds (held run x) v) (y - x) 0 b)) (omega arith)
+        let left : to ≤ x + left_of (account_at accounts v) (budget_at budgets v)
+        = next.in_budget v (next.holder_is ∙ holds-is (held run x) v b) in
+        let g : (account_at accounts v).used % budget_at budgets v ≡ used sys rows run v x % budget_at budgets v
+        = ap (λ (z : ℕ). z % budget_at budgets v) r.in_period.used_is in
+        same_by v y (y - x) l t r (used_is v y l t alike r
+        ∙ ap (λ (z : ℕ). used sys rows run v x + z) (cond-true {A = ℕ} (holds (held run x) v) (y - x) 0 b))
+        (omega arith)
     | inr b ↦
         let some : 1 ≤ budget_at budgets v = plan.some_budget v r.is_part in
-        same_by v y 0 l t r (used_is v y l t alike r ∙ ap (λ (z : ℕ). used sys rows run v x + z) (cond-false {A = ℕ} (holds (held run x) v) (y - x) 0 b)) (omega arith)
+        same_by v y 0 l t r (used_is v y l t alike r
+        ∙ ap (λ (z : ℕ). used sys rows run v x + z) (cond-false {A = ℕ} (holds (held run x) v) (y - x) 0 b))
+        (omega arith)
   ]
 
-  eligible_same : (v y : ℕ) → x ≤ y → y < to → AlikeTo y → is_eligible sys budgets rows c run v y ≡ is_eligible sys budgets rows c run v x
+  eligible_same : (v y : ℕ) → x ≤ y → y < to → AlikeTo y
+      → is_eligible sys budgets rows c run v y ≡ is_eligible sys budgets rows c run v x
   eligible_same v y l t alike = elim (cases_Bool (can_run sys rows c v x)) [
     | inr b ↦
-        ap (λ (q : Bool). q && (nat_lt (used sys rows run v y) (budget_at budgets v) || (part_at sys v).extra)) (runs_same v y l t ∙ b)
-        ∙ sym (ap (λ (q : Bool). q && (nat_lt (used sys rows run v x) (budget_at budgets v) || (part_at sys v).extra)) b)
+        ap (λ (q : Bool). q && (nat_lt (used sys rows run v y) (budget_at budgets v) || (part_at sys v).extra))
+        (runs_same v y l t ∙ b)
+        ∙ sym
+        (ap (λ (q : Bool). q && (nat_lt (used sys rows run v x) (budget_at budgets v) || (part_at sys v).extra)) b)
     | inl b ↦
         let s : Same v y = same_at v y l t alike (runs_is v b) in
-        ap (λ (q : Bool). q && (nat_lt (used sys rows run v y) (budget_at budgets v) || (part_at sys v).extra)) (runs_same v y l t)
+        ap (λ (q : Bool). q && (nat_lt (used sys rows run v y) (budget_at budgets v) || (part_at sys v).extra))
+        (runs_same v y l t)
         ∙ ap (λ (q : Bool). can_run sys rows c v x && (q || (part_at sys v).extra)) s.left
   ]
 
-  before_same : (u v y : ℕ) → Same u y → Same v y → goes_before sys budgets rows run y u v ≡ goes_before sys budgets rows run x u v
+  before_same : (u v y : ℕ) → Same u y → Same v y
+      → goes_before sys budgets rows run y u v ≡ goes_before sys budgets rows run x u v
   before_same u v y a b =
-      ap (λ (l : ℕ). goes_first l (deadline_at sys rows u y) u (level_at sys budgets rows run v y) (deadline_at sys rows v y) v) a.level
-      ∙ (ap (λ (d : ℕ). goes_first (level_at sys budgets rows run u x) d u (level_at sys budgets rows run v y) (deadline_at sys rows v y) v) a.deadline
-      ∙ (ap (λ (l : ℕ). goes_first (level_at sys budgets rows run u x) (deadline_at sys rows u x) u l (deadline_at sys rows v y) v) b.level
-      ∙ ap (λ (d : ℕ). goes_first (level_at sys budgets rows run u x) (deadline_at sys rows u x) u (level_at sys budgets rows run v x) d v) b.deadline))
+      ap (λ (l : ℕ). goes_first l (deadline_at sys rows u y) u (level_at sys budgets rows run v y)
+      (deadline_at sys rows v y) v) a.level
+      ∙ (ap (λ (d : ℕ). goes_first (level_at sys budgets rows run u x) d u (level_at sys budgets rows run v y)
+      (deadline_at sys rows v y) v) a.deadline
+      ∙ (ap (λ (l : ℕ). goes_first (level_at sys budgets rows run u x) (deadline_at sys rows u x) u l
+      (deadline_at sys rows v y) v) b.level
+      ∙ ap (λ (d : ℕ). goes_first (level_at sys budgets rows run u x) (deadline_at sys rows u x) u
+      (level_at sys budgets rows run v x) d v) b.deadline))
 
   eligible_runs : (v : ℕ) → is_eligible sys budgets rows c run v x ≡ true → Runs v
-  eligible_runs v h = runs_is v (and_parts (can_run sys rows c v x) (nat_lt (used sys rows run v x) (budget_at budgets v) || (part_at sys v).extra) h).0
+  eligible_runs v h =
+      runs_is v (and_parts (can_run sys rows c v x)
+      (nat_lt (used sys rows run v x) (budget_at budgets v) || (part_at sys v).extra) h).0
 
-  entry_same : (y : ℕ) → x ≤ y → y < to → AlikeTo y → (o : Option ℕ) → RtdsEntry sys budgets rows c run x o → RtdsEntry sys budgets rows c run y o
+  entry_same : (y : ℕ) → x ≤ y → y < to → AlikeTo y → (o : Option ℕ) → RtdsEntry sys budgets rows c run x o
+      → RtdsEntry sys budgets rows c run y o
   entry_same y l t alike o e = record {
     idle = λ q v. eligible_same v y l t alike ∙ e.idle q v;
     named = λ v q. eligible_same v y l t alike ∙ e.named v q;
     first = λ u v q h.
         let eu : is_eligible sys budgets rows c run u x ≡ true = sym (eligible_same u y l t alike) ∙ h in
-        before_same u v y (same_at u y l t alike (eligible_runs u eu)) (same_at v y l t alike (eligible_runs v (e.named v q))) ∙ e.first u v q eu;
+        before_same u v y (same_at u y l t alike (eligible_runs u eu))
+        (same_at v y l t alike (eligible_runs v (e.named v q))) ∙ e.first u v q eu;
   }
 
   alike_to : to ≤ n → (m : ℕ) → x + m ≤ to → AlikeTo (x + m)
@@ -181,7 +234,8 @@ module _ (sys : SystemView) (budgets : List ℕ) (plan : IsPlan sys budgets) (ro
         let before : AlikeTo (x + m) = alike_to fits m (omega arith) in
         let entry : RtdsEntry sys budgets rows c run x (held run x) = is.each x (omega (arith, next.later)) in
         subst (λ (y : ℕ). held run y ≡ held run x) (sym e)
-        (entry_unique sys budgets rows c run (x + m) (held run (x + m)) (held run x) (is.each (x + m) (omega arith)) (entry_same (x + m) (omega arith) (omega arith) before (held run x) entry))
+        (entry_unique sys budgets rows c run (x + m) (held run (x + m)) (held run x) (is.each (x + m) (omega arith))
+        (entry_same (x + m) (omega arith) (omega arith) before (held run x) entry))
   ]
 
   -- the core keeps its VCPU
@@ -190,21 +244,42 @@ module _ (sys : SystemView) (budgets : List ℕ) (plan : IsPlan sys budgets) (ro
 
   -- the account of a VCPU at the next slot, by whether its period ends there and whether it has its
   -- core
-  ended_account : (v : ℕ) → v < length sys.parts → (r : List (Option ℕ)) (a : Account) → IsAccount sys rows r v x k a → a.started ≡ true → to ≡ a.from + (part_at sys v).period → IsAccount sys rows r v to k (record a { from = to; used = 0 })
+  ended_account : (v : ℕ) → v < length sys.parts → (r : List (Option ℕ)) (a : Account) → IsAccount sys rows r v x k a
+      → a.started ≡ true → to ≡ a.from + (part_at sys v).period
+      → IsAccount sys rows r v to k (record a { from = to; used = 0 })
   ended_account v l r a h on end =
       let p : IsInPeriod sys rows r v x a = h.in_period on in
       let some : 1 ≤ (part_at sys v).period = omega (arith, plan.some_budget v l, plan.in_period v l) in
-      let number : period_number (part_at sys v).period (start_of rows v) to ≡ suc (period_number (part_at sys v).period (start_of rows v) x) = number_next (part_at sys v).period (start_of rows v) x to some (omega (arith, p.from_is)) in
-      let from : period_from sys rows v to ≡ to = ap (λ (q : ℕ). begins (part_at sys v).period (start_of rows v) q) number ∙ (let e : begins (part_at sys v).period (start_of rows v) (suc (period_number (part_at sys v).period (start_of rows v) x)) ≡ to = omega (arith, p.from_is) in e) in
+      let number : period_number (part_at sys v).period (start_of rows v) to
+      ≡ suc (period_number (part_at sys v).period (start_of rows v) x)
+      = number_next (part_at sys v).period (start_of rows v) x to some (omega (arith, p.from_is)) in
+      let from : period_from sys rows v to ≡ to
+      = ap (λ (q : ℕ). begins (part_at sys v).period (start_of rows v) q) number
+      ∙ (
+      let e : begins (part_at sys v).period (start_of rows v)
+      (suc (period_number (part_at sys v).period (start_of rows v) x)) ≡ to
+      = omega (arith, p.from_is) in
+      e) in
       record {
         started = h.started;
         blocked = h.blocked;
         early = omega arith;
         few = omega arith;
-        in_period = λ _. record { from_is = sym from; used_is = sym (ap (λ (b : ℕ). count_between (λ y. holds (held r y) v) b to) from ∙ none_between (λ y. holds (held r y) v) to); begun = omega arith; not_over = omega arith; few = omega arith };
+        in_period =
+            λ _. record {
+              from_is = sym from;
+              used_is =
+                  sym (ap (λ (b : ℕ). count_between (λ y. holds (held r y) v) b to) from
+                  ∙ none_between (λ y. holds (held r y) v) to);
+              begun = omega arith;
+              not_over = omega arith;
+              few = omega arith;
+            };
       }
 
-  going_account : (v : ℕ) → v < length sys.parts → (r : List (Option ℕ)) → ((z : ℕ) → x ≤ z → z < to → held r z ≡ held r x) → (a : Account) (has : Bool) → has ≡ holds (held r x) v → IsAccount sys rows r v x k a → (a.started ≡ true → to < a.from + (part_at sys v).period) →
+  going_account : (v : ℕ) → v < length sys.parts → (r : List (Option ℕ))
+      → ((z : ℕ) → x ≤ z → z < to → held r z ≡ held r x) → (a : Account) (has : Bool) → has ≡ holds (held r x) v
+      → IsAccount sys rows r v x k a → (a.started ≡ true → to < a.from + (part_at sys v).period) →
       IsAccount sys rows r v to k (if has then record a { used = a.used + (to - x) } else a)
   going_account v l r same a has is_has h below = by has refl
     where
@@ -212,17 +287,34 @@ module _ (sys : SystemView) (budgets : List ℕ) (plan : IsPlan sys budgets) (ro
       used_to on =
           let p : IsInPeriod sys rows r v x a = h.in_period on in
           let e : x + (to - x) ≡ to = omega (arith, next.later) in
-          let number : period_number (part_at sys v).period (start_of rows v) to ≡ period_number (part_at sys v).period (start_of rows v) x = number_same (part_at sys v).period (start_of rows v) x to (omega (arith, p.from_is, p.begun)) (omega (arith, next.later)) (omega (arith, p.from_is, below on)) in
-          let count : count_between (λ z. holds (held r z) v) (period_from sys rows v x) (x + (to - x)) ≡ count_between (λ z. holds (held r z) v) (period_from sys rows v x) x + cond (holds (held r x) v) (to - x) 0
-          = between_alike (λ z. holds (held r z) v) (holds (held r x) v) (period_from sys rows v x) x (to - x) (omega (arith, p.from_is, p.begun)) (λ z i j. ap (λ (o : Option ℕ). holds o v) (same z i (omega (arith, next.later)))) in
-          ap (λ (g : ℕ). g + cond has (to - x) 0) p.used_is ∙ (ap (λ (b : Bool). used sys rows r v x + cond b (to - x) 0) is_has ∙ sym (ap (λ (q : ℕ). count_between (λ z. holds (held r z) v) (begins (part_at sys v).period (start_of rows v) q) to) number ∙ (ap (λ (z : ℕ). count_between (λ z. holds (held r z) v) (period_from sys rows v x) z) (sym e) ∙ count)))
+          let number : period_number (part_at sys v).period (start_of rows v) to
+          ≡ period_number (part_at sys v).period (start_of rows v) x
+          = number_same (part_at sys v).period (start_of rows v) x to (omega (arith, p.from_is, p.begun))
+          (omega (arith, next.later)) (omega (arith, p.from_is, below on)) in
+          let count : count_between (λ z. holds (held r z) v) (period_from sys rows v x) (x + (to - x))
+          ≡ count_between (λ z. holds (held r z) v) (period_from sys rows v x) x
+          + cond (holds (held r x) v) (to - x) 0
+          =
+          between_alike (λ z. holds (held r z) v) (holds (held r x) v) (period_from sys rows v x) x (to - x)
+          (omega (arith, p.from_is, p.begun))
+          (λ z i j. ap (λ (o : Option ℕ). holds o v) (same z i (omega (arith, next.later)))) in
+          ap (λ (g : ℕ). g + cond has (to - x) 0) p.used_is
+          ∙ (ap (λ (b : Bool). used sys rows r v x + cond b (to - x) 0) is_has
+          ∙ sym (ap (λ (q : ℕ). count_between (λ z. holds (held r z) v)
+          (begins (part_at sys v).period (start_of rows v) q) to) number
+          ∙ (ap (λ (z : ℕ). count_between (λ z. holds (held r z) v) (period_from sys rows v x) z)
+          (sym e) ∙ count)))
 
       from_to : (on : a.started ≡ true) → a.from ≡ period_from sys rows v to
       from_to on =
           let p : IsInPeriod sys rows r v x a = h.in_period on in
-          p.from_is ∙ sym (ap (λ (q : ℕ). begins (part_at sys v).period (start_of rows v) q) (number_same (part_at sys v).period (start_of rows v) x to (omega (arith, p.from_is, p.begun)) (omega (arith, next.later)) (omega (arith, p.from_is, below on))))
+          p.from_is
+          ∙ sym (ap (λ (q : ℕ). begins (part_at sys v).period (start_of rows v) q)
+          (number_same (part_at sys v).period (start_of rows v) x to (omega (arith, p.from_is, p.begun))
+          (omega (arith, next.later)) (omega (arith, p.from_is, below on))))
 
-      with_used : (n : ℕ) → n ≡ a.used + cond has (to - x) 0 → n ≤ a.used + (to - x) → IsAccount sys rows r v to k (record a { used = n })
+      with_used : (n : ℕ) → n ≡ a.used + cond has (to - x) 0 → n ≤ a.used + (to - x)
+          → IsAccount sys rows r v to k (record a { used = n })
       with_used n is most = record {
         started = h.started;
         blocked = h.blocked;
@@ -230,28 +322,49 @@ module _ (sys : SystemView) (budgets : List ℕ) (plan : IsPlan sys budgets) (ro
         few = omega (arith, h.few, next.later);
         in_period = λ on.
             let p : IsInPeriod sys rows r v x a = h.in_period on in
-            record { from_is = from_to on; used_is = is ∙ used_to on; begun = omega (arith, p.begun, next.later); not_over = below on; few = omega (arith, p.few, next.later) };
+            record {
+              from_is = from_to on;
+              used_is = is ∙ used_to on;
+              begun = omega (arith, p.begun, next.later);
+              not_over = below on;
+              few = omega (arith, p.few, next.later);
+            };
       }
 
       by : (b : Bool) → b ≡ has → IsAccount sys rows r v to k (if b then record a { used = a.used + (to - x) } else a)
       by true e = with_used (a.used + (to - x)) (ap (λ (b : Bool). a.used + cond b (to - x) 0) e) (omega arith)
       by false e = with_used a.used (omega (arith, ap (λ (b : Bool). cond {A = ℕ} b (to - x) 0) e)) (omega arith)
 
-  gone_account : (v : ℕ) → v < length sys.parts → (r : List (Option ℕ)) → ((z : ℕ) → x ≤ z → z < to → held r z ≡ held r x) → (a : Account) (has : Bool) → has ≡ holds (held r x) v → IsAccount sys rows r v x k a → (a.started ≡ true → to ≤ a.from + (part_at sys v).period) →
+  gone_account : (v : ℕ) → v < length sys.parts → (r : List (Option ℕ))
+      → ((z : ℕ) → x ≤ z → z < to → held r z ≡ held r x) → (a : Account) (has : Bool) → has ≡ holds (held r x) v
+      → IsAccount sys rows r v x k a → (a.started ≡ true → to ≤ a.from + (part_at sys v).period) →
       IsAccount sys rows r v to k (gone_on a has (to - x) (part_at sys v).period to)
-  gone_account v l r same a has is_has h in_period = elim (cases_Bool (a.started && (to == (a.from + (part_at sys v).period)))) [
-    | inl b ↦
-        let p = and_parts a.started (to == (a.from + (part_at sys v).period)) b in
-        subst (λ (z : Account). IsAccount sys rows r v to k z) (sym (ap (λ (q : Bool). cond q (record a { from = to; used = 0 }) (if has then record a { used = a.used + (to - x) } else a)) b)) (ended_account v l r a h p.0 (eqb-true to (a.from + (part_at sys v).period) p.1))
-    | inr b ↦
-        subst (λ (z : Account). IsAccount sys rows r v to k z) (sym (ap (λ (q : Bool). cond q (record a { from = to; used = 0 }) (if has then record a { used = a.used + (to - x) } else a)) b))
-        (going_account v l r same a has is_has h (λ on. elim (cases_eq to (a.from + (part_at sys v).period)) [
-          | inl e ↦ absurd (both_ways _ b (and_from a.started (to == (a.from + (part_at sys v).period)) on (eq-eqb to (a.from + (part_at sys v).period) e)))
-          | inr ne ↦ omega (arith, in_period on)
-        ]))
-  ]
+  gone_account v l r same a has is_has h in_period =
+      elim (cases_Bool (a.started && (to == (a.from + (part_at sys v).period)))) [
+        | inl b ↦
+            let p = and_parts a.started (to == (a.from + (part_at sys v).period)) b in
+            subst (λ (z : Account). IsAccount sys rows r v to k z) (sym (ap
+            (λ (q : Bool). cond q (record a { from = to; used = 0 })
+            (if has then record a { used = a.used + (to - x) } else a)) b))
+            (ended_account v l r a h p.0 (eqb-true to (a.from + (part_at sys v).period) p.1))
+        | inr b ↦
+            subst (λ (z : Account). IsAccount sys rows r v to k z) (sym (ap
+            (λ (q : Bool). cond q (record a { from = to; used = 0 })
+            (if has then record a { used = a.used + (to - x) } else a)) b))
+            (going_account v l r same a has is_has h (λ on. elim (cases_eq to (a.from + (part_at sys v).period)) [
+              | inl e ↦
+                  absurd (both_ways _ b (and_from a.started (to == (a.from + (part_at sys v).period)) on
+                  (eq-eqb to (a.from + (part_at sys v).period) e)))
+              | inr ne ↦ omega (arith, in_period on)
+            ]))
+      ]
 
   -- the accounts of the core at the next slot
-  pub gone_accounts : to ≤ n → (new : List Account) → ((v : ℕ) → v < length sys.parts → is_child sys (Core c) v ≡ true → account_at new v ≡ gone_on (account_at accounts v) (holds holder v) (to - x) (part_at sys v).period to) → AreOn sys rows c run to k new
-  gone_accounts fits new each v l child = subst (λ (z : Account). IsAccount sys rows run v to k z) (sym (each v l child))
-      (gone_account v l run (alike fits) (account_at accounts v) (holds holder v) (ap (λ (o : Option ℕ). holds o v) next.holder_is) (next.are v l child) (next.in_period v l child))
+  pub gone_accounts : to ≤ n → (new : List Account)
+      → ((v : ℕ) → v < length sys.parts → is_child sys (Core c) v ≡ true
+      → account_at new v ≡ gone_on (account_at accounts v) (holds holder v) (to - x) (part_at sys v).period to)
+      → AreOn sys rows c run to k new
+  gone_accounts fits new each v l child =
+      subst (λ (z : Account). IsAccount sys rows run v to k z) (sym (each v l child))
+      (gone_account v l run (alike fits) (account_at accounts v) (holds holder v)
+      (ap (λ (o : Option ℕ). holds o v) next.holder_is) (next.are v l child) (next.in_period v l child))

@@ -20,89 +20,151 @@ use Rattle.rtds_sim.specs.Accounts.{account_at, no_account, row_taken, IsInPerio
 use Rattle.csv_rows.proofs.Last.{last_below-no, last_below-yes, last_is, some_row}
 
 -- the event of a row at a slot
-pub row_none : (sys : SystemView) (rows : List Row) (x i : ℕ) → (row_at rows i).at ≢ x → row_event_at sys rows x i ≡ None
-row_none sys rows x i ne = ap (λ (b : Bool). cond b (Some (event_of sys (row_at rows i))) None) (ne_eqb (row_at rows i).at x ne)
+pub row_none : (sys : SystemView) (rows : List Row) (x i : ℕ) → (row_at rows i).at ≢ x
+    → row_event_at sys rows x i ≡ None
+row_none sys rows x i ne =
+    ap (λ (b : Bool). cond b (Some (event_of sys (row_at rows i))) None) (ne_eqb (row_at rows i).at x ne)
 
-pub row_some : (sys : SystemView) (rows : List Row) (x i : ℕ) → (row_at rows i).at ≡ x → row_event_at sys rows x i ≡ Some (event_of sys (row_at rows i))
-row_some sys rows x i e = ap (λ (b : Bool). cond b (Some (event_of sys (row_at rows i))) None) (eq-eqb (row_at rows i).at x e)
+pub row_some : (sys : SystemView) (rows : List Row) (x i : ℕ) → (row_at rows i).at ≡ x
+    → row_event_at sys rows x i ≡ Some (event_of sys (row_at rows i))
+row_some sys rows x i e =
+    ap (λ (b : Bool). cond b (Some (event_of sys (row_at rows i))) None) (eq-eqb (row_at rows i).at x e)
 
 -- no slot lies between a moment and itself
 pub none_between : (p : ℕ → Bool) (x : ℕ) → count_between p x x ≡ 0
-none_between p x = sum_below-same (λ y. cond (leb x y && p y) 1 0) (λ y. 0) x (λ y l. ap (λ (b : Bool). cond {A = ℕ} (b && p y) 1 0) (lt-leb x y l)) ∙ sum_below-none x
+none_between p x =
+    sum_below-same (λ y. cond (leb x y && p y) 1 0) (λ y. 0) x
+    (λ y l. ap (λ (b : Bool). cond {A = ℕ} (b && p y) 1 0) (lt-leb x y l)) ∙ sum_below-none x
 
 module _ (sys : SystemView) (rows : List Row) (workload : IsWorkload sys rows) where
   -- a VCPU starts once
-  start_once : (k v n : ℕ) → k < n → n ≤ length rows → is_of v (row_at rows k) ≡ true → (row_at rows k).what ≡ Start → last_row (starts v) rows n ≡ Some (row_at rows k)
-  start_once k v n l h of is = last_is (starts v) (row_at rows) k n l (and_from (is_of v (row_at rows k)) (is_start (row_at rows k).what) of (ap is_start is)) (λ j a b. elim (cases_Bool (starts v (row_at rows j))) [
-    | inr off ↦ off
-    | inl on ↦
-        let parts = and_parts (is_of v (row_at rows j)) (is_start (row_at rows j).what) on in
-        absurd (twice (row_at rows j).what (last_row (is_of v) rows j) parts.1 (some_row (is_of v) (row_at rows) j k a of)
-        (subst (λ (u : ℕ). may_follow (last_row (is_of u) rows j) (row_at rows j).what ≡ true) (eqb-true (row_at rows j).vcpu v parts.0) (workload.in_turn j (omega arith))))
-  ])
+  start_once : (k v n : ℕ) → k < n → n ≤ length rows → is_of v (row_at rows k) ≡ true → (row_at rows k).what ≡ Start
+      → last_row (starts v) rows n ≡ Some (row_at rows k)
+  start_once k v n l h of is =
+      last_is (starts v) (row_at rows) k n l
+      (and_from (is_of v (row_at rows k)) (is_start (row_at rows k).what) of (ap is_start is))
+      (λ j a b. elim (cases_Bool (starts v (row_at rows j))) [
+        | inr off ↦ off
+        | inl on ↦
+            let parts = and_parts (is_of v (row_at rows j)) (is_start (row_at rows j).what) on in
+            absurd
+            (twice (row_at rows j).what (last_row (is_of v) rows j) parts.1 (some_row (is_of v) (row_at rows) j k a of)
+            (subst (λ (u : ℕ). may_follow (last_row (is_of u) rows j) (row_at rows j).what ≡ true)
+            (eqb-true (row_at rows j).vcpu v parts.0) (workload.in_turn j (omega arith))))
+      ])
     where
-      twice : (what : WakeKind) (o : Option Row) → is_start what ≡ true → is_some o ≡ true → may_follow o what ≡ true → ⊥
+      twice : (what : WakeKind) (o : Option Row) → is_start what ≡ true → is_some o ≡ true → may_follow o what ≡ true
+          → ⊥
       twice Start None a b c = false≢true b
       twice Start (Some r) a b c = false≢true c
       twice Wake o a b c = false≢true a
       twice Block o a b c = false≢true a
 
-  pub start_is : (k v : ℕ) → k < length rows → is_of v (row_at rows k) ≡ true → (row_at rows k).what ≡ Start → start_of rows v ≡ (row_at rows k).at
+  pub start_is : (k v : ℕ) → k < length rows → is_of v (row_at rows k) ≡ true → (row_at rows k).what ≡ Start
+      → start_of rows v ≡ (row_at rows k).at
   start_is k v l of is = ap slot_of (start_once k v (length rows) l (omega arith) of is)
 
   -- the row of another VCPU
-  other_account : (run : List (Option ℕ)) (u x k : ℕ) (a : Account) → (row_at rows k).vcpu ≢ u → IsAccount sys rows run u x k a → IsAccount sys rows run u x (suc k) a
+  other_account : (run : List (Option ℕ)) (u x k : ℕ) (a : Account) → (row_at rows k).vcpu ≢ u
+      → IsAccount sys rows run u x k a → IsAccount sys rows run u x (suc k) a
   other_account run u x k a ne h =
       let no : is_of u (row_at rows k) ≡ false = ne_eqb (row_at rows k).vcpu u ne in
       record {
-        started = h.started ∙ ap is_some (sym (last_below-no (starts u) (row_at rows) k (ap (λ (b : Bool). b && is_start (row_at rows k).what) no)));
+        started =
+            h.started
+            ∙ ap is_some (sym (last_below-no (starts u) (row_at rows) k
+            (ap (λ (b : Bool). b && is_start (row_at rows k).what) no)));
         blocked = h.blocked ∙ ap blocks (sym (last_below-no (is_of u) (row_at rows) k no));
         early = h.early;
         few = h.few;
         in_period = h.in_period;
       }
 
-  start_account : (run : List (Option ℕ)) (v x k : ℕ) → 1 ≤ (part_at sys v).period → k < length rows → (row_at rows k).at ≡ x → is_of v (row_at rows k) ≡ true → (row_at rows k).what ≡ Start →
-      IsAccount sys rows run v x (suc k) (record { started = true; blocked = false; from = (row_at rows k).at; used = 0 })
+  start_account : (run : List (Option ℕ)) (v x k : ℕ) → 1 ≤ (part_at sys v).period → k < length rows
+      → (row_at rows k).at ≡ x → is_of v (row_at rows k) ≡ true → (row_at rows k).what ≡ Start →
+      IsAccount sys rows run v x (suc k)
+      (record { started = true; blocked = false; from = (row_at rows k).at; used = 0 })
   start_account run v x k some l at of is =
       let f : start_of rows v ≡ x = start_is k v l of is ∙ at in
-      let number : period_number (part_at sys v).period (start_of rows v) x ≡ 0 = ap (λ (z : ℕ). (x - z) / (part_at sys v).period) f ∙ (ap (λ (z : ℕ). z / (part_at sys v).period) (let e : x - x ≡ 0 = omega arith in e) ∙ div-eq_of_lt some) in
-      let from : period_from sys rows v x ≡ x = ap (λ (n : ℕ). begins (part_at sys v).period (start_of rows v) n) number ∙ (let e : start_of rows v + 0 * (part_at sys v).period ≡ x = omega arith in e) in
+      let number : period_number (part_at sys v).period (start_of rows v) x ≡ 0
+      = ap (λ (z : ℕ). (x - z) / (part_at sys v).period) f
+      ∙ (ap (λ (z : ℕ). z / (part_at sys v).period) (let e : x - x ≡ 0 = omega arith in e)
+      ∙ div-eq_of_lt some) in
+      let from : period_from sys rows v x ≡ x
+      = ap (λ (n : ℕ). begins (part_at sys v).period (start_of rows v) n) number
+      ∙ (let e : start_of rows v + 0 * (part_at sys v).period ≡ x = omega arith in e) in
       record {
-        started = sym (ap is_some (last_below-yes (starts v) (row_at rows) k (and_from (is_of v (row_at rows k)) (is_start (row_at rows k).what) of (ap is_start is))));
+        started =
+            sym (ap is_some (last_below-yes (starts v) (row_at rows) k
+            (and_from (is_of v (row_at rows k)) (is_start (row_at rows k).what) of (ap is_start is))));
         blocked = sym (ap blocks (last_below-yes (is_of v) (row_at rows) k of) ∙ ap is_block is);
         early = omega arith;
         few = omega arith;
-        in_period = λ on. record { from_is = at ∙ sym from; used_is = sym (ap (λ (a : ℕ). count_between (λ y. holds (held run y) v) a x) from ∙ none_between (λ y. holds (held run y) v) x); begun = omega arith; not_over = omega arith; few = omega arith };
+        in_period =
+            λ on. record {
+              from_is = at ∙ sym from;
+              used_is =
+                  sym (ap (λ (a : ℕ). count_between (λ y. holds (held run y) v) a x) from
+                  ∙ none_between (λ y. holds (held run y) v) x);
+              begun = omega arith;
+              not_over = omega arith;
+              few = omega arith;
+            };
       }
 
-  change_account : (run : List (Option ℕ)) (v x k : ℕ) (b : Bool) (a : Account) → is_of v (row_at rows k) ≡ true → is_start (row_at rows k).what ≡ false → is_block (row_at rows k).what ≡ b → IsAccount sys rows run v x k a → IsAccount sys rows run v x (suc k) (record a { blocked = b })
+  change_account : (run : List (Option ℕ)) (v x k : ℕ) (b : Bool) (a : Account) → is_of v (row_at rows k) ≡ true
+      → is_start (row_at rows k).what ≡ false → is_block (row_at rows k).what ≡ b → IsAccount sys rows run v x k a
+      → IsAccount sys rows run v x (suc k) (record a { blocked = b })
   change_account run v x k b a of not_start is h = record {
-    started = h.started ∙ ap is_some (sym (last_below-no (starts v) (row_at rows) k (and_right (is_of v (row_at rows k)) (is_start (row_at rows k).what) not_start)));
+    started =
+        h.started
+        ∙ ap is_some (sym (last_below-no (starts v) (row_at rows) k
+        (and_right (is_of v (row_at rows k)) (is_start (row_at rows k).what) not_start)));
     blocked = sym (ap blocks (last_below-yes (is_of v) (row_at rows) k of) ∙ is);
     early = h.early;
     few = h.few;
-    in_period = λ on. let p : IsInPeriod sys rows run v x a = h.in_period on in record { from_is = p.from_is; used_is = p.used_is; begun = p.begun; not_over = p.not_over; few = p.few };
+    in_period =
+        λ on. let p : IsInPeriod sys rows run v x a
+        = h.in_period on in record
+        { from_is = p.from_is; used_is = p.used_is; begun = p.begun; not_over = p.not_over; few = p.few };
   }
 
-  own_account : (run : List (Option ℕ)) (v x k : ℕ) (a : Account) → 1 ≤ (part_at sys v).period → k < length rows → (row_at rows k).at ≡ x → is_of v (row_at rows k) ≡ true → IsAccount sys rows run v x k a →
-      (what : WakeKind) → (row_at rows k).what ≡ what → IsAccount sys rows run v x (suc k) (row_taken what (row_at rows k).at a)
+  own_account : (run : List (Option ℕ)) (v x k : ℕ) (a : Account) → 1 ≤ (part_at sys v).period → k < length rows
+      → (row_at rows k).at ≡ x → is_of v (row_at rows k) ≡ true → IsAccount sys rows run v x k a →
+      (what : WakeKind) → (row_at rows k).what ≡ what
+      → IsAccount sys rows run v x (suc k) (row_taken what (row_at rows k).at a)
   own_account run v x k a some l at of h Start is = start_account run v x k some l at of is
-  own_account run v x k a some l at of h Wake is = change_account run v x k false a of (ap is_start is) (ap is_block is) h
-  own_account run v x k a some l at of h Block is = change_account run v x k true a of (ap is_start is) (ap is_block is) h
+  own_account run v x k a some l at of h Wake is =
+      change_account run v x k false a of (ap is_start is) (ap is_block is) h
+  own_account run v x k a some l at of h Block is =
+      change_account run v x k true a of (ap is_start is) (ap is_block is) h
 
   -- one row more
-  pub accounts_more : (runs : List (List (Option ℕ))) (x k : ℕ) (accounts : List Account) → ((v : ℕ) → v < length sys.parts → 1 ≤ (part_at sys v).period) → k < length rows → (row_at rows k).at ≡ x → (row_at rows k).vcpu < length accounts → AreAccounts sys rows runs x k accounts →
-      AreAccounts sys rows runs x (k + 1) (set accounts (row_at rows k).vcpu (row_taken (row_at rows k).what (row_at rows k).at (account_at accounts (row_at rows k).vcpu)))
+  pub accounts_more : (runs : List (List (Option ℕ))) (x k : ℕ) (accounts : List Account)
+      → ((v : ℕ) → v < length sys.parts → 1 ≤ (part_at sys v).period) → k < length rows → (row_at rows k).at ≡ x
+      → (row_at rows k).vcpu < length accounts → AreAccounts sys rows runs x k accounts →
+      AreAccounts sys rows runs x (k + 1) (set accounts (row_at rows k).vcpu
+      (row_taken (row_at rows k).what (row_at rows k).at (account_at accounts (row_at rows k).vcpu)))
   accounts_more runs x k accounts some l at room h =
       let v : ℕ = (row_at rows k).vcpu in
       let r : Account = row_taken (row_at rows k).what (row_at rows k).at (account_at accounts v) in
       record {
         all_vcpus = length-set accounts v r ∙ h.all_vcpus;
-        each = λ u p. subst (λ (n : ℕ). IsAccount sys rows (run_of_part sys runs u) u x n (account_at (set accounts v r) u)) (let e : suc k ≡ k + 1 = omega arith in e) (elim (cases_eq u v) [
-          | inl e ↦ subst (λ (z : Account). IsAccount sys rows (run_of_part sys runs u) u x (suc k) z) (sym (ap (account_at (set accounts v r)) e ∙ get_or-set_same accounts v r no_account room))
-              (subst (λ (z : ℕ). IsAccount sys rows (run_of_part sys runs u) u x (suc k) (row_taken (row_at rows k).what (row_at rows k).at (account_at accounts z))) e
-              (own_account (run_of_part sys runs u) u x k (account_at accounts u) (some u p) l at (eq-eqb v u (sym e)) (h.each u p) (row_at rows k).what refl))
-          | inr ne ↦ subst (λ (z : Account). IsAccount sys rows (run_of_part sys runs u) u x (suc k) z) (sym (get_or-set_other accounts v u r no_account ne)) (other_account (run_of_part sys runs u) u x k (account_at accounts u) (λ e. ne (sym e)) (h.each u p))
-        ]);
+        each =
+            λ u p. subst
+            (λ (n : ℕ). IsAccount sys rows (run_of_part sys runs u) u x n (account_at (set accounts v r) u))
+            (let e : suc k ≡ k + 1 = omega arith in e) (elim (cases_eq u v) [
+              | inl e ↦
+                  subst (λ (z : Account). IsAccount sys rows (run_of_part sys runs u) u x (suc k) z)
+                  (sym (ap (account_at (set accounts v r)) e ∙ get_or-set_same accounts v r no_account room))
+                  (subst (λ (z : ℕ). IsAccount sys rows (run_of_part sys runs u) u x (suc k)
+                  (row_taken (row_at rows k).what (row_at rows k).at (account_at accounts z))) e
+                  (own_account (run_of_part sys runs u) u x k (account_at accounts u) (some u p) l at
+                  (eq-eqb v u (sym e))
+                  (h.each u p) (row_at rows k).what refl))
+              | inr ne ↦
+                  subst (λ (z : Account). IsAccount sys rows (run_of_part sys runs u) u x (suc k) z)
+                  (sym (get_or-set_other accounts v u r no_account ne))
+                  (other_account (run_of_part sys runs u) u x k (account_at accounts u) (λ e. ne (sym e)) (h.each u p))
+            ]);
       }

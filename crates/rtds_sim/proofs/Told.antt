@@ -29,16 +29,22 @@ all_one P e h (suc i) l = absurd (omega arith)
 pub all_append : (P : Event → Type 0) (xs ys : List Event) → AllOf P xs → AllOf P ys → AllOf P (xs ++ ys)
 all_append P xs ys a b i l = elim (cases_lt i (length xs)) [
   | inl q ↦ subst P (sym (get_or_append_left xs ys _ i q)) (a i q)
-  | inr q ↦ subst P (sym (get_or-append_right xs ys (length xs) i _ refl q)) (b (i - length xs) (omega (arith, length-append xs ys)))
+  | inr q ↦
+      subst P (sym (get_or-append_right xs ys (length xs) i _ refl q))
+      (b (i - length xs) (omega (arith, length-append xs ys)))
 ]
 
-all_more : (P : Event → Type 0) (es : List Event) (o : Option Event) → AllOf P es → ((e : Event) → o ≡ Some e → P e) → AllOf P (push_some es o)
+all_more : (P : Event → Type 0) (es : List Event) (o : Option Event) → AllOf P es → ((e : Event) → o ≡ Some e → P e)
+    → AllOf P (push_some es o)
 all_more P es None old h = old
 all_more P es (Some y) old h = all_append P es (y ∷ []) old (all_one P y (h y refl))
 
-all_gathered : (P : Event → Type 0) (f : ℕ → Option Event) (n : ℕ) → ((i : ℕ) (e : Event) → i < n → f i ≡ Some e → P e) → AllOf P (gathered f n)
+all_gathered : (P : Event → Type 0) (f : ℕ → Option Event) (n : ℕ) → ((i : ℕ) (e : Event) → i < n → f i ≡ Some e → P e)
+    → AllOf P (gathered f n)
 all_gathered P f zero h = subst (AllOf P) (sym (gathered-zero f)) (all_none P)
-all_gathered P f (suc n) h = subst (AllOf P) (sym (gathered-suc f n)) (all_more P (gathered f n) (f n) (all_gathered P f n (λ i e l. h i e (omega arith))) (λ e. h n e (omega arith)))
+all_gathered P f (suc n) h =
+    subst (AllOf P) (sym (gathered-suc f n))
+    (all_more P (gathered f n) (f n) (all_gathered P f n (λ i e l. h i e (omega arith))) (λ e. h n e (omega arith)))
 
 -- an event that is there under a condition
 if_there : (P : Event → Type 0) (b : Bool) (y e : Event) → (b ≡ true → P y) → cond b (Some y) None ≡ Some e → P e
@@ -46,7 +52,8 @@ if_there P true y e h q = subst P (same_Some y e q) (h refl)
 if_there P false y e h q = absurd (none-some e q)
 
 -- what a core goes on to
-goes_on : (P : Event → Type 0) (c x : ℕ) → P (on_at c x Stop) → ((v : ℕ) → P (on_at c x (Run v))) → (holder next : Option ℕ) (e : Event) → on_core_at c x (switch_to holder next) ≡ Some e → P e
+goes_on : (P : Event → Type 0) (c x : ℕ) → P (on_at c x Stop) → ((v : ℕ) → P (on_at c x (Run v)))
+    → (holder next : Option ℕ) (e : Event) → on_core_at c x (switch_to holder next) ≡ Some e → P e
 goes_on P c x stop run None None e q = absurd (none-some e q)
 goes_on P c x stop run (Some u) None e q = subst P (same_Some _ e q) stop
 goes_on P c x stop run None (Some v) e q = subst P (same_Some _ e q) (run v)
@@ -65,15 +72,22 @@ module _ (P : Event → Type 0) (sys : SystemView) (rows : List Row) (runs : Lis
 
   told_at : (x : ℕ) → Holds x → AllOf P (printed_at sys rows runs x)
   told_at x h =
-      all_append P (gathered (stop_at rows runs x) (length sys.cores)) (gathered (row_event_at sys rows x) (length rows) ++ gathered (switch_at rows runs x) (length sys.cores))
-      (all_gathered P (stop_at rows runs x) (length sys.cores) (λ c e l q. if_there P (is_blocked_one rows x (holder_before (run_at runs c) x)) (on_at c x Stop) e (λ b. h.stops c) q))
-      (all_append P (gathered (row_event_at sys rows x) (length rows)) (gathered (switch_at rows runs x) (length sys.cores))
-      (all_gathered P (row_event_at sys rows x) (length rows) (λ i e l q. if_there P ((row_at rows i).at == x) (event_of sys (row_at rows i)) e (λ b. h.of_row i l (eqb-true (row_at rows i).at x b)) q))
-      (all_gathered P (switch_at rows runs x) (length sys.cores) (λ c e l q. goes_on P c x (h.stops c) (h.runs_on c) (holder_left rows (run_at runs c) x) (held (run_at runs c) x) e q)))
+      all_append P (gathered (stop_at rows runs x) (length sys.cores))
+      (gathered (row_event_at sys rows x) (length rows) ++ gathered (switch_at rows runs x) (length sys.cores))
+      (all_gathered P (stop_at rows runs x) (length sys.cores) (λ c e l q. if_there P
+      (is_blocked_one rows x (holder_before (run_at runs c) x)) (on_at c x Stop) e (λ b. h.stops c) q))
+      (all_append P (gathered (row_event_at sys rows x) (length rows))
+      (gathered (switch_at rows runs x) (length sys.cores))
+      (all_gathered P (row_event_at sys rows x) (length rows) (λ i e l q. if_there P ((row_at rows i).at == x)
+      (event_of sys (row_at rows i)) e (λ b. h.of_row i l (eqb-true (row_at rows i).at x b)) q))
+      (all_gathered P (switch_at rows runs x) (length sys.cores) (λ c e l q. goes_on P c x (h.stops c) (h.runs_on c)
+      (holder_left rows (run_at runs c) x) (held (run_at runs c) x) e q)))
 
   pub told_below : (y : ℕ) → ((x : ℕ) → x < y → Holds x) → AllOf P (printed_below sys rows runs y)
   told_below zero h = subst (AllOf P) (sym (printed_below-zero sys rows runs)) (all_none P)
-  told_below (suc y) h = subst (AllOf P) (sym (printed_below-suc sys rows runs y)) (all_append P (printed_below sys rows runs y) (printed_at sys rows runs y) (told_below y (λ x l. h x (omega arith))) (told_at y (h y (omega arith))))
+  told_below (suc y) h =
+      subst (AllOf P) (sym (printed_below-suc sys rows runs y)) (all_append P (printed_below sys rows runs y)
+      (printed_at sys rows runs y) (told_below y (λ x l. h x (omega arith))) (told_at y (h y (omega arith))))
 
   -- and of those behind slot y
   pub record Behind (y z : ℕ) : Type 0 where
@@ -84,7 +98,9 @@ module _ (P : Event → Type 0) (sys : SystemView) (rows : List Row) (runs : Lis
   pub behind : (y d : ℕ) → ((x : ℕ) → y ≤ x → x < y + d → Holds x) → Behind y (y + d)
   behind y zero h = record {
     rest = [];
-    splits = ap (printed_below sys rows runs) (let e : y + 0 ≡ y = omega arith in e) ∙ sym (append-nil (printed_below sys rows runs y));
+    splits =
+        ap (printed_below sys rows runs) (let e : y + 0 ≡ y = omega arith in e)
+        ∙ sym (append-nil (printed_below sys rows runs y));
     all = all_none P;
   }
   behind y (suc d) h =
@@ -92,6 +108,12 @@ module _ (P : Event → Type 0) (sys : SystemView) (rows : List Row) (runs : Lis
       let e : y + suc d ≡ suc (y + d) = omega arith in
       record {
         rest = old.rest ++ printed_at sys rows runs (y + d);
-        splits = ap (printed_below sys rows runs) e ∙ (printed_below-suc sys rows runs (y + d) ∙ (ap (λ (es : List Event). es ++ printed_at sys rows runs (y + d)) old.splits ∙ append_assoc (printed_below sys rows runs y) old.rest (printed_at sys rows runs (y + d))));
-        all = all_append P old.rest (printed_at sys rows runs (y + d)) old.all (told_at (y + d) (h (y + d) (omega arith) (omega arith)));
+        splits =
+            ap (printed_below sys rows runs) e
+            ∙ (printed_below-suc sys rows runs (y + d)
+            ∙ (ap (λ (es : List Event). es ++ printed_at sys rows runs (y + d)) old.splits
+            ∙ append_assoc (printed_below sys rows runs y) old.rest (printed_at sys rows runs (y + d))));
+        all =
+            all_append P old.rest (printed_at sys rows runs (y + d)) old.all
+            (told_at (y + d) (h (y + d) (omega arith) (omega arith)));
       }

@@ -42,14 +42,17 @@ scaled_cond : (b : Bool) → cond {A = ℕ} b 1000 0 ≡ cond {A = ℕ} b 1 0 * 
 scaled_cond true = refl
 scaled_cond false = refl
 
-pub scaled : (q p : ℕ → Bool) (f e : ℕ) → ((m : ℕ) → m < e * 1000 → q m ≡ p (m / 1000)) → count_between q (f * 1000) (e * 1000) ≡ count_between p f e * 1000
+pub scaled : (q p : ℕ → Bool) (f e : ℕ) → ((m : ℕ) → m < e * 1000 → q m ≡ p (m / 1000))
+    → count_between q (f * 1000) (e * 1000) ≡ count_between p f e * 1000
 scaled q p f zero same = omega (arith, between_none q (f * 1000) 0 (omega arith), between_none p f 0 (omega arith))
 scaled q p f (suc e) same = elim (cases_lt e f) [
-  | inl l ↦ omega (arith, between_none q (f * 1000) (suc e * 1000) (omega arith), between_none p f (suc e) (omega arith))
+  | inl l ↦
+      omega (arith, between_none q (f * 1000) (suc e * 1000) (omega arith), between_none p f (suc e) (omega arith))
   | inr l ↦ omega (
     arith,
     scaled q p f e (λ m k. same m (omega arith)),
-    between_alike_to q (p e) (f * 1000) (e * 1000) (suc e * 1000) (omega arith) (omega arith) (λ m a b. same m b ∙ ap p (let d : m / 1000 ≡ e = omega arith in d)),
+    between_alike_to q (p e) (f * 1000) (e * 1000) (suc e * 1000) (omega arith) (omega arith)
+        (λ m a b. same m b ∙ ap p (let d : m / 1000 ≡ e = omega arith in d)),
     between_alike_to p (p e) f e (suc e) l (omega arith) (λ x a b. ap p (let d : x ≡ e = omega arith in d)),
     ap (λ (z : ℕ). cond {A = ℕ} (p e) z 0) (let d : suc e * 1000 - e * 1000 ≡ 1000 = omega arith in d),
     ap (λ (z : ℕ). cond {A = ℕ} (p e) z 0) (let d : suc e - e ≡ 1 = omega arith in d),
@@ -73,14 +76,17 @@ record IsStartOf (sys : SystemView) (rows : List Row) (v : ℕ) (e : Event) : Ty
 abbrev StartsSo : SystemView → List Row → ℕ → Event → Type 0
 StartsSo sys rows v e = starts_event v e ≡ true → IsStartOf sys rows v e
 
-module _ (sys : SystemView) (system : IsSystem sys) (budgets : List ℕ) (plan : IsPlan sys budgets) (rows : List Row) (workload : IsWorkload sys rows) (n : ℕ) (runs : List (List (Option ℕ))) (is : RtdsRun sys budgets rows n runs) (fits : n ≤ LIMIT) where
+module _ (sys : SystemView) (system : IsSystem sys) (budgets : List ℕ) (plan : IsPlan sys budgets) (rows : List Row)
+    (workload : IsWorkload sys rows) (n : ℕ) (runs : List (List (Option ℕ))) (is : RtdsRun sys budgets rows n runs)
+    (fits : n ≤ LIMIT) where
   abbrev events : List Event
   events = printed sys rows runs n
 
   pub end_is : end_of events ≡ n * 1000
   end_is =
       let below : List Event = printed_below sys rows runs n in
-      ap (λ (e : Event). e.at) (get_or_push below (on_at 0 n End) _ (length events - 1) (omega (arith, length_push below (on_at 0 n End))))
+      ap (λ (e : Event). e.at)
+      (get_or_push below (on_at 0 n End) _ (length events - 1) (omega (arith, length_push below (on_at 0 n End))))
 
   -- the events at or before a moment are those of the slots up to its own
   abbrev Early : ℕ → Event → Type 0
@@ -97,10 +103,14 @@ module _ (sys : SystemView) (system : IsSystem sys) (budgets : List ℕ) (plan :
     in_run = omega arith
 
     early : AllOf (Early m) (printed_below sys rows runs (suc x))
-    early = told_below (Early m) sys rows runs (suc x) (λ y l. record { stops = λ c. omega arith; runs_on = λ c v. omega arith; of_row = λ i k e. omega (arith, e) })
+    early =
+        told_below (Early m) sys rows runs (suc x)
+        (λ y l. record { stops = λ c. omega arith; runs_on = λ c v. omega arith; of_row = λ i k e. omega (arith, e) })
 
     late : Behind (Late m) sys rows runs (suc x) (suc x + (n - suc x))
-    late = behind (Late m) sys rows runs (suc x) (n - suc x) (λ y a b. record { stops = λ c. omega arith; runs_on = λ c v. omega arith; of_row = λ i k e. omega (arith, e) })
+    late =
+        behind (Late m) sys rows runs (suc x) (n - suc x)
+        (λ y a b. record { stops = λ c. omega arith; runs_on = λ c v. omega arith; of_row = λ i k e. omega (arith, e) })
 
     abbrev tail : List Event
     tail = late.rest ++ on_at 0 n End ∷ []
@@ -108,32 +118,54 @@ module _ (sys : SystemView) (system : IsSystem sys) (budgets : List ℕ) (plan :
     split : events ≡ printed_below sys rows runs (suc x) ++ tail
     split =
         let e : suc x + (n - suc x) ≡ n = omega (arith, in_run) in
-        ap (λ (es : List Event). es ++ on_at 0 n End ∷ []) (ap (printed_below sys rows runs) (sym e) ∙ late.splits) ∙ append_assoc (printed_below sys rows runs (suc x)) late.rest (on_at 0 n End ∷ [])
+        ap (λ (es : List Event). es ++ on_at 0 n End ∷ []) (ap (printed_below sys rows runs) (sym e) ∙ late.splits)
+        ∙ append_assoc (printed_below sys rows runs (suc x)) late.rest (on_at 0 n End ∷ [])
 
     all_late : AllOf (Late m) tail
-    all_late = all_append (Late m) late.rest (on_at 0 n End ∷ []) late.all (all_one (Late m) (on_at 0 n End) (omega (arith, within)))
+    all_late =
+        all_append (Late m) late.rest (on_at 0 n End ∷ []) late.all
+        (all_one (Late m) (on_at 0 n End) (omega (arith, within)))
 
     -- so the last of them that passes a test is the last of the slots up to its own
-    pub last_at : (test : Event → Bool) → last_by test events m ≡ last_among test (printed_below sys rows runs (suc x)) (length (printed_below sys rows runs (suc x)))
+    pub last_at : (test : Event → Bool)
+        → last_by test events m
+        ≡ last_among test (printed_below sys rows runs (suc x)) (length (printed_below sys rows runs (suc x)))
     last_at test =
         let es : List Event = printed_below sys rows runs (suc x) in
         let long : length (es ++ tail) ≡ length es + length tail = length-append es tail in
         ap (λ (all : List Event). last_by test all m) split
-        ∙ (last_by_moment (λ e. e.at) test (event_at (es ++ tail)) m (length es) (length (es ++ tail)) (omega (arith, long)) (λ i l. early_at i l) (λ i a b. late_at i a b)
+        ∙ (last_by_moment (λ e. e.at) test (event_at (es ++ tail)) m (length es) (length (es ++ tail))
+        (omega (arith, long)) (λ i l. early_at i l) (λ i a b. late_at i a b)
         ∙ last_same test es tail (length es) (omega arith))
       where
-        early_at : (i : ℕ) → i < length (printed_below sys rows runs (suc x)) → (event_at (printed_below sys rows runs (suc x) ++ tail) i).at ≤ m
-        early_at i l = subst (Early m) (sym (get_or_append_left (printed_below sys rows runs (suc x)) tail _ i l)) (early i l)
+        early_at : (i : ℕ) → i < length (printed_below sys rows runs (suc x))
+            → (event_at (printed_below sys rows runs (suc x) ++ tail) i).at ≤ m
+        early_at i l =
+            subst (Early m) (sym (get_or_append_left (printed_below sys rows runs (suc x)) tail _ i l)) (early i l)
 
-        late_at : (i : ℕ) → length (printed_below sys rows runs (suc x)) ≤ i → i < length (printed_below sys rows runs (suc x) ++ tail) → m < (event_at (printed_below sys rows runs (suc x) ++ tail) i).at
-        late_at i a b = subst (Late m) (sym (get_or-append_right (printed_below sys rows runs (suc x)) tail (length (printed_below sys rows runs (suc x))) i _ refl a)) (all_late (i - length (printed_below sys rows runs (suc x))) (omega (arith, length-append (printed_below sys rows runs (suc x)) tail)))
+        late_at : (i : ℕ) → length (printed_below sys rows runs (suc x)) ≤ i
+            → i < length (printed_below sys rows runs (suc x) ++ tail)
+            → m < (event_at (printed_below sys rows runs (suc x) ++ tail) i).at
+        late_at i a b =
+            subst (Late m) (sym (get_or-append_right (printed_below sys rows runs (suc x)) tail
+            (length (printed_below sys rows runs (suc x))) i _ refl a))
+            (all_late (i - length (printed_below sys rows runs (suc x)))
+            (omega (arith, length-append (printed_below sys rows runs (suc x)) tail)))
 
     -- and a VCPU has its core at the moment where the run names it at the slot
-    pub has_core : (c v : ℕ) → c < length sys.cores → has_core_at (on_core c) events v m ≡ holds (held (run_at runs c) x) v
-    has_core c v l = ap (λ (o : Option Event). holds (runner_of o) v) (last_at (switches c)) ∙ ap (λ (o : Option ℕ). holds o v) (holder_below sys system rows workload budgets n runs is fits x c in_run l)
+    pub has_core : (c v : ℕ) → c < length sys.cores
+        → has_core_at (on_core c) events v m ≡ holds (held (run_at runs c) x) v
+    has_core c v l =
+        ap (λ (o : Option Event). holds (runner_of o) v) (last_at (switches c))
+        ∙ ap (λ (o : Option ℕ). holds o v) (holder_below sys system rows workload budgets n runs is fits x c in_run l)
 
   -- the start of a VCPU
-  start_event : (v i : ℕ) (what : WakeKind) → i < length rows → (row_at rows i).what ≡ what → StartsSo sys rows v (record { at = moment_of_slot (row_at rows i).at; core = (event_of sys (row_at rows i)).core; what = what_of what (row_at rows i).vcpu })
+  start_event : (v i : ℕ) (what : WakeKind) → i < length rows → (row_at rows i).what ≡ what
+      → StartsSo sys rows v (record {
+        at = moment_of_slot (row_at rows i).at;
+        core = (event_of sys (row_at rows i)).core;
+        what = what_of what (row_at rows i).vcpu;
+      })
   start_event v i ToStart l e h = record { row = i; in_rows = l; of_it = h; is_start = e; at = refl }
   start_event v i ToWake l e h = absurd (false≢true h)
   start_event v i ToBlock l e h = absurd (false≢true h)
@@ -141,13 +173,19 @@ module _ (sys : SystemView) (system : IsSystem sys) (budgets : List ℕ) (plan :
   all_starts : (v : ℕ) → AllOf (StartsSo sys rows v) events
   all_starts v =
       all_append (StartsSo sys rows v) (printed_below sys rows runs n) (on_at 0 n End ∷ [])
-      (told_below (StartsSo sys rows v) sys rows runs n (λ y l. record { stops = λ c h. absurd (false≢true h); runs_on = λ c w h. absurd (false≢true h); of_row = λ i k e. start_event v i (row_at rows i).what k refl }))
+      (told_below (StartsSo sys rows v) sys rows runs n (λ y l. record {
+        stops = λ c h. absurd (false≢true h);
+        runs_on = λ c w h. absurd (false≢true h);
+        of_row = λ i k e. start_event v i (row_at rows i).what k refl;
+      }))
       (all_one (StartsSo sys rows v) (on_at 0 n End) (λ h. absurd (false≢true h)))
 
-  found : (v k : ℕ) (e : Event) → k ≤ length events → last_among (starts_event v) events k ≡ Some e → IsStartOf sys rows v e
+  found : (v k : ℕ) (e : Event) → k ≤ length events → last_among (starts_event v) events k ≡ Some e
+      → IsStartOf sys rows v e
   found v k e l h =
       let at = found_row (starts_event v) (event_at events) k e h in
-      subst (IsStartOf sys rows v) at.is (all_starts v at.place (omega (arith, at.within)) (subst (λ (z : Event). starts_event v z ≡ true) (sym at.is) at.passes))
+      subst (IsStartOf sys rows v) at.is (all_starts v at.place (omega (arith, at.within))
+      (subst (λ (z : Event). starts_event v z ≡ true) (sym at.is) at.passes))
 
   -- a VCPU that the trace starts is one that the workload starts, at the slot of that moment
   pub record StartedAt (v f : ℕ) : Type 0 where
@@ -160,20 +198,32 @@ module _ (sys : SystemView) (system : IsSystem sys) (budgets : List ℕ) (plan :
     where
       here : (e : Event) → IsStartOf sys rows v e → e.at ≡ f → StartedAt v f
       here e s at = record {
-        from = sym at ∙ (s.at ∙ ap (λ (z : ℕ). z * 1000) (sym (start_is sys rows workload s.row v s.in_rows s.of_it s.is_start)));
-        started = some_row (starts v) (row_at rows) (length rows) s.row s.in_rows (and_from (is_of v (row_at rows s.row)) (is_start (row_at rows s.row).what) s.of_it (ap is_start s.is_start));
-        core = subst (OnCore sys) (eqb-true (row_at rows s.row).vcpu v s.of_it) (vcpu_core sys system (row_at rows s.row).vcpu (workload.known s.row s.in_rows));
+        from =
+            sym at
+            ∙ (s.at ∙ ap (λ (z : ℕ). z * 1000) (sym (start_is sys rows workload s.row v s.in_rows s.of_it s.is_start)));
+        started =
+            some_row (starts v) (row_at rows) (length rows) s.row s.in_rows
+            (and_from (is_of v (row_at rows s.row)) (is_start (row_at rows s.row).what) s.of_it
+            (ap is_start s.is_start));
+        core =
+            subst (OnCore sys) (eqb-true (row_at rows s.row).vcpu v s.of_it)
+            (vcpu_core sys system (row_at rows s.row).vcpu (workload.known s.row s.in_rows));
       }
 
-      go : (o : Option Event) → last_among (starts_event v) events (length events) ≡ o → moment_of o ≡ Some f → StartedAt v f
+      go : (o : Option Event) → last_among (starts_event v) events (length events) ≡ o → moment_of o ≡ Some f
+          → StartedAt v f
       go None e h = absurd (none-some f h)
       go (Some event) e h = here event (found v (length events) event (omega arith) e) (same_Some event.at f h)
 
   -- the time that a VCPU has its core between two slots
-  got : (v F E : ℕ) → OnCore sys v → E ≤ n → count_between (running sys events v) (F * 1000) (E * 1000) ≡ count_between (λ y. holds (held (run_at runs (core_of (part_at sys v).parent)) y) v) F E * 1000
+  got : (v F E : ℕ) → OnCore sys v → E ≤ n
+      → count_between (running sys events v) (F * 1000) (E * 1000)
+      ≡ count_between (λ y. holds (held (run_at runs (core_of (part_at sys v).parent)) y) v) F E * 1000
   got v F E core l =
       let c : ℕ = core_of (part_at sys v).parent in
-      scaled (running sys events v) (λ y. holds (held (run_at runs c) y) v) F E (λ m k. ap (λ (p : Parent). has_core_at p events v m) (child_parent sys c v core.child) ∙ has_core m (omega arith) c v core.is_core)
+      scaled (running sys events v) (λ y. holds (held (run_at runs c) y) v) F E
+      (λ m k. ap (λ (p : Parent). has_core_at p events v m) (child_parent sys c v core.child)
+      ∙ has_core m (omega arith) c v core.is_core)
 
   -- no period of a VCPU without extra time is over
   pub none_over : NoneOver sys budgets events
@@ -184,13 +234,23 @@ module _ (sys : SystemView) (system : IsSystem sys) (budgets : List ℕ) (plan :
       let F : ℕ = start_of rows v in
       let p : ℕ → Bool = λ y. holds (held (run_at runs c) y) v in
       let E : ℕ = min (begins P F (suc k)) n in
-      let from : begins (period_of sys v) f k ≡ begins P F k * 1000 = ap (λ (z : ℕ). begins (period_of sys v) z k) s.from ∙ scaled_begins P F k in
-      let to : begins (period_of sys v) f (suc k) ≡ begins P F (suc k) * 1000 = ap (λ (z : ℕ). begins (period_of sys v) z (suc k)) s.from ∙ scaled_begins P F (suc k) in
+      let from : begins (period_of sys v) f k ≡ begins P F k * 1000
+      = ap (λ (z : ℕ). begins (period_of sys v) z k) s.from ∙ scaled_begins P F k in
+      let to : begins (period_of sys v) f (suc k) ≡ begins P F (suc k) * 1000
+      = ap (λ (z : ℕ). begins (period_of sys v) z (suc k)) s.from ∙ scaled_begins P F (suc k) in
       let until : min (begins (period_of sys v) f (suc k)) (end_of events) ≡ E * 1000 = omega (arith, to, end_is) in
-      let time : count_between (running sys events v) (begins (period_of sys v) f k) (min (begins (period_of sys v) f (suc k)) (end_of events)) ≡ count_between p (begins P F k) E * 1000 =
-      ap (λ (z : ℕ). count_between (running sys events v) z (min (begins (period_of sys v) f (suc k)) (end_of events))) from ∙ (ap (λ (z : ℕ). count_between (running sys events v) (begins P F k * 1000) z) until ∙ got v (begins P F k) E s.core (omega arith)) in
-      let whole : count_between p (begins P F k) E ≤ slots_got p P F k = count_below-mono (λ y. leb (begins P F k) y && p y) E (begins P F (suc k)) (omega arith) in
-      let few : slots_got p P F k ≤ budget_at budgets v = never_over sys budgets plan rows n c (run_at runs c) (is.cores c s.core.is_core) v k h.period.is_part h.no_extra in
+      let time : count_between (running sys events v) (begins (period_of sys v) f k)
+      (min (begins (period_of sys v) f (suc k)) (end_of events)) ≡ count_between p (begins P F k) E * 1000
+      =
+      ap (λ (z : ℕ). count_between (running sys events v) z (min (begins (period_of sys v) f (suc k)) (end_of events)))
+      from
+      ∙ (ap (λ (z : ℕ). count_between (running sys events v) (begins P F k * 1000) z) until
+      ∙ got v (begins P F k) E s.core (omega arith)) in
+      let whole : count_between p (begins P F k) E ≤ slots_got p P F k
+      = count_below-mono (λ y. leb (begins P F k) y && p y) E (begins P F (suc k)) (omega arith) in
+      let few : slots_got p P F k ≤ budget_at budgets v
+      = never_over sys budgets plan rows n c (run_at runs c) (is.cores c s.core.is_core) v k h.period.is_part
+      h.no_extra in
       absurd (omega (arith, h.over, time, whole, few))
 
   -- and where each VCPU that is started can always run on a core whose servers pass, none is short
@@ -203,28 +263,46 @@ module _ (sys : SystemView) (system : IsSystem sys) (budgets : List ℕ) (plan :
       let F : ℕ = start_of rows v in
       let p : ℕ → Bool = λ y. holds (held (run_at runs c) y) v in
       let E : ℕ = begins P F (suc k) in
-      let from : begins (period_of sys v) f k ≡ begins P F k * 1000 = ap (λ (z : ℕ). begins (period_of sys v) z k) s.from ∙ scaled_begins P F k in
-      let to : begins (period_of sys v) f (suc k) ≡ E * 1000 = ap (λ (z : ℕ). begins (period_of sys v) z (suc k)) s.from ∙ scaled_begins P F (suc k) in
-      let judged : begins (period_of sys v) f (suc k) ≤ end_of events = leb-true _ _ (and_parts (leb (begins (period_of sys v) f (suc k)) (end_of events)) _ h.judged).0 in
+      let from : begins (period_of sys v) f k ≡ begins P F k * 1000
+      = ap (λ (z : ℕ). begins (period_of sys v) z k) s.from ∙ scaled_begins P F k in
+      let to : begins (period_of sys v) f (suc k) ≡ E * 1000
+      = ap (λ (z : ℕ). begins (period_of sys v) z (suc k)) s.from ∙ scaled_begins P F (suc k) in
+      let judged : begins (period_of sys v) f (suc k) ≤ end_of events
+      = leb-true _ _ (and_parts (leb (begins (period_of sys v) f (suc k)) (end_of events)) _ h.judged).0 in
       let ends : E ≤ n = omega (arith, to, judged, end_is) in
       let until : min (begins (period_of sys v) f (suc k)) (end_of events) ≡ E * 1000 = omega (arith, to, judged) in
-      let time : count_between (running sys events v) (begins (period_of sys v) f k) (min (begins (period_of sys v) f (suc k)) (end_of events)) ≡ slots_got p P F k * 1000 =
-      ap (λ (z : ℕ). count_between (running sys events v) z (min (begins (period_of sys v) f (suc k)) (end_of events))) from ∙ (ap (λ (z : ℕ). count_between (running sys events v) (begins P F k * 1000) z) until ∙ got v (begins P F k) E s.core ends) in
-      let enough : budget_at budgets v ≤ slots_got p P F k = gives_budgets sys budgets plan rows n c (run_at runs c) (is.cores c s.core.is_core) (served.runnable c s.core.is_core) (served.fit c s.core.is_core) v k (record { is_part = h.period.is_part; on_core = s.core.child; started = s.started }) ends in
+      let time : count_between (running sys events v) (begins (period_of sys v) f k)
+      (min (begins (period_of sys v) f (suc k)) (end_of events)) ≡ slots_got p P F k * 1000
+      =
+      ap (λ (z : ℕ). count_between (running sys events v) z (min (begins (period_of sys v) f (suc k)) (end_of events)))
+      from
+      ∙ (ap (λ (z : ℕ). count_between (running sys events v) (begins P F k * 1000) z) until
+      ∙ got v (begins P F k) E s.core ends) in
+      let enough : budget_at budgets v ≤ slots_got p P F k
+      = gives_budgets sys budgets plan rows n c (run_at runs c) (is.cores c s.core.is_core)
+      (served.runnable c s.core.is_core) (served.fit c s.core.is_core) v k
+      (record { is_part = h.period.is_part; on_core = s.core.child; started = s.started }) ends in
       absurd (omega (arith, h.short, time, enough))
 
 -- each moment of the trace is a whole number of microseconds
 all_whole : (es : List Event) → AllOf (λ e. is_whole e ≡ true) es → list_all is_whole es ≡ true
 all_whole [] h = refl
-all_whole (e ∷ es) h = and_from (is_whole e) (list_all is_whole es) (h 0 (omega arith)) (all_whole es (λ i l. h (suc i) (omega (arith, l))))
+all_whole (e ∷ es) h =
+    and_from (is_whole e) (list_all is_whole es) (h 0 (omega arith))
+    (all_whole es (λ i l. h (suc i) (omega (arith, l))))
 
 whole_moment : (x : ℕ) → (x * 1000 % 1000 == 0) ≡ true
 whole_moment x = eq-eqb (x * 1000 % 1000) 0 (omega arith)
 
-pub whole_unit : (sys : SystemView) (rows : List Row) (runs : List (List (Option ℕ))) (n : ℕ) → unit_for (printed sys rows runs n) ≡ Microseconds
+pub whole_unit : (sys : SystemView) (rows : List Row) (runs : List (List (Option ℕ))) (n : ℕ)
+    → unit_for (printed sys rows runs n) ≡ Microseconds
 whole_unit sys rows runs n =
     let P : Event → Type 0 = λ e. is_whole e ≡ true in
     ap (λ (b : Bool). cond b Microseconds Nanoseconds) (all_whole (printed sys rows runs n)
     (all_append P (printed_below sys rows runs n) (on_at 0 n End ∷ [])
-    (told_below P sys rows runs n (λ x l. record { stops = λ c. whole_moment x; runs_on = λ c v. whole_moment x; of_row = λ i m e. whole_moment (row_at rows i).at }))
+    (told_below P sys rows runs n (λ x l. record {
+      stops = λ c. whole_moment x;
+      runs_on = λ c v. whole_moment x;
+      of_row = λ i m e. whole_moment (row_at rows i).at;
+    }))
     (all_one P (on_at 0 n End) (whole_moment n))))

@@ -19,11 +19,13 @@ use Rattle.rtds_sim.proofs.Taking.{row_none}
 use Rattle.rtds_sim.proofs.Entering.{blocked_by}
 use Rattle.rtds_sim.proofs.Steady.{taken_by}
 
-pub printed_below-zero : (sys : SystemView) (rows : List Row) (runs : List (List (Option ℕ))) → printed_below sys rows runs 0 ≡ []
+pub printed_below-zero : (sys : SystemView) (rows : List Row) (runs : List (List (Option ℕ)))
+    → printed_below sys rows runs 0 ≡ []
 unfolding printed_below
 printed_below-zero sys rows runs = refl
 
-pub printed_below-suc : (sys : SystemView) (rows : List Row) (runs : List (List (Option ℕ))) (x : ℕ) → printed_below sys rows runs (suc x) ≡ printed_below sys rows runs x ++ printed_at sys rows runs x
+pub printed_below-suc : (sys : SystemView) (rows : List Row) (runs : List (List (Option ℕ))) (x : ℕ)
+    → printed_below sys rows runs (suc x) ≡ printed_below sys rows runs x ++ printed_at sys rows runs x
 unfolding printed_below
 printed_below-suc sys rows runs x = refl
 
@@ -44,28 +46,39 @@ no_switch c x (Some u) (Some v) e = go (u == v) refl e
     go false same q = absurd (none-some (on_at c x (Run v)) (sym q))
 
 -- where no row comes at x, what has a core when x comes is not blocked there
-pub none_blocks : (sys : SystemView) (budgets : List ℕ) (rows : List Row) (n c : ℕ) (run : List (Option ℕ)) → CoreRun sys budgets rows n c run → (x k : ℕ) → AreBefore rows k x → AreBefore rows k (suc x) → x < n → is_blocked_one rows x (holder_before run x) ≡ false
+pub none_blocks : (sys : SystemView) (budgets : List ℕ) (rows : List Row) (n c : ℕ) (run : List (Option ℕ))
+    → CoreRun sys budgets rows n c run → (x k : ℕ) → AreBefore rows k x → AreBefore rows k (suc x) → x < n
+    → is_blocked_one rows x (holder_before run x) ≡ false
 none_blocks sys budgets rows n c run is zero k before after l = refl
 none_blocks sys budgets rows n c run is (suc y) k before after l = go (held run y) refl
   where
     go : (o : Option ℕ) → held run y ≡ o → is_blocked_one rows (suc y) o ≡ false
     go None e = refl
     go (Some v) e =
-        let h : can_run sys rows c v y ≡ true = eligible_runs sys budgets rows c run v y ((is.each y (omega arith)).named v e) in
-        let q = and_parts (is_started_at rows v y) (not (is_blocked_at rows v y)) (and_parts _ (is_started_at rows v y && not (is_blocked_at rows v y)) h).1 in
+        let h : can_run sys rows c v y ≡ true
+        = eligible_runs sys budgets rows c run v y ((is.each y (omega arith)).named v e) in
+        let q
+        = and_parts (is_started_at rows v y) (not (is_blocked_at rows v y))
+        (and_parts _ (is_started_at rows v y && not (is_blocked_at rows v y)) h).1 in
         blocked_by rows v (suc y) k after ∙ (sym (blocked_by rows v y k before) ∙ not-true (is_blocked_at rows v y) q.1)
 
 -- a slot at which no row comes, behind one whose rows are taken
-before_by : (rows : List Row) (k x to : ℕ) → AreBefore rows k (suc x) → RowsFrom rows k to → (y : ℕ) → x < y → y < to → AreBefore rows k y
+before_by : (rows : List Row) (k x to : ℕ) → AreBefore rows k (suc x) → RowsFrom rows k to → (y : ℕ) → x < y → y < to
+    → AreBefore rows k y
 before_by rows k x to taken later zero a b = absurd (omega arith)
 before_by rows k x to taken later (suc y) a b = taken_by rows k x to y taken later (omega arith) (omega arith)
 
-module _ (sys : SystemView) (budgets : List ℕ) (rows : List Row) (n c : ℕ) (run : List (Option ℕ)) (is : CoreRun sys budgets rows n c run) (x k to : ℕ) (fits : to ≤ n) (taken : AreBefore rows k (suc x)) (later : RowsFrom rows k to) where
+module _ (sys : SystemView) (budgets : List ℕ) (rows : List Row) (n c : ℕ) (run : List (Option ℕ))
+    (is : CoreRun sys budgets rows n c run) (x k to : ℕ) (fits : to ≤ n) (taken : AreBefore rows k (suc x))
+    (later : RowsFrom rows k to) where
   blocks_none : (y : ℕ) → x < y → y < to → is_blocked_one rows y (holder_before run y) ≡ false
-  blocks_none y a b = none_blocks sys budgets rows n c run is y k (before_by rows k x to taken later y a b) (taken_by rows k x to y taken later (omega arith) b) (omega (arith, fits))
+  blocks_none y a b =
+      none_blocks sys budgets rows n c run is y k (before_by rows k x to taken later y a b)
+      (taken_by rows k x to y taken later (omega arith) b) (omega (arith, fits))
 
   -- so at such a slot no core stops, and each still has what it had
-  pub stops_none : (y : ℕ) → x < y → y < to → cond (is_blocked_one rows y (holder_before run y)) (Some (on_at c y Stop)) None ≡ None
+  pub stops_none : (y : ℕ) → x < y → y < to
+      → cond (is_blocked_one rows y (holder_before run y)) (Some (on_at c y Stop)) None ≡ None
   stops_none y a b = ap (λ (q : Bool). cond q (Some (on_at c y Stop)) None) (blocks_none y a b)
 
   pub left_before : (y : ℕ) → x < y → y < to → holder_left rows run y ≡ holder_before run y
@@ -73,28 +86,45 @@ module _ (sys : SystemView) (budgets : List ℕ) (rows : List Row) (n c : ℕ) (
 
   -- and nothing is told where it holds what it held at the slot before
   pub switch_quiet : (y : ℕ) → x < y → y < to → holder_before run y ≡ held run y → switch_on rows run y c ≡ None
-  switch_quiet y a b same = ap (λ (o : Option ℕ). on_core_at c y (switch_to o (held run y))) (left_before y a b ∙ same) ∙ ap (on_core_at c y) (switch_none (held run y))
+  switch_quiet y a b same =
+      ap (λ (o : Option ℕ). on_core_at c y (switch_to o (held run y))) (left_before y a b ∙ same)
+      ∙ ap (on_core_at c y) (switch_none (held run y))
 
 -- nor is any row
-pub rows_none : (sys : SystemView) (rows : List Row) (x k to : ℕ) → AreBefore rows k (suc x) → RowsFrom rows k to → (y : ℕ) → x < y → y < to → gathered (row_event_at sys rows y) (length rows) ≡ []
-rows_none sys rows x k to taken later y a b = gathered-none (row_event_at sys rows y) (length rows) (λ i l. row_none sys rows y i (λ e. elim (cases_lt i k) [ inl h ↦ omega (arith, e, taken.past i h) | inr h ↦ omega (arith, e, later i h l) ]))
+pub rows_none : (sys : SystemView) (rows : List Row) (x k to : ℕ) → AreBefore rows k (suc x) → RowsFrom rows k to
+    → (y : ℕ) → x < y → y < to → gathered (row_event_at sys rows y) (length rows) ≡ []
+rows_none sys rows x k to taken later y a b =
+    gathered-none (row_event_at sys rows y) (length rows) (λ i l. row_none sys rows y i
+    (λ e. elim (cases_lt i k) [ inl h ↦ omega (arith, e, taken.past i h) | inr h ↦ omega (arith, e, later i h l) ]))
 
 -- what is told of the cores that stop
 module _ (sys : SystemView) (rows : List Row) (runs : List (List (Option ℕ)))
-    (host : Host) (taken : AreBefore rows host.taken (suc host.time)) (are : AreAccounts sys rows runs host.time host.taken host.accounts) (room : HasRoom sys host)
-    (holders_are : (c : ℕ) → c < length sys.cores → holder_at host.holders c ≡ holder_before (run_at runs c) host.time) where
-  abbrev x : ℕ
-  x = host.time
+    (host : Host) (taken : AreBefore rows host.taken (suc host.time))
+    (are : AreAccounts sys rows runs host.time host.taken host.accounts) (room : HasRoom sys host)
+    (holders_are : (c : ℕ) → c < length sys.cores → holder_at host.holders c ≡ holder_before (run_at runs c) host.time)
+  where
+    abbrev x : ℕ
+    x = host.time
 
-  gives_up_is : (o : Option ℕ) → ((v : ℕ) → o ≡ Some v → v < length sys.parts) → gives_up host.accounts o ≡ is_blocked_one rows x o
-  gives_up_is None h = refl
-  gives_up_is (Some v) h = (are.each v (h v refl)).blocked ∙ sym (blocked_by rows v x host.taken taken)
+    gives_up_is : (o : Option ℕ) → ((v : ℕ) → o ≡ Some v → v < length sys.parts)
+        → gives_up host.accounts o ≡ is_blocked_one rows x o
+    gives_up_is None h = refl
+    gives_up_is (Some v) h = (are.each v (h v refl)).blocked ∙ sym (blocked_by rows v x host.taken taken)
 
-  pub gives_up_at : (c : ℕ) → c < length sys.cores → gives_up host.accounts (holder_at host.holders c) ≡ is_blocked_one rows x (holder_before (run_at runs c) x)
-  gives_up_at c lc = gives_up_is (holder_at host.holders c) (λ v e. room.parts c v lc e) ∙ ap (is_blocked_one rows x) (holders_are c lc)
+    pub gives_up_at : (c : ℕ) → c < length sys.cores
+        → gives_up host.accounts (holder_at host.holders c) ≡ is_blocked_one rows x (holder_before (run_at runs c) x)
+    gives_up_at c lc =
+        gives_up_is (holder_at host.holders c) (λ v e. room.parts c v lc e)
+        ∙ ap (is_blocked_one rows x) (holders_are c lc)
 
-  pub stops_are : gathered (stop_of host) (length sys.cores) ≡ gathered (stop_at rows runs x) (length sys.cores)
-  stops_are = gathered-same (stop_of host) (stop_at rows runs x) (length sys.cores) (λ c lc. ap (λ (q : Bool). cond q (Some (on_at c x Stop)) None) (gives_up_at c lc))
+    pub stops_are : gathered (stop_of host) (length sys.cores) ≡ gathered (stop_at rows runs x) (length sys.cores)
+    stops_are =
+        gathered-same (stop_of host) (stop_at rows runs x) (length sys.cores)
+        (λ c lc. ap (λ (q : Bool). cond q (Some (on_at c x Stop)) None) (gives_up_at c lc))
 
-  pub left_is : (c : ℕ) → c < length sys.cores → left_at host.accounts host.holders c ≡ holder_left rows (run_at runs c) x
-  left_is c lc = ap (λ (q : Bool). cond q None (holder_at host.holders c)) (gives_up_at c lc) ∙ ap (λ (o : Option ℕ). cond (is_blocked_one rows x (holder_before (run_at runs c) x)) None o) (holders_are c lc)
+    pub left_is : (c : ℕ) → c < length sys.cores
+        → left_at host.accounts host.holders c ≡ holder_left rows (run_at runs c) x
+    left_is c lc =
+        ap (λ (q : Bool). cond q None (holder_at host.holders c)) (gives_up_at c lc)
+        ∙ ap (λ (o : Option ℕ). cond (is_blocked_one rows x (holder_before (run_at runs c) x)) None o)
+        (holders_are c lc)

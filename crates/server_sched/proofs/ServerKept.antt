@@ -24,17 +24,21 @@ use Rattle.server_sched.specs.Serving.{IsServerTask, AreServerTasks, IsServed}
 use Rattle.server_sched.proofs.Nodes.{run_long, server_node_made}
 
 -- servers release as their jobs arrive, and are due at the end of their period
-pub are_servers : (sys : SystemView) (budgets : List ℕ) (place : Place) → AreServerTasks (server_tasks sys budgets place)
+pub are_servers : (sys : SystemView) (budgets : List ℕ) (place : Place)
+    → AreServerTasks (server_tasks sys budgets place)
 are_servers sys budgets place i l =
     let places = places_where (is_child sys place) (length sys.parts) in
-    subst IsServerTask (sym (get_or-map (server_task sys budgets) places i 0 default_task (omega (arith, l, length-map places (server_task sys budgets))))) (record { prompt = refl; to_period = refl })
+    subst IsServerTask (sym (get_or-map (server_task sys budgets) places i 0 default_task
+    (omega (arith, l, length-map places (server_task sys budgets)))))
+    (record { prompt = refl; to_period = refl })
 
 -- each run has its spans
 same_option : (a b : Option ℕ) → (a ≡ b) ⊎ (a ≢ b)
 same_option None None = inl refl
 same_option None (Some b) = inr (λ e. absurd (cc))
 same_option (Some a) None = inr (λ e. absurd (cc))
-same_option (Some a) (Some b) = elim (cases_eq a b) [ inl e ↦ inl (ap (λ (z : ℕ). Some z) e) | inr ne ↦ inr (λ e. ne (same_Some a b e)) ]
+same_option (Some a) (Some b) =
+    elim (cases_eq a b) [ inl e ↦ inl (ap (λ (z : ℕ). Some z) e) | inr ne ↦ inr (λ e. ne (same_Some a b e)) ]
 
 record SpansTo (run : List (Option ℕ)) (n : ℕ) : Type 0 where
   spans : List Span
@@ -48,30 +52,50 @@ entries_one : (n : ℕ) (o : Option ℕ) → entries_of (one_span n o) ≡ o ∷
 unfolding one_span
 entries_one n o = ap (λ (k : ℕ). replicate k o) (let e : suc n - n ≡ 1 = omega arith in e)
 
-pushed_spans : (spans : List Span) (n : ℕ) (o : Option ℕ) → AreSpans spans n → ((i : ℕ) → suc i ≡ length spans → (span_at spans i).job ≢ o) → AreSpans (spans ++ one_span n o ∷ []) (suc n)
+pushed_spans : (spans : List Span) (n : ℕ) (o : Option ℕ) → AreSpans spans n
+    → ((i : ℕ) → suc i ≡ length spans → (span_at spans i).job ≢ o) → AreSpans (spans ++ one_span n o ∷ []) (suc n)
 unfolding one_span
 pushed_spans spans n o h differs =
     let new = spans ++ one_span n o ∷ [] in
-    let old : (i : ℕ) → i < length spans → span_at new i ≡ span_at spans i = λ i l. get_or_append_left spans (one_span n o ∷ []) (record { from = 0; until = 0; job = None }) i l in
-    let last : (i : ℕ) → length spans ≡ i → span_at new i ≡ one_span n o = λ i e. get_or_push spans (one_span n o) (record { from = 0; until = 0; job = None }) i e in
+    let old : (i : ℕ) → i < length spans → span_at new i ≡ span_at spans i
+    = λ i l. get_or_append_left spans (one_span n o ∷ []) (record { from = 0; until = 0; job = None }) i l in
+    let last : (i : ℕ) → length spans ≡ i → span_at new i ≡ one_span n o
+    = λ i e. get_or_push spans (one_span n o) (record { from = 0; until = 0; job = None }) i e in
     let ends : (i : ℕ) → i ≤ length spans → end_of new i ≡ end_of spans i = λ i l. go spans n o i l old in
     record {
       some = λ i l. elim (cases_eq i (length spans)) [
         | inl e ↦ subst (λ (s : Span). s.from < s.until) (sym (last i (sym e))) (omega arith)
-        | inr ne ↦ subst (λ (s : Span). s.from < s.until) (sym (old i (omega (arith, length_push spans (one_span n o))))) (h.some i (omega (arith, length_push spans (one_span n o))))
+        | inr ne ↦
+            subst (λ (s : Span). s.from < s.until) (sym (old i (omega (arith, length_push spans (one_span n o)))))
+            (h.some i (omega (arith, length_push spans (one_span n o))))
       ];
       join = λ i l. elim (cases_eq i (length spans)) [
-        | inl e ↦ ap (λ (s : Span). s.from) (last i (sym e)) ∙ (sym h.whole ∙ (ap (end_of spans) (sym e) ∙ sym (ends i (omega arith))))
-        | inr ne ↦ ap (λ (s : Span). s.from) (old i (omega (arith, length_push spans (one_span n o)))) ∙ (h.join i (omega (arith, length_push spans (one_span n o))) ∙ sym (ends i (omega (arith, length_push spans (one_span n o)))))
+        | inl e ↦
+            ap (λ (s : Span). s.from) (last i (sym e))
+            ∙ (sym h.whole ∙ (ap (end_of spans) (sym e) ∙ sym (ends i (omega arith))))
+        | inr ne ↦
+            ap (λ (s : Span). s.from) (old i (omega (arith, length_push spans (one_span n o))))
+            ∙ (h.join i (omega (arith, length_push spans (one_span n o)))
+            ∙ sym (ends i (omega (arith, length_push spans (one_span n o)))))
       ];
-      whole = ap (end_of new) (let e : length new ≡ suc (length spans) = omega (arith, length_push spans (one_span n o)) in e) ∙ ap (λ (s : Span). s.until) (last (length spans) refl);
+      whole =
+          ap (end_of new)
+          (let e : length new ≡ suc (length spans) = omega (arith, length_push spans (one_span n o)) in e)
+          ∙ ap (λ (s : Span). s.until) (last (length spans) refl);
       change = λ i l. elim (cases_eq (i + 1) (length spans)) [
-        | inl e ↦ λ q. differs i (omega arith) (ap (λ (s : Span). s.job) (sym (old i (omega arith))) ∙ (q ∙ ap (λ (s : Span). s.job) (last (i + 1) (sym e))))
-        | inr ne ↦ λ q. h.change i (omega (arith, length_push spans (one_span n o))) (ap (λ (s : Span). s.job) (sym (old i (omega (arith, length_push spans (one_span n o))))) ∙ (q ∙ ap (λ (s : Span). s.job) (old (i + 1) (omega (arith, length_push spans (one_span n o))))))
+        | inl e ↦
+            λ q. differs i (omega arith) (ap (λ (s : Span). s.job) (sym (old i (omega arith)))
+            ∙ (q ∙ ap (λ (s : Span). s.job) (last (i + 1) (sym e))))
+        | inr ne ↦
+            λ q. h.change i (omega (arith, length_push spans (one_span n o)))
+            (ap (λ (s : Span). s.job) (sym (old i (omega (arith, length_push spans (one_span n o)))))
+            ∙ (q ∙ ap (λ (s : Span). s.job) (old (i + 1) (omega (arith, length_push spans (one_span n o))))))
       ];
     }
   where
-    go : (ss : List Span) (m : ℕ) (v : Option ℕ) (i : ℕ) → i ≤ length ss → ((k : ℕ) → k < length ss → span_at (ss ++ one_span m v ∷ []) k ≡ span_at ss k) → end_of (ss ++ one_span m v ∷ []) i ≡ end_of ss i
+    go : (ss : List Span) (m : ℕ) (v : Option ℕ) (i : ℕ) → i ≤ length ss
+        → ((k : ℕ) → k < length ss → span_at (ss ++ one_span m v ∷ []) k ≡ span_at ss k)
+        → end_of (ss ++ one_span m v ∷ []) i ≡ end_of ss i
     go ss m v zero l same = refl
     go ss m v (suc i) l same = ap (λ (s : Span). s.until) (same i (omega arith))
 
@@ -89,17 +113,32 @@ one_entry (s ∷ rest) n o h =
       | inl e ↦ record {
         spans = set spans i (record (span_at spans i) { until = suc n });
         are = grown_spans spans i n (suc n) refl h (omega arith);
-        same = grown_run spans i (suc n) refl (omega (arith, h.some i (omega arith))) (omega (arith, ends)) ∙ (ap (λ (k : ℕ). run_of spans ++ replicate k (span_at spans i).job) (let one : suc n - (span_at spans i).until ≡ 1 = omega (arith, ends) in one) ∙ ap (λ (v : Option ℕ). run_of spans ++ v ∷ []) e);
+        same =
+            grown_run spans i (suc n) refl (omega (arith, h.some i (omega arith))) (omega (arith, ends))
+            ∙ (ap (λ (k : ℕ). run_of spans ++ replicate k (span_at spans i).job)
+            (let one : suc n - (span_at spans i).until ≡ 1 = omega (arith, ends) in one)
+            ∙ ap (λ (v : Option ℕ). run_of spans ++ v ∷ []) e);
       }
       | inr ne ↦ record {
         spans = spans ++ one_span n o ∷ [];
-        are = pushed_spans spans n o h (λ k q e. ne (ap (λ (z : ℕ). (span_at spans z).job) (let same : i ≡ k = omega (arith, q) in same) ∙ e));
-        same = flat_map-append entries_of spans (one_span n o ∷ []) ∙ ap (λ (v : List (Option ℕ)). run_of spans ++ v) (append-nil (entries_of (one_span n o)) ∙ entries_one n o);
+        are =
+            pushed_spans spans n o h
+            (λ k q e. ne (ap (λ (z : ℕ). (span_at spans z).job) (let same : i ≡ k = omega (arith, q) in same) ∙ e));
+        same =
+            flat_map-append entries_of spans (one_span n o ∷ [])
+            ∙ ap (λ (v : List (Option ℕ)). run_of spans ++ v)
+            (append-nil (entries_of (one_span n o)) ∙ entries_one n o);
       }
     ]
 
-more_entries : (spans : List Span) (n : ℕ) (more : List (Option ℕ)) → AreSpans spans n → SpansTo (run_of spans ++ more) (n + length more)
-more_entries spans n [] h = record { spans = spans; are = subst (AreSpans spans) (let e : n ≡ n + 0 = omega arith in e) h; same = sym (append-nil (run_of spans)) }
+more_entries : (spans : List Span) (n : ℕ) (more : List (Option ℕ)) → AreSpans spans n
+    → SpansTo (run_of spans ++ more) (n + length more)
+more_entries spans n [] h =
+    record {
+      spans = spans;
+      are = subst (AreSpans spans) (let e : n ≡ n + 0 = omega arith in e) h;
+      same = sym (append-nil (run_of spans));
+    }
 more_entries spans n (o ∷ more) h =
     let one = one_entry spans n o h in
     let all = more_entries one.spans (suc n) more one.are in
@@ -110,19 +149,28 @@ more_entries spans n (o ∷ more) h =
     }
 
 spans_for : (run : List (Option ℕ)) → SpansTo run (length run)
-spans_for run = subst (SpansTo run) (let e : 0 + length run ≡ length run = omega arith in e) (more_entries [] 0 run no_spans)
+spans_for run =
+    subst (SpansTo run) (let e : 0 + length run ≡ length run = omega arith in e) (more_entries [] 0 run no_spans)
 
 -- what is kept of a level is what is kept of a node
-pub server_kept : (sys : SystemView) (budgets : List ℕ) (n : ℕ) (place : Place) (given : List Window) (T : List SporadicTask) (sched : Sched) (kept : KeptView) → T ≡ server_tasks sys budgets place → sched ≡ node_sched sys place → IsServed sched T given n kept → IsServerKept sys budgets n place (slots_of given n) kept
+pub server_kept : (sys : SystemView) (budgets : List ℕ) (n : ℕ) (place : Place) (given : List Window)
+    (T : List SporadicTask) (sched : Sched) (kept : KeptView) → T ≡ server_tasks sys budgets place
+    → sched ≡ node_sched sys place → IsServed sched T given n kept
+    → IsServerKept sys budgets n place (slots_of given n) kept
 server_kept sys budgets n place given T sched kept e g h =
     let jobs = synchronous T 0 n in
     let s = spans_for h.run in
     let long : length h.run ≡ n = run_long server (before_of sched T) T jobs given n h.run h.first in
-    let shares : AreShares jobs (run_of s.spans) (length (run_of s.spans)) (length T) kept.shares = subst (λ (r : List (Option ℕ)). AreShares jobs r (length r) (length T) kept.shares) (sym s.same) (subst (λ (x : ℕ). AreShares jobs h.run x (length T) kept.shares) (sym long) h.shares) in
+    let shares : AreShares jobs (run_of s.spans) (length (run_of s.spans)) (length T) kept.shares
+    = subst (λ (r : List (Option ℕ)). AreShares jobs r (length r) (length T) kept.shares) (sym s.same)
+    (subst (λ (x : ℕ). AreShares jobs h.run x (length T) kept.shares) (sym long) h.shares) in
     record {
       node = record { spans = s.spans; shares = kept.shares; counts = kept.counts };
-      is_node = server_node_made sys budgets n place given s.spans kept.shares T jobs sched (length T) e refl g refl (subst (AreSpans s.spans) long s.are)
-          (subst (λ (r : List (Option ℕ)). FirstRun server (before_of sched T) T jobs (slots_of given n) r) (sym s.same) h.first) shares kept.counts
+      is_node =
+          server_node_made sys budgets n place given s.spans kept.shares T jobs sched (length T) e refl g refl
+          (subst (AreSpans s.spans) long s.are)
+          (subst (λ (r : List (Option ℕ)). FirstRun server (before_of sched T) T jobs (slots_of given n) r) (sym s.same)
+          h.first) shares kept.counts
           (subst (λ (r : List (Option ℕ)). AreCounts T jobs (slots_of given n) r kept.counts) (sym s.same) h.counts);
       same = refl;
     }

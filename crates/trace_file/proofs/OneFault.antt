@@ -7,7 +7,8 @@ use Rattle.trace_file.specs.declared.event.Event.{Event}
 use Rattle.trace_file.specs.declared.fault.TraceFault.{TraceFault}
 use Rattle.trace_file.specs.Rules.{row_fault, RowsKeep, Kept, BreaksRule, IsFirstFault}
 
-one_row : (sys : SystemView) (events : List Event) (a b : TraceFault) → BreaksRule sys events a → BreaksRule sys events b → a ≡ b
+one_row : (sys : SystemView) (events : List Event) (a b : TraceFault) → BreaksRule sys events a
+    → BreaksRule sys events b → a ≡ b
 one_row sys events a b x y = elim (cases_lt x.row y.row) [
   | inl before ↦ absurd (none-some a (sym (y.before x.row before) ∙ x.breaks))
   | inr not_before ↦ elim (cases_lt y.row x.row) [
@@ -18,10 +19,12 @@ one_row sys events a b x y = elim (cases_lt x.row y.row) [
   ]
 ]
 
-kept_row : (sys : SystemView) (events : List Event) (fault : TraceFault) → RowsKeep sys events (length events) → BreaksRule sys events fault → ⊥
+kept_row : (sys : SystemView) (events : List Event) (fault : TraceFault) → RowsKeep sys events (length events)
+    → BreaksRule sys events fault → ⊥
 kept_row sys events fault keep h = none-some fault (sym (keep h.row h.is_row) ∙ h.breaks)
 
-one_fault : (sys : SystemView) (events : List Event) (a b : TraceFault) → IsFirstFault sys events a → IsFirstFault sys events b → a ≡ b
+one_fault : (sys : SystemView) (events : List Event) (a b : TraceFault) → IsFirstFault sys events a
+    → IsFirstFault sys events b → a ≡ b
 one_fault sys events a b x y = elim x [
   | inl row ↦ elim y [
     | inl other ↦ one_row sys events a b row other
@@ -33,7 +36,8 @@ one_fault sys events a b x y = elim x [
   ]
 ]
 
-no_fault : (sys : SystemView) (events : List Event) (fault : TraceFault) → Kept sys events → IsFirstFault sys events fault → ⊥
+no_fault : (sys : SystemView) (events : List Event) (fault : TraceFault) → Kept sys events
+    → IsFirstFault sys events fault → ⊥
 no_fault sys events fault kept h = elim h [
   | inl row ↦ kept_row sys events fault kept.rows row
   | inr lacks ↦ false≢true (sym lacks.no_end ∙ kept.ended)

@@ -16,7 +16,16 @@ use Rattle.trace_file.specs.Events.{end_of, start_of, is_blocked_at}
 use Rattle.trace_file.specs.Periods.{period_of, budget_of, blocked, running, is_judged, got_in, judged_periods, HasPeriod, IsBroken, IsFirstBroken}
 
 abbrev part_on : ℕ → ℕ → ℕ → ℕ → PartView
-part_on core letter period budget = record { name = letter ∷ []; parent = on_core core; sched = Edf; period = period; budget = Some budget; extra = false; tasks = record { name = 116 ∷ []; task = plain_task 100 100 1 } ∷ [] }
+part_on core letter period budget =
+    record {
+      name = letter ∷ [];
+      parent = on_core core;
+      sched = Edf;
+      period = period;
+      budget = Some budget;
+      extra = false;
+      tasks = record { name = 116 ∷ []; task = plain_task 100 100 1 } ∷ [];
+    }
 
 abbrev core_named : ℕ → CoreView
 core_named letter = record { name = letter ∷ []; sched = Edf; supply = None }
@@ -36,9 +45,12 @@ own_budgets = refl
 
 -- A has its core in two stretches, and B has its own at the end of the trace
 abbrev both_run : List Event
-both_run = row 0 0 (Start 0) ∷ row 100 1 (Start 1) ∷ row 100 0 (Run 0) ∷ row 1500 0 Stop ∷ row 2000 0 (Run 0) ∷ row 2500 0 Stop ∷ row 3000 1 (Run 1) ∷ row 4000 0 End ∷ []
+both_run =
+    row 0 0 (Start 0) ∷ row 100 1 (Start 1) ∷ row 100 0 (Run 0) ∷ row 1500 0 Stop ∷ row 2000 0 (Run 0) ∷ row 2500 0 Stop
+    ∷ row 3000 1 (Run 1) ∷ row 4000 0 End ∷ []
 
-own_cores : running pair both_run 0 2000 ∷ running pair both_run 1 2000 ∷ running pair both_run 0 3500 ∷ running pair both_run 1 3500 ∷ [] ≡ true ∷ false ∷ false ∷ true ∷ []
+own_cores : running pair both_run 0 2000 ∷ running pair both_run 1 2000 ∷ running pair both_run 0 3500
+    ∷ running pair both_run 1 3500 ∷ [] ≡ true ∷ false ∷ false ∷ true ∷ []
 unfolding last_below
 own_cores = refl
 
@@ -61,23 +73,29 @@ whole_periods_are_judged = refl
 abbrev blocks_at : ℕ → ℕ → List Event
 blocks_at from to = row 0 0 (Start 0) ∷ row from 0 (Block 0) ∷ row to 0 (Wake 0) ∷ row 4000 0 End ∷ []
 
-blocked_in_the_second : is_judged (blocked (blocks_at 2000 2001) 0) 2000 0 4000 0 ∷ is_judged (blocked (blocks_at 2000 2001) 0) 2000 0 4000 1 ∷ [] ≡ true ∷ false ∷ []
+blocked_in_the_second : is_judged (blocked (blocks_at 2000 2001) 0) 2000 0 4000 0
+    ∷ is_judged (blocked (blocks_at 2000 2001) 0) 2000 0 4000 1 ∷ [] ≡ true ∷ false ∷ []
 unfolding last_below sum_below
 blocked_in_the_second = refl
 
-blocked_in_the_first : is_judged (blocked (blocks_at 1999 2000) 0) 2000 0 4000 0 ∷ is_judged (blocked (blocks_at 1999 2000) 0) 2000 0 4000 1 ∷ [] ≡ false ∷ true ∷ []
+blocked_in_the_first : is_judged (blocked (blocks_at 1999 2000) 0) 2000 0 4000 0
+    ∷ is_judged (blocked (blocks_at 1999 2000) 0) 2000 0 4000 1 ∷ [] ≡ false ∷ true ∷ []
 unfolding last_below sum_below
 blocked_in_the_first = refl
 
 -- what happens to B changes nothing for A, and no block or wake moves a start
 abbrev both_change : List Event
-both_change = row 0 0 (Start 0) ∷ row 1 0 (Block 0) ∷ row 2 1 (Start 1) ∷ row 3 1 (Block 1) ∷ row 4 1 (Wake 1) ∷ row 5 0 (Wake 0) ∷ row 6 0 End ∷ []
+both_change =
+    row 0 0 (Start 0) ∷ row 1 0 (Block 0) ∷ row 2 1 (Start 1) ∷ row 3 1 (Block 1) ∷ row 4 1 (Wake 1) ∷ row 5 0 (Wake 0)
+    ∷ row 6 0 End ∷ []
 
-a_is_blocked : is_blocked_at both_change 0 0 ∷ is_blocked_at both_change 0 1 ∷ is_blocked_at both_change 0 2 ∷ is_blocked_at both_change 0 4 ∷ is_blocked_at both_change 0 5 ∷ [] ≡ false ∷ true ∷ true ∷ true ∷ false ∷ []
+a_is_blocked : is_blocked_at both_change 0 0 ∷ is_blocked_at both_change 0 1 ∷ is_blocked_at both_change 0 2
+    ∷ is_blocked_at both_change 0 4 ∷ is_blocked_at both_change 0 5 ∷ [] ≡ false ∷ true ∷ true ∷ true ∷ false ∷ []
 unfolding last_below
 a_is_blocked = refl
 
-b_is_blocked : is_blocked_at both_change 1 2 ∷ is_blocked_at both_change 1 3 ∷ is_blocked_at both_change 1 4 ∷ [] ≡ false ∷ true ∷ false ∷ []
+b_is_blocked : is_blocked_at both_change 1 2 ∷ is_blocked_at both_change 1 3 ∷ is_blocked_at both_change 1 4 ∷ []
+    ≡ false ∷ true ∷ false ∷ []
 unfolding last_below
 b_is_blocked = refl
 
@@ -103,11 +121,21 @@ second_is_judged = refl
 
 first_is_broken : IsBroken pair budgets both_run 0 0 0
 unfolding last_below
-first_is_broken = inr (record { period = record { is_part = omega arith; started = refl; in_trace = omega arith }; no_extra = refl; over = omega (arith, time_of_the_first) })
+first_is_broken =
+    inr (record {
+      period = record { is_part = omega arith; started = refl; in_trace = omega arith };
+      no_extra = refl;
+      over = omega (arith, time_of_the_first);
+    })
 
 second_is_broken : IsBroken pair budgets both_run 0 0 1
 unfolding last_below
-second_is_broken = inl (record { period = record { is_part = omega arith; started = refl; in_trace = omega arith }; judged = second_is_judged; short = omega (arith, time_of_the_second) })
+second_is_broken =
+    inl (record {
+      period = record { is_part = omega arith; started = refl; in_trace = omega arith };
+      judged = second_is_judged;
+      short = omega (arith, time_of_the_second);
+    })
 
 second_is_not_the_first : IsFirstBroken pair budgets both_run 0 0 1 → ⊥
 second_is_not_the_first b = absurd (omega (arith, b.least 0 0 0 first_is_broken))
@@ -129,7 +157,12 @@ a_is_judged = refl
 
 a_is_broken : IsBroken pair budgets neither_runs 0 0 0
 unfolding last_below
-a_is_broken = inl (record { period = record { is_part = omega arith; started = refl; in_trace = omega arith }; judged = a_is_judged; short = omega (arith, a_gets_nothing) })
+a_is_broken =
+    inl (record {
+      period = record { is_part = omega arith; started = refl; in_trace = omega arith };
+      judged = a_is_judged;
+      short = omega (arith, a_gets_nothing);
+    })
 
 b_is_not_the_first : IsFirstBroken pair budgets neither_runs 1 0 0 → ⊥
 b_is_not_the_first b = b.first 0 0 0 (omega arith) a_is_broken refl

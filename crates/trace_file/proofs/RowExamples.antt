@@ -19,13 +19,26 @@ use Rattle.trace_file.specs.Rules.{row_fault, Kept, LacksEnd}
 use Rattle.trace_file.specs.File.{is_row, event_of, events_of, unit_of, row_rules, LacksFileEnd}
 
 abbrev part_on : Parent → ℕ → PartView
-part_on parent letter = record { name = letter ∷ []; parent = parent; sched = Edf; period = 10; budget = Some 3; extra = false; tasks = record { name = 116 ∷ []; task = plain_task 100 100 3 } ∷ [] }
+part_on parent letter =
+    record {
+      name = letter ∷ [];
+      parent = parent;
+      sched = Edf;
+      period = 10;
+      budget = Some 3;
+      extra = false;
+      tasks = record { name = 116 ∷ []; task = plain_task 100 100 3 } ∷ [];
+    }
 
 abbrev core_named : ℕ → CoreView
 core_named letter = record { name = letter ∷ []; sched = Edf; supply = None }
 
 abbrev pair : SystemView
-pair = record { cores = core_named 99 ∷ core_named 100 ∷ []; parts = part_on (on_core 0) 65 ∷ part_on (on_core 1) 66 ∷ part_on (on_part 0) 78 ∷ [] }
+pair =
+    record {
+      cores = core_named 99 ∷ core_named 100 ∷ [];
+      parts = part_on (on_core 0) 65 ∷ part_on (on_core 1) 66 ∷ part_on (on_part 0) 78 ∷ [];
+    }
 
 abbrev fields : List ℕ → List ℕ → List ℕ → List ℕ → List (List ℕ)
 fields at core word vcpu = at ∷ core ∷ word ∷ vcpu ∷ []
@@ -35,20 +48,33 @@ row at core what = record { at = at; core = core; what = what }
 
 -- a row of each word, and its event
 abbrev one_of_each : List (List (List ℕ))
-one_of_each = fields (codes "0") (codes "c") (codes "start") (codes "A") ∷ fields (codes "1") (codes "c") (codes "block") (codes "A") ∷ fields (codes "2") (codes "c") (codes "wake") (codes "A") ∷ fields (codes "3") (codes "d") (codes "run") (codes "B") ∷ fields (codes "4") (codes "d") (codes "stop") [] ∷ fields (codes "5") [] (codes "end") [] ∷ []
+one_of_each =
+    fields (codes "0") (codes "c") (codes "start") (codes "A")
+    ∷ fields (codes "1") (codes "c") (codes "block") (codes "A")
+    ∷ fields (codes "2") (codes "c") (codes "wake") (codes "A")
+    ∷ fields (codes "3") (codes "d") (codes "run") (codes "B") ∷ fields (codes "4") (codes "d") (codes "stop") []
+    ∷ fields (codes "5") [] (codes "end") [] ∷ []
 
 each_is_a_row : map is_row one_of_each ≡ true ∷ true ∷ true ∷ true ∷ true ∷ true ∷ []
 each_is_a_row = refl
 
-each_has_its_event : events_of pair Nanoseconds one_of_each ≡ row 0 0 (Start 0) ∷ row 1 0 (Block 0) ∷ row 2 0 (Wake 0) ∷ row 3 1 (Run 1) ∷ row 4 1 Stop ∷ row 5 0 End ∷ []
+each_has_its_event : events_of pair Nanoseconds one_of_each
+    ≡ row 0 0 (Start 0) ∷ row 1 0 (Block 0) ∷ row 2 0 (Wake 0) ∷ row 3 1 (Run 1) ∷ row 4 1 Stop ∷ row 5 0 End ∷ []
 each_has_its_event = refl
 
 -- no rows: a name that is missing or too many, another word, a number with a leading zero, and
 -- fewer or more fields
 abbrev no_rows : List (List (List ℕ))
-no_rows = fields (codes "0") [] (codes "start") (codes "A") ∷ fields (codes "0") (codes "c") (codes "block") [] ∷ fields (codes "0") [] (codes "wake") (codes "A") ∷ fields (codes "0") (codes "c") (codes "run") [] ∷ fields (codes "0") (codes "c") (codes "stop") (codes "A") ∷ fields (codes "0") [] (codes "stop") [] ∷ fields (codes "0") (codes "c") (codes "end") [] ∷ fields (codes "0") [] (codes "end") (codes "A") ∷ fields (codes "0") (codes "c") (codes "go") (codes "A") ∷ fields (codes "01") [] (codes "end") [] ∷ (codes "0" ∷ [] ∷ codes "end" ∷ []) ∷ (codes "0" ∷ [] ∷ codes "end" ∷ [] ∷ [] ∷ []) ∷ []
+no_rows =
+    fields (codes "0") [] (codes "start") (codes "A") ∷ fields (codes "0") (codes "c") (codes "block") []
+    ∷ fields (codes "0") [] (codes "wake") (codes "A") ∷ fields (codes "0") (codes "c") (codes "run") []
+    ∷ fields (codes "0") (codes "c") (codes "stop") (codes "A") ∷ fields (codes "0") [] (codes "stop") []
+    ∷ fields (codes "0") (codes "c") (codes "end") [] ∷ fields (codes "0") [] (codes "end") (codes "A")
+    ∷ fields (codes "0") (codes "c") (codes "go") (codes "A") ∷ fields (codes "01") [] (codes "end") []
+    ∷ (codes "0" ∷ [] ∷ codes "end" ∷ []) ∷ (codes "0" ∷ [] ∷ codes "end" ∷ [] ∷ [] ∷ []) ∷ []
 
-none_is_a_row : map is_row no_rows ≡ false ∷ false ∷ false ∷ false ∷ false ∷ false ∷ false ∷ false ∷ false ∷ false ∷ false ∷ false ∷ []
+none_is_a_row : map is_row no_rows
+    ≡ false ∷ false ∷ false ∷ false ∷ false ∷ false ∷ false ∷ false ∷ false ∷ false ∷ false ∷ false ∷ []
 none_is_a_row = refl
 
 -- a name that no core and no part has stands behind the last one
@@ -57,7 +83,12 @@ past_the_last = refl
 
 -- a header has just these four fields
 abbrev headers : List (List (List ℕ))
-headers = fields (codes "at") (codes "core") (codes "what") (codes "vcpu") ∷ fields (codes "at") (codes "cpu") (codes "what") (codes "vcpu") ∷ fields (codes "at") (codes "core") (codes "who") (codes "vcpu") ∷ fields (codes "at") (codes "core") (codes "what") (codes "dom") ∷ (codes "at" ∷ codes "core" ∷ codes "what" ∷ []) ∷ []
+headers =
+    fields (codes "at") (codes "core") (codes "what") (codes "vcpu")
+    ∷ fields (codes "at") (codes "cpu") (codes "what") (codes "vcpu")
+    ∷ fields (codes "at") (codes "core") (codes "who") (codes "vcpu")
+    ∷ fields (codes "at") (codes "core") (codes "what") (codes "dom") ∷ (codes "at" ∷ codes "core" ∷ codes "what" ∷ [])
+    ∷ []
 
 one_is_a_header : map unit_of headers ≡ Some Microseconds ∷ None ∷ None ∷ None ∷ None ∷ []
 one_is_a_header = refl
@@ -92,11 +123,13 @@ unfolding last_below
 inside_a_part = refl
 
 -- of two rules that one row breaks the first is told
-no_row_and_too_late : row_rules pair Microseconds [] (fields (codes "1000000001") (codes "c") (codes "go") (codes "A")) ≡ Some (BadRow 2)
+no_row_and_too_late : row_rules pair Microseconds [] (fields (codes "1000000001") (codes "c") (codes "go") (codes "A"))
+    ≡ Some (BadRow 2)
 unfolding last_below
 no_row_and_too_late = refl
 
-too_late_and_falling : row_fault pair (row 1000000000002 0 (Start 0) ∷ row 1000000000001 0 (Run 0) ∷ []) 1 ≡ Some (OutOfRange 3)
+too_late_and_falling : row_fault pair (row 1000000000002 0 (Start 0) ∷ row 1000000000001 0 (Run 0) ∷ []) 1
+    ≡ Some (OutOfRange 3)
 unfolding last_below
 too_late_and_falling = refl
 
@@ -130,7 +163,9 @@ unfolding last_below
 no_end_of_a_file = record { keep = λ i less. absurd (omega arith); no_end = refl; fault_is = refl }
 
 -- a start, a block and a wake leave the core to the VCPU that has it
-a_keeps_its_core : holder (row 0 0 (Run 0) ∷ row 1 0 (Start 1) ∷ []) 2 0 ∷ holder (row 0 0 (Run 0) ∷ row 2 0 (Block 1) ∷ []) 2 0 ∷ holder (row 0 0 (Run 0) ∷ row 3 0 (Wake 1) ∷ []) 2 0 ∷ [] ≡ Some 0 ∷ Some 0 ∷ Some 0 ∷ []
+a_keeps_its_core : holder (row 0 0 (Run 0) ∷ row 1 0 (Start 1) ∷ []) 2 0
+    ∷ holder (row 0 0 (Run 0) ∷ row 2 0 (Block 1) ∷ []) 2 0 ∷ holder (row 0 0 (Run 0) ∷ row 3 0 (Wake 1) ∷ []) 2 0 ∷ []
+    ≡ Some 0 ∷ Some 0 ∷ Some 0 ∷ []
 unfolding last_below
 a_keeps_its_core = refl
 
@@ -143,7 +178,8 @@ idle_while_a_runs : row_fault pair (row 0 0 (Start 0) ∷ row 0 0 (Run 0) ∷ ro
 unfolding last_below
 idle_while_a_runs = refl
 
-b_is_blocked_while_it_runs : row_fault pair (row 0 1 (Start 1) ∷ row 0 1 (Run 1) ∷ row 1 1 (Block 1) ∷ []) 2 ≡ Some (StillRunning 4)
+b_is_blocked_while_it_runs : row_fault pair (row 0 1 (Start 1) ∷ row 0 1 (Run 1) ∷ row 1 1 (Block 1) ∷ []) 2
+    ≡ Some (StillRunning 4)
 unfolding last_below
 b_is_blocked_while_it_runs = refl
 

@@ -17,12 +17,18 @@ returns-in_err-make_guests-clause-admitted c = host_is_admitted c.args.n c.requi
 pub returns-clause-admitted : goal.returns-clause-admitted
 returns-clause-admitted c = host_is_admitted c.args.n c.requires.some c.requires.most
 
-same_host : (cores more : List CoreView) (parts guests : List PartView) → cores ≡ more → parts ≡ guests → ◌≡◌ {A = SystemView} (record { cores = cores; parts = parts }) (record { cores = more; parts = guests })
+same_host : (cores more : List CoreView) (parts guests : List PartView) → cores ≡ more → parts ≡ guests
+    → ◌≡◌ {A = SystemView} (record { cores = cores; parts = parts }) (record { cores = more; parts = guests })
 same_host cores more parts guests e f = cc
 
 pub invariant_of-result : goal.invariant_of-result
 invariant_of-result c =
     let many : c.div_ceil.result ≡ cores_for c.args.n = omega (arith, c.div_ceil.ensures) in
-    let cores : c.in_ok-make_cores.field-0.items ≡ map host_core (range_with_len 0 (cores_for c.args.n)) = c.in_ok-make_cores.ensures ∙ ap (λ (k : ℕ). map host_core (range_with_len 0 k)) many in
-    let parts : c.in_ok-make_guests.field-0.items ≡ map guest_at (range_with_len 0 c.args.n) = c.in_ok-make_guests.ensures in
-    subst (λ (sys : SystemView). IsSystem sys) (same_host (map host_core (range_with_len 0 (cores_for c.args.n))) c.in_ok-make_cores.field-0.items (map guest_at (range_with_len 0 c.args.n)) c.in_ok-make_guests.field-0.items (sym cores) (sym parts)) (host_is_system c.args.n c.requires.some c.requires.most)
+    let cores : c.in_ok-make_cores.field-0.items ≡ map host_core (range_with_len 0 (cores_for c.args.n))
+    = c.in_ok-make_cores.ensures ∙ ap (λ (k : ℕ). map host_core (range_with_len 0 k)) many in
+    let parts : c.in_ok-make_guests.field-0.items ≡ map guest_at (range_with_len 0 c.args.n)
+    = c.in_ok-make_guests.ensures in
+    subst (λ (sys : SystemView). IsSystem sys) (same_host (map host_core (range_with_len 0 (cores_for c.args.n)))
+    c.in_ok-make_cores.field-0.items (map guest_at (range_with_len 0 c.args.n))
+    c.in_ok-make_guests.field-0.items (sym cores) (sym parts))
+    (host_is_system c.args.n c.requires.some c.requires.most)

@@ -4,4 +4,6 @@ use Rattle.bulk_host.proofs.Systems.{core_name}
 use Rattle.bulk_host.proofs.host.make_core.Goals as goal
 
 pub name_of-requires : goal.name_of-requires
-name_of-requires c = subst (λ (text : List ℕ). is_name text ≡ true) (sym (c.deref.ensures ∙ c.in_ok-format.ensures.ok)) (core_name c.args.place (c.requires))
+name_of-requires c =
+    subst (λ (text : List ℕ). is_name text ≡ true) (sym (c.deref.ensures ∙ c.in_ok-format.ensures.ok))
+    (core_name c.args.place (c.requires))

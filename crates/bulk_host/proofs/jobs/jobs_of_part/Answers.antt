@@ -10,5 +10,11 @@ pub jobs_at_multiples-requires : goal.jobs_at_multiples-requires
 jobs_at_multiples-requires c =
     let tasks : List SporadicTask = sporadic_tasks c.deref.result.now in
     let own : tasks ≡ own_tasks c.args.part.now = ap sporadic_tasks c.deref.ensures.value ∙ c.in_ok-tasks.ensures in
-    let few : length tasks ≤ 256 = omega (arith, ap (λ (ts : List SporadicTask). length ts) own, length-map c.args.part.now.tasks (λ (t : NamedTask). t.task), c.requires.few) in
+    let few : length tasks ≤ 256
+    = omega (
+      arith,
+      ap (λ (ts : List SporadicTask). length ts) own,
+      length-map c.args.part.now.tasks (λ (t : NamedTask). t.task),
+      c.requires.few,
+    ) in
     record { few = omega (arith, multiples_few tasks c.args.slots, mul-le-mul_left c.args.slots few, c.requires.slots) }

@@ -18,31 +18,58 @@ use Rattle.bulk_run.proofs.Counting.{budgets_bounded, jobs_bounded, cores_missed
 use Rattle.bulk_run.proofs.counts.count_run.Goals as goal
 
 pub sum_of-budgets-requires : goal.sum_of-budgets-requires
-sum_of-budgets-requires c = omega (arith, ap (λ (b : List ℕ). sum b) (c.budgets.ensures ∙ c.requires.plan), budgets_bounded c.args.n c.requires.most)
+sum_of-budgets-requires c =
+    omega
+    (arith, ap (λ (b : List ℕ). sum b) (c.budgets.ensures ∙ c.requires.plan), budgets_bounded c.args.n c.requires.most)
 
 pub number_of_jobs-number-requires : goal.number_of_jobs-number-requires
-number_of_jobs-number-requires c = omega (arith, jobs_in_all c.args.jobs.now, ap (λ (js : List (List Job)). sum_by (λ (jobs : List Job). length jobs) js) c.requires.jobs, jobs_bounded c.args.n c.requires.most)
+number_of_jobs-number-requires c =
+    omega (
+      arith,
+      jobs_in_all c.args.jobs.now,
+      ap (λ (js : List (List Job)). sum_by (λ (jobs : List Job). length jobs) js) c.requires.jobs,
+      jobs_bounded c.args.n c.requires.most,
+    )
 
 pub misses_of-at_cores-requires : goal.misses_of-at_cores-requires
-misses_of-at_cores-requires c = omega (arith, few_at_cores c.args.n c.requires.some c.requires.most c.args.tree.now c.requires.tree c.cores.result.now c.cores.ensures)
+misses_of-at_cores-requires c =
+    omega (
+      arith,
+      few_at_cores c.args.n c.requires.some c.requires.most c.args.tree.now c.requires.tree c.cores.result.now
+          c.cores.ensures,
+    )
 
 pub misses_of-at_parts-requires : goal.misses_of-at_parts-requires
-misses_of-at_parts-requires c = omega (arith, few_at_parts c.args.n c.requires.most c.args.tree.now c.requires.tree c.parts.result.now c.parts.ensures)
+misses_of-at_parts-requires c =
+    omega
+    (arith, few_at_parts c.args.n c.requires.most c.args.tree.now c.requires.tree c.parts.result.now c.parts.ensures)
 
 pub pending_of-requires-clause-few : goal.pending_of-requires-clause-few
-pending_of-requires-clause-few c = omega (arith, length-map c.args.jobs.now (λ (list : Vec Job Global). list.items), ap (λ (js : List (List Job)). length js) c.requires.jobs, jobs-many c.args.n, c.requires.most)
+pending_of-requires-clause-few c =
+    omega (
+      arith,
+      length-map c.args.jobs.now (λ (list : Vec Job Global). list.items),
+      ap (λ (js : List (List Job)). length js) c.requires.jobs,
+      jobs-many c.args.n,
+      c.requires.most,
+    )
 
 pub pending_of-requires-clause-runs : goal.pending_of-requires-clause-runs
 pending_of-requires-clause-runs c =
     subst (λ (js : List (List Job)). AreGuestRuns js c.parts-2.result.now) (sym c.requires.jobs)
-    (subst (λ (ns : List NodeView). AreGuestRuns (bulk_jobs c.args.n) ns) (sym c.parts-2.ensures) (guest_runs c.args.n (bulk_budgets c.args.n) c.args.tree.now c.requires.tree))
+    (subst (λ (ns : List NodeView). AreGuestRuns (bulk_jobs c.args.n) ns) (sym c.parts-2.ensures)
+    (guest_runs c.args.n (bulk_budgets c.args.n) c.args.tree.now c.requires.tree))
 
 -- the counts, each as its call told it
 budgets_told : (c : goal.After-cores-2) → c.sum_of-budgets.result ≡ sum (bulk_budgets c.args.n)
 budgets_told c = c.sum_of-budgets.ensures ∙ ap (λ (b : List ℕ). sum b) (c.budgets.ensures ∙ c.requires.plan)
 
-jobs_told : (c : goal.After-cores-2) → c.number_of_jobs-number.result ≡ sum_by (λ (jobs : List Job). length jobs) (bulk_jobs c.args.n)
-jobs_told c = c.number_of_jobs-number.ensures ∙ (jobs_in_all c.args.jobs.now ∙ ap (λ (js : List (List Job)). sum_by (λ (jobs : List Job). length jobs) js) c.requires.jobs)
+jobs_told : (c : goal.After-cores-2)
+    → c.number_of_jobs-number.result ≡ sum_by (λ (jobs : List Job). length jobs) (bulk_jobs c.args.n)
+jobs_told c =
+    c.number_of_jobs-number.ensures
+    ∙ (jobs_in_all c.args.jobs.now
+    ∙ ap (λ (js : List (List Job)). sum_by (λ (jobs : List Job). length jobs) js) c.requires.jobs)
 
 cores_told : (c : goal.After-cores-2) → length c.cores-2.result.now ≡ length (bulk_host c.args.n).cores
 cores_told c = ap length c.cores-2.ensures.cores ∙ ap (λ (s : SystemView). length s.cores) c.requires.host
@@ -53,7 +80,8 @@ few_missed c =
       arith,
       c.misses_of-at_cores.ensures,
       c.misses_of-at_parts.ensures,
-      few_at_cores c.args.n c.requires.some c.requires.most c.args.tree.now c.requires.tree c.cores.result.now c.cores.ensures,
+      few_at_cores c.args.n c.requires.some c.requires.most c.args.tree.now c.requires.tree c.cores.result.now
+          c.cores.ensures,
       few_at_parts c.args.n c.requires.most c.args.tree.now c.requires.tree c.parts.result.now c.parts.ensures,
     )
 
@@ -73,8 +101,12 @@ returns-clause-counts c =
       guests_missed n (bulk_budgets n) tree c.requires.tree c.parts.result.now c.parts.ensures,
     ))
     (c.in_ok-pending.ensures.counted
-    ∙ (ap (λ (js : List (List Job)). sum_below (λ q. pairs_pending (jobs_at js q) (run_of (node_at c.parts-2.result.now q).spans)) (length js)) c.requires.jobs
-    ∙ (ap (λ (ns : List NodeView). sum_below (λ q. pairs_pending (jobs_at (bulk_jobs n) q) (run_of (node_at ns q).spans)) (length (bulk_jobs n))) c.parts-2.ensures
+    ∙ (ap (λ (js : List (List Job)). sum_below
+    (λ q. pairs_pending (jobs_at js q) (run_of (node_at c.parts-2.result.now q).spans)) (length js))
+    c.requires.jobs
+    ∙ (ap (λ (ns : List NodeView). sum_below
+    (λ q. pairs_pending (jobs_at (bulk_jobs n) q) (run_of (node_at ns q).spans)) (length (bulk_jobs n)))
+    c.parts-2.ensures
     ∙ guests_pending n (bulk_budgets n) tree c.requires.tree)))
 
 pub returns-clause-few : goal.returns-clause-few
@@ -84,5 +116,13 @@ returns-clause-few c = record {
   budgets = omega (arith, budgets_told c, budgets_bounded c.args.n c.requires.most);
   jobs = omega (arith, jobs_told c, jobs_bounded c.args.n c.requires.most);
   missed = omega (arith, few_missed c);
-  pending = omega (arith, c.in_ok-pending.ensures.few, length-map c.args.jobs.now (λ (list : Vec Job Global). list.items), ap (λ (js : List (List Job)). length js) c.requires.jobs, jobs-many c.args.n, c.requires.most);
+  pending =
+      omega (
+        arith,
+        c.in_ok-pending.ensures.few,
+        length-map c.args.jobs.now (λ (list : Vec Job Global). list.items),
+        ap (λ (js : List (List Job)). length js) c.requires.jobs,
+        jobs-many c.args.n,
+        c.requires.most,
+      );
 }

@@ -12,27 +12,57 @@ use Rattle.bulk_run.proofs.Counting.{found, run_found, pending_found}
 use Rattle.bulk_run.proofs.counts.pending_of.Goals as goal
 
 abbrev pending_at : List (Vec Job Global) → List NodeView → ℕ → ℕ
-pending_at jobs nodes q = pairs_pending (jobs_at (map (λ (list : Vec Job Global). list.items) jobs) q) (run_of (node_at nodes q).spans)
+pending_at jobs nodes q =
+    pairs_pending (jobs_at (map (λ (list : Vec Job Global). list.items) jobs) q) (run_of (node_at nodes q).spans)
 
 pub loop-place-init : goal.loop-place-init
-loop-place-init c = record { counted = sym (sum_below-zero (pending_at c.args.jobs.now c.args.nodes.now)); few = omega arith }
+loop-place-init c =
+    record { counted = sym (sum_below-zero (pending_at c.args.jobs.now c.args.nodes.now)); few = omega arith }
 
 pub pending_in-requires : goal.pending_in-requires
 pending_in-requires c =
     let long = length-map c.args.jobs.now (λ (list : Vec Job Global). list.items) in
-    let here = found c.args.jobs.now c.args.nodes.now c.loop-place.place c.index-jobs-place.result c.index-nodes-place.result c.deref.result.now (omega (arith, c.loop-place-test.true)) (omega (arith, c.loop-place-test.true, long, c.requires.runs.one_each)) c.index-jobs-place.is c.deref.ensures.value c.index-nodes-place.is in
-    record { run = run_found (map (λ (list : Vec Job Global). list.items) c.args.jobs.now) c.args.nodes.now c.loop-place.place c.deref.result.now c.index-nodes-place.result.spans here c.requires.runs (omega (arith, c.loop-place-test.true, long)) }
+    let here
+    = found c.args.jobs.now c.args.nodes.now c.loop-place.place c.index-jobs-place.result c.index-nodes-place.result
+    c.deref.result.now (omega (arith, c.loop-place-test.true))
+    (omega (arith, c.loop-place-test.true, long, c.requires.runs.one_each)) c.index-jobs-place.is
+    c.deref.ensures.value c.index-nodes-place.is in
+    record {
+      run =
+          run_found (map (λ (list : Vec Job Global). list.items) c.args.jobs.now) c.args.nodes.now c.loop-place.place
+          c.deref.result.now c.index-nodes-place.result.spans here c.requires.runs
+          (omega (arith, c.loop-place-test.true, long));
+    }
 
 pub overflow_add-pending : goal.overflow_add-pending
-overflow_add-pending c = record { fits = omega (arith, c.in_ok-pending.ensures.few, c.loop-place.invariant.few, c.requires.few, c.loop-place-test.true) }
+overflow_add-pending c =
+    record {
+      fits =
+          omega
+          (arith, c.in_ok-pending.ensures.few, c.loop-place.invariant.few, c.requires.few, c.loop-place-test.true);
+    }
 
 pub loop-place-preserved : goal.loop-place-preserved
 loop-place-preserved c =
     let long = length-map c.args.jobs.now (λ (list : Vec Job Global). list.items) in
-    let here = found c.args.jobs.now c.args.nodes.now c.loop-place.place c.index-jobs-place.result c.index-nodes-place.result c.deref.result.now (omega (arith, c.loop-place-test.true)) (omega (arith, c.loop-place-test.true, long, c.requires.runs.one_each)) c.index-jobs-place.is c.deref.ensures.value c.index-nodes-place.is in
-    let one = c.in_ok-pending.ensures.number ∙ pending_found (map (λ (list : Vec Job Global). list.items) c.args.jobs.now) c.args.nodes.now c.loop-place.place c.deref.result.now c.index-nodes-place.result.spans here in
+    let here
+    = found c.args.jobs.now c.args.nodes.now c.loop-place.place c.index-jobs-place.result c.index-nodes-place.result
+    c.deref.result.now (omega (arith, c.loop-place-test.true))
+    (omega (arith, c.loop-place-test.true, long, c.requires.runs.one_each)) c.index-jobs-place.is
+    c.deref.ensures.value c.index-nodes-place.is in
+    let one
+    = c.in_ok-pending.ensures.number
+    ∙ pending_found (map (λ (list : Vec Job Global). list.items) c.args.jobs.now) c.args.nodes.now
+    c.loop-place.place c.deref.result.now c.index-nodes-place.result.spans here in
     record {
-      counted = omega (arith, one, c.loop-place.invariant.counted, sum_below-suc (pending_at c.args.jobs.now c.args.nodes.now) c.loop-place.place, ap (sum_below (pending_at c.args.jobs.now c.args.nodes.now)) (add-one c.loop-place.place));
+      counted =
+          omega (
+            arith,
+            one,
+            c.loop-place.invariant.counted,
+            sum_below-suc (pending_at c.args.jobs.now c.args.nodes.now) c.loop-place.place,
+            ap (sum_below (pending_at c.args.jobs.now c.args.nodes.now)) (add-one c.loop-place.place),
+          );
       few = omega (arith, c.in_ok-pending.ensures.few, c.loop-place.invariant.few);
     }
 

@@ -8,4 +8,10 @@ use Rattle.server_sched.specs.TreeSpans.{node_at}
 use Rattle.bulk_run.proofs.counts.pending_of.Given as goal
 
 abbrev pub invariant-loop-place : goal.invariant-loop-place
-invariant-loop-place l = record { counted : l.pending ≡ sum_below (λ q. pairs_pending (jobs_at (map (λ (list : Vec Job Global). list.items) l.jobs) q) (run_of (node_at l.nodes q).spans)) l.place; few : l.pending ≤ l.place * 2 ^ 49 }
+invariant-loop-place l =
+    record {
+      counted : l.pending
+          ≡ sum_below (λ q. pairs_pending (jobs_at (map (λ (list : Vec Job Global). list.items) l.jobs) q)
+          (run_of (node_at l.nodes q).spans)) l.place;
+      few : l.pending ≤ l.place * 2 ^ 49;
+    }

@@ -7,15 +7,19 @@ use Rattle.cert_reader.proofs.file.read_certificate.Goals as goal
 pub returns-in_err-top-clause-fault : goal.returns-in_err-top-clause-fault
 returns-in_err-top-clause-fault c =
     let p = err_from_is_err_and c.from_residual.result c.from_residual.ensures.1 in
-    rw (p.1, p.2) (λ memory. let told = c.in_err-top.ensures.fault memory in rw told.1 (file_none c.args.bytes.now told.0))
+    rw (p.1, p.2)
+    (λ memory. let told = c.in_err-top.ensures.fault memory in rw told.1 (file_none c.args.bytes.now told.0))
 
 pub returns-in_err-nodes-clause-fault : goal.returns-in_err-nodes-clause-fault
 returns-in_err-nodes-clause-fault c =
     let p = err_from_is_err_and c.from_residual-in_err-nodes.result c.from_residual-in_err-nodes.ensures.1 in
-    rw (p.1, p.2) (λ memory. file_fault c.args.bytes.now (view c.in_ok-top.top) c.in_err-nodes.field-0.0 c.in_ok-top.ensures.ok (c.in_err-nodes.ensures.fault memory))
+    rw (p.1, p.2) (λ memory. file_fault c.args.bytes.now (view c.in_ok-top.top) c.in_err-nodes.field-0.0
+    c.in_ok-top.ensures.ok (c.in_err-nodes.ensures.fault memory))
 
 pub returns-clause-spelled : goal.returns-clause-spelled
-returns-clause-spelled c = file_spelled c.args.bytes.now (view c.in_ok-top.top) c.in_ok-nodes.nodes.items c.in_ok-top.ensures.ok c.in_ok-nodes.ensures.ok.0 c.in_ok-nodes.ensures.ok.1
+returns-clause-spelled c =
+    file_spelled c.args.bytes.now (view c.in_ok-top.top) c.in_ok-nodes.nodes.items c.in_ok-top.ensures.ok
+    c.in_ok-nodes.ensures.ok.0 c.in_ok-nodes.ensures.ok.1
 
 pub returns-in_err-top-clause-back : goal.returns-in_err-top-clause-back
 returns-in_err-top-clause-back c = text_spells

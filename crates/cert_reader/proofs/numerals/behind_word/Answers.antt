@@ -11,4 +11,6 @@ returns c =
     let rest : List ℕ = c.in_ok-rest.rest.now in
     let cases = c.in_ok-rest.ensures.cases in
     word_stands c.args.bytes.now c.args.at _ c.args.word.now rest (omega (arith, c.if-at-bytes.false))
-    (cases.1 ∙ ap (λ (s : List ℕ). drop (length c.args.word.now) s) same) (sym same ∙ strip_prefix_is Decides-eqb here c.args.word.now (Some c.in_ok-rest.rest) cases) (omega (arith, cases.2, c.split_at.ensures.back_len)) refl
+    (cases.1 ∙ ap (λ (s : List ℕ). drop (length c.args.word.now) s) same)
+    (sym same ∙ strip_prefix_is Decides-eqb here c.args.word.now (Some c.in_ok-rest.rest) cases)
+    (omega (arith, cases.2, c.split_at.ensures.back_len)) refl

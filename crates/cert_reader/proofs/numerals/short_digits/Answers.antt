@@ -9,7 +9,9 @@ loop-to-init c =
     let one : c.args.at + 1 - c.args.at ≡ 1 = omega arith in
     record {
       some = c.requires.some;
-      stands = subst (λ (s : List ℕ). Stands c.args.bytes.now c.args.at (c.args.at + 1) s) (sym (decimal_digit c.args.first c.requires.digit)) c.requires.here;
+      stands =
+          subst (λ (s : List ℕ). Stands c.args.bytes.now c.args.at (c.args.at + 1) s)
+          (sym (decimal_digit c.args.first c.requires.digit)) c.requires.here;
       within = omega (arith, c.requires.within);
       ahead = omega arith;
       below = subst (λ (k : ℕ). c.args.first < 10 ^ k) (sym one) c.requires.digit;
@@ -18,12 +20,20 @@ loop-to-init c =
 pub overflow_mul-number : goal.overflow_mul-number
 overflow_mul-number c =
     let few : c.loop-to.to - c.args.at ≤ 18 = omega (arith, c.loop-to-test.true, c.min-end.ensures) in
-    omega (arith, more_fits c.loop-to.number c.in-Some.digit (c.loop-to.to - c.args.at) c.loop-to.invariant.below c.in-Some.ensures.digit few)
+    omega (
+      arith,
+      more_fits c.loop-to.number c.in-Some.digit (c.loop-to.to - c.args.at) c.loop-to.invariant.below
+          c.in-Some.ensures.digit few,
+    )
 
 pub overflow_add-number : goal.overflow_add-number
 overflow_add-number c =
     let few : c.loop-to.to - c.args.at ≤ 18 = omega (arith, c.loop-to-test.true, c.min-end.ensures) in
-    omega (arith, more_fits c.loop-to.number c.in-Some.digit (c.loop-to.to - c.args.at) c.loop-to.invariant.below c.in-Some.ensures.digit few)
+    omega (
+      arith,
+      more_fits c.loop-to.number c.in-Some.digit (c.loop-to.to - c.args.at) c.loop-to.invariant.below
+          c.in-Some.ensures.digit few,
+    )
 
 pub loop-to-preserved : goal.loop-to-preserved
 loop-to-preserved c =
@@ -33,8 +43,14 @@ loop-to-preserved c =
     let next : suc k ≡ c.loop-to.to + 1 - c.args.at = omega (arith, c.loop-to.invariant.ahead) in
     record {
       some = omega (arith, c.loop-to.invariant.some);
-      stands = digit_more c.args.bytes.now c.args.at c.loop-to.to number c.in-Some.digit c.loop-to.invariant.some c.in-Some.ensures.digit (omega (arith, more_fits number c.in-Some.digit k c.loop-to.invariant.below c.in-Some.ensures.digit few)) c.loop-to.invariant.stands c.in-Some.ensures.text;
+      stands =
+          digit_more c.args.bytes.now c.args.at c.loop-to.to number c.in-Some.digit c.loop-to.invariant.some
+          c.in-Some.ensures.digit
+          (omega (arith, more_fits number c.in-Some.digit k c.loop-to.invariant.below c.in-Some.ensures.digit few))
+          c.loop-to.invariant.stands c.in-Some.ensures.text;
       within = omega (arith, c.in-Some.ensures.within);
       ahead = omega (arith, c.loop-to.invariant.ahead);
-      below = subst (λ (j : ℕ). 10 * number + c.in-Some.digit < 10 ^ j) next (more_below number c.in-Some.digit k c.loop-to.invariant.below c.in-Some.ensures.digit);
+      below =
+          subst (λ (j : ℕ). 10 * number + c.in-Some.digit < 10 ^ j) next
+          (more_below number c.in-Some.digit k c.loop-to.invariant.below c.in-Some.ensures.digit);
     }

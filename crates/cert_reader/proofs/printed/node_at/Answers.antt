@@ -9,4 +9,5 @@ returns-clause-text c =
     (stands_then _ _ _ _ _ _ c.in_ok-to_hits.ensures (stands_then _ _ _ _ _ _ c.in_ok-hits.ensures.text
     (stands_then _ _ _ _ _ _ c.in_ok-to_kind.ensures (stands_then _ _ _ _ _ _ c.in_ok-place.ensures.text
     (stands_then _ _ _ _ _ _ c.in_ok-to_points.ensures (stands_then _ _ _ _ _ _ c.in_ok-points.ensures.text
-    (stands_then _ _ _ _ _ _ c.in_ok-to_witness.ensures (stands_then _ _ _ _ _ _ c.in_ok-witness.ensures.text c.in_ok-end.ensures)))))))))))))
+    (stands_then _ _ _ _ _ _ c.in_ok-to_witness.ensures
+    (stands_then _ _ _ _ _ _ c.in_ok-witness.ensures.text c.in_ok-end.ensures)))))))))))))

@@ -4,4 +4,6 @@ use Rattle.certificate.proofs.Hits.{HitsTo}
 use Rattle.certificate.proofs.levels.hits_of.Given as goal
 
 abbrev pub invariant-loop-i : goal.invariant-loop-i
-invariant-loop-i g l = HitsTo (ranks_above l.sched (sporadic_tasks l.tasks)) (sporadic_tasks l.tasks) (g.S.Supply.bound l.s) l.hits.items l.i
+invariant-loop-i g l =
+    HitsTo (ranks_above l.sched (sporadic_tasks l.tasks)) (sporadic_tasks l.tasks) (g.S.Supply.bound l.s) l.hits.items
+    l.i

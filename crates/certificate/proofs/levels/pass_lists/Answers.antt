@@ -3,4 +3,11 @@ use Rattle.slot_model.proofs.Budgets.{hits_of}
 use Rattle.certificate.proofs.levels.pass_lists.Goals as goal
 
 pub hits_of-requires : goal.hits_of-requires
-hits_of-requires g c = record { fixed = c.in_default.not-Edf; few = c.requires.few; all_hit = hits_of c.args.sched c.in_default.not-Edf (sporadic_tasks c.args.tasks.now) (g.S.Supply.bound c.args.s.now) c.requires.passes }
+hits_of-requires g c =
+    record {
+      fixed = c.in_default.not-Edf;
+      few = c.requires.few;
+      all_hit =
+          hits_of c.args.sched c.in_default.not-Edf (sporadic_tasks c.args.tasks.now) (g.S.Supply.bound c.args.s.now)
+          c.requires.passes;
+    }

@@ -7,10 +7,15 @@ use Rattle.certificate.proofs.making.make_nodes.Goals as goal
 
 pub loop-q-preserved : goal.loop-q-preserved
 loop-q-preserved c =
-    subst (λ (nodes : List NodeView). AreMade c.args.sys.now c.args.budgets.now nodes (c.loop-q.q + 1)) (sym c.in_ok-push.ensures.items)
-    (part_more c.args.sys.now c.args.budgets.now c.loop-q.nodes.items c.loop-q.q c.in_ok-make_node.field-0 c.loop-q.invariant (omega (arith, ap (λ (ps : List PartView). length ps) c.parts-parts.ensures.parts)) c.in_ok-make_node.ensures.made c.in_ok-make_node.ensures.budget)
+    subst (λ (nodes : List NodeView). AreMade c.args.sys.now c.args.budgets.now nodes (c.loop-q.q + 1))
+    (sym c.in_ok-push.ensures.items)
+    (part_more c.args.sys.now c.args.budgets.now c.loop-q.nodes.items c.loop-q.q c.in_ok-make_node.field-0
+    c.loop-q.invariant (omega (arith, ap (λ (ps : List PartView). length ps) c.parts-parts.ensures.parts))
+    c.in_ok-make_node.ensures.made c.in_ok-make_node.ensures.budget)
 
 pub loop-c-preserved : goal.loop-c-preserved
 loop-c-preserved c =
-    subst (λ (nodes : List NodeView). AreMade c.args.sys.now c.args.budgets.now nodes (length c.args.sys.now.parts + (c.loop-c.c + 1))) (sym c.in_ok-push-2.ensures.items)
-    (core_more c.args.sys.now c.args.budgets.now c.loop-c.nodes.items c.loop-c.c c.in_ok-make_node-2.field-0 c.loop-c.invariant c.in_ok-make_node-2.ensures.made)
+    subst (λ (nodes : List NodeView). AreMade c.args.sys.now c.args.budgets.now nodes
+    (length c.args.sys.now.parts + (c.loop-c.c + 1))) (sym c.in_ok-push-2.ensures.items)
+    (core_more c.args.sys.now c.args.budgets.now c.loop-c.nodes.items c.loop-c.c c.in_ok-make_node-2.field-0
+    c.loop-c.invariant c.in_ok-make_node-2.ensures.made)

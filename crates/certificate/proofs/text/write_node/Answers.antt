@@ -42,13 +42,17 @@ returns-clause-text c =
     let s3 : t3 ≡ t2 ++ p3 = c.in_ok-extend_from_slice-2.ensures.items in
     let s4 : t4 ≡ t3 ++ p4 = c.in_ok-extend_from_slice-3.ensures.items ∙ ap (λ (s : List ℕ). t3 ++ s) c.flag.ensures in
     let s5 : t5 ≡ t4 ++ p5 = c.in_ok-extend_from_slice-4.ensures.items in
-    let s6 : t6 ≡ t5 ++ p6 = c.in_ok-write_list.ensures.text ∙ ap (λ (xs : List ℕ). t5 ++ listed decimal xs) c.deref.ensures.value in
+    let s6 : t6 ≡ t5 ++ p6
+    = c.in_ok-write_list.ensures.text ∙ ap (λ (xs : List ℕ). t5 ++ listed decimal xs) c.deref.ensures.value in
     let s7 : t7 ≡ t6 ++ p7 = c.in_ok-extend_from_slice-5.ensures.items in
-    let s8 : t8 ≡ t7 ++ p8 = c.in_ok-write_list-2.ensures.text ∙ ap (λ (xs : List ℕ). t7 ++ listed decimal xs) c.deref-2.ensures.value in
+    let s8 : t8 ≡ t7 ++ p8
+    = c.in_ok-write_list-2.ensures.text ∙ ap (λ (xs : List ℕ). t7 ++ listed decimal xs) c.deref-2.ensures.value in
     let s9 : t9 ≡ t8 ++ p9 = c.in_ok-extend_from_slice-6.ensures.items in
     let s10 : t10 ≡ t9 ++ p10 = c.in_ok-write_place.ensures.text in
     let s11 : t11 ≡ t10 ++ p11 = c.in_ok-extend_from_slice-7.ensures.items in
-    let s12 : t12 ≡ t11 ++ p12 = c.in_ok-write_list-3.ensures.text ∙ ap (λ (xs : List ℕ). t11 ++ listed quoted_number xs) c.deref-3.ensures.value in
+    let s12 : t12 ≡ t11 ++ p12
+    = c.in_ok-write_list-3.ensures.text
+    ∙ ap (λ (xs : List ℕ). t11 ++ listed quoted_number xs) c.deref-3.ensures.value in
     let s13 : t13 ≡ t12 ++ p13 = c.in_ok-extend_from_slice-8.ensures.items in
     let s14 : t14 ≡ t13 ++ p14 = c.in_ok-write_witness.ensures.text in
     let s15 : t15 ≡ t14 ++ p15 = c.in_ok-push.ensures.items in

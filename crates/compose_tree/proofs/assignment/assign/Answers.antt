@@ -6,25 +6,36 @@ use Rattle.compose_tree.proofs.Settling.{assigned_back, not_unassigned}
 use Rattle.compose_tree.proofs.assignment.assign.Goals as goal
 
 pub returns-clause-plan : goal.returns-clause-plan
-returns-clause-plan c = assigned_back c.args.sys.now c.in_ok-budgets.budgets.len c.assign_parts.new.budgets c.in_ok-budgets.budgets.items (c.assign_parts.auto.budgets ∙ c.deref_mut.ensures.len) c.in_ok-assign_parts.ensures.assigned
+returns-clause-plan c =
+    assigned_back c.args.sys.now c.in_ok-budgets.budgets.len c.assign_parts.new.budgets c.in_ok-budgets.budgets.items
+    (c.assign_parts.auto.budgets ∙ c.deref_mut.ensures.len) c.in_ok-assign_parts.ensures.assigned
 
 pub returns-clause-complete : goal.returns-clause-complete
-returns-clause-complete c = λ budgets assigned. one_assignment c.args.sys.now c.rooms.ensures.system _ budgets (returns-clause-plan c) assigned
+returns-clause-complete c =
+    λ budgets assigned. one_assignment c.args.sys.now c.rooms.ensures.system _ budgets (returns-clause-plan c) assigned
 
 pub returns-clause-in_period : goal.returns-clause-in_period
 returns-clause-in_period c = assigned_is_plan c.args.sys.now c.rooms.ensures.system _ (returns-clause-plan c)
 
 pub returns-clause-as_composed : goal.returns-clause-as_composed
-returns-clause-as_composed c = λ budgets admitted. one_assignment c.args.sys.now c.rooms.ensures.system _ budgets (returns-clause-plan c) admitted.assigned
+returns-clause-as_composed c =
+    λ budgets admitted. one_assignment c.args.sys.now c.rooms.ensures.system _ budgets (returns-clause-plan c)
+    admitted.assigned
 
 pub returns-in_err-assign_parts-clause-complete : goal.returns-in_err-assign_parts-clause-complete
 returns-in_err-assign_parts-clause-complete c =
     λ budgets assigned.
-    let p = err_from_is_err_and c.from_residual-in_err-assign_parts.result c.from_residual-in_err-assign_parts.ensures.1 in
-    rw (p.1, p.2) (not_unassigned c.args.sys.now c.rooms.ensures.system c.in_err-assign_parts.field-0.0 c.in_err-assign_parts.ensures.refusal budgets assigned)
+    let p
+    = err_from_is_err_and c.from_residual-in_err-assign_parts.result
+    c.from_residual-in_err-assign_parts.ensures.1 in
+    rw (p.1, p.2) (not_unassigned c.args.sys.now c.rooms.ensures.system c.in_err-assign_parts.field-0.0
+    c.in_err-assign_parts.ensures.refusal budgets assigned)
 
 pub returns-in_err-assign_parts-clause-as_composed : goal.returns-in_err-assign_parts-clause-as_composed
 returns-in_err-assign_parts-clause-as_composed c =
     λ budgets admitted.
-    let p = err_from_is_err_and c.from_residual-in_err-assign_parts.result c.from_residual-in_err-assign_parts.ensures.1 in
-    rw (p.1, p.2) (not_unassigned c.args.sys.now c.rooms.ensures.system c.in_err-assign_parts.field-0.0 c.in_err-assign_parts.ensures.refusal budgets admitted.assigned)
+    let p
+    = err_from_is_err_and c.from_residual-in_err-assign_parts.result
+    c.from_residual-in_err-assign_parts.ensures.1 in
+    rw (p.1, p.2) (not_unassigned c.args.sys.now c.rooms.ensures.system c.in_err-assign_parts.field-0.0
+    c.in_err-assign_parts.ensures.refusal budgets admitted.assigned)

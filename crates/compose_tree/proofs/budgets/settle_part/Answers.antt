@@ -11,32 +11,40 @@ use Rattle.compose_tree.proofs.Settling.{assign_one, pass_one, before_part, node
 use Rattle.compose_tree.proofs.budgets.settle_part.Goals as goal
 
 pub write_tasks-count-requires-clause-in_period : goal.write_tasks-count-requires-clause-in_period
-write_tasks-count-requires-clause-in_period c = children_fit c.args.sys.now c.parts.ensures.system c.args.budgets.now (Part c.args.q) c.requires.assigned
+write_tasks-count-requires-clause-in_period c =
+    children_fit c.args.sys.now c.parts.ensures.system c.args.budgets.now (Part c.args.q) c.requires.assigned
 
 -- the part as it is read, and its tasks
 here : (c : goal.After-part_budget) → c.index-parts-q.result ≡ part_at c.args.sys.now c.args.q
-here c = part_here c.args.sys.now c.parts.result.now c.args.q c.index-parts-q.result c.parts.ensures.parts (omega (arith, ap (λ (ps : List PartView). length ps) c.parts.ensures.parts)) c.index-parts-q.is
+here c =
+    part_here c.args.sys.now c.parts.result.now c.args.q c.index-parts-q.result c.parts.ensures.parts
+    (omega (arith, ap (λ (ps : List PartView). length ps) c.parts.ensures.parts)) c.index-parts-q.is
 
-same : (c : goal.After-part_budget) → sporadic_tasks (take c.write_tasks-count.result c.write_tasks-count.new.room) ≡ node_tasks c.args.sys.now c.args.budgets.now (Part c.args.q)
+same : (c : goal.After-part_budget)
+    → sporadic_tasks (take c.write_tasks-count.result c.write_tasks-count.new.room)
+    ≡ node_tasks c.args.sys.now c.args.budgets.now (Part c.args.q)
 same c = c.write_tasks-count.ensures.tasks
 
 pub returns-clause-assigned : goal.returns-clause-assigned
 returns-clause-assigned c =
     IfOk-weaker c.part_budget.result _ _
     (λ b h.
-    assign_one c.args.sys.now c.parts.ensures.system c.args.budgets.now c.args.q b c.requires.is_part c.requires.assigned _ (same c)
+    assign_one c.args.sys.now c.parts.ensures.system c.args.budgets.now c.args.q b c.requires.is_part
+    c.requires.assigned _ (same c)
     (rw (here c) at h.is)) c.part_budget.ensures.budget
 
 pub returns-clause-pass : goal.returns-clause-pass
 returns-clause-pass c =
     IfOk-weaker c.part_budget.result _ _
     (λ b h.
-    pass_one c.args.sys.now c.parts.ensures.system c.args.budgets.now c.args.q b (omega (arith, c.requires.is_part, c.requires.assigned.one_each)) c.requires.pass _ (same c)
+    pass_one c.args.sys.now c.parts.ensures.system c.args.budgets.now c.args.q b
+    (omega (arith, c.requires.is_part, c.requires.assigned.one_each)) c.requires.pass _ (same c)
     (rw (here c) at h.passes)) c.part_budget.ensures.budget
 
 pub returns-clause-refusal : goal.returns-clause-refusal
 returns-clause-refusal c =
     IfErr-weaker c.part_budget.result _ _
     (λ r h.
-    node_refuses c.args.sys.now c.args.budgets.now (Part c.args.q) c.requires.is_part (before_part c.args.sys.now c.args.budgets.now c.args.q c.requires.assigned c.requires.pass) _ (same c) r
+    node_refuses c.args.sys.now c.args.budgets.now (Part c.args.q) c.requires.is_part
+    (before_part c.args.sys.now c.args.budgets.now c.args.q c.requires.assigned c.requires.pass) _ (same c) r
     (rw (here c) at h)) c.part_budget.ensures.refuses

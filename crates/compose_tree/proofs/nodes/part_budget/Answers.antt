@@ -10,15 +10,20 @@ use Rattle.compose_tree.specs.Steps.{NodeRefuses}
 use Rattle.compose_tree.proofs.nodes.part_budget.Goals as goal
 
 -- a part with a given budget is refused with it
-refuses_given : (sched s : Sched) (tasks : List SporadicTask) (period p : ℕ) (given : Option ℕ) (budget : ℕ) (node : Place) (r : Refusal) → s ≡ sched → p ≡ period → Some budget ≡ given
-    → NodeRefuses s tasks (sbf p budget) p node r → NodeRefuses sched tasks (sbf period (largest_budget given period)) period node r
+refuses_given : (sched s : Sched) (tasks : List SporadicTask) (period p : ℕ) (given : Option ℕ) (budget : ℕ)
+    (node : Place) (r : Refusal) → s ≡ sched → p ≡ period → Some budget ≡ given
+    → NodeRefuses s tasks (sbf p budget) p node r
+    → NodeRefuses sched tasks (sbf period (largest_budget given period)) period node r
 refuses_given sched s tasks period p given budget node r same_sched same_period is refuses =
     subst (λ (o : Option ℕ). NodeRefuses sched tasks (sbf period (largest_budget o period)) period node r) is
-    (subst (λ (z : ℕ). NodeRefuses sched tasks (sbf z budget) z node r) same_period (subst (λ (z : Sched). NodeRefuses z tasks (sbf p budget) p node r) same_sched refuses))
+    (subst (λ (z : ℕ). NodeRefuses sched tasks (sbf z budget) z node r) same_period
+    (subst (λ (z : Sched). NodeRefuses z tasks (sbf p budget) p node r) same_sched refuses))
 
 pub returns-in_err-test_node-in-Some-clause-refuses : goal.returns-in_err-test_node-in-Some-clause-refuses
 returns-in_err-test_node-in-Some-clause-refuses c =
     let p = err_from_is_err_and c.from_residual.result c.from_residual.ensures.1 in
     rw (p.1, p.2)
-    (refuses_given c.args.part.now.sched c.sched.result (sporadic_tasks c.args.tasks.now) c.args.part.now.period c.period-period.result c.args.part.now.budget c.in-Some.budget c.args.node c.in_err-test_node-in-Some.field-0.0 c.sched.ensures c.period-period.ensures c.in-Some.ensures
+    (refuses_given c.args.part.now.sched c.sched.result (sporadic_tasks c.args.tasks.now) c.args.part.now.period
+    c.period-period.result c.args.part.now.budget c.in-Some.budget c.args.node c.in_err-test_node-in-Some.field-0.0
+    c.sched.ensures c.period-period.ensures c.in-Some.ensures
     c.in_err-test_node-in-Some.ensures.refuses)

@@ -14,23 +14,35 @@ pub up-init : goal.up-init
 up-init c = way_begins c.args.sys.now c.parts-parts.ensures.system c.args.budgets.now c.args.start c.requires.kept
 
 -- the way has come to part q, and goes on to the node on which it stands
-here : (c : goal.After-place-node) → OnWay c.args.sys.now c.args.budgets.now c.args.start (Part c.in-Part.q) c.up.budgets
-here c = subst (λ (node : Place). OnWay c.args.sys.now c.args.budgets.now c.args.start node c.up.budgets) c.in-Part.is c.up.invariant
+here : (c : goal.After-place-node)
+    → OnWay c.args.sys.now c.args.budgets.now c.args.start (Part c.in-Part.q) c.up.budgets
+here c =
+    subst (λ (node : Place). OnWay c.args.sys.now c.args.budgets.now c.args.start node c.up.budgets) c.in-Part.is
+    c.up.invariant
 
 next : (c : goal.After-place-node) → under c.args.sys.now c.in-Part.q ≡ c.place-node.result
 next c =
-    let read : c.index-parts-q.result ≡ part_at c.args.sys.now c.in-Part.q = part_here c.args.sys.now c.parts-parts.result.now c.in-Part.q c.index-parts-q.result c.parts-parts.ensures.parts (omega (arith, (here c).is_node, ap (λ (ps : List PartView). length ps) c.parts-parts.ensures.parts)) c.index-parts-q.is in
-    ap (λ (part : PartView). place_of part.parent) (sym read) ∙ (ap place_of (sym c.parent.ensures) ∙ sym c.place-node.ensures)
+    let read : c.index-parts-q.result ≡ part_at c.args.sys.now c.in-Part.q
+    = part_here c.args.sys.now c.parts-parts.result.now c.in-Part.q c.index-parts-q.result
+    c.parts-parts.ensures.parts
+    (omega (arith, (here c).is_node, ap (λ (ps : List PartView). length ps) c.parts-parts.ensures.parts))
+    c.index-parts-q.is in
+    ap (λ (part : PartView). place_of part.parent) (sym read)
+    ∙ (ap place_of (sym c.parent.ensures) ∙ sym c.place-node.ensures)
 
 fewer : (c : goal.After-place-node) → visited_from c.place-node.result < visited_from c.up.node
 fewer c =
     subst (λ (node : Place). visited_from c.place-node.result < visited_from node) (sym c.in-Part.is)
-    (subst (λ (node : Place). visited_from node < suc c.in-Part.q) (next c) (fewer_left c.args.sys.now c.parts-parts.ensures.system c.in-Part.q (here c).is_node))
+    (subst (λ (node : Place). visited_from node < suc c.in-Part.q) (next c)
+    (fewer_left c.args.sys.now c.parts-parts.ensures.system c.in-Part.q (here c).is_node))
 
 pub up-smaller : goal.up-smaller
 up-smaller c = fewer c
 
 pub up-preserved : goal.up-preserved
 up-preserved c =
-    subst (λ (node : Place). OnWay c.args.sys.now c.args.budgets.now c.args.start node (set c.up.budgets c.in-Part.q c.in_ok-budgets-in-Part.field-0)) (next c)
-    (way_goes_on c.args.sys.now c.parts-parts.ensures.system c.args.budgets.now c.args.start c.requires.kept c.in-Part.q c.up.budgets (here c) c.in_ok-budgets-in-Part.field-0 c.in_ok-budgets-in-Part.ensures.assigned c.in_ok-budgets-in-Part.ensures.pass)
+    subst (λ (node : Place). OnWay c.args.sys.now c.args.budgets.now c.args.start node
+    (set c.up.budgets c.in-Part.q c.in_ok-budgets-in-Part.field-0)) (next c)
+    (way_goes_on c.args.sys.now c.parts-parts.ensures.system c.args.budgets.now c.args.start c.requires.kept c.in-Part.q
+    c.up.budgets (here c) c.in_ok-budgets-in-Part.field-0 c.in_ok-budgets-in-Part.ensures.assigned
+    c.in_ok-budgets-in-Part.ensures.pass)

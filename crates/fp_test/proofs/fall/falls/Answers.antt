@@ -10,17 +10,33 @@ pub loop-last-preserved : goal.loop-last-preserved
 loop-last-preserved g c =
     let T : List SporadicTask = sporadic_tasks c.args.tasks.now in
     let above : ℕ → ℕ → Bool = ranks_above c.args.sched T in
-    let same : room_of (task_at T c.args.i) ≡ (get_or c.args.tasks.now c.args.i c.index-tasks-i.result).deadline - (get_or c.args.tasks.now c.args.i c.index-tasks-i.result).jitter = room-is c.args.tasks.now c.args.i c.index-tasks-i.result c.requires.i_named in
+    let same : room_of (task_at T c.args.i)
+    ≡ (get_or c.args.tasks.now c.args.i c.index-tasks-i.result).deadline
+    - (get_or c.args.tasks.now c.args.i c.index-tasks-i.result).jitter
+    = room-is c.args.tasks.now c.args.i c.index-tasks-i.result c.requires.i_named in
     let laws = g.met.S.Supply.laws c.args.s.now in
-    let later : c.loop-last.last < c.next_fall-last.result = fall_later above T (g.S.Supply.bound c.args.s.now) laws.never_falls c.args.i c.loop-last.last c.next_fall-last.result c.requires.no_hit c.loop-last.invariant.some_slots (omega (arith, same, ap (λ (z : Task). z.deadline - z.jitter) c.index-tasks-i.is)) c.next_fall-last.ensures in
-    subst (λ (xs : List ℕ). FallsTo above T (g.S.Supply.bound c.args.s.now) c.args.i xs c.next_fall-last.result) (sym c.in_ok-push-2.ensures.items)
-    (falls_more above T (g.S.Supply.bound c.args.s.now) c.args.i c.loop-last.falls.items c.loop-last.last c.next_fall-last.result c.loop-last.invariant c.next_fall-last.ensures later)
+    let later : c.loop-last.last < c.next_fall-last.result
+    = fall_later above T (g.S.Supply.bound c.args.s.now) laws.never_falls c.args.i c.loop-last.last
+    c.next_fall-last.result c.requires.no_hit c.loop-last.invariant.some_slots
+    (omega (arith, same, ap (λ (z : Task). z.deadline - z.jitter) c.index-tasks-i.is))
+    c.next_fall-last.ensures in
+    subst (λ (xs : List ℕ). FallsTo above T (g.S.Supply.bound c.args.s.now) c.args.i xs c.next_fall-last.result)
+    (sym c.in_ok-push-2.ensures.items)
+    (falls_more above T (g.S.Supply.bound c.args.s.now) c.args.i c.loop-last.falls.items c.loop-last.last
+    c.next_fall-last.result c.loop-last.invariant c.next_fall-last.ensures later)
 
 pub loop-last-smaller : goal.loop-last-smaller
 loop-last-smaller g c =
     let T : List SporadicTask = sporadic_tasks c.args.tasks.now in
     let above : ℕ → ℕ → Bool = ranks_above c.args.sched T in
-    let same : room_of (task_at T c.args.i) ≡ (get_or c.args.tasks.now c.args.i c.index-tasks-i.result).deadline - (get_or c.args.tasks.now c.args.i c.index-tasks-i.result).jitter = room-is c.args.tasks.now c.args.i c.index-tasks-i.result c.requires.i_named in
+    let same : room_of (task_at T c.args.i)
+    ≡ (get_or c.args.tasks.now c.args.i c.index-tasks-i.result).deadline
+    - (get_or c.args.tasks.now c.args.i c.index-tasks-i.result).jitter
+    = room-is c.args.tasks.now c.args.i c.index-tasks-i.result c.requires.i_named in
     let laws = g.met.S.Supply.laws c.args.s.now in
-    let later : c.loop-last.last < c.next_fall-last.result = fall_later above T (g.S.Supply.bound c.args.s.now) laws.never_falls c.args.i c.loop-last.last c.next_fall-last.result c.requires.no_hit c.loop-last.invariant.some_slots (omega (arith, same, ap (λ (z : Task). z.deadline - z.jitter) c.index-tasks-i.is)) c.next_fall-last.ensures in
+    let later : c.loop-last.last < c.next_fall-last.result
+    = fall_later above T (g.S.Supply.bound c.args.s.now) laws.never_falls c.args.i c.loop-last.last
+    c.next_fall-last.result c.requires.no_hit c.loop-last.invariant.some_slots
+    (omega (arith, same, ap (λ (z : Task). z.deadline - z.jitter) c.index-tasks-i.is))
+    c.next_fall-last.ensures in
     omega (arith, later)

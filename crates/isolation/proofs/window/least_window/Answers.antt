@@ -5,7 +5,13 @@ use Rattle.isolation.proofs.Least.{TooFewBelow, few_first, few_more}
 use Rattle.isolation.proofs.window.least_window.Goals as goal
 
 pub loop-last-init : goal.loop-last-init
-loop-last-init c = subst (λ (bs : List ℕ). TooFewBelow (tie_of c.args.ties) c.args.sys.now c.args.plan.now c.args.core c.args.v (budget_at bs c.args.v)) (sym c.budgets.ensures) (few_first (tie_of c.args.ties) c.args.sys.now c.args.plan.now c.args.core c.args.v c.requires.is_part c.requires.on_core)
+loop-last-init c =
+    subst (λ (bs : List ℕ). TooFewBelow (tie_of c.args.ties) c.args.sys.now c.args.plan.now c.args.core c.args.v
+    (budget_at bs c.args.v)) (sym c.budgets.ensures) (few_first (tie_of c.args.ties) c.args.sys.now c.args.plan.now
+    c.args.core c.args.v c.requires.is_part c.requires.on_core)
 
 pub loop-last-preserved : goal.loop-last-preserved
-loop-last-preserved c = subst (λ (z : ℕ). TooFewBelow (tie_of c.args.ties) c.args.sys.now c.args.plan.now c.args.core c.args.v z) (sym c.asked_in-needed.ensures) (few_more (tie_of c.args.ties) c.args.sys.now c.args.plan.now c.args.core c.args.v c.requires.plan c.loop-last.last c.loop-last.invariant)
+loop-last-preserved c =
+    subst (λ (z : ℕ). TooFewBelow (tie_of c.args.ties) c.args.sys.now c.args.plan.now c.args.core c.args.v z)
+    (sym c.asked_in-needed.ensures) (few_more (tie_of c.args.ties) c.args.sys.now c.args.plan.now c.args.core c.args.v
+    c.requires.plan c.loop-last.last c.loop-last.invariant)

@@ -10,8 +10,17 @@ use Rattle.least_budget.proofs.level_test.test.Goals as goal
 
 pub returns-in-Edf-clause-foretells : goal.returns-in-Edf-clause-foretells
 returns-in-Edf-clause-foretells g c =
-    subst (λ (sched : Sched). Foretells (g.S.Supply.conforms c.args.s.now) (before_of sched (sporadic_tasks c.args.tasks.now)) (sporadic_tasks c.args.tasks.now) c.test_windows.result) (sym c.in-Edf.is)
-    (tested_foretells Edf (sporadic_tasks c.args.tasks.now) (are_constrained c.args.tasks.now) (g.met.S.Supply.laws c.args.s.now) c.test_windows.result c.test_windows.ensures)
+    subst (λ (sched : Sched). Foretells (g.S.Supply.conforms c.args.s.now)
+    (before_of sched (sporadic_tasks c.args.tasks.now)) (sporadic_tasks c.args.tasks.now) c.test_windows.result)
+    (sym c.in-Edf.is)
+    (tested_foretells Edf (sporadic_tasks c.args.tasks.now) (are_constrained c.args.tasks.now)
+    (g.met.S.Supply.laws c.args.s.now) c.test_windows.result c.test_windows.ensures)
 
 pub returns-in_default : goal.returns-in_default
-returns-in_default g c = record { exact = c.test_tasks.ensures; foretells = tested_foretells c.args.sched (sporadic_tasks c.args.tasks.now) (are_constrained c.args.tasks.now) (g.met.S.Supply.laws c.args.s.now) c.test_tasks.result c.test_tasks.ensures }
+returns-in_default g c =
+    record {
+      exact = c.test_tasks.ensures;
+      foretells =
+          tested_foretells c.args.sched (sporadic_tasks c.args.tasks.now) (are_constrained c.args.tasks.now)
+          (g.met.S.Supply.laws c.args.s.now) c.test_tasks.result c.test_tasks.ensures;
+    }

@@ -5,4 +5,6 @@ use Rattle.slot_model.specs.Bound.{IsHit}
 use Rattle.least_budget.proofs.level_test.test_tasks_in.Given as goal
 
 abbrev pub invariant-loop-i : goal.invariant-loop-i
-invariant-loop-i g l = (k : ℕ) → k < l.i → (t : ℕ) × IsHit (ranks_above l.sched (sporadic_tasks l.tasks)) (sporadic_tasks l.tasks) (g.S.Supply.bound l.s) k t
+invariant-loop-i g l =
+    (k : ℕ) → k < l.i
+    → (t : ℕ) × IsHit (ranks_above l.sched (sporadic_tasks l.tasks)) (sporadic_tasks l.tasks) (g.S.Supply.bound l.s) k t

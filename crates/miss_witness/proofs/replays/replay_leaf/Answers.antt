@@ -13,26 +13,46 @@ use Rattle.miss_witness.proofs.replays.replay_leaf.Goals as goal
 use Rattle.miss_witness.proofs.replays.replay_leaf.Goals.{After-period}
 
 pub witness-witness-requires-clause-some_budget : goal.witness-witness-requires-clause-some_budget
-witness-witness-requires-clause-some_budget c = let some = (admitted_in_period c.args.sys.now c.parts.ensures.system c.args.plan.now c.requires.admitted c.args.q c.requires.is_part).0 in omega (arith, some, ap (λ (bs : List ℕ). get_or bs c.args.q 0) c.budgets-budgets.ensures)
+witness-witness-requires-clause-some_budget c =
+    let some
+    = (admitted_in_period c.args.sys.now c.parts.ensures.system c.args.plan.now c.requires.admitted c.args.q
+    c.requires.is_part).0 in
+    omega (arith, some, ap (λ (bs : List ℕ). get_or bs c.args.q 0) c.budgets-budgets.ensures)
 
 -- what is read of the leaf before its witness is made
-read : (c : After-period) → LeafRead c.args.sys.now c.args.plan.now c.args.q c.sched.result (sporadic_tasks (take c.unwrap-count.result c.tasks_of.new.into)) c.period.result (get_or c.budgets-budgets.result.now c.args.q 0)
+read : (c : After-period)
+    → LeafRead c.args.sys.now c.args.plan.now c.args.q c.sched.result
+    (sporadic_tasks (take c.unwrap-count.result c.tasks_of.new.into)) c.period.result
+    (get_or c.budgets-budgets.result.now c.args.q 0)
 read c =
-    let here : c.index-parts-q.result ≡ part_at c.args.sys.now c.args.q = part_here c.args.sys.now c.parts.result.now c.args.q c.index-parts-q.result c.parts.ensures.parts (omega (arith, c.requires.is_part, ap (λ (ps : List PartView). length ps) c.parts.ensures.parts)) c.index-parts-q.is in
+    let here : c.index-parts-q.result ≡ part_at c.args.sys.now c.args.q
+    = part_here c.args.sys.now c.parts.result.now c.args.q c.index-parts-q.result c.parts.ensures.parts
+    (omega (arith, c.requires.is_part, ap (λ (ps : List PartView). length ps) c.parts.ensures.parts))
+    c.index-parts-q.is in
     record {
       sched_is = c.sched.ensures ∙ ap (λ (p : PartView). p.sched) here;
-      tasks_are = tasks_read c.args.sys.now c.budgets-budgets.result.now (Part c.args.q) c.tasks_of.new.into _ c.unwrap-count.result c.unwrap-count.ensures c.tasks_of.ensures.tasks ∙ leaf_tasks c.args.sys.now c.budgets-budgets.result.now c.args.q (and_parts _ _ c.requires.computed).1;
+      tasks_are =
+          tasks_read c.args.sys.now c.budgets-budgets.result.now (Part c.args.q) c.tasks_of.new.into _
+          c.unwrap-count.result c.unwrap-count.ensures c.tasks_of.ensures.tasks
+          ∙ leaf_tasks c.args.sys.now c.budgets-budgets.result.now c.args.q (and_parts _ _ c.requires.computed).1;
       period_is = c.period.ensures ∙ ap (λ (p : PartView). p.period) here;
       least_is = ap (λ (bs : List ℕ). get_or bs c.args.q 0) c.budgets-budgets.ensures;
     }
 
 pub witness-witness-requires-clause-falls_short : goal.witness-witness-requires-clause-falls_short
-witness-witness-requires-clause-falls_short c = none_smaller c.sched.result _ c.period.result _ (read_least c.args.sys.now c.parts.ensures.system c.args.plan.now c.requires.admitted c.args.q c.requires.is_part c.requires.computed c.sched.result _ c.period.result _ (read (goal.at.witness-witness-requires-clause-falls_short c).After-period))
+witness-witness-requires-clause-falls_short c =
+    none_smaller c.sched.result _ c.period.result _ (read_least c.args.sys.now c.parts.ensures.system c.args.plan.now
+    c.requires.admitted c.args.q c.requires.is_part c.requires.computed c.sched.result _ c.period.result _
+    (read (goal.at.witness-witness-requires-clause-falls_short c).After-period))
 
 pub returns : goal.returns
 returns c =
     let tasks : List SporadicTask = sporadic_tasks (take c.unwrap-count.result c.tasks_of.new.into) in
     let sched : c.sched-2.result ≡ c.sched.result = c.sched-2.ensures ∙ sym c.sched.ensures in
     let period : c.period-2.result ≡ c.period.result = c.period-2.ensures ∙ sym c.period.ensures in
-    read_replay c.args.sys.now c.args.plan.now c.args.q c.sched.result tasks c.period.result _ (read (goal.at.returns c).After-period) c.witness-witness.result c.in_ok-miss.miss c.witness-witness.ensures.defeat
-    (subst (λ (z : Sched). IsReplayed z tasks c.period.result c.witness-witness.result c.in_ok-miss.miss) sched (subst (λ (z : ℕ). IsReplayed c.sched-2.result tasks z c.witness-witness.result c.in_ok-miss.miss) period c.in_ok-miss.ensures))
+    read_replay c.args.sys.now c.args.plan.now c.args.q c.sched.result tasks c.period.result _
+    (read (goal.at.returns c).After-period) c.witness-witness.result c.in_ok-miss.miss
+    c.witness-witness.ensures.defeat
+    (subst (λ (z : Sched). IsReplayed z tasks c.period.result c.witness-witness.result c.in_ok-miss.miss) sched
+    (subst (λ (z : ℕ). IsReplayed c.sched-2.result tasks z c.witness-witness.result c.in_ok-miss.miss) period
+    c.in_ok-miss.ensures))

@@ -10,20 +10,35 @@ use Rattle.miss_witness.proofs.replays.seen_miss.Goals as goal
 pub first_miss-requires-clause-released : goal.first_miss-requires-clause-released
 first_miss-requires-clause-released c =
     let T = sporadic_tasks c.args.tasks.now in
-    let runs : RunsDefeat c.args.sched T c.args.period c.args.defeat.now c.deref-3.result.now (run_of c.deref-4.result.now) =
-    runs_over c.args.sched T c.args.period c.args.defeat.now c.in-Some.slots c.in-Some.ensures.0 c.in_ok-jobs.jobs.items c.deref.result.now c.deref-3.result.now c.in_ok-windows.windows.items c.deref-2.result.now c.in_ok-spans.spans.items c.deref-4.result.now
-    c.in_ok-jobs.ensures.exact c.deref.ensures.value c.deref-3.ensures.value c.deref-2.ensures.value c.deref-4.ensures.value c.in_ok-windows.ensures.follows c.in_ok-spans.ensures.first in
-    run_holds_released c.args.sched T c.args.period c.args.defeat.now c.deref-3.result.now (run_of c.deref-4.result.now) runs
+    let runs : RunsDefeat c.args.sched T c.args.period c.args.defeat.now c.deref-3.result.now
+    (run_of c.deref-4.result.now)
+    =
+    runs_over c.args.sched T c.args.period c.args.defeat.now c.in-Some.slots c.in-Some.ensures.0 c.in_ok-jobs.jobs.items
+    c.deref.result.now c.deref-3.result.now c.in_ok-windows.windows.items c.deref-2.result.now
+    c.in_ok-spans.spans.items c.deref-4.result.now
+    c.in_ok-jobs.ensures.exact c.deref.ensures.value c.deref-3.ensures.value c.deref-2.ensures.value
+    c.deref-4.ensures.value c.in_ok-windows.ensures.follows c.in_ok-spans.ensures.first in
+    run_holds_released c.args.sched T c.args.period c.args.defeat.now c.deref-3.result.now (run_of c.deref-4.result.now)
+    runs
 
 pub first_miss-requires-clause-spans : goal.first_miss-requires-clause-spans
 first_miss-requires-clause-spans c =
-    let long : length (run_of c.in_ok-spans.spans.items) ≡ c.in-Some.slots = c.in_ok-spans.ensures.first.long ∙ slots-long c.deref-2.result.now c.in-Some.slots in
-    subst (λ (z : List Span). AreSpans z (length (run_of z))) (sym c.deref-4.ensures.value) (subst (AreSpans c.in_ok-spans.spans.items) (sym long) c.in_ok-spans.ensures.spans)
+    let long : length (run_of c.in_ok-spans.spans.items) ≡ c.in-Some.slots
+    = c.in_ok-spans.ensures.first.long ∙ slots-long c.deref-2.result.now c.in-Some.slots in
+    subst (λ (z : List Span). AreSpans z (length (run_of z))) (sym c.deref-4.ensures.value)
+    (subst (AreSpans c.in_ok-spans.spans.items) (sym long) c.in_ok-spans.ensures.spans)
 
 pub returns : goal.returns
 returns c =
     let T = sporadic_tasks c.args.tasks.now in
-    let runs : RunsDefeat c.args.sched T c.args.period c.args.defeat.now c.deref-3.result.now (run_of c.deref-4.result.now) =
-    runs_over c.args.sched T c.args.period c.args.defeat.now c.in-Some.slots c.in-Some.ensures.0 c.in_ok-jobs.jobs.items c.deref.result.now c.deref-3.result.now c.in_ok-windows.windows.items c.deref-2.result.now c.in_ok-spans.spans.items c.deref-4.result.now
-    c.in_ok-jobs.ensures.exact c.deref.ensures.value c.deref-3.ensures.value c.deref-2.ensures.value c.deref-4.ensures.value c.in_ok-windows.ensures.follows c.in_ok-spans.ensures.first in
-    IfOk-weaker c.first_miss.result _ _ (λ miss first. run_is_replay c.args.sched T c.args.period c.args.defeat.now (omega (arith, c.in-Some.ensures.0, c.in-Some.ensures.1)) c.requires.misses c.deref-3.result.now (run_of c.deref-4.result.now) runs miss first) c.first_miss.ensures
+    let runs : RunsDefeat c.args.sched T c.args.period c.args.defeat.now c.deref-3.result.now
+    (run_of c.deref-4.result.now)
+    =
+    runs_over c.args.sched T c.args.period c.args.defeat.now c.in-Some.slots c.in-Some.ensures.0 c.in_ok-jobs.jobs.items
+    c.deref.result.now c.deref-3.result.now c.in_ok-windows.windows.items c.deref-2.result.now
+    c.in_ok-spans.spans.items c.deref-4.result.now
+    c.in_ok-jobs.ensures.exact c.deref.ensures.value c.deref-3.ensures.value c.deref-2.ensures.value
+    c.deref-4.ensures.value c.in_ok-windows.ensures.follows c.in_ok-spans.ensures.first in
+    IfOk-weaker c.first_miss.result _ _ (λ miss first. run_is_replay c.args.sched T c.args.period c.args.defeat.now
+    (omega (arith, c.in-Some.ensures.0, c.in-Some.ensures.1)) c.requires.misses c.deref-3.result.now
+    (run_of c.deref-4.result.now) runs miss first) c.first_miss.ensures

@@ -19,5 +19,8 @@ returns-in-None-clause-fault c text has =
 
 pub returns-in-Some-clause-version : goal.returns-in-Some-clause-version
 returns-in-Some-clause-version c text has =
-    let all = rw c.in-Ok-true.field-0-test at (c.in-Ok-true.ensures.read text [] has) in
-    (row_read c.advance.new.self, ap header_version (sym c.row.ensures) ∙ (sym c.header_version.ensures ∙ c.in-Some.is), all)
+    let all = rw c.in-Ok-true.field-0-test at (c.in-Ok-true.ensures.read text [] has) in (
+      row_read c.advance.new.self,
+      ap header_version (sym c.row.ensures) ∙ (sym c.header_version.ensures ∙ c.in-Some.is),
+      all,
+    )

@@ -19,5 +19,8 @@ returns-then-not-is_wake_header-clause-fault c text has =
 
 pub returns-clause-header : goal.returns-clause-header
 returns-clause-header c text has =
-    let all = rw c.in-Ok-true.field-0-test at (c.in-Ok-true.ensures.read text [] has) in
-    (row_read c.advance.new.self, ap is_wake_header (sym c.row.ensures) ∙ (sym c.is_wake_header.ensures ∙ c.if-not-is_wake_header.false), all)
+    let all = rw c.in-Ok-true.field-0-test at (c.in-Ok-true.ensures.read text [] has) in (
+      row_read c.advance.new.self,
+      ap is_wake_header (sym c.row.ensures) ∙ (sym c.is_wake_header.ensures ∙ c.if-not-is_wake_header.false),
+      all,
+    )

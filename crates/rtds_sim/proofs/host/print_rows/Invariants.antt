@@ -6,5 +6,8 @@ use Rattle.rtds_sim.proofs.host.print_rows.Given as goal
 
 -- the events of the rows so far
 abbrev pub invariant-loop-i : goal.invariant-loop-i
-invariant-loop-i g l = (x : ℕ) → ((i : ℕ) → i < l.from → (row_at l.rows i).at < x) → ((i : ℕ) → l.from ≤ i → i < l.until → (row_at l.rows i).at ≡ x) → ((i : ℕ) → l.until ≤ i → i < length l.rows → x < (row_at l.rows i).at) →
+invariant-loop-i g l =
+    (x : ℕ) → ((i : ℕ) → i < l.from → (row_at l.rows i).at < x)
+    → ((i : ℕ) → l.from ≤ i → i < l.until → (row_at l.rows i).at ≡ x)
+    → ((i : ℕ) → l.until ≤ i → i < length l.rows → x < (row_at l.rows i).at) →
     Took g.T.EventTaker.has_taken l.initial.events l.events (gathered (row_event_at l.sys l.rows x) l.i)

@@ -11,4 +11,6 @@ returns-in-Ok-clause-only c runs is =
     let made = c.in-Ok.ensures.text in
     let (its, are, events) = made.trace in
     made.told ∙ (ap (λ es. text_of (printed_rows c.args.sys.now es)) events
-    ∙ ap (λ (rs : List (List (Option ℕ))). text_of (printed_rows c.args.sys.now (printed c.args.sys.now c.args.wakes.now rs c.args.slots))) (rtds_unique c.args.sys.now c.args.plan.now c.args.wakes.now c.args.slots its runs are is))
+    ∙ ap (λ (rs : List (List (Option ℕ))). text_of
+    (printed_rows c.args.sys.now (printed c.args.sys.now c.args.wakes.now rs c.args.slots)))
+    (rtds_unique c.args.sys.now c.args.plan.now c.args.wakes.now c.args.slots its runs are is))

@@ -22,10 +22,15 @@ returns c =
     let (told, trace, took) = c.in_ok-tell_run.ensures.trace in
     let (runs, is, events) = trace in
     let made : HasPrinted sys Microseconds [] c.in_ok-rows.rows = c.in_ok-rows.ensures in
-    let all : HasPrinted sys Microseconds told c.tell_run.new.events = as_from sys Microseconds told c.in_ok-rows.rows c.tell_run.new.events made.sys_is made.unit_is (took c.in_ok-rows.rows [] (own sys Microseconds [] c.in_ok-rows.rows made)) in
+    let all : HasPrinted sys Microseconds told c.tell_run.new.events
+    = as_from sys Microseconds told c.in_ok-rows.rows c.tell_run.new.events made.sys_is made.unit_is
+    (took c.in_ok-rows.rows [] (own sys Microseconds [] c.in_ok-rows.rows made)) in
     let whole : unit_for told ≡ Microseconds = ap unit_for events ∙ whole_unit sys rows runs n in
-    let printed : HasPrinted sys (unit_for told) told c.tell_run.new.events = subst (λ (u : Unit). HasPrinted sys u told c.tell_run.new.events) (sym whole) all in
-    let kept : Kept sys told = subst (λ (es : List Event). Kept sys es) (sym events) (printed_keeps sys system rows c.requires.workload budgets n runs is (omega (arith, c.requires.short))) in
+    let printed : HasPrinted sys (unit_for told) told c.tell_run.new.events
+    = subst (λ (u : Unit). HasPrinted sys u told c.tell_run.new.events) (sym whole) all in
+    let kept : Kept sys told
+    = subst (λ (es : List Event). Kept sys es) (sym events)
+    (printed_keeps sys system rows c.requires.workload budgets n runs is (omega (arith, c.requires.short))) in
     record {
       text = record {
         events = told;
@@ -33,7 +38,13 @@ returns c =
         kept = kept;
         told = c.finish.ensures.text sys told printed;
         reads_back = c.finish.ensures.reads_back sys told printed system kept;
-        none_over = subst (λ (es : List Event). NoneOver sys budgets es) (sym events) (none_over sys system budgets c.requires.plan rows c.requires.workload n runs is (omega (arith, c.requires.short)));
-        satisfied = λ served. subst (λ (es : List Event). Satisfied sys budgets es) (sym events) (satisfied sys system budgets c.requires.plan rows c.requires.workload n runs is (omega (arith, c.requires.short)) served);
+        none_over =
+            subst (λ (es : List Event). NoneOver sys budgets es) (sym events)
+            (none_over sys system budgets c.requires.plan rows c.requires.workload n runs is
+            (omega (arith, c.requires.short)));
+        satisfied =
+            λ served. subst (λ (es : List Event). Satisfied sys budgets es) (sym events)
+            (satisfied sys system budgets c.requires.plan rows c.requires.workload n runs is
+            (omega (arith, c.requires.short)) served);
       };
     }

@@ -8,4 +8,6 @@ pub returns-clause-trace : goal.returns-clause-trace
 returns-clause-trace c =
     let (told, trace, took) = c.in_ok-tell_run.ensures.trace in
     let none = c.new-events.ensures.items in
-    subst (IsRtdsTrace c.args.sys.now c.args.plan.now c.args.wakes.now c.args.slots) (sym (took c.new-events.result [] (sym (append-nil c.new-events.result.items)) ∙ ap (λ (es : List Event). es ++ told) none)) trace
+    subst (IsRtdsTrace c.args.sys.now c.args.plan.now c.args.wakes.now c.args.slots)
+    (sym (took c.new-events.result [] (sym (append-nil c.new-events.result.items))
+    ∙ ap (λ (es : List Event). es ++ told) none)) trace

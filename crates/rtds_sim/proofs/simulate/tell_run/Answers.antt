@@ -29,8 +29,19 @@ pub loop-host-init : goal.loop-host-init
 loop-host-init g c =
     let made = c.new-host.ensures in
     record {
-      stands = standing_start c.args.sys.now c.args.wakes.now (rtds_run c.args.sys.now c.args.plan.now c.args.wakes.now c.args.slots) c.new-host.result made.time made.taken made.ready.room made.accounts made.holders;
-      told = took_same g.T.EventTaker.has_taken c.args.events.now c.args.events.now [] (printed_below c.args.sys.now c.args.wakes.now (rtds_run c.args.sys.now c.args.plan.now c.args.wakes.now c.args.slots) c.new-host.result.time) (sym (ap (printed_below c.args.sys.now c.args.wakes.now (rtds_run c.args.sys.now c.args.plan.now c.args.wakes.now c.args.slots)) made.time ∙ printed_below-zero c.args.sys.now c.args.wakes.now (rtds_run c.args.sys.now c.args.plan.now c.args.wakes.now c.args.slots))) (took_nothing g.T.EventTaker.has_taken c.args.events.now);
+      stands =
+          standing_start c.args.sys.now c.args.wakes.now
+          (rtds_run c.args.sys.now c.args.plan.now c.args.wakes.now c.args.slots) c.new-host.result made.time made.taken
+          made.ready.room made.accounts made.holders;
+      told =
+          took_same g.T.EventTaker.has_taken c.args.events.now c.args.events.now []
+          (printed_below c.args.sys.now c.args.wakes.now
+          (rtds_run c.args.sys.now c.args.plan.now c.args.wakes.now c.args.slots) c.new-host.result.time)
+          (sym (ap (printed_below c.args.sys.now c.args.wakes.now
+          (rtds_run c.args.sys.now c.args.plan.now c.args.wakes.now c.args.slots)) made.time
+          ∙ printed_below-zero c.args.sys.now c.args.wakes.now
+          (rtds_run c.args.sys.now c.args.plan.now c.args.wakes.now c.args.slots)))
+          (took_nothing g.T.EventTaker.has_taken c.args.events.now);
       ready = made.ready;
       members = c.in_ok-members.ensures;
       ends = made.ends;
@@ -49,11 +60,17 @@ stop_blocked-requires-clause-awake g c same d l =
     let is : RtdsRun sys budgets rows c.args.slots runs = rtds_run-is sys budgets rows c.args.slots in
     let took = c.take_rows.ensures in
     let host = c.take_rows.new.self in
-    let visit : Visit sys rows runs host = visit_rows sys c.new-host.ensures.system rows c.requires.workload runs c.loop-host.host host c.loop-host.invariant.stands took.time took.holders took.ready.room took.in_rows took.later took.now took.no_more took.accounts in
+    let visit : Visit sys rows runs host
+    = visit_rows sys c.new-host.ensures.system rows c.requires.workload runs c.loop-host.host host
+    c.loop-host.invariant.stands took.time took.holders took.ready.room took.in_rows took.later took.now
+    took.no_more took.accounts in
     let within : host.time < c.args.slots = omega (arith, took.time, c.loop-host-test.true) in
-    let before : AreBefore rows host.taken host.time = subst (λ (k : ℕ). AreBefore rows k host.time) same (subst (AreBefore rows c.loop-host.host.taken) (sym took.time) c.loop-host.invariant.stands.before) in
+    let before : AreBefore rows host.taken host.time
+    = subst (λ (k : ℕ). AreBefore rows k host.time) same
+    (subst (AreBefore rows c.loop-host.host.taken) (sym took.time) c.loop-host.invariant.stands.before) in
     gives_up_at sys rows runs host visit.taken visit.are visit.room visit.holders_are d l
-    ∙ none_blocks sys budgets rows c.args.slots d (run_at runs d) (is.cores d l) host.time host.taken before visit.taken within
+    ∙ none_blocks sys budgets rows c.args.slots d (run_at runs d) (is.cores d l) host.time host.taken before visit.taken
+    within
 
 -- a switch stands at its slot
 at_slots : (rows : List Row) (runs : List (List (Option ℕ))) → AreAtSlots (switch_at rows runs)
@@ -65,14 +82,28 @@ at_slots rows runs y c event is = go (switch_to (holder_left rows (run_at runs c
 
 pub run_on-requires-clause-ends : goal.run_on-requires-clause-ends
 run_on-requires-clause-ends g c = record {
-  bound = λ d l. subst (λ (xs : List Account). IsEnd c.args.sys.now xs d (number_at c.stop_blocked.new.self.ends d)) (sym c.stop_blocked.ensures.accounts)
-      (subst (λ (ns : List ℕ). IsEnd c.args.sys.now c.take_rows.new.self.accounts d (number_at ns d)) (sym c.stop_blocked.ensures.ends) (c.take_rows.ensures.ends.bound d l));
-  later = λ d l. omega (arith, c.take_rows.ensures.ends.later d l, ap (λ (ns : List ℕ). number_at ns d) c.stop_blocked.ensures.ends, c.stop_blocked.ensures.time);
+  bound =
+      λ d l. subst (λ (xs : List Account). IsEnd c.args.sys.now xs d (number_at c.stop_blocked.new.self.ends d))
+      (sym c.stop_blocked.ensures.accounts)
+      (subst (λ (ns : List ℕ). IsEnd c.args.sys.now c.take_rows.new.self.accounts d (number_at ns d))
+      (sym c.stop_blocked.ensures.ends) (c.take_rows.ensures.ends.bound d l));
+  later =
+      λ d l. omega (
+        arith,
+        c.take_rows.ensures.ends.later d l,
+        ap (λ (ns : List ℕ). number_at ns d) c.stop_blocked.ensures.ends,
+        c.stop_blocked.ensures.time,
+      );
 }
 
 -- the slot up to which the cores run is a later one
-next_later : (rows : List Row) (host other : Host) (slots next : ℕ) → AreBefore rows host.taken (suc host.time) → other.time ≡ host.time → other.taken ≡ host.taken → host.time < slots → (other.time < slots → (other.taken < length rows → other.time < (row_at rows other.taken).at) → other.time < next) → host.time < next
-next_later rows host other slots next taken t k l later = omega (arith, t, later (omega (arith, t, l)) (λ m. omega (arith, t, k, taken.to_come other.taken (omega (arith, k)) m)))
+next_later : (rows : List Row) (host other : Host) (slots next : ℕ) → AreBefore rows host.taken (suc host.time)
+    → other.time ≡ host.time → other.taken ≡ host.taken → host.time < slots
+    → (other.time < slots → (other.taken < length rows → other.time < (row_at rows other.taken).at) → other.time < next)
+    → host.time < next
+next_later rows host other slots next taken t k l later =
+    omega
+    (arith, t, later (omega (arith, t, l)) (λ m. omega (arith, t, k, taken.to_come other.taken (omega (arith, k)) m)))
 
 pub run_on-requires-clause-later : goal.run_on-requires-clause-later
 run_on-requires-clause-later g c =
@@ -80,8 +111,17 @@ run_on-requires-clause-later g c =
     let rows = c.args.wakes.now in
     let runs = rtds_run sys c.args.plan.now rows c.args.slots in
     let took = c.take_rows.ensures in
-    let visit : Visit sys rows runs c.take_rows.new.self = visit_rows sys c.new-host.ensures.system rows c.requires.workload runs c.loop-host.host c.take_rows.new.self c.loop-host.invariant.stands took.time took.holders took.ready.room took.in_rows took.later took.now took.no_more took.accounts in
-    omega (arith, c.stop_blocked.ensures.time, next_later rows c.take_rows.new.self c.stop_blocked.new.self c.args.slots c.next_row-next.result visit.taken c.stop_blocked.ensures.time c.stop_blocked.ensures.taken (omega (arith, took.time, c.loop-host-test.true)) c.next_row-next.ensures.later)
+    let visit : Visit sys rows runs c.take_rows.new.self
+    = visit_rows sys c.new-host.ensures.system rows c.requires.workload runs c.loop-host.host c.take_rows.new.self
+    c.loop-host.invariant.stands took.time took.holders took.ready.room took.in_rows took.later took.now
+    took.no_more took.accounts in
+    omega (
+      arith,
+      c.stop_blocked.ensures.time,
+      next_later rows c.take_rows.new.self c.stop_blocked.new.self c.args.slots c.next_row-next.result visit.taken
+          c.stop_blocked.ensures.time c.stop_blocked.ensures.taken
+          (omega (arith, took.time, c.loop-host-test.true)) c.next_row-next.ensures.later,
+    )
 
 pub loop-host-smaller : goal.loop-host-smaller
 loop-host-smaller g c =
@@ -89,9 +129,16 @@ loop-host-smaller g c =
     let rows = c.args.wakes.now in
     let runs = rtds_run sys c.args.plan.now rows c.args.slots in
     let took = c.take_rows.ensures in
-    let visit : Visit sys rows runs c.take_rows.new.self = visit_rows sys c.new-host.ensures.system rows c.requires.workload runs c.loop-host.host c.take_rows.new.self c.loop-host.invariant.stands took.time took.holders took.ready.room took.in_rows took.later took.now took.no_more took.accounts in
-    let later : c.take_rows.new.self.time < c.next_row-next.result = next_later rows c.take_rows.new.self c.stop_blocked.new.self c.args.slots c.next_row-next.result visit.taken c.stop_blocked.ensures.time c.stop_blocked.ensures.taken (omega (arith, took.time, c.loop-host-test.true)) c.next_row-next.ensures.later in
-    omega (arith, later, took.time, c.in_ok-run_on.ensures.time, c.next_row-next.ensures.in_slots, c.loop-host-test.true)
+    let visit : Visit sys rows runs c.take_rows.new.self
+    = visit_rows sys c.new-host.ensures.system rows c.requires.workload runs c.loop-host.host c.take_rows.new.self
+    c.loop-host.invariant.stands took.time took.holders took.ready.room took.in_rows took.later took.now
+    took.no_more took.accounts in
+    let later : c.take_rows.new.self.time < c.next_row-next.result
+    = next_later rows c.take_rows.new.self c.stop_blocked.new.self c.args.slots c.next_row-next.result visit.taken
+    c.stop_blocked.ensures.time c.stop_blocked.ensures.taken (omega (arith, took.time, c.loop-host-test.true))
+    c.next_row-next.ensures.later in
+    omega
+    (arith, later, took.time, c.in_ok-run_on.ensures.time, c.next_row-next.ensures.in_slots, c.loop-host-test.true)
 
 pub loop-host-preserved : goal.loop-host-preserved
 loop-host-preserved g c =
@@ -99,7 +146,10 @@ loop-host-preserved g c =
     let rows = c.args.wakes.now in
     let runs = rtds_run sys c.args.plan.now rows c.args.slots in
     let took = c.take_rows.ensures in
-    let visit : Visit sys rows runs c.take_rows.new.self = visit_rows sys c.new-host.ensures.system rows c.requires.workload runs c.loop-host.host c.take_rows.new.self c.loop-host.invariant.stands took.time took.holders took.ready.room took.in_rows took.later took.now took.no_more took.accounts in
+    let visit : Visit sys rows runs c.take_rows.new.self
+    = visit_rows sys c.new-host.ensures.system rows c.requires.workload runs c.loop-host.host c.take_rows.new.self
+    c.loop-host.invariant.stands took.time took.holders took.ready.room took.in_rows took.later took.now
+    took.no_more took.accounts in
     let budgets = c.args.plan.now in
     let is : RtdsRun sys budgets rows c.args.slots runs = rtds_run-is sys budgets rows c.args.slots in
     let took_host : Host = c.take_rows.new.self in
@@ -110,53 +160,92 @@ loop-host-preserved g c =
     let cores : ℕ = length sys.cores in
     let time : left.time ≡ x = c.stop_blocked.ensures.time in
     let taken : left.taken ≡ k = c.stop_blocked.ensures.taken in
-    let later : x < to = next_later rows took_host left c.args.slots to visit.taken time taken (omega (arith, took.time, c.loop-host-test.true)) c.next_row-next.ensures.later in
-    let rows_later : RowsFrom rows k to = λ i a b. omega (arith, ordered sys rows c.requires.workload k i a b, c.next_row-next.ensures.row (omega (arith, taken, a, b)), ap (λ (z : ℕ). (row_at rows z).at) taken) in
+    let later : x < to
+    = next_later rows took_host left c.args.slots to visit.taken time taken
+    (omega (arith, took.time, c.loop-host-test.true)) c.next_row-next.ensures.later in
+    let rows_later : RowsFrom rows k to
+    = λ i a b. omega (
+      arith,
+      ordered sys rows c.requires.workload k i a b,
+      c.next_row-next.ensures.row (omega (arith, taken, a, b)),
+      ap (λ (z : ℕ). (row_at rows z).at) taken,
+    ) in
     -- each core has run
-    let has_run : (d : ℕ) → d < cores → HasRun sys rows d (run_at runs d) x to k c.run_on.new.self [] (list_at c.run_on.new.switches.lists.items d) = λ d l.
-    subst (λ (y : ℕ). HasRun sys rows d (run_at runs d) y to k c.run_on.new.self [] (list_at c.run_on.new.switches.lists.items d)) time
+    let has_run : (d : ℕ) → d < cores
+    → HasRun sys rows d (run_at runs d) x to k c.run_on.new.self [] (list_at c.run_on.new.switches.lists.items d)
+    = λ d l.
+    subst (λ (y : ℕ). HasRun sys rows d (run_at runs d) y to k c.run_on.new.self []
+    (list_at c.run_on.new.switches.lists.items d)) time
     (c.in_ok-run_on.ensures.run rows c.args.slots k d (run_at runs d) l (record {
       is_run = is.cores d l;
       fits = c.next_row-next.ensures.in_slots;
       taken = subst (λ (y : ℕ). AreBefore rows k (suc y)) (sym time) visit.taken;
       rows_later = rows_later;
-      are = λ v lv child. subst (λ (xs : List Account). IsAccount sys rows (run_at runs d) v left.time k (account_at xs v)) (sym c.stop_blocked.ensures.accounts)
+      are =
+          λ v lv child. subst
+          (λ (xs : List Account). IsAccount sys rows (run_at runs d) v left.time k (account_at xs v))
+          (sym c.stop_blocked.ensures.accounts)
           (subst (λ (y : ℕ). IsAccount sys rows (run_at runs d) v y k (account_at took_host.accounts v)) (sym time)
-          (subst (λ (e : ℕ). IsAccount sys rows (run_at runs e) v x k (account_at took_host.accounts v)) (child_core sys d v child) (visit.are.each v lv)));
-      holder_is = c.in_ok-stop_blocked.ensures.left d l ∙ (left_is sys rows runs took_host visit.taken visit.are visit.room visit.holders_are d l ∙ ap (holder_left rows (run_at runs d)) (sym time));
+          (subst (λ (e : ℕ). IsAccount sys rows (run_at runs e) v x k (account_at took_host.accounts v))
+          (child_core sys d v child) (visit.are.each v lv)));
+      holder_is =
+          c.in_ok-stop_blocked.ensures.left d l
+          ∙ (left_is sys rows runs took_host visit.taken visit.are visit.room visit.holders_are d l
+          ∙ ap (holder_left rows (run_at runs d)) (sym time));
     })) in
     let has_taken = g.T.EventTaker.has_taken in
     let stops : List Event = gathered (stop_of took_host) cores in
     let of_rows : List Event = gathered (row_event_at sys rows x) (length rows) in
     let f : ℕ → ℕ → Option Event = switch_at rows runs in
     let switches : List Event = told_by f x cores (to - x) in
-    let rows_told : Took has_taken c.stop_blocked.new.events c.print_rows.new.events of_rows = c.in_ok-print_rows.ensures x
+    let rows_told : Took has_taken c.stop_blocked.new.events c.print_rows.new.events of_rows
+    = c.in_ok-print_rows.ensures x
     (λ i l. omega (arith, took.time, c.loop-host.invariant.stands.before.past i l))
     (λ i a b. took.now i a (omega (arith, b, taken)) ∙ sym took.time)
     (λ i a b. omega (arith, visit.taken.to_come i (omega (arith, a, taken)) b)) in
     let each_told : length c.run_on.new.switches.lists.items ≡ cores = c.in_ok-run_on.ensures.one_each in
     let switches_told : Took has_taken c.print_rows.new.events c.tell.new.events switches =
     subst (λ (m : ℕ). Took has_taken c.print_rows.new.events c.tell.new.events (told_by f x m (to - x))) each_told
-    (c.in_ok-tell.ensures.told f x (to - x) (at_slots rows runs) (λ d l. (has_run d (omega (arith, l, each_told))).told_is)) in
-    let at_first : stops ++ of_rows ≡ gathered (stop_at rows runs x) cores ++ of_rows = ap (λ (es : List Event). es ++ of_rows) (stops_are sys rows runs took_host visit.taken visit.are visit.room visit.holders_are) in
+    (c.in_ok-tell.ensures.told f x (to - x) (at_slots rows runs)
+    (λ d l. (has_run d (omega (arith, l, each_told))).told_is)) in
+    let at_first : stops ++ of_rows ≡ gathered (stop_at rows runs x) cores ++ of_rows
+    = ap (λ (es : List Event). es ++ of_rows)
+    (stops_are sys rows runs took_host visit.taken visit.are visit.room visit.holders_are) in
     let some : x + suc (to - x - 1) ≡ to = omega (arith, later) in
     let some' : suc (to - x - 1) ≡ to - x = omega (arith, later) in
-    let printed_to : printed_below sys rows runs to ≡ printed_below sys rows runs x ++ ((stops ++ of_rows) ++ switches) =
+    let printed_to : printed_below sys rows runs to
+    ≡ printed_below sys rows runs x ++ ((stops ++ of_rows) ++ switches)
+    =
     ap (printed_below sys rows runs) (sym some)
-    ∙ (printed_on sys budgets rows c.args.slots runs is x k to c.next_row-next.ensures.in_slots visit.taken rows_later (to - x - 1) (omega (arith, some))
-    ∙ (ap (λ (m : ℕ). printed_below sys rows runs x ++ ((gathered (stop_at rows runs x) cores ++ of_rows) ++ told_by f x cores m)) some'
+    ∙ (printed_on sys budgets rows c.args.slots runs is x k to c.next_row-next.ensures.in_slots visit.taken rows_later
+    (to - x - 1) (omega (arith, some))
+    ∙ (ap (λ (m : ℕ). printed_below sys rows runs x
+    ++ ((gathered (stop_at rows runs x) cores ++ of_rows) ++ told_by f x cores m)) some'
     ∙ ap (λ (es : List Event). printed_below sys rows runs x ++ (es ++ switches)) (sym at_first))) in
-    let told_first : Took has_taken c.loop-host.events c.print_rows.new.events (stops ++ of_rows) = took_more has_taken c.loop-host.events c.stop_blocked.new.events c.print_rows.new.events stops of_rows c.in_ok-stop_blocked.ensures.events rows_told in
-    let told_all : Took has_taken c.loop-host.events c.tell.new.events ((stops ++ of_rows) ++ switches) = took_more has_taken c.loop-host.events c.print_rows.new.events c.tell.new.events (stops ++ of_rows) switches told_first switches_told in
+    let told_first : Took has_taken c.loop-host.events c.print_rows.new.events (stops ++ of_rows)
+    = took_more has_taken c.loop-host.events c.stop_blocked.new.events c.print_rows.new.events stops of_rows
+    c.in_ok-stop_blocked.ensures.events rows_told in
+    let told_all : Took has_taken c.loop-host.events c.tell.new.events ((stops ++ of_rows) ++ switches)
+    = took_more has_taken c.loop-host.events c.print_rows.new.events c.tell.new.events (stops ++ of_rows) switches
+    told_first switches_told in
     record {
-      stands = standing_next sys c.new-host.ensures.system rows c.requires.workload runs x k took_host.accounts visit.are visit.taken to later rows_later c.run_on.new.self
+      stands =
+          standing_next sys c.new-host.ensures.system rows c.requires.workload runs x k took_host.accounts visit.are
+          visit.taken to later rows_later c.run_on.new.self
           c.in_ok-run_on.ensures.time (c.in_ok-run_on.ensures.taken ∙ taken) c.in_ok-run_on.ensures.ready.room
           (λ d l. (has_run d l).are) (λ d l. (has_run d l).holder_is)
-          (λ v l none. c.in_ok-run_on.ensures.others v l none ∙ ap (λ (xs : List Account). account_at xs v) c.stop_blocked.ensures.accounts);
-      told = subst (λ (y : ℕ). Took has_taken c.args.events.now c.tell.new.events (printed_below sys rows runs y)) (sym c.in_ok-run_on.ensures.time)
-          (took_same has_taken c.args.events.now c.tell.new.events (printed_below sys rows runs x ++ ((stops ++ of_rows) ++ switches)) (printed_below sys rows runs to) (sym printed_to)
-          (took_more has_taken c.args.events.now c.loop-host.events c.tell.new.events (printed_below sys rows runs x) ((stops ++ of_rows) ++ switches)
-          (subst (λ (y : ℕ). Took has_taken c.args.events.now c.loop-host.events (printed_below sys rows runs y)) (sym took.time) c.loop-host.invariant.told) told_all));
+          (λ v l none. c.in_ok-run_on.ensures.others v l none
+          ∙ ap (λ (xs : List Account). account_at xs v) c.stop_blocked.ensures.accounts);
+      told =
+          subst (λ (y : ℕ). Took has_taken c.args.events.now c.tell.new.events (printed_below sys rows runs y))
+          (sym c.in_ok-run_on.ensures.time)
+          (took_same has_taken c.args.events.now c.tell.new.events
+          (printed_below sys rows runs x ++ ((stops ++ of_rows) ++ switches)) (printed_below sys rows runs to)
+          (sym printed_to)
+          (took_more has_taken c.args.events.now c.loop-host.events c.tell.new.events (printed_below sys rows runs x)
+          ((stops ++ of_rows) ++ switches)
+          (subst (λ (y : ℕ). Took has_taken c.args.events.now c.loop-host.events (printed_below sys rows runs y))
+          (sym took.time) c.loop-host.invariant.told) told_all));
       ready = c.in_ok-run_on.ensures.ready;
       members = c.in_ok-run_on.ensures.members;
       ends = c.in_ok-run_on.ensures.ends;
@@ -170,11 +259,16 @@ returns-clause-trace g c =
     let sys = c.args.sys.now in
     let rows = c.args.wakes.now in
     let runs = rtds_run sys c.args.plan.now rows c.args.slots in
-    let end : c.loop-host.host.time ≡ c.args.slots = omega (arith, c.loop-host.invariant.in_slots, c.loop-host-test.false) in
+    let end : c.loop-host.host.time ≡ c.args.slots
+    = omega (arith, c.loop-host.invariant.in_slots, c.loop-host-test.false) in
     let below : List Event = printed_below sys rows runs c.args.slots in
-    let ended : Took g.T.EventTaker.has_taken c.loop-host.events c.take.new.self (on_at 0 c.args.slots End ∷ []) = subst (λ (m : ℕ). Took g.T.EventTaker.has_taken c.loop-host.events c.take.new.self (record { at = m; core = 0; what = End } ∷ [])) c.moment_of_slot.ensures c.in_ok-take.ensures in (
+    let ended : Took g.T.EventTaker.has_taken c.loop-host.events c.take.new.self (on_at 0 c.args.slots End ∷ [])
+    = subst (λ (m : ℕ). Took g.T.EventTaker.has_taken c.loop-host.events c.take.new.self
+    (record { at = m; core = 0; what = End } ∷ [])) c.moment_of_slot.ensures c.in_ok-take.ensures in (
       printed sys rows runs c.args.slots,
       (runs, rtds_run-is sys c.args.plan.now rows c.args.slots, refl),
-      took_more g.T.EventTaker.has_taken c.args.events.now c.loop-host.events c.take.new.self below (on_at 0 c.args.slots End ∷ [])
-          (subst (λ (y : ℕ). Took g.T.EventTaker.has_taken c.args.events.now c.loop-host.events (printed_below sys rows runs y)) end c.loop-host.invariant.told) ended,
+      took_more g.T.EventTaker.has_taken c.args.events.now c.loop-host.events c.take.new.self below
+          (on_at 0 c.args.slots End ∷ [])
+          (subst (λ (y : ℕ). Took g.T.EventTaker.has_taken c.args.events.now c.loop-host.events
+          (printed_below sys rows runs y)) end c.loop-host.invariant.told) ended,
     )

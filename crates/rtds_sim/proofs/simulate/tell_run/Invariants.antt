@@ -12,7 +12,8 @@ use Rattle.rtds_sim.proofs.simulate.tell_run.Given as goal
 abbrev pub invariant-loop-host : goal.invariant-loop-host
 invariant-loop-host g l = record {
   stands : Standing l.sys l.wakes (rtds_run l.sys l.plan l.wakes l.slots) l.host;
-  told : Took g.T.EventTaker.has_taken l.initial.events l.events (printed_below l.sys l.wakes (rtds_run l.sys l.plan l.wakes l.slots) l.host.time);
+  told : Took g.T.EventTaker.has_taken l.initial.events l.events
+      (printed_below l.sys l.wakes (rtds_run l.sys l.plan l.wakes l.slots) l.host.time);
   ready : IsReady l.sys l.plan l.host;
   members : AreMembers l.sys l.members;
   ends : AreEnds l.sys l.host;

@@ -11,7 +11,8 @@ invariant-loop-core g l = record {
   room : length l.told ≡ 64;
   room_too : length l.moments ≡ 64;
   moments : AreMoments l.lists l.told l.moments (length l.lists);
-  so_far : (f : ℕ → ℕ → Option Event) (x m : ℕ) → AreAtSlots f → AreTold f x m (length l.lists) l.lists → ToldSome g.T.EventTaker.has_taken l.initial.events l.events f x m (length l.lists) l.told;
+  so_far : (f : ℕ → ℕ → Option Event) (x m : ℕ) → AreAtSlots f → AreTold f x m (length l.lists) l.lists
+      → ToldSome g.T.EventTaker.has_taken l.initial.events l.events f x m (length l.lists) l.told;
 }
 
 abbrev pub decreases-loop-core : goal.decreases-loop-core

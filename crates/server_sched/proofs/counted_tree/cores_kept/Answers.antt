@@ -9,19 +9,32 @@ use Rattle.server_sched.proofs.KeptNodes.{no_core_kept, one_core_kept}
 use Rattle.server_sched.proofs.counted_tree.cores_kept.Goals as goal
 
 pub loop-c-init : goal.loop-c-init
-loop-c-init c = subst (λ (v : List KeptView). AreCoresKept c.args.sys.now c.args.budgets.now c.args.slots (window_lists c.args.given.now) 0 v) (sym c.new-kept.ensures.items) (no_core_kept c.args.sys.now c.args.budgets.now c.args.slots (window_lists c.args.given.now))
+loop-c-init c =
+    subst (λ (v : List KeptView). AreCoresKept c.args.sys.now c.args.budgets.now c.args.slots
+    (window_lists c.args.given.now) 0 v) (sym c.new-kept.ensures.items)
+    (no_core_kept c.args.sys.now c.args.budgets.now c.args.slots (window_lists c.args.given.now))
 
 pub server_kept-requires-clause-windows : goal.server_kept-requires-clause-windows
 server_kept-requires-clause-windows c =
-    let l : c.loop-c.c < length c.args.sys.now.cores = omega (arith, c.loop-c-test.true, ap (λ (cs : List CoreView). length cs) c.cores.ensures.cores) in
-    let read = list_read c.args.given.now c.loop-c.c (length c.args.sys.now.cores) c.index-given-c.result c.deref.result.now c.requires.windows.one_each l c.index-given-c.is c.deref.ensures.value in
+    let l : c.loop-c.c < length c.args.sys.now.cores
+    = omega (arith, c.loop-c-test.true, ap (λ (cs : List CoreView). length cs) c.cores.ensures.cores) in
+    let read
+    = list_read c.args.given.now c.loop-c.c (length c.args.sys.now.cores) c.index-given-c.result c.deref.result.now
+    c.requires.windows.one_each l c.index-given-c.is c.deref.ensures.value in
     subst (λ (w : List Window). AreWindows w c.args.slots) (sym read) (c.requires.windows.windows c.loop-c.c l)
 
 pub loop-c-preserved : goal.loop-c-preserved
 loop-c-preserved c =
-    let l : c.loop-c.c < length c.args.sys.now.cores = omega (arith, c.loop-c-test.true, ap (λ (cs : List CoreView). length cs) c.cores.ensures.cores) in
-    let sys = c.args.sys.now in let budgets = c.args.budgets.now in let n = c.args.slots in let given = window_lists c.args.given.now in
-    let read = list_read c.args.given.now c.loop-c.c (length sys.cores) c.index-given-c.result c.deref.result.now c.requires.windows.one_each l c.index-given-c.is c.deref.ensures.value in
-    let new : IsServerKept sys budgets n (Core c.loop-c.c) (slots_of (given_at given c.loop-c.c) n) c.in_ok-core.core = subst (λ (w : List Window). IsServerKept sys budgets n (Core c.loop-c.c) (slots_of w n) c.in_ok-core.core) read c.in_ok-core.ensures in
+    let l : c.loop-c.c < length c.args.sys.now.cores
+    = omega (arith, c.loop-c-test.true, ap (λ (cs : List CoreView). length cs) c.cores.ensures.cores) in
+    let sys = c.args.sys.now in
+    let budgets = c.args.budgets.now in let n = c.args.slots in let given = window_lists c.args.given.now in
+    let read
+    = list_read c.args.given.now c.loop-c.c (length sys.cores) c.index-given-c.result c.deref.result.now
+    c.requires.windows.one_each l c.index-given-c.is c.deref.ensures.value in
+    let new : IsServerKept sys budgets n (Core c.loop-c.c) (slots_of (given_at given c.loop-c.c) n) c.in_ok-core.core
+    = subst (λ (w : List Window). IsServerKept sys budgets n (Core c.loop-c.c) (slots_of w n) c.in_ok-core.core)
+    read c.in_ok-core.ensures in
     subst (λ (m : ℕ). AreCoresKept sys budgets n given m c.push.new.self.items) (sym (add-one c.loop-c.c))
-    (subst (λ (v : List KeptView). AreCoresKept sys budgets n given (suc c.loop-c.c) v) (sym c.in_ok-push.ensures.items) (one_core_kept sys budgets n given c.loop-c.c c.loop-c.kept.items c.loop-c.invariant c.in_ok-core.core new))
+    (subst (λ (v : List KeptView). AreCoresKept sys budgets n given (suc c.loop-c.c) v) (sym c.in_ok-push.ensures.items)
+    (one_core_kept sys budgets n given c.loop-c.c c.loop-c.kept.items c.loop-c.invariant c.in_ok-core.core new))

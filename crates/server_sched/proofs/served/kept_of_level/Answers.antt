@@ -13,5 +13,9 @@ counts_with given released missed first = record { given = given; released = rel
 pub returns : goal.returns
 returns c = λ sched h end next.
     let level = c.args.level in
-    served sched (sporadic_tasks c.args.tasks.now) (are_constrained c.args.tasks.now) c.args.given.now level h end next _ c.slots_given.result c.whole_tally-tally.result.missed c.whole_tally-tally.result.first (c.slots_given.ensures level.slots c.requires.windows)
-    (c.whole_tally-tally.ensures sched (slots_of c.args.given.now level.slots) h end next) refl (ap (λ (first : Option Miss). counts_with c.slots_given.result level.come.released c.whole_tally-tally.result.missed first) c.told_of.ensures)
+    served sched (sporadic_tasks c.args.tasks.now) (are_constrained c.args.tasks.now) c.args.given.now level h end next
+    _ c.slots_given.result c.whole_tally-tally.result.missed c.whole_tally-tally.result.first
+    (c.slots_given.ensures level.slots c.requires.windows)
+    (c.whole_tally-tally.ensures sched (slots_of c.args.given.now level.slots) h end next) refl
+    (ap (λ (first : Option Miss). counts_with c.slots_given.result level.come.released
+    c.whole_tally-tally.result.missed first) c.told_of.ensures)

@@ -26,16 +26,27 @@ loop-at-preserved c =
     }
 
 -- the level at its end
-ended : (c : goal.After-kept_of_level) → IsUnderway c.args.sched (sporadic_tasks c.args.tasks.now) (slots_of c.args.given.now c.pass_to-2.new.self.slots) c.pass_to-2.new.self
-ended c = subst (λ (n : ℕ). IsUnderway c.args.sched (sporadic_tasks c.args.tasks.now) (slots_of c.args.given.now n) c.pass_to-2.new.self) (sym c.pass_to-2.ensures.slots) c.pass_to-2.ensures.state
+ended : (c : goal.After-kept_of_level)
+    → IsUnderway c.args.sched (sporadic_tasks c.args.tasks.now) (slots_of c.args.given.now c.pass_to-2.new.self.slots)
+    c.pass_to-2.new.self
+ended c =
+    subst (λ (n : ℕ). IsUnderway c.args.sched (sporadic_tasks c.args.tasks.now) (slots_of c.args.given.now n)
+    c.pass_to-2.new.self) (sym c.pass_to-2.ensures.slots) c.pass_to-2.ensures.state
 
 pub returns : goal.returns
 returns c =
     let p = c.pass_to-2.ensures in
-    subst (λ (n : ℕ). IsServed c.args.sched (sporadic_tasks c.args.tasks.now) c.args.given.now n c.kept_of_level.result) (p.slots ∙ c.loop-at.invariant.slots)
-    (c.kept_of_level.ensures c.args.sched (ended c) (p.end (omega arith) ∙ sym p.slots) (omega (arith, p.next (omega arith), p.slots)))
+    subst (λ (n : ℕ). IsServed c.args.sched (sporadic_tasks c.args.tasks.now) c.args.given.now n c.kept_of_level.result)
+    (p.slots ∙ c.loop-at.invariant.slots)
+    (c.kept_of_level.ensures c.args.sched (ended c) (p.end (omega arith) ∙ sym p.slots)
+    (omega (arith, p.next (omega arith), p.slots)))
 
 pub kept_of_level-requires-clause-missed : goal.kept_of_level-requires-clause-missed
 kept_of_level-requires-clause-missed c =
     let p = c.pass_to-2.ensures in
-    omega (arith, (sound_in c.args.sched (sporadic_tasks c.args.tasks.now) (slots_of c.args.given.now c.loop-at.level.slots) c.args.slots c.pass_to-2.new.self p.state (p.slots ∙ c.loop-at.invariant.slots)).missed, c.requires.few)
+    omega (
+      arith,
+      (sound_in c.args.sched (sporadic_tasks c.args.tasks.now) (slots_of c.args.given.now c.loop-at.level.slots)
+          c.args.slots c.pass_to-2.new.self p.state (p.slots ∙ c.loop-at.invariant.slots)).missed,
+      c.requires.few,
+    )

@@ -12,8 +12,14 @@ use Rattle.server_sched.proofs.serving.renew.Goals as goal
 use Rattle.server_sched.proofs.serving.renew.Goals.{then-servers-i, else-servers-i}
 
 -- no server releases before the least next release of the first so many
-least_more : (servers : List Server) (i old new : ℕ) → ((k : ℕ) → k < i → old ≤ (server_at servers k).next) → new ≤ old → new ≤ (server_at servers i).next → (k : ℕ) → k < i + 1 → new ≤ (server_at servers k).next
-least_more servers i old new h a b k l = elim (cases_eq k i) [ inl e ↦ omega (arith, b, ap (λ (z : ℕ). (server_at servers z).next) e) | inr ne ↦ omega (arith, a, h k (omega arith)) ]
+least_more : (servers : List Server) (i old new : ℕ) → ((k : ℕ) → k < i → old ≤ (server_at servers k).next) → new ≤ old
+    → new ≤ (server_at servers i).next → (k : ℕ) → k < i + 1 → new ≤ (server_at servers k).next
+least_more servers i old new h a b k l =
+    elim (cases_eq k i) [
+      | inl e ↦
+          omega (arith, b, ap (λ (z : ℕ). (server_at servers z).next) e)
+      | inr ne ↦ omega (arith, a, h k (omega arith))
+    ]
 
 pub loop-i-preserved : goal.loop-i-preserved
 loop-i-preserved c =
@@ -27,22 +33,47 @@ loop-i-preserved c =
     let l : i < length T = omega (arith, in_tasks, length-map c.args.tasks.now sporadic_task) in
     elim c.if-servers-i.branch [
       | then-servers-i w ↦
-          let read : task_at T i ≡ sporadic_task w.index-tasks-i.result = task_at-read c.args.tasks.now i w.index-tasks-i.result in_tasks w.index-tasks-i.is in
+          let read : task_at T i ≡ sporadic_task w.index-tasks-i.result
+          = task_at-read c.args.tasks.now i w.index-tasks-i.result in_tasks w.index-tasks-i.is in
           let new : Server = w.renewed.result in
           let made = w.renewed.ensures in
-          let period : new.next ≡ x + (task_at T i).period = made.next ∙ ap (λ (t : SporadicTask). x + t.period) (sym read) in
-          let keyed : IsKeyed c.args.sched (task_at T i) i new = subst (λ (t : SporadicTask). IsKeyed c.args.sched t i new) (sym read) made.keyed in
+          let period : new.next ≡ x + (task_at T i).period
+          = made.next ∙ ap (λ (t : SporadicTask). x + t.period) (sym read) in
+          let keyed : IsKeyed c.args.sched (task_at T i) i new
+          = subst (λ (t : SporadicTask). IsKeyed c.args.sched t i new) (sym read) made.keyed in
           record {
             released = λ n run m holds h.
                 let before = old.released n run m holds h in
-                let more : AtMoment c.args.sched T (synchronous T 0 n) run x (i + 1) (c.loop-i.come.released + 1) (set servers i new)
-                = one_renewed c.args.sched T (are_constrained c.args.tasks.now) c.requires.tasks n run x i c.loop-i.come.released servers new m holds l (omega (arith, c.requires.in_time, ap (λ (t : SporadicTask). t.period) read, w.index-tasks-i.result.in_limit)) (omega (arith, w.if-servers-i.true)) (made.left ∙ ap (λ (t : SporadicTask). t.work) (sym read)) period made.place keyed before.0 in
-                let now : AtMoment c.args.sched T (synchronous T 0 n) run x (i + 1) c.if-servers-i.come.released c.if-servers-i.servers
-                = subst (λ (s : List Server). AtMoment c.args.sched T (synchronous T 0 n) run x (i + 1) c.if-servers-i.come.released s) (sym w.servers-is)
-                (subst (λ (r : ℕ). AtMoment c.args.sched T (synchronous T 0 n) run x (i + 1) r (set servers i new)) (sym (ap (λ v. v.released) w.come-is)) more) in
-                (now, omega (arith, c.min.ensures, before.1, ap (λ v. v.next) w.come-is, (now.past i (omega arith) l).from));
+                let more : AtMoment c.args.sched T (synchronous T 0 n) run x (i + 1) (c.loop-i.come.released + 1)
+                (set servers i new)
+                =
+                one_renewed c.args.sched T (are_constrained c.args.tasks.now) c.requires.tasks n run x i
+                c.loop-i.come.released servers new m holds l (omega (
+                  arith,
+                  c.requires.in_time,
+                  ap (λ (t : SporadicTask). t.period) read,
+                  w.index-tasks-i.result.in_limit,
+                )) (omega (arith, w.if-servers-i.true))
+                (made.left ∙ ap (λ (t : SporadicTask). t.work) (sym read)) period made.place keyed before.0 in
+                let now : AtMoment c.args.sched T (synchronous T 0 n) run x (i + 1) c.if-servers-i.come.released
+                c.if-servers-i.servers
+                =
+                subst (λ (s : List Server). AtMoment c.args.sched T (synchronous T 0 n) run x (i + 1)
+                c.if-servers-i.come.released s) (sym w.servers-is)
+                (subst (λ (r : ℕ). AtMoment c.args.sched T (synchronous T 0 n) run x (i + 1) r (set servers i new))
+                (sym (ap (λ v. v.released) w.come-is)) more) in (
+                  now,
+                  omega
+                      (arith, c.min.ensures, before.1, ap (λ v. v.next) w.come-is, (now.past i (omega arith) l).from),
+                );
             least = λ k a. least_more c.if-servers-i.servers i c.loop-i.come.next c.min.result
-                (λ q b. omega (arith, old.least q b, ap (λ (s : List Server). (server_at s q).next) w.servers-is, ap (λ (s : Server). s.next) (get_or-set_other servers i q new no_server (λ e. omega arith)))) (omega (arith, c.min.ensures, ap (λ v. v.next) w.come-is)) (omega (arith, c.min.ensures)) k a;
+                (λ q b. omega (
+                  arith,
+                  old.least q b,
+                  ap (λ (s : List Server). (server_at s q).next) w.servers-is,
+                  ap (λ (s : Server). s.next) (get_or-set_other servers i q new no_server (λ e. omega arith)),
+                ))
+                (omega (arith, c.min.ensures, ap (λ v. v.next) w.come-is)) (omega (arith, c.min.ensures)) k a;
             few = omega (arith, old.few, ap (λ v. v.released) w.come-is);
             long = omega (arith, old.long, c.loop-i.auto.servers, c.if-servers-i.auto.servers);
           }
@@ -51,13 +82,23 @@ loop-i-preserved c =
             released = λ n run m holds h.
                 let before = old.released n run m holds h in
                 let more : AtMoment c.args.sched T (synchronous T 0 n) run x (i + 1) c.loop-i.come.released servers
-                = one_waiting c.args.sched T n run x i c.loop-i.come.released servers l (λ e. w.if-servers-i.false e) before.0 in
-                let now : AtMoment c.args.sched T (synchronous T 0 n) run x (i + 1) c.if-servers-i.come.released c.if-servers-i.servers
-                = subst (λ (s : List Server). AtMoment c.args.sched T (synchronous T 0 n) run x (i + 1) c.if-servers-i.come.released s) (sym w.servers-is)
-                (subst (λ (r : ℕ). AtMoment c.args.sched T (synchronous T 0 n) run x (i + 1) r servers) (sym (ap (λ v. v.released) w.come-is)) more) in
-                (now, omega (arith, c.min.ensures, before.1, ap (λ v. v.next) w.come-is, (now.past i (omega arith) l).from));
+                =
+                one_waiting c.args.sched T n run x i c.loop-i.come.released servers l (λ e. w.if-servers-i.false e)
+                before.0 in
+                let now : AtMoment c.args.sched T (synchronous T 0 n) run x (i + 1) c.if-servers-i.come.released
+                c.if-servers-i.servers
+                =
+                subst (λ (s : List Server). AtMoment c.args.sched T (synchronous T 0 n) run x (i + 1)
+                c.if-servers-i.come.released s) (sym w.servers-is)
+                (subst (λ (r : ℕ). AtMoment c.args.sched T (synchronous T 0 n) run x (i + 1) r servers)
+                (sym (ap (λ v. v.released) w.come-is)) more) in (
+                  now,
+                  omega
+                      (arith, c.min.ensures, before.1, ap (λ v. v.next) w.come-is, (now.past i (omega arith) l).from),
+                );
             least = λ k a. least_more c.if-servers-i.servers i c.loop-i.come.next c.min.result
-                (λ q b. omega (arith, old.least q b, ap (λ (s : List Server). (server_at s q).next) w.servers-is)) (omega (arith, c.min.ensures, ap (λ v. v.next) w.come-is)) (omega (arith, c.min.ensures)) k a;
+                (λ q b. omega (arith, old.least q b, ap (λ (s : List Server). (server_at s q).next) w.servers-is))
+                (omega (arith, c.min.ensures, ap (λ v. v.next) w.come-is)) (omega (arith, c.min.ensures)) k a;
             few = omega (arith, old.few, ap (λ v. v.released) w.come-is);
             long = omega (arith, old.long, c.loop-i.auto.servers, c.if-servers-i.auto.servers);
           }
@@ -67,5 +108,14 @@ pub returns-clause-rest : goal.returns-clause-rest
 returns-clause-rest c = λ n run m holds h.
     let T = sporadic_tasks c.args.tasks.now in
     let i = c.loop-i.invariant in
-    let done = i.released n run m holds h in
-    (all_renewed c.args.sched T n run c.args.moment c.loop-i.i c.loop-i.come.released c.loop-i.come.next c.loop-i.servers m done.1 (omega (arith, c.loop-i-test.false, c.loop-i.auto.i-end, c.requires.one_each, length-map c.args.tasks.now sporadic_task)) i.least done.0, done.1)
+    let done = i.released n run m holds h in (
+      all_renewed c.args.sched T n run c.args.moment c.loop-i.i c.loop-i.come.released c.loop-i.come.next
+          c.loop-i.servers m done.1 (omega (
+            arith,
+            c.loop-i-test.false,
+            c.loop-i.auto.i-end,
+            c.requires.one_each,
+            length-map c.args.tasks.now sporadic_task,
+          )) i.least done.0,
+      done.1,
+    )

@@ -13,37 +13,69 @@ use Rattle.server_sched.proofs.SlotCounted.{one_core_counted}
 use Rattle.server_sched.proofs.slot_counts.core_counts.Goals as goal
 
 pub loop-c-init : goal.loop-c-init
-loop-c-init c = record { room = c.requires.room; counts = record { long = ap (λ (v : List Counts). length v) c.new-counts.ensures.items; each = λ k l. absurd (omega arith) } }
+loop-c-init c =
+    record {
+      room = c.requires.room;
+      counts =
+          record {
+            long = ap (λ (v : List Counts). length v) c.new-counts.ensures.items;
+            each = λ k l. absurd (omega arith);
+          };
+    }
 
 pub server_counts-requires-clause-holds : goal.server_counts-requires-clause-holds
 server_counts-requires-clause-holds c =
     let sys = c.args.sys.now in let budgets = c.args.budgets.now in let n = c.args.slots in let k = c.loop-c.c in
-    let l : k < length sys.cores = omega (arith, c.loop-c-test.true, ap (λ (cs : List PinnedCore). length cs) c.cores-c-end.ensures.cores) in
-    let own : c.deref.result.now ≡ get_or (slot_lists c.args.given.now) k [] = list_read c.args.given.now k (length sys.cores) c.index-given-c.result c.deref.result.now (length-map c.args.given.now (λ (s : Vec Bool Global). s.items) ∙ c.requires.one_each) l c.index-given-c.is c.deref.ensures.value in
+    let l : k < length sys.cores
+    = omega (arith, c.loop-c-test.true, ap (λ (cs : List PinnedCore). length cs) c.cores-c-end.ensures.cores) in
+    let own : c.deref.result.now ≡ get_or (slot_lists c.args.given.now) k []
+    = list_read c.args.given.now k (length sys.cores) c.index-given-c.result c.deref.result.now
+    (length-map c.args.given.now (λ (s : Vec Bool Global). s.items) ∙ c.requires.one_each) l c.index-given-c.is
+    c.deref.ensures.value in
     let jobs : List Job = server_jobs sys budgets (Core k) n in
     subst (λ (slots : List Bool). RunHolds jobs slots c.node_run-core_run.result.now) (sym own)
-    (subst (λ (run : List (Option ℕ)). RunHolds jobs (get_or (slot_lists c.args.given.now) k []) run) (sym c.node_run-core_run.ensures) (c.requires.holds k l))
+    (subst (λ (run : List (Option ℕ)). RunHolds jobs (get_or (slot_lists c.args.given.now) k []) run)
+    (sym c.node_run-core_run.ensures) (c.requires.holds k l))
 
 pub server_counts-requires-clause-few : goal.server_counts-requires-clause-few
-server_counts-requires-clause-few c = servers_in_reach c.args.sys.now c.args.budgets.now c.args.slots c.cores-c-end.ensures.system c.requires.short (Core c.loop-c.c)
+server_counts-requires-clause-few c =
+    servers_in_reach c.args.sys.now c.args.budgets.now c.args.slots c.cores-c-end.ensures.system c.requires.short
+    (Core c.loop-c.c)
 
 pub loop-c-preserved : goal.loop-c-preserved
 loop-c-preserved c =
     let sys = c.args.sys.now in let budgets = c.args.budgets.now in let n = c.args.slots in let k = c.loop-c.c in
-    let l : k < length sys.cores = omega (arith, c.loop-c-test.true, ap (λ (cs : List PinnedCore). length cs) c.cores-c-end.ensures.cores) in
-    let own : c.deref.result.now ≡ get_or (slot_lists c.args.given.now) k [] = list_read c.args.given.now k (length sys.cores) c.index-given-c.result c.deref.result.now (length-map c.args.given.now (λ (s : Vec Bool Global). s.items) ∙ c.requires.one_each) l c.index-given-c.is c.deref.ensures.value in
+    let l : k < length sys.cores
+    = omega (arith, c.loop-c-test.true, ap (λ (cs : List PinnedCore). length cs) c.cores-c-end.ensures.cores) in
+    let own : c.deref.result.now ≡ get_or (slot_lists c.args.given.now) k []
+    = list_read c.args.given.now k (length sys.cores) c.index-given-c.result c.deref.result.now
+    (length-map c.args.given.now (λ (s : Vec Bool Global). s.items) ∙ c.requires.one_each) l c.index-given-c.is
+    c.deref.ensures.value in
     let tasks = server_tasks sys budgets (Core k) in let jobs : List Job = server_jobs sys budgets (Core k) n in
     let new : Counts = c.in_ok-server_counts.field-0 in
     let counted : AreCounts tasks jobs (get_or (slot_lists c.args.given.now) k []) (run_at c.args.run.now.cores k) new
     = subst (λ (slots : List Bool). AreCounts tasks jobs slots (run_at c.args.run.now.cores k) new) own
-    (subst (λ (run : List (Option ℕ)). AreCounts tasks jobs c.deref.result.now run new) c.node_run-core_run.ensures c.in_ok-server_counts.ensures) in
+    (subst (λ (run : List (Option ℕ)). AreCounts tasks jobs c.deref.result.now run new) c.node_run-core_run.ensures
+    c.in_ok-server_counts.ensures) in
     record {
       room = omega (arith, c.loop-c.invariant.room, c.server_counts.auto.room);
-      counts = subst (λ (v : List Counts). AreCoreCounts sys budgets n (slot_lists c.args.given.now) c.args.run.now.cores (k + 1) v) (sym c.in_ok-push.ensures.items)
-          (one_core_counted sys budgets n (slot_lists c.args.given.now) c.args.run.now.cores k c.loop-c.counts.items c.loop-c.invariant.counts new counted);
+      counts =
+          subst (λ (v : List Counts). AreCoreCounts sys budgets n (slot_lists c.args.given.now) c.args.run.now.cores
+          (k + 1) v) (sym c.in_ok-push.ensures.items)
+          (one_core_counted sys budgets n (slot_lists c.args.given.now) c.args.run.now.cores k c.loop-c.counts.items
+          c.loop-c.invariant.counts new counted);
     }
 
 pub returns-clause-counts : goal.returns-clause-counts
 returns-clause-counts c =
-    subst (λ (m : ℕ). AreCoreCounts c.args.sys.now c.args.budgets.now c.args.slots (slot_lists c.args.given.now) c.args.run.now.cores m c.loop-c.counts.items)
-    (let e : c.loop-c.c ≡ length c.args.sys.now.cores = omega (arith, c.loop-c-test.false, c.loop-c.auto.c-end, ap (λ (cs : List PinnedCore). length cs) c.cores-c-end.ensures.cores) in e) c.loop-c.invariant.counts
+    subst (λ (m : ℕ). AreCoreCounts c.args.sys.now c.args.budgets.now c.args.slots (slot_lists c.args.given.now)
+    c.args.run.now.cores m c.loop-c.counts.items)
+    (
+    let e : c.loop-c.c ≡ length c.args.sys.now.cores
+    = omega (
+      arith,
+      c.loop-c-test.false,
+      c.loop-c.auto.c-end,
+      ap (λ (cs : List PinnedCore). length cs) c.cores-c-end.ensures.cores,
+    ) in
+    e) c.loop-c.invariant.counts

@@ -23,14 +23,24 @@ loop-i-preserved c =
     let l : i < length T = omega (arith, in_tasks, length-map c.args.tasks.now sporadic_task) in
     elim c.if-server-moment.branch [
       | then-server-moment+then-server-gt0 w ↦
-          let read : task_at T i ≡ sporadic_task w.index-tasks-i.result = task_at-read c.args.tasks.now i w.index-tasks-i.result in_tasks w.index-tasks-i.is in
+          let read : task_at T i ≡ sporadic_task w.index-tasks-i.result
+          = task_at-read c.args.tasks.now i w.index-tasks-i.result in_tasks w.index-tasks-i.is in
           let made = w.late_of-late.ensures in
           record {
             tallied = λ sched n run released m chosen h t.
-                subst (λ (v : Tally). Tallies T (synchronous T 0 n) run (is_late T (synchronous T 0 n) run x (i + 1)) v.missed v.first) (sym w.tally-is)
-                (one_late sched T (are_constrained c.args.tasks.now) c.requires.tasks n run x released c.args.servers.now m h i c.loop-i.tally.missed c.loop-i.tally.first w.late_of-late.result w.earlier.result l (omega (arith, w.if-server-moment.true)) (omega (arith, w.if-server-gt0.true)) made.place
+                subst (λ (v : Tally). Tallies T (synchronous T 0 n) run (is_late T (synchronous T 0 n) run x (i + 1))
+                v.missed v.first) (sym w.tally-is)
+                (one_late sched T (are_constrained c.args.tasks.now) c.requires.tasks n run x released
+                c.args.servers.now m h i c.loop-i.tally.missed c.loop-i.tally.first w.late_of-late.result
+                w.earlier.result l (omega (arith, w.if-server-moment.true)) (omega (arith, w.if-server-gt0.true))
+                made.place
                 (ap (λ (z : Miss). z.task) made.miss)
-                (omega (arith, ap (λ (z : Miss). z.release) made.miss, ap (λ (v : SporadicTask). v.period) read, w.if-server-moment.true))
+                (omega (
+                  arith,
+                  ap (λ (z : Miss). z.release) made.miss,
+                  ap (λ (v : SporadicTask). v.period) read,
+                  w.if-server-moment.true,
+                ))
                 (omega (arith, ap (λ (z : Miss). z.deadline) made.miss, w.if-server-moment.true))
                 (omega (arith, ap (λ (z : Miss). z.got) made.miss, ap (λ (v : SporadicTask). v.work) read))
                 (omega (arith, ap (λ (z : Miss). z.work) made.miss, ap (λ (v : SporadicTask). v.work) read))
@@ -40,8 +50,10 @@ loop-i-preserved c =
       | else-server-moment w ↦
           record {
             tallied = λ sched n run released m chosen h t.
-                subst (λ (v : Tally). Tallies T (synchronous T 0 n) run (is_late T (synchronous T 0 n) run x (i + 1)) v.missed v.first) (sym w.tally-is)
-                (one_in_time sched T (are_constrained c.args.tasks.now) c.requires.tasks n run x released c.args.servers.now m h i c.loop-i.tally.missed c.loop-i.tally.first
+                subst (λ (v : Tally). Tallies T (synchronous T 0 n) run (is_late T (synchronous T 0 n) run x (i + 1))
+                v.missed v.first) (sym w.tally-is)
+                (one_in_time sched T (are_constrained c.args.tasks.now) c.requires.tasks n run x released
+                c.args.servers.now m h i c.loop-i.tally.missed c.loop-i.tally.first
                 (λ e. elim w.else-server-moment.branch [
                   | else-server-moment-via-then-server-moment+else-server-gt0 v ↦ omega (arith, v.if-server-gt0.false)
                   | else-server-moment-via-else-server-moment v ↦ absurd (v.if-server-moment.false e)
@@ -58,10 +70,22 @@ no_best (Some b) none e t = absurd (true≢false (e ∙ ap not t))
 pub returns-then-is_none : goal.returns-then-is_none
 returns-then-is_none c = λ sched n run released m chosen h t.
     let T = sporadic_tasks c.args.tasks.now in
-    all_in_time sched T (are_constrained c.args.tasks.now) c.requires.tasks n run c.args.moment released c.args.servers.now m h (subst (IsChosen c.args.servers.now) (no_best c.args.best c.is_none.result c.is_none.ensures c.if-is_none.true) chosen) c.args.tally.missed c.args.tally.first (length T) (omega arith) t
+    all_in_time sched T (are_constrained c.args.tasks.now) c.requires.tasks n run c.args.moment released
+    c.args.servers.now m h (subst (IsChosen c.args.servers.now)
+    (no_best c.args.best c.is_none.result c.is_none.ensures c.if-is_none.true) chosen) c.args.tally.missed
+    c.args.tally.first (length T) (omega arith) t
 
 pub returns : goal.returns
 returns c = λ sched n run released m chosen h t.
     let T = sporadic_tasks c.args.tasks.now in
-    let all : c.loop-i.i ≡ length T = omega (arith, c.loop-i-test.false, c.loop-i.auto.i-end, c.requires.one_each, length-map c.args.tasks.now sporadic_task) in
-    subst (λ (p : ℕ). Tallies T (synchronous T 0 n) run (is_late T (synchronous T 0 n) run c.args.moment p) c.loop-i.tally.missed c.loop-i.tally.first) all (c.loop-i.invariant.tallied sched n run released m chosen h t)
+    let all : c.loop-i.i ≡ length T
+    = omega (
+      arith,
+      c.loop-i-test.false,
+      c.loop-i.auto.i-end,
+      c.requires.one_each,
+      length-map c.args.tasks.now sporadic_task,
+    ) in
+    subst (λ (p : ℕ). Tallies T (synchronous T 0 n) run (is_late T (synchronous T 0 n) run c.args.moment p)
+    c.loop-i.tally.missed c.loop-i.tally.first) all
+    (c.loop-i.invariant.tallied sched n run released m chosen h t)

@@ -24,7 +24,11 @@ pub returns : goal.returns
 returns c =
     let sys = c.args.sys.now in let q = c.args.q in
     let T : List SporadicTask = sporadic_tasks (take c.write_tasks-count.result c.write_tasks-count.new.room) in
-    let same : T ≡ own_tasks_at sys q = c.write_tasks-count.ensures.tasks ∙ leaf_tasks sys c.args.budgets.now q c.requires.leaf in
-    leaf_node_made sys c.args.slots q c.args.given.now c.in_ok-spans.spans.items T c.args.jobs.now c.sched_of-sched.result same c.sched_of-sched.ensures.sched c.in_ok-spans.ensures.spans c.in_ok-spans.ensures.first
+    let same : T ≡ own_tasks_at sys q
+    = c.write_tasks-count.ensures.tasks ∙ leaf_tasks sys c.args.budgets.now q c.requires.leaf in
+    leaf_node_made sys c.args.slots q c.args.given.now c.in_ok-spans.spans.items T c.args.jobs.now
+    c.sched_of-sched.result same c.sched_of-sched.ensures.sched c.in_ok-spans.ensures.spans
+    c.in_ok-spans.ensures.first
     (map (λ (s : Vec Window Global). s.items) c.new.result.items) c.in_ok-counts.counts
-    (subst (λ (ss : List Span). AreCounts T c.args.jobs.now (slots_of c.args.given.now c.args.slots) (run_of ss) c.in_ok-counts.counts) c.deref.ensures.value c.in_ok-counts.ensures)
+    (subst (λ (ss : List Span). AreCounts T c.args.jobs.now (slots_of c.args.given.now c.args.slots) (run_of ss)
+    c.in_ok-counts.counts) c.deref.ensures.value c.in_ok-counts.ensures)

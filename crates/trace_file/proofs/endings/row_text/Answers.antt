@@ -5,4 +5,6 @@ pub write-requires : goal.write-requires
 write-requires c = ([], c.new-rows.ensures, λ i l. absurd (omega arith))
 
 pub returns : goal.returns
-returns c = c.finish.ensures ((c.args.at.now ∷ c.args.core.now ∷ c.args.word.now ∷ c.args.vcpu.now ∷ []) ∷ []) (c.in_ok-write.ensures [] c.new-rows.ensures)
+returns c =
+    c.finish.ensures ((c.args.at.now ∷ c.args.core.now ∷ c.args.word.now ∷ c.args.vcpu.now ∷ []) ∷ [])
+    (c.in_ok-write.ensures [] c.new-rows.ensures)

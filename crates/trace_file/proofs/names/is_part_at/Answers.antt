@@ -8,5 +8,13 @@ use Rattle.trace_file.proofs.names.is_part_at.Goals as goal
 pub returns-then-place-parts : goal.returns-then-place-parts
 returns-then-place-parts c h =
     let parts = c.args.parts.now in
-    let name : c.as_bytes.result.now ≡ get_or (part_names parts) c.args.place [] = c.as_bytes.ensures.value ∙ (c.as_str.ensures.text ∙ (c.name.ensures ∙ (ap (λ (z : PartView). z.name) c.index-parts-place.is ∙ sym (get_or-map (λ (z : PartView). z.name) parts c.args.place c.index-parts-place.result [] c.if-place-parts.true)))) in
-    (c.if-place-parts.true, sym name ∙ (bytes_eq-Decides c.as_bytes.result.now c.args.name.now).0 (sym c.eq.ensures ∙ h))
+    let name : c.as_bytes.result.now ≡ get_or (part_names parts) c.args.place []
+    = c.as_bytes.ensures.value
+    ∙ (c.as_str.ensures.text
+    ∙ (c.name.ensures
+    ∙ (ap (λ (z : PartView). z.name) c.index-parts-place.is
+    ∙ sym (get_or-map (λ (z : PartView). z.name) parts c.args.place c.index-parts-place.result []
+    c.if-place-parts.true)))) in (
+      c.if-place-parts.true,
+      sym name ∙ (bytes_eq-Decides c.as_bytes.result.now c.args.name.now).0 (sym c.eq.ensures ∙ h),
+    )

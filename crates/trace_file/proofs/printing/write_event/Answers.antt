@@ -14,6 +14,10 @@ returns-clause-written c are =
     let n : ℕ = c.in_unit.result in
     let row : decimal n ++ ending_text sys e.core e.what ≡ row_text default_writer (event_row sys c.args.unit e) =
     row_split n (core_field sys e.core e.what) (word_of e.what) (vcpu_field sys (named e.what)) (omega arith)
-    ∙ ap (λ (z : ℕ). row_text default_writer (decimal z ∷ core_field sys e.core e.what ∷ word_of e.what ∷ vcpu_field sys (named e.what) ∷ [])) c.in_unit.ensures in
+    ∙ ap (λ (z : ℕ). row_text default_writer
+    (decimal z ∷ core_field sys e.core e.what ∷ word_of e.what ∷ vcpu_field sys (named e.what) ∷ []))
+    c.in_unit.ensures in
     let old : List ℕ = c.args.text.now.items in
-    subst (λ (z : List ℕ). OnOk c.write.result (c.write.new.text.items ≡ z)) (append_assoc old (decimal n) (ending_text sys e.core e.what) ∙ ap (λ (z : List ℕ). old ++ z) row) (c.write.ensures.text are)
+    subst (λ (z : List ℕ). OnOk c.write.result (c.write.new.text.items ≡ z))
+    (append_assoc old (decimal n) (ending_text sys e.core e.what) ∙ ap (λ (z : List ℕ). old ++ z) row)
+    (c.write.ensures.text are)

@@ -3,4 +3,6 @@ use Rattle.release_file.proofs.release_rows.ReleaseRows.new.Goals as goal
 use Rattle.tree_model.proofs.Distinct.{distinct_back}
 
 pub part_places-requires : goal.part_places-requires
-part_places-requires c = rw (c.parts.ensures.parts) (distinct_back (core_names c.args.sys.now.cores) (part_names c.args.sys.now.parts) c.parts.ensures.system.names)
+part_places-requires c =
+    rw (c.parts.ensures.parts)
+    (distinct_back (core_names c.args.sys.now.cores) (part_names c.args.sys.now.parts) c.parts.ensures.system.names)

@@ -9,7 +9,17 @@ pub returns-clause-taken : goal.returns-clause-taken
 returns-clause-taken c start rows has number =
     let a = c.args.self.now in
     let inside = c.in-Some-find.ensures.within in
-    took_release start a _ rows (fields_of c.args.row.now) c.in-Some.fields c.in-Some-number_of.at c.in-Some-find.part c.args.number c.index_mut.result.now c.keep.new.self has number c.in-Some.ensures (sym c.are_plain.ensures ∙ c.if-not-are_plain.false)
-    c.in-Some-number_of.ensures.within.0 c.in-Some-number_of.ensures.within.1 (omega (arith, c.if-at-self.false)) c.in-Some-find.ensures.place (omega (arith, inside, ap (λ (z : List (List ℕ)). length z) has.parts, length-map a.sys.now.parts (λ (p : PartView). p.name), has.one_each)) c.index_mut.ensures.value
-    c.in_default-keep.ensures.part c.in_default-keep.ensures.leaf c.in_default-keep.ensures.jobs c.in_default-keep.ensures.kept
+    took_release start a _ rows (fields_of c.args.row.now) c.in-Some.fields c.in-Some-number_of.at c.in-Some-find.part
+    c.args.number c.index_mut.result.now c.keep.new.self has number c.in-Some.ensures
+    (sym c.are_plain.ensures ∙ c.if-not-are_plain.false)
+    c.in-Some-number_of.ensures.within.0 c.in-Some-number_of.ensures.within.1 (omega (arith, c.if-at-self.false))
+    c.in-Some-find.ensures.place (omega (
+      arith,
+      inside,
+      ap (λ (z : List (List ℕ)). length z) has.parts,
+      length-map a.sys.now.parts (λ (p : PartView). p.name),
+      has.one_each,
+    )) c.index_mut.ensures.value
+    c.in_default-keep.ensures.part c.in_default-keep.ensures.leaf c.in_default-keep.ensures.jobs
+    c.in_default-keep.ensures.kept
     refl refl refl refl refl

@@ -8,4 +8,5 @@ returns-clause-behind c =
     let a = c.args.self.now in
     let good : is_ok c.push.result ≡ true = search rules in
     let items = rw good at c.push.ensures.items in
-    behind_more a _ c.args.wake c.requires.system c.requires.behind (wake_keeps a.sys.now a.wakes.items c.args.wake (sym c.fault.ensures ∙ c.in_default.is)) refl refl refl items
+    behind_more a _ c.args.wake c.requires.system c.requires.behind
+    (wake_keeps a.sys.now a.wakes.items c.args.wake (sym c.fault.ensures ∙ c.in_default.is)) refl refl refl items

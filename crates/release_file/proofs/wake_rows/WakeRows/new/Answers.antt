@@ -5,7 +5,9 @@ use Rattle.release_file.proofs.WakesTaking.{none_behind}
 use Rattle.release_file.proofs.wake_rows.WakeRows.new.Goals as goal
 
 pub part_places-requires : goal.part_places-requires
-part_places-requires c = rw (c.parts.ensures.parts) (distinct_back (core_names c.args.sys.now.cores) (part_names c.args.sys.now.parts) c.parts.ensures.system.names)
+part_places-requires c =
+    rw (c.parts.ensures.parts)
+    (distinct_back (core_names c.args.sys.now.cores) (part_names c.args.sys.now.parts) c.parts.ensures.system.names)
 
 pub returns-clause-taken : goal.returns-clause-taken
 returns-clause-taken c =

@@ -15,10 +15,14 @@ invariant-loop-self l = record {
   ready : IsReady l.sys l.plan l.self;
   vcpus : AreAll (is_child l.sys (Core l.core)) (length l.sys.parts) l.vcpus;
   order : InOrder l.self.until l.vcpus 0;
-  same : (u : ℕ) → u < length l.sys.parts → is_child l.sys (Core l.core) u ≡ true → number_at l.self.until u ≡ l.at → account_at l.self.accounts u ≡ account_at l.initial.self.accounts u;
-  done : (u : ℕ) → u < length l.sys.parts → is_child l.sys (Core l.core) u ≡ true → number_at l.self.until u ≢ l.at → account_at l.self.accounts u ≡ period_ended (account_at l.initial.self.accounts u) (part_at l.sys u).period l.at;
+  same : (u : ℕ) → u < length l.sys.parts → is_child l.sys (Core l.core) u ≡ true → number_at l.self.until u ≡ l.at
+      → account_at l.self.accounts u ≡ account_at l.initial.self.accounts u;
+  done : (u : ℕ) → u < length l.sys.parts → is_child l.sys (Core l.core) u ≡ true → number_at l.self.until u ≢ l.at
+      → account_at l.self.accounts u
+      ≡ period_ended (account_at l.initial.self.accounts u) (part_at l.sys u).period l.at;
   later : (u : ℕ) → u < length l.sys.parts → is_child l.sys (Core l.core) u ≡ true → l.at ≤ number_at l.self.until u;
-  others : (u : ℕ) → u < length l.sys.parts → is_child l.sys (Core l.core) u ≡ false → account_at l.self.accounts u ≡ account_at l.initial.self.accounts u;
+  others : (u : ℕ) → u < length l.sys.parts → is_child l.sys (Core l.core) u ≡ false
+      → account_at l.self.accounts u ≡ account_at l.initial.self.accounts u;
   ends : l.self.ends ≡ l.initial.self.ends;
   time : l.self.time ≡ l.initial.self.time;
   holders : l.self.holders ≡ l.initial.self.holders;
@@ -27,4 +31,5 @@ invariant-loop-self l = record {
 
 -- how many are still to begin
 abbrev pub decreases-loop-self : goal.decreases-loop-self
-decreases-loop-self l = count_below (λ u. is_child l.sys (Core l.core) u && nat_eq (number_at l.self.until u) l.at) (length l.sys.parts)
+decreases-loop-self l =
+    count_below (λ u. is_child l.sys (Core l.core) u && nat_eq (number_at l.self.until u) l.at) (length l.sys.parts)

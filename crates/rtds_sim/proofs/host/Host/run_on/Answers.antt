@@ -20,7 +20,9 @@ use Rattle.rtds_sim.proofs.host.Host.run_on.Goals as goal
 pub loop-c-init : goal.loop-c-init
 loop-c-init c = record {
   run = λ rows n k d run l. absurd (omega (arith, l));
-  ready = ready_later c.args.sys.now c.args.plan.now c.args.self.now c.args.to (omega (arith, c.requires.later)) c.requires.ready;
+  ready =
+      ready_later c.args.sys.now c.args.plan.now c.args.self.now c.args.to (omega (arith, c.requires.later))
+      c.requires.ready;
   members = c.requires.members;
   bound = λ d l. absurd (omega (arith, l));
   later = λ d l. absurd (omega (arith, l));
@@ -36,27 +38,36 @@ loop-c-init c = record {
 pub run_core-requires-clause-vcpus : goal.run_core-requires-clause-vcpus
 run_core-requires-clause-vcpus c =
     let i : ℕ = c.loop-c.c in
-    let within : i < length c.args.sys.now.cores = omega (arith, c.loop-c-test.true, ap (λ (xs : List CoreView). length xs) c.cores-c-end.ensures.cores) in
+    let within : i < length c.args.sys.now.cores
+    = omega (arith, c.loop-c-test.true, ap (λ (xs : List CoreView). length xs) c.cores-c-end.ensures.cores) in
     subst (AreAll (is_child c.args.sys.now (Core i)) (length c.args.sys.now.parts))
-    (list_read c.loop-c.members.lists.items i c.index_mut-vcpus.result.now (omega (arith, within, c.loop-c.invariant.members.one_each)) c.index_mut-vcpus.ensures.value ∙ sym c.deref_mut.ensures.value)
+    (list_read c.loop-c.members.lists.items i c.index_mut-vcpus.result.now
+    (omega (arith, within, c.loop-c.invariant.members.one_each)) c.index_mut-vcpus.ensures.value
+    ∙ sym c.deref_mut.ensures.value)
     (c.loop-c.invariant.members.lists i within)
 
 pub run_core-requires-clause-few : goal.run_core-requires-clause-few
 run_core-requires-clause-few c v l child =
-    let same : account_at c.loop-c.self.accounts v ≡ account_at c.args.self.now.accounts v = c.loop-c.invariant.same v l (λ d m. on_one_core c.args.sys.now c.loop-c.c d v (λ q. omega (arith, q, m)) child) in
+    let same : account_at c.loop-c.self.accounts v ≡ account_at c.args.self.now.accounts v
+    = c.loop-c.invariant.same v l
+    (λ d m. on_one_core c.args.sys.now c.loop-c.c d v (λ q. omega (arith, q, m)) child) in
     omega (arith, ap (λ (a : Account). a.used) same, c.requires.ready.few v l)
 
 pub run_core-requires-clause-bound : goal.run_core-requires-clause-bound
 run_core-requires-clause-bound c =
     let i : ℕ = c.loop-c.c in
-    let within : i < length c.args.sys.now.cores = omega (arith, c.loop-c-test.true, ap (λ (xs : List CoreView). length xs) c.cores-c-end.ensures.cores) in
-    end_same c.args.sys.now c.args.self.now.accounts c.loop-c.self.accounts i (number_at c.args.self.now.ends i) (number_at c.loop-c.self.ends i) (c.loop-c.invariant.ends i (omega arith))
-    (λ v l child. c.loop-c.invariant.same v l (λ d m. on_one_core c.args.sys.now i d v (λ q. omega (arith, q, m)) child)) (c.requires.ends.bound i within)
+    let within : i < length c.args.sys.now.cores
+    = omega (arith, c.loop-c-test.true, ap (λ (xs : List CoreView). length xs) c.cores-c-end.ensures.cores) in
+    end_same c.args.sys.now c.args.self.now.accounts c.loop-c.self.accounts i (number_at c.args.self.now.ends i)
+    (number_at c.loop-c.self.ends i) (c.loop-c.invariant.ends i (omega arith))
+    (λ v l child. c.loop-c.invariant.same v l
+    (λ d m. on_one_core c.args.sys.now i d v (λ q. omega (arith, q, m)) child)) (c.requires.ends.bound i within)
 
 pub run_core-requires-clause-in_time : goal.run_core-requires-clause-in_time
 run_core-requires-clause-in_time c =
     let i : ℕ = c.loop-c.c in
-    let within : i < length c.args.sys.now.cores = omega (arith, c.loop-c-test.true, ap (λ (xs : List CoreView). length xs) c.cores-c-end.ensures.cores) in
+    let within : i < length c.args.sys.now.cores
+    = omega (arith, c.loop-c-test.true, ap (λ (xs : List CoreView). length xs) c.cores-c-end.ensures.cores) in
     omega (arith, c.requires.ends.later i within, c.loop-c.invariant.ends i (omega arith))
 
 pub loop-c-preserved : goal.loop-c-preserved
@@ -64,7 +75,8 @@ loop-c-preserved c =
     let so_far = c.loop-c.invariant in
     let sys = c.args.sys.now in
     let i : ℕ = c.loop-c.c in
-    let within : i < length sys.cores = omega (arith, c.loop-c-test.true, ap (λ (xs : List CoreView). length xs) c.cores-c-end.ensures.cores) in
+    let within : i < length sys.cores
+    = omega (arith, c.loop-c-test.true, ap (λ (xs : List CoreView). length xs) c.cores-c-end.ensures.cores) in
     let first = c.args.self.now in
     let entry : Host = record first { time = c.args.to } in
     let old = c.loop-c.self in
@@ -75,34 +87,59 @@ loop-c-preserved c =
     let lists : List (Vec Event Global) = c.loop-c.switches.lists.items in
     let room : i < length lists = omega (arith, within, so_far.one_each) in
     let own : List Event = c.index_mut.result.now.items in
-    let none_yet : own ≡ [] = sym (list_read lists i c.index_mut.result.now room c.index_mut.ensures.value) ∙ so_far.empty i (omega arith) in
+    let none_yet : own ≡ []
+    = sym (list_read lists i c.index_mut.result.now room c.index_mut.ensures.value)
+    ∙ so_far.empty i (omega arith) in
     -- the accounts of core i are as they were, and those of the others stay
-    let kept : (v : ℕ) → v < length sys.parts → is_child sys (Core i) v ≡ true → account_at old.accounts v ≡ account_at first.accounts v = λ v l child. so_far.same v l (λ d m. on_one_core sys i d v (λ q. omega (arith, q, m)) child) in
-    let stays : (d : ℕ) → d ≢ i → (v : ℕ) → v < length sys.parts → is_child sys (Core d) v ≡ true → account_at new.accounts v ≡ account_at old.accounts v = λ d ne v l child. ran.others v l (on_one_core sys d i v (λ q. ne (sym q)) child) in
+    let kept : (v : ℕ) → v < length sys.parts → is_child sys (Core i) v ≡ true
+    → account_at old.accounts v ≡ account_at first.accounts v
+    = λ v l child. so_far.same v l (λ d m. on_one_core sys i d v (λ q. omega (arith, q, m)) child) in
+    let stays : (d : ℕ) → d ≢ i → (v : ℕ) → v < length sys.parts → is_child sys (Core d) v ≡ true
+    → account_at new.accounts v ≡ account_at old.accounts v
+    = λ d ne v l child. ran.others v l (on_one_core sys d i v (λ q. ne (sym q)) child) in
     record {
       run = λ rows n k d run l u. elim (cases_eq d i) [
         | inl e ↦
-            let u' : IsUnderway sys c.args.plan.now rows n i run first.time c.args.to k entry = subst (λ (z : ℕ). IsUnderway sys c.args.plan.now rows n z run first.time c.args.to k entry) e u in
-            let h : HasRun sys rows i run first.time c.args.to k new own c.run_core.new.told.items = subst (λ (y : ℕ). HasRun sys rows i run first.time y k new own c.run_core.new.told.items) so_far.time
-            (ran.run rows n k run (subst (λ (y : ℕ). IsUnderway sys c.args.plan.now rows n i run first.time y k old) (sym so_far.time) (underway_same sys c.args.plan.now rows n i run first.time c.args.to k entry old kept (so_far.holders i (omega arith)) u'))) in
-            subst (λ (z : ℕ). HasRun sys rows z run first.time c.args.to k new [] (list_at (set lists i c.run_core.new.told) z)) (sym e)
-            (subst (HasRun sys rows i run first.time c.args.to k new []) (sym (list_here lists i c.run_core.new.told room))
-            (subst (λ (es : List Event). HasRun sys rows i run first.time c.args.to k new es c.run_core.new.told.items) none_yet h))
-        | inr ne ↦ has_run_same sys rows d run first.time c.args.to k old new [] (list_at lists d) (list_at (set lists i c.run_core.new.told) d) (stays d ne) (ran.holders d ne) (list_there lists i d c.run_core.new.told ne) (so_far.run rows n k d run (omega (arith, l, ne)) u)
+            let u' : IsUnderway sys c.args.plan.now rows n i run first.time c.args.to k entry
+            = subst (λ (z : ℕ). IsUnderway sys c.args.plan.now rows n z run first.time c.args.to k entry) e u in
+            let h : HasRun sys rows i run first.time c.args.to k new own c.run_core.new.told.items
+            = subst (λ (y : ℕ). HasRun sys rows i run first.time y k new own c.run_core.new.told.items) so_far.time
+            (ran.run rows n k run (subst (λ (y : ℕ). IsUnderway sys c.args.plan.now rows n i run first.time y k old)
+            (sym so_far.time) (underway_same sys c.args.plan.now rows n i run first.time c.args.to k entry old
+            kept (so_far.holders i (omega arith)) u'))) in
+            subst (λ (z : ℕ). HasRun sys rows z run first.time c.args.to k new []
+            (list_at (set lists i c.run_core.new.told) z)) (sym e)
+            (subst (HasRun sys rows i run first.time c.args.to k new [])
+            (sym (list_here lists i c.run_core.new.told room))
+            (subst (λ (es : List Event). HasRun sys rows i run first.time c.args.to k new es c.run_core.new.told.items)
+            none_yet h))
+        | inr ne ↦
+            has_run_same sys rows d run first.time c.args.to k old new [] (list_at lists d)
+            (list_at (set lists i c.run_core.new.told) d) (stays d ne) (ran.holders d ne)
+            (list_there lists i d c.run_core.new.told ne) (so_far.run rows n k d run (omega (arith, l, ne)) u)
       ];
       ready = ran.ready;
       members = record {
         one_each = length-set vcpus i vcpus_run ∙ so_far.members.one_each;
         lists = λ d l. elim (cases_eq d i) [
-          | inl e ↦ subst (λ (z : ℕ). AreAll (is_child sys (Core z)) (length sys.parts) (list_at (set vcpus i vcpus_run) z)) (sym e)
-              (subst (AreAll (is_child sys (Core i)) (length sys.parts)) (sym (list_here vcpus i vcpus_run (omega (arith, within, so_far.members.one_each))))
-              (subst (AreAll (is_child sys (Core i)) (length sys.parts)) (sym (with_items_is c.index_mut-vcpus.result.now c.run_core.new.vcpus (omega (arith, c.run_core.auto.vcpus, c.deref_mut.ensures.len)))) ran.vcpus))
-          | inr ne ↦ subst (AreAll (is_child sys (Core d)) (length sys.parts)) (sym (list_there vcpus i d vcpus_run ne)) (so_far.members.lists d l)
+          | inl e ↦
+              subst (λ (z : ℕ). AreAll (is_child sys (Core z)) (length sys.parts) (list_at (set vcpus i vcpus_run) z))
+              (sym e)
+              (subst (AreAll (is_child sys (Core i)) (length sys.parts))
+              (sym (list_here vcpus i vcpus_run (omega (arith, within, so_far.members.one_each))))
+              (subst (AreAll (is_child sys (Core i)) (length sys.parts))
+              (sym (with_items_is c.index_mut-vcpus.result.now c.run_core.new.vcpus
+              (omega (arith, c.run_core.auto.vcpus, c.deref_mut.ensures.len)))) ran.vcpus))
+          | inr ne ↦
+              subst (AreAll (is_child sys (Core d)) (length sys.parts)) (sym (list_there vcpus i d vcpus_run ne))
+              (so_far.members.lists d l)
         ];
       };
       bound = λ d l. elim (cases_eq d i) [
         | inl e ↦ subst (λ (z : ℕ). IsEnd sys new.accounts z (number_at new.ends z)) (sym e) ran.bound
-        | inr ne ↦ end_same sys old.accounts new.accounts d (number_at old.ends d) (number_at new.ends d) (ran.ends d ne) (stays d ne) (so_far.bound d (omega (arith, l, ne)))
+        | inr ne ↦
+            end_same sys old.accounts new.accounts d (number_at old.ends d) (number_at new.ends d) (ran.ends d ne)
+            (stays d ne) (so_far.bound d (omega (arith, l, ne)))
       ];
       later = λ d l. elim (cases_eq d i) [
         | inl e ↦ omega (arith, ran.in_time, so_far.time, ap (number_at new.ends) e)
@@ -112,7 +149,9 @@ loop-c-preserved c =
       ends = λ d l. ran.ends d (λ e. omega (arith, e, l)) ∙ so_far.ends d (omega (arith, l));
       holders = λ d l. ran.holders d (λ e. omega (arith, e, l)) ∙ so_far.holders d (omega (arith, l));
       one_each = length-set lists i c.run_core.new.told ∙ so_far.one_each;
-      empty = λ d l. list_there lists i d c.run_core.new.told (λ e. omega (arith, e, l)) ∙ so_far.empty d (omega (arith, l));
+      empty =
+          λ d l. list_there lists i d c.run_core.new.told (λ e. omega (arith, e, l))
+          ∙ so_far.empty d (omega (arith, l));
       time = ran.time ∙ so_far.time;
       taken = ran.taken ∙ so_far.taken;
     }
@@ -120,5 +159,7 @@ loop-c-preserved c =
 pub returns-clause-run : goal.returns-clause-run
 returns-clause-run c rows n k d run l u =
     let first = c.args.self.now in
-    c.loop-c.invariant.run rows n k d run (omega (arith, l, c.loop-c-test.false, ap (λ (xs : List CoreView). length xs) c.cores-c-end.ensures.cores))
-    (underway_same c.args.sys.now c.args.plan.now rows n d run first.time c.args.to k first (record first { time = c.args.to }) (λ v lv child. refl) refl u)
+    c.loop-c.invariant.run rows n k d run
+    (omega (arith, l, c.loop-c-test.false, ap (λ (xs : List CoreView). length xs) c.cores-c-end.ensures.cores))
+    (underway_same c.args.sys.now c.args.plan.now rows n d run first.time c.args.to k first
+    (record first { time = c.args.to }) (λ v lv child. refl) refl u)

@@ -11,12 +11,15 @@ use Rattle.rtds_sim.proofs.host.Host.run_on.Given as goal
 -- the cores so far have run, and the others are as they were
 abbrev pub invariant-loop-c : goal.invariant-loop-c
 invariant-loop-c l = record {
-  run : (rows : List Row) (n k d : ℕ) (run : List (Option ℕ)) → d < l.c → IsUnderway l.sys l.plan rows n d run l.from l.to k l.initial.self → HasRun l.sys rows d run l.from l.to k l.self [] (list_at l.switches.lists.items d);
+  run : (rows : List Row) (n k d : ℕ) (run : List (Option ℕ)) → d < l.c
+      → IsUnderway l.sys l.plan rows n d run l.from l.to k l.initial.self
+      → HasRun l.sys rows d run l.from l.to k l.self [] (list_at l.switches.lists.items d);
   ready : IsReady l.sys l.plan l.self;
   members : AreMembers l.sys l.members;
   bound : (d : ℕ) → d < l.c → IsEnd l.sys l.self.accounts d (number_at l.self.ends d);
   later : (d : ℕ) → d < l.c → l.to < number_at l.self.ends d;
-  same : (v : ℕ) → v < length l.sys.parts → ((d : ℕ) → d < l.c → is_child l.sys (Core d) v ≡ false) → account_at l.self.accounts v ≡ account_at l.initial.self.accounts v;
+  same : (v : ℕ) → v < length l.sys.parts → ((d : ℕ) → d < l.c → is_child l.sys (Core d) v ≡ false)
+      → account_at l.self.accounts v ≡ account_at l.initial.self.accounts v;
   ends : (d : ℕ) → l.c ≤ d → number_at l.self.ends d ≡ number_at l.initial.self.ends d;
   holders : (d : ℕ) → l.c ≤ d → holder_at l.self.holders d ≡ holder_at l.initial.self.holders d;
   one_each : length l.switches.lists.items ≡ length l.sys.cores;

@@ -8,13 +8,19 @@ use Rattle.rtds_sim.proofs.host.Host.switch.Goals as goal
 pub returns-in_ok-push-clause-chosen : goal.returns-in_ok-push-clause-chosen
 returns-in_ok-push-clause-chosen c =
     let old = c.args.self.now in
-    let room : c.args.core < length old.holders = omega (arith, c.requires.is_core, c.requires.ready.room.all_cores, c.requires.ready.room.few_cores) in
-    subst (IsChoice c.args.sys.now c.args.plan.now old.accounts c.args.core) (sym (set_here old.holders c.args.core c.first_of-next.result room))
-    (first_choice c.args.sys.now c.args.plan.now old c.requires.ready c.args.core c.first_of-next.result c.first_of-next.ensures)
+    let room : c.args.core < length old.holders
+    = omega (arith, c.requires.is_core, c.requires.ready.room.all_cores, c.requires.ready.room.few_cores) in
+    subst (IsChoice c.args.sys.now c.args.plan.now old.accounts c.args.core)
+    (sym (set_here old.holders c.args.core c.first_of-next.result room))
+    (first_choice c.args.sys.now c.args.plan.now old c.requires.ready c.args.core c.first_of-next.result
+    c.first_of-next.ensures)
 
 pub returns-in_default-clause-chosen : goal.returns-in_default-clause-chosen
 returns-in_default-clause-chosen c =
     let old = c.args.self.now in
-    let keeps : holder_at old.holders c.args.core ≡ c.first_of-next.result = no_switch c.args.core c.args.at (holder_at old.holders c.args.core) c.first_of-next.result (sym c.switch_event.ensures ∙ c.in_default.is) in
+    let keeps : holder_at old.holders c.args.core ≡ c.first_of-next.result
+    = no_switch c.args.core c.args.at (holder_at old.holders c.args.core) c.first_of-next.result
+    (sym c.switch_event.ensures ∙ c.in_default.is) in
     subst (IsChoice c.args.sys.now c.args.plan.now old.accounts c.args.core) (sym keeps)
-    (first_choice c.args.sys.now c.args.plan.now old c.requires.ready c.args.core c.first_of-next.result c.first_of-next.ensures)
+    (first_choice c.args.sys.now c.args.plan.now old c.requires.ready c.args.core c.first_of-next.result
+    c.first_of-next.ensures)

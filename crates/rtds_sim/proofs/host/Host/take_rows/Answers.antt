@@ -11,17 +11,39 @@ loop-self-preserved c =
     let rows = c.args.rows.now in
     let k = c.loop-self.self.taken in
     let old = c.loop-self.self.accounts in
-    let at : (row_at rows k).at ≡ c.args.self.now.time = ap (λ (r : Wake). r.at) (sym c.row_at.ensures) ∙ (c.if-row_at-self.true ∙ c.loop-self.invariant.time) in
-    let new : c.take.new.self.accounts ≡ set old (row_at rows k).vcpu (row_taken (row_at rows k).what (row_at rows k).at (account_at old (row_at rows k).vcpu)) = c.take.ensures.accounts ∙ ap (λ (r : Wake). set old r.vcpu (row_taken r.what r.at (account_at old r.vcpu))) c.row_at-in-loop-self.ensures in
+    let at : (row_at rows k).at ≡ c.args.self.now.time
+    = ap (λ (r : Wake). r.at) (sym c.row_at.ensures) ∙ (c.if-row_at-self.true ∙ c.loop-self.invariant.time) in
+    let new : c.take.new.self.accounts
+    ≡ set old (row_at rows k).vcpu
+    (row_taken (row_at rows k).what (row_at rows k).at (account_at old (row_at rows k).vcpu))
+    = c.take.ensures.accounts
+    ∙ ap (λ (r : Wake). set old r.vcpu (row_taken r.what r.at (account_at old r.vcpu)))
+    c.row_at-in-loop-self.ensures in
     record {
       ready = c.take.ensures.ready;
       ends = c.take.ensures.ends;
       in_rows = omega (arith, c.take.ensures.taken, c.loop-self-test.true);
       later = omega (arith, c.take.ensures.taken, c.loop-self.invariant.later);
-      now = λ i a b. elim (cases_eq i k) [ inl e ↦ ap (λ (z : ℕ). (row_at rows z).at) e ∙ at | inr ne ↦ c.loop-self.invariant.now i a (omega (arith, c.take.ensures.taken)) ];
-      accounts = λ sys runs w b some a. subst (λ (n : ℕ). AreAccounts sys rows runs c.args.self.now.time n c.take.new.self.accounts) (sym c.take.ensures.taken)
+      now =
+          λ i a b. elim (cases_eq i k) [
+            | inl e ↦
+                ap (λ (z : ℕ). (row_at rows z).at) e ∙ at
+            | inr ne ↦
+                c.loop-self.invariant.now i a (omega (arith, c.take.ensures.taken))
+          ];
+      accounts =
+          λ sys runs w b some a. subst
+          (λ (n : ℕ). AreAccounts sys rows runs c.args.self.now.time n c.take.new.self.accounts)
+          (sym c.take.ensures.taken)
           (subst (AreAccounts sys rows runs c.args.self.now.time (k + 1)) (sym new)
-          (accounts_more sys rows w runs c.args.self.now.time k old some c.loop-self-test.true at (omega (arith, c.requires.known k c.loop-self-test.true, c.loop-self.invariant.ready.room.all_vcpus, c.loop-self.invariant.ready.room.few_parts)) (c.loop-self.invariant.accounts sys runs w b some a)));
+          (accounts_more sys rows w runs c.args.self.now.time k old some c.loop-self-test.true at
+          (omega (
+            arith,
+            c.requires.known k c.loop-self-test.true,
+            c.loop-self.invariant.ready.room.all_vcpus,
+            c.loop-self.invariant.ready.room.few_parts,
+          ))
+          (c.loop-self.invariant.accounts sys runs w b some a)));
       time = c.take.ensures.time ∙ c.loop-self.invariant.time;
       holders = c.take.ensures.holders ∙ c.loop-self.invariant.holders;
     }

@@ -13,7 +13,11 @@ invariant-loop-self l = record {
   in_rows : l.self.taken ≤ length l.rows;
   later : l.initial.self.taken ≤ l.self.taken;
   now : (i : ℕ) → l.initial.self.taken ≤ i → i < l.self.taken → (row_at l.rows i).at ≡ l.initial.self.time;
-  accounts : (sys : SystemView) (runs : List (List (Option ℕ))) → IsWorkload sys l.rows → AreBefore l.rows l.initial.self.taken l.initial.self.time → ((v : ℕ) → v < length sys.parts → 1 ≤ (part_at sys v).period) → AreAccounts sys l.rows runs l.initial.self.time l.initial.self.taken l.initial.self.accounts → AreAccounts sys l.rows runs l.initial.self.time l.self.taken l.self.accounts;
+  accounts : (sys : SystemView) (runs : List (List (Option ℕ))) → IsWorkload sys l.rows
+      → AreBefore l.rows l.initial.self.taken l.initial.self.time
+      → ((v : ℕ) → v < length sys.parts → 1 ≤ (part_at sys v).period)
+      → AreAccounts sys l.rows runs l.initial.self.time l.initial.self.taken l.initial.self.accounts
+      → AreAccounts sys l.rows runs l.initial.self.time l.self.taken l.self.accounts;
   time : l.self.time ≡ l.initial.self.time;
   holders : l.self.holders ≡ l.initial.self.holders;
 }

@@ -5,4 +5,6 @@ pub bounds-self-inside-v : goal.bounds-self-inside-v
 bounds-self-inside-v c = in_table _ _ _ _ c.args.v c.self.invariant c.self.view_is c.requires
 
 pub returns : goal.returns
-returns c = clear_here c.self.inside.eligible c.self.inside.levels c.self.inside.deadlines c.args.self.now c.args.v c.self.invariant c.self.view_is c.requires
+returns c =
+    clear_here c.self.inside.eligible c.self.inside.levels c.self.inside.deadlines c.args.self.now c.args.v
+    c.self.invariant c.self.view_is c.requires

@@ -9,12 +9,16 @@ pub returns-then-self-v : goal.returns-then-self-v
 returns-then-self-v c =
     let table = c.self.inside in
     let v : ℕ = c.args.v in
-    sym (key_here table.eligible table.levels table.deadlines c.args.self.now v c.self.invariant c.self.view_is c.requires
-    ∙ ap (λ (b : Bool). if b then Some (key (get_or table.levels v 0) (get_or table.deadlines v 0)) else None) c.if-self-v.true)
+    sym (key_here table.eligible table.levels table.deadlines c.args.self.now v c.self.invariant c.self.view_is
+    c.requires
+    ∙ ap (λ (b : Bool). if b then Some (key (get_or table.levels v 0) (get_or table.deadlines v 0)) else None)
+    c.if-self-v.true)
 
 pub returns : goal.returns
 returns c =
     let table = c.self.inside in
     let v : ℕ = c.args.v in
-    sym (key_here table.eligible table.levels table.deadlines c.args.self.now v c.self.invariant c.self.view_is c.requires
-    ∙ ap (λ (b : Bool). if b then Some (key (get_or table.levels v 0) (get_or table.deadlines v 0)) else None) c.if-self-v.false)
+    sym (key_here table.eligible table.levels table.deadlines c.args.self.now v c.self.invariant c.self.view_is
+    c.requires
+    ∙ ap (λ (b : Bool). if b then Some (key (get_or table.levels v 0) (get_or table.deadlines v 0)) else None)
+    c.if-self-v.false)

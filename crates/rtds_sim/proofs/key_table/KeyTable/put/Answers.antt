@@ -11,4 +11,6 @@ pub bounds-self-inside-v-3 : goal.bounds-self-inside-v-3
 bounds-self-inside-v-3 c = in_table _ _ _ _ c.args.v c.self.invariant c.self.view_is c.requires
 
 pub returns : goal.returns
-returns c = put_here c.self.inside.eligible c.self.inside.levels c.self.inside.deadlines c.args.self.now c.args.v c.args.key c.self.invariant c.self.view_is c.requires
+returns c =
+    put_here c.self.inside.eligible c.self.inside.levels c.self.inside.deadlines c.args.self.now c.args.v c.args.key
+    c.self.invariant c.self.view_is c.requires

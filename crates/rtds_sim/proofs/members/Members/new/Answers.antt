@@ -12,5 +12,8 @@ returns c =
     let cores = ap (λ (cs : List CoreView). length cs) c.cores-c-end.ensures.cores in
     record {
       one_each = omega (arith, c.loop-c.invariant.one_each, c.loop-c-test.false, c.loop-c.auto.c-end, cores);
-      lists = λ d l. subst (AreAll (is_child sys (Core d)) (length sys.parts)) (sym (c.loop-c.invariant.lists d (omega (arith, l, c.loop-c-test.false, cores)))) (places_all (is_child sys (Core d)) (length sys.parts));
+      lists =
+          λ d l. subst (AreAll (is_child sys (Core d)) (length sys.parts))
+          (sym (c.loop-c.invariant.lists d (omega (arith, l, c.loop-c-test.false, cores))))
+          (places_all (is_child sys (Core d)) (length sys.parts));
     }

@@ -8,5 +8,8 @@ loop-c-preserved c =
     let lists = c.loop-c.self.lists.items in
     record {
       one_each = length-set lists c.loop-c.c c.clear.new.self ∙ c.loop-c.invariant.one_each;
-      empty = empty_more lists c.loop-c.c c.clear.new.self (omega (arith, c.loop-c-test.true, c.len-c-end.ensures, c.args.self.now.lists.ok.0, c.loop-c.invariant.one_each)) c.clear.ensures.items c.loop-c.invariant.empty;
+      empty =
+          empty_more lists c.loop-c.c c.clear.new.self (omega
+          (arith, c.loop-c-test.true, c.len-c-end.ensures, c.args.self.now.lists.ok.0, c.loop-c.invariant.one_each))
+          c.clear.ensures.items c.loop-c.invariant.empty;
     }

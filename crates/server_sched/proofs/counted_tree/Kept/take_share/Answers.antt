@@ -15,5 +15,8 @@ pub returns-clause-rest : goal.returns-clause-rest
 returns-clause-rest c =
     let inside = c.self.inside in
     let none : c.replace.new.dest.items ≡ [] = ap items c.replace.ensures.after ∙ c.new.ensures.items in
-    let shares : map items (set inside.shares.items c.args.k c.replace.new.dest) ≡ set (map items inside.shares.items) c.args.k [] = map-set items inside.shares.items c.args.k c.replace.new.dest ∙ ap (set (map items inside.shares.items) c.args.k) none in
+    let shares : map items (set inside.shares.items c.args.k c.replace.new.dest)
+    ≡ set (map items inside.shares.items) c.args.k []
+    = map-set items inside.shares.items c.args.k c.replace.new.dest
+    ∙ ap (set (map items inside.shares.items) c.args.k) none in
     ap (with_shares inside.counts) shares ∙ ap (λ (v : KeptView). taken v c.args.k) c.self.view_is

@@ -12,5 +12,9 @@ returns-clause-state c = λ sched given.
     let long : length T ≡ length c.args.tasks.now = length-map c.args.tasks.now sporadic_task in
     begun sched T given _ refl refl
     (c.in_ok-servers.ensures.items_if_clones_equal (λ y e. e) ∙ ap (λ (n : ℕ). replicate n no_server) (sym long))
-    (c.loop-task.invariant ∙ ap (λ (n : ℕ). replicate {A = List Window} n []) (let e : c.loop-task.task-index ≡ length T = omega (arith, c.loop-task-test.false, c.loop-task.auto.task-index-end, long) in e))
+    (c.loop-task.invariant
+    ∙ ap (λ (n : ℕ). replicate {A = List Window} n []) (
+    let e : c.loop-task.task-index ≡ length T
+    = omega (arith, c.loop-task-test.false, c.loop-task.auto.task-index-end, long) in
+    e))
     refl refl

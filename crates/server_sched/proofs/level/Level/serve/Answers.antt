@@ -15,31 +15,46 @@ turn-requires c =
       tasks = c.requires.tasks;
       few_tasks = c.requires.few_tasks;
       one_each = may.2;
-      in_time = omega (arith, c.loop-self-test.true, c.requires.windows.in_slots c.args.at c.requires.inside, c.requires.short);
+      in_time =
+          omega
+          (arith, c.loop-self-test.true, c.requires.windows.in_slots c.args.at c.requires.inside, c.requires.short);
       released = may.0;
       missed = may.1;
     }
 
 -- the window's slots are in the whole
 in_slots : (c : goal.After-step-arg-1) → c.loop-self.self.time < c.loop-self.self.slots
-in_slots c = omega (arith, c.loop-self-test.true, c.requires.windows.in_slots c.args.at c.requires.inside, c.loop-self.invariant.slots)
+in_slots c =
+    omega
+    (arith, c.loop-self-test.true, c.requires.windows.in_slots c.args.at c.requires.inside, c.loop-self.invariant.slots)
 
-turned : (c : goal.After-step-arg-1) → IsUnderway c.args.sched (sporadic_tasks c.args.tasks.now) (slots_of c.args.given.now c.args.self.now.slots) c.turn.new.self
+turned : (c : goal.After-step-arg-1)
+    → IsUnderway c.args.sched (sporadic_tasks c.args.tasks.now) (slots_of c.args.given.now c.args.self.now.slots)
+    c.turn.new.self
 turned c = c.turn.ensures.run (slots_of c.args.given.now c.args.self.now.slots) (in_slots c) c.loop-self.invariant.state
 
 pub step-requires-clause-before_next : goal.step-requires-clause-before_next
-step-requires-clause-before_next c = c.turn.ensures.next (slots_of c.args.given.now c.args.self.now.slots) (in_slots c) c.loop-self.invariant.state
+step-requires-clause-before_next c =
+    c.turn.ensures.next (slots_of c.args.given.now c.args.self.now.slots) (in_slots c) c.loop-self.invariant.state
 
 pub step-requires-clause-chosen : goal.step-requires-clause-chosen
 step-requires-clause-chosen c = (turned c).chosen
 
 pub step-requires-clause-one_each : goal.step-requires-clause-one_each
 step-requires-clause-one_each c =
-    let s = sound_in c.args.sched (sporadic_tasks c.args.tasks.now) (slots_of c.args.given.now c.args.self.now.slots) c.turn.new.self.slots c.turn.new.self (turned c) refl in
+    let s
+    = sound_in c.args.sched (sporadic_tasks c.args.tasks.now) (slots_of c.args.given.now c.args.self.now.slots)
+    c.turn.new.self.slots c.turn.new.self (turned c) refl in
     omega (arith, s.shares, s.one_each)
 
 pub step-requires-clause-fit : goal.step-requires-clause-fit
-step-requires-clause-fit c = λ k l. (turned c).shares.fit k (omega (arith, l, (turned c).shares.one_each, length-map c.turn.new.self.shares.items (λ (s : Vec Window Global). s.items)))
+step-requires-clause-fit c =
+    λ k l. (turned c).shares.fit k (omega (
+      arith,
+      l,
+      (turned c).shares.one_each,
+      length-map c.turn.new.self.shares.items (λ (s : Vec Window Global). s.items),
+    ))
 
 pub loop-self-preserved : goal.loop-self-preserved
 loop-self-preserved c =
@@ -49,11 +64,17 @@ loop-self-preserved c =
     let i = c.loop-self.invariant in
     let stepped = c.in_ok-step.ensures in
     let within : (window_at windows c.args.at).until ≤ n = c.requires.windows.in_slots c.args.at c.requires.inside in
-    let inside : c.loop-self.self.time < c.loop-self.self.slots = omega (arith, c.loop-self-test.true, within, i.slots) in
-    let now : IsUnderway c.args.sched T (slots_of windows n) c.turn.new.self = c.turn.ensures.run (slots_of windows n) inside i.state in
+    let inside : c.loop-self.self.time < c.loop-self.self.slots
+    = omega (arith, c.loop-self-test.true, within, i.slots) in
+    let now : IsUnderway c.args.sched T (slots_of windows n) c.turn.new.self
+    = c.turn.ensures.run (slots_of windows n) inside i.state in
     record {
-      state = stepped.run c.args.sched T (slots_of windows n) (are_constrained c.args.tasks.now) c.requires.tasks (omega (arith, within, c.turn.ensures.slots, i.slots))
-          (λ y a b. slot_at windows n y (omega (arith, b, within)) ∙ all_given windows c.args.at y c.requires.inside (omega (arith, a, c.turn.ensures.time, i.later, c.requires.begun)) b) now;
+      state =
+          stepped.run c.args.sched T (slots_of windows n) (are_constrained c.args.tasks.now) c.requires.tasks
+          (omega (arith, within, c.turn.ensures.slots, i.slots))
+          (λ y a b. slot_at windows n y (omega (arith, b, within))
+          ∙ all_given windows c.args.at y c.requires.inside
+          (omega (arith, a, c.turn.ensures.time, i.later, c.requires.begun)) b) now;
       slots = stepped.slots ∙ (c.turn.ensures.slots ∙ i.slots);
       later = omega (arith, stepped.later, c.turn.ensures.time, i.later);
       in_time = stepped.in_time;

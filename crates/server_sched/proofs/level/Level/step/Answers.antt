@@ -14,18 +14,37 @@ returns-in_ok-add_window-in-Some-clause-run c = λ sched T slots fits are l give
     let level = c.args.self.now in
     let b = c.in-Some.best in
     let k = c.min-given.result in
-    let best : IsChosen level.servers.items (Some b) = subst (IsChosen level.servers.items) c.in-Some.is c.requires.chosen in
+    let best : IsChosen level.servers.items (Some b)
+    = subst (IsChosen level.servers.items) c.in-Some.is c.requires.chosen in
     let in_shares : b < length level.shares.items = omega (arith, best.0, c.requires.one_each) in
     let own = share_read level.shares.items b c.index_mut.result.now in_shares c.index_mut.ensures.value in
     let window = c.add_window.new.windows in
-    let read : c.index_mut-in-Some.result.now ≡ server_at level.servers.items b = get_or_read level.servers.items b c.index_mut-in-Some.result.now best.0 c.index_mut-in-Some.ensures.value no_server in
-    let left : k ≤ (server_at level.servers.items b).left = omega (arith, c.min-given.ensures, ap (λ (s : Server). s.left) (get_or_read level.servers.items b c.index.result.now best.0 c.index.ensures no_server)) in
-    let until : level.time + k ≤ c.min-until.result = omega (arith, c.min-given.ensures, c.min-until.ensures, c.requires.later, c.requires.before_next) in
+    let read : c.index_mut-in-Some.result.now ≡ server_at level.servers.items b
+    = get_or_read level.servers.items b c.index_mut-in-Some.result.now best.0 c.index_mut-in-Some.ensures.value
+    no_server in
+    let left : k ≤ (server_at level.servers.items b).left
+    = omega (
+      arith,
+      c.min-given.ensures,
+      ap (λ (s : Server). s.left)
+          (get_or_read level.servers.items b c.index.result.now best.0 c.index.ensures no_server),
+    ) in
+    let until : level.time + k ≤ c.min-until.result
+    = omega (arith, c.min-given.ensures, c.min-until.ensures, c.requires.later, c.requires.before_next) in
     job_served sched T fits are slots level
-    (record level { time = level.time + k; servers = with_item level.servers b (record c.index_mut-in-Some.result.now { left = c.index_mut-in-Some.result.now.left - k }); best = c.first_after-self.result; shares = with_item level.shares b window })
-    h k b c.requires.before_next (omega (arith, until, c.min-until.ensures)) (omega (arith, c.requires.later, l)) (omega (arith, until, c.min-until.ensures, l))
+    (record level {
+      time = level.time + k;
+      servers =
+          with_item level.servers b
+          (record c.index_mut-in-Some.result.now { left = c.index_mut-in-Some.result.now.left - k });
+      best = c.first_after-self.result;
+      shares = with_item level.shares b window;
+    })
+    h k b c.requires.before_next (omega (arith, until, c.min-until.ensures)) (omega (arith, c.requires.later, l))
+    (omega (arith, until, c.min-until.ensures, l))
     (λ y m u. given y m (omega (arith, until, c.min-until.ensures)))
-    best left window.items (subst (λ (w : List Window). AddsWindow w level.time (level.time + k) window.items) (sym own) c.in_ok-add_window-in-Some.ensures)
+    best left window.items (subst (λ (w : List Window). AddsWindow w level.time (level.time + k) window.items) (sym own)
+    c.in_ok-add_window-in-Some.ensures)
     refl refl refl
     (ap (λ (s : Server). set level.servers.items b (record s { left = s.left - k })) read)
     (map-set (λ (s : Vec Window Global). s.items) level.shares.items b window)
@@ -36,9 +55,13 @@ pub returns-in-None-clause-run : goal.returns-in-None-clause-run
 returns-in-None-clause-run c = λ sched T slots fits are l given h.
     let level = c.args.self.now in
     let k : ℕ = c.min-until.result - level.time in
-    let end : c.min-until.result ≡ level.time + k = omega (arith, c.min-until.ensures, c.requires.later, c.requires.before_next) in
-    let best : IsChosen level.servers.items None = subst (IsChosen level.servers.items) c.in-None.is c.requires.chosen in
-    no_job sched T fits are slots level (record level { time = c.min-until.result }) h k c.requires.before_next (omega (arith, end, c.min-until.ensures)) (omega (arith, c.requires.later, l)) (omega (arith, end, c.min-until.ensures, l))
+    let end : c.min-until.result ≡ level.time + k
+    = omega (arith, c.min-until.ensures, c.requires.later, c.requires.before_next) in
+    let best : IsChosen level.servers.items None
+    = subst (IsChosen level.servers.items) c.in-None.is c.requires.chosen in
+    no_job sched T fits are slots level (record level { time = c.min-until.result }) h k c.requires.before_next
+    (omega (arith, end, c.min-until.ensures)) (omega (arith, c.requires.later, l))
+    (omega (arith, end, c.min-until.ensures, l))
     (λ y m u. given y m (omega (arith, end, c.min-until.ensures)))
     best (ap (λ (z : ℕ). record level { time = z }) end)
 
@@ -46,6 +69,9 @@ pub add_window-requires-clause-windows : goal.add_window-requires-clause-windows
 add_window-requires-clause-windows c =
     let level = c.args.self.now in
     let b = c.in-Some.best in
-    let best : IsChosen level.servers.items (Some b) = subst (IsChosen level.servers.items) c.in-Some.is c.requires.chosen in
+    let best : IsChosen level.servers.items (Some b)
+    = subst (IsChosen level.servers.items) c.in-Some.is c.requires.chosen in
     let in_shares : b < length level.shares.items = omega (arith, best.0, c.requires.one_each) in
-    subst (λ (w : List Window). AreWindows w level.time) (share_read level.shares.items b c.index_mut.result.now in_shares c.index_mut.ensures.value) (c.requires.fit b in_shares)
+    subst (λ (w : List Window). AreWindows w level.time)
+    (share_read level.shares.items b c.index_mut.result.now in_shares c.index_mut.ensures.value)
+    (c.requires.fit b in_shares)

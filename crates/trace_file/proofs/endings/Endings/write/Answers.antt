@@ -13,4 +13,5 @@ returns-then-place-len-clause-are c are =
     let place : ℕ = c.place-place.result in
     let within : place < length made = omega (arith, c.if-place-len.true, c.len.ensures) in
     let kept = get_or_read made place c.index_mut-kept.result.now within c.index_mut-kept.ensures.value None in
-    on_ok_weaker c.write_row.result (kept_more sys made place c.write_row.new.kept within are) (c.write_row.ensures.is (subst (λ (o : Option Ending). IfSome o (IsEnding sys)) (sym kept) (are place)))
+    on_ok_weaker c.write_row.result (kept_more sys made place c.write_row.new.kept within are)
+    (c.write_row.ensures.is (subst (λ (o : Option Ending). IfSome o (IsEnding sys)) (sym kept) (are place)))

@@ -8,7 +8,8 @@ use Rattle.trace_file.proofs.Giving.{next_of, next_after, next_row, next_open, n
 use Rattle.trace_file.proofs.event_reader.EventReader.advance.Goals as goal
 
 pub advance-requires : goal.advance-requires
-advance-requires c = let (sys, text, events, h) = c.requires in has_open text (h.header ∷ h.rows) c.args.self.now.records h.has_read
+advance-requires c =
+    let (sys, text, events, h) = c.requires in has_open text (h.header ∷ h.rows) c.args.self.now.records h.has_read
 
 pub returns-in-Ok-false-clause-given : goal.returns-in-Ok-false-clause-given
 returns-in-Ok-false-clause-given c sys text events h =
@@ -26,7 +27,8 @@ returns-in-Err-spelled-clause-fault c sys text events h =
     let all = rw c.in-Ok-true.field-0-test at (c.in-Ok-true.ensures.read text (h.header ∷ h.rows) h.has_read) in
     let next = next_of sys text events row c.args.self.now c.advance.new.self h all in
     inr (row_breaks sys text events row _ c.in-Err-spelled.fault next
-    (ap (λ (z : SystemView). row_rules z c.args.self.now.unit h.rows row) (sym h.sys_is) ∙ c.in-Err-spelled.ensures.fault h.rows next.behind))
+    (ap (λ (z : SystemView). row_rules z c.args.self.now.unit h.rows row) (sym h.sys_is)
+    ∙ c.in-Err-spelled.ensures.fault h.rows next.behind))
 
 pub returns-in-Ok-keep-clause-given : goal.returns-in-Ok-keep-clause-given
 returns-in-Ok-keep-clause-given c sys text events h =
@@ -38,7 +40,9 @@ returns-in-Ok-keep-clause-given c sys text events h =
     let goes = next_open sys text events row a next spelt.0 in
     let after = next_after sys text events row a next in
     let number = next_row sys text events row a next in
-    given_more sys text events row c.in-Ok.event a c.keep.new.self next spelt.1 spelt.2 goes c.in-Ok-keep.ensures.same (c.in-Ok-keep.ensures.kept events after number) (c.in-Ok-keep.ensures.after events after number goes) c.in-Ok-keep.ensures.row
+    given_more sys text events row c.in-Ok.event a c.keep.new.self next spelt.1 spelt.2 goes c.in-Ok-keep.ensures.same
+    (c.in-Ok-keep.ensures.kept events after number) (c.in-Ok-keep.ensures.after events after number goes)
+    c.in-Ok-keep.ensures.row
 
 pub returns-in-Err-keep-clause-fault : goal.returns-in-Err-keep-clause-fault
 returns-in-Err-keep-clause-fault c sys text events h =
@@ -48,7 +52,10 @@ returns-in-Err-keep-clause-fault c sys text events h =
     let next = next_of sys text events row c.args.self.now c.advance.new.self h all in
     let spelt = c.in-Ok.ensures.event h.rows next.behind in
     let goes = next_open sys text events row a next spelt.0 in
-    elim (c.in-Err-keep.ensures.fault events (next_after sys text events row a next) (next_row sys text events row a next)) [
+    elim (c.in-Err-keep.ensures.fault events (next_after sys text events row a next)
+    (next_row sys text events row a next)) [
       | inl memory ↦ inl memory
-      | inr breaks ↦ inr (row_breaks sys text events row a c.in-Err-keep.fault next (next_rules sys text events row c.in-Ok.event a next spelt.1 spelt.2 goes ∙ breaks))
+      | inr breaks ↦
+          inr (row_breaks sys text events row a c.in-Err-keep.fault next
+          (next_rules sys text events row c.in-Ok.event a next spelt.1 spelt.2 goes ∙ breaks))
     ]

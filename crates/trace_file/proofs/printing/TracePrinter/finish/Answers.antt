@@ -9,4 +9,5 @@ returns-clause-text c sys events printed = printed.written
 
 pub returns-clause-reads_back : goal.returns-clause-reads_back
 returns-clause-reads_back c sys events printed system kept =
-    subst (λ (z : List ℕ). Spells sys (records_of z) events) (sym printed.written) (printed_spells sys events system kept printed.fits)
+    subst (λ (z : List ℕ). Spells sys (records_of z) events) (sym printed.written)
+    (printed_spells sys events system kept printed.fits)
