@@ -50,16 +50,16 @@ tallies_status P at_yes at_no at_wide sys events status text h = statuses_assign
 -- what it means
 on_yes : (sys : SystemView) → IsSystem sys → (budgets : List ℕ) (events : List Event) (finding : Finding) (tallies : List Tally) → IsFinding sys budgets events finding → AreTallies sys budgets events tallies → finding_status finding ≡ Yes
     → tally_text sys budgets finding tallies ≡ audit_text sys budgets (Kept (sum_below (λ v. (tally_at tallies v).judged) (length sys.parts))) ++ tally_lines sys 0 tallies
-on_yes sys is budgets events (Kept periods) tallies found counted yes = ap (λ (z : ℕ). audit_text sys budgets (Kept z) ++ tally_lines sys 0 tallies) (found.1 ∙ sym (judged_sum sys is budgets events tallies counted))
-on_yes sys is budgets events (Short v from got) tallies found counted yes = absurd (cc)
-on_yes sys is budgets events (Over v from got) tallies found counted yes = absurd (cc)
+on_yes sys is budgets events (Kept periods) tallies found counted told = ap (λ (z : ℕ). audit_text sys budgets (Kept z) ++ tally_lines sys 0 tallies) (found.1 ∙ sym (judged_sum sys is budgets events tallies counted))
+on_yes sys is budgets events (Short v from got) tallies found counted told = absurd (cc)
+on_yes sys is budgets events (Over v from got) tallies found counted told = absurd (cc)
 
 told_tells : (sys : SystemView) → IsSystem sys → (budgets : List ℕ) (events : List Event) (status : Status) (text : List ℕ) → IsToldTally sys budgets events status text → TellsTally sys budgets events status text
 told_tells sys is budgets events status text h = record {
   satisfied = subst (λ (z : Status). TellsSatisfied sys budgets events z) (sym h.status_is) (finding_tells sys budgets events h.finding h.found);
   tallies = h.tallies;
   counted = h.counted;
-  on_yes = λ yes. h.told ∙ on_yes sys is budgets events h.finding h.tallies h.found h.counted (sym h.status_is ∙ yes);
+  on_yes = λ told. h.told ∙ on_yes sys is budgets events h.finding h.tallies h.found h.counted (sym h.status_is ∙ told);
 }
 
 tally_reads : JudgesRead tracing TalliesEvents
