@@ -10,9 +10,13 @@ use Rattle.auditor.specs.declared.watches.Watches.{Watches}
 use Rattle.auditor.specs.Watches.{AreWatched, AwaitsEvent}
 
 abbrev pub Behind : SystemView → List ℕ → List Event → Watches → Type 0
-Behind sys budgets events s = (more : List Event) → RowsKeep sys (events ++ more) (length (events ++ more)) → AreWatched sys budgets (events ++ more) (length events) s
+Behind sys budgets events s =
+    (more : List Event) → RowsKeep sys (events ++ more) (length (events ++ more))
+    → AreWatched sys budgets (events ++ more) (length events) s
 
-pub awaits_more : (sys : SystemView) (budgets : List ℕ) (events : List Event) (e : Event) (more : List Event) (s : Watches) → RowsKeep sys (events ++ e ∷ more) (length (events ++ e ∷ more)) → Behind sys budgets events s → AwaitsEvent sys budgets (events ++ e ∷ more) (length events) e s
+pub awaits_more : (sys : SystemView) (budgets : List ℕ) (events : List Event) (e : Event) (more : List Event)
+    (s : Watches) → RowsKeep sys (events ++ e ∷ more) (length (events ++ e ∷ more)) → Behind sys budgets events s
+    → AwaitsEvent sys budgets (events ++ e ∷ more) (length events) e s
 awaits_more sys budgets events e more s keep behind = record {
   next = record {
     rows = keep;
@@ -22,14 +26,21 @@ awaits_more sys budgets events e more s keep behind = record {
   watched = behind (e ∷ more) keep;
 }
 
-pub behind_next : (sys : SystemView) (budgets : List ℕ) (events : List Event) (e : Event) (old new : Watches) → Behind sys budgets events old → ((xs : List Event) (n : ℕ) → AwaitsEvent sys budgets xs n e old → AreWatched sys budgets xs (n + 1) new) → Behind sys budgets (events ++ e ∷ []) new
+pub behind_next : (sys : SystemView) (budgets : List ℕ) (events : List Event) (e : Event) (old new : Watches)
+    → Behind sys budgets events old
+    → ((xs : List Event) (n : ℕ) → AwaitsEvent sys budgets xs n e old → AreWatched sys budgets xs (n + 1) new)
+    → Behind sys budgets (events ++ e ∷ []) new
 behind_next sys budgets events e old new behind taken = λ more keep.
     let one : (events ++ e ∷ []) ++ more ≡ events ++ e ∷ more = append_assoc events (e ∷ []) more in
-    let keeps : RowsKeep sys (events ++ e ∷ more) (length (events ++ e ∷ more)) = subst (λ (z : List Event). RowsKeep sys z (length z)) one keep in
+    let keeps : RowsKeep sys (events ++ e ∷ more) (length (events ++ e ∷ more))
+    = subst (λ (z : List Event). RowsKeep sys z (length z)) one keep in
     let count : length events + 1 ≡ length (events ++ e ∷ []) = sym (length-append events (e ∷ [])) in
     subst (λ (z : List Event). AreWatched sys budgets z (length (events ++ e ∷ [])) new) (sym one)
-    (subst (λ (n : ℕ). AreWatched sys budgets (events ++ e ∷ more) n new) count (taken (events ++ e ∷ more) (length events) (awaits_more sys budgets events e more old keeps behind)))
+    (subst (λ (n : ℕ). AreWatched sys budgets (events ++ e ∷ more) n new) count
+    (taken (events ++ e ∷ more) (length events) (awaits_more sys budgets events e more old keeps behind)))
 
-pub behind_all : (sys : SystemView) (budgets : List ℕ) (events : List Event) (s : Watches) → Behind sys budgets events s → RowsKeep sys events (length events) → AreWatched sys budgets events (length events) s
+pub behind_all : (sys : SystemView) (budgets : List ℕ) (events : List Event) (s : Watches) → Behind sys budgets events s
+    → RowsKeep sys events (length events) → AreWatched sys budgets events (length events) s
 behind_all sys budgets events s behind keep =
-    subst (λ (z : List Event). AreWatched sys budgets z (length events) s) (append-nil events) (behind [] (subst (λ (z : List Event). RowsKeep sys z (length z)) (sym (append-nil events)) keep))
+    subst (λ (z : List Event). AreWatched sys budgets z (length events) s) (append-nil events)
+    (behind [] (subst (λ (z : List Event). RowsKeep sys z (length z)) (sym (append-nil events)) keep))

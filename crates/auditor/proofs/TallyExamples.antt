@@ -23,14 +23,25 @@ use Rattle.auditor.proofs.OneTally.{one_tally}
 abbrev host : SystemView
 host = record {
   cores = record { name = 99 ∷ []; sched = Edf; supply = None } ∷ [];
-  parts = record { name = 65 ∷ []; parent = on_core 0; sched = Edf; period = 2; budget = Some 1; extra = false; tasks = record { name = 116 ∷ []; task = plain_task 100 100 1 } ∷ [] } ∷ [];
+  parts =
+      record {
+        name = 65 ∷ [];
+        parent = on_core 0;
+        sched = Edf;
+        period = 2;
+        budget = Some 1;
+        extra = false;
+        tasks = record { name = 116 ∷ []; task = plain_task 100 100 1 } ∷ [];
+      } ∷ [];
 }
 
 abbrev row : ℕ → What → Event
 row at what = record { at = at; core = 0; what = what }
 
 abbrev worked : List Event
-worked = row 0 (Start 0) ∷ row 0 (Run 0) ∷ row 1400 Stop ∷ row 2000 (Run 0) ∷ row 2500 Stop ∷ row 4100 (Block 0) ∷ row 4200 (Wake 0) ∷ row 6100 (Run 0) ∷ row 6400 Stop ∷ row 6500 End ∷ []
+worked =
+    row 0 (Start 0) ∷ row 0 (Run 0) ∷ row 1400 Stop ∷ row 2000 (Run 0) ∷ row 2500 Stop ∷ row 4100 (Block 0)
+    ∷ row 4200 (Wake 0) ∷ row 6100 (Run 0) ∷ row 6400 Stop ∷ row 6500 End ∷ []
 
 abbrev judged : ℕ → Bool
 judged k = is_judged (blocked worked 0) 2000 0 6500 k
@@ -81,7 +92,9 @@ two_are_judged zero e = omega arith
 two_are_judged (suc zero) e = omega arith
 two_are_judged (suc (suc zero)) e = absurd (false≢true (sym blocked_third ∙ e))
 two_are_judged (suc (suc (suc k))) e =
-    let ends : 0 + suc (suc (suc (suc k))) * 2000 ≤ 6500 = leb-true (0 + suc (suc (suc (suc k))) * 2000) 6500 (and_parts (leb (0 + suc (suc (suc (suc k))) * 2000) 6500) (is_clear (blocked worked 0) 2000 0 (suc (suc (suc k)))) e).0 in
+    let ends : 0 + suc (suc (suc (suc k))) * 2000 ≤ 6500
+    = leb-true (0 + suc (suc (suc (suc k))) * 2000) 6500 (and_parts (leb (0 + suc (suc (suc (suc k))) * 2000) 6500)
+    (is_clear (blocked worked 0) 2000 0 (suc (suc (suc k)))) e).0 in
     absurd (omega (arith, ends))
 
 least_time : (k : ℕ) → k < 2 → 500 ≤ time k
@@ -113,21 +126,38 @@ over_count = refl
 
 of_worked : IsTally host (1 ∷ []) worked 0 worked_tally
 of_worked = record {
-  begun = record { test = λ _. true; limit = 4; have = λ k l _. (0, has k l); pass = λ k is. (one_of_four is.0 k is.1, refl); count = sym (count_true 4) };
+  begun =
+      record {
+        test = λ _. true;
+        limit = 4;
+        have = λ k l _. (0, has k l);
+        pass = λ k is. (one_of_four is.0 k is.1, refl);
+        count = sym (count_true 4);
+      };
   judged = record {
     test = judged;
     limit = 4;
     have = λ k l e. (0, record { period = has k l; judged = e });
-    pass = λ k is. (one_of_four is.0 k is.1.period, (subst (λ (f : ℕ). IsJudged host worked 0 f k) (from_0 is.0 k is.1.period) is.1).judged);
+    pass =
+        λ k is. (
+          one_of_four is.0 k is.1.period,
+          (subst (λ (f : ℕ). IsJudged host worked 0 f k) (from_0 is.0 k is.1.period) is.1).judged,
+        );
     count = judged_count;
   };
   short = record {
     test = λ k. judged k && ltb (time k) 1000;
     limit = 4;
-    have = λ k l e. let parts = and_parts (judged k) (ltb (time k) 1000) e in (0, record { period = has k l; judged = parts.0; short = ltb-true (time k) 1000 parts.1 });
+    have =
+        λ k l e. let parts =
+        and_parts (judged k) (ltb (time k) 1000) e in
+        (0, record { period = has k l; judged = parts.0; short = ltb-true (time k) 1000 parts.1 });
     pass = λ k is.
-        let own : IsShort host (1 ∷ []) worked 0 0 k = subst (λ (f : ℕ). IsShort host (1 ∷ []) worked 0 f k) (from_0 is.0 k is.1.period) is.1 in
-        (one_of_four 0 k own.period, and_from (judged k) (ltb (time k) 1000) own.judged (lt-ltb (time k) 1000 own.short));
+        let own : IsShort host (1 ∷ []) worked 0 0 k
+        = subst (λ (f : ℕ). IsShort host (1 ∷ []) worked 0 f k) (from_0 is.0 k is.1.period) is.1 in (
+          one_of_four 0 k own.period,
+          and_from (judged k) (ltb (time k) 1000) own.judged (lt-ltb (time k) 1000 own.short),
+        );
     count = short_count;
   };
   over = record {
@@ -135,21 +165,27 @@ of_worked = record {
     limit = 4;
     have = λ k l e. (0, record { period = has k l; no_extra = refl; over = ltb-true 1000 (time k) e });
     pass = λ k is.
-        let own : IsOver host (1 ∷ []) worked 0 0 k = subst (λ (f : ℕ). IsOver host (1 ∷ []) worked 0 f k) (from_0 is.0 k is.1.period) is.1 in
+        let own : IsOver host (1 ∷ []) worked 0 0 k
+        = subst (λ (f : ℕ). IsOver host (1 ∷ []) worked 0 f k) (from_0 is.0 k is.1.period) is.1 in
         (one_of_four 0 k own.period, lt-ltb 1000 (time k) own.over);
     count = over_count;
   };
   least = record {
-    is = record { f = 0; k = 1; is = record { period = has 1 (omega arith); judged = second_judged }; time = sym second_time };
+    is =
+        record
+        { f = 0; k = 1; is = record { period = has 1 (omega arith); judged = second_judged }; time = sym second_time };
     least = λ y is.
-        let own : IsJudged host worked 0 0 is.k = subst (λ (f : ℕ). IsJudged host worked 0 f is.k) (from_0 is.f is.k is.is.period) is.is in
-        let time_is : y ≡ time is.k = subst (λ (f : ℕ). y ≡ got_in host worked 0 f is.k) (from_0 is.f is.k is.is.period) is.time in
+        let own : IsJudged host worked 0 0 is.k
+        = subst (λ (f : ℕ). IsJudged host worked 0 f is.k) (from_0 is.f is.k is.is.period) is.is in
+        let time_is : y ≡ time is.k
+        = subst (λ (f : ℕ). y ≡ got_in host worked 0 f is.k) (from_0 is.f is.k is.is.period) is.time in
         omega (arith, time_is, least_time is.k (two_are_judged is.k own.judged));
   };
   most = record {
     is = record { f = 0; k = 0; is = has 0 (omega arith); time = sym first_time };
     most = λ y is.
-        let time_is : y ≡ time is.k = subst (λ (f : ℕ). y ≡ got_in host worked 0 f is.k) (from_0 is.f is.k is.is) is.time in
+        let time_is : y ≡ time is.k
+        = subst (λ (f : ℕ). y ≡ got_in host worked 0 f is.k) (from_0 is.f is.k is.is) is.time in
         omega (arith, time_is, most_time is.k (one_of_four is.f is.k is.is));
   };
 }

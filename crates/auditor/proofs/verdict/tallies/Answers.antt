@@ -6,12 +6,17 @@ use Rattle.auditor.proofs.verdict.tallies.Goals as goal
 pub loop-v-preserved : goal.loop-v-preserved
 loop-v-preserved c = record {
   so_many = omega (arith, c.in_ok-push.ensures.len, c.loop-v.invariant.so_many);
-  each = λ events kept watched. tallies_more c.args.sys.now c.args.plan.now events c.loop-v.v c.loop-v.tallies.items c.push.new.self.items c.settled.result.tally c.loop-v.invariant.so_many c.in_ok-push.ensures.items
+  each =
+      λ events kept watched. tallies_more c.args.sys.now c.args.plan.now events c.loop-v.v c.loop-v.tallies.items
+      c.push.new.self.items c.settled.result.tally c.loop-v.invariant.so_many c.in_ok-push.ensures.items
       (c.loop-v.invariant.each events kept watched) (c.settled.ensures.settled events kept watched).counted;
 }
 
 pub returns : goal.returns
 returns c = λ events kept watched. record {
-  each_part = omega (arith, c.loop-v.invariant.so_many, c.loop-v-test.false, ap (λ z. length z) c.parts-v-end.ensures.parts);
-  each = λ v l. c.loop-v.invariant.each events kept watched v (omega (arith, l, c.loop-v-test.false, ap (λ z. length z) c.parts-v-end.ensures.parts));
+  each_part =
+      omega (arith, c.loop-v.invariant.so_many, c.loop-v-test.false, ap (λ z. length z) c.parts-v-end.ensures.parts);
+  each =
+      λ v l. c.loop-v.invariant.each events kept watched v
+      (omega (arith, l, c.loop-v-test.false, ap (λ z. length z) c.parts-v-end.ensures.parts));
 }

@@ -10,14 +10,23 @@ pub take-requires-clause-awaits : goal.take-requires-clause-awaits
 take-requires-clause-awaits c =
     let (events, h, behind) = c.loop.invariant in
     let e = c.in-Ok-Some.event in
-    let given = rw c.in-Ok-Some.field-0-is at (c.in-Ok-Some.ensures.given c.args.sys.now c.args.bytes.now events h) in
-    (events ++ e ∷ [], length events, awaits_more c.args.sys.now c.args.plan.now events e [] c.loop.watches (given_keep c.args.sys.now c.args.bytes.now (events ++ e ∷ []) c.advance.new.self given) behind)
+    let given = rw c.in-Ok-Some.field-0-is at (c.in-Ok-Some.ensures.given c.args.sys.now c.args.bytes.now events h) in (
+      events ++ e ∷ [],
+      length events,
+      awaits_more c.args.sys.now c.args.plan.now events e [] c.loop.watches
+          (given_keep c.args.sys.now c.args.bytes.now (events ++ e ∷ []) c.advance.new.self given) behind,
+    )
 
 pub returns-in-Ok-None-clause-watched : goal.returns-in-Ok-None-clause-watched
 returns-in-Ok-None-clause-watched c =
     let (events, h, behind) = c.loop.invariant in
     let done = rw c.in-Ok-None.field-0-is at (c.in-Ok-None.ensures.given c.args.sys.now c.args.bytes.now events h) in
-    record { events = events; spelled = done.0; kept = done.1; watched = behind_all c.args.sys.now c.args.plan.now events c.loop.watches behind done.1.rows }
+    record {
+      events = events;
+      spelled = done.0;
+      kept = done.1;
+      watched = behind_all c.args.sys.now c.args.plan.now events c.loop.watches behind done.1.rows;
+    }
 
 pub returns-in-Err-advance-clause-fault : goal.returns-in-Err-advance-clause-fault
 returns-in-Err-advance-clause-fault c =
@@ -28,5 +37,8 @@ pub loop-preserved : goal.loop-preserved
 loop-preserved c =
     let (events, h, behind) = c.loop.invariant in
     let e = c.in-Ok-Some.event in
-    let given = rw c.in-Ok-Some.field-0-is at (c.in-Ok-Some.ensures.given c.args.sys.now c.args.bytes.now events h) in
-    (events ++ e ∷ [], given, behind_next c.args.sys.now c.args.plan.now events e c.loop.watches c.take.new.self behind c.take.ensures)
+    let given = rw c.in-Ok-Some.field-0-is at (c.in-Ok-Some.ensures.given c.args.sys.now c.args.bytes.now events h) in (
+      events ++ e ∷ [],
+      given,
+      behind_next c.args.sys.now c.args.plan.now events e c.loop.watches c.take.new.self behind c.take.ensures,
+    )

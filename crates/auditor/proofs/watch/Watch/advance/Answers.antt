@@ -15,7 +15,13 @@ returns-clause-tells c runs blocks f st t =
     let st2 = stays_on runs blocks w ended to to first.state (omega (arith, first.now)) (omega arith) st in
     let st3 = stays_on runs blocks ended next to to second.state (omega (arith, second.now)) (omega arith) st2 in
     let st4 = stays_on runs blocks next last to to third.state third.goes_on (omega arith) st3 in
-    let t2 = first.tells runs blocks f (stays_on runs blocks w w _ to (same_self w) (omega arith) (omega (arith, c.if-to-end.false)) st) t in
-    let t3 = second.tells runs blocks f (stays_on runs blocks ended ended ended.now to (same_self ended) (omega arith) (omega (arith, first.now, c.if-to-end.false)) st2) t2 in
-    let t4 = third.tells runs blocks f (stays_on runs blocks next next last.now to (same_self next) (omega arith) third.now st3) t3 in
+    let t2
+    = first.tells runs blocks f
+    (stays_on runs blocks w w _ to (same_self w) (omega arith) (omega (arith, c.if-to-end.false)) st) t in
+    let t3
+    = second.tells runs blocks f (stays_on runs blocks ended ended ended.now to (same_self ended) (omega arith)
+    (omega (arith, first.now, c.if-to-end.false)) st2) t2 in
+    let t4
+    = third.tells runs blocks f
+    (stays_on runs blocks next next last.now to (same_self next) (omega arith) third.now st3) t3 in
     c.pass-3.ensures.tells runs blocks f st4 t4

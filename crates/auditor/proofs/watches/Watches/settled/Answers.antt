@@ -8,4 +8,6 @@ up_to_end-requires-clause-watched c =
     (events, kept, watched.moment ∙ end_moment c.args.sys.now events kept, watched.each c.args.v c.requires.is_part)
 
 pub returns-clause-settled : goal.returns-clause-settled
-returns-clause-settled c events kept watched = c.up_to_end.ensures.settled events kept (watched.moment ∙ end_moment c.args.sys.now events kept) (watched.each c.args.v c.requires.is_part)
+returns-clause-settled c events kept watched =
+    c.up_to_end.ensures.settled events kept (watched.moment ∙ end_moment c.args.sys.now events kept)
+    (watched.each c.args.v c.requires.is_part)
