@@ -210,7 +210,7 @@ module _ (sys : SystemView) (system : IsSystem sys) (budgets : List ℕ) (plan :
       let until : min (begins (period_of sys v) f (suc k)) (end_of events) ≡ E * 1000 = omega (arith, to, judged) in
       let time : count_between (running sys events v) (begins (period_of sys v) f k) (min (begins (period_of sys v) f (suc k)) (end_of events)) ≡ slots_got p P F k * 1000 =
       ap (λ (z : ℕ). count_between (running sys events v) z (min (begins (period_of sys v) f (suc k)) (end_of events))) from ∙ (ap (λ (z : ℕ). count_between (running sys events v) (begins P F k * 1000) z) until ∙ got v (begins P F k) E s.core ends) in
-      let enough : budget_at budgets v ≤ slots_got p P F k = gives_budgets sys budgets plan rows n c (run_at runs c) (is.cores c s.core.is_core) (served.runnable c s.core.is_core) (served.fit c s.core.is_core) v k (record { is_part = h.period.is_part; on_core = s.core.child; started = s.started }) ends in
+      let enough : budget_at budgets v ≤ slots_got p P F k = gives_budgets sys budgets plan rows workload n c (run_at runs c) (is.cores c s.core.is_core) (served.runnable c s.core.is_core) (served.fit c s.core.is_core) v k (record { is_part = h.period.is_part; on_core = s.core.child; started = s.started }) ends in
       absurd (omega (arith, h.short, time, enough))
 
 -- each moment of the trace is a whole number of microseconds
