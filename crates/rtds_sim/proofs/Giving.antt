@@ -1,15 +1,13 @@
 -- RTDS gives VCPUs that never block their budgets, whenever each starts.
-use Rattle.std.proofs.Common.{◌≡◌, ◌⊎◌, ℕ, suc, ◌+◌, ◌*◌, ◌-◌, ◌<◌, ◌≤◌, Bool, true, false, cond, ◌&&◌, nat_lt, List, length, Option, refl, arith, inl, inr}
+use Rattle.std.proofs.Common.{◌≡◌, ℕ, ◌-◌, ◌<◌, ◌≤◌, Bool, true, cond, ◌&&◌, nat_lt, List, length, Option, arith, inl, inr}
 use Rattle.std.proofs.lemmas.Bool.{cases_Bool, cond-true, cond-false}
 use Rattle.slot_model.specs.Slots.{sum_below}
-use Rattle.slot_model.specs.Bound.{dbf}
 use Rattle.slot_model.proofs.Sums.{sum_below-le}
 use Rattle.tree_model.specs.declared.place.Place.TheVariants.{Core}
 use Rattle.tree_model.specs.View.{SystemView}
 use Rattle.tree_model.specs.System.{part_at}
 use Rattle.tree_model.specs.Tree.{is_child, budget_at}
 use Rattle.tree_model.specs.Plans.{IsPlan}
-use Rattle.trace_file.specs.Periods.{begins}
 use Rattle.release_file.specs.declared.workload.Wake.{Wake}
 use Rattle.release_file.specs.Workload.{is_started, start_of, IsWorkload}
 use Rattle.rtds_sim.specs.Demand.{later}
