@@ -1,8 +1,9 @@
 -- What is asked of the last slots of a period, beside what is counted in a window.
 use Rattle.std.proofs.Common.{◌≡◌, ℕ, max, ◌==◌, ◌-◌, ◌≤◌, false, refl, arith, inl, inr, eq-eqb, eqb-true}
 use Rattle.std.proofs.lemmas.Bool.{cases_Bool, cond-true, cond-false}
-use Rattle.isolation.specs.Demand.{deferrable_demand, asked_of}
-use Rattle.isolation.proofs.Demands.{last_demand, own_last, demand_rises}
+use Rattle.rtds_sim.specs.Demand.{deferrable_demand}
+use Rattle.isolation.specs.Demand.{asked_of}
+use Rattle.rtds_sim.proofs.Demands.{last_demand, own_last, demand_rises}
 
 -- in windows no longer than v's period that is what is asked of them
 pub last-le-asked : (tie : ℕ → ℕ → ℕ) (v u P B t : ℕ) → 1 ≤ P → (u ≡ v → t ≤ P)

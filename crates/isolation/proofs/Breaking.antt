@@ -28,10 +28,10 @@ use Rattle.release_file.specs.Workload.{row_at, last_row, is_of, is_start, start
 use Rattle.rtds_sim.specs.Giving.{IsStartedOn}
 use Rattle.rtds_sim.proofs.Membership.{IsPlace, is_place}
 use Rattle.csv_rows.proofs.Last.{last_is, none_below}
-use Rattle.isolation.specs.Demand.{later}
+use Rattle.rtds_sim.specs.Demand.{later}
 use Rattle.isolation.specs.Keeping.{PeriodsUpTo}
-use Rattle.isolation.proofs.Demands.{quotient_is}
-use Rattle.isolation.proofs.Windows.{later_itself}
+use Rattle.rtds_sim.proofs.Demands.{quotient_is}
+use Rattle.rtds_sim.proofs.Windows.{later_itself}
 use Rattle.isolation.proofs.Short.{WakesWith, IsWitness}
 
 and_no : (b : Bool) → (b && false) ≡ false

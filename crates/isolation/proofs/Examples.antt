@@ -14,7 +14,8 @@ use Rattle.release_file.specs.declared.workload.WakeKind.TheVariants.{Start, Wak
 use Rattle.release_file.specs.Workload.{start_of}
 use Rattle.rtds_sim.specs.Rtds.{CoreRun, deadline_at}
 use Rattle.rtds_sim.proofs.Runs.{better, choice, chosen, is_run}
-use Rattle.isolation.specs.Demand.{deferrable_demand, no_tie, later, asked, IsIsolatedBy}
+use Rattle.rtds_sim.specs.Demand.{deferrable_demand, later}
+use Rattle.isolation.specs.Demand.{no_tie, asked, IsIsolatedBy}
 use Rattle.isolation.specs.Open.{goes_sooner}
 use Rattle.isolation.specs.Keeping.{got_in}
 

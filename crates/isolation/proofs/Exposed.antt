@@ -13,7 +13,8 @@ use Rattle.release_file.specs.Workload.{start_of}
 use Rattle.rtds_sim.proofs.Runs.{rtds_run, rtds_run-is}
 use Rattle.isolation.specs.declared.isolation.Isolation.{Isolation}
 use Rattle.isolation.specs.declared.isolation.Isolation.TheVariants.{Isolated, ByTies, ByBlock}
-use Rattle.isolation.specs.Demand.{later, AsksTooMuch}
+use Rattle.rtds_sim.specs.Demand.{later}
+use Rattle.isolation.specs.Demand.{AsksTooMuch}
 use Rattle.isolation.specs.Keeping.{IsExposed}
 use Rattle.isolation.specs.Answer.{IsIsolation, Means}
 use Rattle.isolation.proofs.Least.{in_file_order}

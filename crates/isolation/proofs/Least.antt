@@ -9,8 +9,9 @@ use Rattle.tree_model.specs.View.{SystemView}
 use Rattle.tree_model.specs.System.{part_at}
 use Rattle.tree_model.specs.Tree.{is_child, budget_at}
 use Rattle.tree_model.specs.Plans.{IsPlan}
-use Rattle.isolation.specs.Demand.{deferrable_demand, no_tie, later, asked_of, asked, IsIsolatedBy, IsLeastBy, AsksTooMuch}
-use Rattle.isolation.proofs.Demands.{demand_rises}
+use Rattle.rtds_sim.specs.Demand.{deferrable_demand, later}
+use Rattle.isolation.specs.Demand.{no_tie, asked_of, asked, IsIsolatedBy, IsLeastBy, AsksTooMuch}
+use Rattle.rtds_sim.proofs.Demands.{demand_rises}
 use Rattle.isolation.proofs.Asked.{asked-rises, asked-own}
 
 module _ (tie : ℕ → ℕ → ℕ) (sys : SystemView) (budgets : List ℕ) (c v : ℕ) where

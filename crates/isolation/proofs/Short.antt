@@ -16,14 +16,15 @@ use Rattle.release_file.specs.declared.workload.Wake.{Wake}
 use Rattle.release_file.specs.Workload.{is_started, is_started_at, is_blocked_at, start_of, IsWorkload}
 use Rattle.rtds_sim.specs.Rtds.{goes_first, period_from, used, can_run, CoreRun}
 use Rattle.rtds_sim.specs.Giving.{IsStartedOn, ServersFit}
-use Rattle.isolation.specs.Demand.{later, asked_of, AsksTooMuch}
+use Rattle.rtds_sim.specs.Demand.{later}
+use Rattle.isolation.specs.Demand.{asked_of, AsksTooMuch}
 use Rattle.isolation.specs.Keeping.{got_in}
-use Rattle.isolation.proofs.Counts.{between_zero}
-use Rattle.isolation.proofs.Demands.{steady_demand, last_demand}
+use Rattle.rtds_sim.proofs.Counts.{between_zero}
+use Rattle.rtds_sim.proofs.Demands.{steady_demand, last_demand}
 use Rattle.isolation.proofs.Asked.{asked-le-last}
-use Rattle.isolation.proofs.Plain.{dbf-parts}
-use Rattle.isolation.proofs.Goes.{place_goes}
-use Rattle.isolation.proofs.Serving.{by_place, serves, on_is, on_from, runs_from}
+use Rattle.rtds_sim.proofs.Plain.{dbf-parts}
+use Rattle.rtds_sim.proofs.Goes.{place_goes}
+use Rattle.rtds_sim.proofs.Serving.{by_place, serves, on_is, on_from, runs_from}
 use Rattle.isolation.proofs.Witness.{WakesAt, IsOther, falls_short}
 
 -- VCPU u has been blocked in the period that is under way at r, and one of its periods ends with

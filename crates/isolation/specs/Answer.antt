@@ -5,7 +5,8 @@ use Rattle.isolation.specs.declared.ties.Ties.{Ties}
 use Rattle.isolation.specs.declared.ties.Ties.TheVariants.{Open, InFileOrder}
 use Rattle.isolation.specs.declared.isolation.Isolation.{Isolation}
 use Rattle.isolation.specs.declared.isolation.Isolation.TheVariants.{Isolated, ByTies, ByBlock}
-use Rattle.isolation.specs.Demand.{no_tie, later, IsLeastBy, AsksTooMuch}
+use Rattle.rtds_sim.specs.Demand.{later}
+use Rattle.isolation.specs.Demand.{no_tie, IsLeastBy, AsksTooMuch}
 use Rattle.isolation.specs.Keeping.{KeepsBudget, KeepsOpenly, IsExposed}
 
 -- the slots that a tie costs

@@ -1,25 +1,16 @@
 -- What the VCPUs of a core may take of the last slots of a period of one of them.
-use Rattle.std.specs.Prelude.{ℕ, ◌+◌, ◌*◌, ◌-◌, ◌/◌, ◌%◌, ◌<◌, ◌≤◌, ◌==◌, nat_lt, min, if◌then◌else◌, List, length}
+use Rattle.std.specs.Prelude.{ℕ, ◌-◌, ◌<◌, ◌≤◌, ◌==◌, if◌then◌else◌, List, length}
+use Rattle.rtds_sim.specs.Demand.{deferrable_demand}
 use Rattle.slot_model.specs.Slots.{sum_below}
 use Rattle.tree_model.specs.declared.place.Place.TheVariants.{Core}
 use Rattle.tree_model.specs.View.{SystemView}
 use Rattle.tree_model.specs.System.{part_at}
 use Rattle.tree_model.specs.Tree.{is_child, budget_at}
 
--- the most that a server takes of the last t slots before one of its periods ends, where it keeps
--- its budget while it blocks: its budget in each whole period there, and its budget again, as far
--- as there are slots, in the rest of the period in which they begin (deferrable servers:
--- Strosnider, Lehoczky, Sha 1995; under earliest deadline first Ghazalie and Baker 1995)
-abbrev pub deferrable_demand : ℕ → ℕ → ℕ → ℕ
-deferrable_demand period budget t = (t / period) * budget + min budget (t % period)
-
--- by how many slots a period of u must end before one of v, to go before it: none where ties are
--- left open, and one for a VCPU that stands behind v where the first in the file goes first
+-- by how many slots a period of u must end before one of v, to go before it, where ties are left
+-- open
 abbrev pub no_tie : ℕ → ℕ → ℕ
 no_tie v u = 0
-
-abbrev pub later : ℕ → ℕ → ℕ
-later v u = if nat_lt v u then 1 else 0
 
 -- what VCPU u, of this period and budget, takes of the last t slots of a period of v, at the most,
 -- and what v must have of them, its whole budget

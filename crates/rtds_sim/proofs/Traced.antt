@@ -279,7 +279,7 @@ module _ (sys : SystemView) (system : IsSystem sys) (budgets : List ℕ) (plan :
       ∙ (ap (λ (z : ℕ). count_between (running sys events v) (begins P F k * 1000) z) until
       ∙ got v (begins P F k) E s.core ends) in
       let enough : budget_at budgets v ≤ slots_got p P F k
-      = gives_budgets sys budgets plan rows n c (run_at runs c) (is.cores c s.core.is_core)
+      = gives_budgets sys budgets plan rows workload n c (run_at runs c) (is.cores c s.core.is_core)
       (served.runnable c s.core.is_core) (served.fit c s.core.is_core) v k
       (record { is_part = h.period.is_part; on_core = s.core.child; started = s.started }) ends in
       absurd (omega (arith, h.short, time, enough))

@@ -17,9 +17,8 @@ pub record IsStartedOn (sys : SystemView) (rows : List Wake) (c v : ℕ) : Type 
   pub on_core : is_child sys (Core c) v ≡ true
   pub started : is_started rows v ≡ true
 
--- each VCPU that the workload starts on core c starts at 0, and never blocks
+-- no VCPU that the workload starts on core c ever blocks
 pub record AlwaysRunnable (sys : SystemView) (rows : List Wake) (c : ℕ) : Type 0 where
-  pub from_zero : (v : ℕ) → IsStartedOn sys rows c v → start_of rows v ≡ 0
   pub awake : (v x : ℕ) → IsStartedOn sys rows c v → is_blocked_at rows v x ≡ false
 
 -- the servers of a full core pass the test of earliest deadline first
@@ -30,8 +29,7 @@ ServersFit sys budgets c = DemandFits (server_tasks sys budgets (Core c)) (λ t.
 abbrev pub slots_got : (ℕ → Bool) → ℕ → ℕ → ℕ → ℕ
 slots_got runs period f k = count_between runs (begins period f k) (begins period f (suc k))
 
--- on each core the servers pass, and each VCPU that the workload starts starts at 0 and never
--- blocks
+-- on each core the servers pass, and no VCPU that the workload starts ever blocks
 pub record AlwaysServed (sys : SystemView) (budgets : List ℕ) (rows : List Wake) : Type 0 where
   pub runnable : (c : ℕ) → c < length sys.cores → AlwaysRunnable sys rows c
   pub fit : (c : ℕ) → c < length sys.cores → ServersFit sys budgets c

@@ -1,4 +1,5 @@
 pub mod Rtds
+pub mod Demand
 pub mod Printed
 pub mod Giving
 pub mod Keys

@@ -48,8 +48,8 @@ pub fn run_rtds(
     ensures rtds { IfOk result (λ trace. AllRtds sys.now (length sys.now.cores)) }
     ensures fault { IfErr result (IsRtdsFault sys.now) }
 
-    // On a core whose servers pass the test, VCPUs that can always run have their budgets in each
-    // period.
+    // On a core whose servers pass the test, VCPUs that never block have their budgets in each
+    // period, whenever each starts.
     ensures gives { (runs : List (List (Option ℕ))) (c : ℕ) →
         RtdsRun sys.now plan.now wakes.now slots runs → c < length sys.now.cores →
         AlwaysRunnable sys.now wakes.now c → ServersFit sys.now plan.now c →

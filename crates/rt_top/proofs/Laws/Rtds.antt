@@ -122,7 +122,7 @@ tells_run sys is budgets plan wakes workload slots few events status text trace 
   told = printed_is.told;
   reads_back = printed_is.reads_back;
   none_over = subst (λ (es : List Event). NoneOver sys budgets es) (sym trace.trace.2) (none_over sys is budgets plan wakes workload slots trace.trace.0 trace.trace.1 (omega (arith, few)));
-  gives = λ runs c run l always fit. gives_budgets sys budgets plan wakes slots c _ (run.cores c l) always fit;
+  gives = λ runs c run l always fit. gives_budgets sys budgets plan wakes workload slots c _ (run.cores c l) always fit;
   satisfied = λ h. subst (λ (es : List Event). Satisfied sys budgets es) (sym trace.trace.2) (satisfied sys is budgets plan wakes workload slots trace.trace.0 trace.trace.1 (omega (arith, few)) (served sys budgets wakes trace.all h));
 }
 

@@ -73,15 +73,15 @@ pub record IsRunOf (contents : Contents) (sys : SystemView) (budgets : List ℕ)
   pub spelled : SpellsSystem contents sys (λ bytes. SpellsWorkload sys (records_of bytes) wakes)
   pub assigned : Assigned sys budgets
 
--- the budgets admit the system, and each VCPU that the workload starts starts at 0 and never blocks
+-- the budgets admit the system, and no VCPU that the workload starts ever blocks
 pub record IsServed (sys : SystemView) (budgets : List ℕ) (wakes : List Wake) : Type 0 where
   pub admitted : Admitted sys budgets
   pub runnable : (c : ℕ) → c < length sys.cores → AlwaysRunnable sys wakes c
 
 -- Yes means: the text tells the trace of the one run of the workload under these budgets, and is
 -- read back as its events. No VCPU without extra time has more than its budget in a period. Where a
--- core's servers pass its test, and its VCPUs start at 0 and never block, each of them has its
--- budget in each period; and where that is so on all cores, no period is short or over.
+-- core's servers pass its test, and its VCPUs never block, each of them has its budget in each
+-- period, whenever each starts; and where that is so on all cores, no period is short or over.
 pub record TellsRun (sys : SystemView) (budgets : List ℕ) (wakes : List Wake) (slots : ℕ)
     (text : List ℕ) : Type 0 where
   pub events : List Event
