@@ -1,4 +1,5 @@
-ghost use Rattle.std.specs.Prelude.{◌≡◌, ◌↔◌, ◌<◌, length, true, IsTrue, IfOk, IfErr, IfSome, IfNone};
+ghost use Rattle.std.specs.Prelude.{◌≡◌, ◌↔◌, ◌<◌, ◌≤◌, length, true, IsTrue, IfOk, IfErr, IfSome, IfNone};
+ghost use Rattle.slot_model.specs.declared.task.TheConstants.{LIMIT};
 ghost use Rattle.slot_model.specs.Task.{sporadic_tasks};
 ghost use Rattle.tree_model.specs.System.{is_leaf, own_tasks, part_at};
 ghost use Rattle.rt_top.specs.Attempt.{IsRefused};
@@ -47,14 +48,18 @@ fn is_leaf_of(part: &Part, name: &str) -> bool
 /// The part at a place.
 pub fn part_at(sys: &System, q: u32) -> &Part
     requires { q < length sys.now.parts }
-    ensures { result.now ≡ part_at sys.now q }
+    ensures part { result.now ≡ part_at sys.now q }
+    ensures some_period { 1 ≤ result.now.period }
+    ensures in_limit { result.now.period ≤ LIMIT }
+    ensures few { length result.now.tasks ≤ 256 }
 {
     &sys.parts()[q as usize]
 }
 
 /// The tasks of a leaf, in file order.
 pub fn leaf_tasks(alloc: Global, part: &Part) -> Result<Vec<Task>, AllocError>
-    ensures { IfOk result (λ tasks. sporadic_tasks tasks.items ≡ own_tasks part.now) }
+    ensures tasks { IfOk result (λ tasks. sporadic_tasks tasks.items ≡ own_tasks part.now) }
+    ensures count { IfOk result (λ tasks. length tasks.items ≡ length part.now.tasks) }
 {
     let mut tasks = Vec::new(alloc);
     for named in part.tasks() {
