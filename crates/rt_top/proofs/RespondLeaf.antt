@@ -1,5 +1,5 @@
 -- What is answered of the tasks of a leaf, and of the leaves among the first parts.
-use Rattle.std.proofs.Common.{◌≡◌, ◌≢◌, ℕ, zero, suc, ◌+◌, ◌<◌, ◌≤◌, Bool, true, false, cond, List, [], ◌∷◌, ◌++◌, length, map, refl, sym, ◌∙◌, ap, arith, subst}
+use Rattle.std.proofs.Common.{◌≡◌, ◌≢◌, ℕ, zero, suc, ◌+◌, ◌<◌, ◌≤◌, Bool, true, false, cond, List, [], ◌∷◌, ◌++◌, length, map, Option, Some, IfSome, refl, sym, ◌∙◌, ap, arith, subst}
 use Rattle.std.specs.Prelude.{All, not}
 use Rattle.std.specs.List.{flat_map, range_with_len}
 use Rattle.std.proofs.lemmas.Bool.{and_parts}
@@ -18,7 +18,7 @@ use Rattle.rtds_sim.specs.Rtds.{is_edf}
 use Rattle.tree_model.specs.declared.place.Place.TheVariants.{Part}
 use Rattle.tree_model.specs.View.{PartView, SystemView}
 use Rattle.tree_model.specs.System.{is_leaf, own_tasks, part_at}
-use Rattle.tree_model.specs.Tree.{budget_at}
+use Rattle.tree_model.specs.Tree.{budget_at, node_tasks}
 use Rattle.tree_model.specs.Admission.{Admitted}
 use Rattle.tree_model.proofs.NodeTasks.{leaf_tasks}
 use Rattle.rt_report.specs.declared.responses.Response.{Response}
@@ -67,7 +67,7 @@ pub one_more_task : (sys : SystemView) (budgets : List ℕ) (q i : ℕ) (sched :
     → AnswerTasks sys budgets (places ++ places_in q i) rows → AnswerTasks sys budgets (places ++ places_in q (i + 1)) (rows ++ row ∷ [])
 one_more_task sys budgets q i sched tasks period budget read places rows row part task of h =
     let place : Response → ℕ × ℕ = λ r. (r.part, r.task) in
-    let more : places_in q (i + 1) ≡ places_in q i ++ (q, i) ∷ [] = map-range_with_len_more (λ (k : ℕ). (q, k)) 0 i i refl in
+    let more : places_in q (i + 1) ≡ places_in q i ++ (q, i) ∷ [] = map-range_with_len_more (λ (k : ℕ). (q, k)) 0 i i (omega arith) in
     let this : place row ≡ (q, i) = rw (part, task) refl in
     record {
       places_are = map-append place rows (row ∷ []) ∙ (ap (λ (ps : List (ℕ × ℕ)). ps ++ place row ∷ []) h.places_are ∙ (ap (λ (p : ℕ × ℕ). (places ++ places_in q i) ++ p ∷ []) this
@@ -93,7 +93,7 @@ answered_among sys n = flat_map (answered_at sys) (range_with_len 0 n)
 among_more : (sys : SystemView) (n : ℕ) → answered_among sys (n + 1) ≡ answered_among sys n ++ answered_at sys n
 among_more sys n =
     let same : (m : ℕ) → flat_map (answered_at sys) (map (λ (k : ℕ). k) (range_with_len 0 m)) ≡ answered_among sys m = λ m. flat_map-map (answered_at sys) (λ (k : ℕ). k) (range_with_len 0 m) in
-    sym (same (n + 1)) ∙ (ap (flat_map (answered_at sys)) (map-range_with_len_more (λ (k : ℕ). k) 0 n n refl) ∙ (flat_map-append (answered_at sys) (map (λ (k : ℕ). k) (range_with_len 0 n)) (n ∷ [])
+    sym (same (n + 1)) ∙ (ap (flat_map (answered_at sys)) (map-range_with_len_more (λ (k : ℕ). k) 0 n n (omega arith)) ∙ (flat_map-append (answered_at sys) (map (λ (k : ℕ). k) (range_with_len 0 n)) (n ∷ [])
     ∙ (ap (λ (ps : List (ℕ × ℕ)). ps ++ flat_map (answered_at sys) (n ∷ [])) (same n) ∙ ap (λ (ps : List (ℕ × ℕ)). answered_among sys n ++ ps) (append-nil (answered_at sys n)))))
 
 -- a part more, which has lines or has none
@@ -104,3 +104,12 @@ pub no_more_part : (sys : SystemView) (budgets : List ℕ) (n : ℕ) (rows : Lis
 no_more_part sys budgets n rows other h =
     let none : answered_at sys n ≡ [] = ap (λ (b : Bool). cond b (places_in n (length (part_at sys n).tasks)) []) other in
     one_more_part sys budgets n rows (subst (λ (ps : List (ℕ × ℕ)). AnswerTasks sys budgets ps rows) (sym (append-nil (answered_among sys n)) ∙ ap (λ (ps : List (ℕ × ℕ)). answered_among sys n ++ ps) (sym none)) h)
+
+-- as many tasks as were read
+pub read_count : (sys : SystemView) (budgets : List ℕ) (q : ℕ) (read : Option ℕ) (n : ℕ) → is_fixed_leaf (part_at sys q) ≡ true → read ≡ Some n → IfSome read (λ k. k ≡ length (node_tasks sys budgets (Part q))) → n ≡ length (own_tasks (part_at sys q))
+read_count sys budgets q read n fixed e many =
+    let here : n ≡ length (node_tasks sys budgets (Part q)) = subst (λ (r : Option ℕ). IfSome r (λ k. k ≡ length (node_tasks sys budgets (Part q)))) e many in
+    here ∙ ap length (leaf_tasks sys budgets q (has_tasks (part_at sys q) fixed))
+
+pub same_some : (x y : ℕ) → Some x ≡ Some y → x ≡ y
+same_some x y e = cc
