@@ -39,9 +39,10 @@ same_plan last another is same a b x y = one_admission last is a b x (subst (λ 
 one_session : (sys : SystemView) → IsSystem sys → (rows : List RowView) → IsOne (IsSession sys rows)
 one_session sys is rows = λ s t x y p q.
     let same : SameHistory p.answers q.answers p.last q.last = one_history sys is rows p.answers q.answers p.last q.last p.answered q.answered in
-    let plan : p.budgets ≡ q.budgets = same_plan p.last q.last (history_system sys rows p.answers p.last is p.answered) same.last_is p.budgets q.budgets p.admitted q.admitted in
-    (p.is_yes ∙ sym q.is_yes,
-     p.told ∙ (ap (λ (given : List Answer). session_text given p.last p.budgets) same.answers_are ∙ (ap (λ (l : SystemView). session_text q.answers l p.budgets) same.last_is ∙ ap (λ (b : List ℕ). session_text q.answers q.last b) plan)) ∙ sym q.told)
+    let plan : p.budgets ≡ q.budgets = same_plan p.last q.last (history_system sys rows p.answers p.last is p.answered) same.last_is p.budgets q.budgets p.admitted q.admitted in (
+      p.is_yes ∙ sym q.is_yes,
+      p.told ∙ (ap (λ (given : List Answer). session_text given p.last p.budgets) same.answers_are ∙ (ap (λ (l : SystemView). session_text q.answers l p.budgets) same.last_is ∙ ap (λ (b : List ℕ). session_text q.answers q.last b) plan)) ∙ sym q.told,
+    )
 
 -- its statuses
 edits_status : (P : Status → Type 0) → P Yes → P No → P Wide → (sys : SystemView) (rows : List RowView) (status : Status) (text : List ℕ) → EditsSystem sys rows status text → P status
