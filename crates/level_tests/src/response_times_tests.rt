@@ -1,8 +1,6 @@
 ghost use Rattle.std.specs.Prelude.{◌<◌, ◌≤◌, length};
 
-use crate::helpers::{
-    MEMORY, assert_jobs, expect_at, periodic, task, two_late_tasks, two_tasks,
-};
+use crate::helpers::{MEMORY, assert_jobs, expect_at, periodic, task, two_late_tasks, two_tasks};
 use response_times::{replay, response, response_jobs};
 use slot_model::{Sched, Task};
 use std::process::Abort;
@@ -14,8 +12,18 @@ fn greatest_responses_of_two_tasks(rt: HostRuntime) {
     let jittery = two_late_tasks(&rt);
     let four = periodic(&rt, 10, 4);
     for (tasks, first, second) in [(&tasks, 25, 46), (&jittery, 25, 65)] {
-        expect_at(&rt, "first", response(Sched::Rm, tasks, 0, &four), Some(first));
-        expect_at(&rt, "second", response(Sched::Rm, tasks, 1, &four), Some(second));
+        expect_at(
+            &rt,
+            "first",
+            response(Sched::Rm, tasks, 0, &four),
+            Some(first),
+        );
+        expect_at(
+            &rt,
+            "second",
+            response(Sched::Rm, tasks, 1, &four),
+            Some(second),
+        );
     }
     let three = periodic(&rt, 10, 3);
     expect_at(&rt, "short", response(Sched::Rm, &tasks, 1, &three), None);
@@ -47,7 +55,17 @@ fn replays_show_the_responses(rt: HostRuntime) {
     let tasks = two_tasks(&rt);
     expect_at(&rt, "first", replayed(&rt, &tasks, 0, &four), Some(25));
     expect_at(&rt, "second", replayed(&rt, &tasks, 1, &four), Some(46));
-    expect_at(&rt, "late", replayed(&rt, &two_late_tasks(&rt), 1, &four), Some(65));
+    expect_at(
+        &rt,
+        "late",
+        replayed(&rt, &two_late_tasks(&rt), 1, &four),
+        Some(65),
+    );
     let long = [task(&rt, 1_000_000_000, 1_000_000_000, 999_999)];
-    expect_at(&rt, "long", replayed(&rt, &long, 0, &periodic(&rt, 4, 2)), None);
+    expect_at(
+        &rt,
+        "long",
+        replayed(&rt, &long, 0, &periodic(&rt, 4, 2)),
+        None,
+    );
 }

@@ -115,8 +115,16 @@ fn next_windows(rt: HostRuntime) {
 fn supplies_of_nodes(rt: HostRuntime) {
     let part = NodeSupply::Periodic(periodic(&rt, 5, 2));
     expect(&rt, (part.cycle(), part.budget(), part.start()), (5, 2, 2));
-    expect(&rt, (part.least(8), part.reach(2), part.worst(2)), (2, Some(8), false));
+    expect(
+        &rt,
+        (part.least(8), part.reach(2), part.worst(2)),
+        (2, Some(8), false),
+    );
     let core = NodeSupply::Full;
     expect(&rt, (core.cycle(), core.budget(), core.start()), (1, 1, 0));
-    expect(&rt, (core.least(8), core.reach(2), core.worst(2)), (8, Some(2), true));
+    expect(
+        &rt,
+        (core.least(8), core.reach(2), core.worst(2)),
+        (8, Some(2), true),
+    );
 }

@@ -35,22 +35,33 @@ abbrev task : List ℕ → ℕ → ℕ → NamedTask
 task name period work = record { name = name; task = plain_task period period work }
 
 abbrev part : List ℕ → Parent → ℕ → Option ℕ → List NamedTask → PartView
-part name parent period budget tasks = record { name = name; parent = parent; sched = Rm; period = period; budget = budget; extra = false; tasks = tasks }
+part name parent period budget tasks =
+    record { name = name; parent = parent; sched = Rm; period = period; budget = budget; extra = false; tasks = tasks }
 
 -- on a core cpu0 an inner part mid with the leaves video and ctl, and a leaf net with a budget
 abbrev tree : SystemView
 tree = record {
   cores = record { name = codes "cpu0"; sched = Edf; supply = None } ∷ [];
-  parts = part (codes "mid") (on_core 0) 50 None [] ∷ part (codes "net") (on_core 0) 40 (Some 2) (task (codes "n1") 80 1 ∷ [])
-      ∷ part (codes "video") (on_part 0) 100 None (task (codes "v1") 500 70 ∷ task (codes "v2") 750 90 ∷ []) ∷ part (codes "ctl") (on_part 0) 200 None (task (codes "c1") 400 40 ∷ []) ∷ [];
+  parts =
+      part (codes "mid") (on_core 0) 50 None []
+      ∷ part (codes "net") (on_core 0) 40 (Some 2) (task (codes "n1") 80 1 ∷ [])
+      ∷ part (codes "video") (on_part 0) 100 None (task (codes "v1") 500 70 ∷ task (codes "v2") 750 90 ∷ [])
+      ∷ part (codes "ctl") (on_part 0) 200 None (task (codes "c1") 400 40 ∷ []) ∷ [];
 }
 
 abbrev replays : List Replay
 replays =
-    record { part = 2; witness = record { budget = 27; start = 26; span = 1500; task = None }; miss = Some (record { task = 1; release = 1027; deadline = 1527; got = 58; work = 70 }) }
-    ∷ record { part = 3; witness = record { budget = 39; start = 38; span = 999999996; task = Some 0 }; miss = None } ∷ []
+    record {
+      part = 2;
+      witness = record { budget = 27; start = 26; span = 1500; task = None };
+      miss = Some (record { task = 1; release = 1027; deadline = 1527; got = 58; work = 70 });
+    }
+    ∷ record { part = 3; witness = record { budget = 39; start = 38; span = 999999996; task = Some 0 }; miss = None }
+    ∷ []
 
-the_text_of_a_yes : admit_text tree (30 ∷ 2 ∷ 28 ∷ 40 ∷ []) replays ≡ codes "verdict=yes\npart mid period=50 budget=30 computed\npart net period=40 budget=2 given\npart video period=100 budget=28 computed\nwitness video budget=27 start=26 span=1500 task=- replay=v2 release=1027 deadline=1527 got=58 of=70\npart ctl period=200 budget=40 computed\nwitness ctl budget=39 start=38 span=999999996 task=c1 replay=skipped\n"
+the_text_of_a_yes : admit_text tree (30 ∷ 2 ∷ 28 ∷ 40 ∷ []) replays
+    ≡ codes
+    "verdict=yes\npart mid period=50 budget=30 computed\npart net period=40 budget=2 given\npart video period=100 budget=28 computed\nwitness video budget=27 start=26 span=1500 task=- replay=v2 release=1027 deadline=1527 got=58 of=70\npart ctl period=200 budget=40 computed\nwitness ctl budget=39 start=38 span=999999996 task=c1 replay=skipped\n"
 unfolding digits
 the_text_of_a_yes = refl
 
@@ -61,10 +72,12 @@ a_core_that_is_overfull : refusal_text tree (Overfull (Core 0) (At 20)) ≡ code
 unfolding digits
 a_core_that_is_overfull = refl
 
-a_leaf_whose_task_is_late : refusal_text tree (Overfull (Part 2) (Task 1)) ≡ codes "verdict=no\noverfull part video task=v2\n"
+a_leaf_whose_task_is_late : refusal_text tree (Overfull (Part 2) (Task 1))
+    ≡ codes "verdict=no\noverfull part video task=v2\n"
 a_leaf_whose_task_is_late = refl
 
-an_inner_part_whose_server_is_late : refusal_text tree (Overfull (Part 0) (Task 1)) ≡ codes "verdict=no\noverfull part mid task=ctl\n"
+an_inner_part_whose_server_is_late : refusal_text tree (Overfull (Part 0) (Task 1))
+    ≡ codes "verdict=no\noverfull part mid task=ctl\n"
 an_inner_part_whose_server_is_late = refl
 
 a_leaf_that_is_wide : refusal_text tree (Wide (Part 3)) ≡ codes "verdict=wide\nwide part ctl\n"
@@ -152,22 +165,27 @@ a_core_that_is_not_rtds : fault_text (Some tree) (NotRtds 0) 1 ≡ codes "fault=
 unfolding digits
 a_core_that_is_not_rtds = refl
 
-words_that_fit_no_leaf : (fault_text None NoSuchLeaf 1 ≡ codes "fault=NoSuchLeaf file=1\n") × (fault_text None BadDeadline 1 ≡ codes "fault=BadDeadline file=1\n")
+words_that_fit_no_leaf : (fault_text None NoSuchLeaf 1 ≡ codes "fault=NoSuchLeaf file=1\n")
+    × (fault_text None BadDeadline 1 ≡ codes "fault=BadDeadline file=1\n")
 unfolding digits
 words_that_fit_no_leaf = (refl, refl)
 
-the_interface_of_a_leaf : interface_text (part_at tree 3) 40 27 ≡ codes "verdict=yes\ninterface ctl period=200 deadline=40 budget=27\n"
+the_interface_of_a_leaf : interface_text (part_at tree 3) 40 27
+    ≡ codes "verdict=yes\ninterface ctl period=200 deadline=40 budget=27\n"
 unfolding digits
 the_interface_of_a_leaf = refl
 
-choices_of_a_period : (best_text (part_at tree 3) 7 2 ≡ codes "verdict=yes\nchoose ctl period=7 budget=2\n") × (nothing_text 99 0 ≡ codes "verdict=no\nnothing over=99 wide=0\n")
+choices_of_a_period : (best_text (part_at tree 3) 7 2 ≡ codes "verdict=yes\nchoose ctl period=7 budget=2\n")
+    × (nothing_text 99 0 ≡ codes "verdict=no\nnothing over=99 wide=0\n")
 unfolding digits
 choices_of_a_period = (refl, refl)
 
 what_an_audit_tells :
     ((audit_text tree (30 ∷ 2 ∷ 28 ∷ 40 ∷ []) (Yes 12) ≡ codes "verdict=yes\nperiods=12\n")
-    × (audit_text tree (30 ∷ 2 ∷ 28 ∷ 40 ∷ []) (Short 1 4000 1999) ≡ codes "verdict=no\nshort net from_ns=4000 got_ns=1999 of_ns=2000\n")
-    × (audit_text tree (30 ∷ 2 ∷ 28 ∷ 40 ∷ []) (Over 0 0 30001) ≡ codes "verdict=no\nover mid from_ns=0 got_ns=30001 of_ns=30000\n"))
+    × (audit_text tree (30 ∷ 2 ∷ 28 ∷ 40 ∷ []) (Short 1 4000 1999)
+    ≡ codes "verdict=no\nshort net from_ns=4000 got_ns=1999 of_ns=2000\n")
+    × (audit_text tree (30 ∷ 2 ∷ 28 ∷ 40 ∷ []) (Over 0 0 30001)
+    ≡ codes "verdict=no\nover mid from_ns=0 got_ns=30001 of_ns=30000\n"))
 unfolding digits
 what_an_audit_tells = (refl, refl, refl)
 
@@ -180,6 +198,7 @@ unfolding digits
 files_that_are_not_read = (refl, refl, refl, refl)
 
 -- a generated host of one guest
-a_generated_host : bulk_text (record { guests = 1; cores = 1; budgets = 53; jobs = 15; missed = 0; pending = 130460 }) ≡ codes "verdict=yes\nguests=1 cores=1 budgets=53 jobs=15 missed=0 pending=130460\n"
+a_generated_host : bulk_text (record { guests = 1; cores = 1; budgets = 53; jobs = 15; missed = 0; pending = 130460 })
+    ≡ codes "verdict=yes\nguests=1 cores=1 budgets=53 jobs=15 missed=0 pending=130460\n"
 unfolding digits
 a_generated_host = refl

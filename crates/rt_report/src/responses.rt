@@ -18,11 +18,7 @@ pub struct Response {
 }
 
 /// The text of the responses: the verdict, and a line each.
-pub fn responses_text(
-    alloc: Global,
-    sys: &System,
-    rows: &[Response],
-) -> Result<Vec<u8>, AllocError>
+pub fn responses_text(alloc: Global, sys: &System, rows: &[Response]) -> Result<Vec<u8>, AllocError>
     ensures { IfOk result (λ text. text.items ≡ responses_text sys.now rows.now) }
 {
     let mut text = String::from_str(alloc, "verdict=yes\n")?;

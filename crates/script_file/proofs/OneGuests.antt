@@ -13,26 +13,37 @@ use Rattle.script_file.specs.Guests.{guest_of, is_guest, row_at, HasOther, IsFir
 use Rattle.script_file.proofs.OneScript.{one_script, no_script_fault, one_script_fault}
 
 -- of each row, and of all
-pub all_guests : (rows : List RowView) → ((i : ℕ) → i < length rows → is_guest (row_at rows i) ≡ true) → list_all is_guest rows ≡ true
+pub all_guests : (rows : List RowView) → ((i : ℕ) → i < length rows → is_guest (row_at rows i) ≡ true)
+    → list_all is_guest rows ≡ true
 all_guests [] each = refl
-all_guests (row ∷ rows) each = and_from (is_guest row) (list_all is_guest rows) (each 0 (omega arith)) (all_guests rows (λ i l. each (suc i) (omega (arith, l))))
+all_guests (row ∷ rows) each =
+    and_from (is_guest row) (list_all is_guest rows) (each 0 (omega arith))
+    (all_guests rows (λ i l. each (suc i) (omega (arith, l))))
 
-guest_at : (rows : List RowView) (i : ℕ) → i < length rows → list_all is_guest rows ≡ true → is_guest (row_at rows i) ≡ true
+guest_at : (rows : List RowView) (i : ℕ) → i < length rows → list_all is_guest rows ≡ true
+    → is_guest (row_at rows i) ≡ true
 guest_at [] i l all = absurd (omega (arith, l))
 guest_at (row ∷ rows) zero l all = (and_parts (is_guest row) (list_all is_guest rows) all).0
-guest_at (row ∷ rows) (suc i) l all = guest_at rows i (omega (arith, l)) (and_parts (is_guest row) (list_all is_guest rows) all).1
+guest_at (row ∷ rows) (suc i) l all =
+    guest_at rows i (omega (arith, l)) (and_parts (is_guest row) (list_all is_guest rows) all).1
 
 clash : (b : Bool) → b ≡ true → b ≡ false → ⊥
 clash b t f = false≢true (sym f ∙ t)
 
-pub one_guests : (records : List (List (List ℕ))) (a b : List PartView) → SpellsGuests records a → SpellsGuests records b → a ≡ b
-one_guests records a b p q = p.guests_are ∙ (ap (λ (rows : List RowView). map guest_of rows) (one_script records p.rows q.rows p.spelled q.spelled) ∙ sym q.guests_are)
+pub one_guests : (records : List (List (List ℕ))) (a b : List PartView) → SpellsGuests records a
+    → SpellsGuests records b → a ≡ b
+one_guests records a b p q =
+    p.guests_are
+    ∙ (ap (λ (rows : List RowView). map guest_of rows) (one_script records p.rows q.rows p.spelled q.spelled)
+    ∙ sym q.guests_are)
 
-pub no_guest_fault : (records : List (List (List ℕ))) (a : List PartView) (fault : GuestFault) → SpellsGuests records a → IsGuestFault records fault → ⊥
+pub no_guest_fault : (records : List (List (List ℕ))) (a : List PartView) (fault : GuestFault) → SpellsGuests records a
+    → IsGuestFault records fault → ⊥
 no_guest_fault records a (Script fault) p h = no_script_fault records p.rows fault p.spelled h
 no_guest_fault records a (Other row) p h =
     let same : h.rows ≡ p.rows = one_script records h.rows p.rows h.spelled p.spelled in
-    clash (is_guest (row_at h.rows h.first.place)) (guest_at h.rows h.first.place h.first.is_row (subst (λ (rows : List RowView). list_all is_guest rows ≡ true) (sym same) p.all)) h.first.other
+    clash (is_guest (row_at h.rows h.first.place)) (guest_at h.rows h.first.place h.first.is_row
+    (subst (λ (rows : List RowView). list_all is_guest rows ≡ true) (sym same) p.all)) h.first.other
 
 one_other : (rows : List RowView) (a b : ℕ) → IsFirstOther rows a → IsFirstOther rows b → a ≡ b
 one_other rows a b p q = elim (cases_lt p.place q.place) [
@@ -43,9 +54,11 @@ one_other rows a b p q = elim (cases_lt p.place q.place) [
   ]
 ]
 
-pub one_guest_fault : (records : List (List (List ℕ))) (a b : GuestFault) → IsGuestFault records a → IsGuestFault records b → a ≡ b
+pub one_guest_fault : (records : List (List (List ℕ))) (a b : GuestFault) → IsGuestFault records a
+    → IsGuestFault records b → a ≡ b
 one_guest_fault records (Script f) (Script g) p q = ap Script (one_script_fault (script_rows records) f g p q)
 one_guest_fault records (Script f) (Other r) p q = absurd (no_script_fault records q.rows f q.spelled p)
 one_guest_fault records (Other r) (Script g) p q = absurd (no_script_fault records p.rows g p.spelled q)
 one_guest_fault records (Other r) (Other s) p q =
-    ap Other (one_other p.rows r s p.first (subst (λ (rows : List RowView). IsFirstOther rows s) (one_script records q.rows p.rows q.spelled p.spelled) q.first))
+    ap Other (one_other p.rows r s p.first (subst (λ (rows : List RowView). IsFirstOther rows s)
+    (one_script records q.rows p.rows q.spelled p.spelled) q.first))

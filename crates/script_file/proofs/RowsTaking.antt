@@ -11,35 +11,53 @@ use Rattle.script_file.specs.Script.{edit_of, edits_of, is_row, script_rules, is
 use Rattle.script_file.specs.Spelt.{IsSpelt}
 use Rattle.script_file.specs.Taken.{HasTakenRows}
 
-pub edits_more : (rows : List (List (List ℕ))) (row : List (List ℕ)) → edits_of (rows ++ row ∷ []) ≡ edits_of rows ++ edit_of row ∷ []
+pub edits_more : (rows : List (List (List ℕ))) (row : List (List ℕ))
+    → edits_of (rows ++ row ∷ []) ≡ edits_of rows ++ edit_of row ∷ []
 edits_more rows row = map-append edit_of rows (row ∷ [])
 
 -- a row that is one keeps the rules, and one that is none breaks them
 pub keeps : (rows : List (List (List ℕ))) (row : List (List ℕ)) → is_row row ≡ true → script_rules rows row ≡ None
 keeps rows row e = ap (λ (z : Bool). fault_if (not z) (BadRow (row_of (length rows))) None) e
 
-pub breaks : (rows : List (List (List ℕ))) (row : List (List ℕ)) (number : ℕ) → is_row row ≡ false → number ≡ length rows + 2 → script_rules rows row ≡ Some (BadRow number)
-breaks rows row number e n = ap (λ (z : Bool). fault_if (not z) (BadRow (row_of (length rows))) None) e ∙ ap (λ (m : ℕ). Some (BadRow m)) (sym n)
+pub breaks : (rows : List (List (List ℕ))) (row : List (List ℕ)) (number : ℕ) → is_row row ≡ false
+    → number ≡ length rows + 2 → script_rules rows row ≡ Some (BadRow number)
+breaks rows row number e n =
+    ap (λ (z : Bool). fault_if (not z) (BadRow (row_of (length rows))) None) e ∙ ap (λ (m : ℕ). Some (BadRow m)) (sym n)
 
 -- a row is taken
-pub took_row : {A : Type 0} (start before after : ScriptRows) (rows : List (List (List ℕ))) (row : List (List ℕ)) (edit : RowView) (result : Result A ScriptFault) → HasTakenRows start before rows → IsSpelt row (Some edit) → OnOk result (after.rows.items ≡ before.rows.items ++ edit ∷ []) → OnOk result (length after.rows.items < 2 ^ 32)
+pub took_row : {A : Type 0} (start before after : ScriptRows) (rows : List (List (List ℕ))) (row : List (List ℕ))
+    (edit : RowView) (result : Result A ScriptFault) → HasTakenRows start before rows → IsSpelt row (Some edit)
+    → OnOk result (after.rows.items ≡ before.rows.items ++ edit ∷ []) → OnOk result (length after.rows.items < 2 ^ 32)
     → OnOk result ((script_rules rows row ≡ None) × HasTakenRows start after (rows ++ row ∷ []))
-took_row start before after rows row edit (Ok done) has spelt items few =
-    (keeps rows row spelt.0, record { edits = items ∙ (ap (λ (z : List RowView). z ++ edit ∷ []) has.edits ∙ (ap (λ (e : RowView). edits_of rows ++ e ∷ []) spelt.1 ∙ sym (edits_more rows row))); few = few })
+took_row start before after rows row edit (Ok done) has spelt items few = (
+  keeps rows row spelt.0,
+  record {
+    edits =
+        items
+        ∙ (ap (λ (z : List RowView). z ++ edit ∷ []) has.edits
+        ∙ (ap (λ (e : RowView). edits_of rows ++ e ∷ []) spelt.1 ∙ sym (edits_more rows row)));
+    few = few;
+  },
+)
 took_row start before after rows row edit (Err fault) has spelt items few = tt
 
 -- the rows behind a header
-pub behind_header : (records : List (List (List ℕ))) (header : List (List ℕ)) (read : List (List (List ℕ))) → records ≡ header ∷ read → is_script_header header ≡ true → script_rows records ≡ Some read
+pub behind_header : (records : List (List (List ℕ))) (header : List (List ℕ)) (read : List (List (List ℕ)))
+    → records ≡ header ∷ read → is_script_header header ≡ true → script_rows records ≡ Some read
 behind_header records header read is told = ap script_rows is ∙ rw (told) refl
 
-pub spelt_all : (records : List (List (List ℕ))) (s t : ScriptRows) (header : List (List ℕ)) → is_script_header header ≡ true
-    → (read : List (List (List ℕ))) × (records ≡ header ∷ read) × RowsKeep script_rules read (length read) × HasTakenRows s t read → SpellsScript records t.rows.items
+pub spelt_all : (records : List (List (List ℕ))) (s t : ScriptRows) (header : List (List ℕ))
+    → is_script_header header ≡ true
+    → (read : List (List (List ℕ))) × (records ≡ header ∷ read) × RowsKeep script_rules read (length read)
+    × HasTakenRows s t read → SpellsScript records t.rows.items
 spelt_all records s t header told all =
     let (read, is, keep, taken) = all in
     record { rows = read; header = behind_header records header read is told; keep = keep; edits_are = taken.edits }
 
-pub first_of_file : (records : List (List (List ℕ))) (header : List (List ℕ)) (fault : ScriptFault) → is_script_header header ≡ true
-    → (read : List (List (List ℕ))) × (records ≡ header ∷ read) × IsFirstFault script_rules read fault → IsScriptFault (script_rows records) fault
+pub first_of_file : (records : List (List (List ℕ))) (header : List (List ℕ)) (fault : ScriptFault)
+    → is_script_header header ≡ true
+    → (read : List (List (List ℕ))) × (records ≡ header ∷ read) × IsFirstFault script_rules read fault
+    → IsScriptFault (script_rows records) fault
 first_of_file records header fault told all =
     let (read, is, first) = all in
     subst (λ o. IsScriptFault o fault) (sym (behind_header records header read is told)) first

@@ -30,7 +30,8 @@ a_removal = refl
 a_removal_with_a_parent : is_row (codes "remove" ∷ codes "B" ∷ codes "cpu0" ∷ [] ∷ [] ∷ [] ∷ [] ∷ []) ≡ false
 a_removal_with_a_parent = refl
 
-a_change_with_a_parent : is_row (codes "change" ∷ codes "B" ∷ codes "cpu0" ∷ codes "edf" ∷ codes "10" ∷ [] ∷ [] ∷ []) ≡ false
+a_change_with_a_parent : is_row (codes "change" ∷ codes "B" ∷ codes "cpu0" ∷ codes "edf" ∷ codes "10" ∷ [] ∷ [] ∷ [])
+    ≡ false
 a_change_with_a_parent = refl
 
 an_addition_without_a_parent : is_row (codes "add" ∷ codes "B" ∷ [] ∷ codes "edf" ∷ codes "10" ∷ [] ∷ [] ∷ []) ≡ true
@@ -39,7 +40,8 @@ an_addition_without_a_parent = refl
 a_period_with_a_leading_zero : is_row (codes "add" ∷ codes "B" ∷ [] ∷ codes "edf" ∷ codes "010" ∷ [] ∷ [] ∷ []) ≡ false
 a_period_with_a_leading_zero = refl
 
-a_period_past_64_bits : is_row (codes "add" ∷ codes "B" ∷ [] ∷ codes "edf" ∷ codes "18446744073709551616" ∷ [] ∷ [] ∷ []) ≡ false
+a_period_past_64_bits : is_row
+    (codes "add" ∷ codes "B" ∷ [] ∷ codes "edf" ∷ codes "18446744073709551616" ∷ [] ∷ [] ∷ []) ≡ false
 a_period_past_64_bits = refl
 
 six_fields : is_row (codes "remove" ∷ codes "B" ∷ [] ∷ [] ∷ [] ∷ [] ∷ []) ≡ false

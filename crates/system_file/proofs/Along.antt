@@ -19,34 +19,54 @@ pub length_before : (vs : List Item) (i : ℕ) → i ≤ length vs → length (b
 length_before vs i h = length_map item_view (take i vs) ∙ length-take-le i vs h
 
 -- one more value before
-pub before_more : (vs : List Item) (i : ℕ) (v : Item) → i < length vs → v ≡ get_or vs i v → before vs (i + 1) ≡ before vs i ++ item_view v ∷ []
-before_more vs i v h is = ap (map item_view) (take_more vs i v h) ∙ map-append item_view (take i vs) (get_or vs i v ∷ []) ∙ ap (λ x. before vs i ++ item_view x ∷ []) (sym is)
+pub before_more : (vs : List Item) (i : ℕ) (v : Item) → i < length vs → v ≡ get_or vs i v
+    → before vs (i + 1) ≡ before vs i ++ item_view v ∷ []
+before_more vs i v h is =
+    ap (map item_view) (take_more vs i v h) ∙ map-append item_view (take i vs) (get_or vs i v ∷ [])
+    ∙ ap (λ x. before vs i ++ item_view x ∷ []) (sym is)
 
-pub from_more : (vs : List Item) (i : ℕ) (v : Item) → i < length vs → v ≡ get_or vs i v → from vs i ≡ item_view v ∷ from vs (i + 1)
-from_more vs i v h is = ap (map item_view) (drop-cons vs i v h) ∙ ap (λ x. item_view x ∷ map item_view (drop (suc i) vs)) (sym is) ∙ ap (λ n. item_view v ∷ map item_view (drop n vs)) (sym (add-one i))
+pub from_more : (vs : List Item) (i : ℕ) (v : Item) → i < length vs → v ≡ get_or vs i v
+    → from vs i ≡ item_view v ∷ from vs (i + 1)
+from_more vs i v h is =
+    ap (map item_view) (drop-cons vs i v h) ∙ ap (λ x. item_view x ∷ map item_view (drop (suc i) vs)) (sym is)
+    ∙ ap (λ n. item_view v ∷ map item_view (drop n vs)) (sym (add-one i))
 
 -- the faults along an array, one element at a time
-pub along : (at_element : List Data → Data → List SystemFault) (vs : List Item) (i : ℕ) (v : Item) → i < length vs → v ≡ get_or vs i v →
-    in_order at_element (before vs i) (from vs i) ≡ at_element (before vs i) (item_view v) ++ in_order at_element (before vs (i + 1)) (from vs (i + 1))
+pub along : (at_element : List Data → Data → List SystemFault) (vs : List Item) (i : ℕ) (v : Item) → i < length vs
+    → v ≡ get_or vs i v →
+    in_order at_element (before vs i) (from vs i)
+    ≡ at_element (before vs i) (item_view v) ++ in_order at_element (before vs (i + 1)) (from vs (i + 1))
 along at_element vs i v h is = rw (from_more vs i v h is, before_more vs i v h is)
 
 -- the first fault is that of this element
-pub faulty : (at_element : List Data → Data → List SystemFault) (vs : List Item) (i : ℕ) (v : Item) (fault : SystemFault) → i < length vs → v ≡ get_or vs i v →
-    in_order at_element [] (map item_view vs) ≡ in_order at_element (before vs i) (from vs i) → first_of (at_element (before vs i) (item_view v)) ≡ Some fault →
+pub faulty : (at_element : List Data → Data → List SystemFault) (vs : List Item) (i : ℕ) (v : Item)
+    (fault : SystemFault) → i < length vs → v ≡ get_or vs i v →
+    in_order at_element [] (map item_view vs) ≡ in_order at_element (before vs i) (from vs i)
+    → first_of (at_element (before vs i) (item_view v)) ≡ Some fault →
     first_of (in_order at_element [] (map item_view vs)) ≡ Some fault
 faulty at_element vs i v fault h is so_far wrong = rw (so_far, along at_element vs i v h is) (first_here _ _ _ wrong)
 
 -- this element has no fault
-pub faultless : (at_element : List Data → Data → List SystemFault) (vs : List Item) (i : ℕ) (v : Item) → i < length vs → v ≡ get_or vs i v →
-    in_order at_element [] (map item_view vs) ≡ in_order at_element (before vs i) (from vs i) → at_element (before vs i) (item_view v) ≡ [] →
+pub faultless : (at_element : List Data → Data → List SystemFault) (vs : List Item) (i : ℕ) (v : Item) → i < length vs
+    → v ≡ get_or vs i v →
+    in_order at_element [] (map item_view vs) ≡ in_order at_element (before vs i) (from vs i)
+    → at_element (before vs i) (item_view v) ≡ [] →
     in_order at_element [] (map item_view vs) ≡ in_order at_element (before vs (i + 1)) (from vs (i + 1))
-faultless at_element vs i v h is so_far none = so_far ∙ along at_element vs i v h is ∙ ap (λ faults. faults ++ in_order at_element (before vs (i + 1)) (from vs (i + 1))) none
+faultless at_element vs i v h is so_far none =
+    so_far ∙ along at_element vs i v h is
+    ∙ ap (λ faults. faults ++ in_order at_element (before vs (i + 1)) (from vs (i + 1))) none
 
 -- one more element is spelled
-pub spelled_more : {A : Type 0} (spelled : Data → A) (vs : List Item) (i : ℕ) (v : Item) (x : A) → i < length vs → v ≡ get_or vs i v → x ≡ spelled (item_view v) →
+pub spelled_more : {A : Type 0} (spelled : Data → A) (vs : List Item) (i : ℕ) (v : Item) (x : A) → i < length vs
+    → v ≡ get_or vs i v → x ≡ spelled (item_view v) →
     map spelled (before vs i) ++ x ∷ [] ≡ map spelled (before vs (i + 1))
-spelled_more spelled vs i v x h is same = ap (λ y. map spelled (before vs i) ++ y ∷ []) same ∙ sym (map-append spelled (before vs i) (item_view v ∷ [])) ∙ ap (map spelled) (sym (before_more vs i v h is))
+spelled_more spelled vs i v x h is same =
+    ap (λ y. map spelled (before vs i) ++ y ∷ []) same ∙ sym (map-append spelled (before vs i) (item_view v ∷ []))
+    ∙ ap (map spelled) (sym (before_more vs i v h is))
 
 -- the values before a place and those from it on are all
-pub all_values : (vs : List Item) (i : ℕ) (v : Item) → i < length vs → v ≡ get_or vs i v → before vs i ++ item_view v ∷ from vs (i + 1) ≡ before vs (i + 1) ++ from vs (i + 1)
-all_values vs i v h is = sym (append_assoc (before vs i) (item_view v ∷ []) (from vs (i + 1))) ∙ ap (λ ds. ds ++ from vs (i + 1)) (sym (before_more vs i v h is))
+pub all_values : (vs : List Item) (i : ℕ) (v : Item) → i < length vs → v ≡ get_or vs i v
+    → before vs i ++ item_view v ∷ from vs (i + 1) ≡ before vs (i + 1) ++ from vs (i + 1)
+all_values vs i v h is =
+    sym (append_assoc (before vs i) (item_view v ∷ []) (from vs (i + 1)))
+    ∙ ap (λ ds. ds ++ from vs (i + 1)) (sym (before_more vs i v h is))

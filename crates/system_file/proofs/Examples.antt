@@ -30,7 +30,8 @@ no_text : system_of (0xff ∷ []) ≡ Err NotToml
 unfolding toml_on_literals is_utf8 chars system_of
 no_text = refl
 
-core_alone : system_of (codes "format = 1\n[[core]]\nname = \"cpu0\"\nsched = \"edf\"\n") ≡ Ok (record { cores = record { name = codes "cpu0"; sched = Edf; supply = None } ∷ []; parts = [] })
+core_alone : system_of (codes "format = 1\n[[core]]\nname = \"cpu0\"\nsched = \"edf\"\n")
+    ≡ Ok (record { cores = record { name = codes "cpu0"; sched = Edf; supply = None } ∷ []; parts = [] })
 unfolding toml_on_literals is_utf8 chars system_of
 core_alone = refl
 
@@ -50,30 +51,50 @@ abbrev cpu0 : Data
 cpu0 = table (core_keys no_members)
 
 abbrev task : Data → Data → Data
-task period work = table (member (codes "name") (string (codes "t")) (member (codes "period") period (member (codes "work") work no_members)))
+task period work =
+    table (member (codes "name") (string (codes "t"))
+    (member (codes "period") period (member (codes "work") work no_members)))
 
 abbrev inner : List ℕ → List ℕ → Members → Data
 inner name parent more =
-    table (member (codes "name") (string name) (member (codes "parent") (string parent) (member (codes "period") (integer (pos 10)) (member (codes "sched") (string (codes "rm")) more))))
+    table (member (codes "name") (string name) (member (codes "parent") (string parent)
+    (member (codes "period") (integer (pos 10)) (member (codes "sched") (string (codes "rm")) more))))
 
 abbrev leaf : List ℕ → List ℕ → Data
-leaf name parent = inner name parent (member (codes "task") (array (item (task (integer (pos 10)) (integer (pos 1))) no_items)) no_members)
+leaf name parent =
+    inner name parent
+    (member (codes "task") (array (item (task (integer (pos 10)) (integer (pos 1))) no_items)) no_members)
 
 abbrev one_core : Items
 one_core = item cpu0 no_items
 
-a_leaf : system_of_document (Some (document one_core (item (inner (codes "m") (codes "cpu0") no_members) (item (leaf (codes "x") (codes "m")) no_items))))
+a_leaf : system_of_document (Some (document one_core
+    (item (inner (codes "m") (codes "cpu0") no_members) (item (leaf (codes "x") (codes "m")) no_items))))
     ≡ Ok (record {
       cores = record { name = codes "cpu0"; sched = Edf; supply = None } ∷ [];
-      parts = record { name = codes "m"; parent = on_core 0; sched = Rm; period = 10; budget = None; extra = false; tasks = [] }
-          ∷ record { name = codes "x"; parent = on_part 0; sched = Rm; period = 10; budget = None; extra = false; tasks = record { name = codes "t"; task = plain_task 10 10 1 } ∷ [] } ∷ [];
+      parts =
+          record
+          { name = codes "m"; parent = on_core 0; sched = Rm; period = 10; budget = None; extra = false; tasks = [] }
+          ∷ record {
+            name = codes "x";
+            parent = on_part 0;
+            sched = Rm;
+            period = 10;
+            budget = None;
+            extra = false;
+            tasks = record { name = codes "t"; task = plain_task 10 10 1 } ∷ [];
+          } ∷ [];
     })
 a_leaf = refl
 
-later_parent : system_of_document (Some (document one_core (item (leaf (codes "x") (codes "y")) (item (leaf (codes "y") (codes "cpu0")) no_items)))) ≡ Err (NoSuchParent (Part 0))
+later_parent : system_of_document
+    (Some (document one_core (item (leaf (codes "x") (codes "y")) (item (leaf (codes "y") (codes "cpu0")) no_items))))
+    ≡ Err (NoSuchParent (Part 0))
 later_parent = refl
 
-leaf_as_parent : system_of_document (Some (document one_core (item (leaf (codes "y") (codes "cpu0")) (item (leaf (codes "x") (codes "y")) no_items)))) ≡ Err (Mixed (Part 1))
+leaf_as_parent : system_of_document
+    (Some (document one_core (item (leaf (codes "y") (codes "cpu0")) (item (leaf (codes "x") (codes "y")) no_items))))
+    ≡ Err (Mixed (Part 1))
 leaf_as_parent = refl
 
 abbrev coloured : Items
@@ -83,33 +104,47 @@ unknown_key : system_of_document (Some (document coloured no_items)) ≡ Err (Un
 unknown_key = refl
 
 -- all three faults in one file: the core's counts
-three_faults : system_of_document (Some (document coloured (item (leaf (codes "x") (codes "y")) (item (leaf (codes "y") (codes "cpu0")) (item (leaf (codes "z") (codes "y")) no_items))))) ≡ Err (UnknownKey (Core 0))
+three_faults : system_of_document (Some (document coloured (item (leaf (codes "x") (codes "y"))
+    (item (leaf (codes "y") (codes "cpu0")) (item (leaf (codes "z") (codes "y")) no_items)))))
+    ≡ Err (UnknownKey (Core 0))
 three_faults = refl
 
-bad_name : system_of_document (Some (document one_core (item (leaf (codes "9x") (codes "cpu0")) no_items))) ≡ Err (BadName (Part 0))
+bad_name : system_of_document (Some (document one_core (item (leaf (codes "9x") (codes "cpu0")) no_items)))
+    ≡ Err (BadName (Part 0))
 bad_name = refl
 
-name_taken : system_of_document (Some (document one_core (item (leaf (codes "x") (codes "cpu0")) (item (leaf (codes "x") (codes "cpu0")) no_items)))) ≡ Err (NameTaken (Part 1))
+name_taken : system_of_document (Some
+    (document one_core (item (leaf (codes "x") (codes "cpu0")) (item (leaf (codes "x") (codes "cpu0")) no_items))))
+    ≡ Err (NameTaken (Part 1))
 name_taken = refl
 
-no_tasks : system_of_document (Some (document one_core (item (inner (codes "x") (codes "cpu0") no_members) no_items))) ≡ Err (Empty (Part 0))
+no_tasks : system_of_document (Some (document one_core (item (inner (codes "x") (codes "cpu0") no_members) no_items)))
+    ≡ Err (Empty (Part 0))
 no_tasks = refl
 
 -- one key at a time
 abbrev with_task : Data → Members
-with_task t = document one_core (item (inner (codes "x") (codes "cpu0") (member (codes "task") (array (item t no_items)) no_members)) no_items)
+with_task t =
+    document one_core
+    (item (inner (codes "x") (codes "cpu0") (member (codes "task") (array (item t no_items)) no_members)) no_items)
 
-too_much_work : system_of_document (Some (with_task (task (integer (pos 10)) (integer (pos 11))))) ≡ Err (OutOfRange (Task 0 0))
+too_much_work : system_of_document (Some (with_task (task (integer (pos 10)) (integer (pos 11)))))
+    ≡ Err (OutOfRange (Task 0 0))
 too_much_work = refl
 
-whole_period : system_of_document (Some (with_task (task (string (codes "10")) (integer (pos 1))))) ≡ Err (WrongKind (Task 0 0))
+whole_period : system_of_document (Some (with_task (task (string (codes "10")) (integer (pos 1)))))
+    ≡ Err (WrongKind (Task 0 0))
 whole_period = refl
 
-supply_budget_alone : system_of_document (Some (document (item (table (core_keys (member (codes "supply_budget") (string []) no_members))) no_items) no_items)) ≡ Err (MissingKey (Core 0))
+supply_budget_alone : system_of_document (Some
+    (document (item (table (core_keys (member (codes "supply_budget") (string []) no_members))) no_items) no_items))
+    ≡ Err (MissingKey (Core 0))
 supply_budget_alone = refl
 
 -- its own fault comes before that of the missing budget
-supply_period_of_0 : system_of_document (Some (document (item (table (core_keys (member (codes "supply_period") (integer (pos 0)) no_members))) no_items) no_items)) ≡ Err (OutOfRange (Core 0))
+supply_period_of_0 : system_of_document (Some (document
+    (item (table (core_keys (member (codes "supply_period") (integer (pos 0)) no_members))) no_items) no_items))
+    ≡ Err (OutOfRange (Core 0))
 supply_period_of_0 = refl
 
 -- a task with jitter: in format 2 alone, and with work up to what the jitter leaves of the deadline
@@ -143,29 +178,37 @@ late jitter work = record {
   } ∷ [];
 }
 
-jitter_read : system_of_document (Some (of_task (pos 2) (late_task (integer (pos 4)) (integer (pos 5))))) ≡ Ok (late 4 5)
+jitter_read : system_of_document (Some (of_task (pos 2) (late_task (integer (pos 4)) (integer (pos 5)))))
+    ≡ Ok (late 4 5)
 jitter_read = refl
 
-most_jitter : system_of_document (Some (of_task (pos 2) (late_task (integer (pos 8)) (integer (pos 1))))) ≡ Ok (late 8 1)
+most_jitter : system_of_document (Some (of_task (pos 2) (late_task (integer (pos 8)) (integer (pos 1)))))
+    ≡ Ok (late 8 1)
 most_jitter = refl
 
-work_in_the_jitter : system_of_document (Some (of_task (pos 2) (late_task (integer (pos 4)) (integer (pos 6))))) ≡ Err (OutOfRange (Task 0 0))
+work_in_the_jitter : system_of_document (Some (of_task (pos 2) (late_task (integer (pos 4)) (integer (pos 6)))))
+    ≡ Err (OutOfRange (Task 0 0))
 work_in_the_jitter = refl
 
-jitter_of_the_deadline : system_of_document (Some (of_task (pos 2) (late_task (integer (pos 9)) (integer (pos 1))))) ≡ Err (OutOfRange (Task 0 0))
+jitter_of_the_deadline : system_of_document (Some (of_task (pos 2) (late_task (integer (pos 9)) (integer (pos 1)))))
+    ≡ Err (OutOfRange (Task 0 0))
 jitter_of_the_deadline = refl
 
-jitter_below_0 : system_of_document (Some (of_task (pos 2) (late_task (integer (negsuc 0)) (integer (pos 1))))) ≡ Err (OutOfRange (Task 0 0))
+jitter_below_0 : system_of_document (Some (of_task (pos 2) (late_task (integer (negsuc 0)) (integer (pos 1)))))
+    ≡ Err (OutOfRange (Task 0 0))
 jitter_below_0 = refl
 
 -- its kind counts before the range of the work
-jitter_as_text : system_of_document (Some (of_task (pos 2) (late_task (string (codes "4")) (integer (pos 9))))) ≡ Err (WrongKind (Task 0 0))
+jitter_as_text : system_of_document (Some (of_task (pos 2) (late_task (string (codes "4")) (integer (pos 9)))))
+    ≡ Err (WrongKind (Task 0 0))
 jitter_as_text = refl
 
-jitter_in_format_1 : system_of_document (Some (of_task (pos 1) (late_task (integer (pos 4)) (integer (pos 5))))) ≡ Err (UnknownKey (Task 0 0))
+jitter_in_format_1 : system_of_document (Some (of_task (pos 1) (late_task (integer (pos 4)) (integer (pos 5)))))
+    ≡ Err (UnknownKey (Task 0 0))
 jitter_in_format_1 = refl
 
-no_jitter_in_format_2 : system_of_document (Some (of_task (pos 2) (task (integer (pos 10)) (integer (pos 10))))) ≡ system_of_document (Some (of_task (pos 1) (task (integer (pos 10)) (integer (pos 10)))))
+no_jitter_in_format_2 : system_of_document (Some (of_task (pos 2) (task (integer (pos 10)) (integer (pos 10)))))
+    ≡ system_of_document (Some (of_task (pos 1) (task (integer (pos 10)) (integer (pos 10)))))
 no_jitter_in_format_2 = refl
 
 -- other formats

@@ -26,24 +26,33 @@ not_none n h = grind (arith, nat_tests)
 pub right : (b : Bool) (fault : SystemFault) → b ≡ false → fault_if b fault ≡ []
 right b fault h = ap (λ x. fault_if x fault) h
 
-pub keys_fit : (spot : Spot) (listed : List (List ℕ)) (at_keys : List SystemFault) (d : Data) → IsTableOf listed d → at_keys ≡ [] → table_faults spot listed at_keys d ≡ []
-keys_fit spot listed at_keys d t none = ap (table_faults spot listed at_keys) t.is ∙ none_both _ at_keys (right _ _ (ap not t.only)) none
+pub keys_fit : (spot : Spot) (listed : List (List ℕ)) (at_keys : List SystemFault) (d : Data) → IsTableOf listed d
+    → at_keys ≡ [] → table_faults spot listed at_keys d ≡ []
+keys_fit spot listed at_keys d t none =
+    ap (table_faults spot listed at_keys) t.is ∙ none_both _ at_keys (right _ _ (ap not t.only)) none
 
 -- a name that is new
-pub name_fits : (spot : Spot) (earlier : List Data) (o : Option Data) (t : IsNameText o) → list_any (is_named t.name) earlier ≡ false → required spot (text_faults spot (new_name_faults spot earlier)) o ≡ []
-name_fits spot earlier o t new = ap (required spot (text_faults spot (new_name_faults spot earlier))) t.is ∙ ap (λ b. name_faults spot b t.name) new ∙ valid (is_name t.name) t.valid
+pub name_fits : (spot : Spot) (earlier : List Data) (o : Option Data) (t : IsNameText o)
+    → list_any (is_named t.name) earlier ≡ false
+    → required spot (text_faults spot (new_name_faults spot earlier)) o ≡ []
+name_fits spot earlier o t new =
+    ap (required spot (text_faults spot (new_name_faults spot earlier))) t.is ∙ ap (λ b. name_faults spot b t.name) new
+    ∙ valid (is_name t.name) t.valid
   where
     valid : (b : Bool) → b ≡ true → (if b then fault_if false (NameTaken spot) else BadName spot ∷ []) ≡ []
     valid true h = refl
     valid false h = cc
 
-pub sched_fits : (spot : Spot) (o : Option Data) → IsSchedText o → required spot (text_faults spot (sched_faults spot)) o ≡ []
+pub sched_fits : (spot : Spot) (o : Option Data) → IsSchedText o
+    → required spot (text_faults spot (sched_faults spot)) o ≡ []
 sched_fits spot o t = ap (required spot (text_faults spot (sched_faults spot))) t.is ∙ right _ _ t.listed
 
 in_range : (spot : Spot) (n highest : ℕ) → 1 ≤ n → n ≤ highest → range_faults spot highest (integer (pos n)) ≡ []
-in_range spot n highest low high = right _ _ (let e : not (nat_le 1 n && nat_le n highest) ≡ false = grind (arith, nat_tests) in e)
+in_range spot n highest low high =
+    right _ _ (let e : not (nat_le 1 n && nat_le n highest) ≡ false = grind (arith, nat_tests) in e)
 
-pub number_fits : (spot : Spot) (highest : ℕ) (d : Data) → IsWhole d → 1 ≤ number_of (Some d) → number_of (Some d) ≤ highest → range_faults spot highest d ≡ []
+pub number_fits : (spot : Spot) (highest : ℕ) (d : Data) → IsWhole d → 1 ≤ number_of (Some d)
+    → number_of (Some d) ≤ highest → range_faults spot highest d ≡ []
 number_fits spot highest (string s) w low high = let e = w.1 in cc
 number_fits spot highest (integer (pos n)) w low high = in_range spot n highest low high
 number_fits spot highest (integer (negsuc n)) w low high = let e = w.1 in cc
@@ -53,22 +62,28 @@ number_fits spot highest (datetime t) w low high = let e = w.1 in cc
 number_fits spot highest (array ds) w low high = let e = w.1 in cc
 number_fits spot highest (table m) w low high = let e = w.1 in cc
 
-pub required_fits : (spot : Spot) (highest : ℕ) (o : Option Data) → There IsWhole o → 1 ≤ number_of o → number_of o ≤ highest → required spot (range_faults spot highest) o ≡ []
+pub required_fits : (spot : Spot) (highest : ℕ) (o : Option Data) → There IsWhole o → 1 ≤ number_of o
+    → number_of o ≤ highest → required spot (range_faults spot highest) o ≡ []
 required_fits spot highest None w low high = absurd w
 required_fits spot highest (Some d) w low high = number_fits spot highest d w low high
 
-pub optional_fits : (spot : Spot) (highest : ℕ) (o : Option Data) → MayBe IsWhole o → IsGivenBudget highest (given_number o) → optional (range_faults spot highest) o ≡ []
+pub optional_fits : (spot : Spot) (highest : ℕ) (o : Option Data) → MayBe IsWhole o
+    → IsGivenBudget highest (given_number o) → optional (range_faults spot highest) o ≡ []
 optional_fits spot highest None w h = refl
 optional_fits spot highest (Some d) w h = number_fits spot highest d w h.0 h.1
 
-pub default_fits : (spot : Spot) (highest : ℕ) (o : Option Data) → MayBe IsWhole o → 1 ≤ unwrap_or (given_number o) highest → unwrap_or (given_number o) highest ≤ highest → optional (range_faults spot highest) o ≡ []
+pub default_fits : (spot : Spot) (highest : ℕ) (o : Option Data) → MayBe IsWhole o
+    → 1 ≤ unwrap_or (given_number o) highest → unwrap_or (given_number o) highest ≤ highest
+    → optional (range_faults spot highest) o ≡ []
 default_fits spot highest None w low high = refl
 default_fits spot highest (Some d) w low high = number_fits spot highest d w low high
 
-pub below_fits : (spot : Spot) (bound : ℕ) (o : Option Data) → MayBe IsWhole o → number_of o < bound → optional (below_faults spot bound) o ≡ []
+pub below_fits : (spot : Spot) (bound : ℕ) (o : Option Data) → MayBe IsWhole o → number_of o < bound
+    → optional (below_faults spot bound) o ≡ []
 below_fits spot bound None w h = refl
 below_fits spot bound (Some (string s)) w h = let e = w.1 in cc
-below_fits spot bound (Some (integer (pos n))) w h = right _ _ (let e : not (nat_lt n bound) ≡ false = grind (arith, nat_tests) in e)
+below_fits spot bound (Some (integer (pos n))) w h =
+    right _ _ (let e : not (nat_lt n bound) ≡ false = grind (arith, nat_tests) in e)
 below_fits spot bound (Some (integer (negsuc n))) w h = let e = w.1 in cc
 below_fits spot bound (Some (float x)) w h = let e = w.1 in cc
 below_fits spot bound (Some (boolean b)) w h = let e = w.1 in cc
@@ -80,7 +95,8 @@ pub flag_fits : (spot : Spot) (o : Option Data) → MayBe IsFlag o → optional 
 flag_fits spot None w = refl
 flag_fits spot (Some d) w = ap (flag_faults spot) w.1
 
-pub array_fits : (spot : Spot) (most : ℕ) (o : Option Data) → MayBe IsArray o → length (array_of o) ≤ most → optional (array_faults spot most) o ≡ []
+pub array_fits : (spot : Spot) (most : ℕ) (o : Option Data) → MayBe IsArray o → length (array_of o) ≤ most
+    → optional (array_faults spot most) o ≡ []
 array_fits spot most None w few = refl
 array_fits spot most (Some (string s)) w few = let e = w.1 in cc
 array_fits spot most (Some (integer z)) w few = let e = w.1 in cc
@@ -90,25 +106,36 @@ array_fits spot most (Some (datetime t)) w few = let e = w.1 in cc
 array_fits spot most (Some (table m)) w few = let e = w.1 in cc
 array_fits spot most (Some (array ds)) w few = right _ (TooMany spot) (le-ltb most (length (elements_of ds)) few)
 
-pub supply_fits : (spot : Spot) (a b : Option Data) → BothOrNeither a b → IsCoreSupply (supply_of a b) → supply_faults spot a b ≡ []
+pub supply_fits : (spot : Spot) (a b : Option Data) → BothOrNeither a b → IsCoreSupply (supply_of a b)
+    → supply_faults spot a b ≡ []
 supply_fits spot None None w h = refl
 supply_fits spot (Some period) None w h = absurd w
 supply_fits spot None (Some budget) w h = absurd w
-supply_fits spot (Some period) (Some budget) w h = none_both _ _ (number_fits spot LIMIT period w.0 h.0.0 h.0.1) (number_fits spot (number_of (Some period)) budget w.1 h.1 h.2)
+supply_fits spot (Some period) (Some budget) w h =
+    none_both _ _ (number_fits spot LIMIT period w.0 h.0.0 h.0.1)
+    (number_fits spot (number_of (Some period)) budget w.1 h.1 h.2)
 
 -- names that are all different are new, one after the other
-pub new_of_distinct : (ds : List Data) → AreDistinct (map (λ d. text_of (get (codes "name") d)) ds) → (named : (i : ℕ) → i < length ds → IsNameText (get (codes "name") (get_or ds i (boolean false)))) →
+pub new_of_distinct : (ds : List Data) → AreDistinct (map (λ d. text_of (get (codes "name") d)) ds)
+    → (named : (i : ℕ) → i < length ds → IsNameText (get (codes "name") (get_or ds i (boolean false)))) →
     (j : ℕ) (h : j < length ds) → list_any (is_named (named j h).name) (take j ds) ≡ false
-new_of_distinct ds distinct named j h = list_any_none (is_named (named j h).name) (take j ds) (λ k d within. other k d (rw (length-take-le j ds (omega arith)) at within))
+new_of_distinct ds distinct named j h =
+    list_any_none (is_named (named j h).name) (take j ds)
+    (λ k d within. other k d (rw (length-take-le j ds (omega arith)) at within))
   where
-    name_at : (i : ℕ) (w : i < length ds) → get_or (map (λ (d : Data). text_of (get (codes "name") d)) ds) i [] ≡ (named i w).name
-    name_at i w = get_or-map (λ (d : Data). text_of (get (codes "name") d)) ds i (boolean false) [] w ∙ ap text_of (named i w).is
+    name_at : (i : ℕ) (w : i < length ds)
+        → get_or (map (λ (d : Data). text_of (get (codes "name") d)) ds) i [] ≡ (named i w).name
+    name_at i w =
+        get_or-map (λ (d : Data). text_of (get (codes "name") d)) ds i (boolean false) [] w ∙ ap text_of (named i w).is
 
     few : j < length (map (λ (d : Data). text_of (get (codes "name") d)) ds)
     few = rw (length_map (λ (d : Data). text_of (get (codes "name") d)) ds) h
 
-    apart : (k : ℕ) (lt : k < j) (w : k < length ds) (b : Bool) → bytes_eq (named j h).name (named k w).name ≡ b → b ≡ false
-    apart k lt w true e = absurd (distinct k j [] lt few (name_at k w ∙ sym ((bytes_eq-Decides (named j h).name (named k w).name).0 e) ∙ sym (name_at j h)))
+    apart : (k : ℕ) (lt : k < j) (w : k < length ds) (b : Bool) → bytes_eq (named j h).name (named k w).name ≡ b
+        → b ≡ false
+    apart k lt w true e =
+        absurd (distinct k j [] lt few
+        (name_at k w ∙ sym ((bytes_eq-Decides (named j h).name (named k w).name).0 e) ∙ sym (name_at j h)))
     apart k lt w false e = refl
 
     other : (k : ℕ) (d : Data) → k < j → is_named (named j h).name (get_or (take j ds) k d) ≡ false

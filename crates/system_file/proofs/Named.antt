@@ -7,20 +7,24 @@ use Rattle.toml.specs.Data.{Data, string, get}
 use Rattle.system_file.specs.Document.{is_text, is_named}
 use Rattle.system_file.specs.Reading.{HaveNames}
 
-named_by : (s : List ℕ) (ds : List Data) → list_any (is_named s) ds ≡ list_any (is_text s) (map (λ d. get (codes "name") d) ds)
+named_by : (s : List ℕ) (ds : List Data)
+    → list_any (is_named s) ds ≡ list_any (is_text s) (map (λ d. get (codes "name") d) ds)
 named_by s [] = refl
 named_by s (d ∷ ds) = ap (λ b. is_named s d || b) (named_by s ds)
 
-text_in : (s : List ℕ) (names : List (List ℕ)) → list_any (is_text s) (map (λ name. Some (string name)) names) ≡ list_any (bytes_eq s) names
+text_in : (s : List ℕ) (names : List (List ℕ))
+    → list_any (is_text s) (map (λ name. Some (string name)) names) ≡ list_any (bytes_eq s) names
 text_in s [] = refl
 text_in s (n ∷ names) = ap (λ b. bytes_eq s n || b) (text_in s names)
 
 -- a name is taken by an element where it is among the names
-pub taken_is : (ds : List Data) (names : List (List ℕ)) (s : List ℕ) → HaveNames ds names → list_any (is_named s) ds ≡ list_any (bytes_eq s) names
+pub taken_is : (ds : List Data) (names : List (List ℕ)) (s : List ℕ) → HaveNames ds names
+    → list_any (is_named s) ds ≡ list_any (bytes_eq s) names
 taken_is ds names s have = named_by s ds ∙ ap (list_any (is_text s)) have ∙ text_in s names
 
 -- one more element and its name
-pub more_names : (ds : List Data) (names : List (List ℕ)) (d : Data) (s : List ℕ) → HaveNames ds names → get (codes "name") d ≡ Some (string s) → HaveNames (ds ++ d ∷ []) (names ++ s ∷ [])
+pub more_names : (ds : List Data) (names : List (List ℕ)) (d : Data) (s : List ℕ) → HaveNames ds names
+    → get (codes "name") d ≡ Some (string s) → HaveNames (ds ++ d ∷ []) (names ++ s ∷ [])
 more_names ds names d s have is =
     map-append (λ (e : Data). get (codes "name") e) ds (d ∷ [])
     ∙ ap (λ xs. xs ++ get (codes "name") d ∷ []) have

@@ -48,8 +48,10 @@ pub on_part_is : (q : ℕ) (p : Parent) → is_on q p ≡ true → p ≡ on_part
 on_part_is q (on_core c) h = cc
 on_part_is q (on_part k) h = ap on_part (same_place_is k q h)
 
-module _ (format : Format) (cores parts : List Data) (no_core : in_order core_faults [] cores ≡ []) (no_part : in_order (part_faults format cores) [] parts ≡ []) where
-  pub part_none : (q : ℕ) → q < length parts → part_faults format cores (take q parts) (get_or parts q (boolean false)) ≡ []
+module _ (format : Format) (cores parts : List Data) (no_core : in_order core_faults [] cores ≡ [])
+    (no_part : in_order (part_faults format cores) [] parts ≡ []) where
+  pub part_none : (q : ℕ) → q < length parts
+      → part_faults format cores (take q parts) (get_or parts q (boolean false)) ≡ []
   part_none q h = each (part_faults format cores) [] parts q (boolean false) h no_part
 
   pub part_new : (q : ℕ) → q < length parts → NewName (cores ++ take q parts) (get_or parts q (boolean false))
@@ -58,90 +60,126 @@ module _ (format : Format) (cores parts : List Data) (no_core : in_order core_fa
   front : (j : ℕ) → j < length cores → NewName (take j (cores ++ parts)) (get_or (cores ++ parts) j (boolean false))
   front j h =
       subst (λ (d : Data). NewName (take j (cores ++ parts)) d) (sym (get_front cores parts j (boolean false) h))
-      (subst (λ (ds : List Data). NewName ds (get_or cores j (boolean false))) (sym (take-append-le j cores parts (omega arith)))
-      (core_name (take j cores) (get_or cores j (boolean false)) (each core_faults [] cores j (boolean false) h no_core)))
+      (subst (λ (ds : List Data). NewName ds (get_or cores j (boolean false)))
+      (sym (take-append-le j cores parts (omega arith)))
+      (core_name (take j cores) (get_or cores j (boolean false))
+      (each core_faults [] cores j (boolean false) h no_core)))
 
-  back : (k : ℕ) → k < length parts → NewName (take (length cores + k) (cores ++ parts)) (get_or (cores ++ parts) (length cores + k) (boolean false))
+  back : (k : ℕ) → k < length parts
+      → NewName (take (length cores + k) (cores ++ parts)) (get_or (cores ++ parts) (length cores + k) (boolean false))
   back k h =
-      subst (λ (d : Data). NewName (take (length cores + k) (cores ++ parts)) d) (sym (get_or-append-add cores parts k (boolean false)))
-      (subst (λ (ds : List Data). NewName ds (get_or parts k (boolean false))) (sym (take-append-add cores parts k)) (part_new k h))
+      subst (λ (d : Data). NewName (take (length cores + k) (cores ++ parts)) d)
+      (sym (get_or-append-add cores parts k (boolean false)))
+      (subst (λ (ds : List Data). NewName ds (get_or parts k (boolean false))) (sym (take-append-add cores parts k))
+      (part_new k h))
 
   -- each core and part has a name that no core or part before it has
-  pub all_new : (j : ℕ) → j < length (cores ++ parts) → NewName (take j (cores ++ parts)) (get_or (cores ++ parts) j (boolean false))
+  pub all_new : (j : ℕ) → j < length (cores ++ parts)
+      → NewName (take j (cores ++ parts)) (get_or (cores ++ parts) j (boolean false))
   all_new j h = by (nat_lt j (length cores)) refl
     where
       whole : j < length cores + length parts
       whole = rw (length-append {A = Data}) at h
 
-      by : (b : Bool) → nat_lt j (length cores) ≡ b → NewName (take j (cores ++ parts)) (get_or (cores ++ parts) j (boolean false))
+      by : (b : Bool) → nat_lt j (length cores) ≡ b
+          → NewName (take j (cores ++ parts)) (get_or (cores ++ parts) j (boolean false))
       by true e = let lt : j < length cores = grind (arith, nat_tests) in front j lt
       by false e =
           let le : length cores ≤ j = grind (arith, nat_tests) in
           let at : length cores + (j - length cores) ≡ j = omega arith in
-          subst (λ (i : ℕ). NewName (take i (cores ++ parts)) (get_or (cores ++ parts) i (boolean false))) at (back (j - length cores) (omega (arith, whole)))
+          subst (λ (i : ℕ). NewName (take i (cores ++ parts)) (get_or (cores ++ parts) i (boolean false))) at
+          (back (j - length cores) (omega (arith, whole)))
 
   -- a part's parent, found among the parts before it, is found among all
   pub parent_there : (r : ℕ) → r < length parts → ParentThere cores (take r parts) (get_or parts r (boolean false))
   parent_there r h = part_parent format cores (take r parts) (get_or parts r (boolean false)) (part_none r h)
 
-  pub parent_found : (r : ℕ) (h : r < length parts) → parent_named cores parts (parent_there r h).text ≡ Some (parent_there r h).parent
+  pub parent_found : (r : ℕ) (h : r < length parts)
+      → parent_named cores parts (parent_there r h).text ≡ Some (parent_there r h).parent
   parent_found r h =
       let there = parent_there r h in
-      ap (λ ps. parent_named cores ps there.text) (sym (take-append-drop r parts)) ∙ parent_kept cores (take r parts) (drop r parts) there.text there.parent there.found
+      ap (λ ps. parent_named cores ps there.text) (sym (take-append-drop r parts))
+      ∙ parent_kept cores (take r parts) (drop r parts) there.text there.parent there.found
 
-  pub parent_is : (r : ℕ) (h : r < length parts) → parent_at cores parts (get_or parts r (boolean false)) ≡ (parent_there r h).parent
-  parent_is r h = ap (λ o. unwrap_or (parent_named cores parts (text_of o)) (on_core 0)) (parent_there r h).is ∙ ap (λ o. unwrap_or o (on_core 0)) (parent_found r h)
+  pub parent_is : (r : ℕ) (h : r < length parts)
+      → parent_at cores parts (get_or parts r (boolean false)) ≡ (parent_there r h).parent
+  parent_is r h =
+      ap (λ o. unwrap_or (parent_named cores parts (text_of o)) (on_core 0)) (parent_there r h).is
+      ∙ ap (λ o. unwrap_or o (on_core 0)) (parent_found r h)
 
   -- a parent that is a part is an earlier one without tasks, and any other is a core
-  pub parent_part : (q r : ℕ) → q < length parts → parent_at cores parts (get_or parts q (boolean false)) ≡ on_part r → (r < q) × (has_tasks (get_or parts r (boolean false)) ≡ false)
+  pub parent_part : (q r : ℕ) → q < length parts → parent_at cores parts (get_or parts q (boolean false)) ≡ on_part r
+      → (r < q) × (has_tasks (get_or parts r (boolean false)) ≡ false)
   parent_part q r h is =
       let there = parent_there q h in
       let same : there.parent ≡ on_part r = sym (parent_is q h) ∙ is in
-      let place = part_place (position (is_named there.text) cores) (position (is_named there.text) (take q parts)) r (there.found ∙ ap Some same) in
-      let lt : r < q = rw (length-take-le q parts (omega arith)) at (position_within (is_named there.text) (take q parts) r place) in
+      let place
+      = part_place (position (is_named there.text) cores) (position (is_named there.text) (take q parts)) r
+      (there.found ∙ ap Some same) in
+      let lt : r < q
+      = rw (length-take-le q parts (omega arith)) at
+      (position_within (is_named there.text) (take q parts) r place) in
       (lt, ap has_tasks (sym (get_or-take q parts r (boolean false) lt)) ∙ there.inner r same)
 
-  pub parent_core : (q c : ℕ) → q < length parts → parent_at cores parts (get_or parts q (boolean false)) ≡ on_core c → c < length cores
+  pub parent_core : (q c : ℕ) → q < length parts → parent_at cores parts (get_or parts q (boolean false)) ≡ on_core c
+      → c < length cores
   parent_core q c h is =
       let there = parent_there q h in
       let same : there.parent ≡ on_core c = sym (parent_is q h) ∙ is in
-      position_within (is_named there.text) cores c (core_place (position (is_named there.text) cores) (position (is_named there.text) (take q parts)) c (there.found ∙ ap Some same))
+      position_within (is_named there.text) cores c (core_place (position (is_named there.text) cores)
+      (position (is_named there.text) (take q parts)) c (there.found ∙ ap Some same))
 
-  link_true : (q r : ℕ) (hq : q < length parts) (hr : r < length parts) → bytes_eq (part_new q hq).name (parent_there r hr).text ≡ true → is_on q (parent_there r hr).parent ≡ true
+  link_true : (q r : ℕ) (hq : q < length parts) (hr : r < length parts)
+      → bytes_eq (part_new q hq).name (parent_there r hr).text ≡ true → is_on q (parent_there r hr).parent ≡ true
   link_true q r hq hr e =
       let new = part_new q hq in
       let there = parent_there r hr in
-      let split : (list_any (is_named new.name) cores || list_any (is_named new.name) (take q parts)) ≡ false = sym (list_any-append (is_named new.name) cores (take q parts)) ∙ new.new in
+      let split : (list_any (is_named new.name) cores || list_any (is_named new.name) (take q parts)) ≡ false
+      = sym (list_any-append (is_named new.name) cores (take q parts)) ∙ new.new in
       let first : position (is_named new.name) parts ≡ Some q =
-      position_first (is_named new.name) parts q (boolean false) hq (ap (is_text new.name) new.is ∙ (bytes_eq-Decides new.name new.name).1 refl) (or_parts _ _ split).1 in
+      position_first (is_named new.name) parts q (boolean false) hq
+      (ap (is_text new.name) new.is ∙ (bytes_eq-Decides new.name new.name).1 refl) (or_parts _ _ split).1 in
       let named : parent_named cores parts new.name ≡ Some (on_part q) =
-      ap (λ a. core_or_part a (position (is_named new.name) parts)) (position_none (is_named new.name) cores (or_parts _ _ split).0) ∙ ap (core_or_part None) first in
-      let found : Some there.parent ≡ Some (on_part q) = sym (parent_found r hr) ∙ ap (parent_named cores parts) (sym ((bytes_eq-Decides new.name there.text).0 e)) ∙ named in
+      ap (λ a. core_or_part a (position (is_named new.name) parts))
+      (position_none (is_named new.name) cores (or_parts _ _ split).0) ∙ ap (core_or_part None) first in
+      let found : Some there.parent ≡ Some (on_part q)
+      = sym (parent_found r hr) ∙ ap (parent_named cores parts) (sym ((bytes_eq-Decides new.name there.text).0 e))
+      ∙ named in
       ap (is_on q) (same_Some there.parent (on_part q) found) ∙ itself q
 
-  link_false : (q r : ℕ) (hq : q < length parts) (hr : r < length parts) → bytes_eq (part_new q hq).name (parent_there r hr).text ≡ false → (p : Parent) → (parent_there r hr).parent ≡ p → is_on q p ≡ false
+  link_false : (q r : ℕ) (hq : q < length parts) (hr : r < length parts)
+      → bytes_eq (part_new q hq).name (parent_there r hr).text ≡ false → (p : Parent) → (parent_there r hr).parent ≡ p
+      → is_on q p ≡ false
   link_false q r hq hr e (on_core c) same = refl
   link_false q r hq hr e (on_part k) same = by (k == q) refl
     where
       holds : is_named (parent_there r hr).text (get_or parts k (boolean false)) ≡ true
       holds = position_holds (is_named (parent_there r hr).text) parts k (boolean false)
-          (part_place (position (is_named (parent_there r hr).text) cores) (position (is_named (parent_there r hr).text) parts) k (parent_found r hr ∙ ap Some same))
+          (part_place (position (is_named (parent_there r hr).text) cores)
+          (position (is_named (parent_there r hr).text) parts) k (parent_found r hr ∙ ap Some same))
 
       alike : k ≡ q → bytes_eq (parent_there r hr).text (part_new q hq).name ≡ true
-      alike at = sym (ap (is_text (parent_there r hr).text) (part_new q hq).is) ∙ ap (λ n. is_named (parent_there r hr).text (get_or parts n (boolean false))) (sym at) ∙ holds
+      alike at =
+          sym (ap (is_text (parent_there r hr).text) (part_new q hq).is)
+          ∙ ap (λ n. is_named (parent_there r hr).text (get_or parts n (boolean false))) (sym at) ∙ holds
 
       by : (b : Bool) → (k == q) ≡ b → (k == q) ≡ false
       by false f = f
       by true f = absurd (false≢true (sym e
-          ∙ (bytes_eq-Decides (part_new q hq).name (parent_there r hr).text).1 (sym ((bytes_eq-Decides (parent_there r hr).text (part_new q hq).name).0 (alike (same_place_is k q f))))))
+          ∙ (bytes_eq-Decides (part_new q hq).name (parent_there r hr).text).1
+          (sym ((bytes_eq-Decides (parent_there r hr).text (part_new q hq).name).0 (alike (same_place_is k q f))))))
 
-  link_at : (q r : ℕ) (hq : q < length parts) (hr : r < length parts) (b : Bool) → bytes_eq (part_new q hq).name (parent_there r hr).text ≡ b → is_on q (parent_there r hr).parent ≡ b
+  link_at : (q r : ℕ) (hq : q < length parts) (hr : r < length parts) (b : Bool)
+      → bytes_eq (part_new q hq).name (parent_there r hr).text ≡ b → is_on q (parent_there r hr).parent ≡ b
   link_at q r hq hr true e = link_true q r hq hr e
   link_at q r hq hr false e = link_false q r hq hr e (parent_there r hr).parent refl
 
   -- part r is a child of part q where its parent text is the name of part q
   pub link : (q r : ℕ) → q < length parts → r < length parts →
-      is_on q (parent_at cores parts (get_or parts r (boolean false))) ≡ is_text (text_of (get (codes "name") (get_or parts q (boolean false)))) (get (codes "parent") (get_or parts r (boolean false)))
+      is_on q (parent_at cores parts (get_or parts r (boolean false)))
+      ≡ is_text (text_of (get (codes "name") (get_or parts q (boolean false))))
+      (get (codes "parent") (get_or parts r (boolean false)))
   link q r hq hr =
       ap (is_on q) (parent_is r hr) ∙ link_at q r hq hr (bytes_eq (part_new q hq).name (parent_there r hr).text) refl
-      ∙ sym (ap (λ o. is_text (text_of o) (get (codes "parent") (get_or parts r (boolean false)))) (part_new q hq).is ∙ ap (is_text (part_new q hq).name) (parent_there r hr).is)
+      ∙ sym (ap (λ o. is_text (text_of o) (get (codes "parent") (get_or parts r (boolean false)))) (part_new q hq).is
+      ∙ ap (is_text (part_new q hq).name) (parent_there r hr).is)

@@ -45,23 +45,31 @@ mutual
       let (b, was, others) = q in
       is ∙ (ap (λ (z : List ℕ). codes "{" ++ z) (one_members ms true a b e some others) ∙ sym was)
 
-  one_items : (ds : Items) (lines first : Bool) (t u : List ℕ) → items_exact ds ≡ true → IsItemsText false lines first ds t → IsItemsText false lines first ds u → t ≡ u
+  one_items : (ds : Items) (lines first : Bool) (t u : List ℕ) → items_exact ds ≡ true
+      → IsItemsText false lines first ds t → IsItemsText false lines first ds u → t ≡ u
   one_items no_items lines first t u e p q = p ∙ sym q
   one_items (item d ds) lines first t u e p q =
       let (here, later) = and_parts (is_exact d) (items_exact ds) e in
       let (v, a, is, value, rest) = p in
       let (w, b, was, other, left) = q in
-      is ∙ (ap (λ (z : List ℕ). before_item lines first ++ (z ++ (after_item lines ++ a))) (one_value d v w here value other)
-      ∙ (ap (λ (z : List ℕ). before_item lines first ++ (w ++ (after_item lines ++ z))) (one_items ds lines false a b later rest left) ∙ sym was))
+      is
+      ∙ (ap (λ (z : List ℕ). before_item lines first ++ (z ++ (after_item lines ++ a)))
+      (one_value d v w here value other)
+      ∙ (ap (λ (z : List ℕ). before_item lines first ++ (w ++ (after_item lines ++ z)))
+      (one_items ds lines false a b later rest left) ∙ sym was))
 
-  one_members : (ms : Members) (first : Bool) (t u : List ℕ) → members_exact ms ≡ true → IsMembersText false first ms t → IsMembersText false first ms u → t ≡ u
+  one_members : (ms : Members) (first : Bool) (t u : List ℕ) → members_exact ms ≡ true → IsMembersText false first ms t
+      → IsMembersText false first ms u → t ≡ u
   one_members no_members first t u e p q = p ∙ sym q
   one_members (member k d ms) first t u e p q =
       let (here, later) = and_parts (is_exact d) (members_exact ms) e in
       let (v, a, is, value, rest, sorted) = p in
       let (w, b, was, other, left, same) = q in
-      is ∙ (ap (λ (z : List ℕ). before_member first ++ (key_text k ++ (codes " = " ++ (z ++ a)))) (one_value d v w here value other)
-      ∙ (ap (λ (z : List ℕ). before_member first ++ (key_text k ++ (codes " = " ++ (w ++ z)))) (one_members ms false a b later rest left) ∙ sym was))
+      is
+      ∙ (ap (λ (z : List ℕ). before_member first ++ (key_text k ++ (codes " = " ++ (z ++ a))))
+      (one_value d v w here value other)
+      ∙ (ap (λ (z : List ℕ). before_member first ++ (key_text k ++ (codes " = " ++ (w ++ z))))
+      (one_members ms false a b later rest left) ∙ sym was))
 
 -- and of each line, and of all
 abbrev AreExact : List Expression → Type 0
@@ -70,23 +78,33 @@ AreExact ((key, key_value d) ∷ es) = (is_exact d ≡ true) × AreExact es
 AreExact ((key, std_table) ∷ es) = AreExact es
 AreExact ((key, array_table) ∷ es) = AreExact es
 
-one_lines : (es : List Expression) (started : Bool) (t u : List ℕ) → AreExact es → IsLinesText false started es t → IsLinesText false started es u → t ≡ u
+one_lines : (es : List Expression) (started : Bool) (t u : List ℕ) → AreExact es → IsLinesText false started es t
+    → IsLinesText false started es u → t ≡ u
 one_lines [] started t u e p q = p ∙ sym q
 one_lines ((key, key_value d) ∷ es) started t u e p q =
     let (this, rest, is, line, later) = p in
     let (that, left, was, other, after) = q in
     let (v, line_is, value) = line in
     let (w, other_is, second) = other in
-    let same : this ≡ that = line_is ∙ (ap (λ (z : List ℕ). dotted_text key ++ (codes " = " ++ (z ++ 10 ∷ []))) (one_value d v w e.0 value second) ∙ sym other_is) in
-    is ∙ (ap (λ (z : List ℕ). z ++ rest) same ∙ (ap (λ (z : List ℕ). that ++ z) (one_lines es true rest left e.1 later after) ∙ sym was))
+    let same : this ≡ that
+    = line_is
+    ∙ (ap (λ (z : List ℕ). dotted_text key ++ (codes " = " ++ (z ++ 10 ∷ [])))
+    (one_value d v w e.0 value second) ∙ sym other_is) in
+    is
+    ∙ (ap (λ (z : List ℕ). z ++ rest) same
+    ∙ (ap (λ (z : List ℕ). that ++ z) (one_lines es true rest left e.1 later after) ∙ sym was))
 one_lines ((key, std_table) ∷ es) started t u e p q =
     let (this, rest, is, line, later) = p in
     let (that, left, was, other, after) = q in
-    is ∙ (ap (λ (z : List ℕ). z ++ rest) (line ∙ sym other) ∙ (ap (λ (z : List ℕ). that ++ z) (one_lines es true rest left e later after) ∙ sym was))
+    is
+    ∙ (ap (λ (z : List ℕ). z ++ rest) (line ∙ sym other)
+    ∙ (ap (λ (z : List ℕ). that ++ z) (one_lines es true rest left e later after) ∙ sym was))
 one_lines ((key, array_table) ∷ es) started t u e p q =
     let (this, rest, is, line, later) = p in
     let (that, left, was, other, after) = q in
-    is ∙ (ap (λ (z : List ℕ). z ++ rest) (line ∙ sym other) ∙ (ap (λ (z : List ℕ). that ++ z) (one_lines es true rest left e later after) ∙ sym was))
+    is
+    ∙ (ap (λ (z : List ℕ). z ++ rest) (line ∙ sym other)
+    ∙ (ap (λ (z : List ℕ). that ++ z) (one_lines es true rest left e later after) ∙ sym was))
 
 -- the lines of a document without floats have none
 exact_append : (es fs : List Expression) → AreExact es → AreExact fs → AreExact (es ++ fs)
@@ -103,7 +121,8 @@ pairs_exact : (ms : Members) → members_exact ms ≡ true → AreExact (pairs m
 pairs_exact no_members e = tt
 pairs_exact (member k d ms) e =
     let (here, later) = and_parts (is_exact d) (members_exact ms) e in
-    if_exact (is_section d) (pairs ms) ((([], k), key_value d) ∷ pairs ms) (pairs_exact ms later) (here, pairs_exact ms later)
+    if_exact (is_section d) (pairs ms) ((([], k), key_value d) ∷ pairs ms) (pairs_exact ms later)
+    (here, pairs_exact ms later)
 
 header_exact : (key : Key) (ms : Members) → AreExact (header_of key ms)
 header_exact key ms = if_exact (needs_header ms) ((key, std_table) ∷ []) [] tt tt
@@ -113,7 +132,8 @@ mutual
   sections_exact no_members path e = tt
   sections_exact (member k d ms) path e =
       let (here, later) = and_parts (is_exact d) (members_exact ms) e in
-      exact_append (section (path, k) d) (sections path ms) (section_exact d (path, k) here) (sections_exact ms path later)
+      exact_append (section (path, k) d) (sections path ms) (section_exact d (path, k) here)
+      (sections_exact ms path later)
 
   section_exact : (d : Data) (key : Key) → is_exact d ≡ true → AreExact (section key d)
   section_exact (string s) key e = tt
@@ -122,13 +142,18 @@ mutual
   section_exact (boolean b) key e = tt
   section_exact (datetime dt) key e = tt
   section_exact (array ds) key e = if_exact (are_tables ds) (elements key ds) [] (elements_exact ds key e) tt
-  section_exact (table ms) key e = exact_append (header_of key ms) (pairs ms ++ sections (key.0 ++ key.1 ∷ []) ms) (header_exact key ms) (exact_append (pairs ms) (sections (key.0 ++ key.1 ∷ []) ms) (pairs_exact ms e) (sections_exact ms (key.0 ++ key.1 ∷ []) e))
+  section_exact (table ms) key e =
+      exact_append (header_of key ms) (pairs ms ++ sections (key.0 ++ key.1 ∷ []) ms) (header_exact key ms)
+      (exact_append (pairs ms) (sections (key.0 ++ key.1 ∷ []) ms) (pairs_exact ms e)
+      (sections_exact ms (key.0 ++ key.1 ∷ []) e))
 
   elements_exact : (ds : Items) (key : Key) → items_exact ds ≡ true → AreExact (elements key ds)
   elements_exact no_items key e = tt
   elements_exact (item (table ms) ds) key e =
       let (here, later) = and_parts (members_exact ms) (items_exact ds) e in
-      exact_append (pairs ms ++ sections (key.0 ++ key.1 ∷ []) ms) (elements key ds) (exact_append (pairs ms) (sections (key.0 ++ key.1 ∷ []) ms) (pairs_exact ms here) (sections_exact ms (key.0 ++ key.1 ∷ []) here)) (elements_exact ds key later)
+      exact_append (pairs ms ++ sections (key.0 ++ key.1 ∷ []) ms) (elements key ds)
+      (exact_append (pairs ms) (sections (key.0 ++ key.1 ∷ []) ms) (pairs_exact ms here)
+      (sections_exact ms (key.0 ++ key.1 ∷ []) here)) (elements_exact ds key later)
   elements_exact (item (string s) ds) key e = elements_exact ds key e
   elements_exact (item (integer z) ds) key e = elements_exact ds key e
   elements_exact (item (float x) ds) key e = absurd (false≢true e)
@@ -137,14 +162,16 @@ mutual
   elements_exact (item (array es) ds) key e = elements_exact ds key (and_parts (items_exact es) (items_exact ds) e).1
 
 -- a printed system has no float
-items_are_exact : {X : Type 0} (element : X → Data) → ((x : X) → is_exact (element x) ≡ true) → (xs : List X) → items_exact (items_of (map element xs)) ≡ true
+items_are_exact : {X : Type 0} (element : X → Data) → ((x : X) → is_exact (element x) ≡ true) → (xs : List X)
+    → items_exact (items_of (map element xs)) ≡ true
 items_are_exact element each [] = refl
 items_are_exact element each (x ∷ xs) = rw (each x, items_are_exact element each xs)
 
 task_exact : (t : NamedTask) → is_exact (printed_task t) ≡ true
 task_exact t = by (t.task.deadline == t.task.period) (t.task.jitter == 0) refl refl
   where
-    by : (due all : Bool) → (t.task.deadline == t.task.period) ≡ due → (t.task.jitter == 0) ≡ all → is_exact (printed_task t) ≡ true
+    by : (due all : Bool) → (t.task.deadline == t.task.period) ≡ due → (t.task.jitter == 0) ≡ all
+        → is_exact (printed_task t) ≡ true
     by true true due all = rw (due, all)
     by true false due all = rw (due, all)
     by false true due all = rw (due, all)
@@ -153,7 +180,8 @@ task_exact t = by (t.task.deadline == t.task.period) (t.task.jitter == 0) refl r
 core_exact : (core : CoreView) → is_exact (printed_core core) ≡ true
 core_exact core = by core.supply
   where
-    by : (supply : Option (ℕ × ℕ)) → is_exact (printed_core (record { name = core.name; sched = core.sched; supply = supply })) ≡ true
+    by : (supply : Option (ℕ × ℕ))
+        → is_exact (printed_core (record { name = core.name; sched = core.sched; supply = supply })) ≡ true
     by None = refl
     by (Some supply) = refl
 
@@ -161,7 +189,15 @@ part_exact : (sys : SystemView) (part : PartView) → is_exact (printed_part sys
 part_exact sys part = by part.budget part.extra part.tasks
   where
     by : (budget : Option ℕ) (extra : Bool) (tasks : List NamedTask) →
-        is_exact (printed_part sys (record { name = part.name; parent = part.parent; sched = part.sched; period = part.period; budget = budget; extra = extra; tasks = tasks })) ≡ true
+        is_exact (printed_part sys (record {
+          name = part.name;
+          parent = part.parent;
+          sched = part.sched;
+          period = part.period;
+          budget = budget;
+          extra = extra;
+          tasks = tasks;
+        })) ≡ true
     by None true [] = refl
     by None true (t ∷ ts) = rw (task_exact t, items_are_exact printed_task task_exact ts)
     by None false [] = refl
@@ -174,11 +210,20 @@ part_exact sys part = by part.budget part.extra part.tasks
 printed_exact : (sys : SystemView) → members_exact (printed sys) ≡ true
 printed_exact sys = by sys.parts
   where
-    by : (parts : List PartView) → members_exact (top_members (needed_format sys) (map printed_core sys.cores) (map (printed_part sys) parts)) ≡ true
+    by : (parts : List PartView)
+        → members_exact (top_members (needed_format sys) (map printed_core sys.cores) (map (printed_part sys) parts))
+        ≡ true
     by [] = rw (items_are_exact printed_core core_exact sys.cores)
-    by (part ∷ parts) = rw (items_are_exact printed_core core_exact sys.cores, part_exact sys part, items_are_exact (printed_part sys) (part_exact sys) parts)
+    by (part ∷ parts) =
+        rw (
+          items_are_exact printed_core core_exact sys.cores,
+          part_exact sys part,
+          items_are_exact (printed_part sys) (part_exact sys) parts,
+        )
 
-pub one_printed_text : (sys : SystemView) (t u : List ℕ) → IsDocumentText false (printed sys) t → IsDocumentText false (printed sys) u → t ≡ u
+pub one_printed_text : (sys : SystemView) (t u : List ℕ) → IsDocumentText false (printed sys) t
+    → IsDocumentText false (printed sys) u → t ≡ u
 one_printed_text sys t u p q =
     one_lines (expressions (printed sys)) false t u
-    (exact_append (pairs (printed sys)) (sections [] (printed sys)) (pairs_exact (printed sys) (printed_exact sys)) (sections_exact (printed sys) [] (printed_exact sys))) p q
+    (exact_append (pairs (printed sys)) (sections [] (printed sys)) (pairs_exact (printed sys) (printed_exact sys))
+    (sections_exact (printed sys) [] (printed_exact sys))) p q

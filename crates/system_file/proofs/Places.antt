@@ -14,13 +14,17 @@ use Rattle.system_file.specs.Faults.{has_tasks}
 use Rattle.system_file.specs.Reading.{HaveNames, Known}
 
 -- the first place by recursion
-pub position_cons : {A : Type 0} (p : A → Bool) (x : A) (xs : List A) → position p (x ∷ xs) ≡ cond (p x) (Some 0) (option_map suc (position p xs))
+pub position_cons : {A : Type 0} (p : A → Bool) (x : A) (xs : List A)
+    → position p (x ∷ xs) ≡ cond (p x) (Some 0) (option_map suc (position p xs))
 position_cons p x xs = by (p x)
   where
-    shifted : (n m : ℕ) → cond (nat_lt (1 + n) (suc m)) (Some (1 + n)) None ≡ option_map suc (cond (nat_lt n m) (Some n) None)
+    shifted : (n m : ℕ)
+        → cond (nat_lt (1 + n) (suc m)) (Some (1 + n)) None ≡ option_map suc (cond (nat_lt n m) (Some n) None)
     shifted n m = grind (arith, nat_tests)
 
-    by : (b : Bool) → cond (nat_lt (cond {A = ℕ} (not b) (1 + prefix_len (λ y. not (p y)) xs) 0) (suc (length xs))) (Some (cond {A = ℕ} (not b) (1 + prefix_len (λ y. not (p y)) xs) 0)) None
+    by : (b : Bool)
+        → cond (nat_lt (cond {A = ℕ} (not b) (1 + prefix_len (λ y. not (p y)) xs) 0) (suc (length xs)))
+        (Some (cond {A = ℕ} (not b) (1 + prefix_len (λ y. not (p y)) xs) 0)) None
         ≡ cond b (Some 0) (option_map suc (position p xs))
     by true = grind (arith, nat_tests)
     by false = shifted (prefix_len (λ y. not (p y)) xs) (length xs)
@@ -39,11 +43,13 @@ joined_suc (Some i) n o = refl
 joined_suc None n None = refl
 joined_suc None n (Some j) = ap Some (omega arith)
 
-append_step : (b : Bool) (whole a : Option ℕ) (n : ℕ) (o : Option ℕ) → whole ≡ joined a n o → cond b (Some 0) (option_map suc whole) ≡ joined (cond b (Some 0) (option_map suc a)) (suc n) o
+append_step : (b : Bool) (whole a : Option ℕ) (n : ℕ) (o : Option ℕ) → whole ≡ joined a n o
+    → cond b (Some 0) (option_map suc whole) ≡ joined (cond b (Some 0) (option_map suc a)) (suc n) o
 append_step true whole a n o rest = refl
 append_step false whole a n o rest = ap (option_map suc) rest ∙ joined_suc a n o
 
-pub position_append : {A : Type 0} (p : A → Bool) (xs ys : List A) → position p (xs ++ ys) ≡ joined (position p xs) (length xs) (position p ys)
+pub position_append : {A : Type 0} (p : A → Bool) (xs ys : List A)
+    → position p (xs ++ ys) ≡ joined (position p xs) (length xs) (position p ys)
 position_append p [] ys = joined_zero (position p ys)
 position_append p (x ∷ xs) ys =
     position_cons p x (xs ++ ys)
@@ -58,32 +64,39 @@ position_within p xs i h = by (prefix_len (λ y. not (p y)) xs) (length xs) h
     by n m e = grind (arith, nat_tests)
 
 -- the place of a name among elements is its place among their names
-pub place_is : (ds : List Data) (names : List (List ℕ)) (s : List ℕ) → HaveNames ds names → position (is_named s) ds ≡ position (bytes_eq s) names
+pub place_is : (ds : List Data) (names : List (List ℕ)) (s : List ℕ) → HaveNames ds names
+    → position (is_named s) ds ≡ position (bytes_eq s) names
 place_is ds names s have =
     sym (position_map (is_text s) (λ (d : Data). get (codes "name") d) ds)
     ∙ ap (position (is_text s)) have
     ∙ position_map (is_text s) (λ (name : List ℕ). Some (string name)) names
 
 -- what a look-up among all names says of the cores and of the parts
-pub looked_up : (cores earlier later : List Data) (count : ℕ) (names : List (List ℕ)) (parts : List PartView) (s : List ℕ) (o : Option ℕ) → Known cores earlier later count names parts →
+pub looked_up : (cores earlier later : List Data) (count : ℕ) (names : List (List ℕ)) (parts : List PartView)
+    (s : List ℕ) (o : Option ℕ) → Known cores earlier later count names parts →
     position (bytes_eq s) names ≡ o → joined (position (is_named s) cores) count (position (is_named s) earlier) ≡ o
 looked_up cores earlier later count names parts s o known found =
     ap (λ n. joined (position (is_named s) cores) n (position (is_named s) earlier)) (sym known.counted)
     ∙ sym (position_append (is_named s) cores earlier) ∙ place_is (cores ++ earlier) names s known.named ∙ found
 
 -- as many parts are spelled as came before
-pub as_many : {cores earlier later : List Data} {count : ℕ} {names : List (List ℕ)} {parts : List PartView} → Known cores earlier later count names parts → length earlier ≡ length parts
-as_many {cores} {earlier} {later} known = sym (ap length known.spelled ∙ length_map (spelled_part cores (earlier ++ later)) earlier)
+pub as_many : {cores earlier later : List Data} {count : ℕ} {names : List (List ℕ)} {parts : List PartView}
+    → Known cores earlier later count names parts → length earlier ≡ length parts
+as_many {cores} {earlier} {later} known =
+    sym (ap length known.spelled ∙ length_map (spelled_part cores (earlier ++ later)) earlier)
 
-pub core_found : (a : Option ℕ) (n : ℕ) (o : Option ℕ) (i : ℕ) → joined a n o ≡ Some i → i < n → core_or_part a o ≡ Some (Core i)
+pub core_found : (a : Option ℕ) (n : ℕ) (o : Option ℕ) (i : ℕ) → joined a n o ≡ Some i → i < n
+    → core_or_part a o ≡ Some (Core i)
 core_found (Some c) n o i h lt = ap (option_map Core) h
 core_found None n None i h lt = cc
 core_found None n (Some j) i h lt = absurd (let e : n + j ≡ i = cc in omega arith)
 
-pub part_found : (a : Option ℕ) (n : ℕ) (o : Option ℕ) (i : ℕ) → ((c : ℕ) → a ≡ Some c → c < n) → joined a n o ≡ Some i → n ≤ i → core_or_part a o ≡ Some (Part (i - n))
+pub part_found : (a : Option ℕ) (n : ℕ) (o : Option ℕ) (i : ℕ) → ((c : ℕ) → a ≡ Some c → c < n) → joined a n o ≡ Some i
+    → n ≤ i → core_or_part a o ≡ Some (Part (i - n))
 part_found (Some c) n o i within h le = absurd (let e : c ≡ i = cc in let lt = within c refl in omega arith)
 part_found None n None i within h le = cc
-part_found None n (Some j) i within h le = let e : n + j ≡ i = cc in let f : j ≡ i - n = omega arith in ap (λ r. Some (Part r)) f
+part_found None n (Some j) i within h le =
+    let e : n + j ≡ i = cc in let f : j ≡ i - n = omega arith in ap (λ r. Some (Part r)) f
 
 pub none_found : (a : Option ℕ) (n : ℕ) (o : Option ℕ) → joined a n o ≡ None → core_or_part a o ≡ None
 none_found (Some c) n o h = cc
@@ -91,12 +104,14 @@ none_found None n None h = refl
 none_found None n (Some j) h = cc
 
 -- a parent that is found stays the parent when more parts come
-pub parent_kept : (cores earlier more : List Data) (s : List ℕ) (parent : Parent) → parent_named cores earlier s ≡ Some parent → parent_named cores (earlier ++ more) s ≡ Some parent
+pub parent_kept : (cores earlier more : List Data) (s : List ℕ) (parent : Parent)
+    → parent_named cores earlier s ≡ Some parent → parent_named cores (earlier ++ more) s ≡ Some parent
 parent_kept cores earlier more s parent h =
     ap (core_or_part (position (is_named s) cores)) (position_append (is_named s) earlier more)
     ∙ kept (position (is_named s) cores) (position (is_named s) earlier) (length earlier) (position (is_named s) more) h
   where
-    kept : (a b : Option ℕ) (n : ℕ) (o : Option ℕ) → core_or_part a b ≡ Some parent → core_or_part a (joined b n o) ≡ Some parent
+    kept : (a b : Option ℕ) (n : ℕ) (o : Option ℕ) → core_or_part a b ≡ Some parent
+        → core_or_part a (joined b n o) ≡ Some parent
     kept (Some c) b n o e = e
     kept None (Some r) n o e = e
     kept None None n o e = cc
@@ -106,7 +121,8 @@ leaf_tasks [] = refl
 leaf_tasks (d ∷ ds) = grind (arith, nat_tests)
 
 -- a part that is spelled has the tasks of its element
-pub leaf_at : (cores all earlier : List Data) (r : ℕ) (part : PartView) → r < length earlier → part ≡ get_or (map (spelled_part cores all) earlier) r part →
+pub leaf_at : (cores all earlier : List Data) (r : ℕ) (part : PartView) → r < length earlier
+    → part ≡ get_or (map (spelled_part cores all) earlier) r part →
     is_leaf part.tasks ≡ has_tasks (get_or earlier r (boolean false))
 leaf_at cores all [] r part h is = absurd (omega arith)
 leaf_at cores all (d ∷ earlier) zero part h is = ap (λ (p : PartView). is_leaf p.tasks) is ∙ leaf_tasks (tasks_of d)

@@ -16,18 +16,24 @@ use Rattle.system_file.proofs.PrintedKeys.{range_ok, new_name_ok, sched_ok, sche
 pub core_name : (core : CoreView) → get (codes "name") (printed_core core) ≡ Some (string core.name)
 core_name core = by core.supply
   where
-    by : (supply : Option (ℕ × ℕ)) → get (codes "name") (printed_core (record { name = core.name; sched = core.sched; supply = supply })) ≡ Some (string core.name)
+    by : (supply : Option (ℕ × ℕ))
+        → get (codes "name") (printed_core (record { name = core.name; sched = core.sched; supply = supply }))
+        ≡ Some (string core.name)
     by None = refl
     by (Some supply) = refl
 
 pub core_spelled : (core : CoreView) → spelled_core (printed_core core) ≡ core
 core_spelled core = by core.supply
   where
-    by : (supply : Option (ℕ × ℕ)) → spelled_core (printed_core (record { name = core.name; sched = core.sched; supply = supply })) ≡ record { name = core.name; sched = core.sched; supply = supply }
+    by : (supply : Option (ℕ × ℕ))
+        → spelled_core (printed_core (record { name = core.name; sched = core.sched; supply = supply }))
+        ≡ record { name = core.name; sched = core.sched; supply = supply }
     by None = rw (sched_back core.sched)
     by (Some supply) = rw (sched_back core.sched)
 
-pub core_faultless : (earlier : List Data) (core : CoreView) → is_name core.name ≡ true → list_any (is_named core.name) earlier ≡ false → IsCoreSupply core.supply → core_faults earlier (printed_core core) ≡ []
+pub core_faultless : (earlier : List Data) (core : CoreView) → is_name core.name ≡ true
+    → list_any (is_named core.name) earlier ≡ false → IsCoreSupply core.supply
+    → core_faults earlier (printed_core core) ≡ []
 core_faultless earlier core name new is = by core.supply is
   where
     spot : Spot
@@ -36,6 +42,13 @@ core_faultless earlier core name new is = by core.supply is
     name_ok : new_name_faults spot earlier core.name ≡ []
     name_ok = new_name_ok spot earlier core.name name new
 
-    by : (supply : Option (ℕ × ℕ)) → IsCoreSupply supply → core_faults earlier (printed_core (record { name = core.name; sched = core.sched; supply = supply })) ≡ []
+    by : (supply : Option (ℕ × ℕ)) → IsCoreSupply supply
+        → core_faults earlier (printed_core (record { name = core.name; sched = core.sched; supply = supply })) ≡ []
     by None is = rw (name_ok, sched_ok spot core.sched)
-    by (Some supply) is = rw (name_ok, sched_ok spot core.sched, range_ok spot LIMIT supply.0 is.0.0 is.0.1, range_ok spot supply.0 supply.1 is.1 is.2)
+    by (Some supply) is =
+        rw (
+          name_ok,
+          sched_ok spot core.sched,
+          range_ok spot LIMIT supply.0 is.0.0 is.0.1,
+          range_ok spot supply.0 supply.1 is.1 is.2,
+        )

@@ -14,7 +14,8 @@ use Rattle.system_file.specs.Printed.{number, sched_word}
 pub range_ok : (spot : Spot) (highest n : ℕ) → 1 ≤ n → n ≤ highest → range_faults spot highest (number n) ≡ []
 range_ok spot highest n some high = rw (le-leb 1 n some, le-leb n highest high)
 
-pub new_name_ok : (spot : Spot) (earlier : List Data) (s : List ℕ) → is_name s ≡ true → list_any (is_named s) earlier ≡ false → new_name_faults spot earlier s ≡ []
+pub new_name_ok : (spot : Spot) (earlier : List Data) (s : List ℕ) → is_name s ≡ true
+    → list_any (is_named s) earlier ≡ false → new_name_faults spot earlier s ≡ []
 new_name_ok spot earlier s name new = rw (name, new)
 
 pub sched_ok : (spot : Spot) (sched : Sched) → sched_faults spot (sched_word sched) ≡ []

@@ -7,11 +7,15 @@ use Rattle.toml.specs.View.{view, members_view}
 use Rattle.toml.specs.declared.value.Value.{Value}
 use Rattle.toml_items.specs.Plain.{insert_member}
 
-match_members : (o : Ordering) (a b c : List (String Global × Value)) → members_view (match_ordering o a b c) ≡ match_ordering o (members_view a) (members_view b) (members_view c)
+match_members : (o : Ordering) (a b c : List (String Global × Value))
+    → members_view (match_ordering o a b c) ≡ match_ordering o (members_view a) (members_view b) (members_view c)
 match_members Less a b c = refl
 match_members Equal a b c = refl
 match_members Greater a b c = refl
 
-pub inserted_view : (es : List (String Global × Value)) (k : String Global) (v : Value) → members_view (insert_entry string_cmp es k v) ≡ insert_member (string_bytes k) (view v) (members_view es)
+pub inserted_view : (es : List (String Global × Value)) (k : String Global) (v : Value)
+    → members_view (insert_entry string_cmp es k v) ≡ insert_member (string_bytes k) (view v) (members_view es)
 inserted_view [] k v = refl
-inserted_view (e ∷ es) k v = match_members (string_cmp k e.0) ((k, v) ∷ e ∷ es) ((e.0, v) ∷ es) (e ∷ insert_entry string_cmp es k v) ∙ rw (inserted_view es k v)
+inserted_view (e ∷ es) k v =
+    match_members (string_cmp k e.0) ((k, v) ∷ e ∷ es) ((e.0, v) ∷ es) (e ∷ insert_entry string_cmp es k v)
+    ∙ rw (inserted_view es k v)

@@ -32,7 +32,8 @@ abbrev due_members : NamedTask → Members
 due_members t = with_some (codes "deadline") (other_number t.task.period t.task.deadline) (fixed_members t)
 
 -- the keys of a task: those that are always there, and the two that may be left out
-always : (k : List ℕ) (t : NamedTask) → same_key k (codes "jitter") ≡ false → same_key k (codes "deadline") ≡ false → get k (printed_task t) ≡ get_member k (fixed_members t)
+always : (k : List ℕ) (t : NamedTask) → same_key k (codes "jitter") ≡ false → same_key k (codes "deadline") ≡ false
+    → get k (printed_task t) ≡ get_member k (fixed_members t)
 always k t jitter deadline =
     other_key k (codes "jitter") (other_number 0 t.task.jitter) (due_members t) jitter
     ∙ other_key k (codes "deadline") (other_number t.task.period t.task.deadline) (fixed_members t) deadline
@@ -72,17 +73,21 @@ number_back n = by (n == 0) refl
     by false other = rw other
 
 pub task_spelled : (t : NamedTask) → spelled_task (printed_task t) ≡ t
-task_spelled t = rw (task_name t, task_period t, task_work t, task_deadline t, task_jitter t) (rw (given_back t.task.period t.task.deadline, number_back t.task.jitter))
+task_spelled t =
+    rw (task_name t, task_period t, task_work t, task_deadline t, task_jitter t)
+    (rw (given_back t.task.period t.task.deadline, number_back t.task.jitter))
 
 -- and has no fault
-deadline_ok : (spot : Spot) (period deadline : ℕ) → 1 ≤ deadline → deadline ≤ period → optional (range_faults spot period) (other_number period deadline) ≡ []
+deadline_ok : (spot : Spot) (period deadline : ℕ) → 1 ≤ deadline → deadline ≤ period
+    → optional (range_faults spot period) (other_number period deadline) ≡ []
 deadline_ok spot period deadline some within = by (deadline == period) refl
   where
     by : (b : Bool) → (deadline == period) ≡ b → optional (range_faults spot period) (other_number period deadline) ≡ []
     by true same = rw same
     by false other = rw other (range_ok spot period deadline some within)
 
-jitter_ok : (spot : Spot) (bound jitter : ℕ) → jitter < bound → optional (below_faults spot bound) (other_number 0 jitter) ≡ []
+jitter_ok : (spot : Spot) (bound jitter : ℕ) → jitter < bound
+    → optional (below_faults spot bound) (other_number 0 jitter) ≡ []
 jitter_ok spot bound jitter below = by (jitter == 0) refl
   where
     is_less : nat_lt jitter bound ≡ true
@@ -92,7 +97,9 @@ jitter_ok spot bound jitter below = by (jitter == 0) refl
     by true none = rw none
     by false some = rw (some, is_less)
 
-task_keys_faultless : (spot : Spot) (earlier : List Data) (t : NamedTask) → is_name t.name ≡ true → list_any (is_named t.name) earlier ≡ false → IsConstrained t.task → t.task.period ≤ LIMIT → task_key_faults spot earlier (printed_task t) ≡ []
+task_keys_faultless : (spot : Spot) (earlier : List Data) (t : NamedTask) → is_name t.name ≡ true
+    → list_any (is_named t.name) earlier ≡ false → IsConstrained t.task → t.task.period ≤ LIMIT
+    → task_key_faults spot earlier (printed_task t) ≡ []
 task_keys_faultless spot earlier t name new is limit =
     let works = is.works in
     let in_deadline = is.in_deadline in
@@ -112,7 +119,8 @@ Tells Two t = Unit {0}
 
 task_listed : (format : Format) (t : NamedTask) → Tells format t → has_only (task_keys format) (task_members t) ≡ true
 task_listed One t none =
-    ap (λ jitter. has_only (task_keys One) (with_some (codes "jitter") jitter (due_members t))) (left_out t.task.jitter none)
+    ap (λ jitter. has_only (task_keys One) (with_some (codes "jitter") jitter (due_members t)))
+    (left_out t.task.jitter none)
     ∙ listed_key (task_keys One) (codes "deadline") (other_number t.task.period t.task.deadline) (fixed_members t) refl
   where
     left_out : (n : ℕ) → not (n == 0) ≡ false → other_number 0 n ≡ None
@@ -121,5 +129,8 @@ task_listed Two t told =
     listed_key (task_keys Two) (codes "jitter") (other_number 0 t.task.jitter) (due_members t) refl
     ∙ listed_key (task_keys Two) (codes "deadline") (other_number t.task.period t.task.deadline) (fixed_members t) refl
 
-pub task_faultless : (format : Format) (q : ℕ) (earlier : List Data) (t : NamedTask) → Tells format t → is_name t.name ≡ true → list_any (is_named t.name) earlier ≡ false → IsConstrained t.task → t.task.period ≤ LIMIT → task_faults format q earlier (printed_task t) ≡ []
-task_faultless format q earlier t tells name new is limit = rw (task_listed format t tells, task_keys_faultless (Task q (length earlier)) earlier t name new is limit)
+pub task_faultless : (format : Format) (q : ℕ) (earlier : List Data) (t : NamedTask) → Tells format t
+    → is_name t.name ≡ true → list_any (is_named t.name) earlier ≡ false → IsConstrained t.task → t.task.period ≤ LIMIT
+    → task_faults format q earlier (printed_task t) ≡ []
+task_faultless format q earlier t tells name new is limit =
+    rw (task_listed format t tells, task_keys_faultless (Task q (length earlier)) earlier t name new is limit)

@@ -23,11 +23,13 @@ use Rattle.system_file.proofs.Rules.{each, distinct, core_supply, part_is}
 use Rattle.system_file.proofs.Nodes.{part_none, all_new, parent_part, parent_core, on_part_is, link}
 
 -- the names of spelled cores and parts
-pub core_names : (ds : List Data) → map (λ (c : CoreView). c.name) (map spelled_core ds) ≡ map (λ d. text_of (get (codes "name") d)) ds
+pub core_names : (ds : List Data)
+    → map (λ (c : CoreView). c.name) (map spelled_core ds) ≡ map (λ d. text_of (get (codes "name") d)) ds
 core_names [] = refl
 core_names (d ∷ ds) = ap (λ ns. text_of (get (codes "name") d) ∷ ns) (core_names ds)
 
-pub part_names : (cores all ds : List Data) → map (λ (p : PartView). p.name) (map (spelled_part cores all) ds) ≡ map (λ d. text_of (get (codes "name") d)) ds
+pub part_names : (cores all ds : List Data)
+    → map (λ (p : PartView). p.name) (map (spelled_part cores all) ds) ≡ map (λ d. text_of (get (codes "name") d)) ds
 part_names cores all [] = refl
 part_names cores all (d ∷ ds) = ap (λ ns. text_of (get (codes "name") d) ∷ ns) (part_names cores all ds)
 
@@ -39,45 +41,64 @@ module _ (cores parts : List Data) where
   abbrev pub sys : SystemView
   sys = record { cores = map spelled_core cores; parts = spelled }
 
-  pub part_spelled : (q : ℕ) → q < length parts → part_in spelled q ≡ spelled_part cores parts (get_or parts q (boolean false))
+  pub part_spelled : (q : ℕ) → q < length parts
+      → part_in spelled q ≡ spelled_part cores parts (get_or parts q (boolean false))
   part_spelled q h = get_or-map (spelled_part cores parts) parts q (boolean false) _ h
 
   leaf_is : (q : ℕ) → q < length parts → is_leaf (part_in spelled q).tasks ≡ has_tasks (get_or parts q (boolean false))
-  leaf_is q h = ap (λ (p : PartView). is_leaf p.tasks) (part_spelled q h) ∙ leaf_tasks (tasks_of (get_or parts q (boolean false)))
+  leaf_is q h =
+      ap (λ (p : PartView). is_leaf p.tasks) (part_spelled q h) ∙ leaf_tasks (tasks_of (get_or parts q (boolean false)))
 
-  module _ (format : Format) (no_core : in_order core_faults [] cores ≡ []) (no_part : in_order (part_faults format cores) [] parts ≡ []) where
+  module _ (format : Format) (no_core : in_order core_faults [] cores ≡ [])
+      (no_part : in_order (part_faults format cores) [] parts ≡ []) where
     pub parents_among : ParentsAmong spelled
     parents_among = λ q r within is.
         let few : q < length parts = rw (length_map (spelled_part cores parts) parts) at within in
-        let below = parent_part format cores parts no_core no_part q r few (sym (ap (λ (p : PartView). p.parent) (part_spelled q few)) ∙ is) in
+        let below
+        = parent_part format cores parts no_core no_part q r few
+        (sym (ap (λ (p : PartView). p.parent) (part_spelled q few)) ∙ is) in
         rw (length_map (spelled_part cores parts) parts) (omega (arith, below.0))
 
     child_is : (q : ℕ) → q < length parts → has_child spelled q ≡ is_parent parts (get_or parts q (boolean false))
     child_is q h =
         list_any_map (λ (p : PartView). is_on q p.parent) (spelled_part cores parts) parts
-        ∙ list_any_same (λ d. is_on q (parent_at cores parts d)) (λ d. is_text (text_of (get (codes "name") (get_or parts q (boolean false)))) (get (codes "parent") d)) parts (boolean false)
+        ∙ list_any_same (λ d. is_on q (parent_at cores parts d))
+        (λ d. is_text (text_of (get (codes "name") (get_or parts q (boolean false)))) (get (codes "parent") d))
+        parts (boolean false)
         (λ r hr. link format cores parts no_core no_part q r h hr)
 
-    empty_is : (q : ℕ) → q < length parts → is_empty_part spelled q (part_in spelled q) ≡ (not (has_tasks (get_or parts q (boolean false))) && not (is_parent parts (get_or parts q (boolean false))))
-    empty_is q h = ap (λ b. not b && not (has_child spelled q)) (leaf_is q h) ∙ ap (λ b. not (has_tasks (get_or parts q (boolean false))) && not b) (child_is q h)
+    empty_is : (q : ℕ) → q < length parts
+        → is_empty_part spelled q (part_in spelled q)
+        ≡ (not (has_tasks (get_or parts q (boolean false)))
+        && not (is_parent parts (get_or parts q (boolean false))))
+    empty_is q h =
+        ap (λ b. not b && not (has_child spelled q)) (leaf_is q h)
+        ∙ ap (λ b. not (has_tasks (get_or parts q (boolean false))) && not b) (child_is q h)
 
     -- no part is empty
-    pub none_empty : ((q : ℕ) → q < length spelled → is_empty_part spelled q (part_in spelled q) ≡ false) → in_order (empty_faults parts) [] parts ≡ []
+    pub none_empty : ((q : ℕ) → q < length spelled → is_empty_part spelled q (part_in spelled q) ≡ false)
+        → in_order (empty_faults parts) [] parts ≡ []
     none_empty none = none_in_order (empty_faults parts) [] parts (boolean false)
-        (λ q h. ap (λ b. fault_if b (Empty (Part (length (take q parts))))) (sym (empty_is q h) ∙ none q (rw (length_map (spelled_part cores parts) parts) h)))
+        (λ q h. ap (λ b. fault_if b (Empty (Part (length (take q parts)))))
+        (sym (empty_is q h) ∙ none q (rw (length_map (spelled_part cores parts) parts) h)))
 
     -- the first part that is empty
-    pub first_is_empty : (at : ℕ) → at < length spelled → is_empty_part spelled at (part_in spelled at) ≡ true → ((q : ℕ) → q < at → is_empty_part spelled q (part_in spelled q) ≡ false) →
+    pub first_is_empty : (at : ℕ) → at < length spelled → is_empty_part spelled at (part_in spelled at) ≡ true
+        → ((q : ℕ) → q < at → is_empty_part spelled q (part_in spelled q) ≡ false) →
         first_of (in_order (empty_faults parts) [] parts) ≡ Some (Empty (Part at))
     first_is_empty at within here before =
         let few : at < length parts = rw (length_map (spelled_part cores parts) parts) at within in
         let long : length (take at parts) ≡ at = length-take-le at parts (omega arith) in
         first_in_order (empty_faults parts) [] parts at (boolean false) (Empty (Part at)) few
-        (λ q h. ap (λ b. fault_if b (Empty (Part (length (take q parts))))) (sym (empty_is q (omega arith)) ∙ before q h))
-        (ap (λ b. first_of (fault_if b (Empty (Part (length (take at parts)))))) (sym (empty_is at few) ∙ here) ∙ ap (λ n. Some (Empty (Part n))) long)
+        (λ q h. ap (λ b. fault_if b (Empty (Part (length (take q parts)))))
+        (sym (empty_is q (omega arith)) ∙ before q h))
+        (ap (λ b. first_of (fault_if b (Empty (Part (length (take at parts)))))) (sym (empty_is at few) ∙ here)
+        ∙ ap (λ n. Some (Empty (Part n))) long)
 
-    stands : (q : ℕ) → q < length parts → (p : Parent) → parent_at cores parts (get_or parts q (boolean false)) ≡ p → Stands sys q p
-    stands q h (on_core c) is = rw (length_map spelled_core cores) (parent_core format cores parts no_core no_part q c h is)
+    stands : (q : ℕ) → q < length parts → (p : Parent) → parent_at cores parts (get_or parts q (boolean false)) ≡ p
+        → Stands sys q p
+    stands q h (on_core c) is =
+        rw (length_map spelled_core cores) (parent_core format cores parts no_core no_part q c h is)
     stands q h (on_part r) is =
         let below = parent_part format cores parts no_core no_part q r h is in
         (below.0, leaf_is r (omega (arith, below.0)) ∙ below.1)
@@ -87,13 +108,24 @@ module _ (cores parts : List Data) where
     childless false true fault h e = refl
     childless false false fault h e = cc
 
-    child_there : in_order (empty_faults parts) [] parts ≡ [] → (q : ℕ) → q < length parts → is_leaf (part_in spelled q).tasks ≡ false → (r : ℕ) × IsChildOf sys q r
+    child_there : in_order (empty_faults parts) [] parts ≡ [] → (q : ℕ) → q < length parts
+        → is_leaf (part_in spelled q).tasks ≡ false → (r : ℕ) × IsChildOf sys q r
     child_there no_empty q h leaf =
         let d = get_or parts q (boolean false) in
-        let parent : is_parent parts d ≡ true = childless (has_tasks d) (is_parent parts d) _ (each (empty_faults parts) [] parts q (boolean false) h no_empty) (sym (leaf_is q h) ∙ leaf) in
-        let child = any_at (λ c. is_text (text_of (get (codes "name") d)) (get (codes "parent") c)) parts (boolean false) parent in
-        let on : parent_at cores parts (get_or parts child.place (boolean false)) ≡ on_part q = on_part_is q _ (link format cores parts no_core no_part q child.place h child.within ∙ child.passes) in
-        (child.place, (rw (length_map (spelled_part cores parts) parts) child.within, ap (λ (p : PartView). p.parent) (part_spelled child.place child.within) ∙ on))
+        let parent : is_parent parts d ≡ true
+        = childless (has_tasks d) (is_parent parts d) _
+        (each (empty_faults parts) [] parts q (boolean false) h no_empty) (sym (leaf_is q h) ∙ leaf) in
+        let child
+        = any_at (λ c. is_text (text_of (get (codes "name") d)) (get (codes "parent") c)) parts (boolean false)
+        parent in
+        let on : parent_at cores parts (get_or parts child.place (boolean false)) ≡ on_part q
+        = on_part_is q _ (link format cores parts no_core no_part q child.place h child.within ∙ child.passes) in (
+          child.place,
+          (
+            rw (length_map (spelled_part cores parts) parts) child.within,
+            ap (λ (p : PartView). p.parent) (part_spelled child.place child.within) ∙ on,
+          ),
+        )
 
     names_distinct : AreDistinct (node_names sys)
     names_distinct = subst AreDistinct names (distinct (cores ++ parts) (all_new format cores parts no_core no_part))
@@ -101,9 +133,11 @@ module _ (cores parts : List Data) where
         names : map (λ d. text_of (get (codes "name") d)) (cores ++ parts) ≡ node_names sys
         names = map-append (λ (d : Data). text_of (get (codes "name") d)) cores parts
             ∙ ap (λ ns. ns ++ map (λ (d : Data). text_of (get (codes "name") d)) parts) (sym (core_names cores))
-            ∙ ap (λ ns. map (λ (c : CoreView). c.name) (map spelled_core cores) ++ ns) (sym (part_names cores parts parts))
+            ∙ ap (λ ns. map (λ (c : CoreView). c.name) (map spelled_core cores) ++ ns)
+            (sym (part_names cores parts parts))
 
-    pub is_system : (1 ≤ length cores) × (length cores ≤ 64) → length parts ≤ 512 → in_order (empty_faults parts) [] parts ≡ [] → IsSystem sys
+    pub is_system : (1 ≤ length cores) × (length cores ≤ 64) → length parts ≤ 512
+        → in_order (empty_faults parts) [] parts ≡ [] → IsSystem sys
     is_system few_cores few_parts no_empty = record {
       some_core = rw (length_map spelled_core cores) few_cores.0;
       few_cores = rw (length_map spelled_core cores) few_cores.1;
@@ -112,14 +146,19 @@ module _ (cores parts : List Data) where
       supplies = λ c within.
           let few : c < length cores = rw (length_map spelled_core cores) at within in
           let supply : CoreView → Type 0 = λ x. IsCoreSupply x.supply in
-          subst supply (sym (get_or-map spelled_core cores c (boolean false) _ few)) (core_supply (take c cores) (get_or cores c (boolean false)) (each core_faults [] cores c (boolean false) few no_core));
+          subst supply (sym (get_or-map spelled_core cores c (boolean false) _ few))
+          (core_supply (take c cores) (get_or cores c (boolean false))
+          (each core_faults [] cores c (boolean false) few no_core));
       parts = λ q within.
           let few : q < length parts = rw (length_map (spelled_part cores parts) parts) at within in
-          subst IsPart (sym (part_spelled q few)) (part_is format cores parts (take q parts) (get_or parts q (boolean false)) (part_none format cores parts no_core no_part q few));
+          subst IsPart (sym (part_spelled q few)) (part_is format cores parts (take q parts)
+          (get_or parts q (boolean false)) (part_none format cores parts no_core no_part q few));
       parents = λ q within.
           let few : q < length parts = rw (length_map (spelled_part cores parts) parts) at within in
-          subst (λ (p : Parent). Stands sys q p) (sym (ap (λ (p : PartView). p.parent) (part_spelled q few))) (stands q few _ refl);
-      not_empty = λ q within leaf. child_there no_empty q (rw (length_map (spelled_part cores parts) parts) at within) leaf;
+          subst (λ (p : Parent). Stands sys q p) (sym (ap (λ (p : PartView). p.parent) (part_spelled q few)))
+          (stands q few _ refl);
+      not_empty =
+          λ q within leaf. child_there no_empty q (rw (length_map (spelled_part cores parts) parts) at within) leaf;
     }
 
 -- no fault, so what is spelled is a system
@@ -131,35 +170,51 @@ faultless_is_system top h =
     let rest_2 = none_right (in_order core_faults [] (cores_of top)) _ rest in
     let no_part : in_order (part_faults (format_of top) (cores_of top)) [] (parts_of top) ≡ [] = none_left _ _ rest_2 in
     let no_empty = none_right (in_order (part_faults (format_of top) (cores_of top)) [] (parts_of top)) _ rest_2 in
-    let keys = table_inside Top top_keys (required Top format_faults (get (codes "format") top) ++ (required Top core_array_faults (get (codes "core") top) ++ optional (array_faults Top 512) (get (codes "part") top))) top in_top in
+    let keys
+    = table_inside Top top_keys (required Top format_faults (get (codes "format") top)
+    ++ (required Top core_array_faults (get (codes "core") top)
+    ++ optional (array_faults Top 512) (get (codes "part") top))) top in_top in
     let arrays = none_right (required Top format_faults (get (codes "format") top)) _ keys in
     is_system (cores_of top) (parts_of top) (format_of top) no_core no_part
     (cores_there (get (codes "core") top) (none_left _ _ arrays)).1
-    (few_there Top 512 (get (codes "part") top) (none_right (required Top core_array_faults (get (codes "core") top)) _ arrays))
+    (few_there Top 512 (get (codes "part") top)
+    (none_right (required Top core_array_faults (get (codes "core") top)) _ arrays))
     no_empty
 
 -- What comes after the faults of the top table, over the format and the elements of the two arrays
 -- as a reader has them.
-module _ (top : Data) (format : Format) (cs ps : List Data) (in_top : top_faults top ≡ []) (format_is : format ≡ format_of top) (cores_are : cs ≡ cores_of top) (parts_are : ps ≡ parts_of top) (no_core : in_order core_faults [] cs ≡ []) where
+module _ (top : Data) (format : Format) (cs ps : List Data) (in_top : top_faults top ≡ [])
+    (format_is : format ≡ format_of top) (cores_are : cs ≡ cores_of top) (parts_are : ps ≡ parts_of top)
+    (no_core : in_order core_faults [] cs ≡ []) where
   core_none : in_order core_faults [] (cores_of top) ≡ []
   core_none = ap (in_order core_faults []) (sym cores_are) ∙ no_core
 
-  parts_same : in_order (part_faults (format_of top) (cores_of top)) [] (parts_of top) ≡ in_order (part_faults format cs) [] ps
-  parts_same = ap (λ es. in_order (part_faults (format_of top) es) [] (parts_of top)) (sym cores_are) ∙ ap (λ es. in_order (part_faults (format_of top) cs) [] es) (sym parts_are) ∙ ap (λ f. in_order (part_faults f cs) [] ps) (sym format_is)
+  parts_same : in_order (part_faults (format_of top) (cores_of top)) [] (parts_of top)
+      ≡ in_order (part_faults format cs) [] ps
+  parts_same =
+      ap (λ es. in_order (part_faults (format_of top) es) [] (parts_of top)) (sym cores_are)
+      ∙ ap (λ es. in_order (part_faults (format_of top) cs) [] es) (sym parts_are)
+      ∙ ap (λ f. in_order (part_faults f cs) [] ps) (sym format_is)
 
   empties_same : in_order (empty_faults (parts_of top)) [] (parts_of top) ≡ in_order (empty_faults ps) [] ps
   empties_same = ap (λ es. in_order (empty_faults es) [] es) (sym parts_are)
 
-  pub fault_in_parts : (x : SystemFault) → first_of (in_order (part_faults format cs) [] ps) ≡ Some x → first_of (faults top) ≡ Some x
+  pub fault_in_parts : (x : SystemFault) → first_of (in_order (part_faults format cs) [] ps) ≡ Some x
+      → first_of (faults top) ≡ Some x
   fault_in_parts x wrong =
-      first_later (top_faults top) _ x in_top (first_later _ _ x core_none (first_here _ _ x (ap first_of parts_same ∙ wrong)))
+      first_later (top_faults top) _ x in_top
+      (first_later _ _ x core_none (first_here _ _ x (ap first_of parts_same ∙ wrong)))
 
-  pub fault_in_tree : (x : SystemFault) → in_order (part_faults format cs) [] ps ≡ [] → first_of (in_order (empty_faults ps) [] ps) ≡ Some x → first_of (faults top) ≡ Some x
+  pub fault_in_tree : (x : SystemFault) → in_order (part_faults format cs) [] ps ≡ []
+      → first_of (in_order (empty_faults ps) [] ps) ≡ Some x → first_of (faults top) ≡ Some x
   fault_in_tree x none wrong =
-      first_later (top_faults top) _ x in_top (first_later _ _ x core_none (first_later _ _ x (parts_same ∙ none) (ap first_of empties_same ∙ wrong)))
+      first_later (top_faults top) _ x in_top
+      (first_later _ _ x core_none (first_later _ _ x (parts_same ∙ none) (ap first_of empties_same ∙ wrong)))
 
   pub no_fault : in_order (part_faults format cs) [] ps ≡ [] → in_order (empty_faults ps) [] ps ≡ [] → faults top ≡ []
-  no_fault none no_empty = none_both (top_faults top) _ in_top (none_both _ _ core_none (none_both _ _ (parts_same ∙ none) (empties_same ∙ no_empty)))
+  no_fault none no_empty =
+      none_both (top_faults top) _ in_top
+      (none_both _ _ core_none (none_both _ _ (parts_same ∙ none) (empties_same ∙ no_empty)))
 
   pub spelled_from : spelled_system top ≡ sys cs ps
   spelled_from = ap (λ es. sys es (parts_of top)) (sym cores_are) ∙ ap (λ es. sys cs es) (sym parts_are)

@@ -23,6 +23,8 @@ unfolding system_of
 system_text bytes text = rw (is_utf8-from_IsUtf8 bytes text)
 
 pub document_refused : (r : Result SystemView SystemFault) (t : Members) (o : Option Members) → o ≡ Some t →
-    IfErr r (λ fault. fault ≢ NoMemory → first_of (faults (table t)) ≡ Some fault) → IfErr r (λ fault. fault ≢ NoMemory → system_of_document o ≡ Err fault)
+    IfErr r (λ fault. fault ≢ NoMemory → first_of (faults (table t)) ≡ Some fault)
+    → IfErr r (λ fault. fault ≢ NoMemory → system_of_document o ≡ Err fault)
 document_refused (Ok sys) t o e h = tt
-document_refused (Err fault) t o e h = λ memory. ap system_of_document e ∙ first_decides (spelled_system (table t)) (faults (table t)) fault (h memory)
+document_refused (Err fault) t o e h =
+    λ memory. ap system_of_document e ∙ first_decides (spelled_system (table t)) (faults (table t)) fault (h memory)

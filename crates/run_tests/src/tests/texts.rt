@@ -26,8 +26,7 @@ pub const RATED: &str =
      parent = \"cpu0\"\nsched = \"rm\"\nperiod = 10\n[[part.task]]\nname = \"t1\"\n\
      period = 50\nwork = 7\n[[part.task]]\nname = \"t2\"\nperiod = 75\nwork = 9\n";
 
-pub const RATED_RESPONSES: &str =
-    "verdict=yes\nresponse leaf t1 worst=25 limit=50 replay=25\n\
+pub const RATED_RESPONSES: &str = "verdict=yes\nresponse leaf t1 worst=25 limit=50 replay=25\n\
      response leaf t2 worst=46 limit=75 replay=46\n";
 
 /// Two guests on one core, of which the first may take what is left.

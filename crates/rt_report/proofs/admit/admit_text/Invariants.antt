@@ -5,4 +5,6 @@ use Rattle.rt_report.proofs.admit.admit_text.Given as goal
 
 -- what is written, and then the lines of the parts that are left
 abbrev pub invariant-loop-q : goal.invariant-loop-q
-invariant-loop-q l = string_bytes l.text ++ part_lines (drop l.q l.sys.parts) (drop l.q l.budgets) l.left ≡ admit_text l.sys l.plan l.replays
+invariant-loop-q l =
+    string_bytes l.text ++ part_lines (drop l.q l.sys.parts) (drop l.q l.budgets) l.left
+    ≡ admit_text l.sys l.plan l.replays

@@ -5,4 +5,5 @@ use Rattle.rt_report.proofs.responses.responses_text.Given as goal
 
 -- what is written, and then the lines that are left
 abbrev pub invariant-loop-row : goal.invariant-loop-row
-invariant-loop-row l = string_bytes l.text ++ response_lines l.sys (drop l.row-index l.rows) ≡ responses_text l.sys l.rows
+invariant-loop-row l =
+    string_bytes l.text ++ response_lines l.sys (drop l.row-index l.rows) ≡ responses_text l.sys l.rows

@@ -5,4 +5,6 @@ use Rattle.rt_report.proofs.session.session_text.Given as goal
 
 -- what is written, and then the lines of the parts that are left
 abbrev pub invariant-loop-q : goal.invariant-loop-q
-invariant-loop-q l = string_bytes l.text ++ plan_lines (drop l.q l.sys.parts) (drop l.q l.budgets) ≡ string_bytes l.fn.told ++ plan_lines l.sys.parts l.plan
+invariant-loop-q l =
+    string_bytes l.text ++ plan_lines (drop l.q l.sys.parts) (drop l.q l.budgets)
+    ≡ string_bytes l.fn.told ++ plan_lines l.sys.parts l.plan

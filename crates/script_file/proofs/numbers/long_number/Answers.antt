@@ -7,4 +7,12 @@ returns-then-n-limit-clause-past c =
     let field = c.args.field.now in
     let i : ℕ = c.loop-digit.digit-index in
     let next : ℕ = 10 * c.loop-digit.n + (get_or field i 0 - 48) in
-    omega (arith, c.loop-digit.invariant.so_far, digits_more c.loop-digit.n i next field c.loop-digit-test.true (omega arith), digits_grow next (drop (i + 1) field), c.if-n-limit.true, c.from.ensures, c.saturating_sub.ensures)
+    omega (
+      arith,
+      c.loop-digit.invariant.so_far,
+      digits_more c.loop-digit.n i next field c.loop-digit-test.true (omega arith),
+      digits_grow next (drop (i + 1) field),
+      c.if-n-limit.true,
+      c.from.ensures,
+      c.saturating_sub.ensures,
+    )

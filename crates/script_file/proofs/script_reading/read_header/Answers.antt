@@ -14,10 +14,14 @@ pub returns-then-not-is_script_header-clause-fault : goal.returns-then-not-is_sc
 returns-then-not-is_script_header-clause-fault c text has =
     let all = rw c.in-Ok-true.field-0-test at (c.in-Ok-true.ensures.read text [] has) in
     let (more, front) = has_front text (row_read c.advance.new.self ∷ []) c.advance.new.self all in
-    let none = ap is_script_header (sym c.row.ensures) ∙ (sym c.is_script_header.ensures ∙ c.if-not-is_script_header.true) in
+    let none
+    = ap is_script_header (sym c.row.ensures) ∙ (sym c.is_script_header.ensures ∙ c.if-not-is_script_header.true) in
     inr (refl, ap script_rows front ∙ cond-false (is_script_header (row_read c.advance.new.self)) (Some more) None none)
 
 pub returns-clause-header : goal.returns-clause-header
 returns-clause-header c text has =
-    let all = rw c.in-Ok-true.field-0-test at (c.in-Ok-true.ensures.read text [] has) in
-    (row_read c.advance.new.self, ap is_script_header (sym c.row.ensures) ∙ (sym c.is_script_header.ensures ∙ c.if-not-is_script_header.false), all)
+    let all = rw c.in-Ok-true.field-0-test at (c.in-Ok-true.ensures.read text [] has) in (
+      row_read c.advance.new.self,
+      ap is_script_header (sym c.row.ensures) ∙ (sym c.is_script_header.ensures ∙ c.if-not-is_script_header.false),
+      all,
+    )

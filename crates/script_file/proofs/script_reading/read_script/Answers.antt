@@ -16,7 +16,8 @@ pub returns-clause-spelt : goal.returns-clause-spelt
 returns-clause-spelt c =
     let text = c.args.bytes.now in
     let (header, told, has) = c.in_default.ensures.header text c.new-records.ensures.read in
-    rw (c.finish.ensures) (spelt_all (records_of text) c.new-rows.result c.read_rows.new.rows header told (c.in_default-read_rows.ensures.all text header has))
+    rw (c.finish.ensures) (spelt_all (records_of text) c.new-rows.result c.read_rows.new.rows header told
+    (c.in_default-read_rows.ensures.all text header has))
 
 pub returns-clause-few : goal.returns-clause-few
 returns-clause-few c =

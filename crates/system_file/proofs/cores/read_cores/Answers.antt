@@ -9,15 +9,20 @@ pub returns-in_err-core-clause-fault : goal.returns-in_err-core-clause-fault
 returns-in_err-core-clause-fault c =
     let p = err_from_is_err_and c.from_residual-in_err-core.result c.from_residual-in_err-core.ensures.1 in
     rw (p.1, p.2) (λ memory.
-    faulty core_faults c.args.values.now c.loop-place.place c.index-values-place.result _ (omega arith) c.index-values-place.is c.loop-place.invariant.2
-    (rw (length_before c.args.values.now c.loop-place.place (omega arith)) (c.in_err-core.ensures.fault memory (before c.args.values.now c.loop-place.place) c.loop-place.invariant.1)))
+    faulty core_faults c.args.values.now c.loop-place.place c.index-values-place.result _ (omega arith)
+    c.index-values-place.is c.loop-place.invariant.2
+    (rw (length_before c.args.values.now c.loop-place.place (omega arith))
+    (c.in_err-core.ensures.fault memory (before c.args.values.now c.loop-place.place) c.loop-place.invariant.1)))
 
 pub loop-place-preserved : goal.loop-place-preserved
 loop-place-preserved c =
     let ok = c.in_ok-core.ensures.ok (before c.args.values.now c.loop-place.place) c.loop-place.invariant.1 in (
       c.in_ok-push.ensures.items ∙ ap (λ items. items ++ c.in_ok-core.core ∷ []) c.loop-place.invariant.0
-          ∙ spelled_more spelled_core c.args.values.now c.loop-place.place c.index-values-place.result _ (omega arith) c.index-values-place.is ok.1,
-      rw (before_more c.args.values.now c.loop-place.place c.index-values-place.result (omega arith) c.index-values-place.is) ok.2,
-      faultless core_faults c.args.values.now c.loop-place.place c.index-values-place.result (omega arith) c.index-values-place.is c.loop-place.invariant.2
+          ∙ spelled_more spelled_core c.args.values.now c.loop-place.place c.index-values-place.result _ (omega arith)
+          c.index-values-place.is ok.1,
+      rw (before_more c.args.values.now c.loop-place.place c.index-values-place.result (omega arith)
+          c.index-values-place.is) ok.2,
+      faultless core_faults c.args.values.now c.loop-place.place c.index-values-place.result (omega arith)
+          c.index-values-place.is c.loop-place.invariant.2
           (rw (length_before c.args.values.now c.loop-place.place (omega arith)) ok.0),
     )

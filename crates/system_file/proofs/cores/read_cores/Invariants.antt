@@ -10,4 +10,5 @@ abbrev pub invariant-loop-place : goal.invariant-loop-place
 invariant-loop-place l =
     (l.cores.items ≡ map spelled_core (before l.values l.place))
     × HaveNames (before l.values l.place) l.names
-    × (in_order core_faults [] (map item_view l.values) ≡ in_order core_faults (before l.values l.place) (from l.values l.place))
+    × (in_order core_faults [] (map item_view l.values)
+    ≡ in_order core_faults (before l.values l.place) (from l.values l.place))

@@ -12,4 +12,6 @@ invariant-loop-value l =
     × (length l.names ≡ l.cores + l.value-index)
     × ((core_elements : List Data) → length core_elements ≡ l.cores → HaveNames core_elements l.fn.names →
     Known core_elements (before l.values l.value-index) (from l.values l.value-index) l.cores l.names l.parts.items
-    × (in_order (part_faults l.format core_elements) [] (map item_view l.values) ≡ in_order (part_faults l.format core_elements) (before l.values l.value-index) (from l.values l.value-index)))
+    × (in_order (part_faults l.format core_elements) [] (map item_view l.values)
+    ≡ in_order (part_faults l.format core_elements) (before l.values l.value-index)
+    (from l.values l.value-index)))

@@ -8,5 +8,7 @@ use Rattle.system_file.proofs.print.core_tables.Goals as goal
 pub loop-core-preserved : goal.loop-core-preserved
 loop-core-preserved c = (
   grind (arith, common_steps),
-  All-more (λ (x : Core). is_name x.name ≡ true) c.args.cores.now c.loop-core.core-index c.core-item.result (omega arith) c.loop-core.invariant.1 (subst (λ (x : Core). is_name x.name ≡ true) c.core-item.is c.in_ok-core_table.ensures.named),
+  All-more (λ (x : Core). is_name x.name ≡ true) c.args.cores.now c.loop-core.core-index c.core-item.result
+      (omega arith) c.loop-core.invariant.1
+      (subst (λ (x : Core). is_name x.name ≡ true) c.core-item.is c.in_ok-core_table.ensures.named),
 )

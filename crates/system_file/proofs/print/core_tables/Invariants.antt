@@ -4,4 +4,5 @@ use Rattle.system_file.specs.Printed.{printed_core, CoresAreNamed}
 use Rattle.system_file.proofs.print.core_tables.Given as goal
 
 abbrev pub invariant-loop-core : goal.invariant-loop-core
-invariant-loop-core l = (map view l.tables.items ≡ map printed_core (take l.core-index l.cores)) × CoresAreNamed (take l.core-index l.cores)
+invariant-loop-core l =
+    (map view l.tables.items ≡ map printed_core (take l.core-index l.cores)) × CoresAreNamed (take l.core-index l.cores)

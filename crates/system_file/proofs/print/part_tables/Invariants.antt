@@ -4,4 +4,6 @@ use Rattle.system_file.specs.Printed.{printed_part, PartsAreNamed}
 use Rattle.system_file.proofs.print.part_tables.Given as goal
 
 abbrev pub invariant-loop-part : goal.invariant-loop-part
-invariant-loop-part l = (map view l.tables.items ≡ map (printed_part l.sys) (take l.part-index l.parts)) × PartsAreNamed (take l.part-index l.parts)
+invariant-loop-part l =
+    (map view l.tables.items ≡ map (printed_part l.sys) (take l.part-index l.parts))
+    × PartsAreNamed (take l.part-index l.parts)

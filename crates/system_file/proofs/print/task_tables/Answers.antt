@@ -8,5 +8,7 @@ use Rattle.system_file.proofs.print.task_tables.Goals as goal
 pub loop-task-preserved : goal.loop-task-preserved
 loop-task-preserved c = (
   grind (arith, common_steps),
-  All-more (λ (x : NamedTask). is_name x.name ≡ true) c.args.tasks.now c.loop-task.task-index c.task-item.result (omega arith) c.loop-task.invariant.1 (subst (λ (x : NamedTask). is_name x.name ≡ true) c.task-item.is c.in_ok-task_table.ensures.named),
+  All-more (λ (x : NamedTask). is_name x.name ≡ true) c.args.tasks.now c.loop-task.task-index c.task-item.result
+      (omega arith) c.loop-task.invariant.1
+      (subst (λ (x : NamedTask). is_name x.name ≡ true) c.task-item.is c.in_ok-task_table.ensures.named),
 )

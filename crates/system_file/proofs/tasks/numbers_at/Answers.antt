@@ -7,7 +7,9 @@ pub returns-in_err-jitter-clause-fault : goal.returns-in_err-jitter-clause-fault
 returns-in_err-jitter-clause-fault c =
     let p = err_from_is_err_and c.from_residual-in_err-jitter.result c.from_residual-in_err-jitter.ensures.1 in
     let period_ok = rw c.in_ok-period.ensures.ok.1 at c.in_ok-period.ensures.ok.0 in
-    let deadline = c.unwrap_or-deadline.ensures ∙ ap (λ o. unwrap_or o c.in_ok-period.period) c.in_ok-given_number_at.ensures.ok.1 in
+    let deadline
+    = c.unwrap_or-deadline.ensures
+    ∙ ap (λ o. unwrap_or o c.in_ok-period.period) c.in_ok-given_number_at.ensures.ok.1 in
     let wrong = rw deadline at c.in_err-jitter.ensures.fault in
     rw (p.1, p.2) (rw c.in_ok-period.ensures.ok.1
     (first_later _ _ _ period_ok (first_later _ _ _ c.in_ok-given_number_at.ensures.ok.0 (first_here _ _ _ wrong))))

@@ -10,4 +10,5 @@ abbrev pub invariant-loop-place : goal.invariant-loop-place
 invariant-loop-place l =
     (l.tasks.items ≡ map spelled_task (before l.values l.place))
     × HaveNames (before l.values l.place) l.names
-    × (in_order (task_faults l.format l.part) [] (map item_view l.values) ≡ in_order (task_faults l.format l.part) (before l.values l.place) (from l.values l.place))
+    × (in_order (task_faults l.format l.part) [] (map item_view l.values)
+    ≡ in_order (task_faults l.format l.part) (before l.values l.place) (from l.values l.place))
