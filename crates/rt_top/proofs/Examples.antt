@@ -23,7 +23,7 @@ use Rattle.rt_top.specs.declared.status.Status.{Status}
 use Rattle.rt_top.specs.declared.status.Status.TheVariants.{Yes, No, Usage, BadFile, Wide, Absent, TooLong, ReadFault, WriteFault, NoMemory}
 use Rattle.rt_top.specs.Guests.{guest_number}
 use Rattle.rt_top.specs.CommandSpec.{IsVerdict}
-use Rattle.rt_top.specs.Commands.{Command, admit, certify, check, audit, bulk, one_word, two_words, rtds_of, simulate_of, command_of, usage_line}
+use Rattle.rt_top.specs.Commands.{Command, admit, certify, check, audit, bulk, responses, one_word, two_words, rtds_of, simulate_of, command_of, usage_line}
 use Rattle.rt_top.specs.Answer.{Contents, file_at, AtFile, OnSystem, IfSystem}
 use Rattle.rt_top.specs.Commands.Admit.{AdmitsSystem, AdmitMeans, KeepsDeadlines, IsTrulyOverfull, MeansOfSystem}
 use Rattle.rt_top.specs.Report.{IsAnswer, Reported}
@@ -53,6 +53,7 @@ the_words_of_each_command : (word : List ℕ) (rest : List (List ℕ)) → comma
     else if bytes_eq word (codes "rtds") then rtds_of rest
     else if bytes_eq word (codes "audit") then option_map (λ names. audit names.0 names.1) (two_words rest)
     else if bytes_eq word (codes "bulk") then option_map bulk (option_and_then guest_number (one_word rest))
+    else if bytes_eq word (codes "responses") then option_map responses (one_word rest)
     else None)
 the_words_of_each_command word rest = refl
 
