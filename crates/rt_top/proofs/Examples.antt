@@ -24,7 +24,7 @@ use Rattle.rt_top.specs.declared.status.Status.TheVariants.{Yes, No, Usage, BadF
 use Rattle.rt_top.specs.Guests.{guest_number}
 use Rattle.rt_top.specs.PeriodWords.{range_of}
 use Rattle.rt_top.specs.CommandSpec.{IsVerdict}
-use Rattle.rt_top.specs.Commands.{Command, admit, certify, check, audit, bulk, interface, choose, session, place, tally, one_word, two_words, rtds_of, simulate_of, interface_of, choose_of, version_of, command_of, usage_line}
+use Rattle.rt_top.specs.Commands.{Command, admit, certify, check, audit, bulk, interface, choose, session, place, tally, responses, one_word, two_words, rtds_of, simulate_of, interface_of, choose_of, version_of, command_of, usage_line}
 use Rattle.rt_top.specs.Answer.{Contents, file_at, AtFile, OnSystem, IfSystem}
 use Rattle.rt_top.specs.Commands.Admit.{AdmitsSystem, AdmitMeans, KeepsDeadlines, IsTrulyOverfull, MeansOfSystem}
 use Rattle.rt_top.specs.Report.{IsAnswer, Reported}
@@ -73,6 +73,7 @@ the_words_of_each_command : (word : List ℕ) (rest : List (List ℕ)) → comma
     else if bytes_eq word (codes "audit") then option_map (λ names. audit names.0 names.1) (two_words rest)
     else if bytes_eq word (codes "bulk") then option_map bulk (option_and_then guest_number (one_word rest))
     else if bytes_eq word (codes "interface") then interface_of rest
+    else if bytes_eq word (codes "responses") then option_map responses (one_word rest)
     else if bytes_eq word (codes "choose") then choose_of rest
     else if bytes_eq word (codes "session") then option_map (λ names. session names.0 names.1) (two_words rest)
     else if bytes_eq word (codes "place") then option_map (λ names. place names.0 names.1) (two_words rest)

@@ -41,13 +41,21 @@ one_answer sys budgets a b part task p q =
 abbrev places_of : List Response → List (ℕ × ℕ)
 places_of rows = map (λ (row : Response). (row.part, row.task)) rows
 
-one_list : (sys : SystemView) (budgets : List ℕ) (a b : List Response) → places_of a ≡ places_of b → All (IsAnswered sys budgets) a → All (IsAnswered sys budgets) b → a ≡ b
+heads_of : (p q : ℕ × ℕ) (r s : List (ℕ × ℕ)) → p ∷ r ≡ q ∷ s → (p ≡ q) × (r ≡ s)
+heads_of p q r s e = (cc, cc)
+
+one_list : (sys : SystemView) (budgets : List ℕ) (a b : List Response) → places_of a ≡ places_of b
+    → All (IsAnswered sys budgets) a → All (IsAnswered sys budgets) b → a ≡ b
 one_list sys budgets [] [] e p q = refl
 one_list sys budgets [] (y ∷ b) e p q = absurd (cc)
 one_list sys budgets (x ∷ a) [] e p q = absurd (cc)
 one_list sys budgets (x ∷ a) (y ∷ b) e p q =
-    let first : x ≡ y = one_answer sys budgets x y (cc) (cc) (All-head (IsAnswered sys budgets) x a p) (All-head (IsAnswered sys budgets) y b q) in
-    let later : a ≡ b = one_list sys budgets a b (cc) (All-tail (IsAnswered sys budgets) x a p) (All-tail (IsAnswered sys budgets) y b q) in
+    let same : ((x.part, x.task) ≡ (y.part, y.task)) × (places_of a ≡ places_of b)
+    = heads_of (x.part, x.task) (y.part, y.task) (places_of a) (places_of b) e in
+    let first : x ≡ y = one_answer sys budgets x y (ap (λ (z : ℕ × ℕ). z.0) same.0) (ap (λ (z : ℕ × ℕ). z.1) same.0)
+    (All-head (IsAnswered sys budgets) x a p) (All-head (IsAnswered sys budgets) y b q) in
+    let later : a ≡ b = one_list sys budgets a b same.1 (All-tail (IsAnswered sys budgets) x a p)
+    (All-tail (IsAnswered sys budgets) y b q) in
     rw (first, later) refl
 
 pub one_list_of_responses : (sys : SystemView) (budgets : List ℕ) (a b : List Response) → AreResponses sys budgets a → AreResponses sys budgets b → a ≡ b

@@ -102,10 +102,10 @@ pub fn parse(words: &[String]) -> Option<Command<'_>>
         Some(Command::Audit(file, trace))
     } else if word.as_str() == "bulk" {
         Some(Command::Bulk(guest_number(one_word(rest)?)?))
-    } else if word.as_str() == "responses" {
-        Some(Command::Responses(one_word(rest)?))
     } else if word.as_str() == "interface" {
         interface_of(rest)
+    } else if word.as_str() == "responses" {
+        Some(Command::Responses(one_word(rest)?))
     } else if word.as_str() == "choose" {
         choose_of(rest)
     } else if word.as_str() == "session" {
