@@ -1,16 +1,16 @@
 -- The leaf of a name: there is one at most, what is said of it is one, and which statuses it has.
-use Rattle.std.proofs.Common.{◌≡◌, ◌≢◌, ℕ, ◌+◌, ◌<◌, ◌≤◌, true, List, [], length, map, get_or, arith, refl, sym, ◌∙◌, ap, subst, inl, inr}
+use Rattle.std.proofs.Common.{◌≡◌, ℕ, ◌+◌, ◌<◌, List, [], arith, refl, sym, ◌∙◌, subst, inl, inr}
 use Rattle.std.proofs.lemmas.Bool.{cases_lt, cases_eq}
 use Rattle.std.proofs.lemmas.List.{get_or-map, length-map}
 use Rattle.tree_model.specs.View.{PartView, SystemView}
-use Rattle.tree_model.specs.System.{IsSystem, AreDistinct, core_names, part_names, no_part, part_at}
+use Rattle.tree_model.specs.System.{IsSystem, AreDistinct, core_names, part_names, no_part}
 use Rattle.tree_model.proofs.Distinct.{distinct_back}
 use Rattle.rt_top.specs.declared.status.Status.{Status}
 use Rattle.rt_top.specs.declared.answer.Ending.{Ending}
 use Rattle.rt_top.specs.declared.answer.Ending.TheVariants.{Answered, Unread, NoMemory as NoRoom}
 use Rattle.rt_top.specs.Answer.{IsOne}
 use Rattle.rt_top.specs.Attempt.{IsRefused}
-use Rattle.rt_top.specs.NamedLeaf.{IsLeafNamed, HasNoLeaf, finding, OnLeaf}
+use Rattle.rt_top.specs.NamedLeaf.{IsLeafNamed, finding, OnLeaf}
 use Rattle.rt_top.specs.Steps.{IfAnswered}
 use Rattle.rt_top.proofs.Attempt.{IsDecided, one_attempt}
 

@@ -1,6 +1,6 @@
 -- What is said over one file, a system file: the laws of a command that has a judge of its system,
 -- and how what was read becomes the answer to a command.
-use Rattle.std.proofs.Common.{◌≡◌, ℕ, List, [], ◌∷◌, length, Option, Some, None, refl, sym, ap, subst, inl, inr, arith}
+use Rattle.std.proofs.Common.{◌≡◌, ℕ, ◌≤◌, List, [], ◌∷◌, length, Option, Some, None, refl, sym, ap, subst, inl, inr, arith}
 use Rattle.std.proofs.lemmas.Bool.{cases_lt, false≢true}
 use Rattle.std.specs.Prelude.{IsOk, IfOk, IfSome, Result, Ok, Err, map}
 use Rattle.tree_model.specs.View.{SystemView}

@@ -1,7 +1,7 @@
 -- How many bytes each step of a command takes of told files.
-use Rattle.std.proofs.Common.{◌≡◌, ◌≢◌, ◌⊎◌, ℕ, ◌+◌, ◌<◌, ◌≤◌, min, Bool, true, false, List, [], ◌∷◌, length, Option, Some, None, refl, sym, ◌∙◌, ap, subst, inl, inr, arith, cond}
+use Rattle.std.proofs.Common.{◌≡◌, ◌≢◌, ◌⊎◌, ℕ, ◌+◌, ◌<◌, ◌≤◌, Bool, true, false, List, [], ◌∷◌, length, Option, Some, None, refl, sym, ◌∙◌, ap, subst, inl, inr, arith}
 use Rattle.std.proofs.lemmas.Bool.{cases_lt, cond-true, cond-false, le-leb, lt-leb}
-use Rattle.std.specs.Prelude.{Result, Ok, Err, IsSomeAnd, is_ok, map, nat_le, ◌&&◌, ⊤, option_map}
+use Rattle.std.specs.Prelude.{Result, Ok, Err, IsSomeAnd, is_ok, map, nat_le, ◌&&◌, option_map}
 use Rattle.tree_model.specs.View.{SystemView}
 use Rattle.system_file.specs.declared.fault.SystemFault.{SystemFault}
 use Rattle.system_file.specs.SystemFile.{system_of}
@@ -13,8 +13,8 @@ use Rattle.rt_top.specs.declared.answer.Answer.{Answer}
 use Rattle.rt_top.specs.declared.answer.Ending.{Ending}
 use Rattle.rt_top.specs.declared.answer.Ending.TheVariants.{Answered, Unread, NoMemory as NoRoom}
 use Rattle.rt_top.specs.Commands.{Command, command_told, file_names}
-use Rattle.rt_top.specs.Answer.{Contents, file_limit, AtContent, OnSystem}
-use Rattle.rt_top.specs.Report.{names_of, IsAnswer}
+use Rattle.rt_top.specs.Answer.{file_limit, AtContent, OnSystem}
+use Rattle.rt_top.specs.Report.{IsAnswer}
 use Rattle.rt_top.specs.Reading.{read_of, is_system_file, read_in, bytes_to_read, Takes, NamesNoFile, EndsWithoutFile}
 use Rattle.rt_top.specs.declared.commands.Command.{Command as Parsed}
 use Rattle.rt_top.specs.Steps.{IfAnswered, IsSpelled, StopsAt, EndTakes, StepTakes, CommandTakes}

@@ -1,5 +1,5 @@
 -- How much of its files a command reads: of the second nothing, unless the first spells a system.
-use Rattle.std.specs.Prelude.{◌≡◌, ◌⊎◌, ℕ, ◌+◌, ◌≤◌, min, nat_le, ◌&&◌, if◌then◌else◌, Bool, false, List, [], ◌∷◌, length, Option, Some, None, is_ok, ⊤}
+use Rattle.std.specs.Prelude.{◌≡◌, ◌⊎◌, ℕ, ◌+◌, ◌≤◌, min, nat_le, ◌&&◌, if◌then◌else◌, Bool, false, List, [], ◌∷◌, length, Option, Some, None, is_ok}
 use Rattle.outside.specs.Counts.{RoseBy}
 use Rattle.outside.specs.Files.{Files}
 use Rattle.system_file.specs.SystemFile.{system_of}

@@ -1,5 +1,5 @@
 -- What `choose` answers: one thing, its statuses, and what it means.
-use Rattle.std.proofs.Common.{◌≡◌, ℕ, ◌<◌, ◌≤◌, List, refl, sym, ◌∙◌, ap, subst, inl, inr, arith}
+use Rattle.std.proofs.Common.{◌≡◌, ℕ, ◌≤◌, List, refl, sym, ◌∙◌, ap, subst, inl, inr, arith}
 use Rattle.slot_model.specs.Task.{AreConstrained}
 use Rattle.slot_model.proofs.WorstPattern.{periodic_laws}
 use Rattle.least_budget.proofs.Budgets.{not_passing_misses}

@@ -19,7 +19,7 @@ use Rattle.rt_report.specs.declared.fault.FileFault.TheVariants.{BadDeadline}
 use Rattle.rt_report.specs.Fault.{fault_text}
 use Rattle.rt_top.specs.declared.status.Status.{Status}
 use Rattle.rt_top.specs.declared.status.Status.TheVariants.{Yes, No, Wide, BadFile}
-use Rattle.rt_top.specs.Answer.{Contents, IsOne}
+use Rattle.rt_top.specs.Answer.{IsOne}
 use Rattle.rt_top.specs.Commands.Interface.{least_status, least_text, IsInterface, AtDeadline, InterfacesSystem, InterfaceTells, HasNoFit, the_interface}
 use Rattle.rt_top.specs.NamedLeaf.{IsLeafNamed, IsVerdictUnless}
 use Rattle.rt_top.specs.Steps.{IsJudged}
