@@ -1,5 +1,5 @@
 -- The lines of the answers to the rows so far, and to one row more.
-use Rattle.std.proofs.Common.{◌≡◌, ℕ, suc, ◌+◌, List, [], ◌∷◌, ◌++◌, length, refl, sym, ◌∙◌, ap, arith}
+use Rattle.std.proofs.Common.{◌≡◌, ℕ, suc, ◌+◌, List, [], ◌∷◌, ◌++◌, length, sym, ◌∙◌, ap, arith}
 use Rattle.std.proofs.lemmas.List.{append_assoc, append-nil}
 use Rattle.admission_session.specs.declared.answer.Answer.{Answer}
 use Rattle.rt_report.specs.Session.{answer_line, answer_lines}

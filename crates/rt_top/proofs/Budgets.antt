@@ -39,24 +39,35 @@ refusal_told sys (Overfull node short) first = first.is_node
 refusal_told sys (TooWide node) first = first.is_node
 refusal_told sys NoRefusal first = absurd first
 
-status_told : (P : Status → Type 0) → P No → P Wide → (sys : SystemView) (r : Refusal) → IsRefusalOf sys r → P (refusal_status r)
+status_told : (P : Status → Type 0) → P No → P Wide → (sys : SystemView) (r : Refusal) → IsRefusalOf sys r
+    → P (refusal_status r)
 status_told P at_no at_wide sys (Overfull node short) told = at_no
 status_told P at_no at_wide sys (TooWide node) told = at_wide
 status_told P at_no at_wide sys NoRefusal told = absurd told
 
-unassigned_status : (P : Status → Type 0) → P No → P Wide → (sys : SystemView) (r : Refusal) → FirstUnassigned sys r → P (refusal_status r)
+unassigned_status : (P : Status → Type 0) → P No → P Wide → (sys : SystemView) (r : Refusal) → FirstUnassigned sys r
+    → P (refusal_status r)
 unassigned_status P at_no at_wide sys r first = status_told P at_no at_wide sys r (unassigned_told sys r first)
 
-pub refused_status : (P : Status → Type 0) → P No → P Wide → (sys : SystemView) (r : Refusal) → FirstRefusal sys r → P (refusal_status r)
+pub refused_status : (P : Status → Type 0) → P No → P Wide → (sys : SystemView) (r : Refusal) → FirstRefusal sys r
+    → P (refusal_status r)
 refused_status P at_no at_wide sys r first = status_told P at_no at_wide sys r (refusal_told sys r first)
 
 -- what is said of the budgets that are assigned: it is one, which statuses it has, and that it is
 -- said of these
-pub one_assigned : (sys : SystemView) → IsSystem sys → (Says : List ℕ → Status → List ℕ → Type 0) → ((budgets : List ℕ) → IsOne (Says budgets)) → IsOne (OnAssigned sys Says)
-one_assigned sys is Says one = one_attempt (assigning sys) Says (assigning_decided sys is) (λ budgets assigned. one budgets)
+pub one_assigned : (sys : SystemView) → IsSystem sys → (Says : List ℕ → Status → List ℕ → Type 0)
+    → ((budgets : List ℕ) → IsOne (Says budgets)) → IsOne (OnAssigned sys Says)
+one_assigned sys is Says one =
+    one_attempt (assigning sys) Says (assigning_decided sys is) (λ budgets assigned. one budgets)
 
-pub statuses_assigned : (P : Status → Type 0) → P No → P Wide → (sys : SystemView) (Says : List ℕ → Status → List ℕ → Type 0) (status : Status) (text : List ℕ) → ((budgets : List ℕ) → Says budgets status text → P status) → OnAssigned sys Says status text → P status
-statuses_assigned P at_no at_wide sys Says status text said h = statuses_attempt P (assigning sys) Says status text (unassigned_status P at_no at_wide sys) said h
+pub statuses_assigned : (P : Status → Type 0) → P No → P Wide
+    → (sys : SystemView) (Says : List ℕ → Status → List ℕ → Type 0) (status : Status) (text : List ℕ)
+    → ((budgets : List ℕ) → Says budgets status text → P status) → OnAssigned sys Says status text → P status
+statuses_assigned P at_no at_wide sys Says status text said h =
+    statuses_attempt P (assigning sys) Says status text (unassigned_status P at_no at_wide sys) said h
 
-pub said_of_assigned : (sys : SystemView) → IsSystem sys → (Says : List ℕ → Status → List ℕ → Type 0) (status : Status) (text : List ℕ) (budgets : List ℕ) → Assigned sys budgets → OnAssigned sys Says status text → Says budgets status text
-said_of_assigned sys is Says status text budgets assigned h = said_of_given (assigning sys) Says status text (assigning_decided sys is) budgets assigned h
+pub said_of_assigned : (sys : SystemView) → IsSystem sys
+    → (Says : List ℕ → Status → List ℕ → Type 0) (status : Status) (text : List ℕ) (budgets : List ℕ)
+    → Assigned sys budgets → OnAssigned sys Says status text → Says budgets status text
+said_of_assigned sys is Says status text budgets assigned h =
+    said_of_given (assigning sys) Says status text (assigning_decided sys is) budgets assigned h

@@ -12,14 +12,18 @@ pub record CommandLaws (spec : CommandSpec) : Type 0 where
   -- there is one answer
   pub one_answer : (contents : Contents) → IsOne (spec.Answers contents)
   -- it means what it is to mean
-  pub means : (contents : Contents) (status : Status) (text : List ℕ) → spec.Answers contents status text → spec.Means contents status text
+  pub means : (contents : Contents) (status : Status) (text : List ℕ) → spec.Answers contents status text
+      → spec.Means contents status text
   -- it has the status of an answer
-  pub of_job : (contents : Contents) (status : Status) (text : List ℕ) → spec.Answers contents status text → IsOfJob status
+  pub of_job : (contents : Contents) (status : Status) (text : List ℕ) → spec.Answers contents status text
+      → IsOfJob status
   -- where the command can be judged, it ends as it is to end, and want of memory may end it too
-  pub verdict : (contents : Contents) (status : Status) (text : List ℕ) → spec.CanJudge contents → spec.Answers contents status text → spec.EndsAs contents status
+  pub verdict : (contents : Contents) (status : Status) (text : List ℕ) → spec.CanJudge contents
+      → spec.Answers contents status text → spec.EndsAs contents status
   pub no_memory : (contents : Contents) → spec.EndsAs contents NoMemory
   -- a command without files is answered yes
-  pub without_file : spec.files ≡ [] → (contents : Contents) (status : Status) (text : List ℕ) → spec.Answers contents status text → status ≡ Yes
+  pub without_file : spec.files ≡ [] → (contents : Contents) (status : Status) (text : List ℕ)
+      → spec.Answers contents status text → status ≡ Yes
 
 -- the laws of the command, where there is one
 abbrev pub AreLawful : Option Command → Type 0

@@ -36,30 +36,41 @@ a_file_to_admit = refl
 
 -- `certify` takes one file, and `check` two
 files_of_certificates :
-    (command_of (codes "certify" ∷ codes "a" ∷ []) ≡ Some (certify (codes "a"))) × (command_of (codes "check" ∷ codes "a" ∷ codes "b" ∷ []) ≡ Some (check (codes "a") (codes "b")))
-    × (command_of (codes "check" ∷ codes "a" ∷ []) ≡ None) × (command_of (codes "certify" ∷ codes "a" ∷ codes "b" ∷ []) ≡ None)
+    (command_of (codes "certify" ∷ codes "a" ∷ []) ≡ Some (certify (codes "a")))
+    × (command_of (codes "check" ∷ codes "a" ∷ codes "b" ∷ []) ≡ Some (check (codes "a") (codes "b")))
+    × (command_of (codes "check" ∷ codes "a" ∷ []) ≡ None)
+    × (command_of (codes "certify" ∷ codes "a" ∷ codes "b" ∷ []) ≡ None)
 files_of_certificates = (refl, refl, refl, refl)
 
 -- the name of a leaf is any word, and the numbers are in their ranges
 words_of_a_leaf :
-    (command_of (codes "interface" ∷ codes "a" ∷ codes "ctl" ∷ codes "40" ∷ []) ≡ Some (interface (codes "a") (codes "ctl") 40))
-    × (command_of (codes "interface" ∷ codes "a" ∷ codes "1 2" ∷ codes "1" ∷ []) ≡ Some (interface (codes "a") (codes "1 2") 1))
-    × (command_of (codes "choose" ∷ codes "a" ∷ codes "ctl" ∷ codes "5" ∷ codes "14" ∷ []) ≡ Some (choose (codes "a") (codes "ctl") 5 14))
+    (command_of (codes "interface" ∷ codes "a" ∷ codes "ctl" ∷ codes "40" ∷ [])
+    ≡ Some (interface (codes "a") (codes "ctl") 40))
+    × (command_of (codes "interface" ∷ codes "a" ∷ codes "1 2" ∷ codes "1" ∷ [])
+    ≡ Some (interface (codes "a") (codes "1 2") 1))
+    × (command_of (codes "choose" ∷ codes "a" ∷ codes "ctl" ∷ codes "5" ∷ codes "14" ∷ [])
+    ≡ Some (choose (codes "a") (codes "ctl") 5 14))
 words_of_a_leaf = (refl, refl, refl)
 
 no_deadline :
-    (command_of (codes "interface" ∷ codes "a" ∷ codes "ctl" ∷ codes "0" ∷ []) ≡ None) × (command_of (codes "interface" ∷ codes "a" ∷ codes "ctl" ∷ codes "1000000001" ∷ []) ≡ None)
-    × (command_of (codes "interface" ∷ codes "a" ∷ codes "ctl" ∷ codes "07" ∷ []) ≡ None) × (command_of (codes "interface" ∷ codes "a" ∷ codes "ctl" ∷ []) ≡ None)
+    (command_of (codes "interface" ∷ codes "a" ∷ codes "ctl" ∷ codes "0" ∷ []) ≡ None)
+    × (command_of (codes "interface" ∷ codes "a" ∷ codes "ctl" ∷ codes "1000000001" ∷ []) ≡ None)
+    × (command_of (codes "interface" ∷ codes "a" ∷ codes "ctl" ∷ codes "07" ∷ []) ≡ None)
+    × (command_of (codes "interface" ∷ codes "a" ∷ codes "ctl" ∷ []) ≡ None)
 no_deadline = (refl, refl, refl, refl)
 
 -- as many as 10,000 periods, and no range that falls
 a_range_of_periods :
-    (range_of (codes "1") (codes "10000") ≡ Some (1, 10000)) × (range_of (codes "1") (codes "10001") ≡ None) × (range_of (codes "7") (codes "7") ≡ Some (7, 7)) × (range_of (codes "8") (codes "7") ≡ None)
-    × (range_of (codes "0") (codes "7") ≡ None) × (range_of (codes "999990001") (codes "1000000000") ≡ Some (999990001, 1000000000)) × (range_of (codes "1000000000") (codes "1000000001") ≡ None)
+    (range_of (codes "1") (codes "10000") ≡ Some (1, 10000)) × (range_of (codes "1") (codes "10001") ≡ None)
+    × (range_of (codes "7") (codes "7") ≡ Some (7, 7)) × (range_of (codes "8") (codes "7") ≡ None)
+    × (range_of (codes "0") (codes "7") ≡ None)
+    × (range_of (codes "999990001") (codes "1000000000") ≡ Some (999990001, 1000000000))
+    × (range_of (codes "1000000000") (codes "1000000001") ≡ None)
 a_range_of_periods = (refl, refl, refl, refl, refl, refl, refl)
 
 no_form_is_left_open :
-    (command_of [] ≡ None) × (command_of (codes "admit" ∷ []) ≡ None) × (command_of (codes "admit" ∷ codes "a" ∷ codes "b" ∷ []) ≡ None)
+    (command_of [] ≡ None) × (command_of (codes "admit" ∷ []) ≡ None)
+    × (command_of (codes "admit" ∷ codes "a" ∷ codes "b" ∷ []) ≡ None)
     × (command_of (codes "Admit" ∷ codes "a" ∷ []) ≡ None) × (command_of (codes "a" ∷ codes "admit" ∷ []) ≡ None)
 no_form_is_left_open = (refl, refl, refl, refl, refl)
 
@@ -82,61 +93,79 @@ the_words_of_each_command : (word : List ℕ) (rest : List (List ℕ)) → comma
     else None)
 the_words_of_each_command word rest = refl
 
-the_usage : usage_line ≡ codes "usage: rtadmit admit FILE | certify FILE | check FILE CERT | simulate FILE RELEASES PATTERN SLOTS | rtds FILE WORKLOAD SLOTS | audit FILE TRACE | bulk N | interface FILE PART DEADLINE | responses FILE | choose FILE PART LOW HIGH | session FILE SCRIPT | place FILE GUESTS | tally FILE TRACE | version\n"
+the_usage : usage_line
+    ≡ codes
+    "usage: rtadmit admit FILE | certify FILE | check FILE CERT | simulate FILE RELEASES PATTERN SLOTS | rtds FILE WORKLOAD SLOTS | audit FILE TRACE | bulk N | interface FILE PART DEADLINE | responses FILE | choose FILE PART LOW HIGH | session FILE SCRIPT | place FILE GUESTS | tally FILE TRACE | version\n"
 the_usage = refl
 
 -- files count from 1, and past the last there is none
-files_count_from_one : (a b : Option (List ℕ)) → (file_at 1 (a ∷ b ∷ []) ≡ a) × (file_at 2 (a ∷ b ∷ []) ≡ b) × (file_at 3 (a ∷ b ∷ []) ≡ None)
+files_count_from_one : (a b : Option (List ℕ))
+    → (file_at 1 (a ∷ b ∷ []) ≡ a) × (file_at 2 (a ∷ b ∷ []) ≡ b) × (file_at 3 (a ∷ b ∷ []) ≡ None)
 files_count_from_one a b = (refl, refl, refl)
 
 -- the first file that is not there is told with its number
-the_second_file_is_absent : (bytes text : List ℕ) (status : Status) → AtFile 2 (Some bytes ∷ None ∷ []) (λ _ _ _. ⊥) status text → (status ≡ Absent) × (text ≡ codes "absent file=2\n")
+the_second_file_is_absent : (bytes text : List ℕ) (status : Status)
+    → AtFile 2 (Some bytes ∷ None ∷ []) (λ _ _ _. ⊥) status text → (status ≡ Absent) × (text ≡ codes "absent file=2\n")
 unfolding digits
 the_second_file_is_absent bytes text status h = h
 
 -- a file of the limit is not too long, and one byte more is
-a_file_of_the_limit_is_said_of : (bytes text : List ℕ) (status : Status) → length bytes ≡ 67108864 → AtFile 1 (Some bytes ∷ []) (λ _ s _. s ≡ Yes) status text → status ≡ Yes
+a_file_of_the_limit_is_said_of : (bytes text : List ℕ) (status : Status) → length bytes ≡ 67108864
+    → AtFile 1 (Some bytes ∷ []) (λ _ s _. s ≡ Yes) status text → status ≡ Yes
 a_file_of_the_limit_is_said_of bytes text status long h = h.said (omega (arith, long))
 
-one_byte_more_is_too_long : (bytes text : List ℕ) (status : Status) → length bytes ≡ 67108865 → AtFile 1 (Some bytes ∷ []) (λ _ s _. s ≡ Yes) status text → (status ≡ TooLong) × (text ≡ codes "toolong file=1\n")
+one_byte_more_is_too_long : (bytes text : List ℕ) (status : Status) → length bytes ≡ 67108865
+    → AtFile 1 (Some bytes ∷ []) (λ _ s _. s ≡ Yes) status text → (status ≡ TooLong) × (text ≡ codes "toolong file=1\n")
 unfolding digits
 one_byte_more_is_too_long bytes text status long h = h.too_long (omega (arith, long))
 
 -- bytes that spell no system are refused with the fault of the first file
-a_fault_of_the_first_file : (text : List ℕ) (status : Status) → OnSystem (Err NotToml) AdmitsSystem status text → (status ≡ BadFile) × (text ≡ codes "fault=NotToml file=1\n")
+a_fault_of_the_first_file : (text : List ℕ) (status : Status) → OnSystem (Err NotToml) AdmitsSystem status text
+    → (status ≡ BadFile) × (text ≡ codes "fault=NotToml file=1\n")
 unfolding digits
 a_fault_of_the_first_file text status h = h
 
 -- after a failed read and without memory nothing is written; a fault of the output cuts an answer
-nothing_is_written : (command : Option Command) (files : Option Files) (old new : Option (List ℕ)) → (Reported command files ReadFault old new → new ≡ old) × (Reported command files NoMemory old new → new ≡ old)
+nothing_is_written : (command : Option Command) (files : Option Files) (old new : Option (List ℕ))
+    → (Reported command files ReadFault old new → new ≡ old) × (Reported command files NoMemory old new → new ≡ old)
 nothing_is_written command files old new = (λ h. h, λ h. h)
 
-a_cut_has_an_answer : (command : Option Command) (files : Option Files) (old new : Option (List ℕ)) → Reported command files WriteFault old new → (status : Status) × (text : List ℕ) × IsAnswer command files status text × AppendsProperPrefix old new text
+a_cut_has_an_answer : (command : Option Command) (files : Option Files) (old new : Option (List ℕ))
+    → Reported command files WriteFault old new
+    → (status : Status) × (text : List ℕ) × IsAnswer command files status text × AppendsProperPrefix old new text
 a_cut_has_an_answer command files old new h = (h.status, h.text, h.answer, h.written)
 
 -- a yes over told files speaks of the system of the file, of its text, and of what is written
-what_a_yes_reports : (name : List ℕ) (files : Files) (old new : Option (List ℕ)) → Reported (Some (admit name)) (Some files) Yes old new →
+what_a_yes_reports : (name : List ℕ) (files : Files) (old new : Option (List ℕ))
+    → Reported (Some (admit name)) (Some files) Yes old new →
     (text : List ℕ) × IfSystem (file_named name files ∷ []) (λ sys. KeepsDeadlines sys text) × Appends old new text
-what_a_yes_reports name files old new h = (h.text, subst (λ (c : Contents). AdmitMeans c Yes h.text) h.answer.held h.answer.means, h.written)
+what_a_yes_reports name files old new h =
+    (h.text, subst (λ (c : Contents). AdmitMeans c Yes h.text) h.answer.held h.answer.means, h.written)
 
-what_a_no_reports : (name : List ℕ) (files : Files) (old new : Option (List ℕ)) → Reported (Some (admit name)) (Some files) No old new →
+what_a_no_reports : (name : List ℕ) (files : Files) (old new : Option (List ℕ))
+    → Reported (Some (admit name)) (Some files) No old new →
     (text : List ℕ) × IfSystem (file_named name files ∷ []) (λ sys. IsTrulyOverfull sys text) × Appends old new text
-what_a_no_reports name files old new h = (h.text, subst (λ (c : Contents). AdmitMeans c No h.text) h.answer.held h.answer.means, h.written)
+what_a_no_reports name files old new h =
+    (h.text, subst (λ (c : Contents). AdmitMeans c No h.text) h.answer.held h.answer.means, h.written)
 
 -- words that spell no command get the usage line, over any files
-the_usage_line_is_written : (files : Option Files) (old new : Option (List ℕ)) → Reported None files Usage old new → Appends old new usage_line
+the_usage_line_is_written : (files : Option Files) (old new : Option (List ℕ)) → Reported None files Usage old new
+    → Appends old new usage_line
 the_usage_line_is_written files old new h = subst (λ (t : List ℕ). Appends old new t) h.answer.answers.1 h.written
 
 -- six answers say that the store refused nothing
-six_are_of_a_quiet_store : IsOfQuietStore Yes × IsOfQuietStore No × IsOfQuietStore Usage × IsOfQuietStore BadFile × IsOfQuietStore Wide × IsOfQuietStore TooLong
+six_are_of_a_quiet_store : IsOfQuietStore Yes × IsOfQuietStore No × IsOfQuietStore Usage × IsOfQuietStore BadFile
+    × IsOfQuietStore Wide × IsOfQuietStore TooLong
 six_are_of_a_quiet_store = (tt, tt, tt, tt, tt, tt)
 
 -- of a system that can be read there is a verdict, or memory ran out
-no_other_is_a_verdict : (IsVerdict Usage → ⊥) × (IsVerdict BadFile → ⊥) × (IsVerdict Absent → ⊥) × (IsVerdict TooLong → ⊥) × (IsVerdict ReadFault → ⊥) × (IsVerdict WriteFault → ⊥)
+no_other_is_a_verdict : (IsVerdict Usage → ⊥) × (IsVerdict BadFile → ⊥) × (IsVerdict Absent → ⊥)
+    × (IsVerdict TooLong → ⊥) × (IsVerdict ReadFault → ⊥) × (IsVerdict WriteFault → ⊥)
 no_other_is_a_verdict = (λ h. h, λ h. h, λ h. h, λ h. h, λ h. h, λ h. h)
 
 -- a file of just so many bytes is judged
-a_file_of_the_limit_is_judged : (name : List ℕ) (files : Files) (bytes : List ℕ) → file_named name files ≡ Some bytes → length bytes ≡ 67108864 → IsOk (system_of bytes) → IsJudgeable (Some (admit name)) (Some files)
+a_file_of_the_limit_is_judged : (name : List ℕ) (files : Files) (bytes : List ℕ) → file_named name files ≡ Some bytes
+    → length bytes ≡ 67108864 → IsOk (system_of bytes) → IsJudgeable (Some (admit name)) (Some files)
 a_file_of_the_limit_is_judged name files bytes there long spelled = record {
   spelled = admit name;
   spells = refl;
@@ -151,13 +180,18 @@ a_quiet_count_stays = ((omega arith, refl), (omega arith, refl))
 
 -- a yes tells budgets that admit the system, that lose no job, and that can't be smaller at a
 -- computed leaf
-what_a_yes_gives : (sys : SystemView) (text : List ℕ) → MeansOfSystem sys Yes text → (budgets : List ℕ) × (replays : List Replay) × (text ≡ admit_text sys budgets replays) × Admitted sys budgets × NoLoss sys budgets × IsTight sys budgets
+what_a_yes_gives : (sys : SystemView) (text : List ℕ) → MeansOfSystem sys Yes text
+    → (budgets : List ℕ) × (replays : List Replay) × (text ≡ admit_text sys budgets replays) × Admitted sys budgets
+    × NoLoss sys budgets × IsTight sys budgets
 what_a_yes_gives sys text kept = (kept.budgets, kept.replays, kept.told, kept.admitted, kept.no_loss, kept.tight)
 
 -- a no tells the first refusal, and it holds
-what_a_no_gives : (sys : SystemView) (text : List ℕ) → MeansOfSystem sys No text → (node : Place) × (short : Short) × (text ≡ refusal_text sys (Overfull node short)) × FirstRefusal sys (Overfull node short) × RefusalHolds sys (Overfull node short)
+what_a_no_gives : (sys : SystemView) (text : List ℕ) → MeansOfSystem sys No text
+    → (node : Place) × (short : Short) × (text ≡ refusal_text sys (Overfull node short))
+    × FirstRefusal sys (Overfull node short) × RefusalHolds sys (Overfull node short)
 what_a_no_gives sys text over = (over.node, over.short, over.told, over.first, over.holds)
 
 -- what is said of a system is said of the one that the first file spells
-said_of_the_file : (bytes : List ℕ) (sys : SystemView) (P : SystemView → Type 0) → system_of bytes ≡ Ok sys → IfSystem (Some bytes ∷ []) P → P sys
+said_of_the_file : (bytes : List ℕ) (sys : SystemView) (P : SystemView → Type 0) → system_of bytes ≡ Ok sys
+    → IfSystem (Some bytes ∷ []) P → P sys
 said_of_the_file bytes sys P spelled said = subst (λ (r : Result SystemView SystemFault). IfOk r P) spelled said

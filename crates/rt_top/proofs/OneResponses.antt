@@ -11,31 +11,42 @@ use Rattle.tree_model.specs.View.{SystemView}
 use Rattle.tree_model.specs.System.{own_tasks, part_at}
 use Rattle.tree_model.specs.Tree.{budget_at}
 use Rattle.rt_report.specs.declared.responses.Response.{Response}
-use Rattle.rt_top.specs.Commands.Responses.{answered_tasks, AreResponses, IsAnswered, IsReplayOf, IsResponseOf}
+use Rattle.rt_top.specs.Commands.Responses.{AreResponses, IsAnswered, IsReplayOf, IsResponseOf}
 
 row_of : (q i worst limit : ℕ) → Option ℕ → Response
 row_of q i worst limit replay = record { part = q; task = i; worst = worst; limit = limit; replay = replay }
 
-same_row : (p q i k w v l m : ℕ) (r s : Option ℕ) → p ≡ q → i ≡ k → w ≡ v → l ≡ m → r ≡ s → row_of p i w l r ≡ row_of q k v m s
+same_row : (p q i k w v l m : ℕ) (r s : Option ℕ) → p ≡ q → i ≡ k → w ≡ v → l ≡ m → r ≡ s
+    → row_of p i w l r ≡ row_of q k v m s
 unfolding row_of
 same_row p q i k w v l m r s part task worst limit replay = rw (part, task, worst, limit, replay) refl
 
-one_replayed : (sched : Sched) (tasks : List SporadicTask) (period budget i w v : ℕ) → w ≡ v → (r s : Option ℕ) → IsReplayOf sched tasks period budget i w r → IsReplayOf sched tasks period budget i v s → r ≡ s
+one_replayed : (sched : Sched) (tasks : List SporadicTask) (period budget i w v : ℕ) → w ≡ v → (r s : Option ℕ)
+    → IsReplayOf sched tasks period budget i w r → IsReplayOf sched tasks period budget i v s → r ≡ s
 one_replayed sched tasks period budget i w v e None None a b = refl
 one_replayed sched tasks period budget i w v e None (Some u) a b = absurd (omega (arith, e, a, b.0))
 one_replayed sched tasks period budget i w v e (Some t) None a b = absurd (omega (arith, e, a.0, b))
 one_replayed sched tasks period budget i w v e (Some t) (Some u) a b = ap Some (a.1 ∙ (e ∙ sym b.1))
 
-one_response_of : (sched : Sched) (tasks : List SporadicTask) (period budget i : ℕ) (a b : Response) → a.part ≡ b.part → a.task ≡ b.task → IsResponseOf sched tasks period budget i a → IsResponseOf sched tasks period budget i b → a ≡ b
+one_response_of : (sched : Sched) (tasks : List SporadicTask) (period budget i : ℕ) (a b : Response) → a.part ≡ b.part
+    → a.task ≡ b.task → IsResponseOf sched tasks period budget i a → IsResponseOf sched tasks period budget i b → a ≡ b
 unfolding row_of
 one_response_of sched tasks period budget i a b part task p q =
-    let worst : a.worst ≡ b.worst = one_greatest (GivesBudget period budget) (before_of sched tasks) tasks i a.worst b.worst p.greatest q.greatest in
-    same_row a.part b.part a.task b.task a.worst b.worst a.limit b.limit a.replay b.replay part task worst (p.limit_is ∙ sym q.limit_is) (one_replayed sched tasks period budget i a.worst b.worst worst a.replay b.replay p.replayed q.replayed)
+    let worst : a.worst ≡ b.worst
+    = one_greatest (GivesBudget period budget) (before_of sched tasks) tasks i a.worst b.worst p.greatest
+    q.greatest in
+    same_row a.part b.part a.task b.task a.worst b.worst a.limit b.limit a.replay b.replay part task worst
+    (p.limit_is ∙ sym q.limit_is)
+    (one_replayed sched tasks period budget i a.worst b.worst worst a.replay b.replay p.replayed q.replayed)
 
-one_answer : (sys : SystemView) (budgets : List ℕ) (a b : Response) → a.part ≡ b.part → a.task ≡ b.task → IsAnswered sys budgets a → IsAnswered sys budgets b → a ≡ b
+one_answer : (sys : SystemView) (budgets : List ℕ) (a b : Response) → a.part ≡ b.part → a.task ≡ b.task
+    → IsAnswered sys budgets a → IsAnswered sys budgets b → a ≡ b
 one_answer sys budgets a b part task p q =
-    let at : ℕ → ℕ → Type 0 = λ k i. IsResponseOf (part_at sys k).sched (own_tasks (part_at sys k)) (part_at sys k).period (budget_at budgets k) i b in
-    one_response_of (part_at sys a.part).sched (own_tasks (part_at sys a.part)) (part_at sys a.part).period (budget_at budgets a.part) a.task a b part task p
+    let at : ℕ → ℕ → Type 0
+    = λ k i. IsResponseOf (part_at sys k).sched (own_tasks (part_at sys k)) (part_at sys k).period
+    (budget_at budgets k) i b in
+    one_response_of (part_at sys a.part).sched (own_tasks (part_at sys a.part)) (part_at sys a.part).period
+    (budget_at budgets a.part) a.task a b part task p
     (subst (λ (k : ℕ). at k a.task) (sym part) (subst (at b.part) (sym task) q))
 
 abbrev places_of : List Response → List (ℕ × ℕ)
@@ -58,5 +69,6 @@ one_list sys budgets (x ∷ a) (y ∷ b) e p q =
     (All-tail (IsAnswered sys budgets) y b q) in
     rw (first, later) refl
 
-pub one_list_of_responses : (sys : SystemView) (budgets : List ℕ) (a b : List Response) → AreResponses sys budgets a → AreResponses sys budgets b → a ≡ b
+pub one_list_of_responses : (sys : SystemView) (budgets : List ℕ) (a b : List Response) → AreResponses sys budgets a
+    → AreResponses sys budgets b → a ≡ b
 one_list_of_responses sys budgets a b p q = one_list sys budgets a b (p.places_are ∙ sym q.places_are) p.each q.each

@@ -20,16 +20,33 @@ one_byte_past_the_limit bytes long = omega (arith, long)
 nothing_behind_an_absent_file : (two : List ℕ) → read_in (None ∷ Some two ∷ []) ≡ 0
 nothing_behind_an_absent_file two = refl
 
-spells_it : (one : List ℕ) (spelled : Result SystemView SystemFault) → length one ≡ 10 → system_of one ≡ spelled → is_system_file (Some one) ≡ is_ok spelled
-spells_it one spelled long is = ap (λ (b : Bool). b && is_ok (system_of one)) (le-leb (length one) file_limit (omega (arith, long))) ∙ ap (λ (r : Result SystemView SystemFault). is_ok r) is
+spells_it : (one : List ℕ) (spelled : Result SystemView SystemFault) → length one ≡ 10 → system_of one ≡ spelled
+    → is_system_file (Some one) ≡ is_ok spelled
+spells_it one spelled long is =
+    ap (λ (b : Bool). b && is_ok (system_of one)) (le-leb (length one) file_limit (omega (arith, long)))
+    ∙ ap (λ (r : Result SystemView SystemFault). is_ok r) is
 
-nothing_behind_a_refused_file : (one two : List ℕ) (fault : SystemFault) → length one ≡ 10 → system_of one ≡ Err fault → read_in (Some one ∷ Some two ∷ []) ≡ 10
-nothing_behind_a_refused_file one two fault long is = omega (arith, long, cond-false {A = ℕ} (is_system_file (Some one)) (read_of (Some two)) 0 (spells_it one (Err fault) long is))
+nothing_behind_a_refused_file : (one two : List ℕ) (fault : SystemFault) → length one ≡ 10 → system_of one ≡ Err fault
+    → read_in (Some one ∷ Some two ∷ []) ≡ 10
+nothing_behind_a_refused_file one two fault long is =
+    omega (
+      arith,
+      long,
+      cond-false {A = ℕ} (is_system_file (Some one)) (read_of (Some two)) 0 (spells_it one (Err fault) long is),
+    )
 
-both_where_the_first_is_good : (one two : List ℕ) (sys : SystemView) → length one ≡ 10 → length two ≡ 7 → system_of one ≡ Ok sys → read_in (Some one ∷ Some two ∷ []) ≡ 17
-both_where_the_first_is_good one two sys long short is = omega (arith, long, short, cond-true {A = ℕ} (is_system_file (Some one)) (read_of (Some two)) 0 (spells_it one (Ok sys) long is))
+both_where_the_first_is_good : (one two : List ℕ) (sys : SystemView) → length one ≡ 10 → length two ≡ 7
+    → system_of one ≡ Ok sys → read_in (Some one ∷ Some two ∷ []) ≡ 17
+both_where_the_first_is_good one two sys long short is =
+    omega (
+      arith,
+      long,
+      short,
+      cond-true {A = ℕ} (is_system_file (Some one)) (read_of (Some two)) 0 (spells_it one (Ok sys) long is),
+    )
 
-the_files_of_the_command : (file cert : List ℕ) (files : Files) → bytes_to_read (Some (check file cert)) files ≡ read_in (file_named file files ∷ file_named cert files ∷ [])
+the_files_of_the_command : (file cert : List ℕ) (files : Files)
+    → bytes_to_read (Some (check file cert)) files ≡ read_in (file_named file files ∷ file_named cert files ∷ [])
 the_files_of_the_command file cert files = refl
 
 -- a byte more is refused, and so is one less of an answer
@@ -43,8 +60,15 @@ no_more_after_a_failed_read = (λ took. omega (arith, took), λ took. omega (ari
 no_file : (file : List ℕ) → NamesNoFile None × NamesNoFile (Some (bulk 8)) × (NamesNoFile (Some (admit file)) → ⊥)
 no_file file = (refl, refl, λ none. absurd (cc))
 
-how_they_end : (EndsWithoutFile None Usage) × (EndsWithoutFile None WriteFault) × (EndsWithoutFile None NoMemory) × EndsWithoutFile (Some (bulk 8)) Yes
+how_they_end : (EndsWithoutFile None Usage) × (EndsWithoutFile None WriteFault) × (EndsWithoutFile None NoMemory)
+    × EndsWithoutFile (Some (bulk 8)) Yes
 how_they_end = (inl refl, inr (inl refl), inr (inr refl), λ none. inl refl)
 
-no_other_end : (EndsWithoutFile None ReadFault → ⊥) × (EndsWithoutFile None Yes → ⊥) × (EndsWithoutFile (Some (bulk 8)) ReadFault → ⊥) × (EndsWithoutFile (Some (bulk 8)) No → ⊥)
-no_other_end = (λ h. elim h [ inl e ↦ cc | inr r ↦ elim r [ inl e ↦ cc | inr e ↦ cc ] ], λ h. elim h [ inl e ↦ cc | inr r ↦ elim r [ inl e ↦ cc | inr e ↦ cc ] ], λ h. elim (h refl) [ inl e ↦ cc | inr r ↦ elim r [ inl e ↦ cc | inr e ↦ cc ] ], λ h. elim (h refl) [ inl e ↦ cc | inr r ↦ elim r [ inl e ↦ cc | inr e ↦ cc ] ])
+no_other_end : (EndsWithoutFile None ReadFault → ⊥) × (EndsWithoutFile None Yes → ⊥)
+    × (EndsWithoutFile (Some (bulk 8)) ReadFault → ⊥) × (EndsWithoutFile (Some (bulk 8)) No → ⊥)
+no_other_end = (
+  λ h. elim h [ inl e ↦ cc | inr r ↦ elim r [ inl e ↦ cc | inr e ↦ cc ] ],
+  λ h. elim h [ inl e ↦ cc | inr r ↦ elim r [ inl e ↦ cc | inr e ↦ cc ] ],
+  λ h. elim (h refl) [ inl e ↦ cc | inr r ↦ elim r [ inl e ↦ cc | inr e ↦ cc ] ],
+  λ h. elim (h refl) [ inl e ↦ cc | inr r ↦ elim r [ inl e ↦ cc | inr e ↦ cc ] ],
+)

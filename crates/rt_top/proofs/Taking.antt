@@ -21,31 +21,51 @@ use Rattle.rt_top.specs.Steps.{IfAnswered, IsSpelled, StopsAt, EndTakes, StepTak
 use Rattle.rt_top.proofs.CommandLaws.{AreLawful}
 
 -- one file: its bytes were read, it is absent, it is too long, or reading it failed
-whole : (file : Option (List ℕ)) (bytes : List ℕ) (before after : ℕ) → file ≡ Some bytes → length bytes ≤ file_limit → RoseBy (length bytes) before after → RoseBy (read_of file) before after
-whole file bytes before after e short rose = subst (λ (f : Option (List ℕ)). RoseBy (read_of f) before after) (sym e) (omega (arith, short, rose), omega (arith, short, rose))
+whole : (file : Option (List ℕ)) (bytes : List ℕ) (before after : ℕ) → file ≡ Some bytes → length bytes ≤ file_limit
+    → RoseBy (length bytes) before after → RoseBy (read_of file) before after
+whole file bytes before after e short rose =
+    subst (λ (f : Option (List ℕ)). RoseBy (read_of f) before after) (sym e)
+    (omega (arith, short, rose), omega (arith, short, rose))
 
-pub took_whole : (told : Option Files) (files : Files) (name bytes : List ℕ) (before after : ℕ) → told ≡ Some files → Told told name (λ file. file ≡ Some bytes) → length bytes ≤ file_limit → RoseBy (length bytes) before after → RoseBy (read_of (file_named name files)) before after
+pub took_whole : (told : Option Files) (files : Files) (name bytes : List ℕ) (before after : ℕ) → told ≡ Some files
+    → Told told name (λ file. file ≡ Some bytes) → length bytes ≤ file_limit → RoseBy (length bytes) before after
+    → RoseBy (read_of (file_named name files)) before after
 took_whole None files name bytes before after e held short rose = absurd (cc)
-took_whole (Some all) files name bytes before after e held short rose = whole (file_named name files) bytes before after (subst (λ (o : Option Files). Told o name (λ file. file ≡ Some bytes)) e held) short rose
+took_whole (Some all) files name bytes before after e held short rose =
+    whole (file_named name files) bytes before after
+    (subst (λ (o : Option Files). Told o name (λ file. file ≡ Some bytes)) e held) short rose
 
-pub took_none : (told : Option Files) (files : Files) (name : List ℕ) (before after : ℕ) → told ≡ Some files → Told told name (λ file. file ≡ None) → after ≡ before → RoseBy (read_of (file_named name files)) before after
+pub took_none : (told : Option Files) (files : Files) (name : List ℕ) (before after : ℕ) → told ≡ Some files
+    → Told told name (λ file. file ≡ None) → after ≡ before → RoseBy (read_of (file_named name files)) before after
 took_none told files name before after e held same =
     let none : file_named name files ≡ None = subst (λ (o : Option Files). Told o name (λ file. file ≡ None)) e held in
-    subst (λ (f : Option (List ℕ)). RoseBy (read_of f) before after) (sym none) (omega (arith, same), omega (arith, same))
+    subst (λ (f : Option (List ℕ)). RoseBy (read_of f) before after) (sym none)
+    (omega (arith, same), omega (arith, same))
 
-long_file : (file : Option (List ℕ)) (before after : ℕ) → IsSomeAnd file (λ bytes. file_limit < length bytes) → RoseBeyond file_limit before after → after ≤ before + file_limit + 1 → RoseBy (read_of file) before after
+long_file : (file : Option (List ℕ)) (before after : ℕ) → IsSomeAnd file (λ bytes. file_limit < length bytes)
+    → RoseBeyond file_limit before after → after ≤ before + file_limit + 1 → RoseBy (read_of file) before after
 long_file None before after long rose most = absurd long
 long_file (Some bytes) before after long rose most = (omega (arith, long, rose, most), omega (arith, long, rose, most))
 
-pub took_long : (told : Option Files) (files : Files) (name : List ℕ) (before after : ℕ) → told ≡ Some files → Told told name (λ file. IsSomeAnd file (λ bytes. file_limit < length bytes)) → RoseBeyond file_limit before after → after ≤ before + file_limit + 1 → RoseBy (read_of (file_named name files)) before after
-took_long told files name before after e held rose most = long_file (file_named name files) before after (subst (λ (o : Option Files). Told o name (λ file. IsSomeAnd file (λ bytes. file_limit < length bytes))) e held) rose most
+pub took_long : (told : Option Files) (files : Files) (name : List ℕ) (before after : ℕ) → told ≡ Some files
+    → Told told name (λ file. IsSomeAnd file (λ bytes. file_limit < length bytes)) → RoseBeyond file_limit before after
+    → after ≤ before + file_limit + 1 → RoseBy (read_of (file_named name files)) before after
+took_long told files name before after e held rose most =
+    long_file (file_named name files) before after
+    (subst (λ (o : Option Files). Told o name (λ file. IsSomeAnd file (λ bytes. file_limit < length bytes))) e held)
+    rose most
 
-less_of : (file : Option (List ℕ)) (before after : ℕ) → after ≤ before + size_of file → after ≤ before + file_limit + 1 → after ≤ before + read_of file
+less_of : (file : Option (List ℕ)) (before after : ℕ) → after ≤ before + size_of file → after ≤ before + file_limit + 1
+    → after ≤ before + read_of file
 less_of None before after size most = size
 less_of (Some bytes) before after size most = omega (arith, size, most)
 
-pub took_less : (told : Option Files) (files : Files) (name : List ℕ) (before after : ℕ) → told ≡ Some files → Told told name (λ file. after ≤ before + size_of file) → after ≤ before + file_limit + 1 → after ≤ before + read_of (file_named name files)
-took_less told files name before after e held most = less_of (file_named name files) before after (subst (λ (o : Option Files). Told o name (λ file. after ≤ before + size_of file)) e held) most
+pub took_less : (told : Option Files) (files : Files) (name : List ℕ) (before after : ℕ) → told ≡ Some files
+    → Told told name (λ file. after ≤ before + size_of file) → after ≤ before + file_limit + 1
+    → after ≤ before + read_of (file_named name files)
+took_less told files name before after e held most =
+    less_of (file_named name files) before after
+    (subst (λ (o : Option Files). Told o name (λ file. after ≤ before + size_of file)) e held) most
 
 -- what was taken whole is taken by whatever comes of it
 pub end_takes : (end : Ending) (bytes before after : ℕ) → RoseBy bytes before after → EndTakes end bytes before after
@@ -53,7 +73,8 @@ end_takes (Answered a) bytes before after rose = rose
 end_takes Unread bytes before after rose = rose.1
 end_takes NoRoom bytes before after rose = rose.1
 
-pub step_takes : {Value : Type 0} (result : Result Value Ending) (bytes before after : ℕ) → RoseBy bytes before after → StepTakes result bytes before after
+pub step_takes : {Value : Type 0} (result : Result Value Ending) (bytes before after : ℕ) → RoseBy bytes before after
+    → StepTakes result bytes before after
 step_takes (Ok value) bytes before after rose = rose
 step_takes (Err stop) bytes before after rose = end_takes stop bytes before after rose
 
@@ -70,97 +91,158 @@ status_takes WriteFault bytes before after rose = rose
 status_takes NoMemory bytes before after rose = rose.1
 
 -- a first file that is refused is no system file, and one that was spelled is
-refused_is_none : (file : Option (List ℕ)) (status : Status) (text : List ℕ) → AtContent 1 file (λ bytes. OnSystem (system_of bytes) (λ _ _ _. ⊥)) status text → is_system_file file ≡ false
+refused_is_none : (file : Option (List ℕ)) (status : Status) (text : List ℕ)
+    → AtContent 1 file (λ bytes. OnSystem (system_of bytes) (λ _ _ _. ⊥)) status text → is_system_file file ≡ false
 refused_is_none None status text h = refl
 refused_is_none (Some bytes) status text h = elim (cases_lt file_limit (length bytes)) [
   | inl long ↦ ap (λ (b : Bool). b && is_ok (system_of bytes)) (lt-leb (length bytes) file_limit long)
   | inr short ↦ go (nat_le (length bytes) file_limit) (system_of bytes) (h.said (omega (arith, short)))
 ]
   where
-    go : (b : Bool) (spelled : Result SystemView SystemFault) → OnSystem spelled (λ _ _ _. ⊥) status text → (b && is_ok spelled) ≡ false
+    go : (b : Bool) (spelled : Result SystemView SystemFault) → OnSystem spelled (λ _ _ _. ⊥) status text
+        → (b && is_ok spelled) ≡ false
     go true (Ok sys) none = absurd none
     go true (Err fault) none = refl
     go false spelled none = refl
 
-spelled_is_one : (told : Option Files) (files : Files) (name : List ℕ) (sys : SystemView) → told ≡ Some files → IsSpelled told name sys → is_system_file (file_named name files) ≡ true
+spelled_is_one : (told : Option Files) (files : Files) (name : List ℕ) (sys : SystemView) → told ≡ Some files
+    → IsSpelled told name sys → is_system_file (file_named name files) ≡ true
 spelled_is_one told files name sys e h =
-    let held : file_named name files ≡ Some h.bytes = subst (λ (o : Option Files). Told o name (λ file. file ≡ Some h.bytes)) e h.held in
-    ap is_system_file held ∙ (ap (λ (b : Bool). b && is_ok (system_of h.bytes)) (le-leb (length h.bytes) file_limit h.short) ∙ ap (λ (r : Result SystemView SystemFault). is_ok r) h.spelled)
+    let held : file_named name files ≡ Some h.bytes
+    = subst (λ (o : Option Files). Told o name (λ file. file ≡ Some h.bytes)) e h.held in
+    ap is_system_file held
+    ∙ (ap (λ (b : Bool). b && is_ok (system_of h.bytes)) (le-leb (length h.bytes) file_limit h.short)
+    ∙ ap (λ (r : Result SystemView SystemFault). is_ok r) h.spelled)
 
 -- of two files, where the first is no system file, and where it is one
-read_first : (first second : Option (List ℕ)) → is_system_file first ≡ false → read_in (first ∷ second ∷ []) ≡ read_of first
+read_first : (first second : Option (List ℕ)) → is_system_file first ≡ false
+    → read_in (first ∷ second ∷ []) ≡ read_of first
 read_first first second other = omega (arith, cond-false {A = ℕ} (is_system_file first) (read_of second) 0 other)
 
-read_both : (first second : Option (List ℕ)) → is_system_file first ≡ true → read_in (first ∷ second ∷ []) ≡ read_of first + read_of second
+read_both : (first second : Option (List ℕ)) → is_system_file first ≡ true
+    → read_in (first ∷ second ∷ []) ≡ read_of first + read_of second
 read_both first second good = omega (arith, cond-true {A = ℕ} (is_system_file first) (read_of second) 0 good)
 
 -- a command that ends at its first file
-pub ends_first : (told : Option Files) (files : Files) (first second : List ℕ) (stop : Ending) (before after : ℕ) → told ≡ Some files → IfAnswered stop (λ a. StopsAt 1 told first (λ bytes. OnSystem (system_of bytes) (λ _ _ _. ⊥)) a.status a.text.items) → EndTakes stop (read_of (file_named first files)) before after →
+pub ends_first : (told : Option Files) (files : Files) (first second : List ℕ) (stop : Ending) (before after : ℕ)
+    → told ≡ Some files
+    → IfAnswered stop
+    (λ a. StopsAt 1 told first (λ bytes. OnSystem (system_of bytes) (λ _ _ _. ⊥)) a.status a.text.items)
+    → EndTakes stop (read_of (file_named first files)) before after →
     EndTakes stop (read_in (file_named first files ∷ file_named second files ∷ [])) before after
 ends_first told files first second (Answered a) before after e h took =
-    let held : file_named first files ≡ h.content = subst (λ (o : Option Files). Told o first (λ file. file ≡ h.content)) e h.held in
-    let refused : is_system_file (file_named first files) ≡ false = ap is_system_file held ∙ refused_is_none h.content a.status a.text.items h.answers in
-    subst (λ (n : ℕ). RoseBy n before after) (sym (read_first (file_named first files) (file_named second files) refused)) took
+    let held : file_named first files ≡ h.content
+    = subst (λ (o : Option Files). Told o first (λ file. file ≡ h.content)) e h.held in
+    let refused : is_system_file (file_named first files) ≡ false
+    = ap is_system_file held ∙ refused_is_none h.content a.status a.text.items h.answers in
+    subst (λ (n : ℕ). RoseBy n before after)
+    (sym (read_first (file_named first files) (file_named second files) refused)) took
 ends_first told files first second Unread before after e h took = omega (arith, took)
 ends_first told files first second NoRoom before after e h took = omega (arith, took)
 
 -- and one that comes to its second file
-rose_both : (m n before between after : ℕ) → RoseBy m before between → RoseBy n between after → RoseBy (m + n) before after
+rose_both : (m n before between after : ℕ) → RoseBy m before between → RoseBy n between after
+    → RoseBy (m + n) before after
 rose_both m n before between after one two = (omega (arith, one, two), omega (arith, one, two))
 
-pub both_taken : (told : Option Files) (files : Files) (first second : List ℕ) (sys : SystemView) (before between after : ℕ) → told ≡ Some files → IsSpelled told first sys → RoseBy (read_of (file_named first files)) before between → RoseBy (read_of (file_named second files)) between after →
+pub both_taken : (told : Option Files) (files : Files) (first second : List ℕ) (sys : SystemView)
+    (before between after : ℕ) → told ≡ Some files → IsSpelled told first sys
+    → RoseBy (read_of (file_named first files)) before between
+    → RoseBy (read_of (file_named second files)) between after →
     RoseBy (read_in (file_named first files ∷ file_named second files ∷ [])) before after
 both_taken told files first second sys before between after e spelled one two =
-    subst (λ (n : ℕ). RoseBy n before after) (sym (read_both (file_named first files) (file_named second files) (spelled_is_one told files first sys e spelled)))
+    subst (λ (n : ℕ). RoseBy n before after) (sym (read_both (file_named first files) (file_named second files)
+    (spelled_is_one told files first sys e spelled)))
     (rose_both (read_of (file_named first files)) (read_of (file_named second files)) before between after one two)
 
-less_of_both : (told : Option Files) (files : Files) (first second : List ℕ) (sys : SystemView) (before between after : ℕ) → told ≡ Some files → IsSpelled told first sys → RoseBy (read_of (file_named first files)) before between → after ≤ between + read_of (file_named second files) →
+less_of_both : (told : Option Files) (files : Files) (first second : List ℕ) (sys : SystemView)
+    (before between after : ℕ) → told ≡ Some files → IsSpelled told first sys
+    → RoseBy (read_of (file_named first files)) before between → after ≤ between + read_of (file_named second files) →
     after ≤ before + read_in (file_named first files ∷ file_named second files ∷ [])
-less_of_both told files first second sys before between after e spelled one two = omega (arith, read_both (file_named first files) (file_named second files) (spelled_is_one told files first sys e spelled), one, two)
+less_of_both told files first second sys before between after e spelled one two =
+    omega (
+      arith,
+      read_both (file_named first files) (file_named second files) (spelled_is_one told files first sys e spelled),
+      one,
+      two,
+    )
 
-pub ends_second : (told : Option Files) (files : Files) (first second : List ℕ) (sys : SystemView) (stop : Ending) (before between after : ℕ) → told ≡ Some files → IsSpelled told first sys → RoseBy (read_of (file_named first files)) before between → EndTakes stop (read_of (file_named second files)) between after →
+pub ends_second : (told : Option Files) (files : Files) (first second : List ℕ) (sys : SystemView) (stop : Ending)
+    (before between after : ℕ) → told ≡ Some files → IsSpelled told first sys
+    → RoseBy (read_of (file_named first files)) before between
+    → EndTakes stop (read_of (file_named second files)) between after →
     EndTakes stop (read_in (file_named first files ∷ file_named second files ∷ [])) before after
-ends_second told files first second sys (Answered a) before between after e spelled one two = both_taken told files first second sys before between after e spelled one two
-ends_second told files first second sys Unread before between after e spelled one two = less_of_both told files first second sys before between after e spelled one two
-ends_second told files first second sys NoRoom before between after e spelled one two = less_of_both told files first second sys before between after e spelled one two
+ends_second told files first second sys (Answered a) before between after e spelled one two =
+    both_taken told files first second sys before between after e spelled one two
+ends_second told files first second sys Unread before between after e spelled one two =
+    less_of_both told files first second sys before between after e spelled one two
+ends_second told files first second sys NoRoom before between after e spelled one two =
+    less_of_both told files first second sys before between after e spelled one two
 
 -- where nothing is to be read, a store that stays as it is has given that
-pub nothing_taken : (command : Option Command) (files : Option Files) (end : Ending) (before : ℕ) → NamesNoFile command → CommandTakes command files end before before
+pub nothing_taken : (command : Option Command) (files : Option Files) (end : Ending) (before : ℕ) → NamesNoFile command
+    → CommandTakes command files end before before
 nothing_taken None files end before none = λ all told. end_takes end 0 before before (omega arith, omega arith)
-nothing_taken (Some command) files end before none = λ all told. subst (λ (names : List (List ℕ)). EndTakes end (read_in (map (λ name. file_named name all) names)) before before) (sym none) (end_takes end 0 before before (omega arith, omega arith))
+nothing_taken (Some command) files end before none =
+    λ all told. subst
+    (λ (names : List (List ℕ)). EndTakes end (read_in (map (λ name. file_named name all) names)) before before)
+    (sym none) (end_takes end 0 before before (omega arith, omega arith))
 
 -- what was taken of the files that a command names is what it took
-pub one_takes : (command : Command) (file : List ℕ) (all : Files) (end : Ending) (before after : ℕ) → file_names command ≡ file ∷ [] → EndTakes end (read_of (file_named file all)) before after → EndTakes end (bytes_to_read (Some command) all) before after
-one_takes command file all end before after names took = subst (λ (ns : List (List ℕ)). EndTakes end (read_in (map (λ name. file_named name all) ns)) before after) (sym names) took
+pub one_takes : (command : Command) (file : List ℕ) (all : Files) (end : Ending) (before after : ℕ)
+    → file_names command ≡ file ∷ [] → EndTakes end (read_of (file_named file all)) before after
+    → EndTakes end (bytes_to_read (Some command) all) before after
+one_takes command file all end before after names took =
+    subst (λ (ns : List (List ℕ)). EndTakes end (read_in (map (λ name. file_named name all) ns)) before after)
+    (sym names) took
 
-pub two_take : (command : Command) (first second : List ℕ) (all : Files) (end : Ending) (before after : ℕ) → file_names command ≡ first ∷ second ∷ [] → EndTakes end (read_in (file_named first all ∷ file_named second all ∷ [])) before after → EndTakes end (bytes_to_read (Some command) all) before after
-two_take command first second all end before after names took = subst (λ (ns : List (List ℕ)). EndTakes end (read_in (map (λ name. file_named name all) ns)) before after) (sym names) took
+pub two_take : (command : Command) (first second : List ℕ) (all : Files) (end : Ending) (before after : ℕ)
+    → file_names command ≡ first ∷ second ∷ []
+    → EndTakes end (read_in (file_named first all ∷ file_named second all ∷ [])) before after
+    → EndTakes end (bytes_to_read (Some command) all) before after
+two_take command first second all end before after names took =
+    subst (λ (ns : List (List ℕ)). EndTakes end (read_in (map (λ name. file_named name all) ns)) before after)
+    (sym names) took
 
 -- how words end that name no file: as they are answered, or where writing that failed
-with_it : (answered status result : Status) → status ≡ answered → (result ≡ status) ⊎ (result ≡ WriteFault) → (result ≡ answered) ⊎ (result ≡ WriteFault) ⊎ (result ≡ NoMemory)
+with_it : (answered status result : Status) → status ≡ answered → (result ≡ status) ⊎ (result ≡ WriteFault)
+    → (result ≡ answered) ⊎ (result ≡ WriteFault) ⊎ (result ≡ NoMemory)
 with_it answered status result is which = elim which [ inl e ↦ inl (e ∙ is) | inr w ↦ inr (inl w) ]
 
-pub ends_without_file : (command : Option Command) → AreLawful command → (files : Option Files) (status result : Status) (text : List ℕ) → IsAnswer command files status text → (result ≡ status) ⊎ (result ≡ WriteFault) → EndsWithoutFile command result
+pub ends_without_file : (command : Option Command) → AreLawful command
+    → (files : Option Files) (status result : Status) (text : List ℕ) → IsAnswer command files status text
+    → (result ≡ status) ⊎ (result ≡ WriteFault) → EndsWithoutFile command result
 ends_without_file None laws files status result text answer which = with_it Usage status result answer.answers.0 which
-ends_without_file (Some command) laws files status result text answer which = λ none. with_it Yes status result (laws.without_file none answer.contents status text answer.answers) which
+ends_without_file (Some command) laws files status result text answer which =
+    λ none. with_it Yes status result (laws.without_file none answer.contents status text answer.answers) which
 
 pub no_memory_without_file : (command : Option Command) → EndsWithoutFile command NoMemory
 no_memory_without_file None = inr (inr refl)
 no_memory_without_file (Some command) = λ none. inr (inr refl)
 
 -- only a command that names a file ends where reading one failed
-unread_with_file : (command : Option Command) → (NamesNoFile command → Unread ≢ Unread) → EndsWithoutFile command ReadFault
+unread_with_file : (command : Option Command) → (NamesNoFile command → Unread ≢ Unread)
+    → EndsWithoutFile command ReadFault
 unread_with_file None never = absurd (never refl refl)
 unread_with_file (Some command) never = λ none. absurd (never none refl)
 
 -- what the words took, where what was parsed took that
-pub finished_takes : (parsed : Option Parsed) (command : Option Command) (told : Option Files) (answer : Answer) (result : Status) (before after : ℕ) → option_map command_told parsed ≡ command → CommandTakes (option_map command_told parsed) told (Answered answer) before after →
+pub finished_takes : (parsed : Option Parsed) (command : Option Command) (told : Option Files) (answer : Answer)
+    (result : Status) (before after : ℕ) → option_map command_told parsed ≡ command
+    → CommandTakes (option_map command_told parsed) told (Answered answer) before after →
     (files : Files) → told ≡ Some files → Takes result (bytes_to_read command files) before after
-finished_takes parsed command told answer result before after spells took files is = status_takes result (bytes_to_read command files) before after (subst (λ (x : Option Command). RoseBy (bytes_to_read x files) before after) spells (took files is))
+finished_takes parsed command told answer result before after spells took files is =
+    status_takes result (bytes_to_read command files) before after
+    (subst (λ (x : Option Command). RoseBy (bytes_to_read x files) before after) spells (took files is))
 
-pub unanswered_takes : (parsed : Option Parsed) (command : Option Command) (told : Option Files) (before after : ℕ) → option_map command_told parsed ≡ command → ((files : Files) → told ≡ Some files → after ≤ before + bytes_to_read (option_map command_told parsed) files) →
+pub unanswered_takes : (parsed : Option Parsed) (command : Option Command) (told : Option Files) (before after : ℕ)
+    → option_map command_told parsed ≡ command
+    → ((files : Files) → told ≡ Some files → after ≤ before + bytes_to_read (option_map command_told parsed) files) →
     (files : Files) → told ≡ Some files → after ≤ before + bytes_to_read command files
-unanswered_takes parsed command told before after spells took files is = subst (λ (x : Option Command). after ≤ before + bytes_to_read x files) spells (took files is)
+unanswered_takes parsed command told before after spells took files is =
+    subst (λ (x : Option Command). after ≤ before + bytes_to_read x files) spells (took files is)
 
-pub unread_of_parsed : (parsed : Option Parsed) (command : Option Command) → option_map command_told parsed ≡ command → (NamesNoFile (option_map command_told parsed) → Unread ≢ Unread) → EndsWithoutFile command ReadFault
-unread_of_parsed parsed command spells never = unread_with_file command (subst (λ (x : Option Command). NamesNoFile x → Unread ≢ Unread) spells never)
+pub unread_of_parsed : (parsed : Option Parsed) (command : Option Command) → option_map command_told parsed ≡ command
+    → (NamesNoFile (option_map command_told parsed) → Unread ≢ Unread) → EndsWithoutFile command ReadFault
+unread_of_parsed parsed command spells never =
+    unread_with_file command (subst (λ (x : Option Command). NamesNoFile x → Unread ≢ Unread) spells never)

@@ -3,13 +3,11 @@ use Rattle.std.proofs.Common.{◌≡◌, ◌<◌, ℕ, zero, suc, Bool, true, fa
 use Rattle.std.specs.List.{list_all}
 use Rattle.std.proofs.lemmas.Bool.{cases_lt, false≢true, and_parts, and_from}
 use Rattle.tree_model.specs.View.{PartView}
-use Rattle.csv_rows.specs.Rules.{row_of}
 use Rattle.admission_session.specs.RowView.{RowView}
-use Rattle.script_file.specs.declared.fault.ScriptFault.{ScriptFault}
 use Rattle.script_file.specs.declared.guests.GuestFault.{GuestFault}
 use Rattle.script_file.specs.declared.guests.GuestFault.TheVariants.{Script, Other}
-use Rattle.script_file.specs.Script.{SpellsScript, script_rows}
-use Rattle.script_file.specs.Guests.{guest_of, is_guest, row_at, HasOther, IsFirstOther, IsGuestFault, SpellsGuests}
+use Rattle.script_file.specs.Script.{script_rows}
+use Rattle.script_file.specs.Guests.{guest_of, is_guest, row_at, IsFirstOther, IsGuestFault, SpellsGuests}
 use Rattle.script_file.proofs.OneScript.{one_script, no_script_fault, one_script_fault}
 
 -- of each row, and of all

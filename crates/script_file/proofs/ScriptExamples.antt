@@ -1,7 +1,7 @@
 -- Rows of scripts, on which the rules are computed.
-use Rattle.std.proofs.Common.{◌≡◌, true, false, [], ◌∷◌, codes, refl, Some, None}
+use Rattle.std.proofs.Common.{◌≡◌, true, false, [], ◌∷◌, codes, refl}
 use Rattle.script_file.specs.Pieces.{pieces}
-use Rattle.script_file.specs.Script.{is_task, is_row, edit_of, are_tasks, removal}
+use Rattle.script_file.specs.Script.{is_task, is_row, are_tasks}
 
 cut_at_each_place : pieces 59 (codes ";a;;bc;") ≡ [] ∷ codes "a" ∷ [] ∷ codes "bc" ∷ [] ∷ []
 cut_at_each_place = refl

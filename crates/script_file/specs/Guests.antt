@@ -1,12 +1,11 @@
 -- The guests that a script adds, on no parent.
-use Rattle.std.specs.Prelude.{◌≡◌, ℕ, ◌<◌, Bool, true, false, ◌&&◌, not, List, [], length, map, slice_index_or, Option, Some, None, is_none}
+use Rattle.std.specs.Prelude.{◌≡◌, ℕ, ◌<◌, Bool, true, false, ◌&&◌, List, [], length, map, slice_index_or, is_none}
 use Rattle.std.specs.List.{list_all}
-use Rattle.slot_model.specs.declared.sched.Sched.TheVariants.{Edf}
 use Rattle.tree_model.specs.declared.place.Parent.TheVariants.{Core}
 use Rattle.tree_model.specs.View.{PartView}
 use Rattle.csv_rows.specs.Rules.{row_of}
 use Rattle.admission_session.specs.declared.op.Op.{Op}
-use Rattle.admission_session.specs.declared.op.Op.TheVariants.{Add, Remove, Change}
+use Rattle.admission_session.specs.declared.op.Op.TheVariants.{Add}
 use Rattle.admission_session.specs.RowView.{RowView}
 use Rattle.admission_session.specs.Edits.{row_leaf}
 use Rattle.script_file.specs.declared.guests.GuestFault.{GuestFault}

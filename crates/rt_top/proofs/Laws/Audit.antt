@@ -36,8 +36,10 @@ AuditsEvents sys events = OnAssigned sys (λ budgets. IsAudited sys budgets even
 -- one answer
 one_audit : (sys : SystemView) (budgets : List ℕ) (events : List Event) → IsOne (IsAudited sys budgets events)
 one_audit sys budgets events = λ s t x y p q.
-    let same : p.finding ≡ q.finding = one_finding sys budgets events p.finding q.finding p.found q.found in
-    (p.status_is ∙ ap finding_status same ∙ sym q.status_is, p.told ∙ ap (λ (f : Finding). audit_text sys budgets f) same ∙ sym q.told)
+    let same : p.finding ≡ q.finding = one_finding sys budgets events p.finding q.finding p.found q.found in (
+      p.status_is ∙ ap finding_status same ∙ sym q.status_is,
+      p.told ∙ ap (λ (f : Finding). audit_text sys budgets f) same ∙ sym q.told,
+    )
 
 -- its statuses
 pub finding_is : (P : Status → Type 0) → P Yes → P No → (finding : Finding) → P (finding_status finding)
@@ -45,38 +47,61 @@ finding_is P at_yes at_no (Kept periods) = at_yes
 finding_is P at_yes at_no (Short v from got) = at_no
 finding_is P at_yes at_no (Over v from got) = at_no
 
-audited_status : (P : Status → Type 0) → P Yes → P No → (sys : SystemView) (budgets : List ℕ) (events : List Event) (status : Status) (text : List ℕ) → IsAudited sys budgets events status text → P status
-audited_status P at_yes at_no sys budgets events status text h = subst P (sym h.status_is) (finding_is P at_yes at_no h.finding)
+audited_status : (P : Status → Type 0) → P Yes → P No
+    → (sys : SystemView) (budgets : List ℕ) (events : List Event) (status : Status) (text : List ℕ)
+    → IsAudited sys budgets events status text → P status
+audited_status P at_yes at_no sys budgets events status text h =
+    subst P (sym h.status_is) (finding_is P at_yes at_no h.finding)
 
-audits_status : (P : Status → Type 0) → P Yes → P No → P Wide → (sys : SystemView) (events : List Event) (status : Status) (text : List ℕ) → AuditsEvents sys events status text → P status
-audits_status P at_yes at_no at_wide sys events status text h = statuses_assigned P at_no at_wide sys (λ budgets. IsAudited sys budgets events) status text (λ budgets. audited_status P at_yes at_no sys budgets events status text) h
+audits_status : (P : Status → Type 0) → P Yes → P No → P Wide
+    → (sys : SystemView) (events : List Event) (status : Status) (text : List ℕ) → AuditsEvents sys events status text
+    → P status
+audits_status P at_yes at_no at_wide sys events status text h =
+    statuses_assigned P at_no at_wide sys (λ budgets. IsAudited sys budgets events) status text
+    (λ budgets. audited_status P at_yes at_no sys budgets events status text) h
 
 -- what it means
-pub finding_tells : (sys : SystemView) (budgets : List ℕ) (events : List Event) (finding : Finding) → IsFinding sys budgets events finding → TellsSatisfied sys budgets events (finding_status finding)
+pub finding_tells : (sys : SystemView) (budgets : List ℕ) (events : List Event) (finding : Finding)
+    → IsFinding sys budgets events finding → TellsSatisfied sys budgets events (finding_status finding)
 finding_tells sys budgets events (Kept periods) found = record { only = λ told. found.0; always = λ satisfied. refl }
-finding_tells sys budgets events (Short v from got) found = record { only = λ told. absurd (cc); always = λ satisfied. absurd (satisfied v found.start found.period (inl found.short)) }
-finding_tells sys budgets events (Over v from got) found = record { only = λ told. absurd (cc); always = λ satisfied. absurd (satisfied v found.start found.period (inr found.over)) }
+finding_tells sys budgets events (Short v from got) found =
+    record {
+      only = λ told. absurd (cc);
+      always = λ satisfied. absurd (satisfied v found.start found.period (inl found.short));
+    }
+finding_tells sys budgets events (Over v from got) found =
+    record
+    { only = λ told. absurd (cc); always = λ satisfied. absurd (satisfied v found.start found.period (inr found.over)) }
 
-audited_tells : (sys : SystemView) (budgets : List ℕ) (events : List Event) (status : Status) (text : List ℕ) → IsAudited sys budgets events status text → TellsSatisfied sys budgets events status
-audited_tells sys budgets events status text h = subst (TellsSatisfied sys budgets events) (sym h.status_is) (finding_tells sys budgets events h.finding h.found)
+audited_tells : (sys : SystemView) (budgets : List ℕ) (events : List Event) (status : Status) (text : List ℕ)
+    → IsAudited sys budgets events status text → TellsSatisfied sys budgets events status
+audited_tells sys budgets events status text h =
+    subst (TellsSatisfied sys budgets events) (sym h.status_is) (finding_tells sys budgets events h.finding h.found)
 
 audit_reads : JudgesRead tracing AuditsEvents
 audit_reads = record {
   decided = tracing_decided;
   bad_file = λ sys bytes fault. refl;
-  one = λ sys is events. one_assigned sys is (λ budgets. IsAudited sys budgets events) (λ budgets. one_audit sys budgets events);
+  one =
+      λ sys is events. one_assigned sys is (λ budgets. IsAudited sys budgets events)
+      (λ budgets. one_audit sys budgets events);
   judged = λ sys events. audits_status IsJudged tt tt tt sys events;
 }
 
-audit_means : (contents : Contents) (status : Status) (text : List ℕ) → Audits contents status text → AuditMeans contents status
+audit_means : (contents : Contents) (status : Status) (text : List ℕ) → Audits contents status text
+    → AuditMeans contents status
 audit_means contents status text h = λ sys budgets events of.
     audited_tells sys budgets events status text
-    (said_of_assigned sys (is_spelled_system contents sys _ of.spelled) (λ b. IsAudited sys b events) status text budgets of.assigned (said_of_read tracing AuditsEvents audit_reads contents sys events status text of.spelled h))
+    (said_of_assigned sys (is_spelled_system contents sys _ of.spelled) (λ b. IsAudited sys b events) status text
+    budgets of.assigned
+    (said_of_read tracing AuditsEvents audit_reads contents sys events status text of.spelled h))
 
 pub audit_laws : (file trace : List ℕ) → CommandLaws (the_audit file trace)
-audit_laws file trace = read_laws file trace tracing AuditsEvents (λ contents status text. AuditMeans contents status) IsTrace (λ contents. IsVerdict) audit_reads (record {
-  means = audit_means;
-  good = λ sys bytes trace. (trace.events, trace.spelled);
-  verdict = λ contents sys spelled events. audits_status IsVerdict tt tt tt sys events;
-  no_memory = λ contents. tt;
-})
+audit_laws file trace =
+    read_laws file trace tracing AuditsEvents (λ contents status text. AuditMeans contents status) IsTrace
+    (λ contents. IsVerdict) audit_reads (record {
+      means = audit_means;
+      good = λ sys bytes trace. (trace.events, trace.spelled);
+      verdict = λ contents sys spelled events. audits_status IsVerdict tt tt tt sys events;
+      no_memory = λ contents. tt;
+    })

@@ -22,11 +22,22 @@ use Rattle.rt_top.proofs.CommandLaws.{CommandLaws}
 use Rattle.rt_top.proofs.Statuses.{IsOfJob}
 
 one_bulk : (n : ℕ) → IsOne (AnswersBulk n)
-one_bulk n = λ s t x y a b.
-    (a.is_yes ∙ sym b.is_yes, a.told ∙ (ap bulk_text (one_count order_strict n a.some a.most a.counts b.counts a.counted b.counted) ∙ sym b.told))
+one_bulk n = λ s t x y a b. (
+  a.is_yes ∙ sym b.is_yes,
+  a.told
+      ∙ (ap bulk_text (one_count order_strict n a.some a.most a.counts b.counts a.counted b.counted)
+      ∙ sym b.told),
+)
 
 bulk_means : (n : ℕ) (status : Status) (text : List ℕ) → AnswersBulk n status text → HostKeepsDeadlines n
-bulk_means n status text h = record { budgets = h.counted.budgets; admitted = h.counted.admitted; no_loss = admitted_no_loss (bulk_host n) (host_is_system n h.some h.most) h.counted.budgets h.counted.admitted; none_misses = host_misses_none n h.some h.most h.counted.budgets h.counted.admitted; none_counted = none_is_counted n h.some h.most }
+bulk_means n status text h =
+    record {
+      budgets = h.counted.budgets;
+      admitted = h.counted.admitted;
+      no_loss = admitted_no_loss (bulk_host n) (host_is_system n h.some h.most) h.counted.budgets h.counted.admitted;
+      none_misses = host_misses_none n h.some h.most h.counted.budgets h.counted.admitted;
+      none_counted = none_is_counted n h.some h.most;
+    }
 
 pub bulk_laws : (n : ℕ) → CommandLaws (the_bulk n)
 bulk_laws n = record {
@@ -43,7 +54,8 @@ no_contents n None = tt
 no_contents n (Some files) = refl
 
 -- a host that was counted has its answer
-pub counted_answer : (n : ℕ) (files : Option Files) (counts : BulkCounts) (text : List ℕ) → 1 ≤ n → n ≤ 256 → AreBulkCounts n counts → text ≡ bulk_text counts → IsSaid (Some (bulk n)) files Yes text
+pub counted_answer : (n : ℕ) (files : Option Files) (counts : BulkCounts) (text : List ℕ) → 1 ≤ n → n ≤ 256
+    → AreBulkCounts n counts → text ≡ bulk_text counts → IsSaid (Some (bulk n)) files Yes text
 counted_answer n files counts text some most counted told = record {
   contents = [];
   held = no_contents n files;

@@ -30,7 +30,9 @@ use Rattle.rt_top.proofs.Laws.Admit.{refused_means}
 certifying_decided : (sys : SystemView) → IsSystem sys → IsDecided (certifying sys)
 certifying_decided sys is = record {
   one_value = one_certificate sys is;
-  never_both = λ nodes r made first. never_both sys is (budgets_of sys nodes) r (proves_admits sys is nodes (certificate_proves sys nodes made)) first;
+  never_both =
+      λ nodes r made first. never_both sys is (budgets_of sys nodes) r
+      (proves_admits sys is nodes (certificate_proves sys nodes made)) first;
   one_refusal = one_refusal sys is;
 }
 
@@ -38,28 +40,52 @@ one_printed : (nodes : List NodeView) → IsOne (IsPrinted nodes)
 one_printed nodes = λ s t x y p q. (p.is_yes ∙ sym q.is_yes, p.told ∙ sym q.told)
 
 -- its statuses
-certified_status : (P : Status → Type 0) → P Yes → P No → P Wide → (sys : SystemView) (status : Status) (text : List ℕ) → CertifiesSystem sys status text → P status
-certified_status P at_yes at_no at_wide sys status text h = statuses_attempt P (certifying sys) IsPrinted status text (refused_status P at_no at_wide sys) (λ nodes said. subst P (sym said.is_yes) at_yes) h
+certified_status : (P : Status → Type 0) → P Yes → P No → P Wide → (sys : SystemView) (status : Status) (text : List ℕ)
+    → CertifiesSystem sys status text → P status
+certified_status P at_yes at_no at_wide sys status text h =
+    statuses_attempt P (certifying sys) IsPrinted status text (refused_status P at_no at_wide sys)
+    (λ nodes said. subst P (sym said.is_yes) at_yes) h
 
 -- what a certificate that proves a system says
 pub proof_of : (sys : SystemView) → IsSystem sys → (nodes : List NodeView) → Proves sys nodes → IsProof sys nodes
 proof_of sys is nodes proves =
     let admitted : Admitted sys (budgets_of sys nodes) = proves_admits sys is nodes proves in
-    record { proves = proves; admitted = admitted; no_loss = admitted_no_loss sys is (budgets_of sys nodes) admitted; tight = admitted_tight sys is (budgets_of sys nodes) admitted }
+    record {
+      proves = proves;
+      admitted = admitted;
+      no_loss = admitted_no_loss sys is (budgets_of sys nodes) admitted;
+      tight = admitted_tight sys is (budgets_of sys nodes) admitted;
+    }
 
 -- a certificate is small enough to be read
 few_nodes : (sys : SystemView) → IsSystem sys → (nodes : List NodeView) → IsCertificate sys nodes → length nodes ≤ 576
 few_nodes sys is nodes made = omega (arith, is.few_cores, is.few_parts, made.are_nodes.all)
 
 -- the text of the certificate of a system is its answer
-pub printed : (sys : SystemView) → IsSystem sys → (nodes : List NodeView) (text : List ℕ) → IsCertificate sys nodes → text ≡ certificate_text nodes → (length nodes ≤ 576 → certificate_of text ≡ Ok nodes) → CertifiesSystem sys Yes text
-printed sys is nodes text made told spells = inl (record { value = nodes; gives = made; said = record { is_yes = refl; told = told; reads_back = spells (few_nodes sys is nodes made) } })
+pub printed : (sys : SystemView) → IsSystem sys → (nodes : List NodeView) (text : List ℕ) → IsCertificate sys nodes
+    → text ≡ certificate_text nodes → (length nodes ≤ 576 → certificate_of text ≡ Ok nodes)
+    → CertifiesSystem sys Yes text
+printed sys is nodes text made told spells =
+    inl (record {
+      value = nodes;
+      gives = made;
+      said = record { is_yes = refl; told = told; reads_back = spells (few_nodes sys is nodes made) };
+    })
 
 -- what it means
-certifies_means : (sys : SystemView) → IsSystem sys → (status : Status) (text : List ℕ) → CertifiesSystem sys status text → CertificateMeans sys status text
+certifies_means : (sys : SystemView) → IsSystem sys → (status : Status) (text : List ℕ)
+    → CertifiesSystem sys status text → CertificateMeans sys status text
 certifies_means sys is status text h = elim h [
-  | inl a ↦ subst (λ (s : Status). CertificateMeans sys s text) (sym a.said.is_yes) (record { nodes = a.value; read = a.said.reads_back; proof = proof_of sys is a.value (certificate_proves sys a.value a.gives) })
-  | inr a ↦ refused_means CertificateMeans sys is (λ t over. over) (λ t. tt) a.refusal a.refuses status text a.status_is a.told
+  | inl a ↦
+      subst (λ (s : Status). CertificateMeans sys s text) (sym a.said.is_yes)
+      (record {
+        nodes = a.value;
+        read = a.said.reads_back;
+        proof = proof_of sys is a.value (certificate_proves sys a.value a.gives);
+      })
+  | inr a ↦
+      refused_means CertificateMeans sys is (λ t over. over) (λ t. tt) a.refusal a.refuses status text a.status_is
+      a.told
 ]
 
 pub certify_laws : (file : List ℕ) → CommandLaws (the_certify file)

@@ -29,7 +29,8 @@ use Rattle.rt_top.proofs.ReadSecond.{JudgesRead, is_spelled_system, read_laws, s
 use Rattle.rt_top.proofs.Laws.Certify.{proof_of}
 
 -- bytes spell one certificate or have one first fault
-either_not_both : (r : Result (List NodeView) CertFault) (nodes : List NodeView) (fault : CertFault) → r ≡ Ok nodes → r ≡ Err fault → ⊥
+either_not_both : (r : Result (List NodeView) CertFault) (nodes : List NodeView) (fault : CertFault) → r ≡ Ok nodes
+    → r ≡ Err fault → ⊥
 either_not_both r nodes fault p q = absurd (cc)
 
 same_nodes : (r : Result (List NodeView) CertFault) (x y : List NodeView) → r ≡ Ok x → r ≡ Ok y → x ≡ y
@@ -47,9 +48,11 @@ spelling_decided bytes = record {
 
 -- one verdict: the certificate proves the system, or has one first flaw
 Verdict : SystemView → List NodeView → Status → List ℕ → Type 0
-Verdict sys nodes status text = ((status ≡ Yes) × Proves sys nodes × (text ≡ check_text sys (Ok tt))) ⊎ ((status ≡ No) × IsFlawed sys nodes text)
+Verdict sys nodes status text =
+    ((status ≡ Yes) × Proves sys nodes × (text ≡ check_text sys (Ok tt))) ⊎ ((status ≡ No) × IsFlawed sys nodes text)
 
-verdict_of : (sys : SystemView) (nodes : List NodeView) (status : Status) (text : List ℕ) → ChecksNodes sys nodes status text → Verdict sys nodes status text
+verdict_of : (sys : SystemView) (nodes : List NodeView) (status : Status) (text : List ℕ)
+    → ChecksNodes sys nodes status text → Verdict sys nodes status text
 unfolding Verdict
 verdict_of sys nodes Yes text h = inl (refl, h.0, h.1)
 verdict_of sys nodes No text h = inr (refl, h)
@@ -71,12 +74,19 @@ one_verdict sys nodes = λ s t x y p q. elim (verdict_of sys nodes s x p) [
   ]
   | inr a ↦ elim (verdict_of sys nodes t y q) [
     | inl b ↦ absurd (flaw_not_proves sys nodes a.1.flaw a.1.first b.1)
-    | inr b ↦ (a.0 ∙ sym b.0, a.1.told ∙ (ap (λ (f : Flaw). check_text sys (Err f)) (one_flaw sys nodes a.1.flaw b.1.flaw a.1.first b.1.first) ∙ sym b.1.told))
+    | inr b ↦ (
+      a.0 ∙ sym b.0,
+      a.1.told
+          ∙ (ap (λ (f : Flaw). check_text sys (Err f)) (one_flaw sys nodes a.1.flaw b.1.flaw a.1.first b.1.first)
+          ∙ sym b.1.told),
+    )
   ]
 ]
 
 -- its statuses
-verdict_status : (P : Status → Type 0) → P Yes → P No → (sys : SystemView) (nodes : List NodeView) (status : Status) (text : List ℕ) → ChecksNodes sys nodes status text → P status
+verdict_status : (P : Status → Type 0) → P Yes → P No
+    → (sys : SystemView) (nodes : List NodeView) (status : Status) (text : List ℕ) → ChecksNodes sys nodes status text
+    → P status
 unfolding Verdict
 verdict_status P at_yes at_no sys nodes status text h = elim (verdict_of sys nodes status text h) [
   | inl a ↦ subst P (sym a.0) at_yes
@@ -88,11 +98,16 @@ ok_of (Ok nodes) ok = (nodes, refl)
 ok_of (Err fault) ok = absurd (false≢true ok)
 
 -- what it means
-verdict_tells : (sys : SystemView) → IsSystem sys → (nodes : List NodeView) (status : Status) (text : List ℕ) → ChecksNodes sys nodes status text → TellsProof sys nodes status
+verdict_tells : (sys : SystemView) → IsSystem sys → (nodes : List NodeView) (status : Status) (text : List ℕ)
+    → ChecksNodes sys nodes status text → TellsProof sys nodes status
 unfolding Verdict
 verdict_tells sys is nodes status text h = elim (verdict_of sys nodes status text h) [
   | inl a ↦ record { only = λ yes. proof_of sys is nodes a.1; always = λ proves. a.0 }
-  | inr a ↦ record { only = λ yes. absurd (let clash : Yes ≡ No = sym yes ∙ a.0 in cc); always = λ proves. absurd (flaw_not_proves sys nodes a.1.flaw a.1.first proves) }
+  | inr a ↦
+      record {
+        only = λ yes. absurd (let clash : Yes ≡ No = sym yes ∙ a.0 in cc);
+        always = λ proves. absurd (flaw_not_proves sys nodes a.1.flaw a.1.first proves);
+      }
 ]
 
 check_reads : JudgesRead (λ sys. spelling) ChecksNodes
@@ -103,29 +118,45 @@ check_reads = record {
   judged = verdict_status IsJudged tt tt;
 }
 
-check_means : (contents : Contents) (status : Status) (text : List ℕ) → Checks contents status text → CheckMeans contents status
+check_means : (contents : Contents) (status : Status) (text : List ℕ) → Checks contents status text
+    → CheckMeans contents status
 check_means contents status text h = λ sys nodes of.
-    verdict_tells sys (is_spelled_system contents sys _ of) nodes status text (said_of_read (λ sys. spelling) ChecksNodes check_reads contents sys nodes status text of h)
+    verdict_tells sys (is_spelled_system contents sys _ of) nodes status text
+    (said_of_read (λ sys. spelling) ChecksNodes check_reads contents sys nodes status text of h)
 
 pub check_laws : (file cert : List ℕ) → CommandLaws (the_check file cert)
-check_laws file cert = read_laws file cert (λ sys. spelling) ChecksNodes (λ contents status text. CheckMeans contents status) (λ sys bytes. IsOk (certificate_of bytes)) (λ contents. IsVerdict) check_reads (record {
-  means = check_means;
-  good = λ sys bytes. ok_of (certificate_of bytes);
-  verdict = λ contents sys spelled. verdict_status IsVerdict tt tt sys;
-  no_memory = λ contents. tt;
-})
+check_laws file cert =
+    read_laws file cert (λ sys. spelling) ChecksNodes (λ contents status text. CheckMeans contents status)
+    (λ sys bytes. IsOk (certificate_of bytes)) (λ contents. IsVerdict) check_reads (record {
+      means = check_means;
+      good = λ sys bytes. ok_of (certificate_of bytes);
+      verdict = λ contents sys spelled. verdict_status IsVerdict tt tt sys;
+      no_memory = λ contents. tt;
+    })
 
 -- a flaw tells a node of the system
-place_is_node : (sys : SystemView) (nodes : List NodeView) → AreNodes sys nodes → (k : ℕ) → k < length nodes → IsNode sys (node_at nodes k).place
+place_is_node : (sys : SystemView) (nodes : List NodeView) → AreNodes sys nodes → (k : ℕ) → k < length nodes
+    → IsNode sys (node_at nodes k).place
 place_is_node sys nodes are k l = elim (cases_lt k (length sys.parts)) [
-  | inl part ↦ subst (IsNode sys) (sym (are.in_order k l ∙ cond-true {A = Place} (nat_lt k (length sys.parts)) (Part k) (Core (k - length sys.parts)) (lt-ltb k (length sys.parts) part))) part
-  | inr core ↦ subst (IsNode sys) (sym (are.in_order k l ∙ cond-false {A = Place} (nat_lt k (length sys.parts)) (Part k) (Core (k - length sys.parts)) (le-ltb k (length sys.parts) (omega (arith, core))))) (omega (arith, core, l, are.all))
+  | inl part ↦
+      subst (IsNode sys) (sym (are.in_order k l
+      ∙ cond-true {A = Place} (nat_lt k (length sys.parts)) (Part k) (Core (k - length sys.parts))
+      (lt-ltb k (length sys.parts) part))) part
+  | inr core ↦
+      subst (IsNode sys) (sym (are.in_order k l
+      ∙ cond-false {A = Place} (nat_lt k (length sys.parts)) (Part k) (Core (k - length sys.parts))
+      (le-ltb k (length sys.parts) (omega (arith, core))))) (omega (arith, core, l, are.all))
 ]
 
 pub flaw_told : (sys : SystemView) (nodes : List NodeView) (flaw : Flaw) → FirstFlaw sys nodes flaw → IsFlawOf sys flaw
 flaw_told sys nodes Nodes h = tt
-flaw_told sys nodes (Budget place) h = subst (IsNode sys) (sym h.node.bad.0) (place_is_node sys nodes h.are_nodes h.node.k h.node.is_node)
-flaw_told sys nodes (Cover place) h = subst (IsNode sys) (sym h.node.bad.0) (place_is_node sys nodes h.are_nodes h.node.k h.node.is_node)
-flaw_told sys nodes (Hit place i) h = subst (IsNode sys) (sym h.node.bad.0) (place_is_node sys nodes h.are_nodes h.node.k h.node.is_node)
-flaw_told sys nodes (Least place) h = subst (IsNode sys) (sym h.node.bad.0) (place_is_node sys nodes h.are_nodes h.node.k h.node.is_node)
-flaw_told sys nodes (TooWide place) h = subst (IsNode sys) (sym h.node.bad.0) (place_is_node sys nodes h.are_nodes h.node.k h.node.is_node)
+flaw_told sys nodes (Budget place) h =
+    subst (IsNode sys) (sym h.node.bad.0) (place_is_node sys nodes h.are_nodes h.node.k h.node.is_node)
+flaw_told sys nodes (Cover place) h =
+    subst (IsNode sys) (sym h.node.bad.0) (place_is_node sys nodes h.are_nodes h.node.k h.node.is_node)
+flaw_told sys nodes (Hit place i) h =
+    subst (IsNode sys) (sym h.node.bad.0) (place_is_node sys nodes h.are_nodes h.node.k h.node.is_node)
+flaw_told sys nodes (Least place) h =
+    subst (IsNode sys) (sym h.node.bad.0) (place_is_node sys nodes h.are_nodes h.node.k h.node.is_node)
+flaw_told sys nodes (TooWide place) h =
+    subst (IsNode sys) (sym h.node.bad.0) (place_is_node sys nodes h.are_nodes h.node.k h.node.is_node)

@@ -26,19 +26,33 @@ one_told sys budgets = λ s t x y a b.
     (a.is_yes ∙ sym b.is_yes, a.told ∙ ap (λ (rs : List Response). responses_text sys rs) rows ∙ sym b.told)
 
 -- its statuses
-responds_status : (P : Status → Type 0) → P Yes → P No → P Wide → (sys : SystemView) (status : Status) (text : List ℕ) → RespondsSystem sys status text → P status
-responds_status P at_yes at_no at_wide sys status text h = statuses_attempt P (composing sys) (IsTold sys) status text (refused_status P at_no at_wide sys) (λ budgets told. subst P (sym told.is_yes) at_yes) h
+responds_status : (P : Status → Type 0) → P Yes → P No → P Wide → (sys : SystemView) (status : Status) (text : List ℕ)
+    → RespondsSystem sys status text → P status
+responds_status P at_yes at_no at_wide sys status text h =
+    statuses_attempt P (composing sys) (IsTold sys) status text (refused_status P at_no at_wide sys)
+    (λ budgets told. subst P (sym told.is_yes) at_yes) h
 
-responds_means : (sys : SystemView) → IsSystem sys → (status : Status) (text : List ℕ) → RespondsSystem sys status text → ResponsesMean sys status text
+responds_means : (sys : SystemView) → IsSystem sys → (status : Status) (text : List ℕ) → RespondsSystem sys status text
+    → ResponsesMean sys status text
 responds_means sys is status text h = elim h [
   | inl a ↦ subst (λ (s : Status). ResponsesMean sys s text) (sym a.said.is_yes)
-      (record { budgets = a.value; admitted = a.gives; no_loss = admitted_no_loss sys is a.value a.gives; rows = a.said.rows; responses = a.said.responses; told = a.said.told })
-  | inr a ↦ refused_means ResponsesMean sys is (λ t over. over) (λ t. tt) a.refusal a.refuses status text a.status_is a.told
+      (record {
+        budgets = a.value;
+        admitted = a.gives;
+        no_loss = admitted_no_loss sys is a.value a.gives;
+        rows = a.said.rows;
+        responses = a.said.responses;
+        told = a.said.told;
+      })
+  | inr a ↦
+      refused_means ResponsesMean sys is (λ t over. over) (λ t. tt) a.refusal a.refuses status text a.status_is a.told
 ]
 
 pub responses_laws : (file : List ℕ) → CommandLaws (the_responses file)
 responses_laws file = system_laws file RespondsSystem ResponsesMean (record {
-  one = λ sys is. one_attempt (composing sys) (IsTold sys) (composing_decided sys is) (λ budgets admitted. one_told sys budgets);
+  one =
+      λ sys is. one_attempt (composing sys) (IsTold sys) (composing_decided sys is)
+      (λ budgets admitted. one_told sys budgets);
   judged = responds_status IsJudged tt tt tt;
   verdict = responds_status IsVerdict tt tt tt;
   means = responds_means;

@@ -51,9 +51,12 @@ RunsWakes slots sys wakes = OnAssigned sys (λ budgets. OnAttempt (running sys b
 
 -- there is one trace of a workload, and one first core that is not full under earliest deadline
 -- first
-one_trace : (sys : SystemView) (budgets : List ℕ) (wakes : List Wake) (slots : ℕ) (x y : List Event) → IsTraceOf sys budgets wakes slots x → IsTraceOf sys budgets wakes slots y → x ≡ y
+one_trace : (sys : SystemView) (budgets : List ℕ) (wakes : List Wake) (slots : ℕ) (x y : List Event)
+    → IsTraceOf sys budgets wakes slots x → IsTraceOf sys budgets wakes slots y → x ≡ y
 one_trace sys budgets wakes slots x y p q =
-    p.trace.2 ∙ (ap (λ (runs : List (List (Option ℕ))). printed sys wakes runs slots) (rtds_unique sys budgets wakes slots p.trace.0 q.trace.0 p.trace.1 q.trace.1) ∙ sym q.trace.2)
+    p.trace.2
+    ∙ (ap (λ (runs : List (List (Option ℕ))). printed sys wakes runs slots)
+    (rtds_unique sys budgets wakes slots p.trace.0 q.trace.0 p.trace.1 q.trace.1) ∙ sym q.trace.2)
 
 one_other : (sys : SystemView) (c d : ℕ) → IsFirstOther sys c → IsFirstOther sys d → c ≡ d
 one_other sys c d p q = elim (cases_lt c d) [
@@ -64,7 +67,8 @@ one_other sys c d p q = elim (cases_lt c d) [
   ]
 ]
 
-running_decided : (sys : SystemView) (budgets : List ℕ) (wakes : List Wake) (slots : ℕ) → IsDecided (running sys budgets wakes slots)
+running_decided : (sys : SystemView) (budgets : List ℕ) (wakes : List Wake) (slots : ℕ)
+    → IsDecided (running sys budgets wakes slots)
 running_decided sys budgets wakes slots = record {
   one_value = one_trace sys budgets wakes slots;
   never_both = λ events c trace other. both_ways (is_rtds sys c) other.other (trace.all c other.is_core);
@@ -76,16 +80,27 @@ one_printed : (sys : SystemView) (events : List Event) → IsOne (IsTraceText sy
 one_printed sys events = λ s t x y p q. (p.status_is ∙ sym q.status_is, p.told ∙ sym q.told)
 
 -- its statuses
-printed_status : (P : Status → Type 0) → P Yes → (sys : SystemView) (events : List Event) (status : Status) (text : List ℕ) → IsTraceText sys events status text → P status
+printed_status : (P : Status → Type 0) → P Yes
+    → (sys : SystemView) (events : List Event) (status : Status) (text : List ℕ) → IsTraceText sys events status text
+    → P status
 printed_status P at_yes sys events status text h = subst P (sym h.status_is) at_yes
 
-runs_judged : (slots : ℕ) (sys : SystemView) (wakes : List Wake) (status : Status) (text : List ℕ) → RunsWakes slots sys wakes status text → IsJudged status
-runs_judged slots sys wakes status text h = statuses_assigned IsJudged tt tt sys (λ budgets. OnAttempt (running sys budgets wakes slots) (IsTraceText sys)) status text
-    (λ budgets. statuses_attempt IsJudged (running sys budgets wakes slots) (IsTraceText sys) status text (λ c other. tt) (λ events. printed_status IsJudged tt sys events status text)) h
+runs_judged : (slots : ℕ) (sys : SystemView) (wakes : List Wake) (status : Status) (text : List ℕ)
+    → RunsWakes slots sys wakes status text → IsJudged status
+runs_judged slots sys wakes status text h =
+    statuses_assigned IsJudged tt tt sys (λ budgets. OnAttempt (running sys budgets wakes slots) (IsTraceText sys))
+    status text
+    (λ budgets. statuses_attempt IsJudged (running sys budgets wakes slots) (IsTraceText sys) status text
+    (λ c other. tt) (λ events. printed_status IsJudged tt sys events status text)) h
 
-run_verdict : (slots : ℕ) (contents : Contents) (sys : SystemView) → IsReadable 1 contents (λ bytes. system_of bytes ≡ Ok sys) → (wakes : List Wake) (status : Status) (text : List ℕ) → RunsWakes slots sys wakes status text → IsVerdictOfRun contents status
-run_verdict slots contents sys spelled wakes status text h = statuses_assigned (IsVerdictOfRun contents) tt tt sys (λ budgets. OnAttempt (running sys budgets wakes slots) (IsTraceText sys)) status text
-    (λ budgets. statuses_attempt (IsVerdictOfRun contents) (running sys budgets wakes slots) (IsTraceText sys) status text (λ c other. record { sys = sys; spelled = spelled; core = c; other = other })
+run_verdict : (slots : ℕ) (contents : Contents) (sys : SystemView)
+    → IsReadable 1 contents (λ bytes. system_of bytes ≡ Ok sys) → (wakes : List Wake) (status : Status) (text : List ℕ)
+    → RunsWakes slots sys wakes status text → IsVerdictOfRun contents status
+run_verdict slots contents sys spelled wakes status text h =
+    statuses_assigned (IsVerdictOfRun contents) tt tt sys
+    (λ budgets. OnAttempt (running sys budgets wakes slots) (IsTraceText sys)) status text
+    (λ budgets. statuses_attempt (IsVerdictOfRun contents) (running sys budgets wakes slots) (IsTraceText sys) status
+    text (λ c other. record { sys = sys; spelled = spelled; core = c; other = other })
     (λ events. printed_status (IsVerdictOfRun contents) tt sys events status text)) h
 
 run_reads : (slots : ℕ) → JudgesRead waking (RunsWakes slots)
@@ -93,20 +108,24 @@ run_reads slots = record {
   decided = waking_decided;
   bad_file = λ sys bytes fault. refl;
   one = λ sys is wakes. one_assigned sys is (λ budgets. OnAttempt (running sys budgets wakes slots) (IsTraceText sys))
-      (λ budgets. one_attempt (running sys budgets wakes slots) (IsTraceText sys) (running_decided sys budgets wakes slots) (λ events trace. one_printed sys events));
+      (λ budgets. one_attempt (running sys budgets wakes slots) (IsTraceText sys)
+      (running_decided sys budgets wakes slots) (λ events trace. one_printed sys events));
   judged = runs_judged slots;
 }
 
 -- the servers of an admitted system pass on each core that is full and under earliest deadline
 -- first
-fit_core : (sched : Sched) (supply : Option (ℕ × ℕ)) (sys : SystemView) (budgets : List ℕ) (c : ℕ) → is_full supply ≡ true → is_edf sched ≡ true → Passes sched (server_tasks sys budgets (Core c)) (core_bound supply) → ServersFit sys budgets c
+fit_core : (sched : Sched) (supply : Option (ℕ × ℕ)) (sys : SystemView) (budgets : List ℕ) (c : ℕ)
+    → is_full supply ≡ true → is_edf sched ≡ true → Passes sched (server_tasks sys budgets (Core c)) (core_bound supply)
+    → ServersFit sys budgets c
 fit_core Edf None sys budgets c full edf passes = passes
 fit_core Edf (Some s) sys budgets c full edf passes = absurd (false≢true full)
 fit_core Rm supply sys budgets c full edf passes = absurd (false≢true edf)
 fit_core Dm supply sys budgets c full edf passes = absurd (false≢true edf)
 fit_core Listed supply sys budgets c full edf passes = absurd (false≢true edf)
 
-served : (sys : SystemView) (budgets : List ℕ) (wakes : List Wake) → AllRtds sys (length sys.cores) → IsServed sys budgets wakes → AlwaysServed sys budgets wakes
+served : (sys : SystemView) (budgets : List ℕ) (wakes : List Wake) → AllRtds sys (length sys.cores)
+    → IsServed sys budgets wakes → AlwaysServed sys budgets wakes
 served sys budgets wakes all h = record {
   runnable = h.runnable;
   fit = λ c l.
@@ -115,34 +134,51 @@ served sys budgets wakes all h = record {
 }
 
 -- what it means
-tells_run : (sys : SystemView) → IsSystem sys → (budgets : List ℕ) → IsPlan sys budgets → (wakes : List Wake) → IsWorkload sys wakes → (slots : ℕ) → slots ≤ 1000000 → (events : List Event) (status : Status) (text : List ℕ) → IsTraceOf sys budgets wakes slots events → IsTraceText sys events status text → TellsRun sys budgets wakes slots text
+tells_run : (sys : SystemView) → IsSystem sys → (budgets : List ℕ) → IsPlan sys budgets → (wakes : List Wake)
+    → IsWorkload sys wakes → (slots : ℕ) → slots ≤ 1000000 → (events : List Event) (status : Status) (text : List ℕ)
+    → IsTraceOf sys budgets wakes slots events → IsTraceText sys events status text
+    → TellsRun sys budgets wakes slots text
 tells_run sys is budgets plan wakes workload slots few events status text trace printed_is = record {
   events = events;
   trace = trace;
   told = printed_is.told;
   reads_back = printed_is.reads_back;
-  none_over = subst (λ (es : List Event). NoneOver sys budgets es) (sym trace.trace.2) (none_over sys is budgets plan wakes workload slots trace.trace.0 trace.trace.1 (omega (arith, few)));
+  none_over =
+      subst (λ (es : List Event). NoneOver sys budgets es) (sym trace.trace.2)
+      (none_over sys is budgets plan wakes workload slots trace.trace.0 trace.trace.1 (omega (arith, few)));
   gives = λ runs c run l always fit. gives_budgets sys budgets plan wakes workload slots c _ (run.cores c l) always fit;
-  satisfied = λ h. subst (λ (es : List Event). Satisfied sys budgets es) (sym trace.trace.2) (satisfied sys is budgets plan wakes workload slots trace.trace.0 trace.trace.1 (omega (arith, few)) (served sys budgets wakes trace.all h));
+  satisfied =
+      λ h. subst (λ (es : List Event). Satisfied sys budgets es) (sym trace.trace.2)
+      (satisfied sys is budgets plan wakes workload slots trace.trace.0 trace.trace.1 (omega (arith, few))
+      (served sys budgets wakes trace.all h));
 }
 
-printed_tells : (sys : SystemView) → IsSystem sys → (budgets : List ℕ) → IsPlan sys budgets → (wakes : List Wake) → IsWorkload sys wakes → (slots : ℕ) → slots ≤ 1000000 → (status : Status) (text : List ℕ) → OnAttempt (running sys budgets wakes slots) (IsTraceText sys) status text → status ≡ Yes → TellsRun sys budgets wakes slots text
+printed_tells : (sys : SystemView) → IsSystem sys → (budgets : List ℕ) → IsPlan sys budgets → (wakes : List Wake)
+    → IsWorkload sys wakes → (slots : ℕ) → slots ≤ 1000000 → (status : Status) (text : List ℕ)
+    → OnAttempt (running sys budgets wakes slots) (IsTraceText sys) status text → status ≡ Yes
+    → TellsRun sys budgets wakes slots text
 printed_tells sys is budgets plan wakes workload slots few status text h told = elim h [
   | inl given ↦ tells_run sys is budgets plan wakes workload slots few given.value status text given.gives given.said
   | inr refused ↦ absurd (let e : Yes ≡ BadFile = sym told ∙ refused.status_is in cc)
 ]
 
-run_means : (slots : ℕ) → slots ≤ 1000000 → (contents : Contents) (status : Status) (text : List ℕ) → Runs slots contents status text → RunMeans slots contents status text
+run_means : (slots : ℕ) → slots ≤ 1000000 → (contents : Contents) (status : Status) (text : List ℕ)
+    → Runs slots contents status text → RunMeans slots contents status text
 run_means slots few contents status text h = λ sys budgets wakes of told.
     let is : IsSystem sys = is_spelled_system contents sys _ of.spelled in
     let read = of.spelled.second in
-    printed_tells sys is budgets (assigned_is_plan sys is budgets of.assigned) wakes (spelt_workload sys (records_of read.bytes) wakes read.good) slots few status text
-    (said_of_assigned sys is (λ b. OnAttempt (running sys b wakes slots) (IsTraceText sys)) status text budgets of.assigned (said_of_read waking (RunsWakes slots) (run_reads slots) contents sys wakes status text of.spelled h)) told
+    printed_tells sys is budgets (assigned_is_plan sys is budgets of.assigned) wakes
+    (spelt_workload sys (records_of read.bytes) wakes read.good) slots few status text
+    (said_of_assigned sys is (λ b. OnAttempt (running sys b wakes slots) (IsTraceText sys)) status text budgets
+    of.assigned
+    (said_of_read waking (RunsWakes slots) (run_reads slots) contents sys wakes status text of.spelled h)) told
 
 pub rtds_laws : (file workload : List ℕ) (slots : ℕ) → slots ≤ 1000000 → CommandLaws (the_rtds file workload slots)
-rtds_laws file workload slots few = read_laws file workload waking (RunsWakes slots) (RunMeans slots) IsRunnable IsVerdictOfRun (run_reads slots) (record {
-  means = run_means slots few;
-  good = λ sys bytes workload. (workload.wakes, workload.spelled);
-  verdict = run_verdict slots;
-  no_memory = λ contents. tt;
-})
+rtds_laws file workload slots few =
+    read_laws file workload waking (RunsWakes slots) (RunMeans slots) IsRunnable IsVerdictOfRun (run_reads slots)
+    (record {
+      means = run_means slots few;
+      good = λ sys bytes workload. (workload.wakes, workload.spelled);
+      verdict = run_verdict slots;
+      no_memory = λ contents. tt;
+    })

@@ -2,7 +2,6 @@
 use Rattle.std.proofs.Common.{◌≡◌, ℕ, List, [], Option, Some, None, refl, sym, ◌∙◌, subst}
 use Rattle.outside.specs.Files.{Files}
 use Rattle.rt_report.specs.Version.{version_text}
-use Rattle.rt_top.specs.declared.status.Status.{Status}
 use Rattle.rt_top.specs.declared.status.Status.TheVariants.{Yes}
 use Rattle.rt_top.specs.Commands.{version}
 use Rattle.rt_top.specs.CommandSpec.{IsVerdict}
@@ -28,4 +27,5 @@ no_contents (Some files) = refl
 
 -- the line of the version is its answer
 pub version_answer : (files : Option Files) (text : List ℕ) → text ≡ version_text → IsSaid (Some version) files Yes text
-version_answer files text told = record { contents = []; held = no_contents files; answers = record { is_yes = refl; told = told } }
+version_answer files text told =
+    record { contents = []; held = no_contents files; answers = record { is_yes = refl; told = told } }

@@ -11,7 +11,7 @@ use Rattle.admission_session.specs.Answers.{IsAdmitted}
 use Rattle.placement.specs.declared.fault.PlaceFault.{PlaceFault}
 use Rattle.placement.specs.declared.fault.PlaceFault.TheVariants.{Refused, BadGuest, Unplaced, NoMemory}
 use Rattle.placement.specs.Placement.{IsPlaced}
-use Rattle.placement.specs.Answers.{IsUnplaced, PlaceFails, StopsAt, guest_at}
+use Rattle.placement.specs.Answers.{PlaceFails, guest_at}
 use Rattle.script_file.specs.declared.guests.GuestFault.{GuestFault}
 use Rattle.script_file.specs.declared.guests.GuestFault.TheVariants.{Script as NoScript, Other}
 use Rattle.script_file.specs.Guests.{SpellsGuests, IsGuestFault}
@@ -28,7 +28,6 @@ use Rattle.rt_top.specs.Answer.{Contents}
 use Rattle.rt_top.specs.Attempt.{Attempt, OnAttempt}
 use Rattle.rt_top.specs.Budgets.{refusal_status}
 use Rattle.rt_top.specs.TwoFiles.{OnTwoFiles, SpellsSystem, AreReadable}
-use Rattle.rt_top.specs.Commands.Admit.{IsTrulyOverfull}
 
 -- the bytes of the second file spell guests, or have a first fault
 abbrev pub guests_fault_text : GuestFault → List ℕ

@@ -17,4 +17,6 @@ pub returns-in-Ok-finish-clause-told : goal.returns-in-Ok-finish-clause-told
 returns-in-Ok-finish-clause-told c =
     let text = c.args.bytes.now in
     let (header, told, has) = c.in_default.ensures.header text c.new-records.ensures.read in
-    told_all c.args.session text c.in-Ok-finish.text.items c.in-Ok.rows c.read_rows.new.rows header c.in-Ok.ensures.session c.in-Ok.ensures.text told (c.in_default-read_rows.ensures.all text header has) c.in-Ok-finish.ensures
+    told_all c.args.session text c.in-Ok-finish.text.items c.in-Ok.rows c.read_rows.new.rows header
+    c.in-Ok.ensures.session c.in-Ok.ensures.text told (c.in_default-read_rows.ensures.all text header has)
+    c.in-Ok-finish.ensures

@@ -7,7 +7,9 @@ use Rattle.rt_top.proofs.leaf.leaf_named.Goals as goal
 
 pub returns-then-is_leaf_of-clause-found : goal.returns-then-is_leaf_of-clause-found
 returns-then-is_leaf_of-clause-found c =
-    let here : c.part-item.result ≡ part_at c.args.sys.now c.loop-q.q = part_here c.args.sys.now c.parts-part-items.result.now c.loop-q.q c.part-item.result c.parts-part-items.ensures.parts c.loop-q-test.true c.part-item.is in
+    let here : c.part-item.result ≡ part_at c.args.sys.now c.loop-q.q
+    = part_here c.args.sys.now c.parts-part-items.result.now c.loop-q.q c.part-item.result
+    c.parts-part-items.ensures.parts c.loop-q-test.true c.part-item.is in
     let is = c.is_leaf_of.ensures.0 c.if-is_leaf_of.true in
     record {
       is_part = omega (arith, ap (λ (ps : List PartView). length ps) c.parts-part-items.ensures.parts);
@@ -17,9 +19,19 @@ returns-then-is_leaf_of-clause-found c =
 
 pub loop-q-preserved : goal.loop-q-preserved
 loop-q-preserved c =
-    let here : c.part-item.result ≡ part_at c.args.sys.now c.loop-q.q = part_here c.args.sys.now c.parts-part-items.result.now c.loop-q.q c.part-item.result c.parts-part-items.ensures.parts c.loop-q-test.true c.part-item.is in
+    let here : c.part-item.result ≡ part_at c.args.sys.now c.loop-q.q
+    = part_here c.args.sys.now c.parts-part-items.result.now c.loop-q.q c.part-item.result
+    c.parts-part-items.ensures.parts c.loop-q-test.true c.part-item.is in
     none_more c.args.sys.now c.args.name.now c.loop-q.q c.loop-q.invariant
-    (λ found. absurd (let on = c.is_leaf_of.ensures.1 (ap (λ (p : PartView). is_leaf p.tasks) here ∙ found.is_leaf, ap (λ (p : PartView). p.name) here ∙ found.is_named) in search rules))
+    (λ found. absurd (
+    let on
+    = c.is_leaf_of.ensures.1 (
+      ap (λ (p : PartView). is_leaf p.tasks) here ∙ found.is_leaf,
+      ap (λ (p : PartView). p.name) here ∙ found.is_named,
+    ) in
+    search rules))
 
 pub returns-clause-none : goal.returns-clause-none
-returns-clause-none c = λ q found. c.loop-q.invariant q (omega (arith, found.is_part, ap (λ (ps : List PartView). length ps) c.parts-part-items.ensures.parts)) found
+returns-clause-none c =
+    λ q found. c.loop-q.invariant q
+    (omega (arith, found.is_part, ap (λ (ps : List PartView). length ps) c.parts-part-items.ensures.parts)) found

@@ -7,45 +7,91 @@ use Rattle.rt_top.proofs.top.run.Goals as goal
 pub returns-in-Answered-clause-reported : goal.returns-in-Answered-clause-reported
 returns-in-Answered-clause-reported g c =
     let command = command_of (map string_bytes c.args.words.now) in
-    let answer = answer_of_said c.parse.result command (g.S.Store.files c.args.store.now) c.in-Answered.answer.status c.in-Answered.answer.text.items c.deref.result.now c.parse.ensures c.deref.ensures.value c.in-Answered.ensures.answer in
-    finished_report command (lawful c.parse.result command c.parse.ensures) (g.S.Store.files c.args.store.now) c.in-Answered.answer.status c.finish.result (g.K.Sink.written c.args.out.now) (g.K.Sink.written c.finish.new.out) c.deref.result.now _ answer
-    (record { which = c.finish.ensures.which; whole = c.finish.ensures.whole; front = c.finish.ensures.front; failed = c.finish.ensures.failed })
+    let answer
+    = answer_of_said c.parse.result command (g.S.Store.files c.args.store.now) c.in-Answered.answer.status
+    c.in-Answered.answer.text.items c.deref.result.now c.parse.ensures c.deref.ensures.value
+    c.in-Answered.ensures.answer in
+    finished_report command (lawful c.parse.result command c.parse.ensures) (g.S.Store.files c.args.store.now)
+    c.in-Answered.answer.status c.finish.result (g.K.Sink.written c.args.out.now)
+    (g.K.Sink.written c.finish.new.out) c.deref.result.now _ answer
+    (record {
+      which = c.finish.ensures.which;
+      whole = c.finish.ensures.whole;
+      front = c.finish.ensures.front;
+      failed = c.finish.ensures.failed;
+    })
 
 pub returns-in-Answered-clause-usage : goal.returns-in-Answered-clause-usage
 returns-in-Answered-clause-usage g c =
     let command = command_of (map string_bytes c.args.words.now) in
-    let answer = answer_of_said c.parse.result command (g.S.Store.files c.args.store.now) c.in-Answered.answer.status c.in-Answered.answer.text.items c.deref.result.now c.parse.ensures c.deref.ensures.value c.in-Answered.ensures.answer in
-    finished_usage command (lawful c.parse.result command c.parse.ensures) (g.S.Store.files c.args.store.now) c.in-Answered.answer.status c.finish.result c.deref.result.now _ _ _ answer
-    (record { which = c.finish.ensures.which; whole = c.finish.ensures.whole; front = c.finish.ensures.front; failed = c.finish.ensures.failed })
+    let answer
+    = answer_of_said c.parse.result command (g.S.Store.files c.args.store.now) c.in-Answered.answer.status
+    c.in-Answered.answer.text.items c.deref.result.now c.parse.ensures c.deref.ensures.value
+    c.in-Answered.ensures.answer in
+    finished_usage command (lawful c.parse.result command c.parse.ensures) (g.S.Store.files c.args.store.now)
+    c.in-Answered.answer.status c.finish.result c.deref.result.now _ _ _ answer
+    (record {
+      which = c.finish.ensures.which;
+      whole = c.finish.ensures.whole;
+      front = c.finish.ensures.front;
+      failed = c.finish.ensures.failed;
+    })
 
 pub returns-in-Answered-clause-without_file : goal.returns-in-Answered-clause-without_file
 returns-in-Answered-clause-without_file g c =
     let command = command_of (map string_bytes c.args.words.now) in
-    let answer = answer_of_said c.parse.result command (g.S.Store.files c.args.store.now) c.in-Answered.answer.status c.in-Answered.answer.text.items c.deref.result.now c.parse.ensures c.deref.ensures.value c.in-Answered.ensures.answer in
-    ends_without_file command (lawful c.parse.result command c.parse.ensures) (g.S.Store.files c.args.store.now) c.in-Answered.answer.status c.finish.result c.deref.result.now answer c.finish.ensures.which
+    let answer
+    = answer_of_said c.parse.result command (g.S.Store.files c.args.store.now) c.in-Answered.answer.status
+    c.in-Answered.answer.text.items c.deref.result.now c.parse.ensures c.deref.ensures.value
+    c.in-Answered.ensures.answer in
+    ends_without_file command (lawful c.parse.result command c.parse.ensures) (g.S.Store.files c.args.store.now)
+    c.in-Answered.answer.status c.finish.result c.deref.result.now answer c.finish.ensures.which
 
 pub returns-in-Answered-clause-read_fault : goal.returns-in-Answered-clause-read_fault
 returns-in-Answered-clause-read_fault g c =
     let command = command_of (map string_bytes c.args.words.now) in
-    let answer = answer_of_said c.parse.result command (g.S.Store.files c.args.store.now) c.in-Answered.answer.status c.in-Answered.answer.text.items c.deref.result.now c.parse.ensures c.deref.ensures.value c.in-Answered.ensures.answer in
-    finished_read command (lawful c.parse.result command c.parse.ensures) (g.S.Store.files c.args.store.now) c.in-Answered.answer.status c.finish.result c.deref.result.now _ answer c.finish.ensures.which
+    let answer
+    = answer_of_said c.parse.result command (g.S.Store.files c.args.store.now) c.in-Answered.answer.status
+    c.in-Answered.answer.text.items c.deref.result.now c.parse.ensures c.deref.ensures.value
+    c.in-Answered.ensures.answer in
+    finished_read command (lawful c.parse.result command c.parse.ensures) (g.S.Store.files c.args.store.now)
+    c.in-Answered.answer.status c.finish.result c.deref.result.now _ answer c.finish.ensures.which
 
 pub returns-in-Answered-clause-write_fault : goal.returns-in-Answered-clause-write_fault
 returns-in-Answered-clause-write_fault g c =
     let command = command_of (map string_bytes c.args.words.now) in
-    let answer = answer_of_said c.parse.result command (g.S.Store.files c.args.store.now) c.in-Answered.answer.status c.in-Answered.answer.text.items c.deref.result.now c.parse.ensures c.deref.ensures.value c.in-Answered.ensures.answer in
-    finished_write command (lawful c.parse.result command c.parse.ensures) (g.S.Store.files c.args.store.now) c.in-Answered.answer.status c.finish.result c.deref.result.now _ _ _ answer
-    (record { which = c.finish.ensures.which; whole = c.finish.ensures.whole; front = c.finish.ensures.front; failed = c.finish.ensures.failed })
+    let answer
+    = answer_of_said c.parse.result command (g.S.Store.files c.args.store.now) c.in-Answered.answer.status
+    c.in-Answered.answer.text.items c.deref.result.now c.parse.ensures c.deref.ensures.value
+    c.in-Answered.ensures.answer in
+    finished_write command (lawful c.parse.result command c.parse.ensures) (g.S.Store.files c.args.store.now)
+    c.in-Answered.answer.status c.finish.result c.deref.result.now _ _ _ answer
+    (record {
+      which = c.finish.ensures.which;
+      whole = c.finish.ensures.whole;
+      front = c.finish.ensures.front;
+      failed = c.finish.ensures.failed;
+    })
 
 pub returns-in-Answered-clause-complete : goal.returns-in-Answered-clause-complete
 returns-in-Answered-clause-complete g c =
     let command = command_of (map string_bytes c.args.words.now) in
-    let answer = answer_of_said c.parse.result command (g.S.Store.files c.args.store.now) c.in-Answered.answer.status c.in-Answered.answer.text.items c.deref.result.now c.parse.ensures c.deref.ensures.value c.in-Answered.ensures.answer in
-    λ can store_stays out_stays. finished_verdict command (lawful c.parse.result command c.parse.ensures) (g.S.Store.files c.args.store.now) c.in-Answered.answer.status c.finish.result c.deref.result.now _ _ _ _ answer
-    (record { which = c.finish.ensures.which; whole = c.finish.ensures.whole; front = c.finish.ensures.front; failed = c.finish.ensures.failed }) can out_stays
+    let answer
+    = answer_of_said c.parse.result command (g.S.Store.files c.args.store.now) c.in-Answered.answer.status
+    c.in-Answered.answer.text.items c.deref.result.now c.parse.ensures c.deref.ensures.value
+    c.in-Answered.ensures.answer in
+    λ can store_stays out_stays. finished_verdict command (lawful c.parse.result command c.parse.ensures)
+    (g.S.Store.files c.args.store.now) c.in-Answered.answer.status c.finish.result c.deref.result.now _ _ _ _ answer
+    (record {
+      which = c.finish.ensures.which;
+      whole = c.finish.ensures.whole;
+      front = c.finish.ensures.front;
+      failed = c.finish.ensures.failed;
+    }) can out_stays
 
 pub returns-in-Unread-clause-complete : goal.returns-in-Unread-clause-complete
-returns-in-Unread-clause-complete g c = λ can store_stays out_stays. absurd (stays_not_rose _ _ store_stays c.in-Unread.ensures.explained)
+returns-in-Unread-clause-complete g c =
+    λ can store_stays out_stays. absurd (stays_not_rose _ _ store_stays c.in-Unread.ensures.explained)
 
 pub returns-in-Answered-clause-only : goal.returns-in-Answered-clause-only
 returns-in-Answered-clause-only g c = one_answer _ (lawful c.parse.result _ c.parse.ensures)
@@ -59,19 +105,28 @@ returns-in-NoMemory-clause-only g c = one_answer _ (lawful c.parse.result _ c.pa
 pub returns-in-NoMemory-clause-complete : goal.returns-in-NoMemory-clause-complete
 returns-in-NoMemory-clause-complete g c =
     let command = command_of (map string_bytes c.args.words.now) in
-    λ can store_stays out_stays. no_memory_ends command (g.S.Store.files c.args.store.now) (lawful c.parse.result command c.parse.ensures) can
+    λ can store_stays out_stays. no_memory_ends command (g.S.Store.files c.args.store.now)
+    (lawful c.parse.result command c.parse.ensures) can
 
 pub returns-in-Unread-clause-without_file : goal.returns-in-Unread-clause-without_file
-returns-in-Unread-clause-without_file g c = unread_of_parsed c.parse.result (command_of (map string_bytes c.args.words.now)) c.parse.ensures c.in-Unread.ensures.read
+returns-in-Unread-clause-without_file g c =
+    unread_of_parsed c.parse.result (command_of (map string_bytes c.args.words.now)) c.parse.ensures
+    c.in-Unread.ensures.read
 
 pub returns-in-NoMemory-clause-without_file : goal.returns-in-NoMemory-clause-without_file
 returns-in-NoMemory-clause-without_file g c = no_memory_without_file (command_of (map string_bytes c.args.words.now))
 
 pub returns-in-Answered-clause-taken : goal.returns-in-Answered-clause-taken
-returns-in-Answered-clause-taken g c = finished_takes c.parse.result (command_of (map string_bytes c.args.words.now)) (g.S.Store.files c.args.store.now) c.in-Answered.answer c.finish.result _ _ c.parse.ensures c.in-Answered.ensures.taken
+returns-in-Answered-clause-taken g c =
+    finished_takes c.parse.result (command_of (map string_bytes c.args.words.now)) (g.S.Store.files c.args.store.now)
+    c.in-Answered.answer c.finish.result _ _ c.parse.ensures c.in-Answered.ensures.taken
 
 pub returns-in-Unread-clause-taken : goal.returns-in-Unread-clause-taken
-returns-in-Unread-clause-taken g c = unanswered_takes c.parse.result (command_of (map string_bytes c.args.words.now)) (g.S.Store.files c.args.store.now) _ _ c.parse.ensures c.in-Unread.ensures.taken
+returns-in-Unread-clause-taken g c =
+    unanswered_takes c.parse.result (command_of (map string_bytes c.args.words.now)) (g.S.Store.files c.args.store.now)
+    _ _ c.parse.ensures c.in-Unread.ensures.taken
 
 pub returns-in-NoMemory-clause-taken : goal.returns-in-NoMemory-clause-taken
-returns-in-NoMemory-clause-taken g c = unanswered_takes c.parse.result (command_of (map string_bytes c.args.words.now)) (g.S.Store.files c.args.store.now) _ _ c.parse.ensures c.in-NoMemory.ensures.taken
+returns-in-NoMemory-clause-taken g c =
+    unanswered_takes c.parse.result (command_of (map string_bytes c.args.words.now)) (g.S.Store.files c.args.store.now)
+    _ _ c.parse.ensures c.in-NoMemory.ensures.taken

@@ -19,7 +19,9 @@ returns-in_err-sys-clause-answer g c =
     let says = g.J.JudgeTwo.says c.args.judge.now in
     let first = c.args.first.now in
     let second = c.args.second.now in
-    rw (p.1, p.2) (two_said (g.J.JudgeTwo.command c.args.judge.now first second) first second says (g.met.J.JudgeTwo.laws c.args.judge.now first second) files c.in_err-sys.field-0.0 (stop_said files first second says c.in_err-sys.field-0.0 c.in_err-sys.ensures.refused))
+    rw (p.1, p.2) (two_said (g.J.JudgeTwo.command c.args.judge.now first second) first second says
+    (g.met.J.JudgeTwo.laws c.args.judge.now first second) files c.in_err-sys.field-0.0
+    (stop_said files first second says c.in_err-sys.field-0.0 c.in_err-sys.ensures.refused))
 
 pub returns-clause-answer : goal.returns-clause-answer
 returns-clause-answer g c =
@@ -28,17 +30,24 @@ returns-clause-answer g c =
     let first = c.args.first.now in
     let second = c.args.second.now in
     let end = ending_of c.judge.result in
-    two_said (g.J.JudgeTwo.command c.args.judge.now first second) first second says (g.met.J.JudgeTwo.laws c.args.judge.now first second) files end (ends_read files first second says c.in_ok-sys.sys c.in_ok-sys.bytes.items end c.in_ok-sys.ensures.system c.in_ok-sys.ensures.bytes
-    (subst (λ (b : List ℕ). IfAnswered end (λ a. says c.in_ok-sys.sys b a.status a.text.items)) c.deref.ensures.value c.judge.ensures.answer))
+    two_said (g.J.JudgeTwo.command c.args.judge.now first second) first second says
+    (g.met.J.JudgeTwo.laws c.args.judge.now first second) files end
+    (ends_read files first second says c.in_ok-sys.sys c.in_ok-sys.bytes.items end c.in_ok-sys.ensures.system
+    c.in_ok-sys.ensures.bytes
+    (subst (λ (b : List ℕ). IfAnswered end (λ a. says c.in_ok-sys.sys b a.status a.text.items)) c.deref.ensures.value
+    c.judge.ensures.answer))
 
 pub returns-in_err-sys-clause-taken : goal.returns-in_err-sys-clause-taken
 returns-in_err-sys-clause-taken g c =
     let p = err_from_is_err_and c.from_residual.result c.from_residual.ensures.1 in
     let over = g.met.J.JudgeTwo.laws c.args.judge.now c.args.first.now c.args.second.now in
-    rw (p.1, p.2) (λ all told. two_take (g.J.JudgeTwo.command c.args.judge.now c.args.first.now c.args.second.now) c.args.first.now c.args.second.now all c.in_err-sys.field-0.0 _ _ over.files (c.in_err-sys.ensures.taken all told))
+    rw (p.1, p.2) (λ all told. two_take (g.J.JudgeTwo.command c.args.judge.now c.args.first.now c.args.second.now)
+    c.args.first.now c.args.second.now all c.in_err-sys.field-0.0 _ _ over.files
+    (c.in_err-sys.ensures.taken all told))
 
 pub returns-clause-taken : goal.returns-clause-taken
 returns-clause-taken g c =
     let over = g.met.J.JudgeTwo.laws c.args.judge.now c.args.first.now c.args.second.now in
     let end = ending_of c.judge.result in
-    λ all told. two_take (g.J.JudgeTwo.command c.args.judge.now c.args.first.now c.args.second.now) c.args.first.now c.args.second.now all end _ _ over.files (end_takes end _ _ _ (c.in_ok-sys.ensures.taken all told))
+    λ all told. two_take (g.J.JudgeTwo.command c.args.judge.now c.args.first.now c.args.second.now) c.args.first.now
+    c.args.second.now all end _ _ over.files (end_takes end _ _ _ (c.in_ok-sys.ensures.taken all told))

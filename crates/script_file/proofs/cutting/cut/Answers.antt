@@ -1,6 +1,4 @@
-use Rattle.std.proofs.Common.{ℕ, ◌+◌, ◌-◌, List, ◌∷◌, length, take, drop, ap, sym, ◌∙◌, arith, add-one}
-use Rattle.std.proofs.lemmas.List.{take_all, length-drop}
-use Rattle.script_file.specs.Pieces.{pieces}
+use Rattle.std.proofs.Common.{◌+◌, ◌-◌, ◌∷◌, ◌∙◌, arith}
 use Rattle.script_file.proofs.CutPieces.{cut_nowhere, cut_at}
 use Rattle.script_file.proofs.cutting.cut.Goals as goal
 

@@ -1,4 +1,4 @@
-use Rattle.std.proofs.Common.{◌≡◌, ◌++◌, ℕ, length, map}
+use Rattle.std.proofs.Common.{◌≡◌, ◌++◌, length, map}
 use Rattle.std.specs.List.{list_all}
 use Rattle.script_file.specs.Pieces.{pieces}
 use Rattle.script_file.specs.Script.{is_task, task_of}

@@ -11,10 +11,16 @@ use Rattle.rt_top.specs.Commands.Place.{placing}
 use Rattle.rt_top.proofs.commands.place.refuse_placing.Goals as goal
 
 -- where a node of the system is refused, so is every placement on it
-placing_refused : {E : Type 0} (sys : SystemView) (refusal : Refusal) → FirstRefusal sys refusal → (result : Result Answer E) → IfOk result (λ a. a.status ≡ refusal_status refusal) → IfOk result (λ a. a.text.items ≡ refusal_text sys refusal)
+placing_refused : {E : Type 0} (sys : SystemView) (refusal : Refusal) → FirstRefusal sys refusal
+    → (result : Result Answer E) → IfOk result (λ a. a.status ≡ refusal_status refusal)
+    → IfOk result (λ a. a.text.items ≡ refusal_text sys refusal)
     → (guests : List PartView) → IfOk result (λ a. IsRefused (placing sys guests) a.status a.text.items)
-placing_refused sys refusal first (Ok a) status text guests = record { refusal = Refused refusal; refuses = record { real = λ e. cc; fails = first }; status_is = status; told = text }
+placing_refused sys refusal first (Ok a) status text guests =
+    record
+    { refusal = Refused refusal; refuses = record { real = λ e. cc; fails = first }; status_is = status; told = text }
 placing_refused sys refusal first (Err none) status text guests = tt
 
 pub returns-clause-refused : goal.returns-clause-refused
-returns-clause-refused c = placing_refused c.args.sys.now c.args.refusal c.requires c.refuse.result c.refuse.ensures.status c.refuse.ensures.text
+returns-clause-refused c =
+    placing_refused c.args.sys.now c.args.refusal c.requires c.refuse.result c.refuse.ensures.status
+    c.refuse.ensures.text

@@ -6,4 +6,6 @@ use Rattle.rt_top.proofs.commands.session.edited.Goals as goal
 
 pub returns-in-Ok-clause-answer : goal.returns-in-Ok-clause-answer
 returns-in-Ok-clause-answer c =
-    edits_told c.args.sys.now c.args.bytes.now c.in-Ok.text.items _ c.requires.admitted (subst (λ (s : SystemView). IsToldSession s c.args.bytes.now c.in-Ok.text.items) c.requires.same c.in-Ok.ensures.told) refl
+    edits_told c.args.sys.now c.args.bytes.now c.in-Ok.text.items _ c.requires.admitted
+    (subst (λ (s : SystemView). IsToldSession s c.args.bytes.now c.in-Ok.text.items) c.requires.same
+    c.in-Ok.ensures.told) refl

@@ -11,8 +11,11 @@ use Rattle.rt_top.specs.Steps.{IfAnswered}
 use Rattle.rt_top.proofs.commands.place.PlacerJudgeTwo.judge.Goals as goal
 
 -- guests that are spelled and not placed
-spelled_unplaced : (sys : SystemView) (bytes : List ℕ) (guests : List PartView) → SpellsGuests (records_of bytes) guests → (stop : Ending) → IfAnswered stop (λ a. IsRefused (placing sys guests) a.status a.text.items) → IfAnswered stop (λ a. PlacesBytes sys bytes a.status a.text.items)
-spelled_unplaced sys bytes guests spelled (Answered a) refused = inl (record { value = guests; gives = spelled; said = inr refused })
+spelled_unplaced : (sys : SystemView) (bytes : List ℕ) (guests : List PartView) → SpellsGuests (records_of bytes) guests
+    → (stop : Ending) → IfAnswered stop (λ a. IsRefused (placing sys guests) a.status a.text.items)
+    → IfAnswered stop (λ a. PlacesBytes sys bytes a.status a.text.items)
+spelled_unplaced sys bytes guests spelled (Answered a) refused =
+    inl (record { value = guests; gives = spelled; said = inr refused })
 spelled_unplaced sys bytes guests spelled Unread refused = tt
 spelled_unplaced sys bytes guests spelled NoMemory refused = tt
 
@@ -22,5 +25,7 @@ returns-in_err-placed-clause-answer c =
     let guests = c.in_ok-guests.guests.items in
     let stop = c.in_err-placed.field-0.0 in
     let p = err_from_is_err_and c.from_residual-in_err-placed.result c.from_residual-in_err-placed.ensures.1 in
-    let refused : IfAnswered stop (λ a. IsRefused (placing sys guests) a.status a.text.items) = subst (λ (gs : List PartView). IfAnswered stop (λ a. IsRefused (placing sys gs) a.status a.text.items)) c.deref.ensures.value c.in_err-placed.ensures.refused in
+    let refused : IfAnswered stop (λ a. IsRefused (placing sys guests) a.status a.text.items)
+    = subst (λ (gs : List PartView). IfAnswered stop (λ a. IsRefused (placing sys gs) a.status a.text.items))
+    c.deref.ensures.value c.in_err-placed.ensures.refused in
     rw (p.1, p.2) (spelled_unplaced sys c.args.bytes.now guests c.in_ok-guests.ensures.spelled stop refused)

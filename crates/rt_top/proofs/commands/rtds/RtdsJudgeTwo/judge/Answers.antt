@@ -7,7 +7,9 @@ pub returns-clause-answer : goal.returns-clause-answer
 returns-clause-answer c =
     let plan = c.in_ok-plan.plan in
     let text = c.in_ok-text.text.items in
-    let made : IsRunText c.args.sys.now plan c.in_ok-wakes.wakes.items c.args.self.now.slots.count text = subst (λ (ws : List Wake). IsRunText c.args.sys.now plan ws c.args.self.now.slots.count text) c.deref.ensures.value c.in_ok-text.ensures.text in
+    let made : IsRunText c.args.sys.now plan c.in_ok-wakes.wakes.items c.args.self.now.slots.count text
+    = subst (λ (ws : List Wake). IsRunText c.args.sys.now plan ws c.args.self.now.slots.count text)
+    c.deref.ensures.value c.in_ok-text.ensures.text in
     inl (record {
       value = c.in_ok-wakes.wakes.items;
       gives = c.in_ok-wakes.ensures.spelled;
