@@ -77,7 +77,8 @@ pub guest_missed : (n : ℕ) (budgets : List ℕ) (tree : TreeView)
     → AreTreeSpans (bulk_host n) budgets bulk_slots (bulk_supplies n) (bulk_jobs n) tree → (q : ℕ)
     → q < length tree.parts → (node_at tree.parts q).counts.missed ≡ guest_misses n (runs_of tree.parts) q
 guest_missed n budgets tree h q l =
-    ((h.parts q (omega (arith, h.each_part))).leaf (leaf_here n q (omega (arith, h.each_part, guests-many n)))).counts.missed
+    ((h.parts q (omega (arith, h.each_part))).leaf
+    (leaf_here n q (omega (arith, h.each_part, guests-many n)))).counts.missed
     ∙ ap (λ (run : List (Option ℕ)). misses_in (own_tasks_at (bulk_host n) q) (jobs_at (bulk_jobs n) q) run)
     (sym (run_here tree.parts q l))
 

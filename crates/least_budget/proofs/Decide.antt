@@ -55,7 +55,8 @@ is_hit above tasks bound i t = elim (cases_lt 0 t) [
 hit_or_short : (above : ℕ → ℕ → Bool) (tasks : List SporadicTask) (bound : ℕ → ℕ) (i : ℕ)
     → ((t : ℕ) × IsHit above tasks bound i t) ⊎ IsShortTask above tasks bound i
 hit_or_short above tasks bound i =
-    elim (first_below (λ t. IsHit above tasks bound i t) (is_hit above tasks bound i) (suc (room_of (task_at tasks i)))) [
+    elim (first_below (λ t. IsHit above tasks bound i t) (is_hit above tasks bound i)
+    (suc (room_of (task_at tasks i)))) [
       | inl r ↦ inl (r.0, r.2)
       | inr none ↦
           inr (λ u lu hu. elim (cases_lt (bound u) (rbf above tasks i u)) [
