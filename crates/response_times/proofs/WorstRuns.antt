@@ -14,8 +14,7 @@ use Rattle.slot_model.proofs.MissedJobs.{permitted_holds_released}
 use Rattle.fp_test.specs.Hits.{IsLeastHit}
 use Rattle.fp_test.proofs.Answer.{answer_in_time, answer_late}
 use Rattle.guest_sched.specs.declared.spans.Span.{Span}
-use Rattle.guest_sched.specs.declared.spans.Window.{Window}
-use Rattle.guest_sched.specs.Spans.{AreSpans, run_of, slots_of}
+use Rattle.guest_sched.specs.Spans.{AreSpans, run_of, slots_of, Window}
 use Rattle.guest_sched.proofs.Given.{slots-long}
 use Rattle.response_times.specs.Replay.{IsFirstJob, IsWorstRun, ShowsResponse}
 use Rattle.response_times.specs.Response.{IsResponse}

@@ -23,7 +23,7 @@ use Rattle.tree_model.specs.Admission.{Admitted}
 use Rattle.tree_model.proofs.NodeTasks.{leaf_tasks}
 use Rattle.rt_report.specs.declared.responses.Response.{Response}
 use Rattle.rt_top.specs.Commands.Responses.{answered_at, AnswerTasks, IsAnswered, IsResponseOf, is_fixed_leaf, places_in}
-use Rattle.rt_top.proofs.ReplayLeaf.{LeafRead}
+use Rattle.miss_witness.proofs.ReplayLeaf.{LeafRead}
 
 not_edf : (sched : Sched) → not (is_edf sched) ≡ true → sched ≢ Edf
 not_edf Edf e = absurd (cc)

@@ -6,7 +6,7 @@ use Rattle.tree_model.specs.declared.place.Place.TheVariants.{Part}
 use Rattle.tree_model.proofs.NodeTasks.{part_here, leaf_tasks, tasks_read}
 use Rattle.rt_report.specs.declared.responses.Response.{Response}
 use Rattle.rt_top.specs.Commands.Responses.{AnswerTasks, places_in}
-use Rattle.rt_top.proofs.ReplayLeaf.{LeafRead}
+use Rattle.miss_witness.proofs.ReplayLeaf.{LeafRead}
 use Rattle.rt_top.proofs.RespondLeaf.{all_tasks, has_tasks, one_more_task, read_passes, read_count}
 use Rattle.rt_top.proofs.responding.respond_leaf.Goals as goal
 use Rattle.rt_top.proofs.responding.respond_leaf.Goals.{After-sched-sched}
