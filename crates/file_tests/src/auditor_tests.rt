@@ -337,7 +337,10 @@ fn what_is_counted_of_a_text(rt: HostRuntime) -> Result<(), Fail> {
         match tally_bytes(alloc, &sys, &plan, text.as_bytes()) {
             Ok(tallied) => {
                 assert!(rt; tallied.finding == *finding, "{text}");
-                assert!(rt; tallied.vcpus.as_slice() == &[*first, *second], "{text}");
+                assert!(rt;
+                    tallied.vcpus.as_slice() == [*first, *second].as_slice(),
+                    "{text}"
+                );
             }
             Err(_) => assert!(rt; false, "{text}"),
         }

@@ -3,6 +3,7 @@ ghost use Rattle.std.specs.Prelude.{◌<◌, ◌≤◌, length};
 use crate::helpers::{MEMORY, assert_jobs, expect_at, periodic, task, two_late_tasks, two_tasks};
 use response_times::{replay, response, response_jobs};
 use slot_model::{Sched, Task};
+use std::alloc::Global;
 use std::process::Abort;
 use supply_bound::{Full, Periodic, Supply};
 
@@ -38,7 +39,13 @@ fn jobs_of_the_worst_case(rt: HostRuntime) {
 
 /// What the replay under rate monotonic shows. None where the task has no response, or one that is
 /// too long to be replayed.
-fn replayed(rt: &impl Abort, tasks: &[Task], i: u32, supply: &Periodic) -> Option<u64>
+fn replayed(
+    rt: &impl Abort,
+    alloc: Global,
+    tasks: &[Task],
+    i: u32,
+    supply: &Periodic,
+) -> Option<u64>
     requires i_named { i < length tasks.now }
     requires few { length tasks.now ≤ 256 }
 {
@@ -46,26 +53,36 @@ fn replayed(rt: &impl Abort, tasks: &[Task], i: u32, supply: &Periodic) -> Optio
     if span > 1_000_000 || supply.start() > 1_000_000 - span {
         return None;
     }
-    Some(replay(rt.alloc(), Sched::Rm, tasks, i, supply).expect(rt, MEMORY))
+    Some(replay(alloc, Sched::Rm, tasks, i, supply).expect(rt, MEMORY))
 }
 
 #[test]
 fn replays_show_the_responses(rt: HostRuntime) {
     let four = periodic(&rt, 10, 4);
     let tasks = two_tasks(&rt);
-    expect_at(&rt, "first", replayed(&rt, &tasks, 0, &four), Some(25));
-    expect_at(&rt, "second", replayed(&rt, &tasks, 1, &four), Some(46));
+    expect_at(
+        &rt,
+        "first",
+        replayed(&rt, rt.alloc(), &tasks, 0, &four),
+        Some(25),
+    );
+    expect_at(
+        &rt,
+        "second",
+        replayed(&rt, rt.alloc(), &tasks, 1, &four),
+        Some(46),
+    );
     expect_at(
         &rt,
         "late",
-        replayed(&rt, &two_late_tasks(&rt), 1, &four),
+        replayed(&rt, rt.alloc(), &two_late_tasks(&rt), 1, &four),
         Some(65),
     );
     let long = [task(&rt, 1_000_000_000, 1_000_000_000, 999_999)];
     expect_at(
         &rt,
         "long",
-        replayed(&rt, &long, 0, &periodic(&rt, 4, 2)),
+        replayed(&rt, rt.alloc(), &long, 0, &periodic(&rt, 4, 2)),
         None,
     );
 }
