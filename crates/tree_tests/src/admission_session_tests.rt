@@ -98,7 +98,12 @@ fn rows_are_answered_and_the_plan_is_that_of_the_whole_system(rt: HostRuntime) -
 fn a_leaf_whose_name_is_taken_is_no_new_one(rt: HostRuntime) -> Result<(), Fail> {
     let alloc = rt.alloc();
     let session = open(&rt, alloc)?;
-    let known = copy_on(alloc, &session.system().parts()[0], Parent::Core(0))?;
-    assert!(&rt; !is_new_leaf(session.system(), &known));
+    match session.system().parts().first() {
+        Some(part) => {
+            let known = copy_on(alloc, part, Parent::Core(0))?;
+            assert!(&rt; !is_new_leaf(session.system(), &known));
+        }
+        None => panic!(&rt; "no part"),
+    }
     Ok(())
 }
