@@ -34,8 +34,8 @@ from_more vs i v h is =
     ∙ ap (λ n. item_view v ∷ map item_view (drop n vs)) (sym (add-one i))
 
 -- what a reader knows before a value, seen at that value
-pub known_at : {cores : List Data} {count : ℕ} {names : List (List ℕ)} {parts now : List PartView} (vs : List Item) (i : ℕ)
-    (v : Item) → i < length vs → v ≡ get_or vs i v → now ≡ parts
+pub known_at : {cores : List Data} {count : ℕ} {names : List (List ℕ)} {parts now : List PartView} (vs : List Item)
+    (i : ℕ) (v : Item) → i < length vs → v ≡ get_or vs i v → now ≡ parts
     → Known cores (before vs i) (from vs i) count names parts
     → Known cores (before vs i) (item_view v ∷ from vs (i + 1)) count names now
 known_at {cores} {count} {names} vs i v h is same known =

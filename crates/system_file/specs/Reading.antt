@@ -44,8 +44,8 @@ abbrev pub ParentsAmong : List PartView → Type 0
 ParentsAmong parts = (q r : ℕ) → q < length parts → (part_in parts q).parent ≡ Part r →
     r < length parts
 
--- What is known once the cores and the parts of a document are read: no fault stands in its top table,
--- in a core or in a part, and they are the cores and the parts that it spells.
+-- What is known once the cores and the parts of a document are read: no fault stands in its top
+-- table, in a core or in a part, and they are the cores and the parts that it spells.
 pub record AreNodes (document : Data) (cores : List CoreView) (parts : List PartView) : Type 0 where
   pub no_top : top_faults document ≡ []
   pub no_core : in_order core_faults [] (cores_of document) ≡ []

@@ -56,8 +56,8 @@ pub returns-clause-ok : goal.returns-clause-ok
 returns-clause-ok c = λ cores before later known.
     let name = c.in_ok-name.ensures.ok (cores ++ before) known.named in
     let parent
-    = rw c.in_ok-table.ensures.ok at (c.in_ok-parent.ensures.ok cores before (item_view c.args.value.now ∷ later) c.args.names.now _
-    c.in_ok-name.ensures.put known) in
+    = rw c.in_ok-table.ensures.ok at (c.in_ok-parent.ensures.ok cores before (item_view c.args.value.now ∷ later)
+    c.args.names.now _ c.in_ok-name.ensures.put known) in
     let served = c.in_ok-served.ensures.ok in
     let tasks = rw served.4 at c.in_ok-tasks.ensures.ok in (
       rw (as_many known, c.in_ok-table.ensures.ok, c.in_ok-check_keys.ensures.ok)
