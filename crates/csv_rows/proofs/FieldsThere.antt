@@ -1,5 +1,7 @@
 -- The fields of a record.
-use Rattle.std.proofs.Common.{◌≡◌, ◌<◌, ◌≤◌, ℕ, zero, suc, Bor, List, [], ◌∷◌, length, get_or, Some, None, refl, arith}
+use Rattle.std.proofs.Common.{◌≡◌, ◌<◌, ◌≤◌, ℕ, zero, suc, Bor, List, [], ◌∷◌, length, get_or, map, Some, None, refl, arith}
+use Rattle.std.specs.List.{range_with_len}
+use Rattle.std.proofs.lemmas.List.FromFn.{fill_by_all}
 use Rattle.std.proofs.lemmas.Option.{same_Some, none-some}
 use Rattle.csv.specs.Records.{field_at}
 use Rattle.csv_rows.specs.Row.{texts_of}
@@ -15,6 +17,10 @@ unfolding field_at
 field_is [] i x e = cc
 field_is (f ∷ fs) zero x e = same_Some x f e
 field_is (f ∷ fs) (suc i) x e = field_is fs i x e
+
+-- a record of so many fields is the list of them
+pub fields_listed : (fs : List (List ℕ)) (n : ℕ) → length fs ≡ n → fs ≡ map (λ i. get_or fs i []) (range_with_len 0 n)
+fields_listed fs n l = fill_by_all (λ i. get_or fs i []) fs n [] l (λ i m. refl)
 
 -- the same of fields that stand in a text
 pub text_there : (fields : List (Bor (List ℕ))) (i : ℕ) (d : Bor (List ℕ)) → i < length fields

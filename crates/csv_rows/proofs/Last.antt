@@ -5,24 +5,61 @@ use Rattle.std.proofs.lemmas.Bool.{cases_Bool, cases_eq, and_left, le-leb, lt-le
 use Rattle.std.proofs.lemmas.Option.{none-some, same_Some}
 use Rattle.csv_rows.specs.Last.{last_below}
 
-pub last_below-zero : {Row : Type 0} (passes : Row → Bool) (row : ℕ → Row) → last_below passes row 0 ≡ None
-unfolding last_below
-last_below-zero passes row = refl
+module _ {Row : Type 0} (passes : Row → Bool) (row : ℕ → Row) where
+  pub last_below-zero : last_below passes row 0 ≡ None
+  unfolding last_below
+  last_below-zero = refl
 
-pub last_below-suc : {Row : Type 0} (passes : Row → Bool) (row : ℕ → Row) (n : ℕ)
-    → last_below passes row (suc n) ≡ cond (passes (row n)) (Some (row n)) (last_below passes row n)
-unfolding last_below
-last_below-suc passes row n = refl
+  pub last_below-suc : (n : ℕ)
+      → last_below passes row (suc n) ≡ cond (passes (row n)) (Some (row n)) (last_below passes row n)
+  unfolding last_below
+  last_below-suc n = refl
 
-pub last_below-yes : {Row : Type 0} (passes : Row → Bool) (row : ℕ → Row) (n : ℕ) → passes (row n) ≡ true
-    → last_below passes row (suc n) ≡ Some (row n)
-last_below-yes passes row n e =
-    last_below-suc passes row n ∙ ap (λ (b : Bool). cond b (Some (row n)) (last_below passes row n)) e
+  pub last_below-yes : (n : ℕ) → passes (row n) ≡ true → last_below passes row (suc n) ≡ Some (row n)
+  last_below-yes n e = last_below-suc n ∙ ap (λ (b : Bool). cond b (Some (row n)) (last_below passes row n)) e
 
-pub last_below-no : {Row : Type 0} (passes : Row → Bool) (row : ℕ → Row) (n : ℕ) → passes (row n) ≡ false
-    → last_below passes row (suc n) ≡ last_below passes row n
-last_below-no passes row n e =
-    last_below-suc passes row n ∙ ap (λ (b : Bool). cond b (Some (row n)) (last_below passes row n)) e
+  pub last_below-no : (n : ℕ) → passes (row n) ≡ false → last_below passes row (suc n) ≡ last_below passes row n
+  last_below-no n e = last_below-suc n ∙ ap (λ (b : Bool). cond b (Some (row n)) (last_below passes row n)) e
+
+  pub is_some_later : (n : ℕ)
+      → is_some (last_below passes row (suc n)) ≡ (passes (row n) || is_some (last_below passes row n))
+  is_some_later n =
+      ap is_some (last_below-suc n) ∙ either (passes (row n)) (row n) (last_below passes row n)
+    where
+      either : (b : Bool) (x : Row) (o : Option Row) → is_some (cond b (Some x) o) ≡ (b || is_some o)
+      either true x o = refl
+      either false x o = refl
+
+  -- rows that do not pass leave the last as it is
+  pub none_later : (k n : ℕ) → k ≤ n
+      → ((i : ℕ) → k ≤ i → i < n → passes (row i) ≡ false) → last_below passes row n ≡ last_below passes row k
+  none_later k zero l none = ap (last_below passes row) (let e : 0 ≡ k = omega arith in e)
+  none_later k (suc n) l none = elim (cases_eq k (suc n)) [
+    | inl e ↦ ap (last_below passes row) (sym e)
+    | inr ne ↦
+        last_below-no n (none n (omega arith) (omega arith))
+        ∙ none_later k n (omega arith) (λ i a b. none i a (omega arith))
+  ]
+
+  -- none is found where no row passes
+  pub none_below : (n : ℕ) → ((i : ℕ) → i < n → passes (row i) ≡ false) → last_below passes row n ≡ None
+  none_below n none = none_later 0 n (omega arith) (λ i a b. none i b) ∙ last_below-zero
+
+  -- a row that passes is the last where no later one does
+  pub last_is : (i n : ℕ) → i < n → passes (row i) ≡ true
+      → ((j : ℕ) → i < j → j < n → passes (row j) ≡ false) → last_below passes row n ≡ Some (row i)
+  last_is i n l here none = none_later (suc i) n (omega arith) (λ j a b. none j (omega arith) b) ∙ last_below-yes i here
+
+  -- some row is found where one passes
+  pub some_row : (n i : ℕ) → i < n → passes (row i) ≡ true → is_some (last_below passes row n) ≡ true
+  some_row zero i l h = absurd (omega arith)
+  some_row (suc n) i l h = elim (cases_Bool (passes (row n))) [
+    | inl b ↦ ap is_some (last_below-yes n b)
+    | inr b ↦ elim (cases_eq i n) [
+      | inl e ↦ absurd (both_ways _ b (subst (λ (z : ℕ). passes (row z) ≡ true) e h))
+      | inr ne ↦ ap is_some (last_below-no n b) ∙ some_row n i (omega arith) h
+    ]
+  ]
 
 -- what is said of the last row, one row later, and whether there is one
 pub said_later : {Row A : Type 0} (said : Option Row → A) (passes : Row → Bool) (row : ℕ → Row) (n : ℕ)
@@ -34,15 +71,6 @@ said_later {Row} {A} said passes row n =
     either : (b : Bool) (x y : Option Row) → said (cond b x y) ≡ cond b (said x) (said y)
     either true x y = refl
     either false x y = refl
-
-pub is_some_later : {Row : Type 0} (passes : Row → Bool) (row : ℕ → Row) (n : ℕ)
-    → is_some (last_below passes row (suc n)) ≡ (passes (row n) || is_some (last_below passes row n))
-is_some_later {Row} passes row n =
-    ap is_some (last_below-suc passes row n) ∙ either (passes (row n)) (row n) (last_below passes row n)
-  where
-    either : (b : Bool) (x : Row) (o : Option Row) → is_some (cond b (Some x) o) ≡ (b || is_some o)
-    either true x o = refl
-    either false x o = refl
 
 -- alike rows, and alike tests
 pub same_rows : {Row : Type 0} (passes : Row → Bool) (one other : ℕ → Row) (n : ℕ) → ((i : ℕ) → i < n → one i ≡ other i)
@@ -65,17 +93,6 @@ same_tests {Row} one other row (suc n) e =
     (same_tests one other row n (λ i l. e i (omega arith)))
     ∙ sym (last_below-suc other row n)))
 
--- rows that do not pass leave the last as it is
-pub none_later : {Row : Type 0} (passes : Row → Bool) (row : ℕ → Row) (k n : ℕ) → k ≤ n
-    → ((i : ℕ) → k ≤ i → i < n → passes (row i) ≡ false) → last_below passes row n ≡ last_below passes row k
-none_later passes row k zero l none = ap (last_below passes row) (let e : 0 ≡ k = omega arith in e)
-none_later passes row k (suc n) l none = elim (cases_eq k (suc n)) [
-  | inl e ↦ ap (last_below passes row) (sym e)
-  | inr ne ↦
-      last_below-no passes row n (none n (omega arith) (omega arith))
-      ∙ none_later passes row k n (omega arith) (λ i a b. none i a (omega arith))
-]
-
 -- of the rows at or before x, where those are the first k
 pub last_by_moment : {Row : Type 0} (at : Row → ℕ) (passes : Row → Bool) (row : ℕ → Row) (x k n : ℕ) → k ≤ n
     → ((i : ℕ) → i < k → at (row i) ≤ x) → ((i : ℕ) → k ≤ i → i < n → x < at (row i))
@@ -85,17 +102,6 @@ last_by_moment at passes row x k n l before after =
     (λ i a b. and_left (leb (at (row i)) x) (passes (row i)) (lt-leb (at (row i)) x (after i a b)))
     ∙ same_tests (λ r. leb (at r) x && passes r) passes row k
     (λ i b. ap (λ (t : Bool). t && passes (row i)) (le-leb (at (row i)) x (before i b)))
-
--- none is found where no row passes
-pub none_below : {Row : Type 0} (passes : Row → Bool) (row : ℕ → Row) (n : ℕ)
-    → ((i : ℕ) → i < n → passes (row i) ≡ false) → last_below passes row n ≡ None
-none_below passes row n none = none_later passes row 0 n (omega arith) (λ i a b. none i b) ∙ last_below-zero passes row
-
--- a row that passes is the last where no later one does
-pub last_is : {Row : Type 0} (passes : Row → Bool) (row : ℕ → Row) (i n : ℕ) → i < n → passes (row i) ≡ true
-    → ((j : ℕ) → i < j → j < n → passes (row j) ≡ false) → last_below passes row n ≡ Some (row i)
-last_is passes row i n l here none =
-    none_later passes row (suc i) n (omega arith) (λ j a b. none j (omega arith) b) ∙ last_below-yes passes row i here
 
 -- what is found is a row that passes
 pub record FoundRow {Row : Type 0} (test : Row → Bool) (row : ℕ → Row) (n : ℕ) (found : Row) : Type 0 where
@@ -114,18 +120,6 @@ found_row {Row} test row (suc n) found e = elim (cases_Bool (test (row n))) [
   | inr b ↦
       let h : FoundRow test row n found = found_row test row n found (sym (last_below-no test row n b) ∙ e) in
       record { place = h.place; within = omega (arith, h.within); is = h.is; passes = h.passes }
-]
-
--- some row is found where one passes
-pub some_row : {Row : Type 0} (passes : Row → Bool) (row : ℕ → Row) (n i : ℕ) → i < n → passes (row i) ≡ true
-    → is_some (last_below passes row n) ≡ true
-some_row passes row zero i l h = absurd (omega arith)
-some_row passes row (suc n) i l h = elim (cases_Bool (passes (row n))) [
-  | inl b ↦ ap is_some (last_below-yes passes row n b)
-  | inr b ↦ elim (cases_eq i n) [
-    | inl e ↦ absurd (both_ways _ b (subst (λ (z : ℕ). passes (row z) ≡ true) e h))
-    | inr ne ↦ ap is_some (last_below-no passes row n b) ∙ some_row passes row n i (omega arith) h
-  ]
 ]
 
 -- and then it is that row

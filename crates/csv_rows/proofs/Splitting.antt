@@ -90,44 +90,6 @@ Reads text fields from i =
 none_at : (text : List ℕ) (i : ℕ) → at_hand text i i ≡ []
 none_at text i = let none : i - i ≡ 0 = omega arith in ap (λ (n : ℕ). take n (drop i text)) none
 
-here : (text : List ℕ) (fields : List (List ℕ)) (from i c : ℕ) → i < length text → get_or text i 0 ≡ c
-    → Reads text fields from i
-    → next_record default_config st.StartRecord [] [] text
-    ≡ read_on fields (at_hand text from i) (c ∷ drop (i + 1) text)
-here text fields from i c l e h =
-    h ∙ ap (read_on fields (at_hand text from i)) (drop_more text i 0 l ∙ ap (λ (b : ℕ). b ∷ drop (i + 1) text) e)
-
-comma_there : (text : List ℕ) (fields : List (List ℕ)) (from i : ℕ) → i < length text → get_or text i 0 ≡ 44
-    → Reads text fields from i → Reads text (fields ++ at_hand text from i ∷ []) (i + 1) (i + 1)
-comma_there text fields from i l e h =
-    here text fields from i 44 l e h ∙ (on_comma fields (at_hand text from i) (drop (i + 1) text)
-    ∙ ap (λ (field : List ℕ). read_on (fields ++ at_hand text from i ∷ []) field (drop (i + 1) text))
-    (sym (none_at text (i + 1))))
-
-pub after_comma : (text : List ℕ) (fields now : List (List ℕ)) (from i : ℕ) → i < length text → get_or text i 0 ≡ 44
-    → now ≡ fields ++ at_hand text from i ∷ [] → Reads text fields from i → Reads text now (i + 1) (i + 1)
-after_comma text fields now from i l e pushed h =
-    subst (λ (z : List (List ℕ)). Reads text z (i + 1) (i + 1)) (sym pushed) (comma_there text fields from i l e h)
-
-pub after_other : (text : List ℕ) (fields : List (List ℕ)) (from i : ℕ) → from ≤ i → i < length text → IsPlainText text
-    → get_or text i 0 ≢ 44 → get_or text i 0 ≢ 10 → Reads text fields from i → Reads text fields from (i + 1)
-after_other text fields from i low l plain comma line h =
-    here text fields from i (get_or text i 0) l refl h
-    ∙ (on_other fields (at_hand text from i) (get_or text i 0) (drop (i + 1) text) (plain i l).0 (plain i l).1
-    (ne_eqb (get_or text i 0) 44 comma) (ne_eqb (get_or text i 0) 10 line)
-    ∙ ap (λ (field : List ℕ). read_on fields field (drop (i + 1) text)) (sym (field_more text from i low l)))
-
-pub after_blank : (text : List ℕ) (fields : List (List ℕ)) (from i : ℕ) → i < length text → get_or text i 0 ≡ 10
-    → from ≡ i → length fields ≡ 0 → Reads text fields from i → Reads text fields (i + 1) (i + 1)
-after_blank text fields from i l e at_from none h =
-    here text fields from i 10 l e h
-    ∙ (ap (λ (k : ℕ). read_on fields (at_hand text k i) (10 ∷ drop (i + 1) text)) at_from
-    ∙ (ap (λ (field : List ℕ). read_on fields field (10 ∷ drop (i + 1) text)) (none_at text i)
-    ∙ (ap (λ (fs : List (List ℕ)). read_on fs [] (10 ∷ drop (i + 1) text)) (nil_from_length fields none)
-    ∙ (on_blank (drop (i + 1) text)
-    ∙ (ap (λ (fs : List (List ℕ)). read_on fs [] (drop (i + 1) text)) (sym (nil_from_length fields none))
-    ∙ ap (λ (field : List ℕ). read_on fields field (drop (i + 1) text)) (sym (none_at text (i + 1))))))))
-
 some_at : (text : List ℕ) (from i : ℕ) → from ≤ i → i ≤ length text → length (at_hand text from i) ≡ 0 → from ≡ i
 some_at text from i low high e = omega (arith, e, length-take (i - from) (drop from text), length-drop from text)
 
@@ -138,39 +100,77 @@ left_of text i = take (length text - i) (drop i text)
 left_is : (text : List ℕ) (i : ℕ) → drop i text ≡ left_of text i
 left_is text i = sym (take_all (length text - i) (drop i text) (omega (arith, length-drop i text)))
 
-pub after_line : (text : List ℕ) (fields now : List (List ℕ)) (from i : ℕ) → from ≤ i → i < length text
-    → get_or text i 0 ≡ 10 → (from ≡ i → length fields ≡ 0 → ⊥) → now ≡ fields ++ at_hand text from i ∷ []
-    → Reads text fields from i
-    → next_record default_config st.StartRecord [] [] text ≡ Some (now, st.StartRecord, left_of text (i + 1))
-after_line text fields now from i low l e some pushed h =
-    here text fields from i 10 l e h
-    ∙ (on_line fields (at_hand text from i) (drop (i + 1) text)
-    (λ none. some (some_at text from i low (omega (arith, l)) none))
-    ∙ (ap (λ (z : List (List ℕ)). Some (z, st.StartRecord, drop (i + 1) text)) (sym pushed)
-    ∙ ap (λ (z : List ℕ). Some (now, st.StartRecord, z)) (left_is text (i + 1))))
+module _ (text : List ℕ) (fields : List (List ℕ)) (from i : ℕ) where
+  here : (c : ℕ) → i < length text → get_or text i 0 ≡ c → Reads text fields from i
+      → next_record default_config st.StartRecord [] [] text
+      ≡ read_on fields (at_hand text from i) (c ∷ drop (i + 1) text)
+  here c l e h =
+      h ∙ ap (read_on fields (at_hand text from i)) (drop_more text i 0 l ∙ ap (λ (b : ℕ). b ∷ drop (i + 1) text) e)
 
--- at the end of the text
-at_end : (text : List ℕ) (fields : List (List ℕ)) (from i : ℕ) → i ≡ length text → Reads text fields from i
-    → next_record default_config st.StartRecord [] [] text ≡ read_on fields (at_hand text from i) []
-at_end text fields from i e h = h ∙ ap (read_on fields (at_hand text from i)) (drop_all i text (omega (arith, e)))
+  comma_there : i < length text → get_or text i 0 ≡ 44
+      → Reads text fields from i → Reads text (fields ++ at_hand text from i ∷ []) (i + 1) (i + 1)
+  comma_there l e h =
+      here 44 l e h ∙ (on_comma fields (at_hand text from i) (drop (i + 1) text)
+      ∙ ap (λ (field : List ℕ). read_on (fields ++ at_hand text from i ∷ []) field (drop (i + 1) text))
+      (sym (none_at text (i + 1))))
 
-pub ends_record : (text : List ℕ) (fields now : List (List ℕ)) (from i : ℕ) → from ≤ i → i ≡ length text
-    → (from ≡ length text → length fields ≡ 0 → ⊥) → now ≡ fields ++ left_of text from ∷ [] → Reads text fields from i
-    → next_record default_config st.StartRecord [] [] text ≡ Some (now, st.StartRecord, left_of text (length text))
-ends_record text fields now from i low e some pushed h =
-    at_end text fields from i e h
-    ∙ (on_end fields (at_hand text from i) (λ none. some (some_at text from i low (omega (arith, e)) none ∙ e))
-    ∙ (ap (λ (z : ℕ). Some (fields ++ at_hand text from z ∷ [], st.StartRecord, [])) e
-    ∙ (ap (λ (z : List (List ℕ)). Some (z, st.StartRecord, [])) (sym pushed)
-    ∙ ap (λ (z : List ℕ). Some (now, st.StartRecord, z))
-    (sym (drop_all (length text) text (omega arith)) ∙ left_is text (length text)))))
+  pub after_comma : (now : List (List ℕ)) → i < length text → get_or text i 0 ≡ 44
+      → now ≡ fields ++ at_hand text from i ∷ [] → Reads text fields from i → Reads text now (i + 1) (i + 1)
+  after_comma now l e pushed h =
+      subst (λ (z : List (List ℕ)). Reads text z (i + 1) (i + 1)) (sym pushed) (comma_there l e h)
 
-pub has_none : (text : List ℕ) (fields : List (List ℕ)) (from i : ℕ) → i ≡ length text → from ≡ length text
-    → length fields ≡ 0 → Reads text fields from i → next_record default_config st.StartRecord [] [] text ≡ None
-has_none text fields from i e at_from none h =
-    at_end text fields from i e h
-    ∙ on_nothing fields (at_hand text from i)
-    (ap length (ap (λ (k : ℕ). at_hand text k i) (at_from ∙ sym e) ∙ none_at text i)) none
+  pub after_other : from ≤ i → i < length text → IsPlainText text
+      → get_or text i 0 ≢ 44 → get_or text i 0 ≢ 10 → Reads text fields from i → Reads text fields from (i + 1)
+  after_other low l plain comma line h =
+      here (get_or text i 0) l refl h
+      ∙ (on_other fields (at_hand text from i) (get_or text i 0) (drop (i + 1) text) (plain i l).0 (plain i l).1
+      (ne_eqb (get_or text i 0) 44 comma) (ne_eqb (get_or text i 0) 10 line)
+      ∙ ap (λ (field : List ℕ). read_on fields field (drop (i + 1) text)) (sym (field_more text from i low l)))
+
+  pub after_blank : i < length text → get_or text i 0 ≡ 10
+      → from ≡ i → length fields ≡ 0 → Reads text fields from i → Reads text fields (i + 1) (i + 1)
+  after_blank l e at_from none h =
+      here 10 l e h
+      ∙ (ap (λ (k : ℕ). read_on fields (at_hand text k i) (10 ∷ drop (i + 1) text)) at_from
+      ∙ (ap (λ (field : List ℕ). read_on fields field (10 ∷ drop (i + 1) text)) (none_at text i)
+      ∙ (ap (λ (fs : List (List ℕ)). read_on fs [] (10 ∷ drop (i + 1) text)) (nil_from_length fields none)
+      ∙ (on_blank (drop (i + 1) text)
+      ∙ (ap (λ (fs : List (List ℕ)). read_on fs [] (drop (i + 1) text)) (sym (nil_from_length fields none))
+      ∙ ap (λ (field : List ℕ). read_on fields field (drop (i + 1) text)) (sym (none_at text (i + 1))))))))
+
+  pub after_line : (now : List (List ℕ)) → from ≤ i → i < length text
+      → get_or text i 0 ≡ 10 → (from ≡ i → length fields ≡ 0 → ⊥) → now ≡ fields ++ at_hand text from i ∷ []
+      → Reads text fields from i
+      → next_record default_config st.StartRecord [] [] text ≡ Some (now, st.StartRecord, left_of text (i + 1))
+  after_line now low l e some pushed h =
+      here 10 l e h
+      ∙ (on_line fields (at_hand text from i) (drop (i + 1) text)
+      (λ none. some (some_at text from i low (omega (arith, l)) none))
+      ∙ (ap (λ (z : List (List ℕ)). Some (z, st.StartRecord, drop (i + 1) text)) (sym pushed)
+      ∙ ap (λ (z : List ℕ). Some (now, st.StartRecord, z)) (left_is text (i + 1))))
+
+  -- at the end of the text
+  at_end : i ≡ length text → Reads text fields from i
+      → next_record default_config st.StartRecord [] [] text ≡ read_on fields (at_hand text from i) []
+  at_end e h = h ∙ ap (read_on fields (at_hand text from i)) (drop_all i text (omega (arith, e)))
+
+  pub ends_record : (now : List (List ℕ)) → from ≤ i → i ≡ length text
+      → (from ≡ length text → length fields ≡ 0 → ⊥) → now ≡ fields ++ left_of text from ∷ [] → Reads text fields from i
+      → next_record default_config st.StartRecord [] [] text ≡ Some (now, st.StartRecord, left_of text (length text))
+  ends_record now low e some pushed h =
+      at_end e h
+      ∙ (on_end fields (at_hand text from i) (λ none. some (some_at text from i low (omega (arith, e)) none ∙ e))
+      ∙ (ap (λ (z : ℕ). Some (fields ++ at_hand text from z ∷ [], st.StartRecord, [])) e
+      ∙ (ap (λ (z : List (List ℕ)). Some (z, st.StartRecord, [])) (sym pushed)
+      ∙ ap (λ (z : List ℕ). Some (now, st.StartRecord, z))
+      (sym (drop_all (length text) text (omega arith)) ∙ left_is text (length text)))))
+
+  pub has_none : i ≡ length text → from ≡ length text
+      → length fields ≡ 0 → Reads text fields from i → next_record default_config st.StartRecord [] [] text ≡ None
+  has_none e at_from none h =
+      at_end e h
+      ∙ on_nothing fields (at_hand text from i)
+      (ap length (ap (λ (k : ℕ). at_hand text k i) (at_from ∙ sym e) ∙ none_at text i)) none
 
 -- one field more
 pub pushed : (old now : List (Bor (List ℕ))) (x : Bor (List ℕ)) → now ≡ old ++ x ∷ []

@@ -1,5 +1,4 @@
 pub mod Rows
-pub mod FieldCounts
 pub mod WakesMore
 pub mod WakesTaking
 pub mod SpeltWorkload

@@ -224,24 +224,20 @@ behind_more a b w system h k sys slot last items = record {
         now u = cond (is_of u w) (Some w) (before u)
 
 -- the rules on the turn of a VCPU, told by what is kept
-pub turn_is : (a : WakeRows) (w : Wake) (m : ℕ) → IsBehind a.wakes.items a → a.slot ≤ w.at → w.vcpu < 512
-    → m ≡ row_of (length a.wakes.items)
-    → turn_fault a.wakes.items w
-    ≡ fault_if (stands_at (last_at a.last w.vcpu) w.at) (BadOrder m)
-    (fault_if (not (may_follow (last_at a.last w.vcpu) w.what)) (BadOrder m) None)
-turn_is a w m h order part number =
+pub turn_is : (a : WakeRows) (w : Wake) (m : ℕ) (stands follows : Bool) → IsBehind a.wakes.items a → a.slot ≤ w.at
+    → w.vcpu < 512 → m ≡ row_of (length a.wakes.items) → stands ≡ stands_at (last_at a.last w.vcpu) w.at
+    → follows ≡ may_follow (last_at a.last w.vcpu) w.what
+    → turn_fault a.wakes.items w ≡ fault_if stands (BadOrder m) (fault_if (not follows) (BadOrder m) None)
+turn_is a w m stands follows h order part number s f =
     let ws = a.wakes.items in
     let n = length ws in
-    let kept = last_at a.last w.vcpu in
-    let there : has_row_at ws n w.vcpu w.at ≡ stands_at kept w.at =
+    let there : has_row_at ws n w.vcpu w.at ≡ stands =
     has_row_stands a.sys.now ws h.workload w.vcpu w.at n (omega arith)
     (by_last a.sys.now ws h.workload w.at n (omega arith) (omega (arith, h.slot, order)))
-    ∙ ap (λ (o : Option Wake). stands_at o w.at) (sym (h.last w.vcpu part)) in
-    let turn : may_follow (last_row (is_of w.vcpu) ws n) w.what ≡ may_follow kept w.what
-    = ap (λ (o : Option Wake). may_follow o w.what) (sym (h.last w.vcpu part)) in
+    ∙ (ap (λ (o : Option Wake). stands_at o w.at) (sym (h.last w.vcpu part)) ∙ sym s) in
+    let turn : may_follow (last_row (is_of w.vcpu) ws n) w.what ≡ follows
+    = ap (λ (o : Option Wake). may_follow o w.what) (sym (h.last w.vcpu part)) ∙ sym f in
     ap (λ (z : Bool). fault_if z (BadOrder (row_of n))
     (fault_if (not (may_follow (last_row (is_of w.vcpu) ws n) w.what)) (BadOrder (row_of n)) None)) there
-    ∙ (ap (λ (z : Bool). fault_if (stands_at kept w.at) (BadOrder (row_of n))
-    (fault_if (not z) (BadOrder (row_of n)) None)) turn
-    ∙ ap (λ (z : ℕ). fault_if (stands_at kept w.at) (BadOrder z)
-    (fault_if (not (may_follow kept w.what)) (BadOrder z) None)) (sym number))
+    ∙ (ap (λ (z : Bool). fault_if stands (BadOrder (row_of n)) (fault_if (not z) (BadOrder (row_of n)) None)) turn
+    ∙ ap (λ (z : ℕ). fault_if stands (BadOrder z) (fault_if (not follows) (BadOrder z) None)) (sym number))

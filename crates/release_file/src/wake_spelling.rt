@@ -34,11 +34,10 @@ fn three_fields<'r>(fields: &Row<'r>) -> Option<WakeRow<'r>>
     if fields.len() != 3 {
         return None;
     }
-    Some(WakeRow {
-        at: field(fields, 0),
-        vcpu: field(fields, 1),
-        what: field(fields, 2),
-    })
+    let at = field(fields, 0);
+    let vcpu = field(fields, 1);
+    let what = field(fields, 2);
+    Some(WakeRow { at, vcpu, what })
 }
 
 /// Whether a word is one of the three.

@@ -4,10 +4,12 @@ use Rattle.std.proofs.lemmas.List.{map-append, take_more}
 use Rattle.toml.specs.Data.{Data}
 use Rattle.toml_items.specs.Item.{item_view}
 use Rattle.toml_items.specs.declared.item.Item.{Item}
+use Rattle.tree_model.specs.View.{PartView}
 use Rattle.tree_model.specs.Lists.{first_of}
 use Rattle.tree_model.proofs.Lists.{length_map, first_here}
 use Rattle.system_file.specs.declared.fault.SystemFault.{SystemFault}
 use Rattle.system_file.specs.Faults.{in_order}
+use Rattle.system_file.specs.Reading.{Known}
 
 abbrev pub before : List Item → ℕ → List Data
 before vs i = map item_view (take i vs)
@@ -30,6 +32,14 @@ pub from_more : (vs : List Item) (i : ℕ) (v : Item) → i < length vs → v �
 from_more vs i v h is =
     ap (map item_view) (drop-cons vs i v h) ∙ ap (λ x. item_view x ∷ map item_view (drop (suc i) vs)) (sym is)
     ∙ ap (λ n. item_view v ∷ map item_view (drop n vs)) (sym (add-one i))
+
+-- what a reader knows before a value, seen at that value
+pub known_at : {cores : List Data} {count : ℕ} {names : List (List ℕ)} {parts now : List PartView} (vs : List Item)
+    (i : ℕ) (v : Item) → i < length vs → v ≡ get_or vs i v → now ≡ parts
+    → Known cores (before vs i) (from vs i) count names parts
+    → Known cores (before vs i) (item_view v ∷ from vs (i + 1)) count names now
+known_at {cores} {count} {names} vs i v h is same known =
+    rw (same, ← from_more vs i v h is) known
 
 -- the faults along an array, one element at a time
 pub along : (at_element : List Data → Data → List SystemFault) (vs : List Item) (i : ℕ) (v : Item) → i < length vs

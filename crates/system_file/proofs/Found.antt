@@ -11,42 +11,42 @@ use Rattle.system_file.specs.declared.fault.SystemFault.{SystemFault}
 use Rattle.system_file.specs.Faults.{in_order}
 use Rattle.system_file.proofs.Places.{position_cons}
 
-cons_false : {A : Type 0} (p : A → Bool) (x : A) (xs : List A) (o : Option ℕ) → p x ≡ false → position p xs ≡ o
-    → position p (x ∷ xs) ≡ option_map suc o
-cons_false p x xs o px e =
-    position_cons p x xs ∙ ap (λ b. cond b (Some 0) (option_map suc (position p xs))) px ∙ ap (option_map suc) e
+module _ {A : Type 0} (p : A → Bool) where
+  cons_false : (x : A) (xs : List A) (o : Option ℕ) → p x ≡ false → position p xs ≡ o
+      → position p (x ∷ xs) ≡ option_map suc o
+  cons_false x xs o px e =
+      position_cons p x xs ∙ ap (λ b. cond b (Some 0) (option_map suc (position p xs))) px ∙ ap (option_map suc) e
 
-cons_true : {A : Type 0} (p : A → Bool) (x : A) (xs : List A) → p x ≡ true → position p (x ∷ xs) ≡ Some 0
-cons_true p x xs px = position_cons p x xs ∙ ap (λ b. cond b (Some 0) (option_map suc (position p xs))) px
+  cons_true : (x : A) (xs : List A) → p x ≡ true → position p (x ∷ xs) ≡ Some 0
+  cons_true x xs px = position_cons p x xs ∙ ap (λ b. cond b (Some 0) (option_map suc (position p xs))) px
 
--- nothing passes, so there is no place
-pub position_none : {A : Type 0} (p : A → Bool) (xs : List A) → list_any p xs ≡ false → position p xs ≡ None
-position_none p [] h = refl
-position_none p (x ∷ xs) h = cons_false p x xs None (or_parts (p x) _ h).0 (position_none p xs (or_parts (p x) _ h).1)
+  -- nothing passes, so there is no place
+  pub position_none : (xs : List A) → list_any p xs ≡ false → position p xs ≡ None
+  position_none [] h = refl
+  position_none (x ∷ xs) h = cons_false x xs None (or_parts (p x) _ h).0 (position_none xs (or_parts (p x) _ h).1)
 
--- the first that passes
-pub position_first : {A : Type 0} (p : A → Bool) (xs : List A) (q : ℕ) (e : A) → q < length xs
-    → p (get_or xs q e) ≡ true → list_any p (take q xs) ≡ false → position p xs ≡ Some q
-position_first p [] q e h here before = absurd (omega arith)
-position_first p (x ∷ xs) zero e h here before = cons_true p x xs here
-position_first p (x ∷ xs) (suc q) e h here before =
-    cons_false p x xs (Some q) (or_parts (p x) _ before).0
-    (position_first p xs q e (omega arith) here (or_parts (p x) _ before).1)
+  -- the first that passes
+  pub position_first : (xs : List A) (q : ℕ) (e : A) → q < length xs
+      → p (get_or xs q e) ≡ true → list_any p (take q xs) ≡ false → position p xs ≡ Some q
+  position_first [] q e h here before = absurd (omega arith)
+  position_first (x ∷ xs) zero e h here before = cons_true x xs here
+  position_first (x ∷ xs) (suc q) e h here before =
+      cons_false x xs (Some q) (or_parts (p x) _ before).0
+      (position_first xs q e (omega arith) here (or_parts (p x) _ before).1)
 
-holds_step : {A : Type 0} (p : A → Bool) (x : A) (xs : List A) (e : A) (r : ℕ) (b : Bool) → p x ≡ b → (o : Option ℕ)
-    → ((k : ℕ) → o ≡ Some k → p (get_or xs k e) ≡ true) → cond b (Some 0) (option_map suc o) ≡ Some r
-    → p (get_or (x ∷ xs) r e) ≡ true
-holds_step p x xs e r true px o ih h = let z : 0 ≡ r = cc in subst (λ (k : ℕ). p (get_or (x ∷ xs) k e) ≡ true) z px
-holds_step p x xs e r false px None ih h = cc
-holds_step p x xs e r false px (Some k) ih h =
-    let z : suc k ≡ r = cc in subst (λ (n : ℕ). p (get_or (x ∷ xs) n e) ≡ true) z (ih k refl)
+  holds_step : (x : A) (xs : List A) (e : A) (r : ℕ) (b : Bool) → p x ≡ b → (o : Option ℕ)
+      → ((k : ℕ) → o ≡ Some k → p (get_or xs k e) ≡ true) → cond b (Some 0) (option_map suc o) ≡ Some r
+      → p (get_or (x ∷ xs) r e) ≡ true
+  holds_step x xs e r true px o ih h = let z : 0 ≡ r = cc in subst (λ (k : ℕ). p (get_or (x ∷ xs) k e) ≡ true) z px
+  holds_step x xs e r false px None ih h = cc
+  holds_step x xs e r false px (Some k) ih h =
+      let z : suc k ≡ r = cc in subst (λ (n : ℕ). p (get_or (x ∷ xs) n e) ≡ true) z (ih k refl)
 
--- what stands at the first place passes
-pub position_holds : {A : Type 0} (p : A → Bool) (xs : List A) (r : ℕ) (e : A) → position p xs ≡ Some r
-    → p (get_or xs r e) ≡ true
-position_holds p [] r e h = cc
-position_holds p (x ∷ xs) r e h =
-    holds_step p x xs e r (p x) refl (position p xs) (λ k. position_holds p xs k e) (sym (position_cons p x xs) ∙ h)
+  -- what stands at the first place passes
+  pub position_holds : (xs : List A) (r : ℕ) (e : A) → position p xs ≡ Some r → p (get_or xs r e) ≡ true
+  position_holds [] r e h = cc
+  position_holds (x ∷ xs) r e h =
+      holds_step x xs e r (p x) refl (position p xs) (λ k. position_holds xs k e) (sym (position_cons p x xs) ∙ h)
 
 -- two tests that agree on every element
 pub list_any_same : {A : Type 0} (p s : A → Bool) (xs : List A) (e : A)

@@ -1,3 +1,4 @@
+pub mod HandedOn
 pub mod Elements
 pub mod Along
 pub mod Faultless

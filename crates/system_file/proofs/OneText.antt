@@ -1,11 +1,11 @@
 -- There is one text of a document without floats, so of a system.
 use Rattle.std.proofs.Common.{◌≡◌, ℕ, Bool, true, false, ◌&&◌, ◌==◌, cond, List, [], ◌∷◌, ◌++◌, map, Option, Some, None, refl, sym, ◌∙◌, ap, codes}
-use Rattle.std.proofs.lemmas.Bool.{and_parts, and_from, false≢true}
+use Rattle.std.proofs.lemmas.Bool.{and_parts, false≢true}
 use Rattle.toml_parser.specs.Strings.{Key}
 use Rattle.toml_writer.specs.Text.{key_text, dotted_text}
 use Rattle.toml.specs.Data.{Data, string, integer, float, boolean, datetime, array, table, Items, no_items, item, Members, no_members, member}
-use Rattle.toml.specs.Tables.{Definition, key_value, std_table, array_table, Expression}
-use Rattle.toml.specs.Text.{IsValueText, IsItemsText, IsMembersText, IsLineText, IsLinesText, IsDocumentText, breaks_lines, before_item, after_item, before_member, is_section, are_tables, needs_header, pairs, header_of, sections, section, elements, expressions}
+use Rattle.toml.specs.Tables.{key_value, std_table, array_table, Expression}
+use Rattle.toml.specs.Text.{IsValueText, IsItemsText, IsMembersText, IsLinesText, IsDocumentText, breaks_lines, before_item, after_item, before_member, is_section, are_tables, needs_header, pairs, header_of, sections, section, elements, expressions}
 use Rattle.toml.specs.View.{items_of}
 use Rattle.tree_model.specs.declared.pinned_core.Core.{Core as CoreView}
 use Rattle.tree_model.specs.View.{NamedTask, PartView, SystemView}

@@ -7,7 +7,7 @@ use Rattle.std.specs.List.{list_any}
 use Rattle.slot_model.specs.Name.{is_name}
 use Rattle.slot_model.specs.declared.task.TheConstants.{LIMIT}
 use Rattle.slot_model.specs.Task.{SporadicTask, IsConstrained, task_at}
-use Rattle.toml.specs.Data.{Data, string, array, get, get_member, same_key}
+use Rattle.toml.specs.Data.{Data, Members, string, array, get, get_member, same_key}
 use Rattle.toml.specs.View.{items_of}
 use Rattle.tree_model.specs.View.{NamedTask, PartView, SystemView}
 use Rattle.tree_model.specs.System.{IsPart, IsGivenBudget, own_tasks, is_leaf}
@@ -26,75 +26,72 @@ use Rattle.system_file.proofs.PrintedNames.{new_among}
 use Rattle.system_file.proofs.PrintedTask.{Tells, task_name, task_spelled, task_faultless}
 use Rattle.system_file.proofs.PrintedWalk.{all_faultless, all_spelled, elements_back, within, stands_at, none_among}
 
--- the keys of a part: those that are always there, and the three that may be left out
-always : (k : List ℕ) (sys : SystemView) (part : PartView) → same_key k (codes "task") ≡ false
-    → same_key k (codes "extra") ≡ false → same_key k (codes "budget") ≡ false
-    → get k (printed_part sys part) ≡ get_member k (server_members sys part)
-always k sys part task extra budget =
-    other_key k (codes "task") (some_array (map printed_task part.tasks))
-    (with_some (codes "extra") (true_flag part.extra)
-    (with_some (codes "budget") (some_number part.budget) (server_members sys part))) task
-    ∙ other_key k (codes "extra") (true_flag part.extra)
-    (with_some (codes "budget") (some_number part.budget) (server_members sys part)) extra
-    ∙ other_key k (codes "budget") (some_number part.budget) (server_members sys part) budget
-
-pub part_name : (sys : SystemView) (part : PartView)
-    → get (codes "name") (printed_part sys part) ≡ Some (string part.name)
-part_name sys part = always (codes "name") sys part refl refl refl
-
-pub part_parent : (sys : SystemView) (part : PartView)
-    → get (codes "parent") (printed_part sys part) ≡ Some (string (parent_name sys part.parent))
-part_parent sys part = always (codes "parent") sys part refl refl refl
-
-part_sched : (sys : SystemView) (part : PartView)
-    → get (codes "sched") (printed_part sys part) ≡ Some (string (sched_word part.sched))
-part_sched sys part = always (codes "sched") sys part refl refl refl
-
-part_period : (sys : SystemView) (part : PartView)
-    → get (codes "period") (printed_part sys part) ≡ Some (number part.period)
-part_period sys part = always (codes "period") sys part refl refl refl
-
-part_budget : (sys : SystemView) (part : PartView)
-    → get (codes "budget") (printed_part sys part) ≡ some_number part.budget
-part_budget sys part =
-    other_key (codes "budget") (codes "task") (some_array (map printed_task part.tasks))
-    (with_some (codes "extra") (true_flag part.extra)
-    (with_some (codes "budget") (some_number part.budget) (server_members sys part))) refl
-    ∙ other_key (codes "budget") (codes "extra") (true_flag part.extra)
-    (with_some (codes "budget") (some_number part.budget) (server_members sys part)) refl
-    ∙ own_key (codes "budget") (some_number part.budget) (server_members sys part) refl refl
-
-part_extra : (sys : SystemView) (part : PartView) → get (codes "extra") (printed_part sys part) ≡ true_flag part.extra
-part_extra sys part =
-    other_key (codes "extra") (codes "task") (some_array (map printed_task part.tasks))
-    (with_some (codes "extra") (true_flag part.extra)
-    (with_some (codes "budget") (some_number part.budget) (server_members sys part))) refl
-    ∙ own_key (codes "extra") (true_flag part.extra)
-    (with_some (codes "budget") (some_number part.budget) (server_members sys part)) refl
-    (other_key (codes "extra") (codes "budget") (some_number part.budget) (server_members sys part) refl)
-
-part_array : (sys : SystemView) (part : PartView)
-    → get (codes "task") (printed_part sys part) ≡ some_array (map printed_task part.tasks)
-part_array sys part =
-    own_key (codes "task") (some_array (map printed_task part.tasks)) (with_some (codes "extra") (true_flag part.extra)
-    (with_some (codes "budget") (some_number part.budget) (server_members sys part))) refl
-    (other_key (codes "task") (codes "extra") (true_flag part.extra)
-    (with_some (codes "budget") (some_number part.budget) (server_members sys part)) refl
-    ∙ other_key (codes "task") (codes "budget") (some_number part.budget) (server_members sys part) refl)
-
 array_back : (ds : List Data) → array_of (some_array ds) ≡ ds
 array_back [] = refl
 array_back (d ∷ ds) = elements_back (d ∷ ds)
 
-pub part_tasks : (sys : SystemView) (part : PartView) → tasks_of (printed_part sys part) ≡ map printed_task part.tasks
-part_tasks sys part = ap array_of (part_array sys part) ∙ array_back (map printed_task part.tasks)
+module _ (sys : SystemView) (part : PartView) where
+  -- the members that may be left out, behind those of the server
+  abbrev with_budget : Members
+  with_budget = with_some (codes "budget") (some_number part.budget) (server_members sys part)
 
-pub part_has_tasks : (sys : SystemView) (part : PartView) → has_tasks (printed_part sys part) ≡ is_leaf part.tasks
-part_has_tasks sys part = rw (part_tasks sys part) (by part.tasks)
-  where
-    by : (tasks : List NamedTask) → not (length (map printed_task tasks) == 0) ≡ is_leaf tasks
-    by [] = refl
-    by (t ∷ ts) = grind (arith, nat_tests)
+  abbrev with_extra : Members
+  with_extra = with_some (codes "extra") (true_flag part.extra) with_budget
+
+  -- the keys of a part: those that are always there, and the three that may be left out
+  always : (k : List ℕ) → same_key k (codes "task") ≡ false → same_key k (codes "extra") ≡ false
+      → same_key k (codes "budget") ≡ false → get k (printed_part sys part) ≡ get_member k (server_members sys part)
+  always k task extra budget =
+      other_key k (codes "task") (some_array (map printed_task part.tasks)) with_extra task
+      ∙ other_key k (codes "extra") (true_flag part.extra) with_budget extra
+      ∙ other_key k (codes "budget") (some_number part.budget) (server_members sys part) budget
+
+  pub part_name : get (codes "name") (printed_part sys part) ≡ Some (string part.name)
+  part_name = always (codes "name") refl refl refl
+
+  pub part_parent : get (codes "parent") (printed_part sys part) ≡ Some (string (parent_name sys part.parent))
+  part_parent = always (codes "parent") refl refl refl
+
+  part_sched : get (codes "sched") (printed_part sys part) ≡ Some (string (sched_word part.sched))
+  part_sched = always (codes "sched") refl refl refl
+
+  part_period : get (codes "period") (printed_part sys part) ≡ Some (number part.period)
+  part_period = always (codes "period") refl refl refl
+
+  part_budget : get (codes "budget") (printed_part sys part) ≡ some_number part.budget
+  part_budget =
+      other_key (codes "budget") (codes "task") (some_array (map printed_task part.tasks)) with_extra refl
+      ∙ other_key (codes "budget") (codes "extra") (true_flag part.extra) with_budget refl
+      ∙ own_key (codes "budget") (some_number part.budget) (server_members sys part) refl refl
+
+  part_extra : get (codes "extra") (printed_part sys part) ≡ true_flag part.extra
+  part_extra =
+      other_key (codes "extra") (codes "task") (some_array (map printed_task part.tasks)) with_extra refl
+      ∙ own_key (codes "extra") (true_flag part.extra) with_budget refl
+      (other_key (codes "extra") (codes "budget") (some_number part.budget) (server_members sys part) refl)
+
+  part_array : get (codes "task") (printed_part sys part) ≡ some_array (map printed_task part.tasks)
+  part_array =
+      own_key (codes "task") (some_array (map printed_task part.tasks)) with_extra refl
+      (other_key (codes "task") (codes "extra") (true_flag part.extra) with_budget refl
+      ∙ other_key (codes "task") (codes "budget") (some_number part.budget) (server_members sys part) refl)
+
+  pub part_tasks : tasks_of (printed_part sys part) ≡ map printed_task part.tasks
+  part_tasks = ap array_of part_array ∙ array_back (map printed_task part.tasks)
+
+  pub part_has_tasks : has_tasks (printed_part sys part) ≡ is_leaf part.tasks
+  part_has_tasks = rw part_tasks (by part.tasks)
+    where
+      by : (tasks : List NamedTask) → not (length (map printed_task tasks) == 0) ≡ is_leaf tasks
+      by [] = refl
+      by (t ∷ ts) = grind (arith, nat_tests)
+
+  -- every key is listed
+  part_keys_listed : has_only part_keys (part_members sys part) ≡ true
+  part_keys_listed =
+      listed_key part_keys (codes "task") (some_array (map printed_task part.tasks)) with_extra refl
+      ∙ listed_key part_keys (codes "extra") (true_flag part.extra) with_budget refl
+      ∙ listed_key part_keys (codes "budget") (some_number part.budget) (server_members sys part) refl
 
 -- its tasks
 pub tasks_back : (tasks : List NamedTask) → map spelled_task (map printed_task tasks) ≡ tasks
@@ -135,16 +132,7 @@ pub few_ok : (spot : Spot) (most : ℕ) (ds : List Data) → length ds ≤ most
     → array_faults spot most (array (items_of ds)) ≡ []
 few_ok spot most ds few = rw (elements_back ds, le-ltb most (length ds) few)
 
--- every key is listed, and no key has a fault
-part_keys_listed : (sys : SystemView) (part : PartView) → has_only part_keys (part_members sys part) ≡ true
-part_keys_listed sys part =
-    listed_key part_keys (codes "task") (some_array (map printed_task part.tasks))
-    (with_some (codes "extra") (true_flag part.extra)
-    (with_some (codes "budget") (some_number part.budget) (server_members sys part))) refl
-    ∙ listed_key part_keys (codes "extra") (true_flag part.extra)
-    (with_some (codes "budget") (some_number part.budget) (server_members sys part)) refl
-    ∙ listed_key part_keys (codes "budget") (some_number part.budget) (server_members sys part) refl
-
+-- no key has a fault
 budget_ok : (spot : Spot) (period : ℕ) (budget : Option ℕ) → IsGivenBudget period budget
     → optional (range_faults spot period) (some_number budget) ≡ []
 budget_ok spot period None b = refl

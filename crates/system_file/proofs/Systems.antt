@@ -8,14 +8,14 @@ use Rattle.tree_model.specs.declared.place.Parent.TheVariants.{Core as on_core, 
 use Rattle.tree_model.specs.View.{PartView, SystemView}
 use Rattle.tree_model.specs.System.{IsSystem, IsPart, IsCoreSupply, Stands, IsChildOf, AreDistinct, node_names, is_leaf}
 use Rattle.tree_model.specs.Lists.{first_of, fault_if}
-use Rattle.tree_model.proofs.Lists.{length_map, list_any_map, first_here, first_later, none_both, none_left, none_right}
+use Rattle.tree_model.proofs.Lists.{length_map, list_any_map, first_later, none_both, none_left, none_right}
 use Rattle.system_file.specs.declared.format.Format.{Format}
 use Rattle.system_file.specs.declared.fault.Spot.TheVariants.{Top, Part}
 use Rattle.system_file.specs.declared.fault.SystemFault.{SystemFault}
 use Rattle.system_file.specs.declared.fault.SystemFault.TheVariants.{Empty}
 use Rattle.system_file.specs.Document.{format_of, text_of, is_text, cores_of, parts_of, tasks_of, parent_at, spelled_core, spelled_part, spelled_system}
 use Rattle.system_file.specs.Faults.{required, optional, format_faults, core_array_faults, array_faults, top_faults, top_keys, in_order, core_faults, part_faults, empty_faults, has_tasks, is_parent, faults}
-use Rattle.system_file.specs.Reading.{is_on, has_child, is_empty_part, part_in, ParentsAmong}
+use Rattle.system_file.specs.Reading.{AreNodes, is_on, has_child, is_empty_part, part_in, ParentsAmong}
 use Rattle.system_file.proofs.Places.{leaf_tasks}
 use Rattle.system_file.proofs.Found.{list_any_same, any_at, none_in_order, first_in_order}
 use Rattle.system_file.proofs.Faultless.{table_inside, few_there, cores_there}
@@ -161,60 +161,56 @@ module _ (cores parts : List Data) where
           λ q within leaf. child_there no_empty q (rw (length_map (spelled_part cores parts) parts) at within) leaf;
     }
 
+-- a top table without faults has 1 to 64 cores and at most 512 parts
+arrays_few : (top : Data) → top_faults top ≡ []
+    → ((1 ≤ length (cores_of top)) × (length (cores_of top) ≤ 64)) × (length (parts_of top) ≤ 512)
+arrays_few top none =
+    let keys
+    = table_inside Top top_keys (required Top format_faults (get (codes "format") top)
+    ++ (required Top core_array_faults (get (codes "core") top)
+    ++ optional (array_faults Top 512) (get (codes "part") top))) top none in
+    let arrays = none_right (required Top format_faults (get (codes "format") top)) _ keys in (
+      (cores_there (get (codes "core") top) (none_left _ _ arrays)).1,
+      few_there Top 512 (get (codes "part") top)
+          (none_right (required Top core_array_faults (get (codes "core") top)) _ arrays),
+    )
+
 -- no fault, so what is spelled is a system
 pub faultless_is_system : (top : Data) → faults top ≡ [] → IsSystem (spelled_system top)
 faultless_is_system top h =
-    let in_top : top_faults top ≡ [] = none_left _ _ h in
+    let few = arrays_few top (none_left _ _ h) in
     let rest = none_right (top_faults top) _ h in
     let no_core : in_order core_faults [] (cores_of top) ≡ [] = none_left _ _ rest in
     let rest_2 = none_right (in_order core_faults [] (cores_of top)) _ rest in
     let no_part : in_order (part_faults (format_of top) (cores_of top)) [] (parts_of top) ≡ [] = none_left _ _ rest_2 in
-    let no_empty = none_right (in_order (part_faults (format_of top) (cores_of top)) [] (parts_of top)) _ rest_2 in
-    let keys
-    = table_inside Top top_keys (required Top format_faults (get (codes "format") top)
-    ++ (required Top core_array_faults (get (codes "core") top)
-    ++ optional (array_faults Top 512) (get (codes "part") top))) top in_top in
-    let arrays = none_right (required Top format_faults (get (codes "format") top)) _ keys in
-    is_system (cores_of top) (parts_of top) (format_of top) no_core no_part
-    (cores_there (get (codes "core") top) (none_left _ _ arrays)).1
-    (few_there Top 512 (get (codes "part") top)
-    (none_right (required Top core_array_faults (get (codes "core") top)) _ arrays))
-    no_empty
+    is_system (cores_of top) (parts_of top) (format_of top) no_core no_part few.0 few.1
+    (none_right (in_order (part_faults (format_of top) (cores_of top)) [] (parts_of top)) _ rest_2)
 
--- What comes after the faults of the top table, over the format and the elements of the two arrays
--- as a reader has them.
-module _ (top : Data) (format : Format) (cs ps : List Data) (in_top : top_faults top ≡ [])
-    (format_is : format ≡ format_of top) (cores_are : cs ≡ cores_of top) (parts_are : ps ≡ parts_of top)
-    (no_core : in_order core_faults [] cs ≡ []) where
-  core_none : in_order core_faults [] (cores_of top) ≡ []
-  core_none = ap (in_order core_faults []) (sym cores_are) ∙ no_core
+-- What is known of the cores and the parts of a document once they are read.
+module _ {top : Data} {cores : List CoreView} {parts : List PartView} (nodes : AreNodes top cores parts) where
+  pub among : ParentsAmong parts
+  among = rw nodes.parts_are (parents_among (cores_of top) (parts_of top) (format_of top) nodes.no_core nodes.no_part)
 
-  parts_same : in_order (part_faults (format_of top) (cores_of top)) [] (parts_of top)
-      ≡ in_order (part_faults format cs) [] ps
-  parts_same =
-      ap (λ es. in_order (part_faults (format_of top) es) [] (parts_of top)) (sym cores_are)
-      ∙ ap (λ es. in_order (part_faults (format_of top) cs) [] es) (sym parts_are)
-      ∙ ap (λ f. in_order (part_faults f cs) [] ps) (sym format_is)
+  pub few_parts : length parts ≤ 512
+  few_parts =
+      rw (nodes.parts_are, length_map (spelled_part (cores_of top) (parts_of top)) (parts_of top))
+      (arrays_few top nodes.no_top).1
 
-  empties_same : in_order (empty_faults (parts_of top)) [] (parts_of top) ≡ in_order (empty_faults ps) [] ps
-  empties_same = ap (λ es. in_order (empty_faults es) [] es) (sym parts_are)
+  -- the first part that is empty is the first fault, and where none is there is none
+  pub fault_in_tree : (at : ℕ) → at < length parts → is_empty_part parts at (part_in parts at) ≡ true
+      → ((q : ℕ) → q < at → is_empty_part parts q (part_in parts q) ≡ false)
+      → first_of (faults top) ≡ Some (Empty (Part at))
+  fault_in_tree at within here before =
+      first_later (top_faults top) _ _ nodes.no_top (first_later _ _ _ nodes.no_core (first_later _ _ _ nodes.no_part
+      (first_is_empty (cores_of top) (parts_of top) (format_of top) nodes.no_core nodes.no_part at
+      (rw nodes.parts_are at within) (rw nodes.parts_are at here) (rw nodes.parts_are at before))))
 
-  pub fault_in_parts : (x : SystemFault) → first_of (in_order (part_faults format cs) [] ps) ≡ Some x
-      → first_of (faults top) ≡ Some x
-  fault_in_parts x wrong =
-      first_later (top_faults top) _ x in_top
-      (first_later _ _ x core_none (first_here _ _ x (ap first_of parts_same ∙ wrong)))
+  pub no_fault : ((q : ℕ) → q < length parts → is_empty_part parts q (part_in parts q) ≡ false) → faults top ≡ []
+  no_fault none =
+      none_both (top_faults top) _ nodes.no_top (none_both _ _ nodes.no_core (none_both _ _ nodes.no_part
+      (none_empty (cores_of top) (parts_of top) (format_of top) nodes.no_core nodes.no_part
+      (rw nodes.parts_are at none))))
 
-  pub fault_in_tree : (x : SystemFault) → in_order (part_faults format cs) [] ps ≡ []
-      → first_of (in_order (empty_faults ps) [] ps) ≡ Some x → first_of (faults top) ≡ Some x
-  fault_in_tree x none wrong =
-      first_later (top_faults top) _ x in_top
-      (first_later _ _ x core_none (first_later _ _ x (parts_same ∙ none) (ap first_of empties_same ∙ wrong)))
-
-  pub no_fault : in_order (part_faults format cs) [] ps ≡ [] → in_order (empty_faults ps) [] ps ≡ [] → faults top ≡ []
-  no_fault none no_empty =
-      none_both (top_faults top) _ in_top
-      (none_both _ _ core_none (none_both _ _ (parts_same ∙ none) (empties_same ∙ no_empty)))
-
-  pub spelled_from : spelled_system top ≡ sys cs ps
-  spelled_from = ap (λ es. sys es (parts_of top)) (sym cores_are) ∙ ap (λ es. sys cs es) (sym parts_are)
+  pub is_whole : ((q : ℕ) → q < length parts → is_empty_part parts q (part_in parts q) ≡ false)
+      → IsSystem (spelled_system top)
+  is_whole none = faultless_is_system top (no_fault none)

@@ -1,12 +1,14 @@
 -- Words for the steps of a reader.
-use Rattle.std.specs.Prelude.{◌≡◌, ℕ, ◌<◌, ◌==◌, Bool, false, not, ◌&&◌, List, ◌++◌, map, length, slice_index_or, codes, Some}
+use Rattle.std.specs.Prelude.{◌≡◌, ℕ, ◌<◌, ◌==◌, Bool, false, not, ◌&&◌, List, [], ◌++◌, map, length, slice_index_or, codes, Some}
 use Rattle.std.specs.List.{list_any}
 use Rattle.toml.specs.Data.{Data, string, get}
 use Rattle.tree_model.specs.declared.place.Parent.{Parent}
 use Rattle.tree_model.specs.declared.place.Parent.TheVariants.{Core, Part}
+use Rattle.tree_model.specs.declared.pinned_core.Core.{Core as CoreView}
 use Rattle.tree_model.specs.View.{PartView}
 use Rattle.tree_model.specs.System.{is_leaf, no_part}
-use Rattle.system_file.specs.Document.{spelled_part}
+use Rattle.system_file.specs.Document.{cores_of, format_of, parts_of, spelled_core, spelled_part}
+use Rattle.system_file.specs.Faults.{core_faults, in_order, part_faults, top_faults}
 
 -- these elements have these names, one each
 abbrev pub HaveNames : List Data → List (List ℕ) → Type 0
@@ -41,3 +43,14 @@ part_in parts q = slice_index_or parts q no_part
 abbrev pub ParentsAmong : List PartView → Type 0
 ParentsAmong parts = (q r : ℕ) → q < length parts → (part_in parts q).parent ≡ Part r →
     r < length parts
+
+-- What is known once the cores and the parts of a document are read: no fault stands in its top
+-- table, in a core or in a part, and they are the cores and the parts that it spells.
+pub record AreNodes (document : Data) (cores : List CoreView) (parts : List PartView) : Type 0 where
+  pub no_top : top_faults document ≡ []
+  pub no_core : in_order core_faults [] (cores_of document) ≡ []
+  pub no_part
+      : in_order (part_faults (format_of document) (cores_of document)) [] (parts_of document) ≡ []
+  pub cores_are : cores ≡ map spelled_core (cores_of document)
+  pub parts_are
+      : parts ≡ map (spelled_part (cores_of document) (parts_of document)) (parts_of document)

@@ -7,8 +7,8 @@ ghost use Rattle.system_file.specs.Document.{spelled_core, supply_of};
 ghost use Rattle.system_file.specs.Faults.{supply_faults, core_keys, core_key_faults, core_faults, table_faults, in_order};
 ghost use Rattle.system_file.specs.Reading.{HaveNames};
 
-use crate::keys::{check_keys, find, number_at, number_of, sched_of, table_of, text_at};
-use crate::names::{Names, new_name};
+use crate::keys::{check_keys, find, number_at, number_of, sched_at, table_of};
+use crate::names::{Names, name_at};
 use crate::{Spot, SystemFault};
 use slot_model::LIMIT;
 use std::alloc::Global;
@@ -62,9 +62,8 @@ fn read_core<'t>(
         &["name", "sched", "supply_period", "supply_budget"],
         spot,
     )?;
-    let text = text_at(table, "name", spot)?;
-    let name = new_name(alloc, text, names, spot)?;
-    let sched = sched_of(text_at(table, "sched", spot)?, spot)?;
+    let name = name_at(alloc, table, names, spot)?;
+    let sched = sched_at(table, spot)?;
     let supply = supply_at(table, spot)?;
     Ok(Core {
         name,

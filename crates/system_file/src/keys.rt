@@ -1,4 +1,4 @@
-ghost use Rattle.std.specs.Prelude.{◌≡◌, ℕ, ◌≤◌, pos, true, false, List, [], length, map, codes, bytes_eq, string_bytes, Option, Some, None, option_map, IfOk, IfErr, IsOkAnd};
+ghost use Rattle.std.specs.Prelude.{◌≡◌, ℕ, ◌≤◌, pos, true, false, List, [], length, map, codes, bytes_eq, string_bytes, Option, Some, None, option_map, unwrap_or, IfOk, IfErr, IsOkAnd};
 ghost use Rattle.toml.specs.Data.{string, integer, array, table, get_member, as_table, as_array};
 ghost use Rattle.toml_items.specs.Item.{item_view, list_view, entries_view};
 ghost use Rattle.tree_model.specs.System.{IsGivenBudget};
@@ -6,7 +6,7 @@ ghost use Rattle.tree_model.specs.Lists.{first_of};
 ghost use Rattle.std.specs.List.{list_any, list_all};
 ghost use Rattle.system_file.specs.declared.fault.Spot.{Spot};
 ghost use Rattle.system_file.specs.declared.fault.SystemFault.{SystemFault};
-ghost use Rattle.system_file.specs.Document.{format_at as format_in, number_of as number_in, given_number, flag_of, sched_named, array_of as elements};
+ghost use Rattle.system_file.specs.Document.{format_at as format_in, number_of as number_in, given_number, flag_of, sched_named, text_of, array_of as elements};
 ghost use Rattle.system_file.specs.Faults.{required, optional, text_faults, sched_faults, range_faults, below_faults, format_faults, flag_faults, array_faults, core_array_faults, has_only};
 
 use crate::format::Format;
@@ -72,7 +72,7 @@ pub fn text_at<'t>(table: &[Entry<'t>], key: &str, spot: Spot) -> Result<&'t str
 }
 
 /// The scheduler that a text names.
-pub fn sched_of(text: &str, spot: Spot) -> Result<Sched, SystemFault>
+fn sched_of(text: &str, spot: Spot) -> Result<Sched, SystemFault>
     ensures ok { IfOk result (λ sched. (sched_faults spot text.now ≡ [])
         × (sched_named text.now ≡ Some sched)) }
     ensures fault { IfErr result (λ fault. first_of (sched_faults spot text.now) ≡ Some fault) }
@@ -88,6 +88,20 @@ pub fn sched_of(text: &str, spot: Spot) -> Result<Sched, SystemFault>
     } else {
         Err(SystemFault::OutOfRange(spot))
     }
+}
+
+/// The scheduler that is named at a table's key.
+pub fn sched_at(table: &[Entry<'_>], spot: Spot) -> Result<Sched, SystemFault>
+    ensures ok { IfOk result (λ sched.
+        let at = get_member (codes "sched") (entries_view table.now) in
+        (required spot (text_faults spot (sched_faults spot)) at ≡ [])
+        × (sched ≡ unwrap_or (sched_named (text_of at)) Sched.Edf)) }
+    ensures fault { IfErr result (λ fault.
+        let at = get_member (codes "sched") (entries_view table.now) in
+        first_of (required spot (text_faults spot (sched_faults spot)) at) ≡ Some fault) }
+{
+    let text = text_at(table, "sched", spot)?;
+    sched_of(text, spot)
 }
 
 /// The whole number from 1 to the highest that a value has to be.

@@ -1,13 +1,20 @@
 ghost use Rattle.std.specs.Prelude.{◌≡◌, ◌≢◌, ℕ, ◌<◌, ◌+◌, List, [], ◌∷◌, ◌++◌, false, not, if◌then◌else◌, length, IfOk, IfErr, OnOk, IfSome, position, bytes_eq};
+ghost use Rattle.std.specs.Prelude.{codes};
 ghost use Rattle.std.specs.List.{list_any};
+ghost use Rattle.toml.specs.Data.{Data, table as toml_table, get};
+ghost use Rattle.toml_items.specs.Item.{entries_view};
 ghost use Rattle.tree_model.specs.Lists.{first_of};
 ghost use Rattle.system_file.specs.declared.fault.SystemFault.TheVariants.{NoMemory};
-ghost use Rattle.system_file.specs.Faults.{name_faults};
+ghost use Rattle.system_file.specs.Document.{text_of};
+ghost use Rattle.system_file.specs.Faults.{name_faults, new_name_faults, required, text_faults};
+ghost use Rattle.system_file.specs.Reading.{HaveNames};
 
+use crate::keys::text_at;
 use crate::{Spot, SystemFault};
 use indexmap::IndexSet;
 use std::alloc::{AllocError, Global};
 use std::marker::Model;
+use toml_items::Entry;
 use tree_model::Name;
 
 /// Different names in the order in which they came, each found in one step.
@@ -74,7 +81,7 @@ impl<'t> Names<'t> {
 }
 
 /// The name that a text spells, put behind the names where it is none of them.
-pub fn new_name<'t>(
+fn new_name<'t>(
     alloc: Global,
     text: &'t str,
     names: &mut Names<'t>,
@@ -98,4 +105,28 @@ pub fn new_name<'t>(
         }
         None => Err(SystemFault::BadName(spot)),
     }
+}
+
+/// The name of an element, put behind the names of the elements before it, where it is none of
+/// them.
+pub fn name_at<'t>(
+    alloc: Global,
+    table: &[Entry<'t>],
+    names: &mut Names<'t>,
+    spot: Spot,
+) -> Result<Name, SystemFault>
+    ensures ok { IfOk result (λ name. (earlier : List Data) → HaveNames earlier names.old →
+        let d = toml_table (entries_view table.now) in
+        (required spot (text_faults spot (new_name_faults spot earlier)) (get (codes "name") d)
+        ≡ [])
+        × (name ≡ text_of (get (codes "name") d)) × HaveNames (earlier ++ d ∷ []) names.new) }
+    ensures put { IfOk result (λ name. names.new ≡ names.old ++ name ∷ []) }
+    ensures fault { IfErr result (λ fault. fault ≢ NoMemory →
+        (earlier : List Data) → HaveNames earlier names.old →
+        let at = get (codes "name") (toml_table (entries_view table.now)) in
+        first_of (required spot (text_faults spot (new_name_faults spot earlier)) at)
+        ≡ Some fault) }
+{
+    let text = text_at(table, "name", spot)?;
+    new_name(alloc, text, names, spot)
 }

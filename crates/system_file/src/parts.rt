@@ -1,22 +1,24 @@
-ghost use Rattle.std.specs.Prelude.{◌≡◌, ◌≢◌, ℕ, ◌≤◌, ◌<◌, ◌+◌, List, [], ◌∷◌, ◌++◌, true, false, length, map, slice_index_or, Some, IfOk, IfErr, OnOk, MatchOption};
-ghost use Rattle.toml.specs.Data.{Data};
-ghost use Rattle.toml_items.specs.Item.{item_view};
+ghost use Rattle.std.specs.Prelude.{◌≡◌, ◌≢◌, ℕ, ◌≤◌, ◌<◌, ◌+◌, List, [], ◌∷◌, ◌++◌, true, false, length, map, slice_index_or, codes, Some, IfOk, IfErr, OnOk, MatchOption};
+ghost use Rattle.slot_model.specs.declared.task.TheConstants.{LIMIT};
+ghost use Rattle.toml.specs.Data.{Data, table as toml_table, get};
+ghost use Rattle.toml_items.specs.Item.{item_view, entries_view};
+ghost use Rattle.tree_model.specs.System.{IsGivenBudget};
 ghost use Rattle.tree_model.specs.Lists.{first_of};
 ghost use Rattle.system_file.specs.declared.fault.SystemFault.TheVariants.{NoMemory};
-ghost use Rattle.system_file.specs.Document.{parent_named, spelled_part};
-ghost use Rattle.system_file.specs.Faults.{parent_faults, part_faults, in_order};
+ghost use Rattle.system_file.specs.Document.{flag_of, given_number, number_of, parent_at as parent_in, parent_named, spelled_part, tasks_of};
+ghost use Rattle.system_file.specs.Faults.{in_order, parent_faults, part_faults, required, server_faults, text_faults};
 ghost use Rattle.system_file.specs.Reading.{HaveNames, Known, has_child, is_empty_part, part_in, ParentsAmong};
 
 use crate::format::Format;
 use crate::keys::{
-    check_keys, elements_at, flag_at, given_number_at, number_at, sched_of, table_of, text_at,
+    check_keys, elements_at, flag_at, given_number_at, number_at, sched_at, table_of, text_at,
 };
-use crate::names::{Names, new_name};
+use crate::names::{Names, name_at};
 use crate::tasks::read_tasks;
 use crate::{Spot, SystemFault};
 use slot_model::LIMIT;
 use std::alloc::{AllocError, Global};
-use toml_items::Item;
+use toml_items::{Entry, Item};
 use tree_model::{Parent, Part};
 
 /// The core or the earlier part without tasks that a text names. Behind their names stands the
@@ -56,6 +58,67 @@ fn parent_of(
     }
 }
 
+/// The core or the earlier part that a part names as its parent.
+fn parent_at(
+    table: &[Entry<'_>],
+    names: &Names,
+    cores: usize,
+    earlier: &[Part],
+    spot: Spot,
+) -> Result<Parent, SystemFault>
+    requires few_cores { cores ≤ 64 }
+    requires few_parts { length earlier.now < 512 }
+    requires names { length names.now ≡ cores + (length earlier.now + 1) }
+    ensures ok { IfOk result (λ parent. (core_elements before later : List Data) →
+        (known : List (List ℕ)) (own : List ℕ) → names.now ≡ known ++ own ∷ [] →
+        Known core_elements before later cores known earlier.now →
+        let d = toml_table (entries_view table.now) in let at = get (codes "parent") d in
+        (required spot (text_faults spot (parent_faults spot core_elements before)) at ≡ [])
+        × (parent ≡ parent_in core_elements (before ++ later) d)) }
+    ensures fault { IfErr result (λ fault. (core_elements before later : List Data) →
+        (known : List (List ℕ)) (own : List ℕ) → names.now ≡ known ++ own ∷ [] →
+        Known core_elements before later cores known earlier.now →
+        let at = get (codes "parent") (toml_table (entries_view table.now)) in
+        first_of (required spot (text_faults spot (parent_faults spot core_elements before)) at)
+        ≡ Some fault) }
+{
+    let text = text_at(table, "parent", spot)?;
+    parent_of(text, names, cores, earlier, spot)
+}
+
+/// How a part is served, and the values of its tasks.
+#[derive(Clone, Copy)]
+struct Served<'e, 't> {
+    period: u64,
+    budget: Option<u64>,
+    extra: bool,
+    tasks: &'e [Item<'t>],
+}
+
+/// What the keys of a part say of its server, and its tasks.
+fn served_at<'e, 't>(table: &'e [Entry<'t>], spot: Spot) -> Result<Served<'e, 't>, SystemFault>
+    ensures ok { IfOk result (λ served. let d = toml_table (entries_view table.now) in
+        (server_faults spot d ≡ []) × (served.period ≡ number_of (get (codes "period") d))
+        × (served.budget ≡ given_number (get (codes "budget") d))
+        × (served.extra ≡ flag_of (get (codes "extra") d))
+        × (map item_view served.tasks.now ≡ tasks_of d)) }
+    ensures range { IfOk result (λ served. (1 ≤ served.period) × (served.period ≤ LIMIT)
+        × IsGivenBudget served.period served.budget × (length served.tasks.now ≤ 256)) }
+    ensures fault { IfErr result (λ fault.
+        first_of (server_faults spot (toml_table (entries_view table.now))) ≡ Some fault) }
+{
+    let period = number_at(table, "period", LIMIT, spot)?;
+    let budget = given_number_at(table, "budget", period, spot)?;
+    let extra = flag_at(table, "extra", spot)?;
+    let tasks = elements_at(table, "task", 256, spot)?;
+    Ok(Served {
+        period,
+        budget,
+        extra,
+        tasks,
+    })
+}
+
 /// A part, whose name is put behind the names of the cores and the parts before it. `tasks` is a
 /// set for the names of its tasks.
 fn read_part<'t>(
@@ -93,24 +156,18 @@ fn read_part<'t>(
         ],
         spot,
     )?;
-    let text = text_at(table, "name", spot)?;
-    let name = new_name(alloc, text, names, spot)?;
-    let parent_name = text_at(table, "parent", spot)?;
-    let parent = parent_of(parent_name, names, cores, earlier, spot)?;
-    let sched_name = text_at(table, "sched", spot)?;
-    let sched = sched_of(sched_name, spot)?;
-    let period = number_at(table, "period", LIMIT, spot)?;
-    let budget = given_number_at(table, "budget", period, spot)?;
-    let extra = flag_at(table, "extra", spot)?;
-    let elements = elements_at(table, "task", 256, spot)?;
-    let tasks = read_tasks(alloc, elements, format, place, tasks)?;
+    let name = name_at(alloc, table, names, spot)?;
+    let parent = parent_at(table, names, cores, earlier, spot)?;
+    let sched = sched_at(table, spot)?;
+    let served = served_at(table, spot)?;
+    let tasks = read_tasks(alloc, served.tasks, format, place, tasks)?;
     Ok(Part {
         name,
         parent,
         sched,
-        period,
-        budget,
-        extra,
+        period: served.period,
+        budget: served.budget,
+        extra: served.extra,
         tasks,
     })
 }

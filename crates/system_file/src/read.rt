@@ -1,24 +1,77 @@
-ghost use Rattle.std.specs.Prelude.{◌≡◌, ◌≢◌, [], Ok, Err, IfOk, IfErr};
+ghost use Rattle.std.specs.Prelude.{◌≡◌, ◌≢◌, ◌≤◌, [], length, map, Some, Ok, Err, IfOk, IfErr};
 ghost use Rattle.toml.specs.Data.{table as toml_table};
 ghost use Rattle.toml.specs.Parse.{parse_document};
-ghost use Rattle.toml_items.specs.Item.{entries_view};
+ghost use Rattle.toml_items.specs.Item.{entries_view, item_view};
 ghost use Rattle.tree_model.specs.View.{SystemView};
 ghost use Rattle.tree_model.specs.Lists.{first_of};
 ghost use Rattle.system_file.specs.declared.fault.SystemFault.TheVariants.{NoMemory};
-ghost use Rattle.system_file.specs.Document.{spelled_system};
-ghost use Rattle.system_file.specs.Faults.{faults};
+ghost use Rattle.system_file.specs.Document.{cores_of, format_of, parts_of, spelled_system};
+ghost use Rattle.system_file.specs.Faults.{faults, top_faults};
+ghost use Rattle.system_file.specs.Reading.{AreNodes};
 ghost use Rattle.system_file.specs.SystemFile.{system_of, system_of_document};
 ghost use Rattle.system_file.specs.Written.{Spells};
 
 use crate::cores::read_cores;
+use crate::format::Format;
 use crate::keys::{check_keys, cores_at, elements_at, format_at};
 use crate::names::Names;
 use crate::parts::{first_empty, read_parts};
 use crate::{Spot, SystemFault};
 use std::alloc::Global;
 use std::str;
-use toml_items::{Document, DocumentFault, Entry, read_document, table_entries};
-use tree_model::System;
+use toml_items::{Document, DocumentFault, Entry, Item, read_document, table_entries};
+use tree_model::{Core, Part, System};
+
+/// The format of a document, and the values of its cores and parts.
+#[derive(Clone, Copy)]
+struct Top<'e, 't> {
+    format: Format,
+    cores: &'e [Item<'t>],
+    parts: &'e [Item<'t>],
+}
+
+/// The top table of a document.
+fn top_of<'e, 't>(table: &'e [Entry<'t>]) -> Result<Top<'e, 't>, SystemFault>
+    ensures ok { IfOk result (λ top. let document = toml_table (entries_view table.now) in
+        (top_faults document ≡ []) × (top.format ≡ format_of document)
+        × (map item_view top.cores.now ≡ cores_of document)
+        × (map item_view top.parts.now ≡ parts_of document)) }
+    ensures few { IfOk result (λ top.
+        (length top.cores.now ≤ 64) × (length top.parts.now ≤ 512)) }
+    ensures fault { IfErr result (λ fault.
+        first_of (top_faults (toml_table (entries_view table.now))) ≡ Some fault) }
+{
+    check_keys(table, &["format", "core", "part"], Spot::Top)?;
+    let format = format_at(table)?;
+    let cores = cores_at(table)?;
+    let parts = elements_at(table, "part", 512, Spot::Top)?;
+    Ok(Top {
+        format,
+        cores,
+        parts,
+    })
+}
+
+/// The cores and the parts of a document.
+#[derive(Drop)]
+struct Nodes {
+    cores: Vec<Core>,
+    parts: Vec<Part>,
+}
+
+/// The cores and the parts of a document's entries, of which a part may still be empty.
+fn nodes_of(alloc: Global, table: &[Entry<'_>]) -> Result<Nodes, SystemFault>
+    ensures ok { IfOk result (λ nodes.
+        AreNodes (toml_table (entries_view table.now)) nodes.cores.items nodes.parts.items) }
+    ensures fault { IfErr result (λ fault. fault ≢ NoMemory →
+        first_of (faults (toml_table (entries_view table.now))) ≡ Some fault) }
+{
+    let top = top_of(table)?;
+    let mut names = Names::new(alloc);
+    let cores = read_cores(alloc, top.cores, &mut names)?;
+    let parts = read_parts(alloc, top.parts, top.format, top.cores.len(), &mut names)?;
+    Ok(Nodes { cores, parts })
+}
 
 /// The system of a document's entries, or its first fault.
 fn system_in(alloc: Global, table: &[Entry<'_>]) -> Result<System, SystemFault>
@@ -27,16 +80,13 @@ fn system_in(alloc: Global, table: &[Entry<'_>]) -> Result<System, SystemFault>
     ensures fault { IfErr result (λ fault. fault ≢ NoMemory →
         first_of (faults (toml_table (entries_view table.now))) ≡ Some fault) }
 {
-    check_keys(table, &["format", "core", "part"], Spot::Top)?;
-    let format = format_at(table)?;
-    let core_values = cores_at(table)?;
-    let part_values = elements_at(table, "part", 512, Spot::Top)?;
-    let mut names = Names::new(alloc);
-    let cores = read_cores(alloc, core_values, &mut names)?;
-    let parts = read_parts(alloc, part_values, format, core_values.len(), &mut names)?;
-    match first_empty(alloc, &parts)? {
+    let nodes = nodes_of(alloc, table)?;
+    match first_empty(alloc, &nodes.parts)? {
         Some(place) => Err(SystemFault::Empty(Spot::Part(place as u32))),
-        None => Ok(System { cores, parts }),
+        None => Ok(System {
+            cores: nodes.cores,
+            parts: nodes.parts,
+        }),
     }
 }
 

@@ -9,8 +9,8 @@ ghost use Rattle.system_file.specs.Faults.{task_number_faults, task_keys as keys
 ghost use Rattle.system_file.specs.Reading.{HaveNames};
 
 use crate::format::{Format, task_keys};
-use crate::keys::{below_at, check_keys, given_number_at, number_at, table_of, text_at};
-use crate::names::{Names, new_name};
+use crate::keys::{below_at, check_keys, given_number_at, number_at, table_of};
+use crate::names::{Names, name_at};
 use crate::{Spot, SystemFault};
 use slot_model::{LIMIT, Task};
 use std::alloc::Global;
@@ -54,8 +54,7 @@ fn read_task<'t>(
 {
     let table = table_of(value, spot)?;
     check_keys(table, task_keys(format), spot)?;
-    let text = text_at(table, "name", spot)?;
-    let name = new_name(alloc, text, names, spot)?;
+    let name = name_at(alloc, table, names, spot)?;
     let task = numbers_at(table, spot)?;
     Ok(Named { name, task })
 }

@@ -1,25 +1,21 @@
-use Rattle.std.proofs.Common.{ℕ, arith}
+use Rattle.std.proofs.Common.{arith}
 use Rattle.csv_rows.proofs.Numbers.{few_digits}
 use Rattle.csv_rows.proofs.decimal.short_number.Goals as goal
 
 pub overflow_mul-n : goal.overflow_mul-n
 overflow_mul-n c =
-    let i : ℕ = c.loop-digit.digit-index in
     omega (
       arith,
-      few_digits i
-          (omega (arith, c.loop-digit-test.true, (c.begins_short.ensures c.if-not-begins_short.false).0)),
-      c.loop-digit.invariant.few,
+      few_digits c.loop-digit.n c.loop-digit.digit-index _ c.loop-digit-test.true
+          (c.begins_short.ensures c.if-not-begins_short.false).0 c.loop-digit.invariant.few,
     )
 
 pub overflow_add-n : goal.overflow_add-n
 overflow_add-n c =
-    let i : ℕ = c.loop-digit.digit-index in
     omega (
       arith,
-      few_digits i
-          (omega (arith, c.loop-digit-test.true, (c.begins_short.ensures c.if-not-begins_short.false).0)),
-      c.loop-digit.invariant.few,
+      few_digits c.loop-digit.n c.loop-digit.digit-index _ c.loop-digit-test.true
+          (c.begins_short.ensures c.if-not-begins_short.false).0 c.loop-digit.invariant.few,
       c.from.ensures,
-      c.type_inv.field i,
+      c.type_inv.field c.loop-digit.digit-index,
     )

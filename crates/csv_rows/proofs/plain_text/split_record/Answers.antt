@@ -17,7 +17,7 @@ loop-i-preserved-then-byte-gt44 c =
 pub returns-then-has_begun-clause-first : goal.returns-then-has_begun-clause-first
 returns-then-has_begun-clause-first c plain =
     let l = c.loop-i in
-    after_line c.args.text.now (texts_of l.fields.items) (texts_of c.push-then-has_begun.new.self.items) l.from l.i
+    after_line c.args.text.now (texts_of l.fields.items) l.from l.i (texts_of c.push-then-has_begun.new.self.items)
     l.invariant.order c.loop-i-test.true c.if-byte-eq10.true
     (λ here none. c.has_begun.ensures.begun c.if-has_begun.true here
     (c.len.ensures ∙ (l.fields.ok.0 ∙ (sym (as_many l.fields.items) ∙ none))))
@@ -32,8 +32,8 @@ loop-i-preserved c =
           rw (w.fields-is, w.from-is) (record {
             order = omega arith;
             reads =
-                λ plain. after_comma c.args.text.now (texts_of l.fields.items) (texts_of w.push.new.self.items) l.from
-                l.i c.loop-i-test.true w.if-byte-eq44.true
+                λ plain. after_comma c.args.text.now (texts_of l.fields.items) l.from l.i
+                (texts_of w.push.new.self.items) c.loop-i-test.true w.if-byte-eq44.true
                 (pushed l.fields.items w.push.new.self.items _ w.in_ok-push.ensures.items) (l.invariant.reads plain);
           })
       | else-byte-eq44+then-byte-eq10+else-has_begun w ↦
@@ -64,7 +64,7 @@ returns-then-not-has_begun-clause-first c plain =
 pub returns-clause-first : goal.returns-clause-first
 returns-clause-first c plain =
     let l = c.loop-i in
-    ends_record c.args.text.now (texts_of l.fields.items) (texts_of c.push-2.new.self.items) l.from l.i
+    ends_record c.args.text.now (texts_of l.fields.items) l.from l.i (texts_of c.push-2.new.self.items)
     l.invariant.order (omega arith)
     (λ here none. c.has_begun-2.ensures.begun c.if-not-has_begun.false here
     (c.len-2.ensures ∙ (l.fields.ok.0 ∙ (sym (as_many l.fields.items) ∙ none))))

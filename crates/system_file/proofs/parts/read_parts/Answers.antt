@@ -1,37 +1,25 @@
-use Rattle.std.proofs.Common.{◌+◌, [], ◌∷◌, ◌++◌, List, map, length-append, sym, ap, subst, ◌∙◌, refl, arith}
-use Rattle.std.proofs.lemmas.Result.{err_from_is_err_and}
-use Rattle.toml.specs.Data.{Data}
+use Rattle.std.proofs.Common.{◌+◌, [], ◌∷◌, ◌++◌, map, length-append, sym, ap, ◌∙◌, refl, arith}
 use Rattle.toml_items.specs.Item.{item_view}
-use Rattle.tree_model.specs.View.{PartView}
 use Rattle.system_file.specs.Document.{spelled_part}
 use Rattle.system_file.specs.Faults.{part_faults}
-use Rattle.system_file.specs.Reading.{Known}
-use Rattle.system_file.proofs.Along.{before, from, before_more, from_more, all_values, faulty, faultless, spelled_more}
+use Rattle.system_file.proofs.HandedOn.{handed_on}
+use Rattle.system_file.proofs.Along.{before, from, before_more, known_at, all_values, faulty, faultless, spelled_more}
 use Rattle.system_file.proofs.parts.read_parts.Goals as goal
 
 pub returns-in_err-part-clause-fault : goal.returns-in_err-part-clause-fault
 returns-in_err-part-clause-fault c =
-    let p = err_from_is_err_and c.from_residual-in_err-part.result c.from_residual-in_err-part.ensures.1 in
-    rw (p.1, p.2) (λ memory cores counted have.
+    let step = c.from_residual-in_err-part in
+    handed_on step.result _ _ step.ensures.1 (λ memory cores counted have.
     let so_far = c.loop-value.invariant.2 cores counted have in
-    let known
-    = subst (λ (rest : List Data). Known cores (before c.args.values.now c.loop-value.value-index) rest c.args.cores
-    c.loop-value.names c.loop-value.parts.items)
-    (from_more c.args.values.now c.loop-value.value-index c.value-item.result (omega arith) c.value-item.is) so_far.0 in
-    let seen
-    = subst (λ (parts : List PartView). Known cores (before c.args.values.now c.loop-value.value-index)
-    (item_view c.value-item.result ∷ from c.args.values.now (c.loop-value.value-index + 1)) c.args.cores
-    c.loop-value.names parts)
-    (sym c.deref.ensures.value) known in
     faulty (part_faults c.args.format cores) c.args.values.now c.loop-value.value-index c.value-item.result _
-    (omega arith) c.value-item.is so_far.1
-    (c.in_err-part.ensures.fault memory cores (before c.args.values.now c.loop-value.value-index)
-    (from c.args.values.now (c.loop-value.value-index + 1)) seen))
+    (omega arith) c.value-item.is so_far.1 (c.in_err-part.ensures.fault memory cores _ _
+    (known_at c.args.values.now c.loop-value.value-index c.value-item.result (omega arith) c.value-item.is
+    c.deref.ensures.value so_far.0)))
 
 pub returns-in_err-push-clause-fault : goal.returns-in_err-push-clause-fault
 returns-in_err-push-clause-fault c =
-    let p = err_from_is_err_and c.from_residual-in_err-push.result c.from_residual-in_err-push.ensures.1 in
-    rw (p.1, p.2) (λ memory cores counted have. absurd (memory refl))
+    let step = c.from_residual-in_err-push in
+    handed_on step.result _ _ step.ensures.1 (λ memory cores counted have. absurd (memory refl))
 
 pub loop-value-preserved : goal.loop-value-preserved
 loop-value-preserved c = (
@@ -40,18 +28,9 @@ loop-value-preserved c = (
   λ cores counted have.
       let so_far = c.loop-value.invariant.2 cores counted have in
       let known
-      = subst (λ (rest : List Data). Known cores (before c.args.values.now c.loop-value.value-index) rest
-      c.args.cores c.loop-value.names c.loop-value.parts.items)
-      (from_more c.args.values.now c.loop-value.value-index c.value-item.result (omega arith) c.value-item.is) so_far.0
-      in
-      let seen
-      = subst (λ (parts : List PartView). Known cores (before c.args.values.now c.loop-value.value-index)
-      (item_view c.value-item.result ∷ from c.args.values.now (c.loop-value.value-index + 1)) c.args.cores
-      c.loop-value.names parts)
-      (sym c.deref.ensures.value) known in
-      let ok
-      = c.in_ok-part.ensures.ok cores (before c.args.values.now c.loop-value.value-index)
-      (from c.args.values.now (c.loop-value.value-index + 1)) seen in (
+      = known_at c.args.values.now c.loop-value.value-index c.value-item.result (omega arith) c.value-item.is
+      c.deref.ensures.value so_far.0 in
+      let ok = c.in_ok-part.ensures.ok cores _ _ known in (
         record {
           counted = counted;
           named =
@@ -60,7 +39,7 @@ loop-value-preserved c = (
               ok.2;
           spelled =
               c.in_ok-push.ensures.items
-              ∙ ap (λ parts. parts ++ c.in_ok-part.part ∷ []) known.spelled
+              ∙ ap (λ parts. parts ++ c.in_ok-part.part ∷ []) (sym c.deref.ensures.value ∙ known.spelled)
               ∙ spelled_more (spelled_part cores (before c.args.values.now c.loop-value.value-index
               ++ item_view c.value-item.result ∷ from c.args.values.now (c.loop-value.value-index + 1)))
               c.args.values.now c.loop-value.value-index c.value-item.result c.in_ok-part.part (omega arith)

@@ -1,5 +1,5 @@
 use Rattle.std.proofs.Common.{[], ◌∷◌, ◌++◌, ap, ◌∙◌, arith}
-use Rattle.std.proofs.lemmas.Result.{err_from_is_err_and}
+use Rattle.system_file.proofs.HandedOn.{handed_on}
 use Rattle.system_file.specs.Document.{spelled_task}
 use Rattle.system_file.specs.Faults.{task_faults}
 use Rattle.system_file.proofs.Along.{before, before_more, length_before, faulty, faultless, spelled_more}
@@ -7,8 +7,8 @@ use Rattle.system_file.proofs.tasks.read_tasks.Goals as goal
 
 pub returns-in_err-task-clause-fault : goal.returns-in_err-task-clause-fault
 returns-in_err-task-clause-fault c =
-    let p = err_from_is_err_and c.from_residual-in_err-task.result c.from_residual-in_err-task.ensures.1 in
-    rw (p.1, p.2) (λ memory.
+    let step = c.from_residual-in_err-task in
+    handed_on step.result _ _ step.ensures.1 (λ memory.
     faulty (task_faults c.args.format c.args.part) c.args.values.now c.loop-place.place c.index-values-place.result _
     (omega arith) c.index-values-place.is c.loop-place.invariant.2
     (rw (length_before c.args.values.now c.loop-place.place (omega arith))
