@@ -76,6 +76,16 @@ class Passing(Room):
         self.case("input", args="read\n0\n", stdout="")
         self.assertEqual(self.told(), (0, ["cases: 1 passed, 0 failed"]))
 
+    def test_each_row_of_a_table_is_counted(self):
+        rows = '{"file": "system", "front": "x ", "back": " z", "rows": [["", "x  z", 3], ["y", "x y z", 3]]}'
+        self.case("table", args="fail\nsystem\n", **{"rows.json": rows})
+        self.assertEqual(self.told(), (0, ["cases: 2 passed, 0 failed"]))
+
+    def test_the_other_files_of_a_table_lie_there_too(self):
+        rows = '{"file": "trace", "rows": [["x", "system\\ntrace\\n", 0]]}'
+        self.case("table", args="list\n", system="y", **{"rows.json": rows})
+        self.assertEqual(self.told(), (0, ["cases: 1 passed, 0 failed"]))
+
 
 class Failing(Room):
     def failing(self, *lines):
@@ -112,6 +122,28 @@ class Failing(Room):
     def test_a_status_is_a_number(self):
         self.case("bad", args="list\n", stdout="", status="yes\n")
         self.failing("its status is no number below 256: 'yes'")
+
+    def test_a_row_that_differs_is_told_by_its_number(self):
+        rows = '{"file": "system", "rows": [["x", "x", 0], ["y", "z", 0]]}'
+        self.case("table", args="print\nsystem\n", **{"rows.json": rows})
+        told = ["table, row 2:", "    standard output differs:", "    -'z'", "    +'y'", "cases: 1 passed, 1 failed"]
+        self.assertEqual(self.told(), (1, told))
+
+    def test_what_is_no_table_is_told(self):
+        for rows in ("", "[]", '{"rows": []}', '{"file": "x", "rows": []}', '{"file": "x", "rows": [["", ""]]}',
+                     '{"file": "x", "head": "", "rows": [["", "", 0]]}', '{"file": "x", "rows": [[0, "", 0]]}'):
+            self.case("bad", args="list\n", **{"rows.json": rows})
+            status, lines = self.told()
+            self.assertEqual((status, lines[0], lines[-1]), (1, "bad:", "cases: 0 passed, 1 failed"), rows)
+            self.assertIn("rows.json", lines[1])
+            for file in (self.cases / "bad").iterdir():
+                file.unlink()
+            (self.cases / "bad").rmdir()
+
+    def test_a_table_has_no_text_of_its_own(self):
+        rows = '{"file": "system", "rows": [["x", "x", 0]]}'
+        self.case("bad", args="print\nsystem\n", stdout="x", **{"rows.json": rows})
+        self.failing("it has rows.json and what is printed beside it")
 
 
 class Refused(Room):

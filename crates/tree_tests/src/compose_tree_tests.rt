@@ -1,16 +1,15 @@
-use crate::helpers::HEAD;
+use crate::helpers::{HEAD, MEMORY};
 use compose_tree::{assign, compose};
 use slot_model::Short;
-use std::alloc::Global;
+use std::alloc::{AllocError, Global};
 use std::process::Abort;
-use std::test::Fail;
 use system_file::read_system;
 use tree_model::{Place, Plan, Refusal, System};
 
-/// A full core and these parts.
-fn on_a_core(rt: &impl Abort, alloc: Global, parts: &str) -> Result<System, Fail> {
-    let text = format!(in alloc; "{HEAD}{parts}")?;
-    Ok(read_system(alloc, text.as_bytes()).expect(rt, "a system file"))
+/// A full core and what stands behind it.
+fn on_a_core(rt: &impl Abort, alloc: Global, rest: Result<String, AllocError>) -> System {
+    let rest = rest.expect(rt, MEMORY);
+    read_system(alloc, rest.as_bytes()).expect(rt, "a system file")
 }
 
 fn assert_plan(rt: &impl Abort, answer: Result<Plan, Refusal>, budgets: &[u64]) {
@@ -28,9 +27,9 @@ fn assert_overfull(rt: &impl Abort, answer: Result<Plan, Refusal>, place: Place,
 }
 
 /// Two leaves with these budgets, in slots.
-fn two_leaves(rt: &impl Abort, alloc: Global, first: u64, second: u64) -> Result<System, Fail> {
-    let parts = format!(in alloc;
-        "[[part]]
+fn two_leaves(rt: &impl Abort, alloc: Global, first: u64, second: u64) -> System {
+    let text = format!(in alloc;
+        "{HEAD}[[part]]
 name = 'A'
 parent = 'cpu0'
 sched = 'edf'
@@ -45,8 +44,8 @@ period = 20
 budget = {second}
 task = [{{name = 't', period = 100, work = 10}}]
 "
-    )?;
-    on_a_core(rt, alloc, parts.as_str())
+    );
+    on_a_core(rt, alloc, text)
 }
 
 /// Behind the supply of a core.
@@ -71,13 +70,17 @@ task = [{name = 'first', period = 400, work = 40}]
 ";
 
 /// A middle server on a core of so many slots in 20, and two leaves on it.
-fn three_levels(rt: &impl Abort, alloc: Global, supply: u64) -> Result<System, Fail> {
-    let parts = format!(in alloc; "supply_period = 20\nsupply_budget = {supply}{THREE_LEVELS}")?;
-    on_a_core(rt, alloc, parts.as_str())
+fn three_levels(rt: &impl Abort, alloc: Global, supply: u64) -> System {
+    let text = format!(in alloc;
+        "{HEAD}supply_period = 20\nsupply_budget = {supply}{THREE_LEVELS}"
+    );
+    on_a_core(rt, alloc, text)
 }
 
 /// A leaf whose tasks ask for more than every slot.
-const OVERFULL: &str = "[[part]]
+const OVERFULL: &str = "format = 1
+core = [{name = 'cpu0', sched = 'edf'}]
+[[part]]
 name = 'A'
 parent = 'cpu0'
 sched = 'edf'
@@ -86,50 +89,43 @@ task = [{name = 'first', period = 2, work = 2}, {name = 'second', period = 3, wo
 ";
 
 #[test]
-fn given_budgets_stand_where_they_pass(rt: HostRuntime) -> Result<(), Fail> {
+fn given_budgets_stand_where_they_pass(rt: HostRuntime) {
     let alloc = rt.alloc();
-    let sys = two_leaves(&rt, alloc, 5, 10)?;
+    let sys = two_leaves(&rt, alloc, 5, 10);
     assert_plan(&rt, compose(alloc, &sys), &[5, 10]);
-    let sys = two_leaves(&rt, alloc, 5, 11)?;
+    let sys = two_leaves(&rt, alloc, 5, 11);
     assert_overfull(&rt, compose(alloc, &sys), Place::Core(0), 20);
-    Ok(())
 }
 
 #[test]
-fn a_core_without_parts_has_an_empty_plan(rt: HostRuntime) -> Result<(), Fail> {
-    let alloc = rt.alloc();
-    let sys = on_a_core(&rt, alloc, "")?;
-    assert_plan(&rt, compose(alloc, &sys), &[]);
-    Ok(())
+fn a_core_without_parts_has_an_empty_plan(rt: HostRuntime) {
+    let sys = read_system(rt.alloc(), HEAD.as_bytes()).expect(&rt, "a system file");
+    assert_plan(&rt, compose(rt.alloc(), &sys), &[]);
 }
 
 #[test]
-fn least_budgets_go_up_the_tree(rt: HostRuntime) -> Result<(), Fail> {
+fn least_budgets_go_up_the_tree(rt: HostRuntime) {
     let alloc = rt.alloc();
-    let sys = three_levels(&rt, alloc, 16)?;
+    let sys = three_levels(&rt, alloc, 16);
     assert_plan(&rt, compose(alloc, &sys), &[30, 28, 40]);
-    let sys = three_levels(&rt, alloc, 14)?;
+    let sys = three_levels(&rt, alloc, 14);
     assert_overfull(&rt, compose(alloc, &sys), Place::Core(0), 50);
-    Ok(())
-}
-
-#[test]
-fn assigned_budgets_are_not_tested(rt: HostRuntime) -> Result<(), Fail> {
-    let alloc = rt.alloc();
-    let sys = two_leaves(&rt, alloc, 1, 10)?;
-    assert_plan(&rt, assign(alloc, &sys), &[1, 10]);
-    let sys = two_leaves(&rt, alloc, 5, 11)?;
-    assert_plan(&rt, assign(alloc, &sys), &[5, 11]);
-    let sys = three_levels(&rt, alloc, 14)?;
     assert_plan(&rt, assign(alloc, &sys), &[30, 28, 40]);
-    Ok(())
 }
 
 #[test]
-fn a_leaf_that_no_budget_serves_refuses(rt: HostRuntime) -> Result<(), Fail> {
+fn assigned_budgets_are_not_tested(rt: HostRuntime) {
     let alloc = rt.alloc();
-    let sys = on_a_core(&rt, alloc, OVERFULL)?;
+    let sys = two_leaves(&rt, alloc, 1, 10);
+    assert_plan(&rt, assign(alloc, &sys), &[1, 10]);
+    let sys = two_leaves(&rt, alloc, 5, 11);
+    assert_plan(&rt, assign(alloc, &sys), &[5, 11]);
+}
+
+#[test]
+fn a_leaf_that_no_budget_serves_refuses(rt: HostRuntime) {
+    let alloc = rt.alloc();
+    let sys = read_system(alloc, OVERFULL.as_bytes()).expect(&rt, "a system file");
     assert_overfull(&rt, compose(alloc, &sys), Place::Part(0), 4);
     assert_overfull(&rt, assign(alloc, &sys), Place::Part(0), 4);
-    Ok(())
 }

@@ -2,60 +2,49 @@
 
 use slot_model::{Name, Sched, Task};
 use std::alloc::Global;
-use std::test::Fail;
-use tree_model::{Core, Named, Parent, Part};
+use std::process::Abort;
+use tree_model::{Named, Parent, Part};
 
-pub fn name(alloc: Global, text: &str) -> Result<Name, Fail> {
-    Ok(Name::new(alloc, text.as_bytes())?.ok_or("no name")?)
+pub const OUT: &str = "out of range";
+
+pub const MEMORY: &str = "out of memory";
+
+pub fn name(rt: &impl Abort, alloc: Global, text: &str) -> Name {
+    let made = Name::new(alloc, text.as_bytes()).expect(rt, MEMORY);
+    made.expect(rt, OUT)
 }
 
-pub fn core(
-    alloc: Global,
-    text: &str,
-    sched: Sched,
-    supply: Option<(u64, u64)>,
-) -> Result<Core, Fail> {
-    Ok(Core {
-        name: name(alloc, text)?,
-        sched,
-        supply,
-    })
+pub fn task(rt: &impl Abort, period: u64, deadline: u64, work: u64) -> Task {
+    Task::new(period, deadline, work).expect(rt, OUT)
 }
 
 /// A part without tasks.
 pub fn inner(
+    rt: &impl Abort,
     alloc: Global,
     text: &str,
     parent: Parent,
     sched: Sched,
     period: u64,
-) -> Result<Part, Fail> {
-    Ok(Part {
-        name: name(alloc, text)?,
+) -> Part {
+    Part {
+        name: name(rt, alloc, text),
         parent,
         sched,
         period,
         budget: None,
         extra: false,
         tasks: Vec::new(alloc),
-    })
+    }
 }
 
-/// Gives a part one more task of this period, deadline and work.
-pub fn add_task(
-    alloc: Global,
-    part: &mut Part,
-    text: &str,
-    period: u64,
-    deadline: u64,
-    work: u64,
-) -> Result<(), Fail> {
-    let task = Task::new(period, deadline, work).ok_or("out of range")?;
-    part.tasks.push(Named {
-        name: name(alloc, text)?,
+/// Gives a part one more task.
+pub fn add_task(rt: &impl Abort, alloc: Global, part: &mut Part, text: &str, task: Task) {
+    let named = Named {
+        name: name(rt, alloc, text),
         task,
-    })?;
-    Ok(())
+    };
+    part.tasks.push(named).expect(rt, MEMORY);
 }
 
 /// A file of one full core under earliest deadline first begins like this.

@@ -1,8 +1,8 @@
-use crate::helpers::{add_task, inner};
+use crate::helpers::{MEMORY, add_task, inner, task};
 use placement::{PlaceFault, place};
 use slot_model::Sched;
 use std::alloc::Global;
-use std::test::Fail;
+use std::process::Abort;
 use system_file::read_system;
 use tree_model::{Parent, Part};
 
@@ -11,32 +11,32 @@ core = [{name = 'cpu0', sched = 'edf'}, {name = 'cpu1', sched = 'edf'}]
 ";
 
 /// A guest of this budget in 10 slots, with one task that it serves.
-fn guest(alloc: Global, text: &str, budget: u64) -> Result<Part, Fail> {
-    let mut part = inner(alloc, text, Parent::Core(0), Sched::Edf, 10)?;
+fn guest(rt: &impl Abort, alloc: Global, text: &str, budget: u64) -> Part {
+    let mut part = inner(rt, alloc, text, Parent::Core(0), Sched::Edf, 10);
     part.budget = Some(budget);
-    add_task(alloc, &mut part, "t", 1000, 1000, 1)?;
-    Ok(part)
+    add_task(rt, alloc, &mut part, "t", task(rt, 1000, 1000, 1));
+    part
+}
+
+/// Guests of 6, 5 and 4 slots in 10.
+fn three_guests(rt: &impl Abort, alloc: Global) -> Vec<Part> {
+    let guests = [
+        guest(rt, alloc, "a", 6),
+        guest(rt, alloc, "b", 5),
+        guest(rt, alloc, "c", 4),
+    ];
+    Vec::from_array(alloc, guests).expect(rt, MEMORY)
 }
 
 #[test]
-fn guests_go_to_the_first_core_on_which_they_fit(rt: HostRuntime) -> Result<(), Fail> {
+fn guests_go_to_the_first_core_on_which_they_fit(rt: HostRuntime) {
     let alloc = rt.alloc();
     let sys = read_system(alloc, CORES.as_bytes()).expect(&rt, "a system file");
-    let mut guests = Vec::new(alloc);
-    guests.push(guest(alloc, "a", 6)?)?;
-    guests.push(guest(alloc, "b", 5)?)?;
-    guests.push(guest(alloc, "c", 4)?)?;
-    match place(alloc, &sys, &guests) {
-        Ok(placed) => {
-            assert_eq!(&rt; placed.parts()[1].parent(), Parent::Core(1));
-            assert_eq!(&rt; placed.parts()[2].parent(), Parent::Core(0));
-        }
-        Err(_) => panic!(&rt; "not placed"),
-    }
-    guests.push(guest(alloc, "d", 6)?)?;
-    assert_eq!(&rt;
-        place(alloc, &sys, &guests).err(),
-        Some(PlaceFault::Unplaced(3))
-    );
-    Ok(())
+    let mut guests = three_guests(&rt, alloc);
+    let placed = place(alloc, &sys, &guests).ok().expect(&rt, "placed");
+    assert!(rt; placed.parts().len() == 3);
+    assert!(rt; placed.parts()[1].parent() == Parent::Core(1));
+    assert!(rt; placed.parts()[2].parent() == Parent::Core(0));
+    guests.push(guest(&rt, alloc, "d", 6)).expect(&rt, MEMORY);
+    assert!(rt; place(alloc, &sys, &guests).err() == Some(PlaceFault::Unplaced(3)));
 }

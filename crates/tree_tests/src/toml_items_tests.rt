@@ -1,5 +1,6 @@
 use std::alloc::Global;
-use std::test::Fail;
+use std::process::Abort;
+use toml::Table;
 use toml_items::{Document, DocumentFault, Entry, Item, read_document, table_entries};
 
 const PLAIN: &str = "# a host
@@ -73,7 +74,7 @@ fn plain_entries(alloc: Global, text: &str) -> Option<Vec<Entry<'_>>> {
 }
 
 #[test]
-fn a_plain_text_gives_its_items_without_a_table(rt: HostRuntime) -> Result<(), Fail> {
+fn a_plain_text_gives_its_items_without_a_table(rt: HostRuntime) {
     let top = plain_entries(rt.alloc(), PLAIN).expect(&rt, "a plain text");
     assert!(rt; top.len() == 3 && number_at(&top, "format") == Some(1));
     assert!(rt; count_at(&top, "core") == 1 && count_at(&top, "part") == 2);
@@ -86,99 +87,95 @@ fn a_plain_text_gives_its_items_without_a_table(rt: HostRuntime) -> Result<(), F
     assert!(rt; number_at(task, "period") == Some(-5));
     let second = table_at(&top, "part", 1).expect(&rt, "another part");
     assert!(rt; second.len() == 1 && is_text_at(second, "name", "c"));
-    Ok(())
 }
 
+const PLAIN_TEXTS: [(&str, usize); 7] = [
+    ("", 0),
+    ("\n# nothing\n", 0),
+    ("a=1", 1),
+    ("a = 0x1F\r\nb = false\r\n", 2),
+    ("b = 1\na = 2\na-b_9 = 1_000\n", 3),
+    ("[[a]]\n[[a]]\n[[b]]\n", 2),
+    ("[[a]]\n[[a.b]]\n[[a.c]]\nd = 1\n[[a]]\n[[e]]\n", 2),
+];
+
 #[test]
-fn these_texts_are_plain(rt: HostRuntime) -> Result<(), Fail> {
-    for (text, count) in &[
-        ("", 0),
-        ("\n# nothing\n", 0),
-        ("a=1", 1),
-        ("a = 0x1F\r\nb = false\r\n", 2),
-        ("b = 1\na = 2\na-b_9 = 1_000\n", 3),
-        ("[[a]]\n[[a]]\n[[b]]\n", 2),
-        ("[[a]]\n[[a.b]]\n[[a.c]]\nd = 1\n[[a]]\n[[e]]\n", 2),
-    ] {
+fn these_texts_are_plain(rt: HostRuntime) {
+    for (text, count) in &PLAIN_TEXTS {
         let entries = plain_entries(rt.alloc(), text).expect(&rt, "a plain text");
         assert!(rt; entries.len() == *count, "{text}");
     }
-    Ok(())
 }
 
+/// Texts that are no document.
+const REFUSED_TEXTS: [&str; 6] = [
+    "a = 1\na = 2",
+    "a",
+    "[[a]",
+    "a = 1\n[[a]]",
+    "a = \"b",
+    "a = 1 b = 2",
+];
+
+const OTHER_TEXTS: [&str; 14] = [
+    "\u{feff}a = 1",
+    "a = 'b'",
+    "a = \"\"",
+    "a = \"b\\n\"",
+    "a = 1.5",
+    "a = 2001-01-01",
+    "a = [1]",
+    "a.b = 1",
+    "\"a\" = 1",
+    "[a]",
+    "[[a]]\n[[b]]\n[[a]]",
+    "[[a.b]]",
+    "[[a]]\n[[a.b]]\n[[a.b.c]]",
+    "= 1",
+];
+
+/// They are the kit's to read, or no document at all.
 #[test]
-fn these_texts_are_not(rt: HostRuntime) -> Result<(), Fail> {
-    for text in &[
-        "\u{feff}a = 1",
-        "a = 'b'",
-        "a = \"\"",
-        "a = \"b\\n\"",
-        "a = 1.5",
-        "a = 2001-01-01",
-        "a = [1]",
-        "a.b = 1",
-        "\"a\" = 1",
-        "[a]",
-        "[[a]]\n[[b]]\n[[a]]",
-        "[[a.b]]",
-        "[[a]]\n[[a.b]]\n[[a.b.c]]",
-        "a = 1\na = 2",
-        "a = 1\n[[a]]",
-        "a = 1 b = 2",
-        "a = \"b",
-        "a",
-        "= 1",
-        "[[a]",
-    ] {
+fn these_texts_are_not(rt: HostRuntime) {
+    for text in OTHER_TEXTS.iter().chain(&REFUSED_TEXTS) {
         match read_document(rt.alloc(), text) {
-            Ok(Document::Entries(_entries)) => panic!(rt; "plain: {text}"),
-            Ok(Document::Table(_table)) => (),
+            Ok(Document::Entries(_)) => panic!(rt; "plain: {text}"),
+            Ok(Document::Table(_)) => (),
             Err(fault) => assert!(rt; fault == DocumentFault::NotToml, "{text}"),
         }
     }
-    Ok(())
 }
 
 #[test]
-fn any_other_is_read_by_the_kit(rt: HostRuntime) -> Result<(), Fail> {
-    match read_document(rt.alloc(), "a = 'b'\n[c]\nd = 1.5") {
-        Ok(Document::Table(table)) => {
-            let entries = table_entries(rt.alloc(), &table)?;
-            assert!(rt; entries.len() == 2 && is_text_at(&entries, "a", "b"));
-        }
-        Ok(Document::Entries(_entries)) => assert!(rt; false),
-        Err(_fault) => assert!(rt; false),
-    }
-    Ok(())
-}
-
-#[test]
-fn what_is_no_document_is_refused(rt: HostRuntime) -> Result<(), Fail> {
-    for text in &[
-        "a = 1\na = 2",
-        "a",
-        "[[a]",
-        "a = 1\n[[a]]",
-        "a = \"b",
-        "a = 1 b = 2",
-    ] {
+fn what_is_no_document_is_refused(rt: HostRuntime) {
+    for text in &REFUSED_TEXTS {
         let found = read_document(rt.alloc(), text).err();
         assert!(rt; found == Some(DocumentFault::NotToml), "{text}");
     }
-    Ok(())
+}
+
+/// The kit's table has so many entries, of which `a` is the text `b`.
+fn expect_entries(rt: &impl Abort, alloc: Global, table: &Table, count: usize) {
+    let entries = table_entries(alloc, table).expect(rt, "out of memory");
+    assert!(rt; entries.len() == count && is_text_at(&entries, "a", "b"));
 }
 
 #[test]
-fn a_table_gives_its_items(rt: HostRuntime) -> Result<(), Fail> {
-    let text = "a = 'b'\nc = [1, 2.5, 2001-01-01, true, {d = 7}]\n[e]\nf = \"\"";
-    match toml::table_from_str(rt.alloc(), text) {
-        Ok(table) => {
-            let entries = table_entries(rt.alloc(), &table)?;
-            assert!(rt; entries.len() == 3 && is_text_at(&entries, "a", "b"));
-            let inner = table_at(&entries, "c", 4).expect(&rt, "a table");
-            assert!(rt; count_at(&entries, "c") == 5 && number_at(inner, "d") == Some(7));
-        }
-        Err(_) => assert!(rt; false),
+fn any_other_is_read_by_the_kit(rt: HostRuntime) {
+    match read_document(rt.alloc(), "a = 'b'\n[c]\nd = 1.5") {
+        Ok(Document::Table(table)) => expect_entries(&rt, rt.alloc(), &table, 2),
+        _ => panic!(rt; "no table"),
     }
-    Ok(())
+}
+
+const NESTED: &str = "a = 'b'\nc = [1, 2.5, 2001-01-01, true, {d = 7}]\n[e]\nf = \"\"";
+
+#[test]
+fn a_table_gives_its_items(rt: HostRuntime) {
+    let read = toml::table_from_str(rt.alloc(), NESTED);
+    let table = read.ok().expect(&rt, "a table");
+    expect_entries(&rt, rt.alloc(), &table, 3);
+    let entries = table_entries(rt.alloc(), &table).expect(&rt, "out of memory");
+    let inner = table_at(&entries, "c", 4).expect(&rt, "a table");
+    assert!(rt; count_at(&entries, "c") == 5 && number_at(inner, "d") == Some(7));
 }

@@ -2,35 +2,40 @@ ghost use Rattle.std.specs.Prelude.{◌≡◌, IsTrue, length};
 ghost use Rattle.tree_model.specs.Tree.{IsNode, ChildBudgetsFit};
 ghost use Rattle.tree_model.specs.declared.place.Place.{Place as AnyPlace};
 
-use crate::helpers::{add_task, core, inner};
+use crate::helpers::{MEMORY, add_task, inner, name, task};
 use slot_model::{LIMIT, Sched, Task};
 use std::alloc::Global;
 use std::process::Abort;
-use std::test::Fail;
 use supply_bound::{NodeSupply, Supply};
 use tree_model::{
-    Parent, Part, Place, System, budget_of, node_supply, period_of, sched_of, tasks_of,
+    Core, Parent, Part, Place, System, budget_of, node_supply, period_of, sched_of, tasks_of,
 };
 
 /// A part with a task for each of these works.
 fn part(
+    rt: &impl Abort,
     alloc: Global,
     name: &str,
     parent: Parent,
     period: u64,
     works: &[u64],
-) -> Result<Part, Fail> {
-    let mut part = inner(alloc, name, parent, Sched::Rm, period)?;
+) -> Part {
+    let mut part = inner(rt, alloc, name, parent, Sched::Rm, period);
     for (work, name) in works.iter().zip(["net", "disk"]) {
-        add_task(alloc, &mut part, name, 10, 8, *work)?;
+        add_task(rt, alloc, &mut part, name, task(rt, 10, 8, *work));
     }
-    Ok(part)
+    part
 }
 
-/// One full core with these parts.
-fn system(alloc: Global, parts: Vec<Part>) -> Result<Option<System>, Fail> {
-    let cores = vec![in alloc; core(alloc, "cpu0", Sched::Edf, None)?]?;
-    Ok(System::new(cores, parts).ok())
+/// One full core with these parts, if that is a system.
+fn system(rt: &impl Abort, alloc: Global, parts: Vec<Part>) -> Option<System> {
+    let core = Core {
+        name: name(rt, alloc, "cpu0"),
+        sched: Sched::Edf,
+        supply: None,
+    };
+    let cores = Vec::from_array(alloc, [core]).expect(rt, MEMORY);
+    System::new(cores, parts).ok()
 }
 
 fn are_in_period(sys: &System, budgets: &[u64]) -> bool
@@ -84,94 +89,102 @@ fn assert_part_supply(rt: &impl Abort, part: &Part, budget: u64, t: u128, want: 
 }
 
 /// A group with a guest, and a guest beside it.
-fn group_and_guest(alloc: Global) -> Result<System, Fail> {
-    let mut parts = Vec::new(alloc);
-    parts.push(part(alloc, "group", Parent::Core(0), 5, &[])?)?;
-    parts.push(part(alloc, "web", Parent::Part(0), 4, &[2, 3])?)?;
-    parts.push(part(alloc, "db", Parent::Core(0), 6, &[1])?)?;
-    Ok(system(alloc, parts)?.ok_or("no system")?)
+fn group_and_guest(rt: &impl Abort, alloc: Global) -> System {
+    let parts = [
+        part(rt, alloc, "group", Parent::Core(0), 5, &[]),
+        part(rt, alloc, "web", Parent::Part(0), 4, &[2, 3]),
+        part(rt, alloc, "db", Parent::Core(0), 6, &[1]),
+    ];
+    let parts = Vec::from_array(alloc, parts).expect(rt, MEMORY);
+    system(rt, alloc, parts).expect(rt, "a system")
 }
 
-fn task(period: u64, deadline: u64, work: u64) -> Result<Task, Fail> {
-    Ok(Task::new(period, deadline, work).ok_or("out of range")?)
-}
+const BUDGETS: [u64; 3] = [3, 2, 4];
 
 /// Two tasks are written, and these are they; what stands behind them stays.
-fn assert_tasks(
-    rt: &impl Abort,
-    sys: &System,
-    place: Place,
-    first: Task,
-    second: Task,
-) -> Result<(), Fail> {
-    let other = task(99, 99, 99)?;
+fn assert_tasks(rt: &impl Abort, sys: &System, place: Place, first: Task, second: Task) {
+    let other = task(rt, 99, 99, 99);
     let mut into = [other; 3];
-    let count = tasks_at(rt, sys, &[3, 2, 4], place, &mut into);
+    let count = tasks_at(rt, sys, &BUDGETS, place, &mut into);
     assert!(rt; count == Some(2) && into == [first, second, other]);
-    Ok(())
 }
 
 #[test]
-fn a_node_has_its_own_tasks_or_servers(rt: HostRuntime) -> Result<(), Fail> {
-    let sys = group_and_guest(rt.alloc())?;
-    assert_tasks(&rt, &sys, Place::Core(0), task(5, 5, 3)?, task(6, 6, 4)?)?;
-    assert_tasks(&rt, &sys, Place::Part(1), task(10, 8, 2)?, task(10, 8, 3)?)?;
-    let other = task(99, 99, 99)?;
+fn a_node_has_its_own_tasks_or_servers(rt: HostRuntime) {
+    let sys = group_and_guest(&rt, rt.alloc());
+    let (group, alone) = (task(&rt, 5, 5, 3), task(&rt, 6, 6, 4));
+    assert_tasks(&rt, &sys, Place::Core(0), group, alone);
+    let (net, disk) = (task(&rt, 10, 8, 2), task(&rt, 10, 8, 3));
+    assert_tasks(&rt, &sys, Place::Part(1), net, disk);
+}
+
+#[test]
+fn more_tasks_than_there_is_room_for(rt: HostRuntime) {
+    let sys = group_and_guest(&rt, rt.alloc());
+    let other = task(&rt, 99, 99, 99);
     let mut few = [other; 1];
-    let count = tasks_at(&rt, &sys, &[3, 2, 4], Place::Core(0), &mut few);
+    let count = tasks_at(&rt, &sys, &BUDGETS, Place::Core(0), &mut few);
     assert!(rt; count.is_none() && few == [other]);
-    Ok(())
 }
 
 #[test]
-fn a_node_has_its_scheduler_and_its_supply(rt: HostRuntime) -> Result<(), Fail> {
-    let sys = group_and_guest(rt.alloc())?;
+fn a_node_has_its_scheduler_and_its_supply(rt: HostRuntime) {
+    let sys = group_and_guest(&rt, rt.alloc());
     assert_level(&rt, &sys, Place::Core(0), (Sched::Edf, 1, Some(1)));
     assert_level(&rt, &sys, Place::Part(1), (Sched::Rm, 4, None));
     assert_node(&rt, &sys, Place::Core(0));
-    assert_eq!(rt; sys.parts().len(), 3);
-    assert!(rt; node_supply(&sys, &[3, 2, 4], Place::Core(0)) == NodeSupply::Full);
-    let cases = [(3, 5, 1), (2, 5, 1), (4, 7, 3)];
-    for (part, (budget, t, want)) in sys.parts().iter().zip(cases) {
+    assert!(rt; sys.parts().len() == 3);
+    assert!(rt; node_supply(&sys, &BUDGETS, Place::Core(0)) == NodeSupply::Full);
+    for (part, (budget, t, want)) in sys.parts().iter().zip([(3, 5, 1), (2, 5, 1), (4, 7, 3)]) {
         assert_part_supply(&rt, part, budget, t, want);
     }
-    Ok(())
 }
 
-#[test]
-fn a_parent_stands_earlier_and_has_no_tasks(rt: HostRuntime) -> Result<(), Fail> {
-    let alloc = rt.alloc();
-    let cases = [
-        (Parent::Core(0), Parent::Core(0), true),
-        (Parent::Core(0), Parent::Part(0), false),
-        (Parent::Part(1), Parent::Core(0), false),
-        (Parent::Core(1), Parent::Core(0), false),
+/// Whether `web` on one parent, and a second part of this name, parent and works, are a system.
+fn are_system(
+    rt: &impl Abort,
+    alloc: Global,
+    first: Parent,
+    name: &str,
+    second: Parent,
+    works: &[u64],
+) -> bool {
+    let parts = [
+        part(rt, alloc, "web", first, 4, &[1]),
+        part(rt, alloc, name, second, 4, works),
     ];
-    for (first, second, want) in cases {
-        let parts = vec![in alloc;
-            part(alloc, "web", first, 4, &[1])?,
-            part(alloc, "db", second, 4, &[1])?,
-        ]?;
-        assert_eq!(rt; system(alloc, parts)?.is_some(), want);
-    }
-    Ok(())
+    let parts = Vec::from_array(alloc, parts).expect(rt, MEMORY);
+    system(rt, alloc, parts).is_some()
 }
 
+const CORE: Parent = Parent::Core(0);
+
+const PARENTS: [(Parent, Parent, bool); 4] = [
+    (CORE, CORE, true),
+    (CORE, Parent::Part(0), false),
+    (Parent::Part(1), CORE, false),
+    (Parent::Core(1), CORE, false),
+];
+
 #[test]
-fn names_differ_and_parts_are_not_empty(rt: HostRuntime) -> Result<(), Fail> {
-    let alloc = rt.alloc();
-    let cases: [(&str, &[u64], bool); 4] = [
-        ("db", &[1], true),
-        ("web", &[1], false),
-        ("cpu0", &[1], false),
-        ("db", &[], false),
-    ];
-    for (name, works, want) in cases {
-        let parts = vec![in alloc;
-            part(alloc, "web", Parent::Core(0), 4, &[1])?,
-            part(alloc, name, Parent::Core(0), 4, works)?,
-        ]?;
-        assert_eq!(rt; system(alloc, parts)?.is_some(), want);
+fn a_parent_stands_earlier_and_has_no_tasks(rt: HostRuntime) {
+    for (first, second, want) in PARENTS {
+        let found = are_system(&rt, rt.alloc(), first, "db", second, &[1]);
+        assert!(rt; found == want, "{first:?} {second:?}");
     }
-    Ok(())
+}
+
+const NAMES: [(&str, &[u64], bool); 4] = [
+    ("db", &[1], true),
+    ("web", &[1], false),
+    ("cpu0", &[1], false),
+    ("db", &[], false),
+];
+
+#[test]
+fn names_differ_and_parts_are_not_empty(rt: HostRuntime) {
+    for (name, works, want) in NAMES {
+        let found = are_system(&rt, rt.alloc(), CORE, name, CORE, works);
+        assert!(rt; found == want, "{name}");
+    }
 }
