@@ -374,7 +374,9 @@ class AsItComes(unittest.TestCase):
             ran.stdin.write("\n".join(lines[:8]) + "\n")
             ran.stdin.flush()
             front = [ran.stdout.readline() for _ in range(5)]
-            rest, err = ran.communicate("\n".join(lines[8:]) + "\n")
+            ran.stdin.write("\n".join(lines[8:]) + "\n")
+            ran.stdin.close()
+            rest, err = ran.stdout.read(), ran.stderr.read()
         self.assertEqual(front, ["at_ns,core,what,vcpu\n", "0,cpu3,start,A\n", "5000,cpu3,run,A\n", "305000,cpu3,stop,\n", "305000,cpu3,block,A\n"])
         self.assertEqual((ran.returncode, "".join(front) + rest), (0, self.ran(lines).stdout))
         self.assertIn("no mark says when the recording was stopped", err)
