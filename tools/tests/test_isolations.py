@@ -167,6 +167,24 @@ class Answers(unittest.TestCase):
             self.assertTrue(self.wrong(least), name)
 
 
+    def test_lines_and_verdicts(self):
+        """Each part on a core has its line, with its period, and no other has one; and the verdict is that of the lines."""
+        core = ((10, 4), (10, 6))
+        text = "isolated c0v0 last=10 of=10\nisolated c0v1 last=10 of=10\n"
+        for status, answer, right in (
+            (0, "verdict=yes\n" + text, True),
+            (1, "verdict=no\n" + text, False),
+            (0, "verdict=yes\n" + text.replace("c0v1", "c0v2"), False),
+            (0, "verdict=yes\n" + text + "isolated on-c0v0 last=1 of=40\n", False),
+            (0, "verdict=yes\n" + text.replace("of=10", "of=9", 1), False),
+            (1, "verdict=no\n" + text.splitlines()[1] + "\n" + text.splitlines()[0] + "\n", False),
+            (0, "verdict=yes\nexposed c0v0 by=ties last=10 of=10\n" + text.splitlines()[1] + "\n", False),
+        ):
+            compared = isolations.Compared(StandIn(systems.Answer(status, answer)), self.room)
+            with contextlib.nullcontext() if right else self.assertRaisesRegex(isolations.Wrong, "does not tell of each VCPU"):
+                compared.kept(isolations.system_text([core]), [core])
+
+
 class Words(unittest.TestCase):
     def setUp(self):
         room = tempfile.TemporaryDirectory()
