@@ -1,12 +1,13 @@
 """A recording of 24 VCPUs on four cores, of any length, and what is to be told of it.
 
-    python3 tools/tests/recordings.py SECONDS >recording.csv
+    python3 tools/tests/recordings.py SECONDS [FROM] >recording.csv
     python3 tools/tests/recordings.py --system >system.toml
     python3 tools/tests/recordings.py SECONDS --told
 
 In each frame of 10 ms the six VCPUs of a core have it one after another, two of them for a part of a longer period's budget. In every
 third frame the fourth sleeps behind its turn. In every 997th, on one core after another, the second has 100 microseconds less than its
-budget and the third 50 more. The last words print what `tools/audit-all` is to say."""
+budget and the third 50 more. FROM is a second at which a frame of every kind begins, a multiple of 6: then it is the same recording from
+there on, as a trace of its own. The last words print what `tools/audit-all` is to say."""
 import sys
 
 FRAME, CORES, EVERY = 10_000, 4, 997
@@ -36,10 +37,10 @@ def system():
     return "\n".join(told) + "\n"
 
 
-def frame_rows(frame, core):
-    """The rows of a core in a frame, each with its moment."""
-    at = frame * FRAME
-    if frame % 3 == 0 and frame:
+def frame_rows(frame, core, first):
+    """The rows of a core in a frame, each with its moment, which counts from the first frame."""
+    at = (frame - first) * FRAME
+    if frame % 3 == 0 and frame > first:
         yield at, f"{at},c{core},wake,{name(core, 3)}\n"
     for place, (_, slice_) in enumerate(VCPUS):
         yield at, f"{at},c{core},run,{name(core, place)}\n"
@@ -49,14 +50,16 @@ def frame_rows(frame, core):
     yield at, f"{at},c{core},stop,\n"
 
 
-def rows(seconds):
-    """The lines of the trace."""
+def rows(seconds, since=0):
+    """The lines of the trace of so many seconds, from that second on."""
+    assert since % 6 == 0, "a recording begins with a frame of every kind"
+    first = since * 100
     yield "at,core,what,vcpu\n"
     for core in range(CORES):
         for place in range(len(VCPUS)):
             yield f"0,c{core},start,{name(core, place)}\n"
-    for frame in range(seconds * 100):
-        found = [row for core in range(CORES) for row in frame_rows(frame, core)]
+    for frame in range(first, first + seconds * 100):
+        found = [row for core in range(CORES) for row in frame_rows(frame, core, first)]
         yield from (text for _, text in sorted(found, key=lambda row: row[0]))
     yield f"{seconds * 1_000_000},,end,\n"
 
@@ -84,4 +87,4 @@ if __name__ == "__main__":
     elif sys.argv[2:] == ["--told"]:
         sys.stdout.writelines(f"{line}\n" for line in told(int(sys.argv[1])))
     else:
-        sys.stdout.writelines(rows(int(sys.argv[1])))
+        sys.stdout.writelines(rows(*map(int, sys.argv[1:])))

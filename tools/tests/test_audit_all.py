@@ -5,14 +5,17 @@ import io
 import os
 import pathlib
 import random
+import shutil
 import subprocess
 import sys
 import tempfile
+import time
 import unittest
 
 from load import load, program, top
 import recordings
 import systems
+import test_from_ftrace
 import test_split
 from hostfile import Refused
 
@@ -230,6 +233,45 @@ class Elsewhere(Case):
         self.assertEqual(ran.stdout.splitlines(), [
             "verdict=yes", "periods=8", "vcpu A begun=4 judged=4 short=0 over=0 least_ns=3000 most_ns=3000",
             "vcpu B begun=4 judged=4 short=0 over=0 least_ns=7000 most_ns=7000"])
+
+    def test_while_the_recording_goes_on(self):
+        """tools/from-ftrace into tools/split into tools/audit-all: a piece is asked about before the next lines of the kernel's are there."""
+        asked, log, words = self.room / "program", self.room / "log", {"cpu": "--cpu=3=cpu3", "thread": "--thread=11=A"}
+        parts = {"A": ("cpu3", 100_000, 300, True)}
+        self.file.write_text(test_split.system_text(["cpu3"], parts))
+        asked.write_text(f"#!/bin/sh\n[ $3 = /dev/null ] && exit 3\necho $3 >>{log}\n"
+                         "printf 'verdict=yes\\nperiods=%d\\nvcpu A begun=%d judged=0 short=0 over=0 least_ns=- most_ns=300000\\n' 0 2\n")
+        asked.chmod(0o755)
+        lines = test_from_ftrace.AsItComes.turns(5)
+        pipe = (f"{top}/tools/from-ftrace - {words['cpu']} {words['thread']} --as-it-comes | {top}/tools/split - {self.pieces} --system {self.file} "
+                f"--seconds 0.2 | {top}/tools/audit-all {self.file} - --program {asked}")
+        with subprocess.Popen(["sh", "-c", pipe], text=True, stdin=subprocess.PIPE, stdout=subprocess.PIPE, stderr=subprocess.PIPE) as ran:
+            ran.stdin.write("\n".join(lines[:10]) + "\n")
+            ran.stdin.flush()
+            until = time.monotonic() + 60
+            while not log.exists() and time.monotonic() < until:
+                time.sleep(0.02)
+            early = log.read_text().split()
+            out, err = ran.communicate("\n".join(lines[10:]) + "\n")
+        self.assertEqual(early, [f"{self.pieces}/piece-000001.csv"])
+        self.assertEqual((ran.returncode, out.splitlines()[:2]), (0, ["verdict=yes", "periods=0"]), err)
+        self.assertEqual(out.splitlines()[2:], ["vcpu A begun=9 judged=0 short=0 over=0 least_ns=- most_ns=300000"])
+
+    def test_a_recording_that_is_cut_off_in_a_row(self):
+        """What tools/split leaves of it is audited, and is no yes."""
+        trace = self.room / "trace.csv"
+        more = {name: (core, period, 1, True) for name, (core, period, _, _) in PARTS.items()}
+        self.file.write_text(test_split.system_text(["cpu0"], more))
+        for torn, broken in ((TEXT.rsplit("40,,end,", 1)[0] + "39,cpu0,st", False), (TEXT[:-12], False)):
+            trace.write_text(torn)
+            with contextlib.redirect_stdout(io.StringIO()), contextlib.redirect_stderr(io.StringIO()) as err:
+                self.assertEqual(test_split.tool.main([str(trace), str(self.pieces), "--system", str(self.file), "--seconds", "0.00002"]), 1)
+            self.assertIn("(pieces that were whole before, and are kept: 1)", err.getvalue())
+            status, lines, err = self.answered(Judge(more), str(self.pieces))
+            self.assertEqual((status, lines), (3, [
+                "verdict=unknown", "periods=4", "vcpu A begun=2 judged=2 short=0 over=0 least_ns=2000 most_ns=3000",
+                "vcpu B begun=2 judged=2 short=0 over=0 least_ns=7000 most_ns=8000"]))
+            shutil.rmtree(self.pieces)
 
     def test_a_recording_that_was_cut_off(self):
         """A no stands; where nothing is broken so far, that is no yes."""

@@ -316,19 +316,20 @@ class Windows(unittest.TestCase):
         self.assertIn("--longest-whole reads the recording twice", ended.stderr)
 
     def test_memory_does_not_grow_with_the_recording(self):
-        """60,000 lines through a pipe, in no more memory than 6,000 take, but for 2 MB."""
-        used = [self.peak(count) for count in (2_000, 20_000)]
-        self.assertLess(used[1] - used[0], 2_000, used)
+        """60,000 lines through a pipe, in no more memory than 6,000 take, but for 2 MB; as it comes too."""
+        for words in ([], ["--as-it-comes"]):
+            used = [self.peak(count, *words) for count in (2_000, 20_000)]
+            self.assertLess(used[1] - used[0], 2_000, used)
 
     PEAK = (
         "import sys; sys.path.insert(0, sys.argv[1]); from load import load; status = load('from-ftrace').main(sys.argv[2:]); "
         "print(status, next(line.split()[1] for line in open('/proc/self/status') if line.startswith('VmHWM')))"
     )
 
-    def peak(self, turns):
+    def peak(self, turns, *more):
         """The most memory, in KiB, of a run over so many turns of three lines that come through a pipe."""
         tests = str(pathlib.Path(__file__).resolve().parent)
-        words = [sys.executable, "-B", "-c", self.PEAK, tests, "-", "--cpu=3=cpu3", "--thread=11=A", "--out=/dev/null"]
+        words = [sys.executable, "-B", "-c", self.PEAK, tests, "-", "--cpu=3=cpu3", "--thread=11=A", "--out=/dev/null", *more]
         child = subprocess.Popen(words, stdin=subprocess.PIPE, stdout=subprocess.PIPE, stderr=subprocess.DEVNULL)
         child.stdin.write(f"{BOTH[0]}\n".encode())
         for place in range(turns):
@@ -338,6 +339,69 @@ class Windows(unittest.TestCase):
         status, peak = child.communicate()[0].split()
         self.assertEqual(status, b"0")
         return int(peak)
+
+
+class AsItComes(unittest.TestCase):
+    """A recording that goes on."""
+
+    WORDS = ["-", "--cpu=3=cpu3", "--thread=11=A", "--as-it-comes"]
+
+    @staticmethod
+    def turns(count, apart=200_000):
+        """A thread that runs for 300 microseconds in each of so many turns, which are so many microseconds apart."""
+        lines = [BOTH[0]]
+        for turn in range(1, count + 1):
+            at = [f"{10**6 + turn * apart + more:07}" for more in (0, 5, 305)]
+            told = [f"{text[:-6]}.{text[-6:]}" for text in at]
+            lines += [wakeup(told[0], "calc 11"), switch(told[1], "sh 7 R", "calc 11"), switch(told[2], "calc 11 S", "sh 7")]
+        return lines
+
+    def ran(self, lines):
+        return subprocess.run(
+            [sys.executable, "-B", str(top / "tools/from-ftrace"), *self.WORDS], input="\n".join(lines) + "\n", capture_output=True, text=True)
+
+    def test_the_same_rows_in_nanoseconds(self):
+        lines = self.turns(3)
+        told = [f"{at}000,{rest}" if at != "0" else f"{at},{rest}" for at, rest in (row.split(",", 1) for row in rows(*lines))]
+        ran = self.ran(lines)
+        self.assertEqual((ran.returncode, ran.stdout.splitlines()), (0, ["at_ns,core,what,vcpu", *told]))
+
+    def test_rows_are_written_while_it_is_read(self):
+        """What is 100 ms older than the newest event, and 10 ms that wait for late ones, has been written."""
+        lines = self.turns(4)
+        with subprocess.Popen([sys.executable, "-B", str(top / "tools/from-ftrace"), *self.WORDS], text=True,
+                              stdin=subprocess.PIPE, stdout=subprocess.PIPE, stderr=subprocess.PIPE) as ran:
+            ran.stdin.write("\n".join(lines[:8]) + "\n")
+            ran.stdin.flush()
+            front = [ran.stdout.readline() for _ in range(5)]
+            ran.stdin.write("\n".join(lines[8:]) + "\n")
+            ran.stdin.close()
+            rest, err = ran.stdout.read(), ran.stderr.read()
+        self.assertEqual(front, ["at_ns,core,what,vcpu\n", "0,cpu3,start,A\n", "5000,cpu3,run,A\n", "305000,cpu3,stop,\n", "305000,cpu3,block,A\n"])
+        self.assertEqual((ran.returncode, "".join(front) + rest), (0, self.ran(lines).stdout))
+        self.assertIn("no mark says when the recording was stopped", err)
+
+    def test_events_that_come_late_are_put_in_order(self):
+        """The buffers of two processors, one emptied behind the other; 10 ms late is in time, and more is not."""
+        lines = [*BOTH, *(line for at in range(5) for line in (wakeup(f"1.0{at}0000", "calc 11"), wakeup(f"1.0{at}0000", "beat 12", cpu=2)))]
+        late = [*lines[:3], lines[4], lines[3], *lines[5:]]
+        self.assertEqual(self.ran(late).stdout, self.ran(lines).stdout)
+        late = [*lines[:3], *lines[4:9], lines[3], *lines[9:]]
+        ran = self.ran(late)
+        self.assertEqual(ran.returncode, 1)
+        self.assertIn("-:9: time falls", ran.stderr)
+
+    def test_a_refusal_leaves_no_end(self):
+        """Then tools/split keeps the pieces that are whole."""
+        lines = self.turns(4)
+        ran = self.ran([*lines, "CPU:3 [LOST 5 EVENTS]", switch("9.000000", "calc 11 S", "sh 7")])
+        self.assertEqual(ran.returncode, 1)
+        self.assertIn("-:14: events were lost", ran.stderr)
+        self.assertEqual(ran.stdout, self.ran(lines).stdout.rsplit("\n", 2)[0] + "\n")
+
+    def test_words_that_do_not_go_together(self):
+        for words in (["--any-length"], ["--longest-whole"]):
+            self.assertEqual(run_tool(*self.WORDS, *words)[0], 2)
 
 
 class TraceCmd(unittest.TestCase):

@@ -2,11 +2,14 @@
 left then, and that the archive is the same each time."""
 import contextlib
 import hashlib
+import importlib
 import io
 import os
 import pathlib
+import re
 import signal
 import subprocess
+import sys
 import tarfile
 import tempfile
 import unittest
@@ -119,6 +122,25 @@ class Made(Case):
         self.assertEqual({entry.mtime for entry in entries}, {int(self.git("log", "-1", "--format=%ct"))})
         modes = {entry.name: entry.mode for entry in entries}
         self.assertEqual((modes["r/rtadmit"], modes["r/examples/compare"], modes["r/docs/a.md"], modes["r/docs"]), (0o755, 0o755, 0o644, 0o755))
+
+
+class Kept(unittest.TestCase):
+    """What the pages of a release run is in it."""
+
+    def test_each_tool_of_a_command(self):
+        entries = load_page().entries()
+        named = {name for command, _ in entries for name in re.findall(r"(?<![\w/.])tools/[a-z-]+", command)}
+        self.assertIn("tools/why", named)
+        self.assertLessEqual(named, set(tool.KEPT))
+
+
+def load_page():
+    """The commands of the pages, examples/page.py."""
+    sys.path.insert(0, str(tool.top / "examples"))
+    try:
+        return importlib.import_module("page")
+    finally:
+        sys.path.pop(0)
 
 
 class Refusals(Case):

@@ -40,7 +40,7 @@ class Manual(unittest.TestCase):
 
 class Help(unittest.TestCase):
     def test_each_tool_of_a_host_says_what_it_does(self):
-        for name in ("from-xl", "to-xl", "from-xenalyze", "from-linux", "to-linux"):
+        for name in ("from-xl", "to-xl", "from-xenalyze", "from-linux", "to-linux", "expose"):
             ran = subprocess.run([load.top / "tools" / name, "--help"], capture_output=True, text=True)
             self.assertEqual((ran.returncode, ran.stderr), (0, ""), name)
             self.assertIn(f"tools/{name} ", ran.stdout)
