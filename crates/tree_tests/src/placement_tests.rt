@@ -33,10 +33,12 @@ fn guests_go_to_the_first_core_on_which_they_fit(rt: HostRuntime) {
     let alloc = rt.alloc();
     let sys = read_system(alloc, CORES.as_bytes()).expect(&rt, "a system file");
     let mut guests = three_guests(&rt, alloc);
+    assert!(rt; guests.len() < 10);
     let placed = place(alloc, &sys, &guests).ok().expect(&rt, "placed");
     assert!(rt; placed.parts().len() == 3);
     assert!(rt; placed.parts()[1].parent() == Parent::Core(1));
     assert!(rt; placed.parts()[2].parent() == Parent::Core(0));
     guests.push(guest(&rt, alloc, "d", 6)).expect(&rt, MEMORY);
+    assert!(rt; guests.len() < 10);
     assert!(rt; place(alloc, &sys, &guests).err() == Some(PlaceFault::Unplaced(3)));
 }
