@@ -3,5 +3,3 @@ pub mod RowsTaking
 pub mod OneScript
 pub mod OneGuests
 mod ScriptExamples
-mod Sevens
-mod Digits

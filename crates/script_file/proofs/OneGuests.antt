@@ -1,7 +1,7 @@
 -- Records spell one list of guests at most, and where they spell one they have no fault.
-use Rattle.std.proofs.Common.{◌≡◌, ◌<◌, ℕ, zero, suc, Bool, true, false, List, [], ◌∷◌, map, length, refl, sym, ◌∙◌, ap, subst, inl, inr, arith}
+use Rattle.std.proofs.Common.{◌≡◌, ◌<◌, ℕ, zero, suc, true, List, [], ◌∷◌, map, length, refl, sym, ◌∙◌, ap, subst, inl, inr, arith}
 use Rattle.std.specs.List.{list_all}
-use Rattle.std.proofs.lemmas.Bool.{cases_lt, false≢true, and_parts, and_from}
+use Rattle.std.proofs.lemmas.Bool.{both_ways, cases_lt, and_parts, and_from}
 use Rattle.tree_model.specs.View.{PartView}
 use Rattle.admission_session.specs.RowView.{RowView}
 use Rattle.script_file.specs.declared.guests.GuestFault.{GuestFault}
@@ -25,9 +25,6 @@ guest_at (row ∷ rows) zero l all = (and_parts (is_guest row) (list_all is_gues
 guest_at (row ∷ rows) (suc i) l all =
     guest_at rows i (omega (arith, l)) (and_parts (is_guest row) (list_all is_guest rows) all).1
 
-clash : (b : Bool) → b ≡ true → b ≡ false → ⊥
-clash b t f = false≢true (sym f ∙ t)
-
 pub one_guests : (records : List (List (List ℕ))) (a b : List PartView) → SpellsGuests records a
     → SpellsGuests records b → a ≡ b
 one_guests records a b p q =
@@ -40,14 +37,14 @@ pub no_guest_fault : (records : List (List (List ℕ))) (a : List PartView) (fau
 no_guest_fault records a (Script fault) p h = no_script_fault records p.rows fault p.spelled h
 no_guest_fault records a (Other row) p h =
     let same : h.rows ≡ p.rows = one_script records h.rows p.rows h.spelled p.spelled in
-    clash (is_guest (row_at h.rows h.first.place)) (guest_at h.rows h.first.place h.first.is_row
-    (subst (λ (rows : List RowView). list_all is_guest rows ≡ true) (sym same) p.all)) h.first.other
+    both_ways (is_guest (row_at h.rows h.first.place)) h.first.other (guest_at h.rows h.first.place h.first.is_row
+    (subst (λ (rows : List RowView). list_all is_guest rows ≡ true) (sym same) p.all))
 
 one_other : (rows : List RowView) (a b : ℕ) → IsFirstOther rows a → IsFirstOther rows b → a ≡ b
 one_other rows a b p q = elim (cases_lt p.place q.place) [
-  | inl before ↦ absurd (clash (is_guest (row_at rows p.place)) (q.before p.place before) p.other)
+  | inl before ↦ absurd (both_ways (is_guest (row_at rows p.place)) p.other (q.before p.place before))
   | inr not_before ↦ elim (cases_lt q.place p.place) [
-    | inl behind ↦ absurd (clash (is_guest (row_at rows q.place)) (p.before q.place behind) q.other)
+    | inl behind ↦ absurd (both_ways (is_guest (row_at rows q.place)) q.other (p.before q.place behind))
     | inr not_behind ↦ omega (arith, p.row_is, q.row_is, not_before, not_behind)
   ]
 ]

@@ -26,14 +26,21 @@ pub fn seven_fields<'r>(row: &Row<'r>) -> Option<RowFields<'r>>
     if row.len() != 7 {
         return None;
     }
+    let op = field(row, 0);
+    let part = field(row, 1);
+    let parent = field(row, 2);
+    let sched = field(row, 3);
+    let period = field(row, 4);
+    let budget = field(row, 5);
+    let tasks = field(row, 6);
     Some(RowFields {
-        op: field(row, 0),
-        part: field(row, 1),
-        parent: field(row, 2),
-        sched: field(row, 3),
-        period: field(row, 4),
-        budget: field(row, 5),
-        tasks: field(row, 6),
+        op,
+        part,
+        parent,
+        sched,
+        period,
+        budget,
+        tasks,
     })
 }
 

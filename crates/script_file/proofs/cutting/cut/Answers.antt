@@ -1,4 +1,4 @@
-use Rattle.std.proofs.Common.{◌+◌, ◌-◌, ◌∷◌, ◌∙◌, arith}
+use Rattle.std.proofs.Common.{arith}
 use Rattle.script_file.proofs.CutPieces.{cut_nowhere, cut_at}
 use Rattle.script_file.proofs.cutting.cut.Goals as goal
 
