@@ -1,5 +1,5 @@
 -- The tally of one VCPU in a whole trace.
-use Rattle.std.proofs.Common.{◌≡◌, ℕ, zero, suc, ◌+◌, ◌<◌, ◌≤◌, Bool, true, false, cond, ltb, List, [], ◌∷◌, ◌++◌, length, Option, Some, None, is_some, refl, sym, ◌∙◌, ap, subst, arith, inl, inr}
+use Rattle.std.proofs.Common.{◌≡◌, ℕ, suc, ◌+◌, ◌<◌, ◌≤◌, Bool, true, false, cond, ltb, List, [], ◌∷◌, ◌++◌, length, Option, Some, None, is_some, refl, sym, ◌∙◌, ap, subst, arith, inl, inr}
 use Rattle.std.proofs.Math.Nat.{mul-le-mul_right}
 use Rattle.std.proofs.Math.ListN.{get_or-append}
 use Rattle.std.proofs.Math.Seq.{get_or-append_seam}
@@ -244,7 +244,8 @@ pub settled_on : (sys : SystemView) (budgets : List ℕ) (events : List Event) (
     (state : State) (w new : Watch) (tally : Tally) (broken : Option Broken) → v < length sys.parts
     → 1 ≤ period_of sys v → r ≡ reservation_of sys budgets v → at ≡ end_of events
     → state ≡ state_at sys events (length events) v → IsTold sys budgets events (length events) v w
-    → TellsOn r state w at new → new.now ≡ at → at < new.from + r.period → tally ≡ cut_tally new (breach_of r false new.got)
+    → TellsOn r state w at new → new.now ≡ at → at < new.from + r.period
+    → tally ≡ cut_tally new (breach_of r false new.got)
     → broken ≡ first_broken new.broken (breach_of r false new.got) new.from new.got
     → IsSettled sys budgets events v tally broken
 settled_on sys budgets events v at r state w new tally broken part some er ea es t tells now within et eb =

@@ -124,7 +124,7 @@ row_breaks sys text events row r fault h breaks =
     (front ∙ ap (λ (z : List (List (List ℕ))). h.header ∷ z) (append_assoc h.rows (row ∷ []) more)) h.unit)
     (inl (first_there (row_rules sys r.unit) h.rows row more fault h.keep breaks))
 
--- the row of an event that keeps the rules keeps them, and the events are those of the rows up to it
+-- the row of an event that keeps the rules keeps them, and the events are those of the rows so far
 next_rows : (sys : SystemView) (text : List ℕ) (events : List Event) (e : Event) (r : EventReader)
     → (next : HasNext sys text events e r)
     → RowsKeep (row_rules sys r.unit) (next.has_row.rows ++ next.row ∷ []) (length (next.has_row.rows ++ next.row ∷ []))

@@ -1,9 +1,7 @@
 -- The word that a field is.
-use Rattle.std.proofs.Common.{◌≡◌, ℕ, true, false, ◌&&◌, ◌||◌, List, codes, ap, sym, ◌∙◌}
+use Rattle.std.proofs.Common.{◌≡◌, ℕ, true, false, List, codes}
 use Rattle.std.proofs.lemmas.Slice.Eq.{bytes_eq-Decides}
 use Rattle.std.specs.Prelude.{bytes_eq}
-use Rattle.tree_model.specs.View.{SystemView}
-use Rattle.trace_file.specs.File.{is_row, fits_word}
 use Rattle.trace_file.specs.Spelt.{IsNoWord}
 
 pub is_text : (field text : List ℕ) → bytes_eq field text ≡ true → field ≡ text

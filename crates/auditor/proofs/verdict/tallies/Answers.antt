@@ -1,5 +1,4 @@
-use Rattle.std.proofs.Common.{◌≡◌, ◌+◌, ap, arith, length}
-use Rattle.std.proofs.lemmas.List.{length-append}
+use Rattle.std.proofs.Common.{ap, arith, length}
 use Rattle.auditor.proofs.Counted.{tallies_more}
 use Rattle.auditor.proofs.verdict.tallies.Goals as goal
 

@@ -11,7 +11,8 @@ returns-clause-tells c runs blocks f st t =
     let second = c.close.ensures in
     let third = c.skip_to.ensures in
     let end = c.if-to-end.false in
-    let t2 = first.tells runs blocks f (stays_in runs blocks s from to from _ (omega arith) (omega (arith, end)) st) t in
+    let t2
+    = first.tells runs blocks f (stays_in runs blocks s from to from _ (omega arith) (omega (arith, end)) st) t in
     let t3
     = second.tells s runs blocks f
     (stays_in runs blocks s from to _ _ (omega (arith, first.now, end)) (omega (arith, first.now, end)) st) t2 in

@@ -14,7 +14,8 @@ advance-requires c =
 pub returns-in-Ok-false-clause-given : goal.returns-in-Ok-false-clause-given
 returns-in-Ok-false-clause-given c sys text events h =
     let all = rw c.in-Ok-false.field-0-test at (c.in-Ok-false.ensures.read text (h.header ∷ h.rows) h.has_read) in
-    ends_well c.end.result _ sys text events c.args.self.now c.advance.new.self h all c.end.ensures.none c.end.ensures.ended
+    ends_well c.end.result _ sys text events c.args.self.now c.advance.new.self h all c.end.ensures.none
+    c.end.ensures.ended
 
 pub returns-in-Ok-false-clause-fault : goal.returns-in-Ok-false-clause-fault
 returns-in-Ok-false-clause-fault c sys text events h =
