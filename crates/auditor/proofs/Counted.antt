@@ -1,5 +1,5 @@
 -- The tally of one VCPU in a whole trace.
-use Rattle.std.proofs.Common.{◌≡◌, ℕ, zero, suc, ◌+◌, ◌<◌, ◌≤◌, Bool, true, false, cond, ltb, List, [], ◌∷◌, ◌++◌, length, Option, Some, None, is_some, refl, sym, ◌∙◌, ap, subst, arith, inl, inr}
+use Rattle.std.proofs.Common.{◌≡◌, ℕ, suc, ◌+◌, ◌<◌, ◌≤◌, Bool, true, false, cond, ltb, List, [], ◌∷◌, ◌++◌, length, Option, Some, None, is_some, refl, sym, ◌∙◌, ap, subst, arith, inl, inr}
 use Rattle.std.proofs.Math.Nat.{mul-le-mul_right}
 use Rattle.std.proofs.Math.ListN.{get_or-append}
 use Rattle.std.proofs.Math.Seq.{get_or-append_seam}
@@ -7,9 +7,10 @@ use Rattle.std.proofs.lemmas.Bool.{cases_lt, lt-ltb, le-ltb, false≢true}
 use Rattle.std.proofs.lemmas.Option.{same_Some, none-some}
 use Rattle.tree_model.specs.View.{SystemView}
 use Rattle.trace_file.specs.declared.event.Event.{Event}
-use Rattle.trace_file.specs.Events.{last_among, starts, moment_of, start_of, end_of}
+use Rattle.trace_file.specs.Events.{last_among, starts, moment_of, start_of, end_of, is_started}
 use Rattle.trace_file.specs.Periods.{period_of, running, blocked, count_between, begins, is_clear, is_judged, got_in, HasPeriod, IsShort, IsOver}
 use Rattle.auditor.specs.declared.tally.Tally.{Tally}
+use Rattle.auditor.specs.declared.watch.State.{State}
 use Rattle.auditor.specs.declared.watch.Watch.{Watch}
 use Rattle.auditor.specs.declared.watch.Broken.{Broken}
 use Rattle.auditor.specs.declared.watch.Breach.{Breach}
@@ -17,7 +18,7 @@ use Rattle.auditor.specs.declared.watch.Breach.TheVariants.{Short, Over}
 use Rattle.auditor.specs.declared.watch.Reservation.{Reservation}
 use Rattle.auditor.specs.Tally.{IsJudged, IsTimeOf, IsTally, no_tally, tally_at}
 use Rattle.auditor.specs.Watch.{breach_of, whole_got, whole_breach, first_broken, is_short_breach, is_over_breach, counted, cut_tally, IsTimeBelow, IsTallied, TellsOn}
-use Rattle.auditor.specs.Told.{IsTold, TellsOf, Watched, reservation_of}
+use Rattle.auditor.specs.Told.{IsTold, TellsOf, reservation_of, state_at}
 use Rattle.auditor.specs.First.{IsFirstOfVcpu, IsSettled}
 use Rattle.auditor.proofs.Breaches.{short_breach, over_breach}
 use Rattle.auditor.proofs.Tallying.{count_true, none_has, least_same, most_same, tallied_one, tallied_same}
@@ -240,14 +241,18 @@ tally_none sys budgets events v none = record {
 
 -- up to the end of the trace
 pub settled_on : (sys : SystemView) (budgets : List ℕ) (events : List Event) (v at : ℕ) (r : Reservation)
-    (w new : Watch) (tally : Tally) (broken : Option Broken) → v < length sys.parts → 1 ≤ period_of sys v
-    → r ≡ reservation_of sys budgets v → at ≡ end_of events → IsTold sys budgets events (length events) v w
-    → TellsOn r w at new → new.now ≡ at → at < new.from + r.period → tally ≡ cut_tally new (breach_of r false new.got)
+    (state : State) (w new : Watch) (tally : Tally) (broken : Option Broken) → v < length sys.parts
+    → 1 ≤ period_of sys v → r ≡ reservation_of sys budgets v → at ≡ end_of events
+    → state ≡ state_at sys events (length events) v → IsTold sys budgets events (length events) v w
+    → TellsOn r state w at new → new.now ≡ at → at < new.from + r.period
+    → tally ≡ cut_tally new (breach_of r false new.got)
     → broken ≡ first_broken new.broken (breach_of r false new.got) new.from new.got
     → IsSettled sys budgets events v tally broken
-settled_on sys budgets events v at r w new tally broken part some er ea t tells now within et eb =
+settled_on sys budgets events v at r state w new tally broken part some er ea es t tells now within et eb =
     let own = reservation_of sys budgets v in
-    let on : TellsOn own w at new = subst (λ (z : Reservation). TellsOn z w at new) er tells in
+    let on : TellsOn own (state_at sys events (length events) v) w at new
+    = subst (λ (z : Reservation). TellsOn z (state_at sys events (length events) v) w at new) er
+    (subst (λ (z : State). TellsOn r z w at new) es tells) in
     let told : TellsOf sys budgets events v t.start new = on (running sys events v) (blocked events v) t.start (record {
       runs_on = λ x h l. t.runs_on x h (λ i a m. absurd (omega arith));
       blocked_on = λ x h l. t.blocked_on x h (λ i a m. absurd (omega arith));
@@ -279,11 +284,11 @@ settled_on sys budgets events v at r w new tally broken part some er ea t tells 
           (breach_of own false new.got) part some t.starts_at told.begun begun cut got refl told.broken);
     }
 
--- a VCPU whose watch never started
-pub unsettled : (sys : SystemView) (budgets : List ℕ) (events : List Event) (v : ℕ) (w : Watch)
-    → Watched sys budgets events (length events) v w → w.started ≡ false → IsSettled sys budgets events v no_tally None
-unsettled sys budgets events v w h off =
-    let none : start_of events v ≡ None = go (last_among (starts v) events (length events)) (sym h.started ∙ off) in
+-- a VCPU that never started
+pub unsettled : (sys : SystemView) (budgets : List ℕ) (events : List Event) (v : ℕ)
+    → is_started events (length events) v ≡ false → IsSettled sys budgets events v no_tally None
+unsettled sys budgets events v off =
+    let none : start_of events v ≡ None = go (last_among (starts v) events (length events)) off in
     record {
       counted = tally_none sys budgets events v none;
       broken = λ f k broken. no_period sys events v f k none (has_period sys budgets events v f k broken);

@@ -1,5 +1,5 @@
 -- A trace has one tally of each VCPU, and its judged periods are those that an audit counts.
-use Rattle.std.proofs.Common.{◌≡◌, ℕ, suc, ◌+◌, ◌<◌, ◌≤◌, Bool, true, false, cond, ltb, leb, ◌&&◌, List, length, Option, Some, None, refl, sym, ◌∙◌, ap, subst, arith, leb-true}
+use Rattle.std.proofs.Common.{◌≡◌, ℕ, suc, ◌+◌, ◌<◌, ◌≤◌, Bool, true, false, ltb, leb, ◌&&◌, List, length, Option, Some, None, refl, sym, ◌∙◌, ap, subst, arith, leb-true}
 use Rattle.std.proofs.Math.Nat.{mul-le-mul_left}
 use Rattle.std.proofs.lemmas.Bool.{and_parts, and_left, lt-ltb, le-ltb, ltb-true}
 use Rattle.std.proofs.lemmas.Option.{same_Some, none-some}
@@ -10,9 +10,9 @@ use Rattle.tree_model.specs.View.{SystemView}
 use Rattle.tree_model.specs.System.{IsSystem}
 use Rattle.trace_file.specs.declared.event.Event.{Event}
 use Rattle.trace_file.specs.Events.{start_of, end_of}
-use Rattle.trace_file.specs.Periods.{period_of, blocked, begins, is_clear, is_judged, HasPeriod, judged_of, judged_periods}
+use Rattle.trace_file.specs.Periods.{period_of, blocked, begins, is_clear, is_judged, judged_of, judged_periods}
 use Rattle.auditor.specs.declared.tally.Tally.{Tally}
-use Rattle.auditor.specs.Tally.{IsNumberOf, IsLeast, IsLeastOf, IsMost, IsMostOf, IsJudged, IsTally, no_tally, tally_at, AreTallies}
+use Rattle.auditor.specs.Tally.{IsNumberOf, IsLeastOf, IsMostOf, IsJudged, IsTally, no_tally, tally_at, AreTallies}
 use Rattle.auditor.proofs.Tallying.{count_alike, count_same, none_has}
 
 -- the numbers below a limit that pass a test, and no others

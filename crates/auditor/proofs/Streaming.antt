@@ -5,7 +5,10 @@ use Rattle.std.proofs.Math.Seq.{get_or-append_seam}
 use Rattle.tree_model.specs.View.{SystemView}
 use Rattle.trace_file.specs.declared.event.Event.{Event}
 use Rattle.trace_file.specs.declared.event.What.TheVariants.{End}
+use Rattle.trace_file.specs.declared.rows.Rows.{Rows}
+use Rattle.trace_file.specs.Rows.{IsAfter}
 use Rattle.trace_file.specs.Rules.{RowsKeep}
+use Rattle.trace_file.proofs.Prefix.{after_same}
 use Rattle.auditor.specs.declared.watches.Watches.{Watches}
 use Rattle.auditor.specs.Watches.{AreWatched, AwaitsEvent}
 
@@ -15,29 +18,31 @@ Behind sys budgets events s =
     → AreWatched sys budgets (events ++ more) (length events) s
 
 pub awaits_more : (sys : SystemView) (budgets : List ℕ) (events : List Event) (e : Event) (more : List Event)
-    (s : Watches) → RowsKeep sys (events ++ e ∷ more) (length (events ++ e ∷ more)) → Behind sys budgets events s
-    → AwaitsEvent sys budgets (events ++ e ∷ more) (length events) e s
-awaits_more sys budgets events e more s keep behind = record {
+    (rows : Rows) (s : Watches) → RowsKeep sys (events ++ e ∷ more) (length (events ++ e ∷ more))
+    → IsAfter events (length events) rows → Behind sys budgets events s
+    → AwaitsEvent sys budgets (events ++ e ∷ more) (length events) e rows s
+awaits_more sys budgets events e more rows s keep after behind = record {
   next = record {
-    rows = keep;
+    keep = keep;
     is_row = let l = length-append events (e ∷ more) in omega (arith, l);
     event_is = sym (get_or-append_seam events e more (record { at = 0; core = 0; what = End }));
+    after = after_same events (e ∷ more) (length events) rows (omega arith) after;
   };
   watched = behind (e ∷ more) keep;
 }
 
-pub behind_next : (sys : SystemView) (budgets : List ℕ) (events : List Event) (e : Event) (old new : Watches)
-    → Behind sys budgets events old
-    → ((xs : List Event) (n : ℕ) → AwaitsEvent sys budgets xs n e old → AreWatched sys budgets xs (n + 1) new)
+pub behind_next : (sys : SystemView) (budgets : List ℕ) (events : List Event) (e : Event) (rows : Rows)
+    (old new : Watches) → IsAfter events (length events) rows → Behind sys budgets events old
+    → ((xs : List Event) (n : ℕ) → AwaitsEvent sys budgets xs n e rows old → AreWatched sys budgets xs (n + 1) new)
     → Behind sys budgets (events ++ e ∷ []) new
-behind_next sys budgets events e old new behind taken = λ more keep.
+behind_next sys budgets events e rows old new after behind taken = λ more keep.
     let one : (events ++ e ∷ []) ++ more ≡ events ++ e ∷ more = append_assoc events (e ∷ []) more in
     let keeps : RowsKeep sys (events ++ e ∷ more) (length (events ++ e ∷ more))
     = subst (λ (z : List Event). RowsKeep sys z (length z)) one keep in
     let count : length events + 1 ≡ length (events ++ e ∷ []) = sym (length-append events (e ∷ [])) in
     subst (λ (z : List Event). AreWatched sys budgets z (length (events ++ e ∷ [])) new) (sym one)
     (subst (λ (n : ℕ). AreWatched sys budgets (events ++ e ∷ more) n new) count
-    (taken (events ++ e ∷ more) (length events) (awaits_more sys budgets events e more old keeps behind)))
+    (taken (events ++ e ∷ more) (length events) (awaits_more sys budgets events e more rows old keeps after behind)))
 
 pub behind_all : (sys : SystemView) (budgets : List ℕ) (events : List Event) (s : Watches) → Behind sys budgets events s
     → RowsKeep sys events (length events) → AreWatched sys budgets events (length events) s

@@ -1,7 +1,7 @@
 -- A worked tally: A has its core for 1 slot in every 2 and no extra time. A slot is 1,000 moments.
 -- Its first period is over, its second is short, in its third it is blocked, and the end cuts its
 -- fourth. A fifth would begin after the end.
-use Rattle.std.proofs.Common.{◌≡◌, ℕ, zero, suc, ◌*◌, ◌+◌, ◌<◌, ◌≤◌, Bool, true, false, ltb, leb, ◌&&◌, List, [], ◌∷◌, Option, Some, None, refl, sym, ◌∙◌, subst, arith, leb-true}
+use Rattle.std.proofs.Common.{◌≡◌, ℕ, zero, suc, ◌*◌, ◌+◌, ◌<◌, ◌≤◌, Bool, true, false, ltb, leb, ◌&&◌, List, [], ◌∷◌, Some, None, refl, sym, ◌∙◌, subst, arith, leb-true}
 use Rattle.std.proofs.lemmas.Bool.{and_parts, and_from, lt-ltb, ltb-true, false≢true}
 use Rattle.std.proofs.lemmas.Option.{same_Some}
 use Rattle.csv_rows.specs.Last.{last_below}
@@ -16,7 +16,7 @@ use Rattle.trace_file.specs.declared.event.What.TheVariants.{Start, Wake, Block,
 use Rattle.trace_file.specs.Events.{start_of}
 use Rattle.trace_file.specs.Periods.{blocked, is_clear, is_judged, got_in, HasPeriod, IsShort, IsOver}
 use Rattle.auditor.specs.declared.tally.Tally.{Tally}
-use Rattle.auditor.specs.Tally.{IsJudged, IsTimeOf, IsTally}
+use Rattle.auditor.specs.Tally.{IsJudged, IsTally}
 use Rattle.auditor.proofs.Tallying.{count_true}
 use Rattle.auditor.proofs.OneTally.{one_tally}
 

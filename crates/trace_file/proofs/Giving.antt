@@ -10,7 +10,6 @@ use Rattle.csv_rows.specs.declared.records.Records.{Records}
 use Rattle.csv_rows.proofs.Advancing.{has_front}
 use Rattle.csv_rows.proofs.Keeping.{keep_more, first_there, length_more}
 use Rattle.tree_model.specs.View.{SystemView}
-use Rattle.tree_model.specs.System.{IsSystem}
 use Rattle.trace_file.specs.declared.event.Event.{Event}
 use Rattle.trace_file.specs.declared.event.What.TheVariants.{End}
 use Rattle.trace_file.specs.declared.event_reader.EventReader.{EventReader}
@@ -18,11 +17,11 @@ use Rattle.trace_file.specs.declared.fault.TraceFault.{TraceFault}
 use Rattle.trace_file.specs.declared.fault.TraceFault.TheVariants.{AfterEnd, NoEnd, NoMemory}
 use Rattle.trace_file.specs.declared.rows.Rows.{Rows}
 use Rattle.trace_file.specs.Events.{has_ended}
-use Rattle.trace_file.specs.File.{is_row, event_of, events_of, row_rules, rows_of, unit_of, Spells, IsFileFault}
-use Rattle.trace_file.specs.Given.{HasGiven, IsBehindRows, IsSameFile}
-use Rattle.trace_file.specs.Named.{AreNames}
+use Rattle.trace_file.specs.File.{is_row, event_of, events_of, row_rules, rows_of, IsFileFault}
+use Rattle.trace_file.specs.Given.{HasAll, HasGiven, HasNext, HasRow}
 use Rattle.trace_file.specs.Rows.{IsAfter, IsNext}
-use Rattle.trace_file.specs.Rules.{row_of, fault_if, event_fault, row_fault, RowsKeep as EventsKeep, Kept}
+use Rattle.trace_file.specs.Rules.{row_of, fault_if, event_fault, row_fault, is_known, RowsKeep as EventsKeep}
+use Rattle.trace_file.proofs.After.{row_keeps}
 use Rattle.trace_file.proofs.Prefix.{after_same, ended_same}
 use Rattle.trace_file.proofs.Taking.{events_more, rules_of_event, events_keep, behind_header, file_fault}
 
@@ -54,24 +53,10 @@ pub given_keep : (sys : SystemView) (text : List ℕ) (events : List Event) (r :
 given_keep sys text events r h =
     subst (λ (z : List Event). EventsKeep sys z (length z)) (sym h.events_are) (events_keep sys r.unit h.rows h.keep)
 
--- the next row was read, and its event is not yet given
-pub record HasNext (sys : SystemView) (text : List ℕ) (events : List Event) (row : List (List ℕ)) (r : EventReader) :
-    Type 0 where
-  pub sys_is : r.sys.now ≡ sys
-  pub system : IsSystem sys
-  pub names : AreNames r.sys.now r.names
-  pub header : List (List ℕ)
-  pub rows : List (List (List ℕ))
-  pub unit : unit_of header ≡ Some r.unit
-  pub has_read : HasRead text (header ∷ (rows ++ row ∷ [])) r.records
-  pub keep : RowsKeep (row_rules sys r.unit) rows (length rows)
-  pub events_are : events ≡ events_of sys r.unit rows
-  pub behind : IsBehindRows rows r
-
 -- the reader behind the next row
 abbrev pub next_of : (sys : SystemView) (text : List ℕ) (events : List Event) (row : List (List ℕ)) (r : EventReader)
     (records : Records) → (h : HasGiven sys text events r) → HasRead text (h.header ∷ (h.rows ++ row ∷ [])) records
-    → HasNext sys text events row (record r { records = records })
+    → HasRow sys text events row (record r { records = records })
 next_of sys text events row r records h has = record {
   sys_is = h.sys_is;
   system = h.system;
@@ -86,31 +71,31 @@ next_of sys text events row r records h has = record {
 }
 
 next_long : (sys : SystemView) (text : List ℕ) (events : List Event) (row : List (List ℕ)) (r : EventReader)
-    → (h : HasNext sys text events row r) → length events ≡ length h.rows
+    → (h : HasRow sys text events row r) → length events ≡ length h.rows
 next_long sys text events row r h =
     ap (λ (z : List Event). length z) h.events_are ∙ length-map h.rows (event_of sys r.unit)
 
 -- the events of its rows, over the reader's own system
 own_events : (sys : SystemView) (text : List ℕ) (events : List Event) (row : List (List ℕ)) (r : EventReader)
-    → (h : HasNext sys text events row r) → events ≡ events_of r.sys.now r.unit h.rows
+    → (h : HasRow sys text events row r) → events ≡ events_of r.sys.now r.unit h.rows
 own_events sys text events row r h = h.events_are ∙ ap (λ (z : SystemView). events_of z r.unit h.rows) (sym h.sys_is)
 
 pub next_after : (sys : SystemView) (text : List ℕ) (events : List Event) (row : List (List ℕ)) (r : EventReader)
-    → HasNext sys text events row r → IsAfter events (length events) r.rows
+    → HasRow sys text events row r → IsAfter events (length events) r.rows
 next_after sys text events row r h =
     rw (own_events sys text events row r h, sym (own_long sys text events row r h)) h.behind.after
   where
     own_long : (sys : SystemView) (text : List ℕ) (events : List Event) (row : List (List ℕ)) (r : EventReader)
-        → (h : HasNext sys text events row r) → length h.rows ≡ length (events_of r.sys.now r.unit h.rows)
+        → (h : HasRow sys text events row r) → length h.rows ≡ length (events_of r.sys.now r.unit h.rows)
     own_long sys text events row r h = sym (length-map h.rows (event_of r.sys.now r.unit))
 
 pub next_row : (sys : SystemView) (text : List ℕ) (events : List Event) (row : List (List ℕ)) (r : EventReader)
-    → HasNext sys text events row r → r.row ≡ row_of (length events)
+    → HasRow sys text events row r → r.row ≡ row_of (length events)
 next_row sys text events row r h = omega (arith, h.behind.row, next_long sys text events row r h)
 
 -- no end came before it
 pub next_open : (sys : SystemView) (text : List ℕ) (events : List Event) (row : List (List ℕ)) (r : EventReader)
-    → (h : HasNext sys text events row r) → has_ended (events_of r.sys.now r.unit h.rows) (length h.rows) ≡ false
+    → (h : HasRow sys text events row r) → has_ended (events_of r.sys.now r.unit h.rows) (length h.rows) ≡ false
     → has_ended events (length events) ≡ false
 next_open sys text events row r h goes =
     ap (has_ended events) (next_long sys text events row r h)
@@ -118,7 +103,7 @@ next_open sys text events row r h goes =
 
 -- the rules of the row are those of its event
 pub next_rules : (sys : SystemView) (text : List ℕ) (events : List Event) (row : List (List ℕ)) (e : Event)
-    (r : EventReader) → (h : HasNext sys text events row r) → is_row row ≡ true → e ≡ event_of r.sys.now r.unit row
+    (r : EventReader) → (h : HasRow sys text events row r) → is_row row ≡ true → e ≡ event_of r.sys.now r.unit row
     → has_ended events (length events) ≡ false
     → row_rules sys r.unit h.rows row ≡ event_fault r.sys.now (events ++ e ∷ []) (length events)
 next_rules sys text events row e r h fits is goes =
@@ -130,7 +115,7 @@ next_rules sys text events row e r h fits is goes =
 
 -- a row that breaks a rule is the first
 pub row_breaks : (sys : SystemView) (text : List ℕ) (events : List Event) (row : List (List ℕ)) (r : EventReader)
-    (fault : TraceFault) → (h : HasNext sys text events row r) → row_rules sys r.unit h.rows row ≡ Some fault
+    (fault : TraceFault) → (h : HasRow sys text events row r) → row_rules sys r.unit h.rows row ≡ Some fault
     → IsFileFault sys (rows_of (records_of text)) fault
 row_breaks sys text events row r fault h breaks =
     let (more, front) = has_front text (h.header ∷ (h.rows ++ row ∷ [])) r.records h.has_read in
@@ -139,40 +124,71 @@ row_breaks sys text events row r fault h breaks =
     (front ∙ ap (λ (z : List (List (List ℕ))). h.header ∷ z) (append_assoc h.rows (row ∷ []) more)) h.unit)
     (inl (first_there (row_rules sys r.unit) h.rows row more fault h.keep breaks))
 
--- and one that keeps them is given
-pub given_more : (sys : SystemView) (text : List ℕ) (events : List Event) (row : List (List ℕ)) (e : Event)
-    (a b : EventReader) → (h : HasNext sys text events row a) → is_row row ≡ true → e ≡ event_of a.sys.now a.unit row
-    → has_ended events (length events) ≡ false → IsSameFile a b
-    → event_fault a.sys.now (events ++ e ∷ []) (length events) ≡ None
-    → IsAfter (events ++ e ∷ []) (length events + 1) b.rows → b.row ≡ a.row + 1
-    → HasGiven sys text (events ++ e ∷ []) b
-given_more sys text events row e a b h fits is goes same keeps after number =
-    let rows : List (List (List ℕ)) = h.rows ++ row ∷ [] in
-    let rule : row_rules sys a.unit h.rows row ≡ None = next_rules sys text events row e a h fits is goes ∙ keeps in
-    let event : e ≡ event_of sys a.unit row = is ∙ ap (λ (z : SystemView). event_of z a.unit row) h.sys_is in
-    let more : events ++ e ∷ [] ≡ events_of sys a.unit rows
-    = ap (λ (z : List Event). z ++ e ∷ []) h.events_are
-    ∙ (ap (λ (z : Event). events_of sys a.unit h.rows ++ z ∷ []) event
-    ∙ sym (events_more sys a.unit h.rows row)) in
-    let here : events ++ e ∷ [] ≡ events_of sys b.unit rows = more ∙ ap (λ z. events_of sys z rows) (sym same.unit) in
-    let sys_is : b.sys.now ≡ sys = ap (λ z. z.now) same.sys ∙ h.sys_is in
-    let long = next_long sys text events row a h in
-    let count : length events + 1 ≡ length rows = omega (arith, long, length_more h.rows row) in
+-- the row of an event that keeps the rules keeps them, and the events are those of the rows so far
+next_rows : (sys : SystemView) (text : List ℕ) (events : List Event) (e : Event) (r : EventReader)
+    → (next : HasNext sys text events e r)
+    → RowsKeep (row_rules sys r.unit) (next.has_row.rows ++ next.row ∷ []) (length (next.has_row.rows ++ next.row ∷ []))
+next_rows sys text events e r next =
+    let h = next.has_row in
+    keep_more (row_rules sys r.unit) h.rows next.row h.keep
+    (next_rules sys text events next.row e r h next.fits next.event_is next.is_open ∙ next.keeps)
+
+next_events : (sys : SystemView) (text : List ℕ) (events : List Event) (e : Event) (r : EventReader)
+    → (next : HasNext sys text events e r)
+    → events ++ e ∷ [] ≡ events_of sys r.unit (next.has_row.rows ++ next.row ∷ [])
+next_events sys text events e r next =
+    let h = next.has_row in
+    let event : e ≡ event_of sys r.unit next.row
+    = next.event_is ∙ ap (λ (z : SystemView). event_of z r.unit next.row) h.sys_is in
+    ap (λ (z : List Event). z ++ e ∷ []) h.events_are
+    ∙ (ap (λ (z : Event). events_of sys r.unit h.rows ++ z ∷ []) event
+    ∙ sym (events_more sys r.unit h.rows next.row))
+
+-- the events up to the next one keep the rules
+pub next_keep : (sys : SystemView) (text : List ℕ) (events : List Event) (e : Event) (r : EventReader)
+    → HasNext sys text events e r → EventsKeep sys (events ++ e ∷ []) (length (events ++ e ∷ []))
+next_keep sys text events e r next =
+    let h = next.has_row in
+    subst (λ (z : List Event). EventsKeep sys z (length z)) (sym (next_events sys text events e r next))
+    (events_keep sys r.unit (h.rows ++ next.row ∷ []) (next_rows sys text events e r next))
+
+-- the next one keeps them
+pub next_row_keeps : (sys : SystemView) (text : List ℕ) (events : List Event) (e : Event) (r : EventReader)
+    → HasNext sys text events e r → row_fault r.sys.now (events ++ e ∷ []) (length events) ≡ None
+next_row_keeps sys text events e r next = pushed_keeps r.sys.now events e next.is_open next.keeps
+
+pub next_known : (sys : SystemView) (text : List ℕ) (events : List Event) (e : Event) (r : EventReader)
+    → HasNext sys text events e r → is_known r.sys.now e.core e.what ≡ true
+next_known sys text events e r next =
+    subst (λ (z : Event). is_known r.sys.now z.core z.what ≡ true)
+    (get_or-append_seam events e [] (record { at = 0; core = 0; what = End }))
+    (row_keeps r.sys.now (events ++ e ∷ []) (length events) (next_row_keeps sys text events e r next)).known
+
+-- behind the next one
+pub given_more : (sys : SystemView) (text : List ℕ) (events : List Event) (e : Event) (r : EventReader) (rows : Rows)
+    (row : ℕ) → (next : HasNext sys text events e r) → IsAfter (events ++ e ∷ []) (length events + 1) rows
+    → row ≡ r.row + 1 → HasGiven sys text (events ++ e ∷ []) (record r { rows = rows; row = row })
+given_more sys text events e r rows row next after number =
+    let h = next.has_row in
+    let more : List (List (List ℕ)) = h.rows ++ next.row ∷ [] in
+    let here = next_events sys text events e r next in
+    let long = next_long sys text events next.row r h in
+    let count : length events + 1 ≡ length more = omega (arith, long, length_more h.rows next.row) in
     record {
-      sys_is = sys_is;
+      sys_is = h.sys_is;
       system = h.system;
-      names = rw (same.sys, same.names) h.names;
+      names = h.names;
       header = h.header;
-      rows = rows;
-      unit = h.unit ∙ ap (λ z. Some z) (sym same.unit);
-      has_read = rw (same.records) h.has_read;
-      keep = rw (same.unit) (keep_more (row_rules sys a.unit) h.rows row h.keep rule);
+      rows = more;
+      unit = h.unit;
+      has_read = h.has_read;
+      keep = next_rows sys text events e r next;
       events_are = here;
       behind = record {
-        row = omega (arith, number, h.behind.row, length_more h.rows row);
-        after = subst (λ (n : ℕ). IsAfter (events_of b.sys.now b.unit rows) n b.rows) count
-            (subst (λ (xs : List Event). IsAfter xs (length events + 1) b.rows)
-            (here ∙ ap (λ (z : SystemView). events_of z b.unit rows) (sym sys_is)) after);
+        row = omega (arith, number, h.behind.row, length_more h.rows next.row);
+        after = subst (λ (n : ℕ). IsAfter (events_of r.sys.now r.unit more) n rows) count
+            (subst (λ (xs : List Event). IsAfter xs (length events + 1) rows)
+            (here ∙ ap (λ (z : SystemView). events_of z r.unit more) (sym h.sys_is)) after);
       };
     }
 
@@ -183,21 +199,25 @@ given_after sys text events r h =
     subst (λ (xs : List Event). IsAfter xs (length h.rows) r.rows)
     (ap (λ (z : SystemView). events_of z r.unit h.rows) h.sys_is ∙ sym h.events_are) h.behind.after
 
-spelt_all : (sys : SystemView) (text : List ℕ) (events : List Event) (r : EventReader)
+spelt_all : (sys : SystemView) (text : List ℕ) (events : List Event) (r : EventReader) (records : Records)
     → (h : HasGiven sys text events r) → records_of text ≡ h.header ∷ h.rows → has_ended events (length h.rows) ≡ true
-    → Spells sys (records_of text) events × Kept sys events
-spelt_all sys text events r h all ended = (
-  record {
+    → HasAll sys text events (record r { records = records })
+spelt_all sys text events r records h all ended = record {
+  spelled = record {
     unit = r.unit;
     rows = h.rows;
     header = behind_header (records_of text) h.header h.rows r.unit all h.unit;
     keep = h.keep;
     ended = ended;
     events_are = h.events_are;
-  },
-  record
-      { rows = given_keep sys text events r h; ended = ap (has_ended events) (given_long sys text events r h) ∙ ended },
-)
+  };
+  kept =
+      record
+      { rows = given_keep sys text events r h; ended = ap (has_ended events) (given_long sys text events r h) ∙ ended };
+  after =
+      subst (λ (n : ℕ). IsAfter events n r.rows) (sym (given_long sys text events r h))
+      (given_after sys text events r h);
+}
 
 no_end : (sys : SystemView) (text : List ℕ) (events : List Event) (r : EventReader) (fault : TraceFault)
     → (h : HasGiven sys text events r) → records_of text ≡ h.header ∷ h.rows → fault ≡ NoEnd r.row
@@ -212,14 +232,14 @@ no_end sys text events r fault h all is open_ =
     }))
 
 pub ends_well : (o : Result (Option Event) TraceFault) (More : Event → Type 0) (sys : SystemView) (text : List ℕ)
-    (events : List Event) (r : EventReader) → (h : HasGiven sys text events r) → records_of text ≡ h.header ∷ h.rows
-    → IfOk o (λ next. next ≡ None)
+    (events : List Event) (r : EventReader) (records : Records) → (h : HasGiven sys text events r)
+    → records_of text ≡ h.header ∷ h.rows → IfOk o (λ next. next ≡ None)
     → ((xs : List Event) (n : ℕ) → IsAfter xs n r.rows → IfOk o (λ next. has_ended xs n ≡ true))
-    → IfOk o (λ next. MatchOption next (Spells sys (records_of text) events × Kept sys events) More)
-ends_well (Err f) More sys text events r h all none ended = tt
-ends_well (Ok None) More sys text events r h all none ended =
-    spelt_all sys text events r h all (ended events (length h.rows) (given_after sys text events r h))
-ends_well (Ok (Some e)) More sys text events r h all none ended = absurd (none-some e (sym none))
+    → IfOk o (λ next. MatchOption next (HasAll sys text events (record r { records = records })) More)
+ends_well (Err f) More sys text events r records h all none ended = tt
+ends_well (Ok None) More sys text events r records h all none ended =
+    spelt_all sys text events r records h all (ended events (length h.rows) (given_after sys text events r h))
+ends_well (Ok (Some e)) More sys text events r records h all none ended = absurd (none-some e (sym none))
 
 pub ends_badly : (o : Result (Option Event) TraceFault) (sys : SystemView) (text : List ℕ) (events : List Event)
     (r : EventReader) → (h : HasGiven sys text events r) → records_of text ≡ h.header ∷ h.rows

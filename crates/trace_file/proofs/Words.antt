@@ -1,17 +1,13 @@
--- A row that gives a core to a VCPU: its word is no other, so it may be looked for first.
-use Rattle.std.proofs.Common.{◌≡◌, ℕ, true, List, codes, ap}
+-- The word that a field is.
+use Rattle.std.proofs.Common.{◌≡◌, ℕ, true, false, List, codes}
 use Rattle.std.proofs.lemmas.Slice.Eq.{bytes_eq-Decides}
 use Rattle.std.specs.Prelude.{bytes_eq}
-use Rattle.tree_model.specs.View.{SystemView}
-use Rattle.trace_file.specs.declared.event.What.TheVariants.{Run}
-use Rattle.trace_file.specs.File.{part_place, names_vcpu, what_of}
+use Rattle.trace_file.specs.Spelt.{IsNoWord}
 
-is_run : (word : List ℕ) → bytes_eq word (codes "run") ≡ true → word ≡ codes "run"
-is_run word e = (bytes_eq-Decides word (codes "run")).0 e
+pub is_text : (field text : List ℕ) → bytes_eq field text ≡ true → field ≡ text
+is_text field text e = (bytes_eq-Decides field text).0 e
 
-pub run_is_told : (sys : SystemView) (word vcpu : List ℕ) → bytes_eq word (codes "run") ≡ true
-    → what_of sys word vcpu ≡ Run (part_place sys vcpu)
-run_is_told sys word vcpu e = ap (λ (z : List ℕ). what_of sys z vcpu) (is_run word e)
-
-pub run_names_vcpu : (word : List ℕ) → bytes_eq word (codes "run") ≡ true → names_vcpu word ≡ true
-run_names_vcpu word e = ap names_vcpu (is_run word e)
+pub no_word : (field : List ℕ) → bytes_eq field (codes "run") ≡ false → bytes_eq field (codes "start") ≡ false
+    → bytes_eq field (codes "wake") ≡ false → bytes_eq field (codes "block") ≡ false
+    → bytes_eq field (codes "stop") ≡ false → bytes_eq field (codes "end") ≡ false → IsNoWord field
+no_word field run start wake block stop end core vcpu = rw (run, start, wake, block, stop, end)

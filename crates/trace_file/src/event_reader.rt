@@ -22,18 +22,16 @@ pub struct EventReader<'b, 's> {
 }
 
 impl<'b, 's> EventReader<'b, 's> {
-    ghost use Rattle.std.specs.Prelude.{◌≡◌, ◌⊎◌, ◌∷◌, ◌++◌, ◌+◌, [], List, ℕ, length, IfOk, IfErr, OnOk, Some, None, true, false, MatchOption};
+    ghost use Rattle.std.specs.Prelude.{◌≡◌, ◌⊎◌, ◌∷◌, ◌++◌, [], List, ℕ, length, IfOk, IfErr, Some, None, true, false, MatchOption};
     ghost use Rattle.csv_rows.specs.Reading.{records_of, row_read};
     ghost use Rattle.tree_model.specs.View.{SystemView};
-    ghost use Rattle.tree_model.specs.System.{IsSystem};
     ghost use Rattle.trace_file.specs.declared.event.Event.{Event as EventView};
     ghost use Rattle.trace_file.specs.declared.fault.TraceFault.TheVariants.{NoMemory, NoEnd};
     ghost use Rattle.trace_file.specs.Events.{has_ended};
-    ghost use Rattle.trace_file.specs.File.{Spells, IsFileFault, rows_of, row_rules, is_row, event_of, events_of};
+    ghost use Rattle.trace_file.specs.File.{IsFileFault, rows_of, row_rules, is_row, event_of, events_of};
     ghost use Rattle.trace_file.specs.Named.{AreNames};
     ghost use Rattle.trace_file.specs.Rows.{IsAfter};
-    ghost use Rattle.trace_file.specs.Rules.{Kept, event_fault, row_of};
-    ghost use Rattle.trace_file.specs.Given.{HasGiven, IsBehindRows, IsSameFile};
+    ghost use Rattle.trace_file.specs.Given.{HasAll, HasGiven, HasNext, IsBehindRows};
 
     /// Before the first event.
     pub fn new(
@@ -63,15 +61,23 @@ impl<'b, 's> EventReader<'b, 's> {
         })
     }
 
-    /// The next event, and none where the trace has ended.
+    /// What the rows leave behind before the event that was read last, or behind the last one.
+    pub fn rows(&self) -> &Rows
+        ensures { result.now ≡ self.now.rows }
+    {
+        &self.rows
+    }
+
+    /// Reads the next event, which keeps the rules; `keep` goes on behind it. None where the trace
+    /// has ended.
     #[inline(always)]
     pub fn advance(&mut self) -> Result<Option<Event>, TraceFault>
         requires { (sys : SystemView) × (text : List ℕ) × (events : List EventView)
             × HasGiven sys text events self.old }
         ensures given { (sys : SystemView) (text : List ℕ) (events : List EventView)
             → HasGiven sys text events self.old → IfOk result (λ next. MatchOption next
-            (Spells sys (records_of text) events × Kept sys events)
-            (λ event. HasGiven sys text (events ++ event ∷ []) self.new)) }
+            (HasAll sys text events self.new)
+            (λ event. HasNext sys text events event self.new)) }
         ensures fault { (sys : SystemView) (text : List ℕ) (events : List EventView)
             → HasGiven sys text events self.old → IfErr result (λ fault. (fault ≡ NoMemory)
             ⊎ IsFileFault sys (rows_of (records_of text)) fault) }
@@ -85,10 +91,26 @@ impl<'b, 's> EventReader<'b, 's> {
             Ok(event) => event,
             Err(fault) => return Err(fault),
         };
-        match self.keep(event) {
-            Ok(()) => Ok(Some(event)),
-            Err(fault) => Err(fault),
+        if let Some(fault) = self.rows.event_fault(self.sys, event, self.row) {
+            return Err(fault);
         }
+        if self.row == u64::MAX {
+            return Err(TraceFault::NoMemory);
+        }
+        Ok(Some(event))
+    }
+
+    /// Goes on behind the event that was read last.
+    #[inline(always)]
+    pub fn keep(&mut self, event: Event)
+        requires { (sys : SystemView) × (text : List ℕ) × (events : List EventView)
+            × HasNext sys text events event self.old }
+        ensures { (sys : SystemView) (text : List ℕ) (events : List EventView)
+            → HasNext sys text events event self.old
+            → HasGiven sys text (events ++ event ∷ []) self.new }
+    {
+        self.rows.take(self.sys, event);
+        self.row += 1;
     }
 
     /// No event behind the last row, where the end has come.
@@ -126,32 +148,5 @@ impl<'b, 's> EventReader<'b, 's> {
             Spelt::TooLate => Err(TraceFault::OutOfRange(self.row)),
             Spelt::Spelled(event) => Ok(event),
         }
-    }
-
-    /// Takes an event that keeps the rules.
-    #[inline(always)]
-    fn keep(&mut self, event: Event) -> Result<(), TraceFault>
-        requires { IsSystem self.old.sys.now }
-        ensures same { IsSameFile self.old self.new }
-        ensures kept { (events : List EventView) → IsAfter events (length events) self.old.rows
-            → self.old.row ≡ row_of (length events) → OnOk result
-            (event_fault self.old.sys.now (events ++ event ∷ []) (length events) ≡ None) }
-        ensures after { (events : List EventView) → IsAfter events (length events) self.old.rows
-            → self.old.row ≡ row_of (length events) → has_ended events (length events) ≡ false
-            → OnOk result (IsAfter (events ++ event ∷ []) (length events + 1) self.new.rows) }
-        ensures row { OnOk result (self.new.row ≡ self.old.row + 1) }
-        ensures fault { (events : List EventView) → IsAfter events (length events) self.old.rows
-            → self.old.row ≡ row_of (length events) → IfErr result (λ fault. (fault ≡ NoMemory)
-            ⊎ (event_fault self.old.sys.now (events ++ event ∷ []) (length events) ≡ Some fault)) }
-    {
-        if let Some(fault) = self.rows.event_fault(self.sys, event, self.row) {
-            return Err(fault);
-        }
-        if self.row == u64::MAX {
-            return Err(TraceFault::NoMemory);
-        }
-        self.rows.take(self.sys, event);
-        self.row += 1;
-        Ok(())
     }
 }

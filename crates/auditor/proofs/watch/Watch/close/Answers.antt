@@ -5,7 +5,7 @@ use Rattle.auditor.proofs.Telling.{tells_closed}
 use Rattle.auditor.proofs.watch.Watch.close.Goals as goal
 
 pub returns-clause-tells : goal.returns-clause-tells
-returns-clause-tells c runs blocks f st t =
+returns-clause-tells c state runs blocks f st t =
     let w = c.args.self.now in
     let breach = c.breach-breach.ensures in
     rw c.note.ensures (tells_closed runs blocks c.args.reservation f w _ _ c.requires.at_end

@@ -1,10 +1,10 @@
-use Rattle.std.proofs.Common.{◌∷◌, ◌∙◌, List, ℕ, sym, ap, inl, inr}
+use Rattle.std.proofs.Common.{◌∷◌, ◌++◌, [], ◌∙◌, List, ℕ, length, sym, ap, inr, arith}
 use Rattle.csv_rows.specs.Reading.{row_read}
 use Rattle.csv_rows.proofs.Advancing.{has_open}
 use Rattle.tree_model.specs.View.{SystemView}
 use Rattle.trace_file.specs.declared.event_reader.EventReader.{EventReader}
 use Rattle.trace_file.specs.File.{row_rules}
-use Rattle.trace_file.proofs.Giving.{next_of, next_after, next_row, next_open, next_rules, row_breaks, given_more, ends_well, ends_badly}
+use Rattle.trace_file.proofs.Giving.{next_of, next_pushed, next_after, next_row, next_open, next_rules, row_breaks, ends_well, ends_badly}
 use Rattle.trace_file.proofs.event_reader.EventReader.advance.Goals as goal
 
 pub advance-requires : goal.advance-requires
@@ -14,7 +14,8 @@ advance-requires c =
 pub returns-in-Ok-false-clause-given : goal.returns-in-Ok-false-clause-given
 returns-in-Ok-false-clause-given c sys text events h =
     let all = rw c.in-Ok-false.field-0-test at (c.in-Ok-false.ensures.read text (h.header ∷ h.rows) h.has_read) in
-    ends_well c.end.result _ sys text events c.args.self.now h all c.end.ensures.none c.end.ensures.ended
+    ends_well c.end.result _ sys text events c.args.self.now c.advance.new.self h all c.end.ensures.none
+    c.end.ensures.ended
 
 pub returns-in-Ok-false-clause-fault : goal.returns-in-Ok-false-clause-fault
 returns-in-Ok-false-clause-fault c sys text events h =
@@ -30,32 +31,36 @@ returns-in-Err-spelled-clause-fault c sys text events h =
     (ap (λ (z : SystemView). row_rules z c.args.self.now.unit h.rows row) (sym h.sys_is)
     ∙ c.in-Err-spelled.ensures.fault h.rows next.behind))
 
-pub returns-in-Ok-keep-clause-given : goal.returns-in-Ok-keep-clause-given
-returns-in-Ok-keep-clause-given c sys text events h =
+pub returns-in-Some-clause-fault : goal.returns-in-Some-clause-fault
+returns-in-Some-clause-fault c sys text events h =
     let row : List (List ℕ) = row_read c.advance.new.self in
     let all = rw c.in-Ok-true.field-0-test at (c.in-Ok-true.ensures.read text (h.header ∷ h.rows) h.has_read) in
     let a : EventReader = record c.args.self.now { records = c.advance.new.self } in
     let next = next_of sys text events row c.args.self.now c.advance.new.self h all in
     let spelt = c.in-Ok.ensures.event h.rows next.behind in
     let goes = next_open sys text events row a next spelt.0 in
-    let after = next_after sys text events row a next in
-    let number = next_row sys text events row a next in
-    given_more sys text events row c.in-Ok.event a c.keep.new.self next spelt.1 spelt.2 goes c.in-Ok-keep.ensures.same
-    (c.in-Ok-keep.ensures.kept events after number) (c.in-Ok-keep.ensures.after events after number goes)
-    c.in-Ok-keep.ensures.row
+    let told = next_pushed events c.in-Ok.event a.row a.rows (next_after sys text events row a next)
+    (next_row sys text events row a next) in
+    inr (row_breaks sys text events row a c.in-Some.fault next
+    (next_rules sys text events row c.in-Ok.event a next spelt.1 spelt.2 goes
+    ∙ (sym (c.event_fault.ensures.fault (events ++ c.in-Ok.event ∷ []) (length events) told) ∙ c.in-Some.is)))
 
-pub returns-in-Err-keep-clause-fault : goal.returns-in-Err-keep-clause-fault
-returns-in-Err-keep-clause-fault c sys text events h =
+pub returns-clause-given : goal.returns-clause-given
+returns-clause-given c sys text events h =
     let row : List (List ℕ) = row_read c.advance.new.self in
     let all = rw c.in-Ok-true.field-0-test at (c.in-Ok-true.ensures.read text (h.header ∷ h.rows) h.has_read) in
     let a : EventReader = record c.args.self.now { records = c.advance.new.self } in
     let next = next_of sys text events row c.args.self.now c.advance.new.self h all in
     let spelt = c.in-Ok.ensures.event h.rows next.behind in
-    let goes = next_open sys text events row a next spelt.0 in
-    elim (c.in-Err-keep.ensures.fault events (next_after sys text events row a next)
-    (next_row sys text events row a next)) [
-      | inl memory ↦ inl memory
-      | inr breaks ↦
-          inr (row_breaks sys text events row a c.in-Err-keep.fault next
-          (next_rules sys text events row c.in-Ok.event a next spelt.1 spelt.2 goes ∙ breaks))
-    ]
+    let told = next_pushed events c.in-Ok.event a.row a.rows (next_after sys text events row a next)
+    (next_row sys text events row a next) in
+    record {
+      row = row;
+      has_row = next;
+      fits = spelt.1;
+      event_is = spelt.2;
+      is_open = next_open sys text events row a next spelt.0;
+      keeps =
+          sym (c.event_fault.ensures.fault (events ++ c.in-Ok.event ∷ []) (length events) told) ∙ c.in_default.is;
+      room = omega (arith, c.if-self.false);
+    }
