@@ -1,9 +1,7 @@
 -- A system that is edited in place, and the same once the edit is undone.
-use Rattle.std.proofs.Common.{◌≡◌, ℕ, ◌+◌, ◌-◌, ◌<◌, ◌≤◌, true, length, length-set, arith, sym, ◌∙◌, ap, subst}
+use Rattle.std.proofs.Common.{◌≡◌, ℕ, ◌-◌, ◌<◌, ◌≤◌, true, length, length-set, arith, sym, ◌∙◌, ap, subst}
 use Rattle.tree_model.specs.View.{PartView, SystemView}
 use Rattle.tree_model.specs.System.{IsSystem, part_at, is_leaf_at}
-use Rattle.tree_model.specs.declared.plan.Refusal.{Refusal}
-use Rattle.tree_model.specs.Admission.{FirstRefusal}
 use Rattle.admission_session.specs.Leaves.{with_leaf, with_changed, fallen_part, without_leaf, without_last, with_leaf_back}
 use Rattle.admission_session.proofs.KeptByEdits.{changed_here, removed_length}
 use Rattle.admission_session.proofs.Undone.{last_off, last_is, some_part, changed_back, leaf_back}
