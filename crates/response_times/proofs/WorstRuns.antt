@@ -1,25 +1,28 @@
--- The first run of the worst case, as the code makes it, and the response that it shows.
-use Rattle.std.proofs.Common.{◌≡◌, ◌≢◌, ℕ, ◌+◌, ◌<◌, ◌≤◌, Bool, List, length, Option, Some, ◌∙◌, ap, arith, subst, sym}
+-- The first run of the worst case, as the code makes it, and the responses that it shows.
+use Rattle.std.proofs.Common.{◌≡◌, ◌≢◌, ℕ, ◌+◌, ◌<◌, ◌≤◌, Bool, List, length, Option, Some, None, MatchOption, ◌∙◌, ap, arith, subst, sym, inl, inr}
+use Rattle.std.proofs.lemmas.Bool.{cases_lt}
 use Rattle.slot_model.specs.declared.job.Job.{Job}
 use Rattle.slot_model.specs.declared.sched.Sched.{Sched}
 use Rattle.slot_model.specs.declared.sched.Sched.TheVariants.{Edf}
 use Rattle.slot_model.specs.Supply.{SupplyLaws, Follows}
 use Rattle.slot_model.specs.Task.{SporadicTask, AreConstrained, job_at}
 use Rattle.slot_model.specs.Release.{synchronous}
-use Rattle.slot_model.specs.Run.{guest, service, FirstRun, PermittedRun}
+use Rattle.slot_model.specs.Run.{guest, held, holds, service, FirstRun, PermittedRun}
 use Rattle.slot_model.specs.Miss.{HoldsReleased}
 use Rattle.slot_model.specs.Order.{before_of, ranks_above}
-use Rattle.slot_model.proofs.FirstRuns.{first_permitted}
+use Rattle.slot_model.proofs.FirstRuns.{first_permitted, run_to}
 use Rattle.slot_model.proofs.MissedJobs.{permitted_holds_released}
+use Rattle.slot_model.proofs.Runs.{count_below-mono}
+use Rattle.slot_model.proofs.WorstLists.{worst_list, worst_list-is}
 use Rattle.fp_test.specs.Hits.{IsLeastHit}
 use Rattle.fp_test.proofs.Answer.{answer_in_time, answer_late}
 use Rattle.guest_sched.specs.declared.spans.Span.{Span}
-use Rattle.guest_sched.specs.Spans.{AreSpans, run_of, slots_of, Window}
+use Rattle.guest_sched.specs.Spans.{run_of, slots_of, Window}
 use Rattle.guest_sched.proofs.Given.{slots-long}
-use Rattle.response_times.specs.Replay.{IsFirstJob, IsWorstRun, ShowsResponse}
+use Rattle.response_times.specs.Replay.{AnswersResponse, IsFirstJob, IsWorstRun, ShowsAnswer, ShowsResponse}
 use Rattle.response_times.specs.Response.{IsResponse}
-use Rattle.response_times.proofs.Responses.{one_response, responds_from_start}
-use Rattle.response_times.proofs.FirstJobs.{some_first, first_from_start}
+use Rattle.response_times.proofs.Responses.{in_run, one_response, responds_from_start, strict_order}
+use Rattle.response_times.proofs.FirstJobs.{first_place, first_from_start}
 
 worst_permitted : (before : Job → Job → Bool) (tasks : List SporadicTask) (pattern : ℕ → Bool) (start span : ℕ)
     (run : List (Option ℕ)) → (h : IsWorstRun before tasks pattern start span run)
@@ -31,114 +34,159 @@ worst_permitted before tasks pattern start span run h =
 pub record RanWorst (before : Job → Job → Bool) (tasks : List SporadicTask) (pattern : ℕ → Bool) (start span : ℕ)
     (jobs : List Job) (spans : List Span) : Type 0 where
   pub jobs_are : jobs ≡ synchronous tasks start span
-  pub are_spans : AreSpans spans (length (run_of spans))
   pub is_worst : IsWorstRun before tasks pattern start span (run_of spans)
 
 -- as the code makes them: the jobs, the windows of the pattern, and the spans of the run over them
 pub ran_worst : (before : Job → Job → Bool) (tasks : List SporadicTask) (pattern : ℕ → Bool) (start from span : ℕ)
     (made ran told : List Job) (drawn windows : List Window) (spans seen : List Span)
     → from ≡ start → ran ≡ made → windows ≡ drawn → told ≡ made → seen ≡ spans → made ≡ synchronous tasks from span
-    → Follows pattern (slots_of drawn (from + span)) → AreSpans spans (from + span)
+    → Follows pattern (slots_of drawn (from + span))
     → FirstRun guest before tasks ran (slots_of windows (from + span)) (run_of spans)
     → RanWorst before tasks pattern start span told seen
-ran_worst before tasks pattern start from span made ran told drawn windows spans seen f r w j s exact follows joined
-    first =
+ran_worst before tasks pattern start from span made ran told drawn windows spans seen f r w j s exact follows first =
     let slots : List Bool = slots_of drawn (from + span) in
     let ended : length slots ≡ from + span = slots-long drawn (from + span) in
     let same : made ≡ synchronous tasks start span = exact ∙ ap (λ (a : ℕ). synchronous tasks a span) f in
-    let here : FirstRun guest before tasks ran slots (run_of spans)
-    = subst (λ (z : List Window). FirstRun guest before tasks ran (slots_of z (from + span)) (run_of spans)) w
-    first in
+    let here : FirstRun guest before tasks ran slots (run_of seen)
+    = subst (λ (z : List Span). FirstRun guest before tasks ran slots (run_of z)) (sym s)
+    (subst (λ (z : List Window). FirstRun guest before tasks ran (slots_of z (from + span)) (run_of spans)) w first) in
     record {
       jobs_are = j ∙ same;
-      are_spans =
-          subst (λ (z : List Span). AreSpans z (length (run_of z))) (sym s)
-          (subst (AreSpans spans) (sym (here.long ∙ ended)) joined);
       is_worst = record {
         slots = slots;
         worst = record { follows = follows; long = omega (arith, ended, f) };
-        first_run =
-            subst (λ (z : List Job). FirstRun guest before tasks z slots (run_of seen)) (r ∙ same)
-            (subst (λ (z : List Span). FirstRun guest before tasks ran slots (run_of z)) (sym s) here);
+        first_run = subst (λ (z : List Job). FirstRun guest before tasks z slots (run_of seen)) (r ∙ same) here;
       };
     }
 
--- such a run holds released jobs alone
-pub worst_released : (before : Job → Job → Bool) (tasks : List SporadicTask) (pattern : ℕ → Bool) (start span : ℕ)
-    (jobs : List Job) (spans : List Span) → RanWorst before tasks pattern start span jobs spans
-    → HoldsReleased jobs (run_of spans)
-worst_released before tasks pattern start span jobs spans h =
-    subst (λ (z : List Job). HoldsReleased z (run_of spans)) (sym h.jobs_are)
-    (permitted_holds_released guest before tasks (synchronous tasks start span) h.is_worst.slots (run_of spans)
-    (worst_permitted before tasks pattern start span (run_of spans) h.is_worst))
+-- a run holds released jobs alone, and is as long as it is to be
+pub ran_released : (before : Job → Job → Bool) (tasks : List SporadicTask) (slots : List Bool)
+    (made ran told : List Job) (spans seen : List Span) → ran ≡ made → told ≡ made → seen ≡ spans
+    → FirstRun guest before tasks ran slots (run_of spans) → HoldsReleased told (run_of seen)
+ran_released before tasks slots made ran told spans seen r j s first =
+    let here : HoldsReleased ran (run_of spans)
+    = permitted_holds_released guest before tasks ran slots (run_of spans)
+    (first_permitted guest before tasks ran slots (run_of spans) first) in
+    subst (λ (z : List Job). HoldsReleased z (run_of seen)) (r ∙ sym j)
+    (subst (λ (z : List Span). HoldsReleased ran (run_of z)) (sym s) here)
 
--- the task has a first job there
-pub worst_first : (before : Job → Job → Bool) (tasks : List SporadicTask) (pattern : ℕ → Bool) (start span i : ℕ)
-    (jobs : List Job) (spans : List Span) → i < length tasks → 1 ≤ span
-    → RanWorst before tasks pattern start span jobs spans → (j : ℕ) × IsFirstJob jobs i j
-worst_first before tasks pattern start span i jobs spans li some h =
-    subst (λ (z : List Job). (j : ℕ) × IsFirstJob z i j) (sym h.jobs_are) (some_first tasks start span i li some)
+pub ran_long : (before : Job → Job → Bool) (tasks : List SporadicTask) (ran : List Job) (windows : List Window) (n : ℕ)
+    (spans seen : List Span) → seen ≡ spans → FirstRun guest before tasks ran (slots_of windows n) (run_of spans)
+    → length (run_of seen) ≡ n
+ran_long before tasks ran windows n spans seen s first =
+    ap (λ (z : List Span). length (run_of z)) s ∙ (first.long ∙ slots-long windows n)
 
--- and where it is known to have its work, it has it in these spans
-pub worst_done : (before : Job → Job → Bool) (tasks : List SporadicTask) (pattern : ℕ → Bool) (start span i : ℕ)
-    (jobs : List Job) (spans : List Span)
-    → ((run : List (Option ℕ)) (j : ℕ) → IsWorstRun before tasks pattern start span run
-    → IsFirstJob (synchronous tasks start span) i j
-    → (job_at (synchronous tasks start span) j).work ≤ service run j (length run))
-    → RanWorst before tasks pattern start span jobs spans → (j : ℕ) → IsFirstJob jobs i j
-    → (job_at jobs j).work ≤ service (run_of spans) j (length (run_of spans))
-worst_done before tasks pattern start span i jobs spans done h =
-    subst (λ (z : List Job). (j : ℕ) → IsFirstJob z i j
-    → (job_at z j).work ≤ service (run_of spans) j (length (run_of spans))) (sym h.jobs_are)
-    (λ j. done (run_of spans) j h.is_worst)
+-- what is read off it of the job at a task's place is what it shows of the task
+shows_answer : (before : Job → Job → Bool) (tasks : List SporadicTask) (pattern : ℕ → Bool) (start span i j : ℕ)
+    (run : List (Option ℕ)) (answer : Option ℕ) → IsWorstRun before tasks pattern start span run
+    → IsFirstJob (synchronous tasks start span) i j → AnswersResponse (synchronous tasks start span) run j answer
+    → ShowsAnswer before tasks pattern start span i answer
+shows_answer before tasks pattern start span i j run None worst first lacks =
+    record { run = run; is_worst = worst; job = j; first_job = first; lacks = lacks }
+shows_answer before tasks pattern start span i j run (Some t) worst first responds =
+    record { run = run; is_worst = worst; job = j; first_job = first; responds = responds }
 
--- what is read off these spans is what the run shows
-pub worst_shows : (before : Job → Job → Bool) (tasks : List SporadicTask) (pattern : ℕ → Bool) (start span i t : ℕ)
-    (jobs : List Job) (spans : List Span) → i < length tasks → 1 ≤ span
-    → RanWorst before tasks pattern start span jobs spans
-    → ((j : ℕ) → IsFirstJob jobs i j → IsResponse jobs (run_of spans) j t)
-    → ShowsResponse before tasks pattern start span i t
-worst_shows before tasks pattern start span i t jobs spans li some h responds =
-    let first : (j : ℕ) × IsFirstJob (synchronous tasks start span) i j = some_first tasks start span i li some in
-    let read : (j : ℕ) → IsFirstJob (synchronous tasks start span) i j
-    → IsResponse (synchronous tasks start span) (run_of spans) j t
-    = subst (λ (z : List Job). (j : ℕ) → IsFirstJob z i j → IsResponse z (run_of spans) j t) h.jobs_are responds in
-    record {
-      run = run_of spans;
-      is_worst = h.is_worst;
-      job = first.0;
-      first_job = first.1;
-      responds = read first.0 first.1;
-    }
+pub worst_shows : (before : Job → Job → Bool) (tasks : List SporadicTask) (pattern : ℕ → Bool) (start span i : ℕ)
+    (jobs : List Job) (spans : List Span) (answer : Option ℕ) → i < length tasks → 1 ≤ span
+    → RanWorst before tasks pattern start span jobs spans → AnswersResponse jobs (run_of spans) i answer
+    → ShowsAnswer before tasks pattern start span i answer
+worst_shows before tasks pattern start span i jobs spans answer li some h read =
+    shows_answer before tasks pattern start span i i (run_of spans) answer h.is_worst
+    (first_place tasks start span i li some)
+    (subst (λ (z : List Job). AnswersResponse z (run_of spans) i answer) h.jobs_are read)
 
 module _ (sched : Sched) (fixed : sched ≢ Edf) (tasks : List SporadicTask) (fits : AreConstrained tasks) {bound : ℕ → ℕ}
     {amount cycle : ℕ} {pattern : ℕ → Bool} {start : ℕ} {Conforms : List Bool → Type 0}
-    (laws : SupplyLaws bound amount cycle pattern start Conforms) (i span : ℕ) (li : i < length tasks)
-    (least : IsLeastHit (ranks_above sched tasks) tasks bound i span) where
-  -- the first job has the least hit for its response
-  least_responds : (run : List (Option ℕ)) (j : ℕ) → IsWorstRun (before_of sched tasks) tasks pattern start span run
-      → IsFirstJob (synchronous tasks start span) i j → IsResponse (synchronous tasks start span) run j span
-  least_responds run j worst first =
-      responds_from_start (before_of sched tasks) tasks fits laws i span least.0.some_slots
-      (answer_in_time sched fixed tasks fits laws i (Some span) least)
-      (answer_late sched fixed tasks fits laws i (Some span) least)
+    (laws : SupplyLaws bound amount cycle pattern start Conforms) (i t : ℕ) (li : i < length tasks)
+    (least : IsLeastHit (ranks_above sched tasks) tasks bound i t) where
+  -- in each run that is as long the first job has the least hit for its response
+  least_responds : (span : ℕ) → t ≤ span → (run : List (Option ℕ)) (j : ℕ)
+      → IsWorstRun (before_of sched tasks) tasks pattern start span run
+      → IsFirstJob (synchronous tasks start span) i j → IsResponse (synchronous tasks start span) run j t
+  least_responds span fit run j worst first =
+      responds_from_start (before_of sched tasks) tasks fits laws i t span least.0.some_slots fit
+      (answer_in_time sched fixed tasks fits laws i (Some t) least)
+      (answer_late sched fixed tasks fits laws i (Some t) least)
       worst.slots worst.worst run (worst_permitted (before_of sched tasks) tasks pattern start span run worst) j
-      first.is_job first.mine (first_from_start tasks fits start span i j li least.0.some_slots first)
+      first.is_job first.mine
+      (first_from_start tasks start span i j li (omega (arith, fit, least.0.some_slots)) first)
 
-  -- so it has its work in the run
-  pub least_done : (run : List (Option ℕ)) (j : ℕ) → IsWorstRun (before_of sched tasks) tasks pattern start span run
+  -- so it has its work at the end
+  least_done : (span : ℕ) → t ≤ span → (run : List (Option ℕ)) (j : ℕ)
+      → IsWorstRun (before_of sched tasks) tasks pattern start span run
       → IsFirstJob (synchronous tasks start span) i j
       → (job_at (synchronous tasks start span) j).work ≤ service run j (length run)
-  least_done run j worst first =
+  least_done span fit run j worst first =
       let W : List Job = synchronous tasks start span in
       let released : (job_at W j).release ≡ start
-      = first_from_start tasks fits start span i j li least.0.some_slots first in
-      let end : (job_at W j).release + span ≡ length run
-      = omega (arith, released, worst.worst.long, worst.first_run.long) in
-      subst (λ (x : ℕ). (job_at W j).work ≤ service run j x) end (least_responds run j worst first).has_work
+      = first_from_start tasks start span i j li (omega (arith, fit, least.0.some_slots)) first in
+      omega (
+        arith,
+        (least_responds span fit run j worst first).has_work,
+        count_below-mono (λ y. holds (held run y) j) ((job_at W j).release + t) (length run)
+            (omega (arith, fit, released, worst.worst.long, worst.first_run.long)),
+      )
 
-  -- and what the run shows is the least hit
-  pub shown_is_least : (t : ℕ) → ShowsResponse (before_of sched tasks) tasks pattern start span i t → t ≡ span
-  shown_is_least t shows =
-      one_response (synchronous tasks start span) shows.run shows.job t span shows.responds
-      (least_responds shows.run shows.job shows.is_worst shows.first_job)
+  -- and in a shorter run it lacks work at the end
+  least_lacks : (span : ℕ) → 1 ≤ span → span < t → (run : List (Option ℕ)) (j : ℕ)
+      → IsWorstRun (before_of sched tasks) tasks pattern start span run
+      → IsFirstJob (synchronous tasks start span) i j
+      → service run j (length run) < (job_at (synchronous tasks start span) j).work
+  least_lacks span some short run j worst first =
+      let W : List Job = synchronous tasks start span in
+      subst (λ (x : ℕ). service run j x < (job_at W j).work)
+      (let e : start + span ≡ length run = omega (arith, worst.worst.long, worst.first_run.long) in e)
+      (answer_late sched fixed tasks fits laws i (Some t) least span span short (omega arith) worst.slots worst.worst
+      run (worst_permitted (before_of sched tasks) tasks pattern start span run worst) j first.is_job first.mine
+      (first_from_start tasks start span i j li some first))
+
+  -- so what a run shows is the least hit, where it is as long
+  pub answer_is_least : (span : ℕ) → 1 ≤ span → (answer : Option ℕ)
+      → ShowsAnswer (before_of sched tasks) tasks pattern start span i answer
+      → MatchOption answer (span < t) (λ u. (u ≡ t) × (t ≤ span))
+  answer_is_least span some None h = elim (cases_lt span t) [
+    | inl late ↦ late
+    | inr fit ↦ absurd (omega (arith, h.lacks, least_done span fit h.run h.job h.is_worst h.first_job))
+  ]
+  answer_is_least span some (Some u) h =
+      let W : List Job = synchronous tasks start span in
+      elim (cases_lt span t) [
+        | inl late ↦
+            (let ends : (job_at W h.job).release + u ≤ length h.run
+            = in_run h.run h.job (job_at W h.job).work ((job_at W h.job).release + u) h.responds.not_before
+            h.responds.has_work in
+            absurd (omega (
+              arith,
+              h.responds.has_work,
+              count_below-mono (λ y. holds (held h.run y) h.job) ((job_at W h.job).release + u) (length h.run) ends,
+              least_lacks span some late h.run h.job h.is_worst h.first_job,
+            )))
+        | inr fit ↦ (
+          one_response W h.run h.job u t h.responds (least_responds span fit h.run h.job h.is_worst h.first_job),
+          fit,
+        )
+      ]
+
+  -- and the run that ends with it shows it
+  pub shows_least : ShowsResponse (before_of sched tasks) tasks pattern start t i t
+  shows_least =
+      let W : List Job = synchronous tasks start t in
+      let slots : List Bool = worst_list pattern (start + t) in
+      let made = run_to guest (before_of sched tasks) (strict_order sched tasks) tasks W slots (length slots) in
+      let worst : IsWorstRun (before_of sched tasks) tasks pattern start t made.0
+      = record { slots = slots; worst = worst_list-is pattern start t; first_run = made.1 } in
+      let first : IsFirstJob W i i = first_place tasks start t i li least.0.some_slots in
+      record {
+        run = made.0;
+        is_worst = worst;
+        job = i;
+        first_job = first;
+        responds = least_responds t (omega arith) made.0 i worst first;
+      }
+
+-- what is seen of a task where something is
+pub seen_shown : (before : Job → Job → Bool) (tasks : List SporadicTask) (pattern : ℕ → Bool) (start span i t : ℕ)
+    (seen : Option ℕ) → seen ≡ Some t → ShowsAnswer before tasks pattern start span i seen
+    → ShowsResponse before tasks pattern start span i t
+seen_shown before tasks pattern start span i t seen e h =
+    subst (ShowsAnswer before tasks pattern start span i) e h

@@ -9,4 +9,4 @@ mod replays;
 
 pub use greatest::response;
 pub use jobs::response_jobs;
-pub use replays::replay;
+pub use replays::{replay, replay_tasks};

@@ -1,19 +1,15 @@
-ghost use Rattle.std.specs.Prelude.{◌≡◌, ◌≢◌, ℕ, ◌+◌, ◌^◌, ◌<◌, ◌≤◌, List, length, Option, Some, IfOk};
-ghost use Rattle.slot_model.specs.Task.{sporadic_tasks, job_at};
+ghost use Rattle.std.specs.Prelude.{◌≡◌, ◌≢◌, ℕ, ◌+◌, ◌<◌, ◌≤◌, Option, Some, length, IfOk, MatchOption};
+ghost use Rattle.slot_model.specs.Task.{sporadic_tasks};
 ghost use Rattle.slot_model.specs.Order.{ranks_above, before_of};
-ghost use Rattle.slot_model.specs.Release.{synchronous};
-ghost use Rattle.slot_model.specs.Run.{service};
-ghost use Rattle.slot_model.specs.Miss.{HoldsReleased};
 ghost use Rattle.fp_test.specs.Hits.{IsLeastHit, AnswersLeastHit};
-ghost use Rattle.guest_sched.specs.Spans.{AreSpans, run_of};
-ghost use Rattle.response_times.specs.Replay.{IsReplayable, IsFirstJob, IsWorstRun, ShowsResponse};
-ghost use Rattle.response_times.specs.Response.{IsResponse, IsGreatestResponse};
+ghost use Rattle.response_times.specs.Replay.{IsReplayable, ShowsResponse, ShowsAnswer, seen_at};
+ghost use Rattle.response_times.specs.Response.{IsGreatestResponse};
 
 use crate::greatest::response;
-use crate::in_spans::response_in;
-use crate::jobs::{first_job, response_jobs};
-use guest_sched::{Span, guest_by, pattern_windows};
-use slot_model::{Job, Sched, Task};
+use crate::in_spans::first_responses;
+use crate::jobs::response_jobs;
+use guest_sched::{guest_by, pattern_windows};
+use slot_model::{Sched, Task};
 use std::alloc::{AllocError, Global};
 use supply_bound::Supply;
 
@@ -47,57 +43,42 @@ pub fn replay<S: Supply>(
     let Some(span) = response(sched, tasks, i, s) else {
         unreachable!()
     };
-    run_worst_case(alloc, sched, tasks, i, s, span)
+    let seen = replay_tasks(alloc, sched, tasks, s, span)?;
+    let Some(shown) = seen[i as usize] else {
+        unreachable!()
+    };
+    Ok(shown)
 }
 
-/// The response of the first job of task `i` in the worst case, which is run for `span` slots from
-/// the supply's start on. The job has to have its work by then.
-fn run_worst_case<S: Supply>(
+/// The responses of the first jobs of all tasks, in slots, as one run shows them: over the worst
+/// pattern of the supply all tasks release at its start, and the run ends `span` slots after that.
+/// None of a job that lacks work at the end. So the greatest response of each task for which it is
+/// at most `span`.
+pub fn replay_tasks<S: Supply>(
     alloc: Global,
     sched: Sched,
     tasks: &[Task],
-    i: u32,
     s: &S,
     span: u64,
-) -> Result<u64, AllocError>
-    requires i_named { i < length tasks.now }
+) -> Result<Vec<Option<u64>>, AllocError>
+    requires fixed { sched ≢ Sched.Edf }
     requires few { length tasks.now ≤ 256 }
     requires some_span { 1 ≤ span }
     requires in_reach { S.start_of s.now + span ≤ 1000000 }
-    requires done { let T = sporadic_tasks tasks.now in
-        let jobs = synchronous T (S.start_of s.now) span in
-        (run : List (Option ℕ)) (j : ℕ) →
-        IsWorstRun (before_of sched T) T (S.pattern s.now) (S.start_of s.now) span run →
-        IsFirstJob jobs i j → (job_at jobs j).work ≤ service run j (length run) }
-    ensures { let T = sporadic_tasks tasks.now in
-        IfOk result (λ t. ShowsResponse (before_of sched T) T (S.pattern s.now)
-        (S.start_of s.now) span i t) }
+    ensures long { IfOk result (λ seen. length seen.items ≡ length tasks.now) }
+    // what is seen in the run
+    ensures shown { let T = sporadic_tasks tasks.now in
+        IfOk result (λ seen. (i : ℕ) → i < length T → ShowsAnswer (before_of sched T) T
+        (S.pattern s.now) (S.start_of s.now) span i (seen_at seen.items i)) }
+    // it is the least hit of each task that has one within the span
+    ensures exact { let T = sporadic_tasks tasks.now in
+        IfOk result (λ seen. (i t : ℕ) → i < length T →
+        IsLeastHit (ranks_above sched T) T (S.bound s.now) i t →
+        MatchOption (seen_at seen.items i) (span < t) (λ u. (u ≡ t) × (t ≤ span))) }
 {
     let start = s.start();
     let jobs = response_jobs(alloc, tasks, start, span)?;
     let windows = pattern_windows(alloc, s, start + span)?;
     let spans = guest_by(alloc, sched, tasks, &jobs, &windows, start + span)?;
-    Ok(first_response(&jobs, &spans, i))
-}
-
-/// The response of the first job of a task in a run of spans, in slots.
-fn first_response(jobs: &[Job], spans: &[Span], task: u32) -> u64
-    requires few { length jobs.now < 2 ^ 32 }
-    requires works { (j : ℕ) → j < length jobs.now → 1 ≤ (job_at jobs.now j).work }
-    requires released { HoldsReleased jobs.now (run_of spans.now) }
-    requires spans { AreSpans spans.now (length (run_of spans.now)) }
-    requires some { (j : ℕ) × IsFirstJob jobs.now task j }
-    requires done { let run = run_of spans.now in
-        (j : ℕ) → IsFirstJob jobs.now task j →
-        (job_at jobs.now j).work ≤ service run j (length run) }
-    ensures { (j : ℕ) → IsFirstJob jobs.now task j →
-        IsResponse jobs.now (run_of spans.now) j result }
-{
-    let Some(first) = first_job(jobs, task) else {
-        unreachable!()
-    };
-    match response_in(jobs, spans, first) {
-        Some(t) => t,
-        None => unreachable!(),
-    }
+    first_responses(alloc, &jobs, &spans, start + span, tasks.len())
 }

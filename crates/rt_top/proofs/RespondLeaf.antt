@@ -1,8 +1,8 @@
 -- What is answered of the tasks of a leaf, and of the leaves among the first parts.
-use Rattle.std.proofs.Common.{◌≡◌, ◌≢◌, ℕ, ◌+◌, ◌<◌, ◌≤◌, Bool, true, false, cond, List, [], ◌∷◌, ◌++◌, length, map, Option, Some, IfSome, refl, sym, ◌∙◌, ap, arith, subst}
+use Rattle.std.proofs.Common.{◌≡◌, ◌≢◌, ℕ, ◌+◌, ◌<◌, ◌≤◌, Bool, true, false, cond, ◌-◌, List, [], ◌∷◌, ◌++◌, length, map, Option, Some, None, IfSome, MatchOption, refl, sym, ◌∙◌, ap, arith, subst, inl, inr}
 use Rattle.std.specs.Prelude.{not}
 use Rattle.std.specs.List.{flat_map, range_with_len}
-use Rattle.std.proofs.lemmas.Bool.{and_parts}
+use Rattle.std.proofs.lemmas.Bool.{and_parts, cases_lt}
 use Rattle.std.proofs.lemmas.Grind.{flat_map-append}
 use Rattle.std.proofs.lemmas.List.{append_assoc, append-nil, length-map, map-append}
 use Rattle.std.proofs.lemmas.List.Elements.{All-push}
@@ -10,10 +10,16 @@ use Rattle.std.proofs.lemmas.List.Folds.{flat_map-map}
 use Rattle.std.proofs.lemmas.List.FromFn.{map-range_with_len_more}
 use Rattle.slot_model.specs.declared.sched.Sched.{Sched}
 use Rattle.slot_model.specs.declared.sched.Sched.TheVariants.{Edf, Rm, Dm, Listed}
-use Rattle.slot_model.specs.Task.{SporadicTask}
-use Rattle.slot_model.specs.Order.{ranks_above}
+use Rattle.slot_model.specs.Task.{SporadicTask, AreConstrained, room_of, task_at}
+use Rattle.slot_model.specs.Supply.{GivesBudget, worst_slot}
+use Rattle.slot_model.specs.Order.{before_of, ranks_above}
 use Rattle.slot_model.specs.Bound.{sbf, Passes, IsHit, IsShortTask}
 use Rattle.slot_model.proofs.Budgets.{hits_of}
+use Rattle.slot_model.proofs.WorstPattern.{periodic_laws}
+use Rattle.fp_test.specs.Hits.{IsLeastHit}
+use Rattle.response_times.specs.Response.{IsGreatestResponse}
+use Rattle.response_times.specs.Replay.{ShowsResponse}
+use Rattle.response_times.proofs.WorstRuns.{shows_least}
 use Rattle.rtds_sim.specs.Rtds.{is_edf}
 use Rattle.tree_model.specs.declared.place.Place.TheVariants.{Part}
 use Rattle.tree_model.specs.View.{PartView, SystemView}
@@ -22,7 +28,7 @@ use Rattle.tree_model.specs.Tree.{budget_at, node_tasks}
 use Rattle.tree_model.specs.Admission.{Admitted}
 use Rattle.tree_model.proofs.NodeTasks.{leaf_tasks}
 use Rattle.rt_report.specs.declared.responses.Response.{Response}
-use Rattle.rt_top.specs.Commands.Responses.{answered_at, AnswerTasks, IsAnswered, IsResponseOf, is_fixed_leaf, places_in}
+use Rattle.rt_top.specs.Commands.Responses.{answered_at, AnswerTasks, IsAnswered, IsReplayOf, IsResponseOf, is_fixed_leaf, places_in}
 use Rattle.miss_witness.proofs.ReplayLeaf.{LeafRead}
 
 not_edf : (sched : Sched) → not (is_edf sched) ≡ true → sched ≢ Edf
@@ -61,6 +67,56 @@ pub not_short : (sched : Sched) → sched ≢ Edf → (tasks : List SporadicTask
     → (i : ℕ) → i < length tasks → IsShortTask (ranks_above sched tasks) tasks bound i → ⊥
 not_short sched fixed tasks bound passes i l short =
     short_no_hit (ranks_above sched tasks) tasks bound i (hits_of sched fixed tasks bound passes i l) short
+
+-- what is told of a task, by what was found of it
+pub row_is : (sched : Sched) (tasks : List SporadicTask) (period budget i : ℕ) (row : Response) (worst : ℕ)
+    (replay : Option ℕ) → IsLeastHit (ranks_above sched tasks) tasks (sbf period budget) i worst
+    → IsGreatestResponse (GivesBudget period budget) (before_of sched tasks) tasks i worst
+    → IsReplayOf sched tasks period budget i worst replay → row.limit ≡ room_of (task_at tasks i)
+    → row.worst ≡ worst → row.replay ≡ replay → IsResponseOf sched tasks period budget i row
+row_is sched tasks period budget i row worst replay least greatest replayed limit w r =
+    record {
+      greatest =
+          subst (λ (z : ℕ). IsGreatestResponse (GivesBudget period budget) (before_of sched tasks) tasks i z) (sym w)
+          greatest;
+      limit_is = limit;
+      in_limit = omega (arith, w, limit, least.0.in_deadline);
+      replayed =
+          subst (λ (z : ℕ). IsReplayOf sched tasks period budget i z row.replay) (sym w)
+          (subst (IsReplayOf sched tasks period budget i worst) (sym r) replayed);
+    }
+
+-- a run as long as the longest response that may be replayed shows the replay of each task
+pub seen_is_replay : (sched : Sched) → sched ≢ Edf → (tasks : List SporadicTask) → AreConstrained tasks
+    → (period budget : ℕ) → 1 ≤ period → budget ≤ period → (i worst longest : ℕ) → i < length tasks
+    → IsLeastHit (ranks_above sched tasks) tasks (sbf period budget) i worst → longest ≤ 1000000 - budget
+    → (worst ≤ 1000000 - budget → worst ≤ longest) → (seen : Option ℕ)
+    → MatchOption seen (longest < worst) (λ u. (u ≡ worst) × (worst ≤ longest))
+    → IsReplayOf sched tasks period budget i worst seen
+seen_is_replay sched fixed tasks fits period budget some in_period i worst longest l least most reached None late =
+    elim (cases_lt (1000000 - budget) worst) [
+      | inl past ↦ omega (arith, past, least.0.some_slots)
+      | inr within ↦ absurd (omega (arith, late, reached within))
+    ]
+seen_is_replay sched fixed tasks fits period budget some in_period i worst longest l least most reached (Some u)
+    (same, fit) = (
+      omega (arith, fit, most, least.0.some_slots),
+      same,
+      subst
+          (λ (z : ℕ). ShowsResponse (before_of sched tasks) tasks (worst_slot period budget) budget worst i z)
+          (sym same)
+          (shows_least sched fixed tasks fits (periodic_laws period budget some in_period) i worst l least),
+    )
+
+-- where none may be replayed nothing is shown
+pub none_is_replay : (sched : Sched) (tasks : List SporadicTask) (period budget i worst longest : ℕ)
+    → IsLeastHit (ranks_above sched tasks) tasks (sbf period budget) i worst → longest ≡ 0
+    → (worst ≤ 1000000 - budget → worst ≤ longest) → IsReplayOf sched tasks period budget i worst None
+none_is_replay sched tasks period budget i worst longest least none reached =
+    elim (cases_lt (1000000 - budget) worst) [
+      | inl past ↦ omega (arith, past, least.0.some_slots)
+      | inr within ↦ absurd (omega (arith, none, reached within, least.0.some_slots))
+    ]
 
 -- what is answered of what was read is answered of the part
 read_answer : (sys : SystemView) (budgets : List ℕ) (q i : ℕ) (sched : Sched) (tasks : List SporadicTask)
@@ -152,6 +208,3 @@ read_count sys budgets q read n fixed e many =
     let here : n ≡ length (node_tasks sys budgets (Part q))
     = subst (λ (r : Option ℕ). IfSome r (λ k. k ≡ length (node_tasks sys budgets (Part q)))) e many in
     here ∙ ap length (leaf_tasks sys budgets q (has_tasks (part_at sys q) fixed))
-
-pub same_some : (x y : ℕ) → Some x ≡ Some y → x ≡ y
-same_some x y e = cc

@@ -6,4 +6,4 @@ mod counts;
 mod pending;
 
 pub use counts::{Counts, count_level, first_miss, misses, slots_given};
-pub use pending::count_pending;
+pub use pending::{Wait, count_pending, waits_of};

@@ -40,8 +40,9 @@ pub fn count_pending(
     Ok(sum_of_waits(jobs, &waits, slots))
 }
 
-/// The waits at the end of the run.
-fn waits_of(
+/// What each job lacks of its work at the end of a run of `slots` slots, and the moment from which
+/// it has all of it: the end of the run where it lacks some. One pass over the spans.
+pub fn waits_of(
     alloc: Global,
     jobs: &[Job],
     spans: &[Span],
