@@ -25,8 +25,8 @@ use Rattle.isolation.proofs.Breaking.{r, rows, is_workload, is_witness}
 use Rattle.isolation.proofs.InTrace.{keeps_in_trace, exposed_in_trace}
 
 -- the core of a VCPU is one of the system
-pub core_of_child : (sys : SystemView) → IsSystem sys → (c v : ℕ) → v < length sys.parts → is_child sys (Core c) v ≡ true
-    → c < length sys.cores
+pub core_of_child : (sys : SystemView) → IsSystem sys → (c v : ℕ) → v < length sys.parts
+    → is_child sys (Core c) v ≡ true → c < length sys.cores
 core_of_child sys is c v l child = go (part_at sys v).parent child (is.parents v l)
   where
     go : (p : Parent) → same_place (place_of p) (Core c) ≡ true → Stands sys v p → c < length sys.cores

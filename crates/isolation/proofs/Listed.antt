@@ -30,7 +30,8 @@ among_more : (sys : SystemView) (n : ℕ)
 among_more sys n = ap (vcpus_among sys) (let e : n + 1 ≡ suc n = omega arith in e)
 
 -- a part on a core is a child of it, and one on a part is none of any core
-pub stands_on_core : (sys : SystemView) (v c : ℕ) → (part_at sys v).parent ≡ on_core c → is_child sys (Core c) v ≡ true
+pub stands_on_core : (sys : SystemView) (v c : ℕ) → (part_at sys v).parent ≡ on_core c
+    → is_child sys (Core c) v ≡ true
 stands_on_core sys v c e = ap (λ (p : Parent). same_place (place_of p) (Core c)) e ∙ same_itself (Core c)
 
 is_one : (sys : SystemView) (v c : ℕ) → v < length sys.parts → (part_at sys v).parent ≡ on_core c

@@ -39,7 +39,8 @@ open_never sys budgets plan c v t much p =
 
 pub one_isolation : (sys : SystemView) (budgets : List ℕ) → IsPlan sys budgets → (c v : ℕ) (a b : Isolation)
     → IsIsolation sys budgets c v a → IsIsolation sys budgets c v b → a ≡ b
-one_isolation sys budgets plan c v (Isolated s) (Isolated t) p q = ap Isolated (one_least no_tie sys budgets c v s t p q)
+one_isolation sys budgets plan c v (Isolated s) (Isolated t) p q =
+    ap Isolated (one_least no_tie sys budgets c v s t p q)
 one_isolation sys budgets plan c v (Isolated s) (ByTies t) p q = absurd (never_both no_tie sys budgets c v s q.0 p)
 one_isolation sys budgets plan c v (Isolated s) ByBlock p q = absurd (open_never sys budgets plan c v s q p)
 one_isolation sys budgets plan c v (ByTies s) (Isolated t) p q = absurd (never_both no_tie sys budgets c v t p.0 q)

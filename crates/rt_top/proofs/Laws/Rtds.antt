@@ -125,8 +125,8 @@ fit_core Rm supply sys budgets c full edf passes = absurd (false≢true edf)
 fit_core Dm supply sys budgets c full edf passes = absurd (false≢true edf)
 fit_core Listed supply sys budgets c full edf passes = absurd (false≢true edf)
 
-pub servers_fit : (sys : SystemView) (budgets : List ℕ) → AllRtds sys (length sys.cores) → Admitted sys budgets → (c : ℕ)
-    → c < length sys.cores → ServersFit sys budgets c
+pub servers_fit : (sys : SystemView) (budgets : List ℕ) → AllRtds sys (length sys.cores) → Admitted sys budgets
+    → (c : ℕ) → c < length sys.cores → ServersFit sys budgets c
 servers_fit sys budgets all admitted c l =
     let is = and_parts (is_full (core_at sys c).supply) (is_edf (core_at sys c).sched) (all c l) in
     fit_core (core_at sys c).sched (core_at sys c).supply sys budgets c is.0 is.1 (admitted.passes (Core c) l).1
