@@ -37,7 +37,8 @@ stands_on_core sys v c e = ap (λ (p : Parent). same_place (place_of p) (Core c)
 is_one : (sys : SystemView) (v c : ℕ) → v < length sys.parts → (part_at sys v).parent ≡ on_core c
     → is_vcpu sys v ≡ true
 is_one sys v c l e =
-    and_from (nat_lt v (length sys.parts)) (is_core (part_at sys v).parent) (lt-ltb v (length sys.parts) l) (ap is_core e)
+    and_from (nat_lt v (length sys.parts)) (is_core (part_at sys v).parent) (lt-ltb v (length sys.parts) l)
+    (ap is_core e)
 
 is_none : (sys : SystemView) (v q : ℕ) → (part_at sys v).parent ≡ on_part q → is_vcpu sys v ≡ false
 is_none sys v q e = and_right (nat_lt v (length sys.parts)) (is_core (part_at sys v).parent) (ap is_core e)

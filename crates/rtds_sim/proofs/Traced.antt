@@ -225,24 +225,23 @@ module _ (sys : SystemView) (system : IsSystem sys) (budgets : List ℕ) (plan :
       go (Some event) e h = here event (found v (length events) event (omega arith) e) (same_Some event.at f h)
 
   -- and each that the workload starts at a slot of the run is one that the trace starts
+  is_in_trace : (v : ℕ) → is_started rows v ≡ true → start_of rows v < n
+      → trace_started events (length events) v ≡ true
+  is_in_trace v s l =
+      started_more sys (printed_below sys rows runs n) (on_at 0 n End) v
+      ∙ subst
+      (λ (x : ℕ). trace_started (printed_below sys rows runs x) (length (printed_below sys rows runs x)) v ≡ true)
+      (let e : suc (n - 1) ≡ n = omega arith in e)
+      (started_below sys system rows workload budgets n runs is fits (n - 1) v (omega arith)
+      ∙ started_from rows v (n - 1) s (omega arith))
+
   pub trace_starts : (v : ℕ) → is_started rows v ≡ true → start_of rows v < n
       → trace_start events v ≡ Some (start_of rows v * 1000)
   trace_starts v s l = go (last_among (starts_event v) events (length events)) refl
     where
-      below : ℕ → Type 0
-      below x = trace_started (printed_below sys rows runs x) (length (printed_below sys rows runs x)) v ≡ true
-
-      there : is_some (last_among (starts_event v) events (length events)) ≡ true
-      unfolding below
-      there =
-          started_more sys (printed_below sys rows runs n) (on_at 0 n End) v
-          ∙ subst below (let e : suc (n - 1) ≡ n = omega arith in e)
-          (started_below sys system rows workload budgets n runs is fits (n - 1) v (omega arith)
-          ∙ started_from rows v (n - 1) s (omega arith))
-
       go : (o : Option Event) → last_among (starts_event v) events (length events) ≡ o
           → trace_start events v ≡ Some (start_of rows v * 1000)
-      go None e = absurd (false≢true (sym (ap is_some e) ∙ there))
+      go None e = absurd (false≢true (sym (ap is_some e) ∙ is_in_trace v s l))
       go (Some event) e =
           let at : trace_start events v ≡ Some event.at = ap moment_of e in
           at ∙ ap Some (started_at v event.at at).from
