@@ -151,9 +151,7 @@ can_be_short sys system budgets plan c v most lc few b =
       run_length = (omega (arith, b.awake.in_run, some), omega (arith, few, b.few_slots));
       some_trace = (
         printed sys b.rows (rtds_run sys budgets b.rows b.slots) b.slots,
-        rtds_run sys budgets b.rows b.slots,
-        rtds_run-is sys budgets b.rows b.slots,
-        refl,
+        (rtds_run sys budgets b.rows b.slots, rtds_run-is sys budgets b.rows b.slots, refl),
       );
       short = λ events trace. (
         start_of b.rows v * 1000,
