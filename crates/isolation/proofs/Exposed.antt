@@ -10,21 +10,23 @@ use Rattle.tree_model.specs.Tree.{is_child, place_of, same_place, run_at}
 use Rattle.tree_model.specs.Plans.{IsPlan}
 use Rattle.trace_file.specs.Periods.{begins}
 use Rattle.release_file.specs.Workload.{start_of}
+use Rattle.rtds_sim.specs.Giving.{ServersFit}
 use Rattle.rtds_sim.proofs.Runs.{rtds_run, rtds_run-is}
 use Rattle.isolation.specs.declared.isolation.Isolation.{Isolation}
 use Rattle.isolation.specs.declared.isolation.Isolation.TheVariants.{Isolated, ByTies, ByBlock}
 use Rattle.rtds_sim.specs.Demand.{later}
 use Rattle.isolation.specs.Demand.{AsksTooMuch}
 use Rattle.isolation.specs.Keeping.{IsExposed}
-use Rattle.isolation.specs.Answer.{IsIsolation, Means}
+use Rattle.isolation.specs.Answer.{IsIsolation, Means, MeansInTrace}
 use Rattle.isolation.proofs.Least.{in_file_order}
 use Rattle.isolation.proofs.Isolated.{keeps, keeps_openly}
 use Rattle.isolation.proofs.Short.{IsWitness, short_period}
 use Rattle.isolation.proofs.Breaking.{r, rows, is_workload, is_witness}
+use Rattle.isolation.proofs.InTrace.{keeps_in_trace, exposed_in_trace}
 
 -- the core of a VCPU is one of the system
-core_of_child : (sys : SystemView) → IsSystem sys → (c v : ℕ) → v < length sys.parts → is_child sys (Core c) v ≡ true
-    → c < length sys.cores
+pub core_of_child : (sys : SystemView) → IsSystem sys → (c v : ℕ) → v < length sys.parts
+    → is_child sys (Core c) v ≡ true → c < length sys.cores
 core_of_child sys is c v l child = go (part_at sys v).parent child (is.parents v l)
   where
     go : (p : Parent) → same_place (place_of p) (Core c) ≡ true → Stands sys v p → c < length sys.cores
@@ -69,3 +71,17 @@ means sys is_sys budgets plan c v lv cv (Isolated last) h = (
 )
 means sys is_sys budgets plan c v lv cv (ByTies last) h = keeps sys budgets plan c v last h.1.isolated
 means sys is_sys budgets plan c v lv cv ByBlock h = exposed sys is_sys budgets plan c v lv cv h
+
+-- and in traces
+pub means_in_trace : (sys : SystemView) → IsSystem sys → (budgets : List ℕ) → IsPlan sys budgets → (c v : ℕ)
+    → v < length sys.parts → is_child sys (Core c) v ≡ true → ServersFit sys budgets c → (answer : Isolation)
+    → IsIsolation sys budgets c v answer → MeansInTrace sys budgets c v answer
+means_in_trace sys is_sys budgets plan c v lv cv fit (Isolated last) h =
+    keeps_in_trace sys is_sys budgets plan c v last (core_of_child sys is_sys c v lv cv) lv cv
+    (keeps sys budgets plan c v last (in_file_order sys budgets plan c v last h.isolated))
+means_in_trace sys is_sys budgets plan c v lv cv fit (ByTies last) h =
+    keeps_in_trace sys is_sys budgets plan c v last (core_of_child sys is_sys c v lv cv) lv cv
+    (keeps sys budgets plan c v last h.1.isolated)
+means_in_trace sys is_sys budgets plan c v lv cv fit ByBlock h =
+    exposed_in_trace sys is_sys budgets plan c v (core_of_child sys is_sys c v lv cv) fit
+    (exposed sys is_sys budgets plan c v lv cv h)

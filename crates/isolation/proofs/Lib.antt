@@ -4,5 +4,8 @@ pub mod Witness
 pub mod Short
 pub mod Breaking
 pub mod Least
+pub mod InTrace
 pub mod Exposed
+pub mod OneIsolation
+pub mod Listed
 mod Examples

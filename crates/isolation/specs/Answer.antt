@@ -8,6 +8,7 @@ use Rattle.isolation.specs.declared.isolation.Isolation.TheVariants.{Isolated, B
 use Rattle.rtds_sim.specs.Demand.{later}
 use Rattle.isolation.specs.Demand.{no_tie, IsLeastBy, AsksTooMuch}
 use Rattle.isolation.specs.Keeping.{KeepsBudget, KeepsOpenly, IsExposed}
+use Rattle.isolation.specs.InTrace.{KeepsInTrace, IsExposedInTrace}
 
 -- the slots that a tie costs
 abbrev pub tie_of : Ties → ℕ → ℕ → ℕ
@@ -29,3 +30,9 @@ Means sys budgets c v (Isolated last) =
     KeepsOpenly sys budgets c v last × KeepsBudget sys budgets c v last
 Means sys budgets c v (ByTies last) = KeepsBudget sys budgets c v last
 Means sys budgets c v ByBlock = IsExposed sys budgets c v
+
+-- and what it means in traces, on a core whose servers pass the test of earliest deadline first
+abbrev pub MeansInTrace : SystemView → List ℕ → ℕ → ℕ → Isolation → Type 0
+MeansInTrace sys budgets c v (Isolated last) = KeepsInTrace sys budgets v last
+MeansInTrace sys budgets c v (ByTies last) = KeepsInTrace sys budgets v last
+MeansInTrace sys budgets c v ByBlock = IsExposedInTrace sys budgets c v

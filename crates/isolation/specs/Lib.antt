@@ -1,4 +1,6 @@
 pub mod Demand
 pub mod Open
 pub mod Keeping
+pub mod InTrace
 pub mod Answer
+pub mod Answers

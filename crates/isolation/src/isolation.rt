@@ -2,7 +2,9 @@ ghost use Rattle.std.specs.Prelude.{◌≡◌, ◌<◌, true, length};
 ghost use Rattle.tree_model.specs.declared.place.Place.TheVariants.{Core};
 ghost use Rattle.tree_model.specs.Plans.{IsPlan};
 ghost use Rattle.tree_model.specs.Tree.{is_child};
-ghost use Rattle.isolation.specs.Answer.{IsIsolation, Means};
+ghost use Rattle.rtds_sim.specs.Giving.{ServersFit};
+ghost use Rattle.isolation.specs.Answer.{IsIsolation, Means, MeansInTrace};
+ghost use Rattle.isolation.specs.Answers.{is_isolated};
 
 use crate::ties::Ties;
 use crate::window::least_window;
@@ -20,6 +22,15 @@ pub enum Isolation {
     ByBlock,
 }
 
+impl Isolation {
+    /// Whether it is isolated however ties are broken.
+    pub fn is_isolated(self) -> bool
+        ensures { result ≡ is_isolated self }
+    {
+        matches!(self, Isolation::Isolated { .. })
+    }
+}
+
 /// What VCPU `v` of core `core` keeps. Extra time does not matter.
 pub fn isolation_on(sys: &System, plan: &Plan, core: u32, v: usize) -> Isolation
     requires plan { IsPlan sys.now plan.now }
@@ -27,6 +38,8 @@ pub fn isolation_on(sys: &System, plan: &Plan, core: u32, v: usize) -> Isolation
     requires on_core { is_child sys.now (Core core) v ≡ true }
     ensures is { IsIsolation sys.now plan.now core v result }
     ensures means { Means sys.now plan.now core v result }
+    ensures in_trace { ServersFit sys.now plan.now core →
+        MeansInTrace sys.now plan.now core v result }
 {
     if let Some(last) = least_window(sys, plan, core, v, Ties::Open) {
         return Isolation::Isolated { last };

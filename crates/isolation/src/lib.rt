@@ -4,6 +4,8 @@
 
 mod isolation;
 mod ties;
+mod vcpus;
 mod window;
 
 pub use isolation::{Isolation, isolation_on};
+pub use vcpus::{PartIsolation, are_isolated, isolations};

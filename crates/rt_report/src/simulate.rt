@@ -63,7 +63,8 @@ fn slots_told(given: &[Vec<bool>]) -> u64
     given[0].len() as u64
 }
 
-fn verdict(is_kept: bool) -> &'static str
+/// The first line: yes where it is kept.
+pub fn verdict(is_kept: bool) -> &'static str
     ensures { result.now ≡ verdict_line is_kept }
 {
     if is_kept {

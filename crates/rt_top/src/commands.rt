@@ -5,6 +5,7 @@ mod certify;
 mod check;
 mod choose;
 mod interface;
+mod isolate;
 mod place;
 mod responses;
 mod rtds;
@@ -29,6 +30,7 @@ use crate::commands::certify::Certify;
 use crate::commands::check::Check;
 use crate::commands::choose::Choose;
 use crate::commands::interface::Interface;
+use crate::commands::isolate::Isolate;
 use crate::commands::place::Placer;
 use crate::commands::responses::Responses;
 use crate::commands::rtds::Rtds;
@@ -75,6 +77,8 @@ pub enum Command<'a> {
     Session(&'a str, &'a str),
     /// `place FILE GUESTS`
     Place(&'a str, &'a str),
+    /// `isolate FILE`
+    Isolate(&'a str),
     /// `tally FILE TRACE`
     Tally(&'a str, &'a str),
     /// `version`
@@ -114,6 +118,8 @@ pub fn parse(words: &[String]) -> Option<Command<'_>>
     } else if word.as_str() == "place" {
         let (file, guests) = two_words(rest)?;
         Some(Command::Place(file, guests))
+    } else if word.as_str() == "isolate" {
+        Some(Command::Isolate(one_word(rest)?))
     } else if word.as_str() == "tally" {
         let (file, trace) = two_words(rest)?;
         Some(Command::Tally(file, trace))
@@ -131,7 +137,7 @@ fn usage_text() -> &'static str
     "usage: rtadmit admit FILE | certify FILE | check FILE CERT | \
      simulate FILE RELEASES PATTERN SLOTS | rtds FILE WORKLOAD SLOTS | audit FILE TRACE | bulk N | \
      interface FILE PART DEADLINE | responses FILE | choose FILE PART LOW HIGH | \
-     session FILE SCRIPT | place FILE GUESTS | tally FILE TRACE | version\n"
+     session FILE SCRIPT | place FILE GUESTS | isolate FILE | tally FILE TRACE | version\n"
 }
 
 /// The answer to a command, or to words that spell none.
@@ -172,6 +178,7 @@ pub fn answer<S: Store>(alloc: Global, command: Option<Command<'_>>, store: &mut
             ended(over_two(alloc, store, file, script, &Editor))
         }
         Some(Command::Place(file, guests)) => ended(over_two(alloc, store, file, guests, &Placer)),
+        Some(Command::Isolate(file)) => ended(over_one(alloc, store, file, &Isolate)),
         Some(Command::Tally(file, trace)) => ended(over_two(alloc, store, file, trace, &Tally)),
         Some(Command::Version) => ended(version(alloc)),
         None => ended(usage(alloc)),

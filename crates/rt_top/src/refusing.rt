@@ -52,6 +52,7 @@ pub fn assigned(alloc: Global, sys: &System) -> Result<Plan, Ending>
 #[tactic(auto, using(crate::proofs::Budgets::refusal_told))]
 pub fn admitted(alloc: Global, sys: &System) -> Result<Plan, Ending>
     ensures admitted { IfOk result (λ plan. Admitted sys.now plan) }
+    ensures plan { IfOk result (λ plan. IsPlan sys.now plan) }
     ensures refused { IfErr result (λ stop. IfAnswered stop (λ a.
         IsRefused (composing sys.now) a.status a.text.items)) }
     ensures judged { IfErr result (λ stop. EndsJudged stop) }

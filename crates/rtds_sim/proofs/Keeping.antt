@@ -17,7 +17,7 @@ use Rattle.trace_file.specs.declared.event.Event.{Event}
 use Rattle.trace_file.specs.declared.event.What.{What}
 use Rattle.trace_file.specs.declared.event.What.TheVariants.{Start, Wake, Block, Run, Stop, End}
 use Rattle.trace_file.specs.declared.fault.TraceFault.TheVariants.{StartedTwice, NotStarted, NotBlocked, NotRunnable, StillRunning, CoreIdle}
-use Rattle.trace_file.specs.Events.{event_at, is_start_of, is_change_of, is_switch, is_end, is_block as blocks_it, blocks as blocks_last, switches, runner, runner_of, is_blocked, holder}
+use Rattle.trace_file.specs.Events.{event_at, is_start_of, is_change_of, is_switch, is_end, is_block as blocks_it, blocks as blocks_last, switches, runner, runner_of, is_started, is_blocked, holder}
 use Rattle.trace_file.specs.Rules.{row_of, fault_if, named, is_core, is_vcpu, is_known, stands_on, what_fault, Kept}
 use Rattle.csv_rows.proofs.Last.{last_below-zero, last_below-no, said_later, is_some_later, last_is, some_found, some_row}
 use Rattle.release_file.specs.declared.workload.Wake.{Wake as Row}
@@ -652,6 +652,21 @@ module _ (sys : SystemView) (system : IsSystem sys) (rows : List Row) (workload 
     holder_below x c l p =
         let s : (k : ℕ) × AreBefore rows k (suc x) = split_at (suc x) in
         (below (suc x) s.0 (omega arith) s.1).held_is c p
+
+    -- and each VCPU is started or not, and blocked or not, as it is at the slot
+    pub started_below : (x v : ℕ) → x < n
+        → is_started (printed_below sys rows runs (suc x)) (length (printed_below sys rows runs (suc x))) v
+        ≡ is_started_at rows v x
+    started_below x v l =
+        let s : (k : ℕ) × AreBefore rows k (suc x) = split_at (suc x) in
+        (below (suc x) s.0 (omega arith) s.1).started_is v ∙ sym (started_by rows v x s.0 s.1)
+
+    pub blocked_below : (x v : ℕ) → x < n
+        → is_blocked (printed_below sys rows runs (suc x)) (length (printed_below sys rows runs (suc x))) v
+        ≡ is_blocked_at rows v x
+    blocked_below x v l =
+        let s : (k : ℕ) × AreBefore rows k (suc x) = split_at (suc x) in
+        (below (suc x) s.0 (omega arith) s.1).blocked_is v ∙ sym (blocked_by rows v x s.0 s.1)
 
     -- the events of a run keep the rules
     pub printed_keeps : Kept sys (printed sys rows runs n)

@@ -2,6 +2,7 @@
 -- what the run gives the VCPUs in slots the trace gives them in nanoseconds.
 use Rattle.std.proofs.Common.{◌≡◌, ℕ, zero, suc, min, ◌+◌, ◌-◌, ◌*◌, ◌/◌, ◌<◌, ◌≤◌, Bool, true, false, cond, leb, ◌&&◌, List, [], ◌∷◌, ◌++◌, length, Option, Some, None, refl, sym, ◌∙◌, ap, arith, subst, inl, inr, append_assoc, leb-true, eqb-true, eq-eqb, ◌==◌, ◌%◌}
 use Rattle.std.specs.List.{list_all}
+use Rattle.std.specs.Prelude.{is_some}
 use Rattle.std.proofs.lemmas.Bool.{cases_lt, and_from, and_parts, false≢true}
 use Rattle.std.proofs.lemmas.Option.{none-some, same_Some}
 use Rattle.std.proofs.lemmas.List.{get_or_append_left, get_or-append_right, get_or_push, length_push, length-append}
@@ -16,10 +17,10 @@ use Rattle.tree_model.specs.Plans.{IsPlan}
 use Rattle.tree_model.specs.Tree.{budget_at, run_at}
 use Rattle.trace_file.specs.declared.event.Event.{Event}
 use Rattle.trace_file.specs.declared.event.What.TheVariants.{End}
-use Rattle.trace_file.specs.Events.{event_at, last_among, last_by, starts as starts_event, switches, runner_of, has_core_at, moment_of, start_of as trace_start, end_of}
+use Rattle.trace_file.specs.Events.{event_at, last_among, last_by, starts as starts_event, changes, switches, blocks as blocks_last, runner_of, has_core_at, is_started as trace_started, moment_of, start_of as trace_start, end_of}
 use Rattle.trace_file.specs.declared.unit.Unit.TheVariants.{Microseconds, Nanoseconds}
 use Rattle.trace_file.specs.Printing.{is_whole, unit_for}
-use Rattle.trace_file.specs.Periods.{begins, count_between, period_of, running, Satisfied}
+use Rattle.trace_file.specs.Periods.{begins, count_between, period_of, running, blocked, got_in, Satisfied}
 use Rattle.csv_rows.proofs.Last.{last_by_moment, found_row, some_row}
 use Rattle.trace_file.proofs.Prefix.{last_same}
 use Rattle.trace_file.proofs.Moments.{child_parent}
@@ -27,12 +28,14 @@ use Rattle.trace_file.proofs.Counting.{between_none, between_alike_to}
 use Rattle.release_file.specs.declared.workload.Wake.{Wake as Row}
 use Rattle.release_file.specs.declared.workload.WakeKind.{WakeKind}
 use Rattle.release_file.specs.declared.workload.WakeKind.TheVariants.{Start as ToStart, Wake as ToWake, Block as ToBlock}
-use Rattle.release_file.specs.Workload.{row_at, is_of, is_start, starts, is_started, start_of, IsWorkload}
+use Rattle.release_file.specs.Workload.{row_at, is_of, is_start, starts, is_started, is_blocked_at, start_of, IsWorkload}
 use Rattle.rtds_sim.specs.Rtds.{RtdsRun}
 use Rattle.rtds_sim.specs.Printed.{moment_of_slot, core_of, what_of, event_of, on_at, printed_below, printed}
 use Rattle.rtds_sim.specs.Giving.{slots_got, AlwaysServed, NoneOver}
 use Rattle.rtds_sim.proofs.Taking.{start_is}
-use Rattle.rtds_sim.proofs.Keeping.{OnCore, vcpu_core, holder_below}
+use Rattle.rtds_sim.proofs.Keeping.{OnCore, vcpu_core, holder_below, started_below, blocked_below}
+use Rattle.rtds_sim.proofs.Pushing.{started_more}
+use Rattle.rtds_sim.proofs.Starts.{started_from}
 use Rattle.rtds_sim.proofs.Told.{AllOf, all_one, all_append, told_below, Behind, behind}
 use Rattle.rtds_sim.proofs.Giving.{gives_budgets}
 use Rattle.rtds_sim.proofs.Over.{never_over}
@@ -159,6 +162,12 @@ module _ (sys : SystemView) (system : IsSystem sys) (budgets : List ℕ) (plan :
         ap (λ (o : Option Event). holds (runner_of o) v) (last_at (switches c))
         ∙ ap (λ (o : Option ℕ). holds o v) (holder_below sys system rows workload budgets n runs is fits x c in_run l)
 
+    -- and is blocked at the moment where it is at the slot
+    pub blocked_is : (v : ℕ) → blocked events v m ≡ is_blocked_at rows v x
+    blocked_is v =
+        ap blocks_last (last_at (changes v))
+        ∙ blocked_below sys system rows workload budgets n runs is fits x v in_run
+
   -- the start of a VCPU
   start_event : (v i : ℕ) (what : WakeKind) → i < length rows → (row_at rows i).what ≡ what
       → StartsSo sys rows v (record {
@@ -215,6 +224,28 @@ module _ (sys : SystemView) (system : IsSystem sys) (budgets : List ℕ) (plan :
       go None e h = absurd (none-some f h)
       go (Some event) e h = here event (found v (length events) event (omega arith) e) (same_Some event.at f h)
 
+  -- and each that the workload starts at a slot of the run is one that the trace starts
+  is_in_trace : (v : ℕ) → is_started rows v ≡ true → start_of rows v < n
+      → trace_started events (length events) v ≡ true
+  is_in_trace v s l =
+      started_more sys (printed_below sys rows runs n) (on_at 0 n End) v
+      ∙ subst
+      (λ (x : ℕ). trace_started (printed_below sys rows runs x) (length (printed_below sys rows runs x)) v ≡ true)
+      (let e : suc (n - 1) ≡ n = omega arith in e)
+      (started_below sys system rows workload budgets n runs is fits (n - 1) v (omega arith)
+      ∙ started_from rows v (n - 1) s (omega arith))
+
+  pub trace_starts : (v : ℕ) → is_started rows v ≡ true → start_of rows v < n
+      → trace_start events v ≡ Some (start_of rows v * 1000)
+  trace_starts v s l = go (last_among (starts_event v) events (length events)) refl
+    where
+      go : (o : Option Event) → last_among (starts_event v) events (length events) ≡ o
+          → trace_start events v ≡ Some (start_of rows v * 1000)
+      go None e = absurd (false≢true (sym (ap is_some e) ∙ is_in_trace v s l))
+      go (Some event) e =
+          let at : trace_start events v ≡ Some event.at = ap moment_of e in
+          at ∙ ap Some (started_at v event.at at).from
+
   -- the time that a VCPU has its core between two slots
   got : (v F E : ℕ) → OnCore sys v → E ≤ n
       → count_between (running sys events v) (F * 1000) (E * 1000)
@@ -225,6 +256,37 @@ module _ (sys : SystemView) (system : IsSystem sys) (budgets : List ℕ) (plan :
       (λ m k. ap (λ (p : Parent). has_core_at p events v m) (child_parent sys c v core.child)
       ∙ has_core m (omega arith) c v core.is_core)
 
+  -- the periods of the trace are those of the run
+  pub begins_is : (v f k : ℕ) → StartedAt v f
+      → begins (period_of sys v) f k ≡ begins (part_at sys v).period (start_of rows v) k * 1000
+  begins_is v f k s =
+      ap (λ (z : ℕ). begins (period_of sys v) z k) s.from
+      ∙ scaled_begins (part_at sys v).period (start_of rows v) k
+
+  -- the time that it gets in one, up to the end of the trace
+  got_until : (v f k E : ℕ) → (s : StartedAt v f)
+      → E ≡ min (begins (part_at sys v).period (start_of rows v) (suc k)) n
+      → got_in sys events v f k
+      ≡ count_between (λ y. holds (held (run_at runs (core_of (part_at sys v).parent)) y) v)
+      (begins (part_at sys v).period (start_of rows v) k) E * 1000
+  got_until v f k E s e =
+      let from : begins (period_of sys v) f k ≡ begins (part_at sys v).period (start_of rows v) k * 1000
+      = begins_is v f k s in
+      let until : min (begins (period_of sys v) f (suc k)) (end_of events) ≡ E * 1000
+      = omega (arith, begins_is v f (suc k) s, end_is, e) in
+      ap (λ (z : ℕ). count_between (running sys events v) z (min (begins (period_of sys v) f (suc k)) (end_of events)))
+      from
+      ∙ (ap (λ (z : ℕ). count_between (running sys events v)
+      (begins (part_at sys v).period (start_of rows v) k * 1000) z) until
+      ∙ got v (begins (part_at sys v).period (start_of rows v) k) E s.core (omega (arith, e)))
+
+  -- and in one that ends within it
+  pub got_whole : (v f k : ℕ) → StartedAt v f → begins (part_at sys v).period (start_of rows v) (suc k) ≤ n
+      → got_in sys events v f k
+      ≡ slots_got (λ y. holds (held (run_at runs (core_of (part_at sys v).parent)) y) v) (part_at sys v).period
+      (start_of rows v) k * 1000
+  got_whole v f k s l = got_until v f k (begins (part_at sys v).period (start_of rows v) (suc k)) s (omega (arith, l))
+
   -- no period of a VCPU without extra time is over
   pub none_over : NoneOver sys budgets events
   none_over v f k h =
@@ -234,24 +296,12 @@ module _ (sys : SystemView) (system : IsSystem sys) (budgets : List ℕ) (plan :
       let F : ℕ = start_of rows v in
       let p : ℕ → Bool = λ y. holds (held (run_at runs c) y) v in
       let E : ℕ = min (begins P F (suc k)) n in
-      let from : begins (period_of sys v) f k ≡ begins P F k * 1000
-      = ap (λ (z : ℕ). begins (period_of sys v) z k) s.from ∙ scaled_begins P F k in
-      let to : begins (period_of sys v) f (suc k) ≡ begins P F (suc k) * 1000
-      = ap (λ (z : ℕ). begins (period_of sys v) z (suc k)) s.from ∙ scaled_begins P F (suc k) in
-      let until : min (begins (period_of sys v) f (suc k)) (end_of events) ≡ E * 1000 = omega (arith, to, end_is) in
-      let time : count_between (running sys events v) (begins (period_of sys v) f k)
-      (min (begins (period_of sys v) f (suc k)) (end_of events)) ≡ count_between p (begins P F k) E * 1000
-      =
-      ap (λ (z : ℕ). count_between (running sys events v) z (min (begins (period_of sys v) f (suc k)) (end_of events)))
-      from
-      ∙ (ap (λ (z : ℕ). count_between (running sys events v) (begins P F k * 1000) z) until
-      ∙ got v (begins P F k) E s.core (omega arith)) in
       let whole : count_between p (begins P F k) E ≤ slots_got p P F k
       = count_below-mono (λ y. leb (begins P F k) y && p y) E (begins P F (suc k)) (omega arith) in
       let few : slots_got p P F k ≤ budget_at budgets v
       = never_over sys budgets plan rows n c (run_at runs c) (is.cores c s.core.is_core) v k h.period.is_part
       h.no_extra in
-      absurd (omega (arith, h.over, time, whole, few))
+      absurd (omega (arith, h.over, got_until v f k E s refl, whole, few))
 
   -- and where each VCPU that is started can always run on a core whose servers pass, none is short
   pub satisfied : AlwaysServed sys budgets rows → Satisfied sys budgets events
@@ -259,30 +309,16 @@ module _ (sys : SystemView) (system : IsSystem sys) (budgets : List ℕ) (plan :
   satisfied served v f k (inl h) =
       let s : StartedAt v f = started_at v f h.period.started in
       let c : ℕ = core_of (part_at sys v).parent in
-      let P : ℕ = (part_at sys v).period in
-      let F : ℕ = start_of rows v in
-      let p : ℕ → Bool = λ y. holds (held (run_at runs c) y) v in
-      let E : ℕ = begins P F (suc k) in
-      let from : begins (period_of sys v) f k ≡ begins P F k * 1000
-      = ap (λ (z : ℕ). begins (period_of sys v) z k) s.from ∙ scaled_begins P F k in
-      let to : begins (period_of sys v) f (suc k) ≡ E * 1000
-      = ap (λ (z : ℕ). begins (period_of sys v) z (suc k)) s.from ∙ scaled_begins P F (suc k) in
       let judged : begins (period_of sys v) f (suc k) ≤ end_of events
       = leb-true _ _ (and_parts (leb (begins (period_of sys v) f (suc k)) (end_of events)) _ h.judged).0 in
-      let ends : E ≤ n = omega (arith, to, judged, end_is) in
-      let until : min (begins (period_of sys v) f (suc k)) (end_of events) ≡ E * 1000 = omega (arith, to, judged) in
-      let time : count_between (running sys events v) (begins (period_of sys v) f k)
-      (min (begins (period_of sys v) f (suc k)) (end_of events)) ≡ slots_got p P F k * 1000
-      =
-      ap (λ (z : ℕ). count_between (running sys events v) z (min (begins (period_of sys v) f (suc k)) (end_of events)))
-      from
-      ∙ (ap (λ (z : ℕ). count_between (running sys events v) (begins P F k * 1000) z) until
-      ∙ got v (begins P F k) E s.core ends) in
-      let enough : budget_at budgets v ≤ slots_got p P F k
+      let ends : begins (part_at sys v).period (start_of rows v) (suc k) ≤ n
+      = omega (arith, begins_is v f (suc k) s, judged, end_is) in
+      let enough : budget_at budgets v
+      ≤ slots_got (λ y. holds (held (run_at runs c) y) v) (part_at sys v).period (start_of rows v) k
       = gives_budgets sys budgets plan rows workload n c (run_at runs c) (is.cores c s.core.is_core)
       (served.runnable c s.core.is_core) (served.fit c s.core.is_core) v k
       (record { is_part = h.period.is_part; on_core = s.core.child; started = s.started }) ends in
-      absurd (omega (arith, h.short, time, enough))
+      absurd (omega (arith, h.short, got_whole v f k s ends, enough))
 
 -- each moment of the trace is a whole number of microseconds
 all_whole : (es : List Event) → AllOf (λ e. is_whole e ≡ true) es → list_all is_whole es ≡ true

@@ -17,4 +17,4 @@ mod simulate;
 mod switches;
 
 pub use fault::RtdsFault;
-pub use simulate::{print_rtds, run_rtds};
+pub use simulate::{other_core, print_rtds, run_rtds};

@@ -103,7 +103,7 @@ pub fn print_rtds(
 }
 
 /// The first core that is not full or not under earliest deadline first.
-fn other_core(sys: &System) -> Option<u32>
+pub fn other_core(sys: &System) -> Option<u32>
     ensures { MatchOption result (AllRtds sys.now (length sys.now.cores)) (IsFirstOther sys.now) }
 {
     let cores = sys.cores();

@@ -1,5 +1,5 @@
 -- What `rtds` answers: one thing, its statuses, and what it means.
-use Rattle.std.proofs.Common.{◌≡◌, ℕ, ◌≤◌, true, List, length, Option, Some, None, Ok, refl, sym, ◌∙◌, ap, subst, arith, inl, inr}
+use Rattle.std.proofs.Common.{◌≡◌, ℕ, ◌<◌, ◌≤◌, true, List, length, Option, Some, None, Ok, refl, sym, ◌∙◌, ap, subst, arith, inl, inr}
 use Rattle.std.proofs.lemmas.Bool.{and_parts, both_ways, cases_lt, false≢true}
 use Rattle.csv_rows.specs.Reading.{records_of}
 use Rattle.slot_model.specs.declared.sched.Sched.{Sched}
@@ -10,6 +10,7 @@ use Rattle.tree_model.specs.View.{SystemView}
 use Rattle.tree_model.specs.System.{IsSystem, core_at}
 use Rattle.tree_model.specs.Tree.{core_bound, server_tasks}
 use Rattle.tree_model.specs.Plans.{IsPlan}
+use Rattle.tree_model.specs.Admission.{Admitted}
 use Rattle.tree_model.proofs.InRange.{assigned_is_plan}
 use Rattle.trace_file.specs.declared.event.Event.{Event}
 use Rattle.trace_file.specs.Periods.{Satisfied}
@@ -58,7 +59,7 @@ one_trace sys budgets wakes slots x y p q =
     ∙ (ap (λ (runs : List (List (Option ℕ))). printed sys wakes runs slots)
     (rtds_unique sys budgets wakes slots p.trace.0 q.trace.0 p.trace.1 q.trace.1) ∙ sym q.trace.2)
 
-one_other : (sys : SystemView) (c d : ℕ) → IsFirstOther sys c → IsFirstOther sys d → c ≡ d
+pub one_other : (sys : SystemView) (c d : ℕ) → IsFirstOther sys c → IsFirstOther sys d → c ≡ d
 one_other sys c d p q = elim (cases_lt c d) [
   | inl before ↦ absurd (both_ways (is_rtds sys c) p.other (q.before c before))
   | inr after ↦ elim (cases_lt d c) [
@@ -124,14 +125,16 @@ fit_core Rm supply sys budgets c full edf passes = absurd (false≢true edf)
 fit_core Dm supply sys budgets c full edf passes = absurd (false≢true edf)
 fit_core Listed supply sys budgets c full edf passes = absurd (false≢true edf)
 
+pub servers_fit : (sys : SystemView) (budgets : List ℕ) → AllRtds sys (length sys.cores) → Admitted sys budgets
+    → (c : ℕ) → c < length sys.cores → ServersFit sys budgets c
+servers_fit sys budgets all admitted c l =
+    let is = and_parts (is_full (core_at sys c).supply) (is_edf (core_at sys c).sched) (all c l) in
+    fit_core (core_at sys c).sched (core_at sys c).supply sys budgets c is.0 is.1 (admitted.passes (Core c) l).1
+
 served : (sys : SystemView) (budgets : List ℕ) (wakes : List Wake) → AllRtds sys (length sys.cores)
     → IsServed sys budgets wakes → AlwaysServed sys budgets wakes
-served sys budgets wakes all h = record {
-  runnable = h.runnable;
-  fit = λ c l.
-      let is = and_parts (is_full (core_at sys c).supply) (is_edf (core_at sys c).sched) (all c l) in
-      fit_core (core_at sys c).sched (core_at sys c).supply sys budgets c is.0 is.1 (h.admitted.passes (Core c) l).1;
-}
+served sys budgets wakes all h =
+    record { runnable = h.runnable; fit = λ c l. servers_fit sys budgets all h.admitted c l }
 
 -- what it means
 tells_run : (sys : SystemView) → IsSystem sys → (budgets : List ℕ) → IsPlan sys budgets → (wakes : List Wake)

@@ -93,8 +93,8 @@ fn run_text(
     }
 }
 
-// The answer to a core that is not full or not under earliest deadline first.
-fn not_rtds(alloc: Global, sys: &System, core: u32) -> Result<Answer, AllocError>
+/// The answer to a core that is not full or not under earliest deadline first.
+pub fn not_rtds(alloc: Global, sys: &System, core: u32) -> Result<Answer, AllocError>
     requires { core < length sys.now.cores }
     ensures status { IfOk result (λ a. a.status ≡ Status.BadFile) }
     ensures text { IfOk result

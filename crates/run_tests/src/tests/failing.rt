@@ -219,6 +219,13 @@ fn of_tally(rt: HostRuntime) -> Result<(), Fail> {
 }
 
 #[test]
+fn of_isolate(rt: HostRuntime) -> Result<(), Fail> {
+    let words = ["isolate", "first"];
+    let answer = "verdict=yes\nisolated A last=7 of=10\nisolated B last=7 of=10\n";
+    all_fail(&rt, rt.alloc(), &words, &[SHARED], answer)
+}
+
+#[test]
 fn of_version(rt: HostRuntime) -> Result<(), Fail> {
     all_fail(&rt, rt.alloc(), &["version"], &[], "rtadmit 1.0.0\n")
 }
