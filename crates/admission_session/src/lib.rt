@@ -17,7 +17,6 @@ pub use answer::Answer;
 pub use copies::copy_on;
 pub use edited::copy_system;
 pub use fault::EditFault;
-pub use in_place::push_leaf;
 pub use op::Op;
 pub use row::Row;
 pub use rules::is_new_leaf;
