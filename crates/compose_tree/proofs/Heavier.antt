@@ -1,8 +1,9 @@
 -- Tasks of the same periods, deadlines and jitter with no less work: what falls short for the
--- lighter ones does so for them.
+-- lighter ones does so for them, and what they pass the lighter ones pass.
 use Rattle.std.proofs.Common.{◌≡◌, ℕ, ◌+◌, ◌-◌, ◌/◌, ◌<◌, ◌≤◌, Bool, true, false, cond, leb, ltb, eqb, ◌&&◌, ◌||◌, List, [], ◌∷◌, ◌++◌, length, refl, sym, ◌∙◌, ap, arith, subst, inl, inr, mul-le-mul_left}
 use Rattle.std.proofs.lemmas.Bool.{cases_lt}
 use Rattle.std.proofs.lemmas.List.{get_or_append_left, get_or_push, length_push}
+use Rattle.std.specs.Int.{◌∣◌}
 use Rattle.slot_model.specs.declared.sched.Sched.{Sched}
 use Rattle.slot_model.specs.declared.sched.Sched.TheVariants.{Edf, Rm, Dm}
 use Rattle.slot_model.specs.declared.sched.Short.{Short}
@@ -11,7 +12,7 @@ use Rattle.slot_model.specs.Slots.{sum_below}
 use Rattle.slot_model.specs.Task.{SporadicTask, plain_task, default_task, room_of, task_at, jittery_task}
 use Rattle.slot_model.specs.Order.{ranks_by, ranks_above}
 use Rattle.slot_model.specs.Release.{push_if}
-use Rattle.slot_model.specs.Bound.{demand_of, dbf, request_of, rbf, IsShortTask, IsShortfall}
+use Rattle.slot_model.specs.Bound.{demand_of, dbf, request_of, rbf, IsShortTask, AllHit, Passes, IsShortfall, IsCommonMultiple, IsSmall, TestPasses}
 use Rattle.slot_model.proofs.Sums.{sum_below-le, cond_rises}
 use Rattle.slot_model.proofs.Windows.{sum_by-places}
 
@@ -23,6 +24,10 @@ pub record Heavier (light heavy : List SporadicTask) : Type 0 where
   pub same_length : length light ≡ length heavy
   pub each : (i : ℕ) → i < length light
       → (work : ℕ) × (task_at heavy i ≡ with_work light i work) × ((task_at light i).work ≤ work)
+
+pub heavier_same : (tasks : List SporadicTask) → Heavier tasks tasks
+heavier_same tasks =
+    record { same_length = refl; each = λ i l. ((task_at tasks i).work, refl, omega arith) }
 
 -- one more task of each
 heavier_push : (light heavy : List SporadicTask) (b : Bool) (period deadline less more : ℕ) → less ≤ more
@@ -165,3 +170,63 @@ heavier_falls Edf light heavy h bound (At t) s = omega (arith, s, dbf_more light
 heavier_falls Edf light heavy h bound (Task i) s = s
 heavier_falls rule light heavy h bound (At t) s = s
 heavier_falls rule light heavy h bound (Task i) s = heavier_place rule light heavy h bound i s
+
+-- less work passes where more does
+lighter_hits : (sched : Sched) (light heavy : List SporadicTask) → Heavier light heavy → (bound : ℕ → ℕ)
+    → AllHit (ranks_above sched heavy) heavy bound → AllHit (ranks_above sched light) light bound
+lighter_hits sched light heavy h bound all i l =
+    let hit = all i (omega (arith, l, h.same_length)) in (
+      hit.0,
+      record {
+        some_slots = hit.1.some_slots;
+        in_deadline = omega (arith, hit.1.in_deadline, ap room_of (h.each i l).1);
+        enough = omega (arith, hit.1.enough, rbf_more sched light heavy h i hit.0 l);
+      },
+    )
+
+pub lighter_passes : (sched : Sched) (light heavy : List SporadicTask) → Heavier light heavy → (bound : ℕ → ℕ)
+    → Passes sched heavy bound → Passes sched light bound
+lighter_passes Edf light heavy h bound passes = λ t l. omega (arith, passes t l, dbf_more light heavy h t)
+lighter_passes rule light heavy h bound passes = lighter_hits rule light heavy h bound passes
+
+-- a horizon looks at periods alone
+lighter_common : (light heavy : List SporadicTask) → Heavier light heavy → (cycle m : ℕ)
+    → IsCommonMultiple heavy cycle m → IsCommonMultiple light cycle m
+lighter_common light heavy h cycle m common = record {
+  some = common.some;
+  of_cycle = common.of_cycle;
+  of_periods =
+      λ i l. subst (λ (p : ℕ). p ∣ m) (ap (λ (t : SporadicTask). t.period) (h.each i l).1)
+      (common.of_periods i (omega (arith, l, h.same_length)));
+}
+
+heavier_common : (light heavy : List SporadicTask) → Heavier light heavy → (cycle m : ℕ)
+    → IsCommonMultiple light cycle m → IsCommonMultiple heavy cycle m
+heavier_common light heavy h cycle m common = record {
+  some = common.some;
+  of_cycle = common.of_cycle;
+  of_periods =
+      λ i l. let inside : i < length light = omega (arith, l, h.same_length) in
+      subst (λ (p : ℕ). p ∣ m) (sym (ap (λ (t : SporadicTask). t.period) (h.each i inside).1))
+      (common.of_periods i inside);
+}
+
+lighter_small : (sched : Sched) (light heavy : List SporadicTask) → Heavier light heavy → (cycle : ℕ)
+    → IsSmall sched heavy cycle → IsSmall sched light cycle
+lighter_small Edf light heavy h cycle small = (
+  small.0,
+  record {
+    multiple = small.1.multiple;
+    common = lighter_common light heavy h cycle small.1.multiple small.1.common;
+    least = λ m common. small.1.least m (heavier_common light heavy h cycle m common);
+    is = small.1.is;
+  },
+  small.2,
+)
+lighter_small rule light heavy h cycle small = tt
+
+-- so its exact test passes
+pub lighter_test : (sched : Sched) (light heavy : List SporadicTask) → Heavier light heavy → (bound : ℕ → ℕ) (cycle : ℕ)
+    → TestPasses sched heavy bound cycle → TestPasses sched light bound cycle
+lighter_test sched light heavy h bound cycle test =
+    (lighter_small sched light heavy h cycle test.0, lighter_passes sched light heavy h bound test.1)

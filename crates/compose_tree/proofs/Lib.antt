@@ -4,9 +4,9 @@ mod TreeRuns
 mod TreeExists
 pub mod Sound
 mod CoreMisses
-mod Heavier
+pub mod Heavier
 mod CoreFails
 pub mod Refusals
-mod Settling
+pub mod Settling
 mod Ways
 mod TruthExamples

@@ -1,0 +1,7 @@
+pub mod Lower
+mod Most
+mod Halving
+mod Tasks
+mod Reading
+pub mod OneMost
+mod WorkExamples

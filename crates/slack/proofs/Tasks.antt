@@ -1,0 +1,50 @@
+-- The tasks as the code holds them: one of them is changed and put back, and whether all pass.
+use Rattle.std.proofs.Common.{◌≡◌, ℕ, ◌<◌, List, length, set, get_or, refl, sym, ◌∙◌, ap}
+use Rattle.std.proofs.lemmas.List.{map-set, get_or-map, set-get_or, set-set}
+use Rattle.slot_model.specs.declared.sched.Sched.{Sched}
+use Rattle.slot_model.specs.declared.task.Task.{Task}
+use Rattle.slot_model.specs.Task.{SporadicTask, default_task, jittery_task, sporadic_task, sporadic_tasks, task_at}
+use Rattle.slot_model.specs.Bound.{TestPasses}
+use Rattle.slot_model.proofs.Budgets.{short_not_passes}
+use Rattle.least_budget.specs.declared.answers.Tested.{Tested}
+use Rattle.least_budget.specs.declared.answers.Tested.TheVariants.{Passes as AllPasses, Short as FirstShort, Wide as TestWide}
+use Rattle.least_budget.specs.Answers.{IsTested}
+use Rattle.slack.specs.Steps.{tasks_with}
+
+pub put_back : (tasks : List Task) (i : ℕ) (changed task : Task) → task ≡ get_or tasks i task
+    → set (set tasks i changed) i task ≡ tasks
+put_back tasks i changed task e =
+    set-set tasks i changed task ∙ (ap (λ (t : Task). set tasks i t) e ∙ set-get_or tasks i task)
+
+-- the numbers of the task at a place
+pub task_read : (tasks : List Task) (i : ℕ) (task : Task) → i < length tasks → task ≡ get_or tasks i task
+    → sporadic_task task ≡ task_at (sporadic_tasks tasks) i
+task_read tasks i task h e = ap sporadic_task e ∙ sym (get_or-map sporadic_task tasks i task default_task h)
+
+same_numbers : (p d w j q e v k : ℕ) → p ≡ q → d ≡ e → w ≡ v → j ≡ k → jittery_task p d w j ≡ jittery_task q e v k
+same_numbers p d w j q e v k a b c f =
+    ap (λ (x : ℕ). jittery_task x d w j) a
+    ∙ (ap (λ (x : ℕ). jittery_task q x w j) b
+    ∙ (ap (λ (x : ℕ). jittery_task q e x j) c ∙ ap (λ (x : ℕ). jittery_task q e v x) f))
+
+pub changed_tasks : (tasks : List Task) (i : ℕ) (task changed : Task) (work : ℕ) → i < length tasks
+    → task ≡ get_or tasks i task
+    → (changed.period ≡ task.period) × (changed.deadline ≡ task.deadline) × (changed.work ≡ work)
+    × (changed.jitter ≡ task.jitter)
+    → sporadic_tasks (set tasks i changed) ≡ tasks_with (sporadic_tasks tasks) i work
+changed_tasks tasks i task changed work h e n =
+    let read : sporadic_task task ≡ task_at (sporadic_tasks tasks) i = task_read tasks i task h e in
+    let t : SporadicTask = task_at (sporadic_tasks tasks) i in
+    map-set sporadic_task tasks i changed
+    ∙ ap (λ (x : SporadicTask). set (sporadic_tasks tasks) i x)
+    (same_numbers changed.period changed.deadline changed.work changed.jitter t.period t.deadline work t.jitter
+    (n.0 ∙ ap (λ (x : SporadicTask). x.period) read) (n.1 ∙ ap (λ (x : SporadicTask). x.deadline) read) n.2
+    (n.3 ∙ ap (λ (x : SporadicTask). x.jitter) read))
+
+-- what is told to fall short or to be wide passes not
+pub tested_not : (sched : Sched) (tasks : List SporadicTask) (bound : ℕ → ℕ) (cycle : ℕ) (told : Tested)
+    → IsTested sched tasks bound cycle told → (told ≡ AllPasses → ⊥) → TestPasses sched tasks bound cycle → ⊥
+tested_not sched tasks bound cycle AllPasses told none passes = none refl
+tested_not sched tasks bound cycle (FirstShort short) told none passes =
+    short_not_passes sched tasks bound short told.1 passes.1
+tested_not sched tasks bound cycle TestWide told none passes = told passes.0

@@ -1,0 +1,2 @@
+pub mod MostWork
+pub mod Steps

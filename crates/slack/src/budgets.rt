@@ -1,0 +1,75 @@
+ghost use Rattle.std.specs.Prelude.{◌≡◌, ◌↔◌, ◌<◌, ◌≤◌, ℕ, None, true, length, IfOk, IsTrue};
+ghost use Rattle.tree_model.specs.System.{IsSystem, part_at, is_leaf_at};
+ghost use Rattle.tree_model.specs.Admission.{Admitted};
+ghost use Rattle.compose_tree.specs.Kept.{IsKept};
+ghost use Rattle.admission_session.specs.Answers.{IsAdmitted};
+ghost use Rattle.slack.specs.Steps.{with_budget, IsMostBudget};
+
+use admission_session::copy_system;
+use compose_tree::recompose;
+use std::alloc::{AllocError, Global};
+use tree_model::{Place, Plan, Refusal, System};
+
+/// The greatest budget of leaf `q` with which the nodes above it pass, in slots: the given one, or
+/// by halving between that of the plan and the period.
+pub fn most_budget(alloc: Global, sys: &System, plan: &Plan, q: usize) -> Result<u64, AllocError>
+    requires admitted { Admitted sys.now plan.now }
+    requires is_part { q < length sys.now.parts }
+    requires leaf { is_leaf_at sys.now q ≡ true }
+    ensures { IfOk result (λ budget. IsMostBudget sys.now q budget) }
+{
+    match sys.parts()[q].budget() {
+        Some(budget) => Ok(budget),
+        None => most_open(alloc, sys, plan, q),
+    }
+}
+
+/// The same of a leaf without a given budget.
+fn most_open(alloc: Global, sys: &System, plan: &Plan, q: usize) -> Result<u64, AllocError>
+    requires admitted { Admitted sys.now plan.now }
+    requires is_part { q < length sys.now.parts }
+    requires leaf { is_leaf_at sys.now q ≡ true }
+    requires computed { (part_at sys.now q).budget ≡ None }
+    ensures { IfOk result (λ budget. IsMostBudget sys.now q budget) }
+{
+    let mut high = sys.parts()[q].period();
+    let mut low = plan.budgets()[q];
+    let start = Place::Part(q as u32);
+    let mut trial = copy_system(alloc, sys)?;
+    while low < high {
+        let middle = high - (high - low) / 2;
+        trial = with_budget(trial, q, middle);
+        if is_admitted(alloc, &trial, plan, start)? {
+            low = middle;
+        } else {
+            high = middle - 1;
+        }
+    }
+    Ok(low)
+}
+
+/// The system that gives this budget to part `q`, in slots.
+fn with_budget(sys: System, q: usize, budget: u64) -> System
+    requires is_part { q < length sys.parts }
+    requires some { 1 ≤ budget }
+    requires in_period { budget ≤ (part_at sys q).period }
+    ensures { result ≡ with_budget sys q budget }
+{
+    let System { cores, mut parts } = sys;
+    parts[q].budget = Some(budget);
+    System { cores, parts }
+}
+
+/// Whether a system is admitted that differs at `start` from one that the plan admits.
+fn is_admitted(alloc: Global, sys: &System, plan: &Plan, start: Place) -> Result<bool, AllocError>
+    requires { IsKept sys.now plan.now start }
+    ensures { IfOk result (λ yes. IsTrue yes ↔ IsAdmitted sys.now) }
+{
+    let budgets = Vec::from_slice(alloc, plan.budgets())?;
+    match recompose(alloc, sys, budgets, start) {
+        Ok(_) => Ok(true),
+        Err(Refusal::NoMemory) => Err(AllocError),
+        Err(Refusal::Overfull(_, _)) => Ok(false),
+        Err(Refusal::Wide(_)) => Ok(false),
+    }
+}
