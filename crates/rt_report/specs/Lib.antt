@@ -10,6 +10,7 @@ pub mod Tally
 pub mod Check
 pub mod Choose
 pub mod Interface
+pub mod Slack
 pub mod SystemFault
 pub mod RowFault
 pub mod CertFault
