@@ -11,6 +11,7 @@ pub mod Check
 pub mod Choose
 pub mod Interface
 pub mod Isolation
+pub mod Slack
 pub mod SystemFault
 pub mod RowFault
 pub mod CertFault

@@ -24,7 +24,7 @@ use Rattle.rt_top.specs.declared.status.Status.TheVariants.{Yes, No, Usage, BadF
 use Rattle.rt_top.specs.Guests.{guest_number}
 use Rattle.rt_top.specs.PeriodWords.{range_of}
 use Rattle.rt_top.specs.CommandSpec.{IsVerdict}
-use Rattle.rt_top.specs.Commands.{Command, admit, certify, check, audit, bulk, interface, choose, session, place, isolate, tally, responses, one_word, two_words, rtds_of, simulate_of, interface_of, choose_of, version_of, command_of, usage_line}
+use Rattle.rt_top.specs.Commands.{Command, admit, certify, check, audit, bulk, interface, choose, session, place, isolate, slack, tally, responses, one_word, two_words, rtds_of, simulate_of, interface_of, choose_of, version_of, command_of, usage_line}
 use Rattle.rt_top.specs.Answer.{Contents, file_at, AtFile, OnSystem, IfSystem}
 use Rattle.rt_top.specs.Commands.Admit.{AdmitsSystem, AdmitMeans, KeepsDeadlines, IsTrulyOverfull, MeansOfSystem}
 use Rattle.rt_top.specs.Report.{IsAnswer, Reported}
@@ -89,6 +89,7 @@ the_words_of_each_command : (word : List ℕ) (rest : List (List ℕ)) → comma
     else if bytes_eq word (codes "session") then option_map (λ names. session names.0 names.1) (two_words rest)
     else if bytes_eq word (codes "place") then option_map (λ names. place names.0 names.1) (two_words rest)
     else if bytes_eq word (codes "isolate") then option_map isolate (one_word rest)
+    else if bytes_eq word (codes "slack") then option_map (λ names. slack names.0 names.1) (two_words rest)
     else if bytes_eq word (codes "tally") then option_map (λ names. tally names.0 names.1) (two_words rest)
     else if bytes_eq word (codes "version") then version_of rest
     else None)
@@ -96,7 +97,7 @@ the_words_of_each_command word rest = refl
 
 the_usage : usage_line
     ≡ codes
-    "usage: rtadmit admit FILE | certify FILE | check FILE CERT | simulate FILE RELEASES PATTERN SLOTS | rtds FILE WORKLOAD SLOTS | audit FILE TRACE | bulk N | interface FILE PART DEADLINE | responses FILE | choose FILE PART LOW HIGH | session FILE SCRIPT | place FILE GUESTS | isolate FILE | tally FILE TRACE | version\n"
+    "usage: rtadmit admit FILE | certify FILE | check FILE CERT | simulate FILE RELEASES PATTERN SLOTS | rtds FILE WORKLOAD SLOTS | audit FILE TRACE | bulk N | interface FILE PART DEADLINE | responses FILE | choose FILE PART LOW HIGH | session FILE SCRIPT | place FILE GUESTS | isolate FILE | slack FILE PART | tally FILE TRACE | version\n"
 the_usage = refl
 
 -- files count from 1, and past the last there is none

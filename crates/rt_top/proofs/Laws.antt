@@ -12,10 +12,11 @@ pub mod Choose
 pub mod Session
 pub mod Place
 pub mod Isolate
+pub mod Slack
 pub mod Tally
 pub mod Version
 use Rattle.rt_top.specs.declared.commands.Command.{Command as Parsed}
-use Rattle.rt_top.specs.declared.commands.Command.TheVariants.{Admit as ToAdmit, Certify as ToCertify, Check as ToCheck, Rtds as ToRtds, Audit as ToAudit, Simulate as ToSimulate, Bulk as ToBulk, Responses as ToResponses, Interface as ToInterface, Choose as ToChoose, Session as ToSession, Place as ToPlace, Isolate as ToIsolate, Tally as ToTally, Version as ToVersion}
+use Rattle.rt_top.specs.declared.commands.Command.TheVariants.{Admit as ToAdmit, Certify as ToCertify, Check as ToCheck, Rtds as ToRtds, Audit as ToAudit, Simulate as ToSimulate, Bulk as ToBulk, Responses as ToResponses, Interface as ToInterface, Choose as ToChoose, Session as ToSession, Place as ToPlace, Isolate as ToIsolate, Slack as ToSlack, Tally as ToTally, Version as ToVersion}
 use Rattle.rt_top.specs.Commands.{spec_of, command_told}
 use Rattle.rt_top.proofs.CommandLaws.{CommandLaws}
 use Rattle.rt_top.proofs.Laws.Admit.{admit_laws}
@@ -31,6 +32,7 @@ use Rattle.rt_top.proofs.Laws.Choose.{choose_laws}
 use Rattle.rt_top.proofs.Laws.Session.{session_laws}
 use Rattle.rt_top.proofs.Laws.Place.{place_laws}
 use Rattle.rt_top.proofs.Laws.Isolate.{isolate_laws}
+use Rattle.rt_top.proofs.Laws.Slack.{slack_laws}
 use Rattle.rt_top.proofs.Laws.Tally.{tally_laws}
 use Rattle.rt_top.proofs.Laws.Version.{version_laws}
 
@@ -48,5 +50,6 @@ laws_of (ToChoose file part periods) = choose_laws file.now part.now periods.low
 laws_of (ToSession file script) = session_laws file.now script.now
 laws_of (ToPlace file guests) = place_laws file.now guests.now
 laws_of (ToIsolate file) = isolate_laws file.now
+laws_of (ToSlack file part) = slack_laws file.now part.now
 laws_of (ToTally file trace) = tally_laws file.now trace.now
 laws_of ToVersion = version_laws

@@ -58,6 +58,13 @@ pub leaf_said : (sys : SystemView) (name : List ℕ) (Says : ℕ → Status → 
     (text : List ℕ) → IsLeafNamed sys name q → Says q status text → OnLeaf sys name Says status text
 leaf_said sys name Says q status text found said = inl (record { value = q; gives = found; said = said })
 
+pub leaf_stopped : (sys : SystemView) (name : List ℕ) (Says : ℕ → Status → List ℕ → Type 0) (q : ℕ) (stop : Ending)
+    → IsLeafNamed sys name q → IfAnswered stop (λ a. Says q a.status a.text.items)
+    → IfAnswered stop (λ a. OnLeaf sys name Says a.status a.text.items)
+leaf_stopped sys name Says q (Answered a) found said = inl (record { value = q; gives = found; said = said })
+leaf_stopped sys name Says q Unread found said = tt
+leaf_stopped sys name Says q NoRoom found said = tt
+
 pub leaf_refused : (sys : SystemView) (name : List ℕ) (Says : ℕ → Status → List ℕ → Type 0) (stop : Ending)
     → IfAnswered stop (λ a. IsRefused (finding sys name) a.status a.text.items)
     → IfAnswered stop (λ a. OnLeaf sys name Says a.status a.text.items)

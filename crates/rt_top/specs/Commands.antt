@@ -12,12 +12,13 @@ pub mod Choose
 pub mod Session
 pub mod Place
 pub mod Isolate
+pub mod Slack
 pub mod Tally
 pub mod Version
 use Rattle.std.specs.Prelude.{ℕ, List, [], ◌∷◌, ◌++◌, Option, Some, None, option_map, option_and_then, codes, bytes_eq, if◌then◌else◌}
 use Rattle.server_sched.specs.declared.supplies.Pattern.{Pattern}
 use Rattle.rt_top.specs.declared.commands.Command.{Command as Parsed}
-use Rattle.rt_top.specs.declared.commands.Command.TheVariants.{Admit as ToAdmit, Certify as ToCertify, Check as ToCheck, Rtds as ToRtds, Audit as ToAudit, Simulate as ToSimulate, Bulk as ToBulk, Responses as ToResponses, Interface as ToInterface, Choose as ToChoose, Session as ToSession, Place as ToPlace, Isolate as ToIsolate, Tally as ToTally, Version as ToVersion}
+use Rattle.rt_top.specs.declared.commands.Command.TheVariants.{Admit as ToAdmit, Certify as ToCertify, Check as ToCheck, Rtds as ToRtds, Audit as ToAudit, Simulate as ToSimulate, Bulk as ToBulk, Responses as ToResponses, Interface as ToInterface, Choose as ToChoose, Session as ToSession, Place as ToPlace, Isolate as ToIsolate, Slack as ToSlack, Tally as ToTally, Version as ToVersion}
 use Rattle.rt_top.specs.SlotWords.{pattern_of, slot_count}
 use Rattle.rt_top.specs.Guests.{guest_number}
 use Rattle.rt_top.specs.PeriodWords.{period_of, range_of}
@@ -35,6 +36,7 @@ use Rattle.rt_top.specs.Commands.Choose.{the_choose}
 use Rattle.rt_top.specs.Commands.Session.{the_session}
 use Rattle.rt_top.specs.Commands.Place.{the_place}
 use Rattle.rt_top.specs.Commands.Isolate.{the_isolate}
+use Rattle.rt_top.specs.Commands.Slack.{the_slack}
 use Rattle.rt_top.specs.Commands.Tally.{the_tally}
 use Rattle.rt_top.specs.Commands.Version.{the_version}
 
@@ -54,6 +56,7 @@ pub data Command : Type 0 where
   session : (file script : List ℕ) → Command
   place : (file guests : List ℕ) → Command
   isolate : (file : List ℕ) → Command
+  slack : (file part : List ℕ) → Command
   tally : (file trace : List ℕ) → Command
   version : Command
 
@@ -72,6 +75,7 @@ spec_of (choose file part low high) = the_choose file part low high
 spec_of (session file script) = the_session file script
 spec_of (place file guests) = the_place file guests
 spec_of (isolate file) = the_isolate file
+spec_of (slack file part) = the_slack file part
 spec_of (tally file trace) = the_tally file trace
 spec_of version = the_version
 
@@ -91,6 +95,7 @@ command_told (ToChoose file part periods) = choose file.now part.now periods.low
 command_told (ToSession file script) = session file.now script.now
 command_told (ToPlace file guests) = place file.now guests.now
 command_told (ToIsolate file) = isolate file.now
+command_told (ToSlack file part) = slack file.now part.now
 command_told (ToTally file trace) = tally file.now trace.now
 command_told ToVersion = version
 
@@ -108,7 +113,7 @@ abbrev pub two_words : List (List ℕ) → Option (List ℕ × List ℕ)
 two_words (first ∷ second ∷ []) = Some (first, second)
 two_words _ = None
 
--- a command of one file, and of two
+-- a command of one file, and of two, or of one and a leaf
 abbrev pub of_one : (List ℕ → Command) → List (List ℕ) → Option Command
 of_one command words = option_map command (one_word words)
 
@@ -170,6 +175,7 @@ forms =
     ∷ form (codes "session") (codes " FILE SCRIPT") (of_two session)
     ∷ form (codes "place") (codes " FILE GUESTS") (of_two place)
     ∷ form (codes "isolate") (codes " FILE") (of_one isolate)
+    ∷ form (codes "slack") (codes " FILE PART") (of_two slack)
     ∷ form (codes "tally") (codes " FILE TRACE") (of_two tally)
     ∷ form (codes "version") [] version_of
     ∷ []

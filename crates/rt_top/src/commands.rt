@@ -12,6 +12,7 @@ mod rtds;
 mod session;
 mod simulate;
 mod tally;
+mod task_slack;
 mod version;
 
 ghost use Rattle.std.specs.Prelude.{◌≡◌, ◌≢◌, Some, map, option_map, string_bytes, IfOk, IfErr};
@@ -37,6 +38,7 @@ use crate::commands::rtds::Rtds;
 use crate::commands::session::Editor;
 use crate::commands::simulate::Simulate;
 use crate::commands::tally::Tally;
+use crate::commands::task_slack::Slack;
 use crate::commands::version::version;
 use crate::guests::Guests;
 use crate::one_file::over_one;
@@ -79,6 +81,8 @@ pub enum Command<'a> {
     Place(&'a str, &'a str),
     /// `isolate FILE`
     Isolate(&'a str),
+    /// `slack FILE PART`
+    Slack(&'a str, &'a str),
     /// `tally FILE TRACE`
     Tally(&'a str, &'a str),
     /// `version`
@@ -120,6 +124,9 @@ pub fn parse(words: &[String]) -> Option<Command<'_>>
         Some(Command::Place(file, guests))
     } else if word.as_str() == "isolate" {
         Some(Command::Isolate(one_word(rest)?))
+    } else if word.as_str() == "slack" {
+        let (file, part) = two_words(rest)?;
+        Some(Command::Slack(file, part))
     } else if word.as_str() == "tally" {
         let (file, trace) = two_words(rest)?;
         Some(Command::Tally(file, trace))
@@ -137,7 +144,8 @@ fn usage_text() -> &'static str
     "usage: rtadmit admit FILE | certify FILE | check FILE CERT | \
      simulate FILE RELEASES PATTERN SLOTS | rtds FILE WORKLOAD SLOTS | audit FILE TRACE | bulk N | \
      interface FILE PART DEADLINE | responses FILE | choose FILE PART LOW HIGH | \
-     session FILE SCRIPT | place FILE GUESTS | isolate FILE | tally FILE TRACE | version\n"
+     session FILE SCRIPT | place FILE GUESTS | isolate FILE | slack FILE PART | tally FILE TRACE | \
+     version\n"
 }
 
 /// The answer to a command, or to words that spell none.
@@ -179,6 +187,7 @@ pub fn answer<S: Store>(alloc: Global, command: Option<Command<'_>>, store: &mut
         }
         Some(Command::Place(file, guests)) => ended(over_two(alloc, store, file, guests, &Placer)),
         Some(Command::Isolate(file)) => ended(over_one(alloc, store, file, &Isolate)),
+        Some(Command::Slack(file, part)) => ended(over_one(alloc, store, file, &Slack { part })),
         Some(Command::Tally(file, trace)) => ended(over_two(alloc, store, file, trace, &Tally)),
         Some(Command::Version) => ended(version(alloc)),
         None => ended(usage(alloc)),

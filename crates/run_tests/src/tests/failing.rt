@@ -261,3 +261,10 @@ fn of_place(rt: HostRuntime) -> Result<(), Fail> {
     let host = "format = 1\n\n[[core]]\nname = \"cpu0\"\nsched = \"edf\"\n";
     all_fail(&rt, rt.alloc(), &words, &[host, guests], host)
 }
+
+#[test]
+fn of_slack(rt: HostRuntime) -> Result<(), Fail> {
+    let words = ["slack", "first", "leaf"];
+    let answer = "verdict=yes\nslack leaf t1 work=7 most=44\nslack leaf t2 work=9 most=64\n";
+    all_fail(&rt, rt.alloc(), &words, &[LEAF], answer)
+}
