@@ -1,7 +1,9 @@
+ghost use Rattle.csv_rows.specs.Reading.{IsOpen};
+
+use crate::helpers::MEMORY;
 use csv_rows::{Plain, Records, RowWriter, is_plain, number, plain_number};
 use std::alloc::{AllocError, Global};
 use std::process::Abort;
-use std::test::Fail;
 
 /// The text of two rows.
 fn two_rows(alloc: Global) -> Result<Vec<u8>, AllocError> {
@@ -13,15 +15,22 @@ fn two_rows(alloc: Global) -> Result<Vec<u8>, AllocError> {
     writer.finish()
 }
 
+/// Whether there is one more record, which is then read.
+fn advances(rt: &impl Abort, records: &mut Records) -> bool
+    requires { IsOpen records.old }
+    ensures { IsOpen records.new }
+{
+    records.advance().expect(rt, MEMORY)
+}
+
 #[test]
-fn rows_are_read_as_they_were_written(rt: HostRuntime) -> Result<(), Fail> {
-    let text = two_rows(rt.alloc())?;
+fn rows_are_read_as_they_were_written(rt: HostRuntime) {
+    let text = two_rows(rt.alloc()).expect(&rt, MEMORY);
     assert!(rt; text.as_slice() == b"at,what,vcpu\n7,\"a,b\",\n".as_slice());
     let mut records = Records::new(rt.alloc(), &text);
-    assert!(rt; records.advance()? && records.row().len() == 3);
-    assert!(rt; records.advance()? && records.row().get(1) == Some(b"a,b".as_slice()));
-    assert!(rt; !records.advance()?);
-    Ok(())
+    assert!(rt; advances(&rt, &mut records) && records.row().len() == 3);
+    assert!(rt; advances(&rt, &mut records) && records.row().get(1) == Some(b"a,b".as_slice()));
+    assert!(rt; !advances(&rt, &mut records));
 }
 
 /// Whether the record that was read last has these two fields.
@@ -31,86 +40,87 @@ fn is_pair(records: &Records, first: &str, second: &str) -> bool {
 }
 
 /// Whether the records of a text are these, of two fields each.
-fn are_pairs(
-    rt: &impl Abort,
-    alloc: Global,
-    text: &str,
-    pairs: &[(&str, &str)],
-) -> Result<(), Fail> {
+fn are_pairs(rt: &impl Abort, alloc: Global, text: &str, pairs: &[(&str, &str)]) {
     let mut records = Records::new(alloc, text.as_bytes());
     for (first, second) in pairs {
-        assert!(rt;
-            records.advance()? && is_pair(&records, first, second),
-            "{first} {second}"
-        );
+        let found = advances(rt, &mut records) && is_pair(&records, first, second);
+        assert!(rt; found, "{first} {second}");
     }
     // and the end of the text is read twice
-    assert!(rt; !records.advance()? && !records.advance()?, "{text}");
-    Ok(())
+    let is_over = !advances(rt, &mut records) && !advances(rt, &mut records);
+    assert!(rt; is_over, "{text}");
 }
 
 /// With a mark at the front, an empty line, quotes, and no line end at the end.
 const QUOTED: &str = "\u{FEFF}a\"b,c\r\n\n\"x,\"\"y\"\"\r\n\",\"p\"q\n,z";
 
 #[test]
-fn fields_may_stand_in_quotes(rt: HostRuntime) -> Result<(), Fail> {
+fn fields_may_stand_in_quotes(rt: HostRuntime) {
     let read = &[("a\"b", "c"), ("x,\"y\"\r\n", "pq"), ("", "z")];
-    are_pairs(&rt, rt.alloc(), QUOTED, read)
+    are_pairs(&rt, rt.alloc(), QUOTED, read);
 }
 
 /// With empty lines, empty fields, and no line end at the end.
 const PLAIN: &str = "\n\nat,what\n\n7,\n,\n8,x";
 
 #[test]
-fn a_plain_text_is_split(rt: HostRuntime) -> Result<(), Fail> {
+fn a_plain_text_is_split(rt: HostRuntime) {
     let read = &[("at", "what"), ("7", ""), ("", ""), ("8", "x")];
-    are_pairs(&rt, rt.alloc(), PLAIN, read)
+    are_pairs(&rt, rt.alloc(), PLAIN, read);
 }
 
 #[test]
-fn a_comma_at_the_end_leaves_an_empty_field(rt: HostRuntime) -> Result<(), Fail> {
-    let alloc = rt.alloc();
+fn a_comma_at_the_end_leaves_an_empty_field(rt: HostRuntime) {
     for text in &["a,", "a,\n", "a,\"\"", "\r\n\"a\","] {
-        are_pairs(&rt, alloc, text, &[("a", "")])?;
+        are_pairs(&rt, rt.alloc(), text, &[("a", "")]);
     }
-    Ok(())
 }
+
+const FIELDS: [(&str, bool); 8] = [
+    ("0", true),
+    ("10", true),
+    ("99999999999999999999999", true),
+    ("", false),
+    ("01", false),
+    ("+1", false),
+    ("1.0", false),
+    (" 1", false),
+];
 
 #[test]
 fn plain_numbers_have_no_sign_and_no_leading_zero(rt: HostRuntime) {
-    for (field, plain) in &[
-        ("0", true),
-        ("10", true),
-        ("99999999999999999999999", true),
-        ("", false),
-        ("01", false),
-        ("+1", false),
-        ("1.0", false),
-        (" 1", false),
-    ] {
+    for (field, plain) in &FIELDS {
         assert!(rt; is_plain(field.as_bytes()) == *plain, "{field}");
     }
 }
 
+const NUMBERS: [(&str, Plain); 8] = [
+    ("0", Plain::Is(0)),
+    ("1000", Plain::Is(1000)),
+    ("1001", Plain::Past),
+    ("99999999999999999999999", Plain::Past),
+    ("", Plain::No),
+    ("01", Plain::No),
+    ("1.0", Plain::No),
+    ("9999999999999999999999x", Plain::No),
+];
+
 #[test]
-fn numbers_have_a_limit(rt: HostRuntime) {
-    for (field, plain) in &[
-        ("0", Plain::Is(0)),
-        ("1000", Plain::Is(1000)),
-        ("1001", Plain::Past),
-        ("99999999999999999999999", Plain::Past),
-        ("", Plain::No),
-        ("01", Plain::No),
-        ("1.0", Plain::No),
-        ("9999999999999999999999x", Plain::No),
-    ] {
+fn plain_numbers_have_a_limit(rt: HostRuntime) {
+    for (field, plain) in &NUMBERS {
         assert!(rt; plain_number(field.as_bytes(), 1000) == *plain, "{field}");
     }
-    for (field, found) in &[
-        ("1000", Some(1000)),
-        ("1001", None),
-        ("99999999999999999999999", None),
-    ] {
+}
+
+const LIMITED: [(&str, Option<u64>); 3] = [
+    ("1000", Some(1000)),
+    ("1001", None),
+    ("99999999999999999999999", None),
+];
+
+#[test]
+fn numbers_have_a_limit(rt: HostRuntime) {
+    for (field, found) in &LIMITED {
         assert!(rt; number(field.as_bytes(), 1000) == *found, "{field}");
     }
 }

@@ -1,5 +1,6 @@
 ghost use Rattle.std.specs.Prelude.{◌≤◌, None};
 
+use crate::helpers::MEMORY;
 use outside::{
     DiskStore, MemorySink, MemoryStore, ReadFault, Sink, SinkFault, StdoutSink, Store, StoreFault,
     WriteFault, read_all, write_all,
@@ -7,37 +8,40 @@ use outside::{
 use slot_model::Name;
 use std::alloc::Global;
 use std::io::BufWriter;
-use std::test::Fail;
+use std::process::Abort;
 use std::{fs, io};
 
 const TEXT: &[u8] = b"format = 1";
 
+fn name(rt: &impl Abort, alloc: Global, text: &[u8]) -> Name {
+    Name::new(alloc, text)
+        .expect(rt, MEMORY)
+        .expect(rt, "no name")
+}
+
 // A store of the file `sys` of ten bytes and the file `empty`.
-fn two_files(alloc: Global, bite: usize, fails: Vec<u64>) -> Result<MemoryStore, Fail>
+fn two_files(rt: &impl Abort, alloc: Global, bite: usize, fails: Vec<u64>) -> MemoryStore
     requires { 1 ≤ bite }
 {
-    let mut files = Vec::new(alloc);
-    files.push((
-        Name::new(alloc, b"sys")?.ok_or("no name")?,
-        TEXT.to_vec(alloc)?,
-    ))?;
-    files.push((
-        Name::new(alloc, b"empty")?.ok_or("no name")?,
-        Vec::new(alloc),
-    ))?;
-    Ok(MemoryStore::new(files, bite, fails))
+    let text = TEXT.to_vec(alloc).expect(rt, MEMORY);
+    let files = [
+        (name(rt, alloc, b"sys"), text),
+        (name(rt, alloc, b"empty"), Vec::new(alloc)),
+    ];
+    let files = Vec::from_array(alloc, files).expect(rt, MEMORY);
+    MemoryStore::new(files, bite, fails)
 }
 
 #[test]
-fn a_file_is_read_whole_or_past_its_limit(rt: HostRuntime) -> Result<(), Fail> {
+fn a_file_is_read_whole_or_past_its_limit(rt: HostRuntime) {
     let alloc = rt.alloc();
     for bite in [1, 7, 4096] {
-        let mut store = two_files(alloc, bite, Vec::new(alloc))?;
+        let mut store = two_files(&rt, alloc, bite, Vec::new(alloc));
         for limit in [10, 11, 100_000] {
-            let bytes = read_all(alloc, &mut store, "sys", limit)?;
+            let bytes = read_all(alloc, &mut store, "sys", limit).expect(&rt, "read");
             assert_eq!(rt; bytes.as_slice(), TEXT, "bite {bite}, limit {limit}");
         }
-        let bytes = read_all(alloc, &mut store, "empty", 0)?;
+        let bytes = read_all(alloc, &mut store, "empty", 0).expect(&rt, "read");
         assert_eq!(rt; bytes.len(), 0, "bite {bite}");
         for (name, limit, want) in [
             ("sys", 9, ReadFault::TooLong),
@@ -48,24 +52,23 @@ fn a_file_is_read_whole_or_past_its_limit(rt: HostRuntime) -> Result<(), Fail> {
             assert_eq!(rt; fault, Some(want), "bite {bite}, {name} up to {limit}");
         }
     }
-    Ok(())
 }
 
 // With bite 5 the calls are: 0 opens, 1 and 2 read five bytes each, 3 reads the end.
 #[test]
-fn each_failing_call_of_a_store_is_told(rt: HostRuntime) -> Result<(), Fail> {
+fn each_failing_call_of_a_store_is_told(rt: HostRuntime) {
     let alloc = rt.alloc();
     for k in 0..5 {
-        let mut store = two_files(alloc, 5, vec![in alloc; k]?)?;
+        let fails = vec![in alloc; k].expect(&rt, MEMORY);
+        let mut store = two_files(&rt, alloc, 5, fails);
         let want = if k < 4 { Some(ReadFault::Failed) } else { None };
         let fault = read_all(alloc, &mut store, "sys", 100).err();
         assert_eq!(rt; fault, want, "call {k}");
     }
-    Ok(())
 }
 
 #[test]
-fn a_sink_keeps_what_was_written_before_it_failed(rt: HostRuntime) -> Result<(), Fail> {
+fn a_sink_keeps_what_was_written_before_it_failed(rt: HostRuntime) {
     let alloc = rt.alloc();
     for (room, bite, fails, want) in [
         (12, 1, 99, "verdict=yes\n"),
@@ -76,20 +79,12 @@ fn a_sink_keeps_what_was_written_before_it_failed(rt: HostRuntime) -> Result<(),
         (11, 8, 99, "verdict=yes"),
         (0, 1, 99, ""),
     ] {
-        let mut sink = MemorySink::new(alloc, room, bite, vec![in alloc; fails]?)?;
+        let fails = vec![in alloc; fails].expect(&rt, MEMORY);
+        let mut sink = MemorySink::new(alloc, room, bite, fails).expect(&rt, MEMORY);
         let written = write_all(&mut sink, b"verdict=yes\n").is_ok();
-        assert_eq!(rt;
-            written,
-            want.len() == 12,
-            "room {room}, bite {bite}, fails {fails}"
-        );
-        assert_eq!(rt;
-            sink.written(),
-            want.as_bytes(),
-            "room {room}, bite {bite}, fails {fails}"
-        );
+        assert_eq!(rt; written, want.len() == 12, "room {room}, bite {bite}");
+        assert_eq!(rt; sink.written(), want.as_bytes(), "room {room}, bite {bite}");
     }
-    Ok(())
 }
 
 // One file of zeros, which takes no memory. It tells nothing.
@@ -127,7 +122,7 @@ impl Store for Zeros {
 }
 
 #[test]
-fn the_largest_file_is_read(rt: HostRuntime) -> Result<(), Fail> {
+fn the_largest_file_is_read(rt: HostRuntime) {
     let alloc = rt.alloc();
     for (size, want) in [
         (67_108_864, Ok(67_108_864)),
@@ -142,14 +137,13 @@ fn the_largest_file_is_read(rt: HostRuntime) -> Result<(), Fail> {
         assert_eq!(rt; read, want);
         assert_eq!(rt; store.taken, size as u64);
     }
-    Ok(())
 }
 
 #[test]
-fn a_disk_names_its_causes(rt: HostRuntime) -> Result<(), Fail> {
+fn a_disk_names_its_causes(rt: HostRuntime) {
     let alloc = rt.alloc();
     let mut store = DiskStore::new(rt);
-    let bytes = read_all(alloc, &mut store, "/proc/sys/kernel/ostype", 100)?;
+    let bytes = read_all(alloc, &mut store, "/proc/sys/kernel/ostype", 100).expect(&rt, "read");
     assert_eq!(rt; bytes.as_slice(), b"Linux\n".as_slice());
     for (name, want) in [
         ("/dev/null", None),
@@ -161,22 +155,22 @@ fn a_disk_names_its_causes(rt: HostRuntime) -> Result<(), Fail> {
         let fault = read_all(alloc, &mut store, name, 100_000).err();
         assert_eq!(rt; fault, want, "{name}");
     }
-    Ok(())
 }
 
 #[test]
-fn an_output_writes_or_fails(rt: HostRuntime) -> Result<(), Fail> {
+fn an_output_writes_or_fails(rt: HostRuntime) {
     let mut out = StdoutSink::new(io::writer(&rt));
     assert_eq!(rt; out.write(b""), Ok(0));
     for (name, want) in [
         ("/dev/null", Ok(())),
         ("/dev/full", Err(WriteFault::Failed)),
     ] {
-        let mut sink = StdoutSink::new(fs::create(&rt, name)?);
+        let mut sink = StdoutSink::new(fs::create(&rt, name).expect(&rt, "open"));
         assert_eq!(rt; write_all(&mut sink, b"verdict=yes\n"), want, "{name}");
     }
     // a writer that keeps what it takes till it is flushed
-    let kept = BufWriter::new(rt.alloc(), fs::create(&rt, "/dev/full")?)?;
+    let full = fs::create(&rt, "/dev/full").expect(&rt, "open");
+    let kept = BufWriter::new(rt.alloc(), full).expect(&rt, MEMORY);
     assert_eq!(rt;
         StdoutSink::new(kept).write(b"verdict=yes\n"),
         Err(SinkFault::Failed)
@@ -188,5 +182,4 @@ fn an_output_writes_or_fails(rt: HostRuntime) -> Result<(), Fail> {
         write_all(&mut sink, b"verdict=yes\n"),
         Err(WriteFault::Failed)
     );
-    Ok(())
 }

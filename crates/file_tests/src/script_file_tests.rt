@@ -1,7 +1,6 @@
 use admission_session::Op;
 use script_file::{GuestFault, ScriptFault, read_guests, read_script};
 use slot_model::Sched;
-use std::test::Fail;
 
 const SCRIPT: &str = "op,part,parent,sched,period,budget,tasks
 remove,B,,,,,
@@ -9,7 +8,7 @@ add,C,cpu0,rm,20,,t:100:90:5:11;u:50:50:0:1
 ";
 
 #[test]
-fn a_script_is_read(rt: HostRuntime) -> Result<(), Fail> {
+fn a_script_is_read(rt: HostRuntime) {
     let alloc = rt.alloc();
     let rows = read_script(alloc, SCRIPT.as_bytes())
         .ok()
@@ -24,11 +23,10 @@ fn a_script_is_read(rt: HostRuntime) -> Result<(), Fail> {
     assert_eq!(rt; rows[1].tasks[0].task().jitter, 5);
     let missing = read_script(alloc, b"op,part\n").err();
     assert_eq!(rt; missing, Some(ScriptFault::BadHeader));
-    Ok(())
 }
 
 #[test]
-fn guests_are_read(rt: HostRuntime) -> Result<(), Fail> {
+fn guests_are_read(rt: HostRuntime) {
     let alloc = rt.alloc();
     let text = "op,part,parent,sched,period,budget,tasks\nadd,a,,edf,10,6,t:100:100:0:1\n";
     let guests = read_guests(alloc, text.as_bytes())
@@ -38,5 +36,4 @@ fn guests_are_read(rt: HostRuntime) -> Result<(), Fail> {
     assert_eq!(rt; guests[0].period(), 10);
     let other = read_guests(alloc, SCRIPT.as_bytes()).err();
     assert_eq!(rt; other, Some(GuestFault::Other(2)));
-    Ok(())
 }

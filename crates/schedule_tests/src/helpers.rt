@@ -8,6 +8,8 @@ use std::process::Abort;
 use system_file::read_system;
 use tree_model::{Plan, System};
 
+pub const MEMORY: &str = "out of memory";
+
 /// The system of a file.
 pub fn system_of(rt: &impl Abort, alloc: Global, text: &str) -> System {
     read_system(alloc, text.as_bytes()).expect(rt, "a system file")

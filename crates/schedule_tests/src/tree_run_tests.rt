@@ -5,7 +5,7 @@ ghost use Rattle.tree_model.specs.Plans.{IsPlan};
 ghost use Rattle.tree_model.specs.Releases.{AreReleases, jobs_at};
 ghost use Rattle.tree_model.specs.System.{IsSystem};
 
-use crate::helpers::{planned, system_of};
+use crate::helpers::{MEMORY, planned, system_of};
 use guest_sched::{Span, Window};
 use release_file::read_releases;
 use server_sched::{
@@ -16,7 +16,6 @@ use slot_model::{Job, Miss};
 use span_counts::Counts;
 use std::alloc::{AllocError, Global};
 use std::process::Abort;
-use std::test::Fail;
 use tree_model::{Plan, System, TreeRun};
 
 /// No jobs of any leaf.
@@ -122,31 +121,29 @@ fn two_servers() -> Counts {
 }
 
 #[test]
-fn the_second_of_two_servers_misses(rt: HostRuntime) -> Result<(), Fail> {
+fn the_second_of_two_servers_misses(rt: HostRuntime) {
     let alloc = rt.alloc();
     let sys = system_of(&rt, alloc, TWO_SERVERS);
     let plan = planned(&rt, alloc, &sys);
-    let (tree, counted) = idle_tree(&rt, alloc, &sys, &plan, 10)?;
-    let counts = tree.counts(alloc)?;
+    let (tree, counted) = idle_tree(&rt, alloc, &sys, &plan, 10).expect(&rt, MEMORY);
+    let counts = tree.counts(alloc).expect(&rt, MEMORY);
     assert!(rt; !counts.is_kept());
     let parts = [idle(6), idle(4)];
     assert_counts(&rt, &counts, two_servers(), &parts);
     assert_counts(&rt, &counted, two_servers(), &parts);
-    Ok(())
 }
 
 #[test]
-fn it_misses_slot_by_slot(rt: HostRuntime) -> Result<(), Fail> {
+fn it_misses_slot_by_slot(rt: HostRuntime) {
     let alloc = rt.alloc();
     let sys = system_of(&rt, alloc, TWO_SERVERS);
     let plan = planned(&rt, alloc, &sys);
-    let (run, counts) = idle_run(&rt, alloc, &sys, &plan)?;
+    let (run, counts) = idle_run(&rt, alloc, &sys, &plan).expect(&rt, MEMORY);
     assert_counts(&rt, &counts, two_servers(), &[idle(6), idle(4)]);
     let (a, b) = (Some(0), Some(1));
     let held = [a, a, a, a, a, a, b, b, b, b];
     assert!(rt; run.cores.len() == 1);
     assert!(rt; run.cores[0].as_slice() == held.as_slice());
-    Ok(())
 }
 
 /// On a full core.
@@ -183,25 +180,24 @@ task = [{name = 't', period = 100, work = 6}]
 
 /// A group of 5 slots in 10 gives its children 2 and 2 of them, and one is spent on nothing.
 #[test]
-fn a_group_gives_to_its_children(rt: HostRuntime) -> Result<(), Fail> {
+fn a_group_gives_to_its_children(rt: HostRuntime) {
     let alloc = rt.alloc();
     let sys = system_of(&rt, alloc, GROUP);
     let plan = planned(&rt, alloc, &sys);
-    let (tree, counted) = idle_tree(&rt, alloc, &sys, &plan, 20)?;
+    let (tree, counted) = idle_tree(&rt, alloc, &sys, &plan, 20).expect(&rt, MEMORY);
     let group = Counts {
         given: 10,
         released: 4,
         missed: 0,
         first: None,
     };
-    let counts = tree.counts(alloc)?;
+    let counts = tree.counts(alloc).expect(&rt, MEMORY);
     assert!(rt; counts.is_kept());
     let parts = [group, idle(6), idle(4), idle(4)];
     assert!(rt; counts.parts() == parts.as_slice());
     assert!(rt; counted.parts() == parts.as_slice());
     assert!(rt; tree.parts().len() == 4);
     assert_shares(&rt, &tree.parts()[0]);
-    Ok(())
 }
 
 const fn span(from: u64, until: u64, job: Option<u32>) -> Span {
@@ -238,29 +234,21 @@ const fn window(from: u64, until: u64) -> Window {
 }
 
 /// The windows of a system's one core in 25 slots.
-fn assert_given(
-    rt: &impl Abort,
-    alloc: Global,
-    sys: &System,
-    pattern: Pattern,
-    wanted: &[Window],
-) -> Result<(), AllocError> {
-    let given = core_supplies(alloc, sys, pattern, 25)?;
+fn assert_given(rt: &impl Abort, alloc: Global, sys: &System, pattern: Pattern, wanted: &[Window]) {
+    let given = core_supplies(alloc, sys, pattern, 25).expect(rt, MEMORY);
     assert!(rt; given.len() == 1);
     assert!(rt; given[0].as_slice() == wanted);
-    Ok(())
 }
 
 /// A core of 4 slots in 10 has them at the begin or at the end of each period.
 #[test]
-fn a_core_has_its_slots_by_the_pattern(rt: HostRuntime) -> Result<(), Fail> {
+fn a_core_has_its_slots_by_the_pattern(rt: HostRuntime) {
     let alloc = rt.alloc();
     let sys = system_of(&rt, alloc, SUPPLIED);
     let early = [window(0, 4), window(10, 14), window(20, 24)];
     let late = [window(6, 10), window(16, 20)];
     let worst = [window(0, 4), window(16, 20)];
-    assert_given(&rt, alloc, &sys, Pattern::Early, &early)?;
-    assert_given(&rt, alloc, &sys, Pattern::Late, &late)?;
-    assert_given(&rt, alloc, &sys, Pattern::Worst, &worst)?;
-    Ok(())
+    assert_given(&rt, alloc, &sys, Pattern::Early, &early);
+    assert_given(&rt, alloc, &sys, Pattern::Late, &late);
+    assert_given(&rt, alloc, &sys, Pattern::Worst, &worst);
 }
