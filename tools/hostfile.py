@@ -24,7 +24,7 @@ OPEN = """\
 # work = ...           # the most processor time of one job
 """
 STAND_IN = """\
-# nothing is known of what runs in it: one slot a second stands for that
+# nothing is known of what runs in it: one slot a second stands for that. Keep the budget: what is computed is for this slot alone
 [[part.task]]
 name = "any"
 period = 1000000
@@ -119,10 +119,11 @@ class Server:
 
 @dataclass
 class Admitted:
-    """The cores of an admitted file, as they stand in it, and the servers on them, in its order."""
+    """The cores of an admitted file, as they stand in it, the servers on them, in its order, and its text."""
 
     cores: list
     servers: list
+    text: str
 
 
 def line_of(text, name):
@@ -160,7 +161,7 @@ def admitted(path, program):
         Server(part["name"], part["parent"], part["period"], budgets[part["name"]], part.get("extra", False), line_of(text, part["name"]))
         for part in tree.get("part", []) if part["parent"] in cores
     ]
-    return Admitted(tree["core"], servers)
+    return Admitted(tree["core"], servers, text)
 
 
 def need_full(path, cores, whose):

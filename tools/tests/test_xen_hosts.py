@@ -65,6 +65,28 @@ class FromXl(unittest.TestCase):
         status, out, err = run(from_xl, SCHED, VCPUS, "--name", "web.example.org=vm1", "--name", "vm 3=vm3")
         self.assertEqual((status, out), (1, ""))
         self.assertIn(f"{SCHED}:8: vm1-0 is the name of two VCPUs", err)
+        sched, vcpus = ((text.read_text().replace("vm 3 ", "vm3  ").replace(old, old[:-1] + "3"))
+            for text, old in ((SCHED, "web.example.org                      4    0"), (VCPUS, "web.example.org                      4     0")))
+        room = Room(self)
+        status, out, err = run(from_xl, room.file("sched", sched), room.file("vcpus", vcpus), "--name", "web.example.org=vm1")
+        self.assertEqual((status, out), (1, ""))
+        self.assertIn("sched:8: vm1 is the name of two domains: give one another by --name", err)
+
+    def test_a_message_is_quoted_where_it_is_to_be_copied(self):
+        status, out, err = run(from_xl, SCHED, VCPUS, "--name", "web.example.org=web")
+        self.assertEqual((status, out), (1, ""))
+        self.assertIn("--name 'vm 3=NAME'", err)
+        self.changed("xl vcpu-pin 'vm 3' 0 CPU", "2.0  3 /", "2.0  all /")
+
+    def test_the_file_says_which_domain_has_another_name(self):
+        told = run(from_xl, SCHED, VCPUS, *NAMES)[1]
+        self.assertIn("# --name web.example.org=web\n# --name 'vm 3=vm3'\n", told)
+        self.assertNotIn("--name", run(from_xl, top / "examples/xl/sched-rtds.txt", top / "examples/xl/vcpu-list.txt")[1])
+
+    def test_the_file_says_that_a_stand_in_keeps_its_budget(self):
+        told = run(from_xl, SCHED, VCPUS, *NAMES, "--stand-in", "Domain-0-0")[1]
+        self.assertIn("Keep that of a stand-in: its task is invented.", told)
+        self.assertEqual(told.count("Keep the budget: what is computed is for this slot alone"), 1)
 
     def test_texts_of_another_kind(self):
         sched, vcpus = SCHED.read_text(), VCPUS.read_text()
@@ -83,7 +105,8 @@ class FromXl(unittest.TestCase):
 
     def test_words_of_what_is_not_there(self):
         sched, vcpus = SCHED.read_text(), VCPUS.read_text()
-        self.refused("sched: no VCPU is vm9-0, which --stand-in tells", sched, vcpus, "--stand-in", "vm9-0")
+        self.refused("sched: no part is called vm9-0; --stand-in wants the part, as Domain-0-0", sched, vcpus, "--stand-in", "vm9-0")
+        self.refused("sched: no part is called Domain-0; --stand-in wants", sched, vcpus, "--stand-in", "Domain-0")
         self.refused("sched: no VCPU of a domain vm9, which --name tells", sched, vcpus, "--name", "vm9=vm8")
         for words in ([SCHED], [SCHED, VCPUS, "--name", "vm1"], [SCHED, VCPUS, "--name", "vm1=a", "--name", "vm1=b"]):
             self.assertEqual(run(from_xl, *words)[:2], (2, ""))
@@ -139,10 +162,31 @@ class ToXl(unittest.TestCase):
         self.assertIn("-d 'a b' -v 0", self.call(words=["--name", "a b=audio"])[1])
         self.assertEqual(self.call(words=["--name", "a=video"])[2], "host.toml: no part is named for a domain video, which --name tells\n")
 
+    def test_the_names_of_domains_that_the_file_tells(self):
+        named = "# --name 'a b=audio'\n# --name c=gone\n" + HOST
+        self.assertIn("-d 'a b' -v 0 -p 5000", self.call(named)[1])
+        self.assertIn("-d Domain-0 -v 1", self.call(named)[1])
+        self.assertIn("-d d -v 0 -p 5000", self.call(named, words=["--name", "d=audio"])[1])
+        for comment, cause in (("a b=audio", "is not --name DOMAIN=NAME"), ("'a b", "is not --name"), ("audio", "is not --name"), ("=audio", "is not --name")):
+            told = self.call(f"# --name {comment}\n" + HOST)
+            self.assertEqual(told[:2], (1, ""))
+            self.assertIn("host.toml:1: this comment " + cause, told[2])
+        self.assertIn("host.toml:2: this comment tells audio a second time", self.call("# --name a=audio\n# --name b=audio\n" + HOST)[2])
+        self.assertIn("host.toml:2: this comment tells a a second time", self.call("# --name a=audio\n# --name a=video\n" + HOST)[2])
+
+    def test_what_from_xl_writes_is_called_as_the_domain_is(self):
+        made = run(from_xl, SCHED, VCPUS, *NAMES)[1]
+        names = [part["name"] for part in tomllib.loads(made)["part"]]
+        answer = "verdict=yes\n" + "".join(f"part {name} period=100 budget=50 given\n" for name in names)
+        told = self.call(made, answer)
+        self.assertEqual((told[0], told[2]), (0, ""))
+        self.assertEqual(re.findall("-d (.*) -v (.*) -p", told[1]), [
+            ("Domain-0", "0"), ("vm1", "0"), ("vm1", "1"), ("vm1", "2"), ("web.example.org", "0"), ("'vm 3'", "0")])
+
     def test_what_xen_refuses(self):
         told = self.call(answer=ANSWER.replace("budget=600", "budget=9"))
         self.assertEqual(told[:2], (1, ""))
-        self.assertIn("host.toml:6: audio-0 has a budget of 9, and Xen takes 10 and more: write budget = 10", told[2])
+        self.assertIn("host.toml:6: audio-0 has a budget of 9, and Xen takes 10 and more: write budget = 10 or more into the file, or for a stand-in what the host has", told[2])
         self.assertEqual(self.call(answer=ANSWER.replace("budget=600", "budget=10"))[0], 0)
         told = self.call(HOST.replace("5000", "9"), ANSWER.replace("period=5000 budget=600", "period=9 budget=9"))
         self.assertIn("host.toml:6: audio-0 has a period of 9", told[2])
