@@ -26,6 +26,14 @@ KEYS = {"core": ("name", "sched", "supply_period", "supply_budget"), "part": ("n
 TASK_KEYS = ("name", "period", "deadline", "jitter", "work")
 
 
+def called(name):
+    """The words by which a file of this checkout is called from where the tool stands."""
+    path = HERE.parent / name
+    if pathlib.Path.cwd() != HERE.parent:
+        return shlex.quote(str(path))
+    return name if "/" in name else f"./{name}"
+
+
 def tool(name):
     """Another tool, which has no ending that Python imports."""
     loader = importlib.machinery.SourceFileLoader(f"tool_{name.replace('-', '_')}", str(HERE / name))

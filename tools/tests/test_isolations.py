@@ -256,8 +256,18 @@ class Program(unittest.TestCase):
                 self.assertEqual(tool.main([file, "c0v1", out, "--trace", trace, "--program", shlex.join(self.words)]), 0)
             self.assertEqual(ran.getvalue().splitlines(), [
                 f"exposed c0v1 by=block: {out}, 18 slots", "short c0v1 from_ns=12000 got_ns=2000 of_ns=3000",
-                f"rtadmit rtds {file} {out} 18 | rtadmit tally {file} /dev/stdin"])
+                f"{systems.called('rtadmit')} rtds {file} {out} 18 | {systems.called('rtadmit')} tally {file} /dev/stdin"])
             self.assertEqual(self.program.ask("audit", file, trace).lines, ["verdict=no", "short c0v1 from_ns=12000 got_ns=2000 of_ns=3000"])
+
+    def test_words_that_can_be_copied(self):
+        """From the top of the checkout and from elsewhere, with a blank in the names."""
+        with tempfile.TemporaryDirectory() as room:
+            for number, (folder, asked) in enumerate(((top, "./rtadmit"), (pathlib.Path(room), str(top / "rtadmit")))):
+                file, out = f"{room}/a host.toml", f"{room}/out {number}.csv"
+                pathlib.Path(file).write_text(isolations.system_text([[(4, 2), (6, 3)], [(5, 1)]]))
+                with contextlib.chdir(folder):
+                    told = tool.expose(file, "c0v1", out, self.program)
+                self.assertEqual(told[2], f"{asked} rtds '{file}' '{out}' 18 | {asked} tally '{file}' /dev/stdin")
 
     def test_some_small_cores_and_random_runs(self):
         with tempfile.TemporaryDirectory() as room:

@@ -4,6 +4,7 @@ import contextlib
 import io
 import math
 import pathlib
+import subprocess
 import tempfile
 import tomllib
 import unittest
@@ -231,6 +232,23 @@ class Changes(Case):
         offer = tool.Offer("work", 1, "leaf.t1.work=5", "")
         with self.assertRaisesRegex(Refused, "leaf.t1.work=5 helped on its core, and in the whole file it does not: verdict=no"):
             list(tool.confirmed(str(self.file), judge, [offer], lambda answer: answer.is_yes))
+
+
+    def test_words_that_work_where_one_stands(self):
+        elsewhere = self.file.parent / "a folder"
+        elsewhere.mkdir()
+        for folder, why, asked in ((top, "tools/why", "./rtadmit"), (elsewhere, str(top / "tools/why"), str(top / "rtadmit"))):
+            with contextlib.chdir(folder):
+                lines = self.judged(HOST)[1]
+            words = [line.strip() for line in lines if " --copy " in line]
+            self.assertTrue(words)
+            for line in words:
+                self.assertTrue(line.startswith(f"{why} {self.file} --copy "), line)
+                self.assertTrue(line.endswith(f" | {asked} admit /dev/stdin"), line)
+            with contextlib.chdir(folder):
+                ran = subprocess.run(["bash", "-c", words[0].split(" | ")[0]], capture_output=True, text=True)
+            self.assertEqual((ran.returncode, ran.stderr), (0, ""))
+            self.assertTrue(Judge().admit(systems.System("copy", tomllib.loads(ran.stdout))).is_yes, words[0])
 
 
 class Systems(Case):
