@@ -6,7 +6,7 @@ use Rattle.slot_model.proofs.Constrained.{are_constrained}
 use Rattle.fp_request.proofs.Parts.{sporadic_tasks-length}
 use Rattle.fp_test.proofs.Jumps.{bound-le, passed_first, passed_more, passed_hit, passed_late, passed_wide, before_reach}
 use Rattle.fp_test.proofs.Answer.{none_answer, room-is, room_fits}
-use Rattle.fp_test.proofs.hits.hit_in.Goals as goal
+use Rattle.fp_test.proofs.hits.hit_above.Goals as goal
 
 pub returns-in_err-asked : goal.returns-in_err-asked
 returns-in_err-asked g c =
