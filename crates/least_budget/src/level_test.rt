@@ -5,8 +5,8 @@ ghost use Rattle.least_budget.specs.Answers.{IsTested, Foretells};
 
 use crate::Tested;
 use crate::lowest::{has_hit_within, hit_of_lowest};
-use edf_demand::horizon;
-use edf_test::first_short;
+use edf_demand::{DemandLevel, horizon};
+use edf_test::first_short_of;
 use fp_request::RankedLevel;
 use slot_model::{Sched, Short, Task};
 use supply_bound::Supply;
@@ -31,10 +31,31 @@ fn test_windows<S: Supply>(tasks: &[Task], s: &S) -> Tested
     ensures { let T = sporadic_tasks tasks.now in
         IsTested Sched.Edf T (S.bound s.now) (S.cycle_of s.now) result }
 {
-    let Some(h) = horizon(tasks, s.cycle()) else {
+    if tasks.len() <= FEW {
+        test_by_windows(&DemandLevel::gather(tasks, &mut [Term::none(); FEW]), s)
+    } else {
+        test_many_windows(tasks, s)
+    }
+}
+
+/// The same apart, since a function pays at its entry for all the room that it may need.
+#[inline(never)]
+fn test_many_windows<S: Supply>(tasks: &[Task], s: &S) -> Tested
+    ensures { let T = sporadic_tasks tasks.now in
+        IsTested Sched.Edf T (S.bound s.now) (S.cycle_of s.now) result }
+{
+    test_by_windows(&DemandLevel::gather(tasks, &mut [Term::none(); KEPT]), s)
+}
+
+/// The same of a level.
+fn test_by_windows<S: Supply>(level: &DemandLevel, s: &S) -> Tested
+    ensures { let T = sporadic_tasks level.now.tasks.now in
+        IsTested Sched.Edf T (S.bound s.now) (S.cycle_of s.now) result }
+{
+    let Some(h) = horizon(level.tasks, s.cycle()) else {
         return Tested::Wide;
     };
-    match first_short(tasks, s, h) {
+    match first_short_of(level, s, h) {
         Some(t) => Tested::Short(Short::At(t)),
         None => Tested::Passes,
     }
