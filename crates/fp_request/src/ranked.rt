@@ -9,8 +9,8 @@ use crate::by_terms::{Above, gather, gather_above, request_by};
 use slot_model::{Sched, Task};
 use window_terms::Term;
 
-/// A level under a fixed priority, with the terms of its tasks: they are gathered once, and asked
-/// for each task.
+/// A level under a fixed priority, with terms of its first tasks: they are gathered once, and asked
+/// for each task. A term that is not there is made where it is needed.
 #[derive(Clone, Copy)]
 pub struct RankedLevel<'a> {
     pub sched: Sched,
