@@ -78,14 +78,18 @@ returns-then-more-asked g c =
 pub loop-t-init : goal.loop-t-init
 loop-t-init g c =
     let T : List SporadicTask = sporadic_tasks c.args.task.now.tasks.now in
-    passed_first (ranks_above c.args.task.now.sched T) T (are_constrained c.args.task.now.tasks.now) (g.S.Supply.bound c.args.s.now)
-    c.args.task.now.i c.in_ok-asked.asked (omega (arith, sporadic_tasks-length c.args.task.now.tasks.now)) c.in_ok-asked.ensures
+    passed_first (ranks_above c.args.task.now.sched T) T (are_constrained c.args.task.now.tasks.now)
+    (g.S.Supply.bound c.args.s.now)
+    c.args.task.now.i c.in_ok-asked.asked (omega (arith, sporadic_tasks-length c.args.task.now.tasks.now))
+    c.in_ok-asked.ensures
 
 pub loop-t-preserved : goal.loop-t-preserved
 loop-t-preserved g c =
     let T : List SporadicTask = sporadic_tasks c.args.task.now.tasks.now in
-    passed_more (ranks_above c.args.task.now.sched T) T (are_constrained c.args.task.now.tasks.now) (g.met.S.Supply.laws c.args.s.now)
-    c.args.task.now.i c.loop-t.asked c.in_ok-t.t c.in_ok-more.more c.loop-t.invariant c.in_ok-t.ensures c.in_ok-more.ensures
+    passed_more (ranks_above c.args.task.now.sched T) T (are_constrained c.args.task.now.tasks.now)
+    (g.met.S.Supply.laws c.args.s.now)
+    c.args.task.now.i c.loop-t.asked c.in_ok-t.t c.in_ok-more.more c.loop-t.invariant c.in_ok-t.ensures
+    c.in_ok-more.ensures
     (omega arith)
 
 pub loop-t-smaller : goal.loop-t-smaller

@@ -9,7 +9,8 @@ use Rattle.least_budget.proofs.level_test.test_tasks_in.Goals as goal
 
 pub returns-then-not-has_hit_within : goal.returns-then-not-has_hit_within
 returns-then-not-has_hit_within g c =
-    first_without_hit c.args.level.now.sched c.args.level.now.fixed (sporadic_tasks c.args.level.now.tasks.now) (g.S.Supply.bound c.args.s.now)
+    first_without_hit c.args.level.now.sched c.args.level.now.fixed (sporadic_tasks c.args.level.now.tasks.now)
+    (g.S.Supply.bound c.args.s.now)
     (g.S.Supply.cycle_of c.args.s.now) c.loop-i.i (omega (arith, sporadic_tasks-length c.args.level.now.tasks.now))
     (λ has. let e = c.has_hit_within.ensures.1 has in absurd (cc)) c.loop-i.invariant
 
@@ -21,6 +22,7 @@ loop-i-preserved g c =
 
 pub returns : goal.returns
 returns g c =
-    fixed_passes c.args.level.now.sched c.args.level.now.fixed (sporadic_tasks c.args.level.now.tasks.now) (g.S.Supply.bound c.args.s.now)
+    fixed_passes c.args.level.now.sched c.args.level.now.fixed (sporadic_tasks c.args.level.now.tasks.now)
+    (g.S.Supply.bound c.args.s.now)
     (g.S.Supply.cycle_of c.args.s.now) c.loop-i.i (omega (arith, sporadic_tasks-length c.args.level.now.tasks.now))
     c.loop-i.invariant
