@@ -1,4 +1,4 @@
-ghost use Rattle.std.specs.Prelude.{◌≢◌, ◌↔◌, ℕ, ◌^◌, ◌<◌, length, IsTrue, IfSome};
+ghost use Rattle.std.specs.Prelude.{◌≢◌, ◌↔◌, ◌^◌, ◌<◌, length, IsTrue, IfSome};
 ghost use Rattle.slot_model.specs.Task.{sporadic_tasks};
 ghost use Rattle.slot_model.specs.Order.{ranks_above};
 ghost use Rattle.least_budget.specs.Answers.{HasHit};
@@ -56,22 +56,11 @@ pub fn has_hit_within<S: Supply>(
     ensures { let T = sporadic_tasks level.now.tasks.now in
         IsTrue result ↔ HasHit (ranks_above level.now.sched T) T (S.bound s.now) i }
 {
-    if is_within(level, i, common) {
-        return true;
+    if let Some(t) = common {
+        let task = level.tasks[i as usize];
+        if t <= task.deadline - task.jitter {
+            return true;
+        }
     }
     hit_in(level, i, room, s).is_some()
-}
-
-/// Whether a hit of the lowest task is one of task `i`, whatever the supply.
-pub fn is_within(level: &RankedLevel, i: u32, common: Option<u64>) -> bool
-    requires { i < length level.now.tasks.now }
-    ensures { let T = sporadic_tasks level.now.tasks.now in
-        let above = ranks_above level.now.sched T in IsTrue result → (bound : ℕ → ℕ) →
-        IfSome common (λ t. IsCommon above T bound t) → HasHit above T bound i }
-{
-    let Some(t) = common else {
-        return false;
-    };
-    let task = level.tasks[i as usize];
-    t <= task.deadline - task.jitter
 }
