@@ -41,3 +41,8 @@ node_text node =
     (codes "],\"kind\":\"" ++ (place_text node.place node.period ++
     (codes ",\"points\":[" ++ (listed quoted_number node.points ++
     (codes "],\"witness\":" ++ (witness_text node.witness ++ codes "}")))))))))))))
+
+-- the bytes between two places are this text
+pub record Stands (bytes : List ℕ) (at to : ℕ) (text : List ℕ) : Type 0 where
+  pub ahead : at ≤ to
+  pub reads : drop at bytes ≡ text ++ drop to bytes

@@ -30,7 +30,7 @@ use Rattle.rt_top.specs.Commands.Bulk.{AnswersBulk}
 use Rattle.server_sched.specs.declared.supplies.Pattern.{Pattern}
 use Rattle.server_sched.specs.TreeCounts.{NoneMisses}
 use Rattle.cert_reader.specs.CertificateFile.{certificate_of}
-use Rattle.cert_reader.specs.Proves.{budgets_of, Proves}
+use Rattle.cert_verify.specs.Proves.{budgets_of, Proves}
 use Rattle.rt_top.specs.declared.status.Status.{Status}
 use Rattle.rt_top.specs.declared.status.Status.TheVariants.{Yes, No, Usage, BadFile, Absent, TooLong, ReadFault, WriteFault}
 use Rattle.rt_top.specs.Commands.{Command, admit, certify, check, rtds, audit, simulate, bulk}
