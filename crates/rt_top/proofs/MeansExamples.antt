@@ -16,7 +16,7 @@ use Rattle.system_file.specs.SystemFile.{system_of}
 use Rattle.trace_file.specs.declared.event.Event.{Event}
 use Rattle.trace_file.specs.File.{Spells}
 use Rattle.trace_file.specs.Periods.{Satisfied}
-use Rattle.trace_file.specs.Printing.{printed_rows}
+use Rattle.trace_printer.specs.Printing.{printed_rows}
 use Rattle.release_file.specs.declared.workload.Wake.{Wake}
 use Rattle.release_file.specs.ReleaseFile.{SpellsReleases}
 use Rattle.release_file.specs.WorkloadFile.{SpellsWorkload}
