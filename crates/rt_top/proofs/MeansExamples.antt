@@ -28,7 +28,7 @@ use Rattle.bulk_run.specs.declared.counts.BulkCounts.{BulkCounts}
 use Rattle.rt_report.specs.Bulk.{bulk_text}
 use Rattle.rt_top.specs.Commands.Bulk.{AnswersBulk}
 use Rattle.server_sched.specs.declared.supplies.Pattern.{Pattern}
-use Rattle.server_sched.specs.TreeCounts.{NoneMisses}
+use Rattle.tree_spans.specs.TreeCounts.{NoneMisses}
 use Rattle.cert_reader.specs.CertificateFile.{certificate_of}
 use Rattle.cert_verify.specs.Proves.{budgets_of, Proves}
 use Rattle.rt_top.specs.declared.status.Status.{Status}

@@ -1,0 +1,4 @@
+mod Sharing
+pub mod Nodes
+pub mod TreeNodes
+pub mod Lists
