@@ -1,6 +1,6 @@
 use Rattle.std.proofs.Common.{arith}
-use Rattle.auditor.proofs.Telling.{stays_in}
-use Rattle.auditor.proofs.watch.Watch.advance.Goals as goal
+use Rattle.vcpu_watch.proofs.Telling.{stays_in}
+use Rattle.vcpu_watch.proofs.watch.Watch.advance.Goals as goal
 
 pub returns-clause-tells : goal.returns-clause-tells
 returns-clause-tells c runs blocks f st t =

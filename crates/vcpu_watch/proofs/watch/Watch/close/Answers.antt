@@ -1,8 +1,8 @@
 use Rattle.std.proofs.Common.{◌∙◌, ap, not, Option}
-use Rattle.auditor.specs.declared.watch.Breach.{Breach}
-use Rattle.auditor.specs.Watch.{counted, first_broken}
-use Rattle.auditor.proofs.Telling.{tells_closed}
-use Rattle.auditor.proofs.watch.Watch.close.Goals as goal
+use Rattle.vcpu_watch.specs.declared.watch.Breach.{Breach}
+use Rattle.vcpu_watch.specs.Watch.{counted, first_broken}
+use Rattle.vcpu_watch.proofs.Telling.{tells_closed}
+use Rattle.vcpu_watch.proofs.watch.Watch.close.Goals as goal
 
 pub returns-clause-tells : goal.returns-clause-tells
 returns-clause-tells c state runs blocks f st t =

@@ -1,5 +1,5 @@
-use Rattle.auditor.proofs.Telling.{tells_passed}
-use Rattle.auditor.proofs.watch.Watch.pass.Goals as goal
+use Rattle.vcpu_watch.proofs.Telling.{tells_passed}
+use Rattle.vcpu_watch.proofs.watch.Watch.pass.Goals as goal
 
 pub returns-clause-tells : goal.returns-clause-tells
 returns-clause-tells c runs blocks f st t =

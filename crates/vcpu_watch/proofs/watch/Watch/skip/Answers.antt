@@ -1,8 +1,8 @@
 use Rattle.std.proofs.Common.{◌∙◌, sym, ap, refl, arith, ℕ, not, Option}
-use Rattle.auditor.specs.declared.watch.Breach.{Breach}
-use Rattle.auditor.specs.Watch.{breach_of, counted, first_broken}
-use Rattle.auditor.proofs.Telling.{tells_over, tells_same, over, got_each, breach_each}
-use Rattle.auditor.proofs.watch.Watch.skip.Goals as goal
+use Rattle.vcpu_watch.specs.declared.watch.Breach.{Breach}
+use Rattle.vcpu_watch.specs.Watch.{breach_of, counted, first_broken}
+use Rattle.vcpu_watch.proofs.Telling.{tells_over, tells_same, over, got_each, breach_each}
+use Rattle.vcpu_watch.proofs.watch.Watch.skip.Goals as goal
 
 pub returns-clause-tells : goal.returns-clause-tells
 returns-clause-tells c runs blocks f st t =

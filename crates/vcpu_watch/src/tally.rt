@@ -1,6 +1,6 @@
 ghost use Rattle.std.specs.Prelude.{◌≡◌, ◌≤◌, if◌then◌else◌};
 ghost use Rattle.trace_file.specs.declared.event.TheConstants.{LAST_MOMENT};
-ghost use Rattle.auditor.specs.Watch.{is_short_breach, is_over_breach, lesser, greater};
+ghost use Rattle.vcpu_watch.specs.Watch.{is_short_breach, is_over_breach, lesser, greater};
 
 use crate::watch::Breach;
 
@@ -71,8 +71,7 @@ fn greater(most: Option<u64>, got: u64) -> u64
 
 impl Tally {
     ghost use Rattle.std.specs.Prelude.{◌≡◌, ◌≤◌, ◌+◌, ℕ};
-    ghost use Rattle.auditor.specs.Tally.{no_tally};
-    ghost use Rattle.auditor.specs.Watch.{counted, least_if, AreAtMost};
+    ghost use Rattle.vcpu_watch.specs.Watch.{counted, least_if, AreAtMost, no_tally};
 
     /// Of no periods.
     pub fn new() -> Tally

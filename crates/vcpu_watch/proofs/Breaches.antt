@@ -2,10 +2,10 @@
 use Rattle.std.proofs.Common.{◌≡◌, ℕ, ◌<◌, Bool, true, false, cond, not, ◌&&◌, ltb, Option, Some, None, refl, sym, ◌∙◌, ap, subst, arith, inl, inr}
 use Rattle.std.proofs.lemmas.Bool.{cases_Bool, and_parts, and_from, lt-ltb, le-ltb, ltb-true, false≢true, and_right}
 use Rattle.std.proofs.lemmas.Option.{same_Some, none-some}
-use Rattle.auditor.specs.declared.watch.Breach.{Breach}
-use Rattle.auditor.specs.declared.watch.Breach.TheVariants.{Short, Over}
-use Rattle.auditor.specs.declared.watch.Reservation.{Reservation}
-use Rattle.auditor.specs.Watch.{breach_of}
+use Rattle.vcpu_watch.specs.declared.watch.Breach.{Breach}
+use Rattle.vcpu_watch.specs.declared.watch.Breach.TheVariants.{Short, Over}
+use Rattle.vcpu_watch.specs.declared.watch.Reservation.{Reservation}
+use Rattle.vcpu_watch.specs.Watch.{breach_of}
 
 abbrev pub Says : Reservation → Bool → ℕ → Breach → Type 0
 Says r judged got Short = (judged ≡ true) × (got < r.budget)
