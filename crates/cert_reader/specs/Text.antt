@@ -1,5 +1,5 @@
 -- The text of a certificate, piece by piece.
-use Rattle.std.specs.Prelude.{ℕ, Bool, true, false, List, [], ◌∷◌, ◌++◌, codes, decimal, Option, Some, None}
+use Rattle.std.specs.Prelude.{◌≡◌, ◌≤◌, ℕ, Bool, true, false, List, [], ◌∷◌, ◌++◌, codes, decimal, drop, Option, Some, None}
 use Rattle.tree_model.specs.declared.place.Place.{Place}
 use Rattle.tree_model.specs.CertificateView.{NodeView}
 use Rattle.cert_reader.specs.Printed.{kind_text, place_number}

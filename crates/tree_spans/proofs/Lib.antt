@@ -1,4 +1,4 @@
-mod Sharing
+pub mod Sharing
 pub mod Nodes
 pub mod TreeNodes
 pub mod Lists
