@@ -7,8 +7,8 @@ use Rattle.auditor.proofs.verdict.tally_bytes.Goals as goal
 pub watch_bytes-requires-clause-fresh : goal.watch_bytes-requires-clause-fresh
 watch_bytes-requires-clause-fresh c = c.new-watches.ensures.watched c.args.plan.now
 
-pub tallied-requires-clause-watched : goal.tallied-requires-clause-watched
-tallied-requires-clause-watched c = (
+pub both_of-requires-clause-watched : goal.both_of-requires-clause-watched
+both_of-requires-clause-watched c = (
   c.args.plan.now,
   c.args.bytes.now,
   subst (λ (z : Rows). HaveWatched c.args.sys.now c.args.plan.now c.args.bytes.now z c.watch_bytes.new.watches)
@@ -17,9 +17,9 @@ tallied-requires-clause-watched c = (
 
 pub returns-in-Ok-clause-tallied : goal.returns-in-Ok-clause-tallied
 returns-in-Ok-clause-tallied c =
-    c.tallied.ensures.tallied c.args.plan.now c.args.bytes.now
+    c.both_of.ensures.tallied c.args.plan.now c.args.bytes.now
     (subst (λ (z : Rows). HaveWatched c.args.sys.now c.args.plan.now c.args.bytes.now z c.watch_bytes.new.watches)
     (sym c.rows.ensures) c.in-Ok.ensures.watched)
 
 pub returns-in-Ok-clause-fault : goal.returns-in-Ok-clause-fault
-returns-in-Ok-clause-fault c = memory_or c.tallied.result _ c.tallied.ensures.fault
+returns-in-Ok-clause-fault c = memory_or c.both_of.result _ c.both_of.ensures.fault

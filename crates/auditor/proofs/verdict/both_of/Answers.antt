@@ -1,4 +1,4 @@
-use Rattle.auditor.proofs.verdict.tallied.Goals as goal
+use Rattle.auditor.proofs.verdict.both_of.Goals as goal
 
 pub tallies-requires-clause-watched : goal.tallies-requires-clause-watched
 tallies-requires-clause-watched c = let (budgets, text, w) = c.requires.watched in (budgets, w.events, w.at_end)
