@@ -54,7 +54,7 @@ behind_all sys budgets events s behind keep =
     (behind [] (subst (λ (z : List Event). RowsKeep sys z (length z)) (sym (append-nil events)) keep))
 
 -- where nothing fails but memory
-pub memory_or : {T : Type 0} (r : Result T TraceFault) (Other : TraceFault → Type 0) → IfErr r (λ fault. fault ≡ NoMemory)
-    → IfErr r (λ fault. (fault ≡ NoMemory) ⊎ Other fault)
-memory_or (Ok t) Other memory = tt
-memory_or (Err fault) Other memory = inl memory
+pub memory_or : {T : Type 0} (r : Result T TraceFault) (P : TraceFault → Type 0) → IfErr r (λ fault. fault ≡ NoMemory)
+    → IfErr r (λ fault. (fault ≡ NoMemory) ⊎ P fault)
+memory_or (Ok t) P memory = tt
+memory_or (Err fault) P memory = inl memory
