@@ -4,7 +4,7 @@ use Rattle.tree_model.specs.declared.place.Place.{Place}
 use Rattle.tree_model.specs.CertificateView.{NodeView}
 use Rattle.tree_model.specs.View.{SystemView}
 use Rattle.tree_model.specs.Tree.{budget_at}
-use Rattle.cert_reader.specs.Proves.{node_at, nth_place}
+use Rattle.cert_verify.specs.Proves.{node_at, nth_place}
 use Rattle.certificate.specs.Made.{IsMade}
 
 -- the node of a place

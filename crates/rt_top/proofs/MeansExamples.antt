@@ -16,7 +16,7 @@ use Rattle.system_file.specs.SystemFile.{system_of}
 use Rattle.trace_file.specs.declared.event.Event.{Event}
 use Rattle.trace_file.specs.File.{Spells}
 use Rattle.trace_file.specs.Periods.{Satisfied}
-use Rattle.trace_file.specs.Printing.{printed_rows}
+use Rattle.trace_printer.specs.Printing.{printed_rows}
 use Rattle.release_file.specs.declared.workload.Wake.{Wake}
 use Rattle.release_file.specs.ReleaseFile.{SpellsReleases}
 use Rattle.release_file.specs.WorkloadFile.{SpellsWorkload}
@@ -28,9 +28,9 @@ use Rattle.bulk_run.specs.declared.counts.BulkCounts.{BulkCounts}
 use Rattle.rt_report.specs.Bulk.{bulk_text}
 use Rattle.rt_top.specs.Commands.Bulk.{AnswersBulk}
 use Rattle.server_sched.specs.declared.supplies.Pattern.{Pattern}
-use Rattle.server_sched.specs.TreeCounts.{NoneMisses}
+use Rattle.tree_spans.specs.TreeCounts.{NoneMisses}
 use Rattle.cert_reader.specs.CertificateFile.{certificate_of}
-use Rattle.cert_reader.specs.Proves.{budgets_of, Proves}
+use Rattle.cert_verify.specs.Proves.{budgets_of, Proves}
 use Rattle.rt_top.specs.declared.status.Status.{Status}
 use Rattle.rt_top.specs.declared.status.Status.TheVariants.{Yes, No, Usage, BadFile, Absent, TooLong, ReadFault, WriteFault}
 use Rattle.rt_top.specs.Commands.{Command, admit, certify, check, rtds, audit, simulate, bulk}

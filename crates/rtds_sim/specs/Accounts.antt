@@ -8,15 +8,15 @@ use Rattle.trace_file.specs.declared.event.Event.{Event}
 use Rattle.trace_file.specs.declared.event.What.TheVariants.{Stop}
 use Rattle.rtds_sim.specs.declared.account.Account.{Account}
 use Rattle.rtds_sim.specs.declared.account.TheConstants.{PAST_ALL}
-use Rattle.rtds_sim.specs.declared.key.Key.{Key}
+use Rattle.rtds_queues.specs.declared.key.Key.{Key}
 use Rattle.rtds_sim.specs.declared.host.Host.{Host}
 use Rattle.release_file.specs.declared.workload.Wake.{Wake as Row}
 use Rattle.release_file.specs.declared.workload.WakeKind.{WakeKind}
 use Rattle.release_file.specs.declared.workload.WakeKind.TheVariants.{Start, Wake, Block}
 use Rattle.release_file.specs.Workload.{row_at, started_after, blocked_after}
-use Rattle.rtds_sim.specs.Rtds.{period_from, used, goes_first}
-use Rattle.rtds_sim.specs.Keys.{key_at}
-use Rattle.rtds_sim.specs.Queues.{AreQueues}
+use Rattle.rtds_sim.specs.Rtds.{period_from, used}
+use Rattle.rtds_queues.specs.Keys.{key_at, goes_first}
+use Rattle.rtds_queues.specs.Queues.{AreQueues}
 use Rattle.rtds_sim.specs.Printed.{core_of, on_at}
 
 abbrev pub no_account : Account

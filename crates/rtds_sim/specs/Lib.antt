@@ -2,9 +2,6 @@ pub mod Rtds
 pub mod Demand
 pub mod Printed
 pub mod Giving
-pub mod Keys
-pub mod KeyTable
-pub mod Queues
 pub mod Accounts
 pub mod Lists
 pub mod Members

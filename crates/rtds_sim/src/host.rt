@@ -9,8 +9,8 @@ ghost use Rattle.rtds_sim.specs.Printed.{core_of, event_of, gathered, row_event_
 use crate::account::{Account, PAST_ALL, account_of};
 use crate::levels::budget_of;
 use crate::moment::moment_of_slot;
-use crate::queues::Queues;
 use release_file::{Wake, WakeKind};
+use rtds_queues::Queues;
 use slot_model::LIMIT;
 use std::alloc::AllocError;
 use trace_file::{Event, EventTaker, What};

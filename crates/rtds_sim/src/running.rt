@@ -52,9 +52,10 @@ impl Host {
     ghost use Rattle.tree_model.specs.Tree.{is_child, budget_at};
     ghost use Rattle.tree_model.specs.Plans.{IsPlan};
     ghost use Rattle.release_file.specs.declared.workload.Wake.{Wake as RowView};
-    ghost use Rattle.rtds_sim.specs.Keys.{key_at};
+    ghost use Rattle.rtds_queues.specs.Keys.{key_at};
     ghost use Rattle.rtds_sim.specs.ByEnd.{InOrder, first_end};
-    ghost use Rattle.rtds_sim.specs.Members.{place_at, AreAll, AreMembers};
+    ghost use Rattle.rtds_sim.specs.Members.{AreAll, AreMembers};
+    ghost use Rattle.rtds_queues.specs.Queues.{place_at};
     ghost use Rattle.rtds_sim.specs.Printed.{push_some, on_core_at, switch_to};
     ghost use Rattle.rtds_sim.specs.Accounts.{account_at, holder_at, number_at, gone_on, used_more, period_ended, left_of, IsChoice, IsReady, IsEnd, AreEnds};
     ghost use Rattle.rtds_sim.specs.Running.{IsUnderway, HasRun, HasBegun};

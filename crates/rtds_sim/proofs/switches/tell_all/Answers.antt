@@ -6,7 +6,7 @@ use Rattle.rtds_sim.specs.Lists.{list_at}
 use Rattle.rtds_sim.specs.Soonest.{next_moment, IsSoonest}
 use Rattle.rtds_sim.proofs.Merging.{AreMoments, told_none, told_one, told_all}
 use Rattle.rtds_sim.proofs.Lists.{has_event, moments_more, left_less}
-use Rattle.rtds_sim.proofs.Queueing.{alike}
+use Rattle.rtds_queues.proofs.Queueing.{alike}
 use Rattle.rtds_sim.proofs.switches.tell_all.Goals as goal
 
 pub loop-core-init : goal.loop-core-init

@@ -13,7 +13,8 @@ use Rattle.rtds_sim.specs.Members.{AreAll}
 use Rattle.rtds_sim.specs.Running.{IsUnderway, HasRun}
 use Rattle.rtds_sim.specs.Lists.{list_at}
 use Rattle.rtds_sim.proofs.Lists.{list_read, list_here, list_there}
-use Rattle.rtds_sim.proofs.Ready.{on_one_core, ready_later}
+use Rattle.rtds_queues.proofs.Queueing.{on_one_core}
+use Rattle.rtds_sim.proofs.Ready.{ready_later}
 use Rattle.rtds_sim.proofs.CoreRuns.{underway_same, has_run_same, end_same}
 use Rattle.rtds_sim.proofs.host.Host.run_on.Goals as goal
 
