@@ -1,5 +1,6 @@
 ghost use Rattle.std.specs.Prelude.{◌≡◌, ℕ, ◌<◌, ◌≤◌, true, false, length, IfOk, IfErr, IfSome, IfNone};
 ghost use Rattle.tree_model.specs.declared.system.TheConstants.{MAX_PARTS};
+ghost use Rattle.tree_model.specs.declared.place.Place.{Place};
 ghost use Rattle.tree_model.specs.System.{IsSystem, is_leaf_at};
 ghost use Rattle.tree_model.specs.Admission.{Admitted};
 ghost use Rattle.compose_tree.specs.Kept.{IsKept};
@@ -58,6 +59,7 @@ fn first_core(
     q: u32,
     room: &mut [Task],
 ) -> Option<u32>
+    requires some_core { 1 ≤ length sys.old.cores }
     requires leaf { is_leaf_at sys.old q ≡ true }
     requires on_first { moved_to sys.old q 0 ≡ sys.old }
     requires systems { (c : ℕ) → c < length sys.old.cores → IsSystem (moved_to sys.old q c) }
