@@ -11,9 +11,9 @@ use Rattle.tree_model.specs.declared.place.Place.TheVariants.{Core, Part}
 use Rattle.tree_model.specs.declared.plan.Refusal.{Refusal}
 use Rattle.tree_model.specs.View.{PartView, SystemView}
 use Rattle.tree_model.specs.System.{IsSystem, part_at, is_leaf, is_leaf_at}
-use Rattle.tree_model.specs.Tree.{place_of, node_tasks, node_sched, node_cycle}
-use Rattle.tree_model.specs.Admission.{refusing_bound, largest_budget, Admitted}
-use Rattle.compose_tree.specs.Steps.{NodeRefuses}
+use Rattle.tree_model.specs.Tree.{place_of, node_tasks}
+use Rattle.tree_model.specs.Admission.{largest_budget, Admitted}
+use Rattle.compose_tree.specs.Steps.{NodeRefuses, RefusesAt}
 use Rattle.compose_tree.specs.Kept.{IsKept, IsSettledNode}
 use Rattle.compose_tree.proofs.Settling.{before_part, node_refuses}
 use Rattle.compose_tree.proofs.Ways.{assigned_later, pass_later, kept_up}
@@ -72,8 +72,7 @@ kept_on_core sys q c budget kept h leaf is keeps settled =
 -- and one that is refused by itself is refused on every core
 pub refused_on_core : (sys : SystemView) (q c : ℕ) (kept : List ℕ) (r : Refusal) → q < length sys.parts
     → is_leaf_at sys q ≡ true → IsSystem (moved_to sys q c) → IsKept (moved_to sys q c) kept (Part q)
-    → NodeRefuses (node_sched sys (Part q)) (node_tasks sys kept (Part q)) (refusing_bound sys (Part q))
-    (node_cycle sys (Part q)) (Part q) r → HasRefusal (moved_to sys q c)
+    → RefusesAt sys kept (Part q) r → HasRefusal (moved_to sys q c)
 refused_on_core sys q c kept r h leaf is keeps refuses =
     let now : SystemView = moved_to sys q c in (
       r,

@@ -53,12 +53,7 @@ pub fn try_cores(
 /// Puts leaf `q` on the first core on which the system is admitted. `budgets` settle every node but
 /// the leaf and its core, on whichever it stands; that of the leaf is written. Where there is no
 /// such core, the system is as before.
-fn first_core(
-    sys: &mut System,
-    budgets: &mut Vec<u64>,
-    q: u32,
-    room: &mut [Task],
-) -> Option<u32>
+fn first_core(sys: &mut System, budgets: &mut Vec<u64>, q: u32, room: &mut [Task]) -> Option<u32>
     requires some_core { 1 ≤ length sys.old.cores }
     requires leaf { is_leaf_at sys.old q ≡ true }
     requires on_first { moved_to sys.old q 0 ≡ sys.old }

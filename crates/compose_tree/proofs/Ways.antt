@@ -140,7 +140,8 @@ other_core sys kept c keeps d h ne =
     (record { own = tt; children = λ q i child. refl })).passes
 
 pub cores_before : (sys : SystemView) (kept : List ℕ) (c : ℕ) → IsKept sys kept (Core c) → CoresPassTo sys kept c
-cores_before sys kept c keeps = λ d l. other_core sys kept c keeps d (omega (arith, l, keeps.is_node)) (λ e. omega arith)
+cores_before sys kept c keeps =
+    λ d l. other_core sys kept c keeps d (omega (arith, l, keeps.is_node)) (λ e. omega arith)
 
 -- so the core, where it passes, admits the system
 pub core_admits : (sys : SystemView) → IsSystem sys → (kept : List ℕ) (c : ℕ) → IsKept sys kept (Core c)

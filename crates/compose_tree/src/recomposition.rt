@@ -1,9 +1,8 @@
 ghost use Rattle.std.specs.Prelude.{◌≡◌, ◌≢◌, ℕ, ◌<◌, ◌≤◌, List, length, slice_set, IfOk, IfErr, MatchResult};
 ghost use Rattle.tree_model.specs.declared.system.TheConstants.{MAX_PARTS};
 ghost use Rattle.tree_model.specs.System.{IsSystem};
-ghost use Rattle.tree_model.specs.Tree.{node_sched, node_tasks, node_cycle};
-ghost use Rattle.tree_model.specs.Admission.{Admitted, FirstRefusal, refusing_bound};
-ghost use Rattle.compose_tree.specs.Steps.{NodeRefuses};
+ghost use Rattle.tree_model.specs.Admission.{Admitted, FirstRefusal};
+ghost use Rattle.compose_tree.specs.Steps.{RefusesAt};
 ghost use Rattle.compose_tree.specs.Kept.{under, IsKept, IsSettledNode};
 
 use crate::budgets::{settle_part, test_core};
@@ -74,27 +73,22 @@ pub fn resettle_part(
     ensures settled { let node = Place.Part q in
         IfOk result (λ b. IsSettledNode sys.now (slice_set budgets.now q b) node) }
     ensures kept { IfOk result (λ b. IsKept sys.now (slice_set budgets.now q b) (under sys.now q)) }
-    ensures refuses { let node = Place.Part q in
-        IfErr result (λ r. NodeRefuses (node_sched sys.now node) (node_tasks sys.now budgets.now node)
-        (refusing_bound sys.now node) (node_cycle sys.now node) node r) }
+    ensures refuses { IfErr result (λ r. RefusesAt sys.now budgets.now (Place.Part q) r) }
     ensures refusal { IfErr result (λ r. FirstRefusal sys.now r) }
 {
+    // the parts of a system keep its rules
     let _parts = sys.parts();
     settle_part(sys, budgets, q, room)
 }
 
 /// Tests core `c`, where these budgets settle every other node.
-pub fn retest_core(
-    sys: &System,
-    budgets: &[u64],
-    c: u32,
-    room: &mut [Task],
-) -> Result<(), Refusal>
+pub fn retest_core(sys: &System, budgets: &[u64], c: u32, room: &mut [Task]) -> Result<(), Refusal>
     requires kept { IsKept sys.now budgets.now (Place.Core c) }
     requires room { MAX_PARTS ≤ length room.old }
     ensures admitted { IfOk result (λ _. Admitted sys.now budgets.now) }
     ensures refusal { IfErr result (λ r. FirstRefusal sys.now r) }
 {
+    // the parts of a system keep its rules
     let _parts = sys.parts();
     test_core(sys, budgets, c, room)
 }

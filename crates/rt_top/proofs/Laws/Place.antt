@@ -63,9 +63,10 @@ places_status P at_yes at_no at_wide at_bad sys guests status text h =
     (λ placed told. subst P (sym told.is_yes) at_yes) h
 
 -- what it means
-unplaced_means : (sys : SystemView) → IsSystem sys → (guests : List PartView) (i : ℕ) → AreRefused sys guests (Unplaced i)
-    → TellsUnplaced sys guests (place_fault_text sys guests (Unplaced i))
+unplaced_means : (sys : SystemView) → IsSystem sys → (guests : List PartView) (i : ℕ)
+    → AreRefused sys guests (Unplaced i) → TellsUnplaced sys guests (place_fault_text sys guests (Unplaced i))
 unplaced_means sys is guests i stops =
+    let cores : stops.now.cores ≡ sys.cores = placed_cores sys (take i guests) stops.now stops.placed in
     let now : IsSystem stops.now = placed_is sys is (take i guests) stops.now stops.placed in
     record {
       guest = i;
@@ -74,17 +75,16 @@ unplaced_means sys is guests i stops =
       now = stops.now;
       placed = stops.placed;
       refused = λ c h.
-      let there : c < length stops.now.cores
-      = subst (λ (cores : List Core). c < length cores) (sym (placed_cores sys (take i guests) stops.now stops.placed))
-      h in
-      let first = stops.fault.1 c there in
-      record {
-        refusal = first.0;
-        first = first.1;
-        holds =
-            refusal_holds (with_guest stops.now (guest_at guests i) c)
-            (new_leaf_is stops.now now (guest_at guests i) c stops.fault.0 there) first.0 first.1;
-      };
+          let there : c < length stops.now.cores
+          = subst (λ (all : List Core). c < length all) (sym cores) h in
+          let first = stops.fault.1 c there in
+          record {
+            refusal = first.0;
+            first = first.1;
+            holds =
+                refusal_holds (with_guest stops.now (guest_at guests i) c)
+                (new_leaf_is stops.now now (guest_at guests i) c stops.fault.0 there) first.0 first.1;
+          };
     }
 
 fault_means : (sys : SystemView) → IsSystem sys → (guests : List PartView) (fault : PlaceFault)

@@ -19,5 +19,5 @@ returns-clause-settled c =
 pub returns-clause-kept : goal.returns-clause-kept
 returns-clause-kept c =
     IfOk-weaker c.settle_part.result _ _
-    (λ b settled. kept_up c.args.sys.now c.parts-parts.ensures.system c.args.budgets.now c.args.q c.requires.kept b settled)
+    (kept_up c.args.sys.now c.parts-parts.ensures.system c.args.budgets.now c.args.q c.requires.kept)
     (returns-clause-settled c)
