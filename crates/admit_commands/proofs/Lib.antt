@@ -1,0 +1,4 @@
+pub mod Admit
+pub mod Certify
+pub mod Check
+mod Examples

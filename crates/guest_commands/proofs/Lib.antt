@@ -1,0 +1,6 @@
+mod OneResponses
+mod RespondLeaf
+pub mod Responses
+pub mod Interface
+pub mod Choose
+pub mod Slack

@@ -1,0 +1,4 @@
+mod Edited
+pub mod Session
+pub mod Place
+pub mod Bulk

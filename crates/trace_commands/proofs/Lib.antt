@@ -1,0 +1,7 @@
+mod SlotEach
+pub mod Audit
+pub mod Tally
+pub mod Simulate
+pub mod Rtds
+pub mod Isolate
+mod Examples
