@@ -1,21 +1,15 @@
 -- What `admit` answers: one thing, its statuses, and what it means.
-use Rattle.std.proofs.Common.{◌≡◌, ℕ, List, sym, ◌∙◌, ap, subst, refl, inl, inr}
+use Rattle.std.proofs.Common.{◌≡◌, ℕ, List, sym, ◌∙◌, ap, subst, inl, inr}
 use Rattle.tree_model.specs.View.{SystemView}
 use Rattle.tree_model.specs.System.{IsSystem}
-use Rattle.tree_model.specs.declared.plan.Refusal.{Refusal}
-use Rattle.tree_model.specs.declared.plan.Refusal.TheVariants.{Overfull, Wide as TooWide, NoMemory as NoRefusal}
-use Rattle.tree_model.specs.Admission.{FirstRefusal}
-use Rattle.compose_tree.specs.Truth.{RefusalHolds}
-use Rattle.compose_tree.proofs.Refusals.{refusal_holds}
 use Rattle.compose_tree.proofs.Sound.{admitted_no_loss, admitted_tight}
 use Rattle.miss_witness.specs.declared.replay.Replay.{Replay}
 use Rattle.rt_report.specs.Admit.{admit_text}
-use Rattle.rt_report.specs.Refusal.{refusal_text}
 use Rattle.miss_witness.proofs.OneReplay.{one_list_of_replays}
 use Rattle.command_steps.specs.declared.status.Status.{Status}
 use Rattle.command_steps.specs.declared.status.Status.TheVariants.{Yes, No, Wide}
 use Rattle.command_steps.specs.Answer.{IsOne}
-use Rattle.command_steps.specs.Budgets.{composing, refusal_status, IsTrulyOverfull}
+use Rattle.command_steps.specs.Budgets.{composing}
 use Rattle.command_steps.specs.CommandSpec.{IsVerdict}
 use Rattle.admit_commands.specs.Admit.{the_admit, IsAdmission, AdmitsSystem, MeansOfSystem}
 use Rattle.command_steps.specs.Steps.{IsJudged}

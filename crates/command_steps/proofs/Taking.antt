@@ -1,67 +1,19 @@
 -- How many bytes each step of a command takes of told files.
-use Rattle.std.proofs.Common.{◌≡◌, ◌≢◌, ◌⊎◌, ℕ, ◌+◌, ◌<◌, ◌≤◌, Bool, true, false, List, [], ◌∷◌, length, Option, Some, None, refl, sym, ◌∙◌, ap, subst, inl, inr, arith}
+use Rattle.std.proofs.Common.{◌≡◌, ℕ, ◌+◌, ◌≤◌, Bool, true, false, List, [], ◌∷◌, length, Option, Some, None, refl, sym, ◌∙◌, ap, subst, inl, inr, arith}
 use Rattle.std.proofs.lemmas.Bool.{cases_lt, cond-true, cond-false, le-leb, lt-leb}
-use Rattle.std.specs.Prelude.{Result, Ok, Err, IsSomeAnd, is_ok, map, nat_le, ◌&&◌, option_map}
+use Rattle.std.specs.Prelude.{Result, Ok, Err, is_ok, map, nat_le, ◌&&◌}
 use Rattle.tree_model.specs.View.{SystemView}
 use Rattle.system_file.specs.declared.fault.SystemFault.{SystemFault}
 use Rattle.system_file.specs.SystemFile.{system_of}
-use Rattle.outside.specs.Counts.{RoseBy, RoseBeyond}
-use Rattle.outside.specs.Files.{Files, Told, file_named, size_of}
+use Rattle.outside.specs.Counts.{RoseBy}
+use Rattle.outside.specs.Files.{Files, Told, file_named}
 use Rattle.command_steps.specs.declared.status.Status.{Status}
-use Rattle.command_steps.specs.declared.status.Status.TheVariants.{Yes, No, Usage, BadFile, Wide, Absent, TooLong, ReadFault, WriteFault, NoMemory}
 use Rattle.command_steps.specs.declared.answer.Ending.{Ending}
 use Rattle.command_steps.specs.declared.answer.Ending.TheVariants.{Answered, Unread, NoMemory as NoRoom}
 use Rattle.command_steps.specs.CommandSpec.{CommandSpec}
 use Rattle.command_steps.specs.Answer.{file_limit, AtContent, OnSystem}
 use Rattle.command_steps.specs.Reading.{read_of, is_system_file, read_in}
 use Rattle.command_steps.specs.Steps.{IfAnswered, IsSpelled, StopsAt, EndTakes, StepTakes}
-
--- one file: its bytes were read, it is absent, it is too long, or reading it failed
-whole : (file : Option (List ℕ)) (bytes : List ℕ) (before after : ℕ) → file ≡ Some bytes → length bytes ≤ file_limit
-    → RoseBy (length bytes) before after → RoseBy (read_of file) before after
-whole file bytes before after e short rose =
-    subst (λ (f : Option (List ℕ)). RoseBy (read_of f) before after) (sym e)
-    (omega (arith, short, rose), omega (arith, short, rose))
-
-pub took_whole : (told : Option Files) (files : Files) (name bytes : List ℕ) (before after : ℕ) → told ≡ Some files
-    → Told told name (λ file. file ≡ Some bytes) → length bytes ≤ file_limit → RoseBy (length bytes) before after
-    → RoseBy (read_of (file_named name files)) before after
-took_whole None files name bytes before after e held short rose = absurd (cc)
-took_whole (Some all) files name bytes before after e held short rose =
-    whole (file_named name files) bytes before after
-    (subst (λ (o : Option Files). Told o name (λ file. file ≡ Some bytes)) e held) short rose
-
-pub took_none : (told : Option Files) (files : Files) (name : List ℕ) (before after : ℕ) → told ≡ Some files
-    → Told told name (λ file. file ≡ None) → after ≡ before → RoseBy (read_of (file_named name files)) before after
-took_none told files name before after e held same =
-    let none : file_named name files ≡ None = subst (λ (o : Option Files). Told o name (λ file. file ≡ None)) e held in
-    subst (λ (f : Option (List ℕ)). RoseBy (read_of f) before after) (sym none)
-    (omega (arith, same), omega (arith, same))
-
-long_file : (file : Option (List ℕ)) (before after : ℕ) → IsSomeAnd file (λ bytes. file_limit < length bytes)
-    → RoseBeyond file_limit before after → after ≤ before + file_limit + 1 → RoseBy (read_of file) before after
-long_file None before after long rose most = absurd long
-long_file (Some bytes) before after long rose most = (omega (arith, long, rose, most), omega (arith, long, rose, most))
-
-pub took_long : (told : Option Files) (files : Files) (name : List ℕ) (before after : ℕ) → told ≡ Some files
-    → Told told name (λ file. IsSomeAnd file (λ bytes. file_limit < length bytes)) → RoseBeyond file_limit before after
-    → after ≤ before + file_limit + 1 → RoseBy (read_of (file_named name files)) before after
-took_long told files name before after e held rose most =
-    long_file (file_named name files) before after
-    (subst (λ (o : Option Files). Told o name (λ file. IsSomeAnd file (λ bytes. file_limit < length bytes))) e held)
-    rose most
-
-less_of : (file : Option (List ℕ)) (before after : ℕ) → after ≤ before + size_of file → after ≤ before + file_limit + 1
-    → after ≤ before + read_of file
-less_of None before after size most = size
-less_of (Some bytes) before after size most = omega (arith, size, most)
-
-pub took_less : (told : Option Files) (files : Files) (name : List ℕ) (before after : ℕ) → told ≡ Some files
-    → Told told name (λ file. after ≤ before + size_of file) → after ≤ before + file_limit + 1
-    → after ≤ before + read_of (file_named name files)
-took_less told files name before after e held most =
-    less_of (file_named name files) before after
-    (subst (λ (o : Option Files). Told o name (λ file. after ≤ before + size_of file)) e held) most
 
 -- what was taken whole is taken by whatever comes of it
 pub end_takes : (end : Ending) (bytes before after : ℕ) → RoseBy bytes before after → EndTakes end bytes before after

@@ -1,6 +1,5 @@
 -- What is answered of the tasks of a leaf, and of the leaves among the first parts.
 use Rattle.std.proofs.Common.{◌≡◌, ◌≢◌, ℕ, ◌+◌, ◌<◌, ◌≤◌, Bool, true, false, cond, ◌-◌, List, [], ◌∷◌, ◌++◌, length, map, Option, Some, None, IfSome, MatchOption, refl, sym, ◌∙◌, ap, arith, subst, inl, inr}
-use Rattle.std.specs.Prelude.{not}
 use Rattle.std.specs.List.{flat_map, range_with_len}
 use Rattle.std.proofs.lemmas.Bool.{and_parts, cases_lt}
 use Rattle.std.proofs.lemmas.Grind.{flat_map-append}
@@ -9,7 +8,7 @@ use Rattle.std.proofs.lemmas.List.Elements.{All-push}
 use Rattle.std.proofs.lemmas.List.Folds.{flat_map-map}
 use Rattle.std.proofs.lemmas.List.FromFn.{map-range_with_len_more}
 use Rattle.slot_model.specs.declared.sched.Sched.{Sched}
-use Rattle.slot_model.specs.declared.sched.Sched.TheVariants.{Edf, Rm, Dm, Listed}
+use Rattle.slot_model.specs.declared.sched.Sched.TheVariants.{Edf}
 use Rattle.slot_model.specs.Task.{SporadicTask, AreConstrained, room_of, task_at}
 use Rattle.slot_model.specs.Supply.{GivesBudget, worst_slot}
 use Rattle.slot_model.specs.Order.{before_of, ranks_above}
@@ -20,7 +19,6 @@ use Rattle.fp_test.specs.Hits.{IsLeastHit}
 use Rattle.response_times.specs.Response.{IsGreatestResponse}
 use Rattle.response_times.specs.Replay.{ShowsResponse}
 use Rattle.response_times.proofs.WorstRuns.{shows_least}
-use Rattle.rtds_sim.specs.Rtds.{is_edf}
 use Rattle.tree_model.specs.declared.place.Place.TheVariants.{Part}
 use Rattle.tree_model.specs.View.{PartView, SystemView}
 use Rattle.tree_model.specs.System.{is_leaf, own_tasks, part_at}
@@ -31,18 +29,9 @@ use Rattle.rt_report.specs.declared.responses.Response.{Response}
 use Rattle.guest_commands.specs.Responses.{answered_at, AnswerTasks, IsAnswered, IsReplayOf, IsResponseOf, is_fixed_leaf, places_in}
 use Rattle.miss_witness.proofs.ReplayLeaf.{LeafRead}
 
-not_edf : (sched : Sched) → not (is_edf sched) ≡ true → sched ≢ Edf
-not_edf Edf e = absurd (cc)
-not_edf Rm e = λ other. absurd (cc)
-not_edf Dm e = λ other. absurd (cc)
-not_edf Listed e = λ other. absurd (cc)
-
 -- a leaf under a fixed priority has tasks, and another scheduler than earliest deadline first
 pub has_tasks : (part : PartView) → is_fixed_leaf part ≡ true → is_leaf part.tasks ≡ true
 has_tasks part fixed = (and_parts _ _ fixed).0
-
-pub has_fixed : (part : PartView) (sched : Sched) → sched ≡ part.sched → is_fixed_leaf part ≡ true → sched ≢ Edf
-has_fixed part sched e fixed = subst (λ (s : Sched). s ≢ Edf) (sym e) (not_edf part.sched (and_parts _ _ fixed).1)
 
 -- its tasks pass under its budget
 pub read_passes : (sys : SystemView) (budgets : List ℕ) → Admitted sys budgets → (q : ℕ) → q < length sys.parts
@@ -108,16 +97,6 @@ seen_is_replay sched fixed tasks fits period budget some in_period i worst longe
           (shows_least sched fixed tasks fits (periodic_laws period budget some in_period) i worst l least),
     )
 
--- where none may be replayed nothing is shown
-pub none_is_replay : (sched : Sched) (tasks : List SporadicTask) (period budget i worst longest : ℕ)
-    → IsLeastHit (ranks_above sched tasks) tasks (sbf period budget) i worst → longest ≡ 0
-    → (worst ≤ 1000000 - budget → worst ≤ longest) → IsReplayOf sched tasks period budget i worst None
-none_is_replay sched tasks period budget i worst longest least none reached =
-    elim (cases_lt (1000000 - budget) worst) [
-      | inl past ↦ omega (arith, past, least.0.some_slots)
-      | inr within ↦ absurd (omega (arith, none, reached within, least.0.some_slots))
-    ]
-
 -- what is answered of what was read is answered of the part
 read_answer : (sys : SystemView) (budgets : List ℕ) (q i : ℕ) (sched : Sched) (tasks : List SporadicTask)
     (period budget : ℕ) → LeafRead sys budgets q sched tasks period budget
@@ -152,11 +131,6 @@ one_more_task sys budgets q i sched tasks period budget read places rows row par
           All-push (IsAnswered sys budgets) rows row h.each
           (read_answer sys budgets q i sched tasks period budget read row part task of);
     }
-
--- none yet, and all of them
-pub no_task_yet : (sys : SystemView) (budgets : List ℕ) (q : ℕ) (places : List (ℕ × ℕ)) (rows : List Response)
-    → AnswerTasks sys budgets places rows → AnswerTasks sys budgets (places ++ places_in q 0) rows
-no_task_yet sys budgets q places rows h = record { places_are = h.places_are ∙ sym (append-nil places); each = h.each }
 
 pub all_tasks : (sys : SystemView) (budgets : List ℕ) (q n : ℕ) (places : List (ℕ × ℕ)) (rows : List Response)
     → n ≡ length (own_tasks (part_at sys q)) → is_fixed_leaf (part_at sys q) ≡ true

@@ -1,5 +1,5 @@
 -- What `bulk N` answers and means.
-use Rattle.std.proofs.Common.{◌≡◌, ℕ, ◌≤◌, List, [], Option, Some, None, refl, sym, ◌∙◌, ap, subst}
+use Rattle.std.proofs.Common.{◌≡◌, ℕ, ◌≤◌, List, [], Option, refl, sym, ◌∙◌, ap, subst}
 use Rattle.outside.specs.Files.{Files}
 use Rattle.compose_tree.proofs.Sound.{admitted_no_loss}
 use Rattle.compose_tree.proofs.Strict.{order_strict}

@@ -1,19 +1,14 @@
 -- How many bytes the words take of told files, and how words end that name none.
-use Rattle.std.proofs.Common.{◌≡◌, ◌≢◌, ◌⊎◌, ℕ, ◌+◌, ◌<◌, ◌≤◌, Bool, true, false, List, [], ◌∷◌, length, Option, Some, None, refl, sym, ◌∙◌, ap, subst, inl, inr, arith}
-use Rattle.std.proofs.lemmas.Bool.{cases_lt, cond-true, cond-false, le-leb, lt-leb}
-use Rattle.std.specs.Prelude.{Result, Ok, Err, IsSomeAnd, is_ok, map, nat_le, ◌&&◌, option_map}
-use Rattle.tree_model.specs.View.{SystemView}
-use Rattle.system_file.specs.declared.fault.SystemFault.{SystemFault}
-use Rattle.system_file.specs.SystemFile.{system_of}
-use Rattle.outside.specs.Counts.{RoseBy, RoseBeyond}
-use Rattle.outside.specs.Files.{Files, Told, file_named, size_of}
+use Rattle.std.proofs.Common.{◌≡◌, ◌≢◌, ◌⊎◌, ℕ, ◌+◌, ◌≤◌, List, Option, Some, None, refl, sym, ◌∙◌, subst, inl, inr, arith}
+use Rattle.std.specs.Prelude.{map, option_map}
+use Rattle.outside.specs.Counts.{RoseBy}
+use Rattle.outside.specs.Files.{Files, file_named}
 use Rattle.command_steps.specs.declared.status.Status.{Status}
 use Rattle.command_steps.specs.declared.status.Status.TheVariants.{Yes, No, Usage, BadFile, Wide, Absent, TooLong, ReadFault, WriteFault, NoMemory}
 use Rattle.command_steps.specs.declared.answer.Answer.{Answer}
 use Rattle.command_steps.specs.declared.answer.Ending.{Ending}
-use Rattle.command_steps.specs.declared.answer.Ending.TheVariants.{Answered, Unread, NoMemory as NoRoom}
-use Rattle.rt_top.specs.Commands.{Command, command_told, file_names}
-use Rattle.command_steps.specs.Answer.{file_limit, AtContent, OnSystem}
+use Rattle.command_steps.specs.declared.answer.Ending.TheVariants.{Answered, Unread}
+use Rattle.rt_top.specs.Commands.{Command, command_told}
 use Rattle.rt_top.specs.Report.{IsAnswer}
 use Rattle.command_steps.specs.Reading.{read_in}
 use Rattle.rt_top.specs.Reading.{bytes_to_read, Takes, NamesNoFile, EndsWithoutFile}

@@ -1,5 +1,5 @@
 -- What `version` answers.
-use Rattle.std.proofs.Common.{◌≡◌, ℕ, List, [], Option, Some, None, refl, sym, ◌∙◌, subst}
+use Rattle.std.proofs.Common.{◌≡◌, ℕ, List, [], Option, refl, sym, ◌∙◌, subst}
 use Rattle.outside.specs.Files.{Files}
 use Rattle.rt_report.specs.Version.{version_text}
 use Rattle.command_steps.specs.declared.status.Status.TheVariants.{Yes}
