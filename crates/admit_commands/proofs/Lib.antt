@@ -1,4 +1,2 @@
-pub mod Admit
-pub mod Certify
-pub mod Check
+pub mod Laws
 mod Examples

@@ -17,7 +17,7 @@ impl JudgeOne for Certify {
 
     ghost laws = { λ s file. record { files = refl; answers = λ contents status text said. said } };
 
-    #[tactic(auto, using(command_steps::proofs::Budgets::refusal_told, crate::proofs::Certify::printed))]
+    #[tactic(auto, using(command_steps::proofs::Budgets::refusal_told, crate::proofs::Laws::Certify::printed))]
     fn judge(&self, alloc: Global, sys: &System) -> Result<Answer, Ending> {
         match certificate::certify(alloc, sys) {
             Ok(certificate) => Ok(Answer {

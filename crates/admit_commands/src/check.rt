@@ -45,7 +45,7 @@ fn spelled_certificate(alloc: Global, bytes: &[u8]) -> Result<Certificate, Endin
     }
 }
 
-#[tactic(auto, using(crate::proofs::Check::flaw_told))]
+#[tactic(auto, using(crate::proofs::Laws::Check::flaw_told))]
 fn verdict(alloc: Global, sys: &System, c: &Certificate) -> Result<Answer, AllocError>
     ensures { IfOk result (λ a. ChecksNodes sys.now c.now.nodes a.status a.text.items) }
 {

@@ -1,6 +1,3 @@
 mod OneResponses
 mod RespondLeaf
-pub mod Responses
-pub mod Interface
-pub mod Choose
-pub mod Slack
+pub mod Laws

@@ -32,7 +32,7 @@ impl JudgeOne for Choose<'_> {
 }
 
 /// The answer for the leaf at place `q`.
-#[tactic(auto, using(crate::proofs::Choose::told_chosen))]
+#[tactic(auto, using(crate::proofs::Laws::Choose::told_chosen))]
 fn of_leaf(alloc: Global, sys: &System, q: u32, periods: Periods) -> Result<Answer, AllocError>
     requires { q < length sys.now.parts }
     ensures answer { IfOk result

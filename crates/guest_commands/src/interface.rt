@@ -33,7 +33,7 @@ impl JudgeOne for Interface<'_> {
 }
 
 /// The answer for the leaf at place `q`.
-#[tactic(auto, using(crate::proofs::Interface::told_past, crate::proofs::Interface::told_within))]
+#[tactic(auto, using(crate::proofs::Laws::Interface::told_past, crate::proofs::Laws::Interface::told_within))]
 fn of_leaf(alloc: Global, sys: &System, q: u32, deadline: Period) -> Result<Answer, AllocError>
     requires { q < length sys.now.parts }
     ensures answer { IfOk result

@@ -1,4 +1,2 @@
 mod Edited
-pub mod Session
-pub mod Place
-pub mod Bulk
+pub mod Laws

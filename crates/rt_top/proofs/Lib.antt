@@ -1,4 +1,3 @@
-mod Version
 mod Laws
 mod Taking
 mod Reporting

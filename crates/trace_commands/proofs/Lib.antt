@@ -1,7 +1,3 @@
 mod SlotEach
-pub mod Audit
-pub mod Tally
-pub mod Simulate
-pub mod Rtds
-pub mod Isolate
+pub mod Laws
 mod Examples

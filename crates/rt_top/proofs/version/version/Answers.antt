@@ -1,4 +1,4 @@
-use Rattle.rt_top.proofs.Version.{version_answer}
+use Rattle.rt_top.proofs.Laws.Version.{version_answer}
 use Rattle.rt_top.proofs.version.version.Goals as goal
 
 pub returns-clause-answer : goal.returns-clause-answer

@@ -36,7 +36,7 @@ use Rattle.command_steps.proofs.Attempt.{IsDecided, one_attempt, statuses_attemp
 use Rattle.command_steps.proofs.Budgets.{composing_decided, refused_status, refused_means}
 use Rattle.command_steps.proofs.CommandLaws.{CommandLaws}
 use Rattle.command_steps.proofs.OneFile.{ending_laws}
-use Rattle.trace_commands.proofs.Rtds.{one_other, servers_fit}
+use Rattle.trace_commands.proofs.Laws.Rtds.{one_other, servers_fit}
 
 -- there is one list of what parts keep, or one first core that is not full under earliest deadline
 -- first

@@ -23,7 +23,7 @@ use Rattle.trace_commands.specs.Tally.{the_tally, IsToldTally, Tallies, TellsTal
 use Rattle.command_steps.specs.Steps.{IsJudged}
 use Rattle.command_steps.proofs.Budgets.{one_assigned, said_of_assigned, statuses_assigned}
 use Rattle.command_steps.proofs.CommandLaws.{CommandLaws}
-use Rattle.trace_commands.proofs.Audit.{tracing_decided, finding_is, finding_tells}
+use Rattle.trace_commands.proofs.Laws.Audit.{tracing_decided, finding_is, finding_tells}
 use Rattle.command_steps.proofs.ReadSecond.{JudgesRead, is_spelled_system, read_laws, said_of_read}
 
 -- what is said of the events

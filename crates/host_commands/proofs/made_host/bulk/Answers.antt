@@ -1,5 +1,5 @@
-use Rattle.host_commands.proofs.Bulk.{counted_answer}
-use Rattle.host_commands.proofs.bulk.bulk.Goals as goal
+use Rattle.host_commands.proofs.Laws.Bulk.{counted_answer}
+use Rattle.host_commands.proofs.made_host.bulk.Goals as goal
 
 pub returns-clause-answer : goal.returns-clause-answer
 returns-clause-answer c =

@@ -26,7 +26,7 @@ use Rattle.command_steps.specs.Steps.{IsJudged}
 use Rattle.command_steps.proofs.Attempt.{IsDecided}
 use Rattle.command_steps.proofs.CommandLaws.{CommandLaws}
 use Rattle.command_steps.proofs.ReadSecond.{JudgesRead, is_spelled_system, read_laws, said_of_read}
-use Rattle.admit_commands.proofs.Certify.{proof_of}
+use Rattle.admit_commands.proofs.Laws.Certify.{proof_of}
 
 -- bytes spell one certificate or have one first fault
 either_not_both : (r : Result (List NodeView) CertFault) (nodes : List NodeView) (fault : CertFault) → r ≡ Ok nodes
