@@ -14,7 +14,7 @@ use Rattle.command_steps.specs.CommandSpec.{IsVerdict}
 use Rattle.admit_commands.specs.Admit.{the_admit, IsAdmission, AdmitsSystem, MeansOfSystem}
 use Rattle.command_steps.specs.Steps.{IsJudged}
 use Rattle.command_steps.proofs.Attempt.{one_attempt, statuses_attempt}
-use Rattle.command_steps.proofs.Budgets.{composing_decided, refused_status}
+use Rattle.command_steps.proofs.Budgets.{composing_decided, refused_means, refused_status}
 use Rattle.command_steps.proofs.CommandLaws.{CommandLaws}
 use Rattle.command_steps.proofs.OneFile.{system_laws}
 
