@@ -1,32 +1,19 @@
 -- Worked cases of what is answered, and of which answers need a cause. A wrong definition breaks
 -- one of them.
 use Rattle.std.proofs.Common.{◌≡◌, ℕ, ◌-◌, ◌^◌, List, [], ◌∷◌, length, Option, Some, None, refl, subst, arith}
-use Rattle.std.specs.Prelude.{codes, bytes_eq, option_map, option_and_then, if◌then◌else◌, IsOk, IfOk, Result, Ok, Err}
-use Rattle.std.specs.Fmt.{digits}
+use Rattle.std.specs.Prelude.{codes, bytes_eq, option_map, option_and_then, if◌then◌else◌, IsOk}
 use Rattle.std.specs.Io.KnownBytes.{Appends}
-use Rattle.tree_model.specs.View.{SystemView}
-use Rattle.tree_model.specs.Tree.{NoLoss}
-use Rattle.slot_model.specs.declared.sched.Short.{Short}
-use Rattle.tree_model.specs.declared.place.Place.{Place}
-use Rattle.tree_model.specs.Admission.{Admitted, FirstRefusal}
-use Rattle.tree_model.specs.declared.plan.Refusal.TheVariants.{Overfull}
-use Rattle.compose_tree.specs.Truth.{IsTight, RefusalHolds}
 use Rattle.outside.specs.Files.{Files, file_named}
 use Rattle.outside.specs.Written.{AppendsProperPrefix}
-use Rattle.system_file.specs.declared.fault.SystemFault.{SystemFault}
-use Rattle.system_file.specs.declared.fault.SystemFault.TheVariants.{NotToml}
 use Rattle.system_file.specs.SystemFile.{system_of}
-use Rattle.miss_witness.specs.declared.replay.Replay.{Replay}
-use Rattle.rt_report.specs.Admit.{admit_text}
-use Rattle.rt_report.specs.Refusal.{refusal_text}
-use Rattle.rt_top.specs.declared.status.Status.{Status}
-use Rattle.rt_top.specs.declared.status.Status.TheVariants.{Yes, No, Usage, BadFile, Wide, Absent, TooLong, ReadFault, WriteFault, NoMemory}
+use Rattle.command_steps.specs.declared.status.Status.{Status}
+use Rattle.command_steps.specs.declared.status.Status.TheVariants.{Yes, No, Usage, BadFile, Wide, TooLong, ReadFault, WriteFault, NoMemory}
 use Rattle.rt_top.specs.Guests.{guest_number}
 use Rattle.rt_top.specs.PeriodWords.{range_of}
-use Rattle.rt_top.specs.CommandSpec.{IsVerdict}
 use Rattle.rt_top.specs.Commands.{Command, admit, certify, check, audit, bulk, interface, choose, session, place, isolate, slack, tally, responses, one_word, two_words, rtds_of, simulate_of, interface_of, choose_of, version_of, command_of, usage_line}
-use Rattle.rt_top.specs.Answer.{Contents, file_at, AtFile, OnSystem, IfSystem}
-use Rattle.rt_top.specs.Commands.Admit.{AdmitsSystem, AdmitMeans, KeepsDeadlines, IsTrulyOverfull, MeansOfSystem}
+use Rattle.command_steps.specs.Answer.{Contents, IfSystem}
+use Rattle.command_steps.specs.Budgets.{IsTrulyOverfull}
+use Rattle.admit_commands.specs.Admit.{AdmitMeans, KeepsDeadlines}
 use Rattle.rt_top.specs.Report.{IsAnswer, Reported}
 use Rattle.rt_top.specs.Causes.{IsOfQuietStore, IsJudgeable, Stays}
 
@@ -100,33 +87,6 @@ the_usage : usage_line
     "usage: rtadmit admit FILE | certify FILE | check FILE CERT | simulate FILE RELEASES PATTERN SLOTS | rtds FILE WORKLOAD SLOTS | audit FILE TRACE | bulk N | interface FILE PART DEADLINE | responses FILE | choose FILE PART LOW HIGH | session FILE SCRIPT | place FILE GUESTS | isolate FILE | slack FILE PART | tally FILE TRACE | version\n"
 the_usage = refl
 
--- files count from 1, and past the last there is none
-files_count_from_one : (a b : Option (List ℕ))
-    → (file_at 1 (a ∷ b ∷ []) ≡ a) × (file_at 2 (a ∷ b ∷ []) ≡ b) × (file_at 3 (a ∷ b ∷ []) ≡ None)
-files_count_from_one a b = (refl, refl, refl)
-
--- the first file that is not there is told with its number
-the_second_file_is_absent : (bytes text : List ℕ) (status : Status)
-    → AtFile 2 (Some bytes ∷ None ∷ []) (λ _ _ _. ⊥) status text → (status ≡ Absent) × (text ≡ codes "absent file=2\n")
-unfolding digits
-the_second_file_is_absent bytes text status h = h
-
--- a file of the limit is not too long, and one byte more is
-a_file_of_the_limit_is_said_of : (bytes text : List ℕ) (status : Status) → length bytes ≡ 67108864
-    → AtFile 1 (Some bytes ∷ []) (λ _ s _. s ≡ Yes) status text → status ≡ Yes
-a_file_of_the_limit_is_said_of bytes text status long h = h.said (omega (arith, long))
-
-one_byte_more_is_too_long : (bytes text : List ℕ) (status : Status) → length bytes ≡ 67108865
-    → AtFile 1 (Some bytes ∷ []) (λ _ s _. s ≡ Yes) status text → (status ≡ TooLong) × (text ≡ codes "toolong file=1\n")
-unfolding digits
-one_byte_more_is_too_long bytes text status long h = h.too_long (omega (arith, long))
-
--- bytes that spell no system are refused with the fault of the first file
-a_fault_of_the_first_file : (text : List ℕ) (status : Status) → OnSystem (Err NotToml) AdmitsSystem status text
-    → (status ≡ BadFile) × (text ≡ codes "fault=NotToml file=1\n")
-unfolding digits
-a_fault_of_the_first_file text status h = h
-
 -- after a failed read and without memory nothing is written; a fault of the output cuts an answer
 nothing_is_written : (command : Option Command) (files : Option Files) (old new : Option (List ℕ))
     → (Reported command files ReadFault old new → new ≡ old) × (Reported command files NoMemory old new → new ≡ old)
@@ -160,11 +120,6 @@ six_are_of_a_quiet_store : IsOfQuietStore Yes × IsOfQuietStore No × IsOfQuietS
     × IsOfQuietStore Wide × IsOfQuietStore TooLong
 six_are_of_a_quiet_store = (tt, tt, tt, tt, tt, tt)
 
--- of a system that can be read there is a verdict, or memory ran out
-no_other_is_a_verdict : (IsVerdict Usage → ⊥) × (IsVerdict BadFile → ⊥) × (IsVerdict Absent → ⊥)
-    × (IsVerdict TooLong → ⊥) × (IsVerdict ReadFault → ⊥) × (IsVerdict WriteFault → ⊥)
-no_other_is_a_verdict = (λ h. h, λ h. h, λ h. h, λ h. h, λ h. h, λ h. h)
-
 -- a file of just so many bytes is judged
 a_file_of_the_limit_is_judged : (name : List ℕ) (files : Files) (bytes : List ℕ) → file_named name files ≡ Some bytes
     → length bytes ≡ 67108864 → IsOk (system_of bytes) → IsJudgeable (Some (admit name)) (Some files)
@@ -179,21 +134,3 @@ a_file_of_the_limit_is_judged name files bytes there long spelled = record {
 -- a count that did not rise stays, up to its last value but one
 a_quiet_count_stays : Stays 0 0 × Stays (2 ^ 64 - 2) (2 ^ 64 - 2)
 a_quiet_count_stays = ((omega arith, refl), (omega arith, refl))
-
--- a yes tells budgets that admit the system, that lose no job, and that can't be smaller at a
--- computed leaf
-what_a_yes_gives : (sys : SystemView) (text : List ℕ) → MeansOfSystem sys Yes text
-    → (budgets : List ℕ) × (replays : List Replay) × (text ≡ admit_text sys budgets replays) × Admitted sys budgets
-    × NoLoss sys budgets × IsTight sys budgets
-what_a_yes_gives sys text kept = (kept.budgets, kept.replays, kept.told, kept.admitted, kept.no_loss, kept.tight)
-
--- a no tells the first refusal, and it holds
-what_a_no_gives : (sys : SystemView) (text : List ℕ) → MeansOfSystem sys No text
-    → (node : Place) × (short : Short) × (text ≡ refusal_text sys (Overfull node short))
-    × FirstRefusal sys (Overfull node short) × RefusalHolds sys (Overfull node short)
-what_a_no_gives sys text over = (over.node, over.short, over.told, over.first, over.holds)
-
--- what is said of a system is said of the one that the first file spells
-said_of_the_file : (bytes : List ℕ) (sys : SystemView) (P : SystemView → Type 0) → system_of bytes ≡ Ok sys
-    → IfSystem (Some bytes ∷ []) P → P sys
-said_of_the_file bytes sys P spelled said = subst (λ (r : Result SystemView SystemFault). IfOk r P) spelled said

@@ -1,39 +1,25 @@
 -- What is so of each command.
-pub mod Admit
-pub mod Certify
-pub mod Check
-pub mod Rtds
-pub mod Audit
-pub mod Simulate
-pub mod Bulk
-pub mod Responses
-pub mod Interface
-pub mod Choose
-pub mod Session
-pub mod Place
-pub mod Isolate
-pub mod Slack
-pub mod Tally
 pub mod Version
+use Rattle.std.specs.Prelude.{⊤, Option, Some, None}
 use Rattle.rt_top.specs.declared.commands.Command.{Command as Parsed}
 use Rattle.rt_top.specs.declared.commands.Command.TheVariants.{Admit as ToAdmit, Certify as ToCertify, Check as ToCheck, Rtds as ToRtds, Audit as ToAudit, Simulate as ToSimulate, Bulk as ToBulk, Responses as ToResponses, Interface as ToInterface, Choose as ToChoose, Session as ToSession, Place as ToPlace, Isolate as ToIsolate, Slack as ToSlack, Tally as ToTally, Version as ToVersion}
-use Rattle.rt_top.specs.Commands.{spec_of, command_told}
-use Rattle.rt_top.proofs.CommandLaws.{CommandLaws}
-use Rattle.rt_top.proofs.Laws.Admit.{admit_laws}
-use Rattle.rt_top.proofs.Laws.Certify.{certify_laws}
-use Rattle.rt_top.proofs.Laws.Check.{check_laws}
-use Rattle.rt_top.proofs.Laws.Rtds.{rtds_laws}
-use Rattle.rt_top.proofs.Laws.Audit.{audit_laws}
-use Rattle.rt_top.proofs.Laws.Simulate.{simulate_laws}
-use Rattle.rt_top.proofs.Laws.Bulk.{bulk_laws}
-use Rattle.rt_top.proofs.Laws.Responses.{responses_laws}
-use Rattle.rt_top.proofs.Laws.Interface.{interface_laws}
-use Rattle.rt_top.proofs.Laws.Choose.{choose_laws}
-use Rattle.rt_top.proofs.Laws.Session.{session_laws}
-use Rattle.rt_top.proofs.Laws.Place.{place_laws}
-use Rattle.rt_top.proofs.Laws.Isolate.{isolate_laws}
-use Rattle.rt_top.proofs.Laws.Slack.{slack_laws}
-use Rattle.rt_top.proofs.Laws.Tally.{tally_laws}
+use Rattle.rt_top.specs.Commands.{Command, spec_of, command_told}
+use Rattle.command_steps.proofs.CommandLaws.{CommandLaws}
+use Rattle.admit_commands.proofs.Laws.Admit.{admit_laws}
+use Rattle.admit_commands.proofs.Laws.Certify.{certify_laws}
+use Rattle.admit_commands.proofs.Laws.Check.{check_laws}
+use Rattle.trace_commands.proofs.Laws.Rtds.{rtds_laws}
+use Rattle.trace_commands.proofs.Laws.Audit.{audit_laws}
+use Rattle.trace_commands.proofs.Laws.Simulate.{simulate_laws}
+use Rattle.host_commands.proofs.Laws.Bulk.{bulk_laws}
+use Rattle.guest_commands.proofs.Laws.Responses.{responses_laws}
+use Rattle.guest_commands.proofs.Laws.Interface.{interface_laws}
+use Rattle.guest_commands.proofs.Laws.Choose.{choose_laws}
+use Rattle.host_commands.proofs.Laws.Session.{session_laws}
+use Rattle.host_commands.proofs.Laws.Place.{place_laws}
+use Rattle.trace_commands.proofs.Laws.Isolate.{isolate_laws}
+use Rattle.guest_commands.proofs.Laws.Slack.{slack_laws}
+use Rattle.trace_commands.proofs.Laws.Tally.{tally_laws}
 use Rattle.rt_top.proofs.Laws.Version.{version_laws}
 
 pub laws_of : (command : Parsed) → CommandLaws (spec_of (command_told command))
@@ -53,3 +39,8 @@ laws_of (ToIsolate file) = isolate_laws file.now
 laws_of (ToSlack file part) = slack_laws file.now part.now
 laws_of (ToTally file trace) = tally_laws file.now trace.now
 laws_of ToVersion = version_laws
+
+-- the laws of the command, where there is one
+abbrev pub AreLawful : Option Command → Type 0
+AreLawful None = ⊤
+AreLawful (Some command) = CommandLaws (spec_of command)

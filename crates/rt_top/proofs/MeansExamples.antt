@@ -1,46 +1,40 @@
 -- What each answer means, taken apart: what may be read out of a report, command by command. A
 -- definition that says less breaks one of these.
-use Rattle.std.proofs.Common.{◌≡◌, ℕ, ◌<◌, ◌≤◌, List, [], ◌∷◌, length, Option, Some, refl, ap, arith, subst}
+use Rattle.std.proofs.Common.{◌≡◌, ℕ, ◌≤◌, List, [], ◌∷◌, length, Option, Some, refl, subst}
 use Rattle.std.specs.Prelude.{IsOk, Ok}
 use Rattle.std.specs.Io.KnownBytes.{Appends}
-use Rattle.csv_rows.specs.Printing.{text_of}
 use Rattle.csv_rows.specs.Reading.{records_of}
 use Rattle.slot_model.specs.declared.job.Job.{Job}
 use Rattle.tree_model.specs.CertificateView.{NodeView}
 use Rattle.tree_model.specs.View.{SystemView}
-use Rattle.tree_model.specs.Tree.{NoLoss, run_at}
+use Rattle.tree_model.specs.Tree.{NoLoss}
 use Rattle.tree_model.specs.Admission.{Admitted, Assigned}
-use Rattle.compose_tree.specs.Truth.{IsTight}
 use Rattle.outside.specs.Files.{Files, file_named}
 use Rattle.system_file.specs.SystemFile.{system_of}
 use Rattle.trace_file.specs.declared.event.Event.{Event}
 use Rattle.trace_file.specs.File.{Spells}
-use Rattle.trace_file.specs.Periods.{Satisfied}
-use Rattle.trace_printer.specs.Printing.{printed_rows}
 use Rattle.release_file.specs.declared.workload.Wake.{Wake}
 use Rattle.release_file.specs.ReleaseFile.{SpellsReleases}
 use Rattle.release_file.specs.WorkloadFile.{SpellsWorkload}
-use Rattle.rtds_sim.specs.Rtds.{RtdsRun}
 use Rattle.rtds_sim.specs.Fault.{IsFirstOther}
-use Rattle.rtds_sim.specs.Giving.{AlwaysRunnable, ServersFit, GivesBudgets, NoneOver}
 use Rattle.bulk_host.specs.Host.{bulk_host}
 use Rattle.bulk_run.specs.declared.counts.BulkCounts.{BulkCounts}
 use Rattle.rt_report.specs.Bulk.{bulk_text}
-use Rattle.rt_top.specs.Commands.Bulk.{AnswersBulk}
+use Rattle.host_commands.specs.Bulk.{AnswersBulk}
 use Rattle.server_sched.specs.declared.supplies.Pattern.{Pattern}
 use Rattle.tree_spans.specs.TreeCounts.{NoneMisses}
 use Rattle.cert_reader.specs.CertificateFile.{certificate_of}
-use Rattle.cert_verify.specs.Proves.{budgets_of, Proves}
-use Rattle.rt_top.specs.declared.status.Status.{Status}
-use Rattle.rt_top.specs.declared.status.Status.TheVariants.{Yes, No, Usage, BadFile, Absent, TooLong, ReadFault, WriteFault}
+use Rattle.cert_verify.specs.Proves.{Proves}
+use Rattle.command_steps.specs.declared.status.Status.{Status}
+use Rattle.command_steps.specs.declared.status.Status.TheVariants.{Yes, No, Usage, BadFile, Absent, TooLong, ReadFault, WriteFault}
 use Rattle.rt_top.specs.Commands.{Command, admit, certify, check, rtds, audit, simulate, bulk}
-use Rattle.rt_top.specs.Answer.{Contents, file_at, IfSystem, IsOne, IsReadable}
-use Rattle.rt_top.specs.TwoFiles.{SpellsSystem}
-use Rattle.rt_top.specs.Commands.Admit.{IsTrulyOverfull}
-use Rattle.rt_top.specs.Commands.Certify.{IsProof, TellsCertificate, CertificateMeans, CertifyMeans}
-use Rattle.rt_top.specs.Commands.Check.{CheckMeans}
-use Rattle.rt_top.specs.Commands.Rtds.{IsTraceOf, TellsRun, RunMeans, IsRunOf}
-use Rattle.rt_top.specs.Commands.Simulate.{RunsFirst, SimulateMeans, IsSimulationOf}
+use Rattle.command_steps.specs.Answer.{Contents, file_at, IfSystem, IsReadable}
+use Rattle.command_steps.specs.TwoFiles.{SpellsSystem}
+use Rattle.command_steps.specs.Budgets.{IsTrulyOverfull}
+use Rattle.admit_commands.specs.Certify.{IsProof, TellsCertificate, CertifyMeans}
+use Rattle.admit_commands.specs.Check.{CheckMeans}
+use Rattle.trace_commands.specs.Rtds.{TellsRun, RunMeans, IsRunOf}
+use Rattle.trace_commands.specs.Simulate.{RunsFirst, SimulateMeans, IsSimulationOf}
 use Rattle.rt_top.specs.Report.{IsAnswer, Reported, HasOneAnswer}
 use Rattle.rt_top.specs.Causes.{CanJudge, IsVerdictOf, EndsAs}
 
@@ -49,12 +43,6 @@ answers_agree : (command : Option Command) (files : Files) (s t : Status) (one o
     → HasOneAnswer command files → IsAnswer command (Some files) s one → IsAnswer command (Some files) t other
     → (s ≡ t) × (one ≡ other)
 answers_agree command files s t one other same a b = same s t one other a b
-
-two_statuses_are_not_one : IsOne (λ (status : Status) (text : List ℕ). text ≡ []) → ⊥
-two_statuses_are_not_one one = let same : Yes ≡ No = (one Yes No [] [] refl refl).0 in cc
-
-two_texts_are_not_one : IsOne (λ (status : Status) (text : List ℕ). status ≡ Yes) → ⊥
-two_texts_are_not_one one = omega (arith, ap (λ (text : List ℕ). length text) (one Yes Yes [] (1 ∷ []) refl refl).1)
 
 -- `certify`: the text is read as a certificate that proves the system, or tells the first refusal
 what_a_yes_certifies : (name : List ℕ) (files : Files) (old new : Option (List ℕ))
@@ -68,15 +56,6 @@ what_a_no_certifies : (name : List ℕ) (files : Files) (old new : Option (List 
     (text : List ℕ) × IfSystem (file_named name files ∷ []) (λ sys. IsTrulyOverfull sys text) × Appends old new text
 what_a_no_certifies name files old new h =
     (h.text, subst (λ (c : Contents). CertifyMeans c No h.text) h.answer.held h.answer.means, h.written)
-
-a_certificate_that_is_told : (sys : SystemView) (text : List ℕ) → CertificateMeans sys Yes text
-    → (nodes : List NodeView) × (certificate_of text ≡ Ok nodes) × IsProof sys nodes
-a_certificate_that_is_told sys text told = (told.nodes, told.read, told.proof)
-
-what_a_proof_says : (sys : SystemView) (nodes : List NodeView) → IsProof sys nodes
-    → Proves sys nodes × Admitted sys (budgets_of sys nodes) × NoLoss sys (budgets_of sys nodes)
-    × IsTight sys (budgets_of sys nodes)
-what_a_proof_says sys nodes proof = (proof.proves, proof.admitted, proof.no_loss, proof.tight)
 
 -- `check`: yes says that the certificate proves the system, and no that it does not
 abbrev SpellCertificate : Contents → SystemView → List NodeView → Type 0
@@ -128,27 +107,6 @@ a_yes_to_a_workload file workload slots files old new sys budgets wakes h spelle
       wakes (a_run_of_these_files _ sys budgets wakes spelled assigned) refl,
   h.written,
 )
-
-what_a_trace_says : (sys : SystemView) (budgets : List ℕ) (wakes : List Wake) (slots : ℕ) (text : List ℕ)
-    → TellsRun sys budgets wakes slots text →
-    (events : List Event) × IsTraceOf sys budgets wakes slots events × (text ≡ text_of (printed_rows sys events))
-    × Spells sys (records_of text) events × NoneOver sys budgets events
-what_a_trace_says sys budgets wakes slots text told =
-    (told.events, told.trace, told.told, told.reads_back, told.none_over)
-
-a_core_that_gives : (sys : SystemView) (budgets : List ℕ) (wakes : List Wake) (slots : ℕ) (text : List ℕ)
-    (runs : List (List (Option ℕ))) (c : ℕ) → TellsRun sys budgets wakes slots text
-    → RtdsRun sys budgets wakes slots runs →
-    c < length sys.cores → AlwaysRunnable sys wakes c → ServersFit sys budgets c
-    → GivesBudgets sys budgets wakes slots c (run_at runs c)
-a_core_that_gives sys budgets wakes slots text runs c told run is_core runnable fit =
-    told.gives runs c run is_core runnable fit
-
-a_host_that_gives : (sys : SystemView) (budgets : List ℕ) (wakes : List Wake) (slots : ℕ) (text : List ℕ)
-    (told : TellsRun sys budgets wakes slots text) → Admitted sys budgets →
-    ((c : ℕ) → c < length sys.cores → AlwaysRunnable sys wakes c) → Satisfied sys budgets told.events
-a_host_that_gives sys budgets wakes slots text told admitted runnable =
-    told.satisfied (record { admitted = admitted; runnable = runnable })
 
 -- `simulate`: yes says that no job misses in the first run, and no that one does
 what_simulate_means : (pattern : Pattern) (n : ℕ) (file releases : List ℕ) (files : Files) (contents : Contents)

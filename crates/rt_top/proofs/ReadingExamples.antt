@@ -1,49 +1,11 @@
 -- Worked cases of how much of its files a command reads, and of how words end that name none. A
 -- wrong definition breaks one of them.
-use Rattle.std.proofs.Common.{◌≡◌, ℕ, List, [], ◌∷◌, length, Some, None, refl, ◌∙◌, ap, arith, inl, inr}
-use Rattle.std.specs.Prelude.{Result, Ok, Err, is_ok, ◌&&◌, Bool}
-use Rattle.std.proofs.lemmas.Bool.{cond-true, cond-false, le-leb}
-use Rattle.tree_model.specs.View.{SystemView}
-use Rattle.system_file.specs.declared.fault.SystemFault.{SystemFault}
-use Rattle.system_file.specs.SystemFile.{system_of}
+use Rattle.std.proofs.Common.{◌≡◌, ℕ, List, [], ◌∷◌, Some, None, refl, arith, inl, inr}
 use Rattle.outside.specs.Files.{Files, file_named}
-use Rattle.rt_top.specs.declared.status.Status.TheVariants.{Yes, No, Usage, BadFile, ReadFault, WriteFault, NoMemory}
+use Rattle.command_steps.specs.declared.status.Status.TheVariants.{Yes, No, Usage, BadFile, ReadFault, WriteFault, NoMemory}
 use Rattle.rt_top.specs.Commands.{admit, check, bulk}
-use Rattle.rt_top.specs.Answer.{file_limit}
-use Rattle.rt_top.specs.Reading.{read_of, is_system_file, read_in, bytes_to_read, Takes, NamesNoFile, EndsWithoutFile}
-
--- of a file that is too long one byte past the limit is read
-one_byte_past_the_limit : (bytes : List ℕ) → length bytes ≡ 67108870 → read_of (Some bytes) ≡ 67108865
-one_byte_past_the_limit bytes long = omega (arith, long)
-
--- of two files the first alone, where it is absent or refused, and else both
-nothing_behind_an_absent_file : (two : List ℕ) → read_in (None ∷ Some two ∷ []) ≡ 0
-nothing_behind_an_absent_file two = refl
-
-spells_it : (one : List ℕ) (spelled : Result SystemView SystemFault) → length one ≡ 10 → system_of one ≡ spelled
-    → is_system_file (Some one) ≡ is_ok spelled
-spells_it one spelled long is =
-    ap (λ (b : Bool). b && is_ok (system_of one)) (le-leb (length one) file_limit (omega (arith, long)))
-    ∙ ap (λ (r : Result SystemView SystemFault). is_ok r) is
-
-nothing_behind_a_refused_file : (one two : List ℕ) (fault : SystemFault) → length one ≡ 10 → system_of one ≡ Err fault
-    → read_in (Some one ∷ Some two ∷ []) ≡ 10
-nothing_behind_a_refused_file one two fault long is =
-    omega (
-      arith,
-      long,
-      cond-false {A = ℕ} (is_system_file (Some one)) (read_of (Some two)) 0 (spells_it one (Err fault) long is),
-    )
-
-both_where_the_first_is_good : (one two : List ℕ) (sys : SystemView) → length one ≡ 10 → length two ≡ 7
-    → system_of one ≡ Ok sys → read_in (Some one ∷ Some two ∷ []) ≡ 17
-both_where_the_first_is_good one two sys long short is =
-    omega (
-      arith,
-      long,
-      short,
-      cond-true {A = ℕ} (is_system_file (Some one)) (read_of (Some two)) 0 (spells_it one (Ok sys) long is),
-    )
+use Rattle.command_steps.specs.Reading.{read_in}
+use Rattle.rt_top.specs.Reading.{bytes_to_read, Takes, NamesNoFile, EndsWithoutFile}
 
 the_files_of_the_command : (file cert : List ℕ) (files : Files)
     → bytes_to_read (Some (check file cert)) files ≡ read_in (file_named file files ∷ file_named cert files ∷ [])

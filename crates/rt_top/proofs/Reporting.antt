@@ -1,21 +1,21 @@
 -- From an answer to what is reported.
-use Rattle.std.proofs.Common.{◌≡◌, ◌≢◌, ◌⊎◌, ℕ, List, Option, Some, None, inl, inr, arith, refl, subst, sym, ◌∙◌}
+use Rattle.std.proofs.Common.{◌≡◌, ◌≢◌, ◌⊎◌, ℕ, List, [], Option, Some, None, inl, inr, arith, refl, subst, sym, ◌∙◌}
 use Rattle.std.specs.Prelude.{⊤, option_map}
 use Rattle.std.specs.Io.KnownBytes.{Appends}
 use Rattle.outside.specs.Files.{Files}
 use Rattle.outside.specs.Counts.{Rose}
 use Rattle.outside.specs.Written.{AppendsProperPrefix}
 use Rattle.rt_top.specs.declared.commands.Command.{Command as Parsed}
-use Rattle.rt_top.specs.declared.status.Status.{Status}
-use Rattle.rt_top.specs.declared.status.Status.TheVariants.{Yes, No, Usage, BadFile, Wide, Absent, TooLong, ReadFault, WriteFault, NoMemory}
+use Rattle.command_steps.specs.declared.status.Status.{Status}
+use Rattle.command_steps.specs.declared.status.Status.TheVariants.{Yes, No, Usage, BadFile, Wide, Absent, TooLong, ReadFault, WriteFault, NoMemory}
 use Rattle.rt_top.specs.Commands.{Command, command_told, spec_of}
-use Rattle.rt_top.specs.Answer.{Contents, IsOne}
-use Rattle.rt_top.specs.Report.{JobAnswers, Answers, Means, AreContents, IsAnswer, Reported, HasOneAnswer}
+use Rattle.command_steps.specs.Answer.{Contents, IsOne}
+use Rattle.rt_top.specs.Report.{JobAnswers, Answers, AreContents, IsAnswer, Reported, HasOneAnswer}
 use Rattle.rt_top.specs.Causes.{contents_of, IsJudgeable, IsVerdictOf, Stays}
-use Rattle.rt_top.specs.Steps.{IsSaid}
-use Rattle.rt_top.proofs.CommandLaws.{CommandLaws, AreLawful}
-use Rattle.rt_top.proofs.Laws.{laws_of}
-use Rattle.rt_top.proofs.Statuses.{IsOfJob, HasText}
+use Rattle.rt_top.specs.Steps.{IsSaidTo}
+use Rattle.command_steps.proofs.CommandLaws.{CommandLaws, no_contents}
+use Rattle.rt_top.proofs.Laws.{AreLawful, laws_of}
+use Rattle.command_steps.proofs.Statuses.{IsOfJob}
 
 parsed_lawful : (parsed : Option Parsed) → AreLawful (option_map command_told parsed)
 parsed_lawful None = tt
@@ -25,12 +25,6 @@ parsed_lawful (Some command) = laws_of command
 pub lawful : (parsed : Option Parsed) (command : Option Command) → option_map command_told parsed ≡ command
     → AreLawful command
 lawful parsed command spelled = subst AreLawful spelled (parsed_lawful parsed)
-
--- an answer means what it is to mean
-answer_means : (command : Option Command) → AreLawful command → (contents : Contents) (status : Status) (text : List ℕ)
-    → Answers command contents status text → Means command contents status text
-answer_means None laws contents status text h = tt
-answer_means (Some command) laws contents status text h = laws.means contents status text h
 
 -- to a command over told files there is one answer
 one_of_words : (command : Option Command) → AreLawful command → (contents : Contents) → IsOne (Answers command contents)
@@ -42,6 +36,13 @@ one_answer command laws files = λ s t x y a b.
     let same : b.contents ≡ a.contents = b.held ∙ sym a.held in
     one_of_words command laws a.contents s t x y a.answers
     (subst (λ (c : Contents). Answers command c t y) same b.answers)
+
+-- the status of an answer, which has a text
+abbrev pub HasText : Status → Type 0
+HasText ReadFault = ⊥
+HasText WriteFault = ⊥
+HasText NoMemory = ⊥
+HasText _ = ⊤
 
 -- a job's status has a text
 has_text_of_job : (status : Status) → IsOfJob status → HasText status
@@ -182,20 +183,27 @@ finished_verdict command laws files status result text before after Whole Front 
       | inr w ↦ absurd (stays_not_rose before after stays (end.failed sound w))
     ]
 
+-- what is said to words is the answer to them
+answer_to : (command : Option Command) → AreLawful command
+    → (files : Option Files) (status : Status) (text : List ℕ) → IsSaidTo command files status text
+    → IsAnswer command files status text
+answer_to None laws files status text said =
+    record { contents = []; held = no_contents files; answers = said; means = tt }
+answer_to (Some command) laws files status text said = record {
+  contents = said.contents;
+  held = said.held;
+  answers = said.answers;
+  means = laws.means said.contents status text said.answers;
+}
+
 -- what is said to what was parsed is the answer to the words, in the text that was written
 pub answer_of_said : (parsed : Option Parsed) (command : Option Command) (files : Option Files) (status : Status)
     (text piece : List ℕ) → option_map command_told parsed ≡ command → piece ≡ text
-    → IsSaid (option_map command_told parsed) files status text → IsAnswer command files status piece
+    → IsSaidTo (option_map command_told parsed) files status text → IsAnswer command files status piece
 answer_of_said parsed command files status text piece spelled same said =
-    let told : IsSaid command files status piece
-    = subst (λ (c : Option Command). IsSaid c files status piece) spelled
-    (subst (λ (t : List ℕ). IsSaid (option_map command_told parsed) files status t) (sym same) said) in
-    record {
-      contents = told.contents;
-      held = told.held;
-      answers = told.answers;
-      means = answer_means command (lawful parsed command spelled) told.contents status piece told.answers;
-    }
+    answer_to command (lawful parsed command spelled) files status piece
+    (subst (λ (c : Option Command). IsSaidTo c files status piece) spelled
+    (subst (λ (t : List ℕ). IsSaidTo (option_map command_told parsed) files status t) (sym same) said))
 
 -- want of memory may end any command
 pub no_memory_ends : (command : Option Command) (files : Option Files) → AreLawful command

@@ -1,10 +1,10 @@
 -- Why a command stops, as a store counts it, and when a verdict comes.
 use Rattle.std.specs.Prelude.{◌≡◌, ℕ, ◌-◌, ◌^◌, ◌<◌, map, Option, Some, ⊤}
 use Rattle.outside.specs.Files.{Files, file_named}
-use Rattle.rt_top.specs.declared.status.Status.{Status}
-use Rattle.rt_top.specs.declared.status.Status.TheVariants.{Absent, ReadFault, WriteFault, NoMemory}
+use Rattle.command_steps.specs.declared.status.Status.{Status}
+use Rattle.command_steps.specs.declared.status.Status.TheVariants.{Absent, ReadFault, WriteFault, NoMemory}
 use Rattle.rt_top.specs.Commands.{Command, spec_of, file_names}
-use Rattle.rt_top.specs.Answer.{Contents}
+use Rattle.command_steps.specs.Answer.{Contents}
 
 -- an answer that neither a failed call nor a name that is not there explains
 abbrev pub IsOfQuietStore : Status → Type 0

@@ -1,20 +1,4 @@
 -- The commands: the words that spell them, and the record of each.
-pub mod Admit
-pub mod Certify
-pub mod Check
-pub mod Rtds
-pub mod Audit
-pub mod Simulate
-pub mod Bulk
-pub mod Responses
-pub mod Interface
-pub mod Choose
-pub mod Session
-pub mod Place
-pub mod Isolate
-pub mod Slack
-pub mod Tally
-pub mod Version
 use Rattle.std.specs.Prelude.{ℕ, List, [], ◌∷◌, ◌++◌, Option, Some, None, option_map, option_and_then, codes, bytes_eq, if◌then◌else◌}
 use Rattle.server_sched.specs.declared.supplies.Pattern.{Pattern}
 use Rattle.rt_top.specs.declared.commands.Command.{Command as Parsed}
@@ -22,23 +6,23 @@ use Rattle.rt_top.specs.declared.commands.Command.TheVariants.{Admit as ToAdmit,
 use Rattle.rt_top.specs.SlotWords.{pattern_of, slot_count}
 use Rattle.rt_top.specs.Guests.{guest_number}
 use Rattle.rt_top.specs.PeriodWords.{period_of, range_of}
-use Rattle.rt_top.specs.CommandSpec.{CommandSpec, Form}
-use Rattle.rt_top.specs.Commands.Admit.{the_admit}
-use Rattle.rt_top.specs.Commands.Certify.{the_certify}
-use Rattle.rt_top.specs.Commands.Check.{the_check}
-use Rattle.rt_top.specs.Commands.Rtds.{the_rtds}
-use Rattle.rt_top.specs.Commands.Audit.{the_audit}
-use Rattle.rt_top.specs.Commands.Simulate.{the_simulate}
-use Rattle.rt_top.specs.Commands.Bulk.{the_bulk}
-use Rattle.rt_top.specs.Commands.Responses.{the_responses}
-use Rattle.rt_top.specs.Commands.Interface.{the_interface}
-use Rattle.rt_top.specs.Commands.Choose.{the_choose}
-use Rattle.rt_top.specs.Commands.Session.{the_session}
-use Rattle.rt_top.specs.Commands.Place.{the_place}
-use Rattle.rt_top.specs.Commands.Isolate.{the_isolate}
-use Rattle.rt_top.specs.Commands.Slack.{the_slack}
-use Rattle.rt_top.specs.Commands.Tally.{the_tally}
-use Rattle.rt_top.specs.Commands.Version.{the_version}
+use Rattle.command_steps.specs.CommandSpec.{CommandSpec}
+use Rattle.admit_commands.specs.Admit.{the_admit}
+use Rattle.admit_commands.specs.Certify.{the_certify}
+use Rattle.admit_commands.specs.Check.{the_check}
+use Rattle.trace_commands.specs.Rtds.{the_rtds}
+use Rattle.trace_commands.specs.Audit.{the_audit}
+use Rattle.trace_commands.specs.Simulate.{the_simulate}
+use Rattle.host_commands.specs.Bulk.{the_bulk}
+use Rattle.guest_commands.specs.Responses.{the_responses}
+use Rattle.guest_commands.specs.Interface.{the_interface}
+use Rattle.guest_commands.specs.Choose.{the_choose}
+use Rattle.host_commands.specs.Session.{the_session}
+use Rattle.host_commands.specs.Place.{the_place}
+use Rattle.trace_commands.specs.Isolate.{the_isolate}
+use Rattle.guest_commands.specs.Slack.{the_slack}
+use Rattle.trace_commands.specs.Tally.{the_tally}
+use Rattle.rt_top.specs.Version.{the_version}
 
 -- one form of words each: the names of its files, in the order of the words, that of a leaf, and
 -- its numbers
@@ -155,6 +139,13 @@ choose_of _ = None
 abbrev pub version_of : List (List ℕ) → Option Command
 version_of [] = Some version
 version_of (word ∷ rest) = None
+
+-- a form of words: a command's own word, what follows it as the usage line shows that, and what
+-- the words that follow spell
+pub record Form (Command : Type 0) : Type 0 where
+  pub word : List ℕ
+  pub shown : List ℕ
+  pub spells : List (List ℕ) → Option Command
 
 -- the forms of words, in the order of the usage line
 abbrev pub form : List ℕ → List ℕ → (List (List ℕ) → Option Command) → Form Command

@@ -1,16 +1,9 @@
 pub mod SlotWords
 pub mod Guests
 pub mod PeriodWords
-pub mod Answer
-pub mod Attempt
-pub mod Budgets
-pub mod TwoFiles
-pub mod NamedLeaf
-pub mod CommandSpec
+pub mod Version
 pub mod Commands
 pub mod Report
 pub mod Causes
 pub mod Reading
-pub mod Statuses
 pub mod Steps
-pub mod Editing

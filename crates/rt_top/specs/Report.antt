@@ -1,13 +1,13 @@
 -- What `run` reports: the answer to a command over what its files hold, what it means, and what of
 -- its text is written.
-use Rattle.std.specs.Prelude.{◌≡◌, ℕ, List, [], map, Option, Some, None, ⊤}
+use Rattle.std.specs.Prelude.{◌≡◌, ℕ, List, [], Option, Some, None, ⊤}
 use Rattle.std.specs.Io.KnownBytes.{Appends}
-use Rattle.outside.specs.Files.{Files, file_named}
+use Rattle.outside.specs.Files.{Files}
 use Rattle.outside.specs.Written.{AppendsProperPrefix}
-use Rattle.rt_top.specs.declared.status.Status.{Status}
-use Rattle.rt_top.specs.declared.status.Status.TheVariants.{Usage, ReadFault, WriteFault, NoMemory}
+use Rattle.command_steps.specs.declared.status.Status.{Status}
+use Rattle.command_steps.specs.declared.status.Status.TheVariants.{Usage, ReadFault, WriteFault, NoMemory}
 use Rattle.rt_top.specs.Commands.{Command, spec_of, file_names, usage_line}
-use Rattle.rt_top.specs.Answer.{Contents, IsOne}
+use Rattle.command_steps.specs.Answer.{Contents, AreContentsOf, IsOne}
 
 -- the answer to a command, whose files have these contents
 abbrev pub JobAnswers : Command → Contents → Status → List ℕ → Type 0
@@ -29,9 +29,7 @@ names_of (Some command) = file_names command
 
 -- where the files are told, these are the contents of those that the command names
 abbrev pub AreContents : Option Command → Option Files → Contents → Type 0
-AreContents command None contents = ⊤
-AreContents command (Some files) contents =
-    contents ≡ map (λ name. file_named name files) (names_of command)
+AreContents command = AreContentsOf (names_of command)
 
 -- over what the files of the command hold, this status and this text are the answer, and they mean
 -- this

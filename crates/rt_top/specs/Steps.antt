@@ -1,139 +1,20 @@
--- What the private steps of a command promise each other.
-use Rattle.std.specs.Prelude.{◌≡◌, ℕ, ◌+◌, ◌≤◌, List, [], ◌∷◌, length, Option, Some, Result, Ok, Err, ⊤}
-use Rattle.outside.specs.Counts.{Rose, RoseBy, RoseBeyond}
-use Rattle.outside.specs.Files.{Files, Told}
-use Rattle.tree_model.specs.View.{SystemView}
-use Rattle.system_file.specs.SystemFile.{system_of}
-use Rattle.rt_top.specs.declared.status.Status.{Status}
-use Rattle.rt_top.specs.declared.status.Status.TheVariants.{Yes, No, BadFile, Wide, Absent, TooLong}
-use Rattle.rt_top.specs.declared.answer.Answer.{Answer}
-use Rattle.rt_top.specs.declared.answer.Ending.{Ending}
-use Rattle.rt_top.specs.declared.answer.Ending.TheVariants.{Answered, Unread, NoMemory as NoRoom}
-use Rattle.rt_top.specs.Commands.{Command}
-use Rattle.rt_top.specs.CommandSpec.{CommandSpec}
-use Rattle.rt_top.specs.Answer.{Contents, Saying, AtContent, AtFile, OnSystem, file_limit}
-use Rattle.rt_top.specs.TwoFiles.{OnTwoFiles}
-use Rattle.rt_top.specs.Report.{AreContents, Answers}
+-- What the private steps of `run` promise each other.
+use Rattle.std.specs.Prelude.{◌≡◌, ℕ, List, Option, Some, None}
+use Rattle.outside.specs.Files.{Files}
+use Rattle.command_steps.specs.declared.status.Status.{Status}
+use Rattle.command_steps.specs.declared.status.Status.TheVariants.{Usage}
+use Rattle.command_steps.specs.declared.answer.Ending.{Ending}
+use Rattle.command_steps.specs.Steps.{IsSaid, EndTakes}
+use Rattle.rt_top.specs.Commands.{Command, spec_of, usage_line}
 use Rattle.rt_top.specs.Reading.{bytes_to_read}
 
--- over what the files of the command hold, this status and this text are the answer
-pub record IsSaid (command : Option Command) (files : Option Files) (status : Status)
-    (text : List ℕ) : Type 0 where
-  pub contents : Contents
-  pub held : AreContents command files contents
-  pub answers : Answers command contents status text
-
--- what is said of the answer, where a command ends with one
-abbrev pub IfAnswered : Ending → (Answer → Type 0) → Type 0
-IfAnswered (Answered answer) P = P answer
-IfAnswered Unread P = ⊤
-IfAnswered NoRoom P = ⊤
-
--- how a command ends that came to its answer, or ended before
-abbrev pub ending_of : Result Answer Ending → Ending
-ending_of (Ok answer) = Answered answer
-ending_of (Err ending) = ending
-
--- a store's counts
-pub record Counts : Type 0 where
-  pub faults : ℕ
-  pub absences : ℕ
-  pub taken : ℕ
-
-abbrev pub counts_of : {A : Type 0} (faults absences taken : A → ℕ) → A → Counts
-counts_of faults absences taken store =
-    record { faults = faults store; absences = absences store; taken = taken store }
-
--- no call failed, and no name was not there
-pub record IsQuiet (before after : Counts) : Type 0 where
-  pub faults : after.faults ≡ before.faults
-  pub absences : after.absences ≡ before.absences
-  pub taken : before.taken ≤ after.taken
-
--- how the counts explain an answer
-abbrev pub ExplainsAnswer : Status → Counts → Counts → Type 0
-ExplainsAnswer Absent before after = Rose before.absences after.absences
-ExplainsAnswer TooLong before after =
-    IsQuiet before after × RoseBeyond file_limit before.taken after.taken
-ExplainsAnswer _ before after = IsQuiet before after
-
--- how the counts explain that a command ended so
-abbrev pub Explains : Ending → Counts → Counts → Type 0
-Explains (Answered answer) before after = ExplainsAnswer answer.status before after
-Explains Unread before after = Rose before.faults after.faults
-Explains NoRoom before after = ⊤
-
--- what a command that ends so took of the store: so many bytes, and no more where it has no answer
-abbrev pub EndTakes : Ending → ℕ → ℕ → ℕ → Type 0
-EndTakes (Answered answer) bytes before after = RoseBy bytes before after
-EndTakes Unread bytes before after = after ≤ before + bytes
-EndTakes NoRoom bytes before after = after ≤ before + bytes
-
--- what a step took that gave its value, or ended the command
-abbrev pub StepTakes : {Value : Type 0} → Result Value Ending → ℕ → ℕ → ℕ → Type 0
-StepTakes (Ok value) bytes before after = RoseBy bytes before after
-StepTakes (Err stop) bytes before after = EndTakes stop bytes before after
+-- over what the files of the command hold, this status and this text are the answer; or this is the
+-- usage line
+abbrev pub IsSaidTo : Option Command → Option Files → Status → List ℕ → Type 0
+IsSaidTo None files status text = (status ≡ Usage) × (text ≡ usage_line)
+IsSaidTo (Some command) files status text = IsSaid (spec_of command) files status text
 
 -- where the files are told, what a command over them took
 abbrev pub CommandTakes : Option Command → Option Files → Ending → ℕ → ℕ → Type 0
 CommandTakes command files end before after =
     (all : Files) → files ≡ Some all → EndTakes end (bytes_to_read command all) before after
-
--- the system that the file of that name spells
-pub record IsSpelled (files : Option Files) (name : List ℕ) (sys : SystemView) : Type 0 where
-  pub bytes : List ℕ
-  pub held : Told files name (λ file. file ≡ Some bytes)
-  pub short : length bytes ≤ file_limit
-  pub spelled : system_of bytes ≡ Ok sys
-
--- the answer to file k that is absent or too long, or else of which this is said
-pub record StopsAt (k : ℕ) (files : Option Files) (name : List ℕ) (Says : Saying)
-    (status : Status) (text : List ℕ) : Type 0 where
-  pub content : Option (List ℕ)
-  pub held : Told files name (λ told. told ≡ content)
-  pub answers : AtContent k content Says status text
-
--- the bytes of the file of that name, which is short enough
-pub record IsHeld (files : Option Files) (name bytes : List ℕ) : Type 0 where
-  pub held : Told files name (λ file. file ≡ Some bytes)
-  pub short : length bytes ≤ file_limit
-
--- the answer over the files of two names, where this is said of the system of the first and of the
--- bytes of the second
-pub record AnswersTwo (files : Option Files) (first second : List ℕ) (Says : SystemView → Saying)
-    (status : Status) (text : List ℕ) : Type 0 where
-  pub one : Option (List ℕ)
-  pub two : Option (List ℕ)
-  pub held_first : Told files first (λ file. file ≡ one)
-  pub held_second : Told files second (λ file. file ≡ two)
-  pub answers : OnTwoFiles (one ∷ two ∷ []) Says status text
-
--- an answer to files that were read: no other status is said of what they hold
-abbrev pub IsJudged : Status → Type 0
-IsJudged Yes = ⊤
-IsJudged No = ⊤
-IsJudged BadFile = ⊤
-IsJudged Wide = ⊤
-IsJudged _ = ⊥
-
--- how a command ends whose files were read
-abbrev pub EndsJudged : Ending → Type 0
-EndsJudged (Answered answer) = IsJudged answer.status
-EndsJudged Unread = ⊥
-EndsJudged NoRoom = ⊤
-
--- a command over a system file, whose answer is what is said of its system
-pub record IsOverOne (spec : CommandSpec) (name : List ℕ)
-    (Says : SystemView → Status → List ℕ → Type 0) : Type 0 where
-  pub files : spec.files ≡ name ∷ []
-  pub answers : (contents : Contents) (status : Status) (text : List ℕ)
-      → AtFile 1 contents (λ bytes. OnSystem (system_of bytes) Says) status text
-      → spec.Answers contents status text
-
--- a command over a system file and a second file, whose answer is what is said of the system and of
--- the second file's bytes
-pub record IsOverTwo (spec : CommandSpec) (first second : List ℕ) (Says : SystemView → Saying)
-    : Type 0 where
-  pub files : spec.files ≡ first ∷ second ∷ []
-  pub answers : (contents : Contents) (status : Status) (text : List ℕ)
-      → OnTwoFiles contents Says status text → spec.Answers contents status text

@@ -1,56 +1,23 @@
-mod admit;
-mod audit;
-mod bulk;
-mod certify;
-mod check;
-mod choose;
-mod interface;
-mod isolate;
-mod place;
-mod responses;
-mod rtds;
-mod session;
-mod simulate;
-mod tally;
-mod task_slack;
-mod version;
-
 ghost use Rattle.std.specs.Prelude.{◌≡◌, ◌≢◌, Some, map, option_map, string_bytes, IfOk, IfErr};
 ghost use Rattle.std.specs.Option.{option_copied};
 ghost use Rattle.rt_top.specs.Commands.{choose_of, command_of, command_told, interface_of, one_word, rtds_of, simulate_of, two_words, usage_line, version_of};
 ghost use Rattle.rt_top.specs.Guests.{guest_number};
 ghost use Rattle.rt_top.specs.Reading.{NamesNoFile};
-ghost use Rattle.rt_top.specs.Steps.{counts_of, IfAnswered, IsSaid, Explains, CommandTakes};
+ghost use Rattle.rt_top.specs.Steps.{IsSaidTo, CommandTakes};
+ghost use Rattle.command_steps.specs.Steps.{counts_of, IfAnswered, Explains};
 
-use crate::Status;
-use crate::answer::{Answer, Ending, ended};
-use crate::commands::admit::Admit;
-use crate::commands::audit::Audit;
-use crate::commands::bulk::bulk;
-use crate::commands::certify::Certify;
-use crate::commands::check::Check;
-use crate::commands::choose::Choose;
-use crate::commands::interface::Interface;
-use crate::commands::isolate::Isolate;
-use crate::commands::place::Placer;
-use crate::commands::responses::Responses;
-use crate::commands::rtds::Rtds;
-use crate::commands::session::Editor;
-use crate::commands::simulate::Simulate;
-use crate::commands::tally::Tally;
-use crate::commands::task_slack::Slack;
-use crate::commands::version::version;
-use crate::guests::Guests;
-use crate::one_file::over_one;
 use crate::period_words::{period_of, range_of};
-use crate::periods::{Period, Periods};
 use crate::slot_words::{pattern_of, slot_count};
-use crate::slots::Slots;
-use crate::two_files::over_two;
+use crate::version::version;
+use admit_commands::{Admit, Certify, Check};
+use command_steps::{Answer, Ending, Status, ended, over_one, over_two};
 use csv_rows::{is_plain, number};
+use guest_commands::{Choose, Interface, Period, Periods, Responses, Slack};
+use host_commands::{Editor, Guests, Placer, bulk};
 use outside::Store;
 use server_sched::Pattern;
 use std::alloc::Global;
+use trace_commands::{Audit, Isolate, Rtds, Simulate, Slots, Tally};
 
 /// A form of words, with the names of its files in the order of the words.
 #[derive(Clone, Copy)]
@@ -151,7 +118,7 @@ fn usage_text() -> &'static str
 /// The answer to a command, or to words that spell none.
 #[tactic(auto, using(crate::proofs::Taking::nothing_taken))]
 pub fn answer<S: Store>(alloc: Global, command: Option<Command<'_>>, store: &mut S) -> Ending
-    ensures answer { IfAnswered result (λ a. IsSaid (option_map command_told command.entry)
+    ensures answer { IfAnswered result (λ a. IsSaidTo (option_map command_told command.entry)
         (S.files store.old) a.status a.text.items) }
     ensures explained { let counts = counts_of S.faults S.absences S.taken in
         Explains result (counts store.old) (counts store.new) }

@@ -1,8 +1,8 @@
 ghost use Rattle.std.specs.Prelude.{◌≡◌, option_map};
 ghost use Rattle.rt_top.specs.PeriodWords.{period_of, range_between, range_of};
 
-use crate::periods::{Period, Periods};
 use csv_rows::{is_plain, number};
+use guest_commands::{Period, Periods};
 use slot_model::LIMIT;
 
 /// The most periods of a range, past the first.

@@ -1,9 +1,9 @@
 ghost use Rattle.std.specs.Prelude.{◌≡◌, option_map};
 ghost use Rattle.rt_top.specs.SlotWords.{pattern_of, slot_count};
 
-use crate::slots::Slots;
 use csv_rows::{is_plain, number};
 use server_sched::Pattern;
+use trace_commands::Slots;
 
 /// The most slots of a run.
 const MOST_SLOTS: u64 = 1_000_000;

@@ -9,8 +9,8 @@ ghost use Rattle.rt_top.specs.Causes.{IsOfQuietStore, IsJudgeable, IsVerdictOf, 
 ghost use Rattle.rt_top.specs.Reading.{bytes_to_read, Takes, NamesNoFile, EndsWithoutFile};
 
 use crate::Status;
-use crate::answer::Ending;
 use crate::commands::{answer, parse};
+use command_steps::Ending;
 use outside::{Sink, Store, write_all};
 use std::alloc::Global;
 

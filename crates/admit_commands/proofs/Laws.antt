@@ -1,0 +1,4 @@
+-- What is so of each command.
+pub mod Admit
+pub mod Certify
+pub mod Check

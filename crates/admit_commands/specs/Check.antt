@@ -1,0 +1,74 @@
+-- `check FILE CERT`: what it answers, and what its yes means to who was handed the certificate.
+use Rattle.std.specs.Prelude.{◌≡◌, ℕ, List, [], ◌∷◌, None, Ok, Err, IsOk}
+use Rattle.tree_model.specs.CertificateView.{NodeView}
+use Rattle.tree_model.specs.View.{SystemView}
+use Rattle.cert_reader.specs.declared.fault.CertFault.{CertFault}
+use Rattle.cert_verify.specs.declared.flaw.Flaw.{Flaw}
+use Rattle.cert_reader.specs.CertificateFile.{certificate_of}
+use Rattle.cert_verify.specs.Proves.{Proves}
+use Rattle.cert_verify.specs.Flaws.{FirstFlaw}
+use Rattle.rt_report.specs.declared.fault.FileFault.TheVariants.{Cert}
+use Rattle.rt_report.specs.Check.{check_text}
+use Rattle.rt_report.specs.Fault.{fault_text}
+use Rattle.command_steps.specs.declared.status.Status.{Status}
+use Rattle.command_steps.specs.declared.status.Status.TheVariants.{Yes, No, BadFile}
+use Rattle.command_steps.specs.CommandSpec.{CommandSpec, IsVerdict}
+use Rattle.command_steps.specs.Answer.{Contents}
+use Rattle.command_steps.specs.Attempt.{Attempt, OnAttempt}
+use Rattle.command_steps.specs.TwoFiles.{OnTwoFiles, SpellsSystem, AreReadable}
+use Rattle.admit_commands.specs.Certify.{IsProof}
+
+-- the bytes of the second file spell a certificate, or have a first fault
+abbrev pub spelling : List ℕ → Attempt (List NodeView) CertFault
+spelling bytes = record {
+  Gives = λ nodes. certificate_of bytes ≡ Ok nodes;
+  Refuses = λ fault. certificate_of bytes ≡ Err fault;
+  status_of = λ fault. BadFile;
+  text_of = λ fault. fault_text None (Cert fault) 2;
+}
+
+-- no: the text tells the first flaw
+pub record IsFlawed (sys : SystemView) (nodes : List NodeView) (text : List ℕ) : Type 0 where
+  pub flaw : Flaw
+  pub first : FirstFlaw sys nodes flaw
+  pub told : text ≡ check_text sys (Err flaw)
+
+-- yes exactly where the certificate proves the system, and never wide
+abbrev pub ChecksNodes : SystemView → List NodeView → Status → List ℕ → Type 0
+ChecksNodes sys nodes Yes text = Proves sys nodes × (text ≡ check_text sys (Ok tt))
+ChecksNodes sys nodes No text = IsFlawed sys nodes text
+ChecksNodes sys nodes _ text = ⊥
+
+-- the answer to a system and the bytes of a certificate, and to two files
+abbrev pub ChecksBytes : SystemView → List ℕ → Status → List ℕ → Type 0
+ChecksBytes sys bytes = OnAttempt (spelling bytes) (ChecksNodes sys)
+
+abbrev pub Checks : Contents → Status → List ℕ → Type 0
+Checks contents = OnTwoFiles contents ChecksBytes
+
+-- Yes means: under the budgets that the certificate tells the system is admitted, no deadline is
+-- missed on any level, and no smaller leaf budget serves. Where it proves the system, the answer is
+-- yes.
+pub record TellsProof (sys : SystemView) (nodes : List NodeView) (status : Status) : Type 0 where
+  pub only : status ≡ Yes → IsProof sys nodes
+  pub always : Proves sys nodes → status ≡ Yes
+
+-- of the system and the certificate that the files spell
+abbrev pub CheckMeans : Contents → Status → Type 0
+CheckMeans contents status = (sys : SystemView) (nodes : List NodeView)
+    → SpellsSystem contents sys (λ bytes. certificate_of bytes ≡ Ok nodes)
+    → TellsProof sys nodes status
+
+-- the files are there, short enough, and spell a system and a certificate
+abbrev pub CanCheck : Contents → Type 0
+CanCheck contents = AreReadable contents (λ sys bytes. IsOk (certificate_of bytes))
+
+-- what there is to say of the command
+abbrev pub the_check : List ℕ → List ℕ → CommandSpec
+the_check file cert = record {
+  files = file ∷ cert ∷ [];
+  Answers = Checks;
+  Means = λ contents status text. CheckMeans contents status;
+  CanJudge = CanCheck;
+  EndsAs = λ contents. IsVerdict;
+}

@@ -1,0 +1,31 @@
+ghost use Rattle.std.specs.Prelude.{List, ℕ, refl};
+ghost use Rattle.admit_commands.specs.Certify.{CertifiesSystem, the_certify};
+
+use certificate::print_certificate;
+use command_steps::{Answer, Ending, JudgeOne, Status, refuse};
+use std::alloc::Global;
+use tree_model::{Refusal, System};
+
+/// `certify FILE`: a certificate that the system of the file is admitted, which anyone can check.
+#[derive(Clone, Copy)]
+pub struct Certify;
+
+impl JudgeOne for Certify {
+    ghost says = { λ _. CertifiesSystem };
+
+    ghost spec = { λ _. the_certify };
+
+    ghost laws = { λ s file. record { files = refl; answers = λ contents status text said. said } };
+
+    #[tactic(auto, using(command_steps::proofs::Budgets::refusal_told, crate::proofs::Laws::Certify::printed))]
+    fn judge(&self, alloc: Global, sys: &System) -> Result<Answer, Ending> {
+        match certificate::certify(alloc, sys) {
+            Ok(certificate) => Ok(Answer {
+                status: Status::Yes,
+                text: print_certificate(alloc, &certificate)?,
+            }),
+            Err(Refusal::NoMemory) => Err(Ending::NoMemory),
+            Err(refusal) => Ok(refuse(alloc, sys, refusal)?),
+        }
+    }
+}

@@ -1,0 +1,9 @@
+pub mod Answer
+pub mod Attempt
+pub mod Budgets
+pub mod TwoFiles
+pub mod NamedLeaf
+pub mod CommandSpec
+pub mod Reading
+pub mod Statuses
+pub mod Steps

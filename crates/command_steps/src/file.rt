@@ -1,0 +1,106 @@
+ghost use Rattle.std.specs.Prelude.{◌≡◌, ◌≢◌, ◌≤◌, length, None, Some, Ok, IfOk, IfErr, OnOk};
+ghost use Rattle.outside.specs.Files.{Files, Told, file_named};
+ghost use Rattle.system_file.specs.SystemFile.{system_of};
+ghost use Rattle.rt_report.specs.Fault.{fault_text, IsFault};
+ghost use Rattle.command_steps.specs.Answer.{file_limit, OnSystem};
+ghost use Rattle.command_steps.specs.Reading.{read_of};
+ghost use Rattle.command_steps.specs.Steps.{counts_of, IfAnswered, IsQuiet, Explains, StepTakes, StopsAt, IsSpelled};
+
+use crate::Status;
+use crate::answer::{Answer, Ending};
+use outside::{ReadFault, Store, read_all};
+use rt_report::{FileFault, absent_text, fault_text, too_long_text};
+use std::alloc::{AllocError, Global};
+use system_file::{SystemFault, read_system};
+use tree_model::System;
+
+/// The most bytes of a file.
+const MOST_BYTES: usize = 67_108_864;
+
+/// The bytes of the file of that name, which is the file word `number`, counted from 1. It stops
+/// where the file is absent or too long.
+#[tactic(auto, using(crate::proofs::Steps::stops_long))]
+pub fn read_file<S: Store>(
+    alloc: Global,
+    store: &mut S,
+    name: &str,
+    number: u32,
+) -> Result<Vec<u8>, Ending>
+    ensures bytes { IfOk result
+        (λ bytes. Told (S.files store.old) name.now (λ file. file ≡ Some bytes.items)) }
+    ensures short { IfOk result (λ bytes. length bytes.items ≤ file_limit) }
+    ensures refused { IfErr result (λ stop. IfAnswered stop (λ a.
+        StopsAt number (S.files store.old) name.now (λ _ _ _. ⊥) a.status a.text.items)) }
+    ensures same_files { S.files store.new ≡ S.files store.old }
+    ensures quiet { let counts = counts_of S.faults S.absences S.taken in
+        OnOk result (IsQuiet (counts store.old) (counts store.new)) }
+    ensures explained { let counts = counts_of S.faults S.absences S.taken in
+        IfErr result (λ stop. Explains stop (counts store.old) (counts store.new)) }
+    ensures taken { (files : Files) → S.files store.old ≡ Some files
+        → StepTakes result (read_of (file_named name.now files))
+        (S.taken store.old) (S.taken store.new) }
+{
+    match read_all(alloc, store, name, MOST_BYTES) {
+        Ok(bytes) => Ok(bytes),
+        Err(ReadFault::Absent) => Err(Ending::Answered(Answer {
+            status: Status::Absent,
+            text: absent_text(alloc, number)?,
+        })),
+        Err(ReadFault::TooLong) => Err(Ending::Answered(Answer {
+            status: Status::TooLong,
+            text: too_long_text(alloc, number)?,
+        })),
+        Err(ReadFault::Failed) => Err(Ending::Unread),
+        Err(ReadFault::NoMemory) => Err(Ending::NoMemory),
+    }
+}
+
+/// The system that the file of that name spells, which is the first file word. It stops where the
+/// file is absent, too long or refused.
+pub fn read_system_file<S: Store>(
+    alloc: Global,
+    store: &mut S,
+    name: &str,
+) -> Result<System, Ending>
+    ensures spelled { IfOk result (λ sys. IsSpelled (S.files store.old) name.now sys) }
+    ensures refused { IfErr result (λ stop. IfAnswered stop (λ a.
+        StopsAt 1 (S.files store.old) name.now
+        (λ bytes. OnSystem (system_of bytes) (λ _ _ _. ⊥)) a.status a.text.items)) }
+    ensures same_files { S.files store.new ≡ S.files store.old }
+    ensures quiet { let counts = counts_of S.faults S.absences S.taken in
+        OnOk result (IsQuiet (counts store.old) (counts store.new)) }
+    ensures explained { let counts = counts_of S.faults S.absences S.taken in
+        IfErr result (λ stop. Explains stop (counts store.old) (counts store.new)) }
+    ensures taken { (files : Files) → S.files store.old ≡ Some files
+        → StepTakes result (read_of (file_named name.now files))
+        (S.taken store.old) (S.taken store.new) }
+{
+    let bytes = read_file(alloc, store, name, 1)?;
+    spelled_system(alloc, &bytes)
+}
+
+// The system that the bytes of the first file word spell. It stops where they are refused.
+fn spelled_system(alloc: Global, bytes: &[u8]) -> Result<System, Ending>
+    ensures spelled { IfOk result (λ sys. system_of bytes.now ≡ Ok sys) }
+    ensures refused { IfErr result (λ stop. IfAnswered stop (λ a.
+        OnSystem (system_of bytes.now) (λ _ _ _. ⊥) a.status a.text.items)) }
+    ensures read { IfErr result (λ stop. stop ≢ Ending.Unread) }
+{
+    match read_system(alloc, bytes) {
+        Ok(sys) => Ok(sys),
+        Err(SystemFault::NoMemory) => Err(Ending::NoMemory),
+        Err(fault) => Err(Ending::Answered(bad_file(alloc, FileFault::System(fault), 1)?)),
+    }
+}
+
+/// The answer to a fault of the file word `number`, counted from 1.
+pub fn bad_file(alloc: Global, fault: FileFault, number: u32) -> Result<Answer, AllocError>
+    requires { IsFault None fault }
+    ensures status { IfOk result (λ a. a.status ≡ Status.BadFile) }
+    ensures text { IfOk result (λ a. a.text.items ≡ fault_text None fault number) }
+{
+    Ok(Answer {
+        status: Status::BadFile,
+        text: fault_text(alloc, None, &fault, number)?,
+    })
+}

@@ -1,0 +1,18 @@
+//! What commands share: files that are read, budgets, a leaf by its name, and how a command ends.
+#![tactic(auto)]
+
+mod answer;
+mod file;
+mod leaf;
+mod one_file;
+mod refusing;
+mod status;
+mod two_files;
+
+pub use answer::{Answer, Ending, ended};
+pub use file::bad_file;
+pub use leaf::{find_leaf, leaf_tasks, part_at};
+pub use one_file::{JudgeOne, over_one};
+pub use refusing::{admitted, assigned, refuse};
+pub use status::Status;
+pub use two_files::{JudgeTwo, over_two};

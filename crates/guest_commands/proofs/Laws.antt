@@ -1,0 +1,5 @@
+-- What is so of each command.
+pub mod Responses
+pub mod Interface
+pub mod Choose
+pub mod Slack

@@ -1,0 +1,3 @@
+mod OneResponses
+mod RespondLeaf
+pub mod Laws

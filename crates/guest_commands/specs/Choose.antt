@@ -1,0 +1,91 @@
+-- `choose FILE PART LOW HIGH`: what it answers, and what its yes and no mean to who sets the period
+-- of a guest.
+use Rattle.std.specs.Prelude.{◌≡◌, ℕ, ◌<◌, List, [], ◌∷◌, ⊤}
+use Rattle.slot_model.specs.Supply.{GivesBudget}
+use Rattle.slot_model.specs.Order.{before_of}
+use Rattle.slot_model.specs.Miss.{NoJobLost, MustMiss}
+use Rattle.period_choice.specs.declared.choice.Choice.{Choice}
+use Rattle.period_choice.specs.declared.choice.Choice.TheVariants.{Best, Nothing}
+use Rattle.period_choice.specs.Choice.{IsBest, IsNothing, IsChoice}
+use Rattle.tree_model.specs.View.{SystemView}
+use Rattle.tree_model.specs.System.{part_at, own_tasks_at}
+use Rattle.system_file.specs.SystemFile.{system_of}
+use Rattle.rt_report.specs.Choose.{best_text, nothing_text}
+use Rattle.command_steps.specs.declared.status.Status.{Status}
+use Rattle.command_steps.specs.declared.status.Status.TheVariants.{Yes, No}
+use Rattle.command_steps.specs.CommandSpec.{CommandSpec}
+use Rattle.command_steps.specs.Answer.{Contents, AtFile, OnSystem, IfSystem, HasSystem}
+use Rattle.command_steps.specs.NamedLeaf.{IsLeafNamed, HasNoLeaf, OnLeaf, IsVerdictUnless}
+
+-- the status and the text that tell a choice for leaf q
+abbrev pub choice_status : Choice → Status
+choice_status (Best period budget) = Yes
+choice_status (Nothing over wide) = No
+
+abbrev pub choice_text : SystemView → ℕ → Choice → List ℕ
+choice_text sys q (Best period budget) = best_text (part_at sys q) period budget
+choice_text sys q (Nothing over wide) = nothing_text over wide
+
+-- the text tells the period of the range at which leaf q needs the least share of the processor
+pub record IsChosen (sys : SystemView) (low high q : ℕ) (status : Status) (text : List ℕ)
+    : Type 0 where
+  pub choice : Choice
+  pub chosen : IsChoice (part_at sys q).sched (own_tasks_at sys q) low high choice
+  pub status_is : status ≡ choice_status choice
+  pub told : text ≡ choice_text sys q choice
+
+-- the answer to a system, and to a file
+abbrev pub ChoosesSystem : List ℕ → ℕ → ℕ → SystemView → Status → List ℕ → Type 0
+ChoosesSystem part low high sys = OnLeaf sys part (IsChosen sys low high)
+
+abbrev pub Chooses : List ℕ → ℕ → ℕ → Contents → Status → List ℕ → Type 0
+Chooses part low high contents =
+    AtFile 1 contents (λ bytes. OnSystem (system_of bytes) (ChoosesSystem part low high))
+
+-- Yes means: of all budgets that pass at a period of the range, the one that the text tells has the
+-- least share of its period, at the shortest period with that share. Over every list that gives it
+-- in each period of that length the leaf loses no job, and with every smaller whole one it must
+-- miss.
+pub record TellsBest (sys : SystemView) (part : List ℕ) (low high : ℕ) (text : List ℕ)
+    : Type 0 where
+  pub leaf : ℕ
+  pub found : IsLeafNamed sys part leaf
+  pub period : ℕ
+  pub budget : ℕ
+  pub told : text ≡ best_text (part_at sys leaf) period budget
+  pub best : IsBest (part_at sys leaf).sched (own_tasks_at sys leaf) low high period budget
+  pub no_loss : let tasks = own_tasks_at sys leaf in
+      NoJobLost (GivesBudget period budget) (before_of (part_at sys leaf).sched tasks) tasks
+  pub tight : let tasks = own_tasks_at sys leaf in (b : ℕ) → b < budget →
+      MustMiss (GivesBudget period b) (before_of (part_at sys leaf).sched tasks) tasks
+
+-- no means: no budget passes at any period of the range, and the text tells at how many even the
+-- whole period is short, and how many are too wide
+pub record TellsNothing (sys : SystemView) (part : List ℕ) (low high : ℕ) (text : List ℕ)
+    : Type 0 where
+  pub leaf : ℕ
+  pub found : IsLeafNamed sys part leaf
+  pub over : ℕ
+  pub wide : ℕ
+  pub told : text ≡ nothing_text over wide
+  pub nothing : IsNothing (part_at sys leaf).sched (own_tasks_at sys leaf) low high over wide
+
+-- what an answer to a system means
+abbrev pub ChoiceTells : List ℕ → ℕ → ℕ → SystemView → Status → List ℕ → Type 0
+ChoiceTells part low high sys Yes text = TellsBest sys part low high text
+ChoiceTells part low high sys No text = TellsNothing sys part low high text
+ChoiceTells part low high sys _ text = ⊤
+
+abbrev pub ChooseMeans : List ℕ → ℕ → ℕ → Contents → Status → List ℕ → Type 0
+ChooseMeans part low high contents status text =
+    IfSystem contents (λ sys. ChoiceTells part low high sys status text)
+
+-- what there is to say of the command
+abbrev pub the_choose : List ℕ → List ℕ → ℕ → ℕ → CommandSpec
+the_choose file part low high = record {
+  files = file ∷ [];
+  Answers = Chooses part low high;
+  Means = ChooseMeans part low high;
+  CanJudge = HasSystem;
+  EndsAs = IsVerdictUnless (λ sys. HasNoLeaf sys part);
+}

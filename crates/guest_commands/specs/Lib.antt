@@ -1,0 +1,4 @@
+pub mod Responses
+pub mod Interface
+pub mod Choose
+pub mod Slack

@@ -1,0 +1,69 @@
+-- `slack FILE PART`: what it answers, and what its yes and no mean to who lets a task grow.
+use Rattle.std.specs.Prelude.{◌≡◌, ℕ, List, [], ◌∷◌, ⊤}
+use Rattle.tree_model.specs.View.{SystemView}
+use Rattle.tree_model.specs.System.{part_at}
+use Rattle.tree_model.specs.Admission.{Admitted}
+use Rattle.slack.specs.MostWork.{AreMostWorks}
+use Rattle.system_file.specs.SystemFile.{system_of}
+use Rattle.rt_report.specs.Slack.{slack_text}
+use Rattle.command_steps.specs.declared.status.Status.{Status}
+use Rattle.command_steps.specs.declared.status.Status.TheVariants.{Yes, No}
+use Rattle.command_steps.specs.CommandSpec.{CommandSpec}
+use Rattle.command_steps.specs.Answer.{Contents, AtFile, OnSystem, IfSystem, HasSystem}
+use Rattle.command_steps.specs.Budgets.{OnAdmitted, IsTrulyOverfull}
+use Rattle.command_steps.specs.NamedLeaf.{IsLeafNamed, HasNoLeaf, OnLeaf, IsVerdictUnless}
+
+-- yes: the text tells the greatest work of each task of leaf q
+pub record TellsWorks (sys : SystemView) (q : ℕ) (status : Status) (text : List ℕ) : Type 0 where
+  pub is_yes : status ≡ Yes
+  pub works : List ℕ
+  pub most : AreMostWorks sys q works
+  pub told : text ≡ slack_text (part_at sys q) works
+
+-- the answer for leaf q: budgets admit the system, or the first refusal is told, no or wide
+abbrev pub SlackensLeaf : SystemView → ℕ → Status → List ℕ → Type 0
+SlackensLeaf sys q = OnAdmitted sys (λ budgets. TellsWorks sys q)
+
+-- the answer to a system, and to a file
+abbrev pub SlackensSystem : List ℕ → SystemView → Status → List ℕ → Type 0
+SlackensSystem part sys = OnLeaf sys part (SlackensLeaf sys)
+
+abbrev pub Slackens : List ℕ → Contents → Status → List ℕ → Type 0
+Slackens part contents =
+    AtFile 1 contents (λ bytes. OnSystem (system_of bytes) (SlackensSystem part))
+
+-- yes means: budgets admit the system, and the text tells the greatest work of each task of the
+-- leaf: with each work from 1 to it the system is admitted, and with each from one more up to what
+-- the task's deadline leaves past its jitter it is not, under any list of budgets for the open
+-- parts
+pub record TellsSlack (sys : SystemView) (part : List ℕ) (text : List ℕ) : Type 0 where
+  pub leaf : ℕ
+  pub found : IsLeafNamed sys part leaf
+  pub budgets : List ℕ
+  pub admitted : Admitted sys budgets
+  pub works : List ℕ
+  pub most : AreMostWorks sys leaf works
+  pub told : text ≡ slack_text (part_at sys leaf) works
+
+-- what an answer to a system means; its no means what that of `admit` does
+abbrev pub SlackTells : List ℕ → SystemView → Status → List ℕ → Type 0
+SlackTells part sys Yes text = TellsSlack sys part text
+SlackTells part sys No text = IsTrulyOverfull sys text
+SlackTells part sys _ text = ⊤
+
+abbrev pub SlackMeans : List ℕ → Contents → Status → List ℕ → Type 0
+SlackMeans part contents status text = IfSystem contents (λ sys. SlackTells part sys status text)
+
+-- the system has no leaf of that name
+abbrev pub LacksLeaf : List ℕ → SystemView → Type 0
+LacksLeaf part sys = HasNoLeaf sys part
+
+-- what there is to say of the command
+abbrev pub the_slack : List ℕ → List ℕ → CommandSpec
+the_slack file part = record {
+  files = file ∷ [];
+  Answers = Slackens part;
+  Means = SlackMeans part;
+  CanJudge = HasSystem;
+  EndsAs = IsVerdictUnless (LacksLeaf part);
+}

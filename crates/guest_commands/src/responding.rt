@@ -1,0 +1,182 @@
+ghost use Rattle.std.specs.Prelude.{◌≡◌, ◌≢◌, ◌<◌, ◌≤◌, ◌++◌, true, ℕ, List, length, slice_index_or, IfOk, OnOk};
+ghost use Rattle.slot_model.specs.Task.{sporadic_tasks, room_of, task_at};
+ghost use Rattle.slot_model.specs.Bound.{sbf, Passes};
+ghost use Rattle.slot_model.specs.Order.{before_of, ranks_above};
+ghost use Rattle.slot_model.specs.Supply.{GivesBudget};
+ghost use Rattle.fp_test.specs.Hits.{IsLeastHit};
+ghost use Rattle.response_times.specs.Replay.{seen_at};
+ghost use Rattle.response_times.specs.Response.{IsGreatestResponse};
+ghost use Rattle.tree_model.specs.System.{part_at};
+ghost use Rattle.tree_model.specs.Admission.{Admitted};
+ghost use Rattle.guest_commands.specs.Responses.{is_fixed_leaf, answered_at, AnswerTasks, AreResponses, IsReplayOf};
+
+use response_times::{replay_tasks, response};
+use rt_report::Response;
+use slot_model::{Sched, Task};
+use std::alloc::{AllocError, Global};
+use supply_bound::{Periodic, Supply};
+use tree_model::{MAX_TASKS, Part, Place, Plan, System, tasks_of};
+
+/// The longest run that is replayed, in slots.
+const MOST_SLOTS: u64 = 1_000_000;
+
+/// The responses of the tasks of all leaves under a fixed priority, in file order.
+pub fn respond_all(alloc: Global, sys: &System, plan: &Plan) -> Result<Vec<Response>, AllocError>
+    requires { Admitted sys.now plan.now }
+    ensures { IfOk result (λ rows. AreResponses sys.now plan.now rows.items) }
+{
+    let mut room = vec![in alloc; Task::least(); MAX_TASKS]?;
+    respond_leaves(alloc, sys, plan, &mut room)
+}
+
+/// The same, where the tasks of each leaf are written to `room`.
+fn respond_leaves(
+    alloc: Global,
+    sys: &System,
+    plan: &Plan,
+    room: &mut [Task],
+) -> Result<Vec<Response>, AllocError>
+    requires admitted { Admitted sys.now plan.now }
+    requires room { 256 ≤ length room.old }
+    ensures { IfOk result (λ rows. AreResponses sys.now plan.now rows.items) }
+{
+    let mut rows = Vec::new(alloc);
+    for (q, part) in sys.parts().iter().enumerate() {
+        if is_fixed_leaf(part) {
+            respond_leaf(alloc, sys, plan, q as u32, room, &mut rows)?;
+        }
+    }
+    Ok(rows)
+}
+
+/// Whether a part is a leaf under a fixed priority.
+fn is_fixed_leaf(part: &Part) -> bool
+    ensures { result ≡ is_fixed_leaf part.now }
+{
+    part.is_leaf() && part.sched() != Sched::Edf
+}
+
+/// Adds the responses of the leaf at place `q`, whose tasks are written to `room`.
+fn respond_leaf(
+    alloc: Global,
+    sys: &System,
+    plan: &Plan,
+    q: u32,
+    room: &mut [Task],
+    rows: &mut Vec<Response>,
+) -> Result<(), AllocError>
+    requires admitted { Admitted sys.now plan.now }
+    requires is_part { q < length sys.now.parts }
+    requires fixed { is_fixed_leaf (part_at sys.now q) ≡ true }
+    requires room { 256 ≤ length room.old }
+    ensures { OnOk result ((places : List (ℕ × ℕ)) →
+        AnswerTasks sys.now plan.now places rows.old.items →
+        AnswerTasks sys.now plan.now (places ++ answered_at sys.now q) rows.new.items) }
+{
+    let part = &sys.parts()[q as usize];
+    let budgets = plan.budgets();
+    let count = tasks_of(sys, budgets, Place::Part(q), room).unwrap();
+    let supply = Periodic {
+        period: part.period(),
+        budget: budgets[q as usize],
+    };
+    let sched = part.sched();
+    let tasks = &room[..count];
+    let worst = responses(alloc, sched, tasks, &supply)?;
+    let seen = replays(alloc, sched, tasks, &supply, &worst)?;
+    for i in 0..count {
+        rows.push(row_of(tasks, q, i as u32, worst[i], seen[i]))?;
+    }
+    Ok(())
+}
+
+/// The greatest response of each task of a guest over a supply under which it passes.
+fn responses(
+    alloc: Global,
+    sched: Sched,
+    tasks: &[Task],
+    supply: &Periodic,
+) -> Result<Vec<u64>, AllocError>
+    requires fixed { sched ≢ Sched.Edf }
+    requires few { length tasks.now ≤ 256 }
+    requires passes { let bound = sbf supply.now.period supply.now.budget in
+        Passes sched (sporadic_tasks tasks.now) bound }
+    ensures long { IfOk result (λ worst. length worst.items ≡ length tasks.now) }
+    ensures least { let T = sporadic_tasks tasks.now in
+        let bound = sbf supply.now.period supply.now.budget in
+        IfOk result (λ worst. (i : ℕ) → i < length tasks.now →
+        IsLeastHit (ranks_above sched T) T bound i (slice_index_or worst.items i 0)) }
+    ensures greatest { let T = sporadic_tasks tasks.now in
+        let conforms = GivesBudget supply.now.period supply.now.budget in
+        IfOk result (λ worst. (i : ℕ) → i < length tasks.now →
+        IsGreatestResponse conforms (before_of sched T) T i (slice_index_or worst.items i 0)) }
+{
+    let mut worst = Vec::with_capacity(alloc, tasks.len())?;
+    for i in 0..tasks.len() {
+        let Some(t) = response(sched, tasks, i as u32, supply) else {
+            unreachable!()
+        };
+        worst.push(t)?;
+    }
+    Ok(worst)
+}
+
+/// What the replays of these greatest responses show, and None exactly where one runs past
+/// 1,000,000 slots: all that do not are seen in the one run that ends with the longest of them.
+fn replays(
+    alloc: Global,
+    sched: Sched,
+    tasks: &[Task],
+    supply: &Periodic,
+    worst: &[u64],
+) -> Result<Vec<Option<u64>>, AllocError>
+    requires fixed { sched ≢ Sched.Edf }
+    requires few { length tasks.now ≤ 256 }
+    requires long { length worst.now ≡ length tasks.now }
+    requires least { let T = sporadic_tasks tasks.now in
+        let bound = sbf supply.now.period supply.now.budget in (i : ℕ) → i < length tasks.now →
+        IsLeastHit (ranks_above sched T) T bound i (slice_index_or worst.now i 0) }
+    ensures long { IfOk result (λ seen. length seen.items ≡ length tasks.now) }
+    ensures each { let T = sporadic_tasks tasks.now in
+        IfOk result (λ seen. (i : ℕ) → i < length tasks.now →
+        IsReplayOf sched T supply.now.period supply.now.budget i (slice_index_or worst.now i 0)
+        (seen_at seen.items i)) }
+{
+    let longest = longest_within(worst, MOST_SLOTS.saturating_sub(supply.start()));
+    if longest == 0 {
+        return Ok(vec![in alloc; None; tasks.len()]?);
+    }
+    replay_tasks(alloc, sched, tasks, supply, longest)
+}
+
+/// The greatest of these numbers that are at most `most`, or 0.
+fn longest_within(numbers: &[u64], most: u64) -> u64
+    ensures within { result ≤ most }
+    ensures longest { (i : ℕ) → i < length numbers.now → slice_index_or numbers.now i 0 ≤ most →
+        slice_index_or numbers.now i 0 ≤ result }
+{
+    let mut longest = 0;
+    for number in numbers {
+        if *number <= most && *number > longest {
+            longest = *number;
+        }
+    }
+    longest
+}
+
+/// What is told of task `i` of the guest at place `q`.
+fn row_of(tasks: &[Task], q: u32, i: u32, worst: u64, replay: Option<u64>) -> Response
+    requires { i < length tasks.now }
+    ensures of { (result.part ≡ q) × (result.task ≡ i) }
+    ensures limit { result.limit ≡ room_of (task_at (sporadic_tasks tasks.now) i) }
+    ensures told { (result.worst ≡ worst) × (result.replay ≡ replay) }
+{
+    let task = tasks[i as usize];
+    Response {
+        part: q,
+        task: i,
+        worst,
+        limit: task.deadline - task.jitter,
+        replay,
+    }
+}

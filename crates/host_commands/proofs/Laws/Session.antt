@@ -1,0 +1,107 @@
+-- What `session` answers: one thing, its statuses, and what it means.
+use Rattle.std.proofs.Common.{◌≡◌, ℕ, List, refl, sym, ◌∙◌, ap, subst, inl, inr}
+use Rattle.csv_rows.specs.Reading.{records_of}
+use Rattle.tree_model.specs.View.{SystemView}
+use Rattle.tree_model.specs.System.{IsSystem}
+use Rattle.tree_model.specs.Admission.{Admitted}
+use Rattle.tree_model.proofs.Unique.{one_admission}
+use Rattle.compose_tree.proofs.Sound.{admitted_no_loss, admitted_tight}
+use Rattle.admission_session.specs.declared.answer.Answer.{Answer}
+use Rattle.admission_session.specs.RowView.{RowView}
+use Rattle.admission_session.proofs.History.{SameHistory, history_system, one_history}
+use Rattle.script_file.specs.Script.{script_rows}
+use Rattle.script_file.proofs.OneScript.{one_script, no_script_fault, one_script_fault}
+use Rattle.rt_report.specs.Session.{session_text}
+use Rattle.command_steps.specs.declared.status.Status.{Status}
+use Rattle.command_steps.specs.declared.status.Status.TheVariants.{Yes, No, Wide}
+use Rattle.command_steps.specs.Answer.{Contents, IsOne}
+use Rattle.command_steps.specs.Budgets.{composing}
+use Rattle.command_steps.specs.CommandSpec.{IsVerdict}
+use Rattle.host_commands.specs.Session.{the_session, scripting, IsSession, EditsSystem, Edits, MeansOfEdits, SessionMeans, IsScript}
+use Rattle.command_steps.specs.Steps.{IsJudged}
+use Rattle.command_steps.proofs.Attempt.{IsDecided, one_attempt, statuses_attempt}
+use Rattle.command_steps.proofs.Budgets.{composing_decided, refused_status, refused_means}
+use Rattle.command_steps.proofs.CommandLaws.{CommandLaws}
+use Rattle.command_steps.proofs.ReadSecond.{JudgesRead, is_spelled_system, read_laws, said_of_read}
+
+scripting_decided : (bytes : List ℕ) → IsDecided (scripting bytes)
+scripting_decided bytes = record {
+  one_value = one_script (records_of bytes);
+  never_both = no_script_fault (records_of bytes);
+  one_refusal = one_script_fault (script_rows (records_of bytes));
+}
+
+-- one answer
+same_plan : (last another : SystemView) → IsSystem last → last ≡ another → (a b : List ℕ) → Admitted last a
+    → Admitted another b → a ≡ b
+same_plan last another is same a b x y =
+    one_admission last is a b x (subst (λ (s : SystemView). Admitted s b) (sym same) y)
+
+one_session : (sys : SystemView) → IsSystem sys → (rows : List RowView) → IsOne (IsSession sys rows)
+one_session sys is rows = λ s t x y p q.
+    let same : SameHistory p.answers q.answers p.last q.last
+    = one_history sys is rows p.answers q.answers p.last q.last p.answered q.answered in
+    let plan : p.budgets ≡ q.budgets
+    = same_plan p.last q.last (history_system sys rows p.answers p.last is p.answered) same.last_is p.budgets
+    q.budgets p.admitted q.admitted in (
+      p.is_yes ∙ sym q.is_yes,
+      p.told
+          ∙ (ap (λ (given : List Answer). session_text given p.last p.budgets) same.answers_are
+          ∙ (ap (λ (l : SystemView). session_text q.answers l p.budgets) same.last_is
+          ∙ ap (λ (b : List ℕ). session_text q.answers q.last b) plan)) ∙ sym q.told,
+    )
+
+-- its statuses
+edits_status : (P : Status → Type 0) → P Yes → P No → P Wide
+    → (sys : SystemView) (rows : List RowView) (status : Status) (text : List ℕ) → EditsSystem sys rows status text
+    → P status
+edits_status P at_yes at_no at_wide sys rows status text h =
+    statuses_attempt P (composing sys) (λ budgets. IsSession sys rows) status text (refused_status P at_no at_wide sys)
+    (λ budgets session. subst P (sym session.is_yes) at_yes) h
+
+-- what it means
+edits_means : (sys : SystemView) → IsSystem sys → (rows : List RowView) (status : Status) (text : List ℕ)
+    → EditsSystem sys rows status text → MeansOfEdits sys rows status text
+edits_means sys is rows status text h = elim h [
+  | inl a ↦ (let left : IsSystem a.said.last = history_system sys rows a.said.answers a.said.last is a.said.answered in
+      subst (λ (s : Status). MeansOfEdits sys rows s text) (sym a.said.is_yes)
+      (record {
+        answers = a.said.answers;
+        last = a.said.last;
+        answered = a.said.answered;
+        budgets = a.said.budgets;
+        told = a.said.told;
+        admitted = a.said.admitted;
+        no_loss = admitted_no_loss a.said.last left a.said.budgets a.said.admitted;
+        tight = admitted_tight a.said.last left a.said.budgets a.said.admitted;
+      }))
+  | inr a ↦
+      refused_means (λ z. MeansOfEdits z rows) sys is (λ t over. over) (λ t. tt) a.refusal a.refuses status text
+      a.status_is a.told
+]
+
+edits_read : JudgesRead (λ sys. scripting) EditsSystem
+edits_read = record {
+  decided = λ sys. scripting_decided;
+  bad_file = λ sys bytes fault. refl;
+  one =
+      λ sys is rows. one_attempt (composing sys) (λ budgets. IsSession sys rows) (composing_decided sys is)
+      (λ budgets admitted. one_session sys is rows);
+  judged = λ sys rows. edits_status IsJudged tt tt tt sys rows;
+}
+
+session_means : (contents : Contents) (status : Status) (text : List ℕ) → Edits contents status text
+    → SessionMeans contents status text
+session_means contents status text h = λ sys rows spelled.
+    edits_means sys (is_spelled_system contents sys _ spelled) rows status text
+    (said_of_read (λ sys. scripting) EditsSystem edits_read contents sys rows status text spelled h)
+
+pub session_laws : (file script : List ℕ) → CommandLaws (the_session file script)
+session_laws file script =
+    read_laws file script (λ sys. scripting) EditsSystem SessionMeans IsScript (λ contents. IsVerdict) edits_read
+    (record {
+      means = session_means;
+      good = λ sys bytes script. (script.rows, script.spelled);
+      verdict = λ contents sys spelled rows. edits_status IsVerdict tt tt tt sys rows;
+      no_memory = λ contents. tt;
+    })

@@ -1,0 +1,2 @@
+mod Edited
+pub mod Laws

@@ -1,0 +1,4 @@
+pub mod Session
+pub mod Place
+pub mod Bulk
+pub mod Editing

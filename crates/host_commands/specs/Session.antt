@@ -1,0 +1,95 @@
+-- `session FILE SCRIPT`: what it answers, and what its yes and no mean to who runs the host.
+use Rattle.std.specs.Prelude.{◌≡◌, ℕ, List, [], ◌∷◌, None, ⊤}
+use Rattle.csv_rows.specs.Reading.{records_of}
+use Rattle.tree_model.specs.View.{SystemView}
+use Rattle.tree_model.specs.Tree.{NoLoss}
+use Rattle.tree_model.specs.Admission.{Admitted}
+use Rattle.compose_tree.specs.Truth.{IsTight}
+use Rattle.admission_session.specs.declared.answer.Answer.{Answer}
+use Rattle.admission_session.specs.RowView.{RowView}
+use Rattle.admission_session.specs.History.{AreAnswered}
+use Rattle.script_file.specs.declared.fault.ScriptFault.{ScriptFault}
+use Rattle.script_file.specs.Script.{SpellsScript, IsScriptFault, script_rows}
+use Rattle.rt_report.specs.declared.fault.FileFault.TheVariants.{Script}
+use Rattle.rt_report.specs.Fault.{fault_text}
+use Rattle.rt_report.specs.Session.{session_text}
+use Rattle.command_steps.specs.declared.status.Status.{Status}
+use Rattle.command_steps.specs.declared.status.Status.TheVariants.{Yes, No, BadFile}
+use Rattle.command_steps.specs.CommandSpec.{CommandSpec, IsVerdict}
+use Rattle.command_steps.specs.Answer.{Contents}
+use Rattle.command_steps.specs.Attempt.{Attempt, OnAttempt}
+use Rattle.command_steps.specs.Budgets.{OnAdmitted, IsTrulyOverfull}
+use Rattle.command_steps.specs.TwoFiles.{OnTwoFiles, SpellsSystem, AreReadable}
+
+-- the bytes of the second file spell rows of edits, or have a first fault
+abbrev pub scripting : List ℕ → Attempt (List RowView) ScriptFault
+scripting bytes = record {
+  Gives = SpellsScript (records_of bytes);
+  Refuses = IsScriptFault (script_rows (records_of bytes));
+  status_of = λ fault. BadFile;
+  text_of = λ fault. fault_text None (Script fault) 2;
+}
+
+-- the text tells the answer to each row, and the plan of the system that they leave
+pub record IsSession (sys : SystemView) (rows : List RowView) (status : Status) (text : List ℕ)
+    : Type 0 where
+  pub is_yes : status ≡ Yes
+  pub answers : List Answer
+  pub last : SystemView
+  pub answered : AreAnswered sys rows answers last
+  pub budgets : List ℕ
+  pub admitted : Admitted last budgets
+  pub told : text ≡ session_text answers last budgets
+
+-- the answer to a system and rows, to a system and bytes, and to two files
+abbrev pub EditsSystem : SystemView → List RowView → Status → List ℕ → Type 0
+EditsSystem sys rows = OnAdmitted sys (λ budgets. IsSession sys rows)
+
+abbrev pub EditsBytes : SystemView → List ℕ → Status → List ℕ → Type 0
+EditsBytes sys bytes = OnAttempt (scripting bytes) (EditsSystem sys)
+
+abbrev pub Edits : Contents → Status → List ℕ → Type 0
+Edits contents = OnTwoFiles contents EditsBytes
+
+-- yes means: each row was answered as the rules of an edit say, and of the system that the rows
+-- leave, the budgets that the text tells admit it, no job is lost on any level in any permitted
+-- run, whenever each server begins, and every whole budget below a computed leaf budget must miss
+pub record LeavesDeadlines (sys : SystemView) (rows : List RowView) (text : List ℕ)
+    : Type 0 where
+  pub answers : List Answer
+  pub last : SystemView
+  pub answered : AreAnswered sys rows answers last
+  pub budgets : List ℕ
+  pub told : text ≡ session_text answers last budgets
+  pub admitted : Admitted last budgets
+  pub no_loss : NoLoss last budgets
+  pub tight : IsTight last budgets
+
+-- no means what that of `admit` does; of a wide answer nothing is claimed
+abbrev pub MeansOfEdits : SystemView → List RowView → Status → List ℕ → Type 0
+MeansOfEdits sys rows Yes text = LeavesDeadlines sys rows text
+MeansOfEdits sys rows No text = IsTrulyOverfull sys text
+MeansOfEdits sys rows _ text = ⊤
+
+abbrev pub SessionMeans : Contents → Status → List ℕ → Type 0
+SessionMeans contents status text = (sys : SystemView) (rows : List RowView)
+    → SpellsSystem contents sys (λ bytes. SpellsScript (records_of bytes) rows)
+    → MeansOfEdits sys rows status text
+
+-- the files are there, short enough, and spell a system and a script
+pub record IsScript (sys : SystemView) (bytes : List ℕ) : Type 0 where
+  pub rows : List RowView
+  pub spelled : SpellsScript (records_of bytes) rows
+
+abbrev pub CanEdit : Contents → Type 0
+CanEdit contents = AreReadable contents IsScript
+
+-- what there is to say of the command
+abbrev pub the_session : List ℕ → List ℕ → CommandSpec
+the_session file script = record {
+  files = file ∷ script ∷ [];
+  Answers = Edits;
+  Means = SessionMeans;
+  CanJudge = CanEdit;
+  EndsAs = λ contents. IsVerdict;
+}

@@ -1,0 +1,106 @@
+ghost use Rattle.std.specs.Prelude.{◌≡◌, ◌<◌, ◌^◌, List, length, IfOk, IfErr, refl};
+ghost use Rattle.csv_rows.specs.Reading.{records_of};
+ghost use Rattle.tree_model.specs.View.{PartView};
+ghost use Rattle.tree_model.specs.Admission.{FirstRefusal};
+ghost use Rattle.script_file.specs.Guests.{SpellsGuests};
+ghost use Rattle.command_steps.specs.Attempt.{IsRefused};
+ghost use Rattle.host_commands.specs.Place.{guesting, placing, IsPlacement, IsSystemText, PlacesBytes, the_place};
+ghost use Rattle.command_steps.specs.Steps.{IfAnswered, IsJudged, EndsJudged};
+
+use command_steps::{Answer, Ending, JudgeTwo, Status, bad_file, refuse};
+use placement::{PlaceFault, place};
+use rt_report::{FileFault, unplaced_text};
+use script_file::{GuestFault, ScriptFault, read_guests};
+use std::alloc::{AllocError, Global};
+use system_file::print_system;
+use tree_model::{Part, Refusal, System};
+
+/// `place FILE GUESTS`: the system with the guests, each on the first core on which it fits.
+#[derive(Clone, Copy)]
+pub struct Placer;
+
+impl JudgeTwo for Placer {
+    ghost says = { λ _. PlacesBytes };
+
+    ghost spec = { λ _. the_place };
+
+    ghost laws = { λ s first second. record {
+      files = refl;
+      answers = λ contents status text said. said;
+    } };
+
+    fn judge(&self, alloc: Global, sys: &System, bytes: &[u8]) -> Result<Answer, Ending> {
+        let guests = spelled_guests(alloc, bytes)?;
+        let placed = placed(alloc, sys, &guests)?;
+        Ok(printed(alloc, &placed)?)
+    }
+}
+
+// The guests that the bytes of the second file word spell. It stops where they are refused.
+fn spelled_guests(alloc: Global, bytes: &[u8]) -> Result<Vec<Part>, Ending>
+    ensures spelled { IfOk result
+        (λ guests. SpellsGuests (records_of bytes.now) guests.items) }
+    ensures few { IfOk result (λ guests. length guests.items < 2 ^ 32) }
+    ensures refused { IfErr result (λ stop. IfAnswered stop (λ a.
+        IsRefused (guesting bytes.now) a.status a.text.items)) }
+    ensures judged { IfErr result (λ stop. EndsJudged stop) }
+{
+    match read_guests(alloc, bytes) {
+        Ok(guests) => Ok(guests),
+        Err(GuestFault::Script(ScriptFault::NoMemory)) => Err(Ending::NoMemory),
+        Err(GuestFault::Script(fault)) => {
+            Err(Ending::Answered(bad_file(alloc, FileFault::Script(fault), 2)?))
+        }
+        Err(GuestFault::Other(row)) => {
+            Err(Ending::Answered(bad_file(alloc, FileFault::BadGuest(row), 2)?))
+        }
+    }
+}
+
+// The system with the guests on their cores. It stops where they are not placed.
+fn placed(alloc: Global, sys: &System, guests: &[Part]) -> Result<System, Ending>
+    requires few { length guests.now < 2 ^ 32 }
+    ensures placed { IfOk result (IsPlacement sys.now guests.now) }
+    ensures refused { IfErr result (λ stop. IfAnswered stop (λ a.
+        IsRefused (placing sys.now guests.now) a.status a.text.items)) }
+    ensures judged { IfErr result (λ stop. EndsJudged stop) }
+{
+    match place(alloc, sys, guests) {
+        Ok(placed) => Ok(placed),
+        Err(PlaceFault::NoMemory) => Err(Ending::NoMemory),
+        Err(PlaceFault::Refused(Refusal::NoMemory)) => Err(Ending::NoMemory),
+        Err(PlaceFault::Refused(refusal)) => {
+            Err(Ending::Answered(refuse_placing(alloc, sys, refusal)?))
+        }
+        Err(PlaceFault::BadGuest(i)) => {
+            let row = u64::from(i) + 2;
+            Err(Ending::Answered(bad_file(alloc, FileFault::BadGuest(row), 2)?))
+        }
+        Err(PlaceFault::Unplaced(i)) => Err(Ending::Answered(Answer {
+            status: Status::No,
+            text: unplaced_text(alloc, &guests[i as usize])?,
+        })),
+    }
+}
+
+// The answer where the system is refused as it stands.
+#[tactic(auto, using(command_steps::proofs::Budgets::refusal_told))]
+fn refuse_placing(alloc: Global, sys: &System, refusal: Refusal) -> Result<Answer, AllocError>
+    requires { FirstRefusal sys.now refusal }
+    ensures refused { (guests : List PartView)
+        → IfOk result (λ a. IsRefused (placing sys.now guests) a.status a.text.items) }
+    ensures judged { IfOk result (λ a. IsJudged a.status) }
+{
+    refuse(alloc, sys, refusal)
+}
+
+// The system file of the placed system.
+fn printed(alloc: Global, placed: &System) -> Result<Answer, AllocError>
+    ensures text { IfOk result (λ a. IsSystemText placed.now a.status a.text.items) }
+    ensures judged { IfOk result (λ a. IsJudged a.status) }
+{
+    Ok(Answer {
+        status: Status::Yes,
+        text: print_system(alloc, placed)?,
+    })
+}

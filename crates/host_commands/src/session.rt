@@ -1,0 +1,103 @@
+ghost use Rattle.std.specs.Prelude.{◌≡◌, ◌⊎◌, List, ℕ, IfOk, IfErr, refl};
+ghost use Rattle.csv_rows.specs.Reading.{records_of};
+ghost use Rattle.tree_model.specs.Admission.{FirstRefusal};
+ghost use Rattle.admission_session.specs.Answers.{IsAdmitted};
+ghost use Rattle.script_file.specs.declared.fault.ScriptFault.TheVariants.{NoMemory};
+ghost use Rattle.script_file.specs.Script.{IsScriptFault, SpellsScript, script_rows};
+ghost use Rattle.command_steps.specs.Attempt.{IsRefused};
+ghost use Rattle.command_steps.specs.Budgets.{composing};
+ghost use Rattle.host_commands.specs.Session.{scripting, EditsBytes, the_session};
+ghost use Rattle.command_steps.specs.Steps.{ending_of, IfAnswered, IsJudged, EndsJudged};
+
+use crate::editing::edit_all;
+use admission_session::{Row, Session, copy_system};
+use command_steps::{Answer, Ending, JudgeTwo, Status, bad_file, refuse};
+use rt_report::FileFault;
+use script_file::{ScriptFault, read_script};
+use std::alloc::{AllocError, Global};
+use tree_model::{Refusal, System};
+
+/// `session FILE SCRIPT`: the answer to each row of edits of the system, and the plan of the one
+/// that they leave.
+#[derive(Clone, Copy)]
+pub struct Editor;
+
+impl JudgeTwo for Editor {
+    ghost says = { λ _. EditsBytes };
+
+    ghost spec = { λ _. the_session };
+
+    ghost laws = { λ s first second. record {
+      files = refl;
+      answers = λ contents status text said. said;
+    } };
+
+    // A fault of the script goes before a refusal of the system.
+    fn judge(&self, alloc: Global, sys: &System, bytes: &[u8]) -> Result<Answer, Ending> {
+        let copy = copy_system(alloc, sys)?;
+        match Session::open(alloc, copy) {
+            Ok(opened) => edited(alloc, sys, opened, bytes),
+            Err((_, Refusal::NoMemory)) => Err(Ending::NoMemory),
+            Err((_, refusal)) => {
+                spelled_script(alloc, bytes)?;
+                Ok(refuse_system(alloc, sys, refusal)?)
+            }
+        }
+    }
+}
+
+// The answers of a session of the system to the rows of a script.
+fn edited(alloc: Global, sys: &System, opened: Session, bytes: &[u8]) -> Result<Answer, Ending>
+    requires same { opened ≡ sys.now }
+    requires admitted { IsAdmitted sys.now }
+    ensures answer { IfAnswered (ending_of result)
+        (λ a. EditsBytes sys.now bytes.now a.status a.text.items) }
+    ensures judged { EndsJudged (ending_of result) }
+{
+    match edit_all(alloc, opened, bytes) {
+        Ok(text) => Ok(Answer {
+            status: Status::Yes,
+            text,
+        }),
+        Err(fault) => Err(refuse_script(alloc, fault)),
+    }
+}
+
+// The rows that the bytes of the second file word spell. It stops where they are refused.
+fn spelled_script(alloc: Global, bytes: &[u8]) -> Result<Vec<Row>, Ending>
+    ensures spelled { IfOk result (λ rows. SpellsScript (records_of bytes.now) rows.items) }
+    ensures refused { IfErr result (λ stop. IfAnswered stop (λ a.
+        IsRefused (scripting bytes.now) a.status a.text.items)) }
+    ensures judged { IfErr result (λ stop. EndsJudged stop) }
+{
+    match read_script(alloc, bytes) {
+        Ok(rows) => Ok(rows),
+        Err(fault) => Err(refuse_script(alloc, fault)),
+    }
+}
+
+// The answer to a fault of the second file word.
+fn refuse_script(alloc: Global, fault: ScriptFault) -> Ending
+    ensures refused { (bytes : List ℕ)
+        → (fault ≡ NoMemory) ⊎ IsScriptFault (script_rows (records_of bytes)) fault
+        → IfAnswered result (λ a. IsRefused (scripting bytes) a.status a.text.items) }
+    ensures judged { EndsJudged result }
+{
+    if fault == ScriptFault::NoMemory {
+        return Ending::NoMemory;
+    }
+    match bad_file(alloc, FileFault::Script(fault), 2) {
+        Ok(answer) => Ending::Answered(answer),
+        Err(_) => Ending::NoMemory,
+    }
+}
+
+// The answer where the system is refused.
+#[tactic(auto, using(command_steps::proofs::Budgets::refusal_told))]
+fn refuse_system(alloc: Global, sys: &System, refusal: Refusal) -> Result<Answer, AllocError>
+    requires { FirstRefusal sys.now refusal }
+    ensures refused { IfOk result (λ a. IsRefused (composing sys.now) a.status a.text.items) }
+    ensures judged { IfOk result (λ a. IsJudged a.status) }
+{
+    refuse(alloc, sys, refusal)
+}

@@ -1,0 +1,56 @@
+-- Worked cases of what is answered to traces and runs. A wrong definition breaks one of them.
+use Rattle.std.proofs.Common.{◌≡◌, ℕ, List, length, Option, refl, ◌<◌}
+use Rattle.std.specs.Prelude.{codes}
+use Rattle.std.specs.Fmt.{digits}
+use Rattle.tree_model.specs.View.{SystemView}
+use Rattle.tree_model.specs.Tree.{run_at}
+use Rattle.tree_model.specs.Admission.{Admitted}
+use Rattle.command_steps.specs.declared.status.Status.TheVariants.{Yes, No, BadFile}
+use Rattle.trace_file.specs.declared.event.Event.{Event}
+use Rattle.trace_file.specs.declared.fault.TraceFault.TheVariants.{BadHeader, TimeFalls}
+use Rattle.trace_file.specs.Periods.{Satisfied}
+use Rattle.auditor.specs.declared.finding.Finding.TheVariants.{Yes as Kept, Short, Over}
+use Rattle.trace_commands.specs.Audit.{tracing, finding_status}
+use Rattle.csv_rows.specs.Printing.{text_of}
+use Rattle.csv_rows.specs.Reading.{records_of}
+use Rattle.trace_file.specs.File.{Spells}
+use Rattle.trace_printer.specs.Printing.{printed_rows}
+use Rattle.release_file.specs.declared.workload.Wake.{Wake}
+use Rattle.rtds_sim.specs.Rtds.{RtdsRun}
+use Rattle.rtds_sim.specs.Giving.{AlwaysRunnable, ServersFit, GivesBudgets, NoneOver}
+use Rattle.trace_commands.specs.Rtds.{IsTraceOf, TellsRun}
+
+-- faults of the trace
+faults_of_the_trace : (sys : SystemView) (bytes : List ℕ) →
+    ((tracing sys bytes).status_of (TimeFalls 3) ≡ BadFile)
+    × ((tracing sys bytes).text_of (TimeFalls 3) ≡ codes "fault=TimeFalls row=3 file=2\n")
+    × ((tracing sys bytes).text_of BadHeader ≡ codes "fault=BadHeader row=1 file=2\n")
+unfolding digits
+faults_of_the_trace sys bytes = (refl, refl, refl)
+
+-- the statuses of findings
+statuses_of_findings : (finding_status (Kept 2) ≡ Yes) × (finding_status (Short 1 0 3000) ≡ No)
+    × (finding_status (Over 1 0 4001) ≡ No)
+statuses_of_findings = (refl, refl, refl)
+
+-- what the trace of a run says
+what_a_trace_says : (sys : SystemView) (budgets : List ℕ) (wakes : List Wake) (slots : ℕ) (text : List ℕ)
+    → TellsRun sys budgets wakes slots text →
+    (events : List Event) × IsTraceOf sys budgets wakes slots events × (text ≡ text_of (printed_rows sys events))
+    × Spells sys (records_of text) events × NoneOver sys budgets events
+what_a_trace_says sys budgets wakes slots text told =
+    (told.events, told.trace, told.told, told.reads_back, told.none_over)
+
+a_core_that_gives : (sys : SystemView) (budgets : List ℕ) (wakes : List Wake) (slots : ℕ) (text : List ℕ)
+    (runs : List (List (Option ℕ))) (c : ℕ) → TellsRun sys budgets wakes slots text
+    → RtdsRun sys budgets wakes slots runs →
+    c < length sys.cores → AlwaysRunnable sys wakes c → ServersFit sys budgets c
+    → GivesBudgets sys budgets wakes slots c (run_at runs c)
+a_core_that_gives sys budgets wakes slots text runs c told run is_core runnable fit =
+    told.gives runs c run is_core runnable fit
+
+a_host_that_gives : (sys : SystemView) (budgets : List ℕ) (wakes : List Wake) (slots : ℕ) (text : List ℕ)
+    (told : TellsRun sys budgets wakes slots text) → Admitted sys budgets →
+    ((c : ℕ) → c < length sys.cores → AlwaysRunnable sys wakes c) → Satisfied sys budgets told.events
+a_host_that_gives sys budgets wakes slots text told admitted runnable =
+    told.satisfied (record { admitted = admitted; runnable = runnable })

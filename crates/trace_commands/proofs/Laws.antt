@@ -1,0 +1,6 @@
+-- What is so of each command.
+pub mod Audit
+pub mod Tally
+pub mod Simulate
+pub mod Rtds
+pub mod Isolate

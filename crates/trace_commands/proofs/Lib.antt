@@ -1,0 +1,3 @@
+mod SlotEach
+pub mod Laws
+mod Examples

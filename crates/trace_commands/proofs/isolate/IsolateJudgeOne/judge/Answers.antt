@@ -1,0 +1,23 @@
+use Rattle.std.proofs.Common.{ℕ, ◌<◌, List, length, sym, subst, ltb-true}
+use Rattle.std.specs.Prelude.{All, nat_lt}
+use Rattle.std.proofs.lemmas.Bool.{and_parts}
+use Rattle.tree_model.specs.View.{SystemView}
+use Rattle.tree_model.specs.System.{part_at}
+use Rattle.trace_file.specs.Rules.{is_core}
+use Rattle.isolation.specs.declared.vcpus.PartIsolation.{PartIsolation}
+use Rattle.isolation.specs.Answers.{AreIsolations}
+use Rattle.isolation.proofs.Listed.{each_vcpu}
+use Rattle.trace_commands.proofs.isolate.IsolateJudgeOne.judge.Goals as goal
+
+-- each line is one of a part of the system
+each_part : (sys : SystemView) (budgets : List ℕ) (rows : List PartIsolation) → AreIsolations sys budgets rows
+    → All (λ (row : PartIsolation). row.part < length sys.parts) rows
+each_part sys budgets rows h k d l =
+    ltb-true _ (length sys.parts)
+    (and_parts (nat_lt _ (length sys.parts)) (is_core (part_at sys _).parent) (each_vcpu sys budgets rows h k d l)).0
+
+pub isolation_text-requires : goal.isolation_text-requires
+isolation_text-requires c =
+    subst (λ (rows : List PartIsolation). All (λ (row : PartIsolation). row.part < length c.args.sys.now.parts) rows)
+    (sym c.deref-2.ensures.value)
+    (each_part c.args.sys.now c.in_ok-plan.plan c.in_ok-rows.rows.items c.in_ok-rows.ensures.isolated.isolations)

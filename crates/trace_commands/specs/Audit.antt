@@ -1,0 +1,88 @@
+-- `audit FILE TRACE`: what it answers, and what its yes means to who recorded the trace.
+use Rattle.std.specs.Prelude.{◌≡◌, ℕ, List, [], ◌∷◌, None}
+use Rattle.csv_rows.specs.Reading.{records_of}
+use Rattle.tree_model.specs.View.{SystemView}
+use Rattle.tree_model.specs.Admission.{Assigned}
+use Rattle.trace_file.specs.declared.event.Event.{Event}
+use Rattle.trace_file.specs.declared.fault.TraceFault.{TraceFault}
+use Rattle.trace_file.specs.File.{Spells, IsFileFault, rows_of}
+use Rattle.trace_file.specs.Periods.{Satisfied}
+use Rattle.auditor.specs.declared.finding.Finding.{Finding}
+use Rattle.auditor.specs.declared.finding.Finding.TheVariants.{Yes as Kept, Short, Over}
+use Rattle.auditor.specs.Finding.{IsFinding}
+use Rattle.rt_report.specs.declared.fault.FileFault.TheVariants.{Trace}
+use Rattle.rt_report.specs.Audit.{audit_text}
+use Rattle.rt_report.specs.Fault.{fault_text}
+use Rattle.command_steps.specs.declared.status.Status.{Status}
+use Rattle.command_steps.specs.declared.status.Status.TheVariants.{Yes, No, BadFile}
+use Rattle.command_steps.specs.CommandSpec.{CommandSpec, IsVerdict}
+use Rattle.command_steps.specs.Answer.{Contents}
+use Rattle.command_steps.specs.Attempt.{Attempt, OnAttempt}
+use Rattle.command_steps.specs.Budgets.{OnAssigned}
+use Rattle.command_steps.specs.TwoFiles.{OnTwoFiles, SpellsSystem, AreReadable}
+
+-- the bytes of the second file spell events, or have a first fault
+abbrev pub tracing : SystemView → List ℕ → Attempt (List Event) TraceFault
+tracing sys bytes = record {
+  Gives = Spells sys (records_of bytes);
+  Refuses = IsFileFault sys (rows_of (records_of bytes));
+  status_of = λ fault. BadFile;
+  text_of = λ fault. fault_text None (Trace fault) 2;
+}
+
+-- yes where nothing is found
+abbrev pub finding_status : Finding → Status
+finding_status (Kept periods) = Yes
+finding_status (Short v from got) = No
+finding_status (Over v from got) = No
+
+-- the text tells the finding: the number of judged periods, or the first broken one
+pub record IsAudited (sys : SystemView) (budgets : List ℕ) (events : List Event) (status : Status)
+    (text : List ℕ) : Type 0 where
+  pub finding : Finding
+  pub found : IsFinding sys budgets events finding
+  pub status_is : status ≡ finding_status finding
+  pub told : text ≡ audit_text sys budgets finding
+
+-- the answer to a system and the bytes of a trace, and to two files
+abbrev pub AuditsBytes : SystemView → List ℕ → Status → List ℕ → Type 0
+AuditsBytes sys bytes = OnAttempt (tracing sys bytes) (λ events.
+    OnAssigned sys (λ budgets. IsAudited sys budgets events))
+
+abbrev pub Audits : Contents → Status → List ℕ → Type 0
+Audits contents = OnTwoFiles contents AuditsBytes
+
+-- the files spell this system and these events, and these budgets are assigned to it
+pub record IsAuditOf (contents : Contents) (sys : SystemView) (budgets : List ℕ)
+    (events : List Event) : Type 0 where
+  pub spelled : SpellsSystem contents sys (λ bytes. Spells sys (records_of bytes) events)
+  pub assigned : Assigned sys budgets
+
+-- Yes means: the trace gives each VCPU its budget in every period throughout which it could run,
+-- and never more without extra time. Where it does, the answer is yes.
+pub record TellsSatisfied (sys : SystemView) (budgets : List ℕ) (events : List Event)
+    (status : Status) : Type 0 where
+  pub only : status ≡ Yes → Satisfied sys budgets events
+  pub always : Satisfied sys budgets events → status ≡ Yes
+
+abbrev pub AuditMeans : Contents → Status → Type 0
+AuditMeans contents status = (sys : SystemView) (budgets : List ℕ) (events : List Event)
+    → IsAuditOf contents sys budgets events → TellsSatisfied sys budgets events status
+
+-- the files are there, short enough, and spell a system and a trace
+pub record IsTrace (sys : SystemView) (bytes : List ℕ) : Type 0 where
+  pub events : List Event
+  pub spelled : Spells sys (records_of bytes) events
+
+abbrev pub CanAudit : Contents → Type 0
+CanAudit contents = AreReadable contents IsTrace
+
+-- what there is to say of the command
+abbrev pub the_audit : List ℕ → List ℕ → CommandSpec
+the_audit file trace = record {
+  files = file ∷ trace ∷ [];
+  Answers = Audits;
+  Means = λ contents status text. AuditMeans contents status;
+  CanJudge = CanAudit;
+  EndsAs = λ contents. IsVerdict;
+}

@@ -1,0 +1,5 @@
+pub mod Audit
+pub mod Tally
+pub mod Simulate
+pub mod Rtds
+pub mod Isolate
