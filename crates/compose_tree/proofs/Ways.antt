@@ -10,7 +10,6 @@ use Rattle.tree_model.specs.View.{SystemView}
 use Rattle.tree_model.specs.System.{IsSystem, part_at, Stands, is_leaf_at}
 use Rattle.tree_model.specs.Tree.{place_of, same_place, is_child, budget_at, IsNode, node_tasks}
 use Rattle.tree_model.specs.Admission.{NodePasses, AssignedFrom, visited_from, Admitted}
-use Rattle.tree_model.proofs.Children.{same_itself}
 use Rattle.tree_model.proofs.NodeTasks.{leaf_tasks, inner_tasks}
 use Rattle.tree_model.proofs.Parents.{child_stands, same_servers}
 use Rattle.compose_tree.proofs.Settling.{settled_admits, stands_same, passes_same}

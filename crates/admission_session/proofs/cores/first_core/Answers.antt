@@ -1,7 +1,6 @@
-use Rattle.std.proofs.Common.{rules, ◌≡◌, ℕ, ◌<◌, List, length, length-set, set, arith, sym, ◌∙◌, ap, subst}
+use Rattle.std.proofs.Common.{rules, ◌≡◌, ℕ, List, set, arith, sym, subst}
 use Rattle.tree_model.specs.declared.place.Place.TheVariants.{Core, Part}
 use Rattle.tree_model.specs.View.{SystemView}
-use Rattle.tree_model.specs.System.{part_at}
 use Rattle.compose_tree.specs.Kept.{IsKept, IsSettledNode}
 use Rattle.admission_session.specs.Leaves.{moved_to}
 use Rattle.admission_session.proofs.OnCores.{kept_on_core, refused_on_core, leaf_place}

@@ -1,5 +1,5 @@
-use Rattle.std.proofs.Common.{ℕ, ◌<◌, length, length-set, arith, ◌∙◌, ap}
-use Rattle.tree_model.specs.View.{PartView, SystemView}
+use Rattle.std.proofs.Common.{◌<◌, length, ◌∙◌, ap}
+use Rattle.tree_model.specs.View.{SystemView}
 use Rattle.admission_session.specs.Leaves.{moved_to}
 use Rattle.admission_session.proofs.OnCores.{moved_again, refused_more, same_length}
 use Rattle.admission_session.proofs.cores.seek_core.Goals as goal

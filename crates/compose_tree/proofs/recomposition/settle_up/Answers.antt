@@ -1,6 +1,6 @@
 use Rattle.std.proofs.Common.{◌≡◌, ◌<◌, suc, List, length, set, sym, ◌∙◌, ap, subst, arith}
 use Rattle.tree_model.specs.declared.place.Place.{Place}
-use Rattle.tree_model.specs.declared.place.Place.TheVariants.{Core, Part}
+use Rattle.tree_model.specs.declared.place.Place.TheVariants.{Part}
 use Rattle.tree_model.specs.View.{PartView}
 use Rattle.tree_model.specs.System.{part_at}
 use Rattle.tree_model.specs.Tree.{place_of}
