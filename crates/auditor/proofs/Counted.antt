@@ -18,8 +18,8 @@ use Rattle.vcpu_watch.specs.declared.watch.Breach.TheVariants.{Short, Over}
 use Rattle.vcpu_watch.specs.declared.watch.Reservation.{Reservation}
 use Rattle.auditor.specs.Tally.{IsJudged, IsTimeOf, IsTally, tally_at}
 use Rattle.vcpu_watch.specs.Watch.{breach_of, whole_got, whole_breach, first_broken, is_short_breach, is_over_breach, counted, cut_tally, IsTimeBelow, IsTallied, TellsOn, no_tally}
-use Rattle.auditor.specs.Told.{IsTold, TellsOf, reservation_of, state_at}
-use Rattle.auditor.specs.First.{IsFirstOfVcpu, IsSettled}
+use Rattle.auditor.specs.inner.Told.{IsTold, TellsOf, reservation_of, state_at}
+use Rattle.auditor.specs.inner.First.{IsFirstOfVcpu, IsSettled}
 use Rattle.vcpu_watch.proofs.Breaches.{short_breach, over_breach}
 use Rattle.vcpu_watch.proofs.Tallying.{count_true, none_has, least_same, most_same, tallied_one, tallied_same}
 use Rattle.auditor.proofs.Settling.{has_period, ends_by, judged_then, judged_never, period_breach, breaks_so, got_whole, got_cut, whole_is, cut_is, settled_broken}

@@ -13,7 +13,7 @@ use Rattle.trace_file.specs.Rows.{IsAfter}
 use Rattle.trace_file.specs.Rules.{RowsKeep}
 use Rattle.trace_file.proofs.Prefix.{after_same}
 use Rattle.auditor.specs.declared.watches.Watches.{Watches}
-use Rattle.auditor.specs.Watches.{AreWatched, AwaitsEvent}
+use Rattle.auditor.specs.inner.Watches.{AreWatched, AwaitsEvent}
 
 abbrev pub Behind : SystemView → List ℕ → List Event → Watches → Type 0
 Behind sys budgets events s =

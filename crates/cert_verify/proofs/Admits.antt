@@ -17,7 +17,7 @@ use Rattle.tree_model.specs.Tree.{core_bound, core_cycle, budget_at, node_tasks,
 use Rattle.tree_model.specs.Admission.{NodePasses, Admitted, BudgetStands}
 use Rattle.tree_model.proofs.Parents.{node_constrained}
 use Rattle.cert_verify.specs.Proves.{no_node, node_at, AreNodes, IsBudget, HasBudget, budgets_of, ShowsPass, ShowsShort, ShowsLeast, IsShown, NodeProves, Proves}
-use Rattle.cert_verify.specs.Steps.{BudgetsFit, HaveBudgets}
+use Rattle.cert_verify.specs.inner.Steps.{BudgetsFit, HaveBudgets}
 use Rattle.cert_verify.proofs.Shown.{shown_small, shown_passes, shown_least}
 
 -- where parts and cores stand among the nodes

@@ -11,7 +11,7 @@ use Rattle.tree_model.specs.Tree.{node_tasks, node_sched, node_bound, node_cycle
 use Rattle.cert_verify.specs.declared.flaw.Flaw.{Flaw}
 use Rattle.cert_verify.specs.declared.flaw.Flaw.TheVariants.{Nodes, Budget, Cover, Hit, Least, Wide}
 use Rattle.cert_verify.specs.Proves.{node_at, AreNodes, AreHits, ShowsPass, IsShown, NodeProves, Proves, budgets_of}
-use Rattle.cert_verify.specs.Steps.{HaveBudgets, AreProved}
+use Rattle.cert_verify.specs.inner.Steps.{HaveBudgets, AreProved}
 use Rattle.cert_verify.specs.Flaws.{FirstNode, NodeFlaw, NodeFails, HitFails, FirstFalseClaim, FirstFlaw}
 use Rattle.cert_verify.proofs.Shown.{shown_small}
 

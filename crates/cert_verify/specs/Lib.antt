@@ -1,3 +1,3 @@
 pub mod Proves
 pub mod Flaws
-pub mod Steps
+pub mod inner

@@ -4,7 +4,7 @@ ghost use Rattle.tree_model.specs.Tree.{IsNode};
 ghost use Rattle.tree_model.specs.Admission.{Admitted};
 ghost use Rattle.cert_verify.specs.Proves.{nth_place, AreNodes, IsBudget, HasBudget, budgets_of, NodeProves, Proves};
 ghost use Rattle.cert_verify.specs.Flaws.{FirstNode, NodeFails, FirstFlaw};
-ghost use Rattle.cert_verify.specs.Steps.{BudgetsFit, HaveBudgets, AreProved};
+ghost use Rattle.cert_verify.specs.inner.Steps.{BudgetsFit, HaveBudgets, AreProved};
 ghost use Rattle.cert_verify.specs.declared.flaw.Flaw.{Flaw as AnyFlaw};
 
 use crate::Flaw;

@@ -9,7 +9,7 @@ ghost use Rattle.tree_model.specs.Tree.{IsNode, NoLoss};
 ghost use Rattle.compose_tree.specs.Truth.{IsTight, RefusalHolds};
 ghost use Rattle.cert_verify.specs.Proves.{budgets_of, Proves};
 ghost use Rattle.certificate.specs.Made.{ListsPass, ListsLeast, IsCertificate};
-ghost use Rattle.certificate.specs.Steps.{IsMadeAt, AreMade};
+ghost use Rattle.certificate.specs.inner.Steps.{IsMadeAt, AreMade};
 
 use crate::levels::{pass_lists, short_lists};
 use compose_tree::compose;

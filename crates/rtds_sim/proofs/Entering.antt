@@ -14,8 +14,8 @@ use Rattle.release_file.specs.Workload.{row_at, last_row, is_by, is_of, starts, 
 use Rattle.rtds_sim.specs.Rtds.{used, level_at, deadline_at, can_run, is_eligible, goes_before, RtdsEntry}
 use Rattle.rtds_queues.specs.Keys.{goes_first}
 use Rattle.rtds_sim.specs.Printed.{core_of}
-use Rattle.rtds_sim.specs.Running.{AreOn}
-use Rattle.rtds_sim.specs.Accounts.{account_at, account_eligible, level_of, deadline_of, ranked, ranks_before, IsChoice, IsInPeriod, IsAccount, AreBefore}
+use Rattle.rtds_sim.specs.inner.Running.{AreOn}
+use Rattle.rtds_sim.specs.inner.Accounts.{account_at, account_eligible, level_of, deadline_of, ranked, ranks_before, IsChoice, IsInPeriod, IsAccount, AreBefore}
 use Rattle.csv_rows.proofs.Last.{last_by_moment}
 
 -- a part on core c

@@ -19,7 +19,7 @@ use Rattle.std.proofs.Math.Nat.{zero-div}
 use Rattle.std.proofs.lemmas.Nat.{div-mul-add}
 use Rattle.rtds_queues.specs.Keys.{key_at}
 use Rattle.rtds_queues.specs.Queues.{AreQueues}
-use Rattle.rtds_sim.specs.Accounts.{no_account, account_at, holder_at, number_at, account_eligible, left_of, deadline_of, key_of, first_key, end_of, next_key, left_by, gone_on, used_more, period_ended, IsLeft, IsReady}
+use Rattle.rtds_sim.specs.inner.Accounts.{no_account, account_at, holder_at, number_at, account_eligible, left_of, deadline_of, key_of, first_key, end_of, next_key, left_by, gone_on, used_more, period_ended, IsLeft, IsReady}
 
 -- one account is set
 pub account_here : (accounts : List Account) (v : ℕ) (a : Account) → v < length accounts

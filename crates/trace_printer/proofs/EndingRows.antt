@@ -10,7 +10,7 @@ use Rattle.csv.specs.Quoting.{needs_byte}
 use Rattle.csv.specs.Writing.{default_writer, row_text, fields_text, is_blank, needs_quotes, quoted, end_text}
 use Rattle.tree_model.specs.View.{SystemView}
 use Rattle.trace_printer.specs.declared.endings.Ending.{Ending}
-use Rattle.trace_printer.specs.Endings.{IsEnding, AreEndings}
+use Rattle.trace_printer.specs.inner.Endings.{IsEnding, AreEndings}
 use Rattle.slot_model.proofs.Digits.{decimal_digits}
 
 -- an entry more, or another one

@@ -10,7 +10,7 @@ use Rattle.trace_file.specs.declared.event.Event.{Event}
 use Rattle.trace_file.specs.declared.event.What.TheVariants.{End}
 use Rattle.trace_printer.specs.declared.printing.TracePrinter.{TracePrinter}
 use Rattle.trace_file.specs.declared.unit.Unit.{Unit}
-use Rattle.trace_printer.specs.Endings.{FitsWord}
+use Rattle.trace_printer.specs.inner.Endings.{FitsWord}
 use Rattle.trace_printer.specs.Printer.{AllFit, HasPrinted}
 use Rattle.trace_printer.specs.Printing.{header_row, event_row}
 

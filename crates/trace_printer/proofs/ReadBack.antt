@@ -22,7 +22,7 @@ use Rattle.trace_file.specs.declared.event.What.TheVariants.{Start, Wake, Block,
 use Rattle.trace_file.specs.declared.fault.TraceFault.TheVariants.{AfterEnd, BadRow}
 use Rattle.trace_file.specs.declared.unit.Unit.{Unit}
 use Rattle.trace_file.specs.declared.unit.Unit.TheVariants.{Microseconds, Nanoseconds}
-use Rattle.trace_printer.specs.Endings.{FitsWord}
+use Rattle.trace_printer.specs.inner.Endings.{FitsWord}
 use Rattle.trace_file.specs.Events.{event_at, has_ended}
 use Rattle.trace_file.specs.File.{core_place, is_empty, fits_word, is_row, event_of, events_of, what_of, unit_of, rows_of, row_rules, Spells}
 use Rattle.trace_printer.specs.Printer.{AllFit}

@@ -1,3 +1,3 @@
 pub mod Printing
-pub mod Endings
 pub mod Printer
+pub mod inner

@@ -5,7 +5,7 @@ use Rattle.tree_model.specs.View.{SystemView}
 use Rattle.trace_file.specs.declared.event.Event.{Event}
 use Rattle.trace_printer.specs.declared.printing.TracePrinter.{TracePrinter}
 use Rattle.trace_file.specs.declared.unit.Unit.{Unit}
-use Rattle.trace_printer.specs.Endings.{AreEndings, FitsWord}
+use Rattle.trace_printer.specs.inner.Endings.{AreEndings, FitsWord}
 use Rattle.trace_file.specs.Events.{event_at}
 use Rattle.trace_printer.specs.Printing.{header_row, event_row}
 

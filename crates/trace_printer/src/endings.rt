@@ -1,6 +1,6 @@
 ghost use Rattle.std.specs.Prelude.{◌≡◌, ◌∷◌, ◌++◌, [], decimal, IfOk, IfSome, OnOk, List, ℕ};
 ghost use Rattle.csv_rows.specs.Printing.{HasWritten, text_of};
-ghost use Rattle.trace_printer.specs.Endings.{FitsWord, IsEnding, ending_text};
+ghost use Rattle.trace_printer.specs.inner.Endings.{FitsWord, IsEnding, ending_text};
 ghost use Rattle.trace_printer.specs.Printing.{word_of, core_field, vcpu_field};
 ghost use Rattle.trace_file.specs.Rules.{named};
 
@@ -122,7 +122,7 @@ pub struct Endings<'s> {
 
 impl<'s> Endings<'s> {
     ghost use Rattle.std.specs.Prelude.{◌≡◌, ◌++◌, decimal, IfOk, OnOk};
-    ghost use Rattle.trace_printer.specs.Endings.{AreEndings, FitsWord, place_of, ending_text};
+    ghost use Rattle.trace_printer.specs.inner.Endings.{AreEndings, FitsWord, place_of, ending_text};
 
     /// Before the first row.
     pub fn new(alloc: Global, sys: &'s System) -> Result<Endings<'s>, AllocError>

@@ -3,7 +3,7 @@ ghost use Rattle.csv.specs.Writing.{default_writer, row_text};
 ghost use Rattle.csv_rows.specs.Printing.{text_of};
 ghost use Rattle.csv_rows.specs.Reading.{records_of};
 ghost use Rattle.std.specs.List.{list_all};
-ghost use Rattle.trace_printer.specs.Endings.{AreEndings, FitsWord};
+ghost use Rattle.trace_printer.specs.inner.Endings.{AreEndings, FitsWord};
 ghost use Rattle.trace_file.specs.File.{Spells};
 ghost use Rattle.trace_printer.specs.Printing.{is_whole, unit_for, header_row, event_row, printed_rows};
 ghost use Rattle.trace_file.specs.Unit.{scale};

@@ -1,6 +1,6 @@
 use Rattle.std.proofs.Common.{subst, sym}
 use Rattle.trace_file.specs.declared.rows.Rows.{Rows}
-use Rattle.auditor.specs.Watches.{HaveWatched}
+use Rattle.auditor.specs.inner.Watches.{HaveWatched}
 use Rattle.auditor.proofs.Streaming.{memory_or}
 use Rattle.auditor.proofs.verdict.tally_bytes.Goals as goal
 

@@ -1,4 +1,4 @@
-use Rattle.cert_verify.specs.Steps.{HaveBudgets}
+use Rattle.cert_verify.specs.inner.Steps.{HaveBudgets}
 use Rattle.cert_verify.proofs.nodes.check_budgets.Given as goal
 
 abbrev pub invariant-loop-node : goal.invariant-loop-node

@@ -1,4 +1,4 @@
-use Rattle.cert_verify.specs.Steps.{AreProved}
+use Rattle.cert_verify.specs.inner.Steps.{AreProved}
 use Rattle.cert_verify.proofs.nodes.check_nodes.Given as goal
 
 abbrev pub invariant-loop-node : goal.invariant-loop-node

@@ -3,7 +3,7 @@ use Rattle.tree_model.specs.CertificateView.{NodeView, CertificateView}
 use Rattle.std.proofs.Common.{ℕ, List, ◌∙◌, sym, subst, rules, IfOk, ap, Err}
 use Rattle.std.proofs.lemmas.Result.{IfOk-weaker, IfErr-weaker, err_from_is_err_and}
 use Rattle.cert_verify.specs.Proves.{AreNodes, Proves}
-use Rattle.cert_verify.specs.Steps.{BudgetsFit}
+use Rattle.cert_verify.specs.inner.Steps.{BudgetsFit}
 use Rattle.cert_verify.proofs.Admits.{budgets_fit, written_budgets, proves_admits}
 use Rattle.cert_verify.proofs.Failing.{all_proved, one_fails, exactly}
 use Rattle.cert_verify.proofs.OneFlaw.{one_flaw, flaw_answered}

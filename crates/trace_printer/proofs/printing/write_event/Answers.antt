@@ -1,7 +1,7 @@
 use Rattle.std.proofs.Common.{◌≡◌, ◌∷◌, ◌++◌, [], ℕ, List, ◌∙◌, ap, arith, subst, append_assoc}
 use Rattle.std.specs.Prelude.{decimal, OnOk}
 use Rattle.csv.specs.Writing.{default_writer, row_text}
-use Rattle.trace_printer.specs.Endings.{ending_text}
+use Rattle.trace_printer.specs.inner.Endings.{ending_text}
 use Rattle.trace_printer.specs.Printing.{word_of, core_field, vcpu_field, event_row}
 use Rattle.trace_file.specs.Rules.{named}
 use Rattle.trace_printer.proofs.EndingRows.{row_split}

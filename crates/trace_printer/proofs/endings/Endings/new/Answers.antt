@@ -1,6 +1,6 @@
 use Rattle.std.proofs.Common.{◌∙◌, ap, subst, sym, List, Option, None, IfSome, get_or}
 use Rattle.trace_printer.specs.declared.endings.Ending.{Ending}
-use Rattle.trace_printer.specs.Endings.{IsEnding}
+use Rattle.trace_printer.specs.inner.Endings.{IsEnding}
 use Rattle.trace_printer.proofs.EndingRows.{none_push}
 use Rattle.trace_printer.proofs.endings.Endings.new.Goals as goal
 

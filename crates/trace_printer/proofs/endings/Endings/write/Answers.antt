@@ -2,7 +2,7 @@ use Rattle.std.proofs.Common.{ℕ, ◌<◌, List, length, Option, None, IfSome, 
 use Rattle.std.proofs.lemmas.List.{get_or_read}
 use Rattle.std.proofs.lemmas.Result.{on_ok_weaker}
 use Rattle.trace_printer.specs.declared.endings.Ending.{Ending}
-use Rattle.trace_printer.specs.Endings.{IsEnding}
+use Rattle.trace_printer.specs.inner.Endings.{IsEnding}
 use Rattle.trace_printer.proofs.EndingRows.{kept_more}
 use Rattle.trace_printer.proofs.endings.Endings.write.Goals as goal
 

@@ -1,7 +1,7 @@
 use Rattle.std.proofs.Common.{◌∙◌, ◌++◌, ℕ, List, ap, subst, sym}
 use Rattle.csv.specs.Writing.{default_writer, row_text}
 use Rattle.tree_model.specs.View.{SystemView}
-use Rattle.trace_printer.specs.Endings.{AreEndings, FitsWord}
+use Rattle.trace_printer.specs.inner.Endings.{AreEndings, FitsWord}
 use Rattle.trace_printer.specs.Printing.{event_row}
 use Rattle.trace_printer.proofs.Printers.{row_more, fit_more}
 use Rattle.trace_printer.proofs.printing.TracePrinterEventTaker.take.Goals as goal

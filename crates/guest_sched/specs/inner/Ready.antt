@@ -4,9 +4,9 @@ use Rattle.slot_model.specs.declared.job.Job.{Job}
 use Rattle.slot_model.specs.Task.{job_at}
 use Rattle.guest_sched.specs.declared.releases.Release.{Release}
 use Rattle.guest_sched.specs.declared.ready.Ready.{Ready}
-use Rattle.guest_sched.specs.Releases.{release_at}
-use Rattle.guest_sched.specs.Places.{StandsIn, IsAscending}
-use Rattle.guest_sched.specs.Choice.{IsFirstUnbeaten}
+use Rattle.guest_sched.specs.inner.Releases.{release_at}
+use Rattle.guest_sched.specs.inner.Places.{StandsIn, IsAscending}
+use Rattle.guest_sched.specs.inner.Choice.{IsFirstUnbeaten}
 
 -- job j is among the first n releases
 abbrev pub HasCome : List Release → ℕ → ℕ → Type 0

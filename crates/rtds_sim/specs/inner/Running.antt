@@ -9,10 +9,10 @@ use Rattle.release_file.specs.declared.workload.Wake.{Wake as Row}
 use Rattle.release_file.specs.Workload.{row_at}
 use Rattle.rtds_sim.specs.declared.account.Account.{Account}
 use Rattle.rtds_sim.specs.declared.host.Host.{Host}
-use Rattle.rtds_sim.specs.Accounts.{account_at, holder_at, period_ended, IsAccount, AreBefore}
+use Rattle.rtds_sim.specs.inner.Accounts.{account_at, holder_at, period_ended, IsAccount, AreBefore}
 use Rattle.rtds_sim.specs.Printed.{holder_before, holder_left, switch_on}
 use Rattle.rtds_sim.specs.Rtds.{CoreRun}
-use Rattle.rtds_sim.specs.Telling.{told_on}
+use Rattle.rtds_sim.specs.inner.Telling.{told_on}
 
 -- no row behind the first k comes before a slot
 abbrev pub RowsFrom : List Row → ℕ → ℕ → Type 0

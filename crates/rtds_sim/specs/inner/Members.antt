@@ -5,7 +5,7 @@ use Rattle.tree_model.specs.View.{SystemView}
 use Rattle.tree_model.specs.Tree.{is_child}
 use Rattle.rtds_sim.specs.declared.members.Members.{Members}
 use Rattle.rtds_queues.specs.Queues.{place_at}
-use Rattle.rtds_sim.specs.Lists.{list_at}
+use Rattle.rtds_sim.specs.inner.Lists.{list_at}
 
 -- a list has just the numbers below n that pass, each once, in any order
 pub record AreAll (passes : ℕ → Bool) (n : ℕ) (list : List ℕ) : Type 0 where
