@@ -1,6 +1,6 @@
 ghost use Rattle.std.specs.Prelude.{◌≡◌, ◌≢◌, Some, map, option_map, string_bytes, IfOk, IfErr};
 ghost use Rattle.std.specs.Option.{option_copied};
-ghost use Rattle.rt_top.specs.Commands.{choose_of, command_of, command_told, interface_of, one_word, rtds_of, simulate_of, two_words, usage_line, version_of};
+ghost use Rattle.rt_top.specs.Commands.{choose_of, command_of, command_told, forms, forms_from_isolate, forms_from_responses, forms_from_rtds, interface_of, one_word, rtds_of, simulate_of, spelled_by, two_words, usage_line, version_of};
 ghost use Rattle.rt_top.specs.Guests.{guest_number};
 ghost use Rattle.rt_top.specs.Reading.{NamesNoFile};
 ghost use Rattle.rt_top.specs.Steps.{IsSaidTo, CommandTakes};
@@ -61,43 +61,79 @@ pub fn parse(words: &[String]) -> Option<Command<'_>>
     ensures { option_map command_told result ≡ command_of (map string_bytes words.now) }
 {
     let (word, rest) = words.split_first()?;
-    if word.as_str() == "admit" {
+    spelled(word.as_str(), rest)
+}
+
+/// The command of this word, with the words behind it. The forms are looked at in their order, four
+/// by a function.
+fn spelled<'a>(word: &str, rest: &'a [String]) -> Option<Command<'a>>
+    ensures { option_map command_told result
+        ≡ spelled_by forms word.now (map string_bytes rest.now) }
+{
+    if word == "admit" {
         Some(Command::Admit(one_word(rest)?))
-    } else if word.as_str() == "certify" {
+    } else if word == "certify" {
         Some(Command::Certify(one_word(rest)?))
-    } else if word.as_str() == "check" {
+    } else if word == "check" {
         let (file, cert) = two_words(rest)?;
         Some(Command::Check(file, cert))
-    } else if word.as_str() == "simulate" {
+    } else if word == "simulate" {
         simulate_of(rest)
-    } else if word.as_str() == "rtds" {
+    } else {
+        spelled_from_rtds(word, rest)
+    }
+}
+
+fn spelled_from_rtds<'a>(word: &str, rest: &'a [String]) -> Option<Command<'a>>
+    ensures { option_map command_told result
+        ≡ spelled_by forms_from_rtds word.now (map string_bytes rest.now) }
+{
+    if word == "rtds" {
         rtds_of(rest)
-    } else if word.as_str() == "audit" {
+    } else if word == "audit" {
         let (file, trace) = two_words(rest)?;
         Some(Command::Audit(file, trace))
-    } else if word.as_str() == "bulk" {
+    } else if word == "bulk" {
         Some(Command::Bulk(guest_number(one_word(rest)?)?))
-    } else if word.as_str() == "interface" {
+    } else if word == "interface" {
         interface_of(rest)
-    } else if word.as_str() == "responses" {
+    } else {
+        spelled_from_responses(word, rest)
+    }
+}
+
+fn spelled_from_responses<'a>(word: &str, rest: &'a [String]) -> Option<Command<'a>>
+    ensures { option_map command_told result
+        ≡ spelled_by forms_from_responses word.now (map string_bytes rest.now) }
+{
+    if word == "responses" {
         Some(Command::Responses(one_word(rest)?))
-    } else if word.as_str() == "choose" {
+    } else if word == "choose" {
         choose_of(rest)
-    } else if word.as_str() == "session" {
+    } else if word == "session" {
         let (file, script) = two_words(rest)?;
         Some(Command::Session(file, script))
-    } else if word.as_str() == "place" {
+    } else if word == "place" {
         let (file, guests) = two_words(rest)?;
         Some(Command::Place(file, guests))
-    } else if word.as_str() == "isolate" {
+    } else {
+        spelled_from_isolate(word, rest)
+    }
+}
+
+fn spelled_from_isolate<'a>(word: &str, rest: &'a [String]) -> Option<Command<'a>>
+    ensures { option_map command_told result
+        ≡ spelled_by forms_from_isolate word.now (map string_bytes rest.now) }
+{
+    if word == "isolate" {
         Some(Command::Isolate(one_word(rest)?))
-    } else if word.as_str() == "slack" {
+    } else if word == "slack" {
         let (file, part) = two_words(rest)?;
         Some(Command::Slack(file, part))
-    } else if word.as_str() == "tally" {
+    } else if word == "tally" {
         let (file, trace) = two_words(rest)?;
         Some(Command::Tally(file, trace))
-    } else if word.as_str() == "version" {
+    } else if word == "version" {
         version_of(rest)
     } else {
         None
