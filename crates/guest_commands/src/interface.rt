@@ -3,7 +3,9 @@ ghost use Rattle.guest_commands.specs.Interface.{least_status, least_text, AtDea
 ghost use Rattle.command_steps.specs.Steps.{IsJudged};
 
 use crate::periods::Period;
-use command_steps::{Answer, Ending, JudgeOne, Status, bad_file, find_leaf, leaf_tasks, part_at, refuse};
+use command_steps::{
+    Answer, Ending, JudgeOne, Status, bad_file, find_leaf, leaf_tasks, part_at, refuse,
+};
 use edp_supply::least_explicit;
 use least_budget::Least;
 use rt_report::{FileFault, interface_text};
