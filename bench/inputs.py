@@ -157,7 +157,52 @@ def servers():
     return System(cores_of(3), [Part(f"v{i}", f"cpu{i % 3}", "edf", 50 + 10 * (i % 6), tasks, 2 + i % 2, i % 4 == 0) for i in range(48)])
 
 
+def host(guests):
+    """So many guests of six tasks with open budgets, eight on a core at the most."""
+    tasks = tasks_of([(20000, 150), (30000, 200), (40000, 300), (60000, 250), (80000, 400), (120000, 500)])
+    cores = max(1, -(-guests // 8))
+    parts = [Part(f"g{i}", f"cpu{i % cores}", ["edf", "rm"][i % 2], 1000, tasks) for i in range(guests)]
+    return System(cores_of(cores), parts)
+
+
+def busy(tasks, sched):
+    """One guest of so many tasks, whose periods share their factors and which ask for three quarters of a core together."""
+    periods = [4000, 6000, 8000, 12000, 16000, 24000, 48000]
+    numbers = [(100 * periods[i % 7], max(1, 75 * periods[i % 7] // tasks)) for i in range(tasks)]
+    return one_leaf(1000, 0, tasks_of(numbers), sched)
+
+
 # Files beside a system
+
+
+EDITS = "op,part,parent,sched,period,budget,tasks\n"
+
+
+def added(name, parent, period, spelt):
+    return f"add,{name},{parent},edf,{period},,{spelt}\n"
+
+
+def spelt(period, work):
+    """A task without jitter that is due at its period's end, as a script spells it."""
+    return f"t:{period}:{period}:0:{work}"
+
+
+def script(rows, guests=97, cores=16):
+    """Edits of `host`: a guest is changed, one is added, and it is taken out again, in turn."""
+
+    def row(turn, k):
+        if turn == 0:
+            return f"change,g{k % guests},,edf,1000,,{spelt(20000 + k % 5000, 150 + k % 50)}\n"
+        if turn == 1:
+            return added(f"n{k}", f"cpu{k % cores}", 2000, spelt(40000, 100 + k % 9))
+        return f"remove,n{k},,,,,\n"
+
+    return EDITS + "".join(row(i % 3, i // 3) for i in range(rows))
+
+
+def guests(count):
+    """Guests that look for a core, each with one task."""
+    return EDITS + "".join(added(f"n{k}", "", 1000 + k % 7, spelt(20000 + k, 700 + k % 90)) for k in range(count))
 
 
 def releases(system, slots, early=False):

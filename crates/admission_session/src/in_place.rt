@@ -1,6 +1,6 @@
 ghost use Rattle.std.specs.Prelude.{◌≡◌, ◌-◌, ◌<◌, ◌≤◌, All, length, map, IfOk, IfErr, vec_capacity, vec_len};
 ghost use Rattle.tree_model.specs.System.{IsSystem, part_at};
-ghost use Rattle.admission_session.specs.Leaves.{CanRise, fallen_part, risen, risen_part, with_changed, with_leaf, with_leaf_back, without_last, without_leaf};
+ghost use Rattle.admission_session.specs.Leaves.{CanRise, fallen_part, moved_to, risen, risen_part, with_changed, with_leaf, with_leaf_back, without_last, without_leaf};
 
 use crate::copies::fallen;
 use std::mem;
@@ -38,6 +38,16 @@ pub fn replace_leaf(sys: &mut System, q: usize, leaf: Part) -> Part
     ensures was { result ≡ part_at sys.old q }
 {
     mem::replace(&mut sys.parts[q], leaf)
+}
+
+/// Puts part `q` on core `c`.
+pub fn move_to(sys: &mut System, q: usize, c: u32)
+    requires is_part { q < length sys.old.parts }
+    requires system { IsSystem (moved_to sys.old q c) }
+    ensures { sys.new ≡ moved_to sys.old q c }
+{
+    let part = &mut sys.parts[q];
+    part.parent = Parent::Core(c);
 }
 
 /// Takes part `q` out, and lets the parts behind it fall by one place.

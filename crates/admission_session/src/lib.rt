@@ -3,6 +3,7 @@
 
 mod answer;
 mod copies;
+mod cores;
 mod edited;
 mod fault;
 mod find;

@@ -116,7 +116,7 @@ pub fn try_removal(
 }
 
 /// The budgets of a plan, and one more.
-fn more_budgets(alloc: Global, plan: &Plan) -> Result<Vec<u64>, AllocError>
+pub fn more_budgets(alloc: Global, plan: &Plan) -> Result<Vec<u64>, AllocError>
     ensures { IfOk result (λ budgets. budgets.items ≡ plan.now ++ 1 ∷ []) }
 {
     let mut budgets = Vec::from_slice(alloc, plan.budgets())?;

@@ -16,7 +16,7 @@ use Rattle.command_steps.specs.declared.status.Status.TheVariants.{Yes, No}
 use Rattle.admit_commands.specs.Admit.{MeansOfSystem}
 use Rattle.tree_model.specs.CertificateView.{NodeView}
 use Rattle.cert_reader.specs.CertificateFile.{certificate_of}
-use Rattle.cert_reader.specs.Proves.{budgets_of, Proves}
+use Rattle.cert_verify.specs.Proves.{budgets_of, Proves}
 use Rattle.admit_commands.specs.Certify.{IsProof, CertificateMeans}
 
 -- a yes tells budgets that admit the system, that lose no job, and that can't be smaller at a

@@ -8,7 +8,7 @@ use Rattle.tree_model.specs.Admission.{Admitted, FirstRefusal}
 use Rattle.compose_tree.specs.Truth.{IsTight}
 use Rattle.cert_reader.specs.CertificateFile.{certificate_of}
 use Rattle.cert_reader.specs.Printed.{certificate_text}
-use Rattle.cert_reader.specs.Proves.{budgets_of, Proves}
+use Rattle.cert_verify.specs.Proves.{budgets_of, Proves}
 use Rattle.certificate.specs.Made.{IsCertificate}
 use Rattle.system_file.specs.SystemFile.{system_of}
 use Rattle.rt_report.specs.Refusal.{refusal_text}

@@ -3,10 +3,10 @@ use Rattle.std.specs.Prelude.{◌≡◌, ℕ, List, [], ◌∷◌, None, Ok, Err
 use Rattle.tree_model.specs.CertificateView.{NodeView}
 use Rattle.tree_model.specs.View.{SystemView}
 use Rattle.cert_reader.specs.declared.fault.CertFault.{CertFault}
-use Rattle.cert_reader.specs.declared.flaw.Flaw.{Flaw}
+use Rattle.cert_verify.specs.declared.flaw.Flaw.{Flaw}
 use Rattle.cert_reader.specs.CertificateFile.{certificate_of}
-use Rattle.cert_reader.specs.Proves.{Proves}
-use Rattle.cert_reader.specs.Flaws.{FirstFlaw}
+use Rattle.cert_verify.specs.Proves.{Proves}
+use Rattle.cert_verify.specs.Flaws.{FirstFlaw}
 use Rattle.rt_report.specs.declared.fault.FileFault.TheVariants.{Cert}
 use Rattle.rt_report.specs.Check.{check_text}
 use Rattle.rt_report.specs.Fault.{fault_text}

@@ -4,7 +4,8 @@ ghost use Rattle.command_steps.specs.Attempt.{IsRefused};
 ghost use Rattle.admit_commands.specs.Check.{spelling, ChecksNodes, ChecksBytes, the_check};
 ghost use Rattle.command_steps.specs.Steps.{IfAnswered, EndsJudged};
 
-use cert_reader::{CertFault, read_certificate, verify};
+use cert_reader::{CertFault, read_certificate};
+use cert_verify::verify;
 use command_steps::{Answer, Ending, JudgeTwo, Status, bad_file};
 use rt_report::{FileFault, check_text};
 use std::alloc::{AllocError, Global};

@@ -9,19 +9,19 @@ use Rattle.tree_model.specs.View.{SystemView}
 use Rattle.trace_file.specs.declared.event.Event.{Event}
 use Rattle.trace_file.specs.Events.{last_among, starts, moment_of, start_of, end_of, is_started}
 use Rattle.trace_file.specs.Periods.{period_of, running, blocked, count_between, begins, is_clear, is_judged, got_in, HasPeriod, IsShort, IsOver}
-use Rattle.auditor.specs.declared.tally.Tally.{Tally}
-use Rattle.auditor.specs.declared.watch.State.{State}
-use Rattle.auditor.specs.declared.watch.Watch.{Watch}
-use Rattle.auditor.specs.declared.watch.Broken.{Broken}
-use Rattle.auditor.specs.declared.watch.Breach.{Breach}
-use Rattle.auditor.specs.declared.watch.Breach.TheVariants.{Short, Over}
-use Rattle.auditor.specs.declared.watch.Reservation.{Reservation}
-use Rattle.auditor.specs.Tally.{IsJudged, IsTimeOf, IsTally, no_tally, tally_at}
-use Rattle.auditor.specs.Watch.{breach_of, whole_got, whole_breach, first_broken, is_short_breach, is_over_breach, counted, cut_tally, IsTimeBelow, IsTallied, TellsOn}
-use Rattle.auditor.specs.Told.{IsTold, TellsOf, reservation_of, state_at}
-use Rattle.auditor.specs.First.{IsFirstOfVcpu, IsSettled}
-use Rattle.auditor.proofs.Breaches.{short_breach, over_breach}
-use Rattle.auditor.proofs.Tallying.{count_true, none_has, least_same, most_same, tallied_one, tallied_same}
+use Rattle.vcpu_watch.specs.declared.tally.Tally.{Tally}
+use Rattle.vcpu_watch.specs.declared.watch.State.{State}
+use Rattle.vcpu_watch.specs.declared.watch.Watch.{Watch}
+use Rattle.vcpu_watch.specs.declared.watch.Broken.{Broken}
+use Rattle.vcpu_watch.specs.declared.watch.Breach.{Breach}
+use Rattle.vcpu_watch.specs.declared.watch.Breach.TheVariants.{Short, Over}
+use Rattle.vcpu_watch.specs.declared.watch.Reservation.{Reservation}
+use Rattle.auditor.specs.Tally.{IsJudged, IsTimeOf, IsTally, tally_at}
+use Rattle.vcpu_watch.specs.Watch.{breach_of, whole_got, whole_breach, first_broken, is_short_breach, is_over_breach, counted, cut_tally, IsTimeBelow, IsTallied, TellsOn, no_tally}
+use Rattle.auditor.specs.inner.Told.{IsTold, TellsOf, reservation_of, state_at}
+use Rattle.auditor.specs.inner.First.{IsFirstOfVcpu, IsSettled}
+use Rattle.vcpu_watch.proofs.Breaches.{short_breach, over_breach}
+use Rattle.vcpu_watch.proofs.Tallying.{count_true, none_has, least_same, most_same, tallied_one, tallied_same}
 use Rattle.auditor.proofs.Settling.{has_period, ends_by, judged_then, judged_never, period_breach, breaks_so, got_whole, got_cut, whole_is, cut_is, settled_broken}
 
 short_of : (o : Option Breach) → is_short_breach o ≡ true → o ≡ Some Short

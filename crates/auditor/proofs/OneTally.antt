@@ -11,9 +11,11 @@ use Rattle.tree_model.specs.System.{IsSystem}
 use Rattle.trace_file.specs.declared.event.Event.{Event}
 use Rattle.trace_file.specs.Events.{start_of, end_of}
 use Rattle.trace_file.specs.Periods.{period_of, blocked, begins, is_clear, is_judged, judged_of, judged_periods}
-use Rattle.auditor.specs.declared.tally.Tally.{Tally}
-use Rattle.auditor.specs.Tally.{IsNumberOf, IsLeastOf, IsMostOf, IsJudged, IsTally, no_tally, tally_at, AreTallies}
-use Rattle.auditor.proofs.Tallying.{count_alike, count_same, none_has}
+use Rattle.vcpu_watch.specs.declared.tally.Tally.{Tally}
+use Rattle.auditor.specs.Tally.{IsJudged, IsTally, tally_at, AreTallies}
+use Rattle.vcpu_watch.specs.Watch.{no_tally}
+use Rattle.vcpu_watch.specs.Numbers.{IsNumberOf, IsLeastOf, IsMostOf}
+use Rattle.vcpu_watch.proofs.Tallying.{count_alike, count_same, none_has}
 
 -- the numbers below a limit that pass a test, and no others
 clip : (ℕ → Bool) → ℕ → ℕ → Bool

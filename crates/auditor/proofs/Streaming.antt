@@ -1,16 +1,19 @@
 -- The watches behind the events so far, whatever comes behind these.
-use Rattle.std.proofs.Common.{◌≡◌, ℕ, ◌+◌, List, [], ◌∷◌, ◌++◌, length, sym, subst, arith}
+use Rattle.std.proofs.Common.{◌≡◌, ◌⊎◌, inl, ℕ, ◌+◌, List, [], ◌∷◌, ◌++◌, length, sym, subst, arith}
 use Rattle.std.proofs.lemmas.List.{append_assoc, append-nil, length-append}
 use Rattle.std.proofs.Math.Seq.{get_or-append_seam}
+use Rattle.std.specs.Prelude.{Result, Ok, Err, IfErr}
 use Rattle.tree_model.specs.View.{SystemView}
 use Rattle.trace_file.specs.declared.event.Event.{Event}
 use Rattle.trace_file.specs.declared.event.What.TheVariants.{End}
+use Rattle.trace_file.specs.declared.fault.TraceFault.{TraceFault}
+use Rattle.trace_file.specs.declared.fault.TraceFault.TheVariants.{NoMemory}
 use Rattle.trace_file.specs.declared.rows.Rows.{Rows}
 use Rattle.trace_file.specs.Rows.{IsAfter}
 use Rattle.trace_file.specs.Rules.{RowsKeep}
 use Rattle.trace_file.proofs.Prefix.{after_same}
 use Rattle.auditor.specs.declared.watches.Watches.{Watches}
-use Rattle.auditor.specs.Watches.{AreWatched, AwaitsEvent}
+use Rattle.auditor.specs.inner.Watches.{AreWatched, AwaitsEvent}
 
 abbrev pub Behind : SystemView → List ℕ → List Event → Watches → Type 0
 Behind sys budgets events s =
@@ -49,3 +52,9 @@ pub behind_all : (sys : SystemView) (budgets : List ℕ) (events : List Event) (
 behind_all sys budgets events s behind keep =
     subst (λ (z : List Event). AreWatched sys budgets z (length events) s) (append-nil events)
     (behind [] (subst (λ (z : List Event). RowsKeep sys z (length z)) (sym (append-nil events)) keep))
+
+-- where nothing fails but memory
+pub memory_or : {T : Type 0} (r : Result T TraceFault) (P : TraceFault → Type 0) → IfErr r (λ fault. fault ≡ NoMemory)
+    → IfErr r (λ fault. (fault ≡ NoMemory) ⊎ P fault)
+memory_or (Ok t) P memory = tt
+memory_or (Err fault) P memory = inl memory

@@ -15,9 +15,9 @@ use Rattle.trace_file.specs.declared.event.What.{What}
 use Rattle.trace_file.specs.declared.event.What.TheVariants.{Start, Wake, Block, Run, Stop, End}
 use Rattle.trace_file.specs.Events.{start_of}
 use Rattle.trace_file.specs.Periods.{blocked, is_clear, is_judged, got_in, HasPeriod, IsShort, IsOver}
-use Rattle.auditor.specs.declared.tally.Tally.{Tally}
+use Rattle.vcpu_watch.specs.declared.tally.Tally.{Tally}
 use Rattle.auditor.specs.Tally.{IsJudged, IsTally}
-use Rattle.auditor.proofs.Tallying.{count_true}
+use Rattle.vcpu_watch.proofs.Tallying.{count_true}
 use Rattle.auditor.proofs.OneTally.{one_tally}
 
 abbrev host : SystemView

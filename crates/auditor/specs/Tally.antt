@@ -1,6 +1,5 @@
 -- What is counted of the periods of a VCPU in a whole trace. Times are nanoseconds.
-use Rattle.std.specs.Prelude.{◌≡◌, ℕ, ◌<◌, ◌≤◌, Bool, true, List, length, slice_index_or, Option, Some, None}
-use Rattle.slot_model.specs.Slots.{count_below}
+use Rattle.std.specs.Prelude.{◌≡◌, ℕ, ◌<◌, true, List, length, slice_index_or}
 use Rattle.csv_rows.specs.Reading.{records_of}
 use Rattle.tree_model.specs.View.{SystemView}
 use Rattle.trace_file.specs.declared.event.Event.{Event}
@@ -8,35 +7,11 @@ use Rattle.trace_file.specs.Events.{end_of}
 use Rattle.trace_file.specs.File.{Spells}
 use Rattle.trace_file.specs.Rules.{Kept}
 use Rattle.trace_file.specs.Periods.{period_of, blocked, is_judged, got_in, HasPeriod, IsShort, IsOver}
-use Rattle.auditor.specs.declared.tally.Tally.{Tally}
+use Rattle.vcpu_watch.specs.declared.tally.Tally.{Tally}
+use Rattle.vcpu_watch.specs.Numbers.{IsNumberOf, IsLeastOf, IsMostOf}
+use Rattle.vcpu_watch.specs.Watch.{no_tally}
 use Rattle.auditor.specs.declared.finding.Finding.{Finding}
 use Rattle.auditor.specs.Finding.{IsFinding}
-
--- So many numbers have a property: a test tells which ones below a limit have it, and no other has.
-pub record IsNumberOf (has : ℕ → Type 0) (n : ℕ) : Type 0 where
-  pub test : ℕ → Bool
-  pub limit : ℕ
-  pub have : (k : ℕ) → k < limit → test k ≡ true → has k
-  pub pass : (k : ℕ) → has k → (k < limit) × (test k ≡ true)
-  pub count : n ≡ count_below test limit
-
--- the least of the numbers that have a property, or none where none has it
-pub record IsLeast (has : ℕ → Type 0) (x : ℕ) : Type 0 where
-  pub is : has x
-  pub least : (y : ℕ) → has y → x ≤ y
-
-abbrev pub IsLeastOf : (ℕ → Type 0) → Option ℕ → Type 0
-IsLeastOf has None = (x : ℕ) → has x → ⊥
-IsLeastOf has (Some x) = IsLeast has x
-
--- and the greatest
-pub record IsMost (has : ℕ → Type 0) (x : ℕ) : Type 0 where
-  pub is : has x
-  pub most : (y : ℕ) → has y → y ≤ x
-
-abbrev pub IsMostOf : (ℕ → Type 0) → Option ℕ → Type 0
-IsMostOf has None = (x : ℕ) → has x → ⊥
-IsMostOf has (Some x) = IsMost has x
 
 -- period k of VCPU v, started at f, is judged
 pub record IsJudged (sys : SystemView) (events : List Event) (v f k : ℕ) : Type 0 where
@@ -62,9 +37,6 @@ pub record IsTally (sys : SystemView) (budgets : List ℕ) (events : List Event)
   pub over : IsNumberOf (λ k. (f : ℕ) × IsOver sys budgets events v f k) tally.over
   pub least : IsLeastOf (IsTimeOf sys events v (IsJudged sys events v)) tally.least
   pub most : IsMostOf (IsTimeOf sys events v (HasPeriod sys events v)) tally.most
-
-abbrev pub no_tally : Tally
-no_tally = record { begun = 0; judged = 0; short = 0; over = 0; least = None; most = None }
 
 abbrev pub tally_at : List Tally → ℕ → Tally
 tally_at tallies v = slice_index_or tallies v no_tally

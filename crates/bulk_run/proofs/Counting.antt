@@ -18,9 +18,9 @@ use Rattle.tree_model.specs.declared.place.Place.TheVariants.{Core}
 use Rattle.tree_model.specs.Tree.{server_tasks, server_jobs, run_at, budget_at}
 use Rattle.tree_model.specs.System.{own_tasks_at}
 use Rattle.tree_model.specs.Releases.{jobs_at}
-use Rattle.server_sched.specs.NodeView.{NodeView, TreeView}
-use Rattle.server_sched.specs.TreeSpans.{node_at, runs_of, AreTreeSpans}
-use Rattle.server_sched.proofs.TreeNodes.{run_here}
+use Rattle.tree_spans.specs.NodeView.{NodeView, TreeView}
+use Rattle.tree_spans.specs.TreeSpans.{node_at, runs_of, AreTreeSpans}
+use Rattle.tree_spans.proofs.TreeNodes.{run_here}
 use Rattle.bulk_host.specs.Host.{guest_budget, bulk_host, bulk_budgets}
 use Rattle.bulk_host.proofs.Servers.{budget_here}
 use Rattle.bulk_host.proofs.Systems.{cores-many, guests-many}

@@ -18,13 +18,13 @@ use Rattle.tree_model.specs.Releases.{jobs_at, AreReleases}
 use Rattle.tree_model.specs.FirstTree.{FirstTree}
 use Rattle.tree_model.specs.Plans.{IsPlan}
 use Rattle.tree_model.proofs.InRange.{assigned_is_plan}
-use Rattle.server_sched.specs.NodeView.{TreeView}
+use Rattle.tree_spans.specs.NodeView.{TreeView}
 use Rattle.server_sched.specs.declared.supplies.Pattern.TheVariants.{Early}
 use Rattle.server_sched.specs.Patterns.{pattern_slot, pattern_slots}
-use Rattle.server_sched.specs.TreeSpans.{node_at, runs_of, AreFewJobs, AreTreeSpans}
-use Rattle.server_sched.proofs.Lists.{few_in_reach}
-use Rattle.server_sched.proofs.TreeNodes.{run_here}
-use Rattle.server_sched.proofs.Nodes.{first_released}
+use Rattle.tree_spans.specs.TreeSpans.{node_at, runs_of, AreFewJobs, AreTreeSpans}
+use Rattle.tree_spans.proofs.Lists.{few_in_reach}
+use Rattle.tree_spans.proofs.TreeNodes.{run_here}
+use Rattle.tree_spans.proofs.Nodes.{first_released}
 use Rattle.bulk_host.specs.Host.{guest_period, cores_for, bulk_host, bulk_budgets}
 use Rattle.bulk_host.proofs.LeafBudgets.{tasks_of, constrained_of}
 use Rattle.bulk_host.proofs.Systems.{core_here, guest_here, cores-many, guests-many, host_is_system}

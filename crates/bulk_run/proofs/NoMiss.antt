@@ -27,7 +27,7 @@ use Rattle.tree_model.proofs.StartedTrees.{jobs_at_zero, started_of_permitted}
 use Rattle.compose_tree.proofs.Sound.{admitted_no_loss}
 use Rattle.server_sched.specs.declared.supplies.Pattern.TheVariants.{Early}
 use Rattle.server_sched.specs.Patterns.{pattern_slot, pattern_slots}
-use Rattle.server_sched.specs.TreeCounts.{NoneMisses}
+use Rattle.tree_spans.specs.TreeCounts.{NoneMisses}
 use Rattle.bulk_host.specs.Host.{cores_for, bulk_host}
 use Rattle.bulk_host.proofs.Systems.{core_here, cores-many, guests-many, host_is_system}
 use Rattle.bulk_run.specs.declared.counts.BulkCounts.{BulkCounts}

@@ -5,10 +5,10 @@ use Rattle.slot_model.specs.Task.{job_at}
 use Rattle.slot_model.specs.Miss.{HoldsReleased}
 use Rattle.guest_sched.specs.declared.spans.Span.{Span}
 use Rattle.guest_sched.specs.Spans.{AreSpans, run_of}
-use Rattle.server_sched.specs.NodeView.{NodeView}
+use Rattle.tree_spans.specs.NodeView.{NodeView}
 use Rattle.tree_model.specs.FirstTree.{FirstTree}
 use Rattle.tree_model.specs.Releases.{jobs_at}
-use Rattle.server_sched.specs.TreeSpans.{node_at}
+use Rattle.tree_spans.specs.TreeSpans.{node_at}
 use Rattle.bulk_host.specs.Host.{bulk_host, bulk_budgets}
 use Rattle.bulk_run.specs.declared.counts.BulkCounts.{BulkCounts}
 use Rattle.bulk_run.specs.Summary.{bulk_slots, bulk_supplies, bulk_jobs, counts_in}

@@ -3,7 +3,7 @@ ghost use Rattle.slot_model.specs.Slots.{sum_below};
 ghost use Rattle.guest_sched.specs.Spans.{run_of};
 ghost use Rattle.span_counts.specs.Pending.{pairs_pending};
 ghost use Rattle.tree_model.specs.Releases.{jobs_at};
-ghost use Rattle.server_sched.specs.TreeSpans.{node_at, runs_of, AreTreeSpans};
+ghost use Rattle.tree_spans.specs.TreeSpans.{node_at, runs_of, AreTreeSpans};
 ghost use Rattle.bulk_host.specs.Host.{bulk_host, bulk_budgets};
 ghost use Rattle.bulk_run.specs.Summary.{bulk_slots, bulk_supplies, bulk_jobs as jobs_of_host, counts_in, AreBulkCounts};
 ghost use Rattle.bulk_run.specs.Steps.{IsGuestRun, AreGuestRuns, AreHostCounts, AreBelow, times, plus};

@@ -10,7 +10,7 @@ use Rattle.serde_json.specs.Written.{compact_text, items_text, members_text}
 use Rattle.tree_model.specs.declared.place.Place.{Place}
 use Rattle.tree_model.specs.declared.place.Place.TheVariants.{Core, Part}
 use Rattle.tree_model.specs.CertificateView.{NodeView}
-use Rattle.cert_reader.specs.Proves.{no_node, node_at}
+use Rattle.cert_verify.specs.Proves.{no_node, node_at}
 use Rattle.cert_reader.specs.Printed.{items_from, number_value, written_value, witness_value, kind_text, place_number, node_value, certificate_value, certificate_text, IsBelow, AreBelow, IsInRange, AreInRange}
 use Rattle.cert_reader.specs.Text.{behind, listed, quoted_number, witness_text, flag_text, place_text, node_text}
 

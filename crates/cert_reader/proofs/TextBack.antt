@@ -18,7 +18,7 @@ use Rattle.tree_model.specs.declared.place.Place.{Place}
 use Rattle.tree_model.specs.declared.place.Place.TheVariants.{Core, Part}
 use Rattle.tree_model.specs.CertificateView.{NodeView}
 use Rattle.cert_reader.specs.Printed.{items_from, number_value, written_value, witness_value, kind_text, place_number, node_value, certificate_value, certificate_text, IsBelow, IsInRange}
-use Rattle.cert_reader.specs.Proves.{no_node, node_at}
+use Rattle.cert_verify.specs.Proves.{no_node, node_at}
 use Rattle.cert_reader.specs.CertificateFile.{certificate_of}
 use Rattle.cert_reader.proofs.Newline.{tokens_newline}
 use Rattle.cert_reader.proofs.ReadBack.{reads_back}

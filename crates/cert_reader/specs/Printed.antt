@@ -5,7 +5,7 @@ use Rattle.serde_json.specs.Written.{compact_text}
 use Rattle.tree_model.specs.declared.place.Place.{Place}
 use Rattle.tree_model.specs.declared.place.Place.TheVariants.{Core, Part}
 use Rattle.tree_model.specs.CertificateView.{NodeView}
-use Rattle.cert_reader.specs.Proves.{node_at}
+use Rattle.cert_verify.specs.Proves.{node_at}
 use Rattle.cert_reader.specs.CertificateFile.{certificate_of}
 
 -- an array of the values of a list's elements

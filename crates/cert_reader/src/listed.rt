@@ -1,7 +1,6 @@
 ghost use Rattle.std.specs.Prelude.{◌^◌, decimal, IfSome};
 ghost use Rattle.cert_reader.specs.Printed.{AreBelow};
-ghost use Rattle.cert_reader.specs.Steps.{Stands};
-ghost use Rattle.cert_reader.specs.Text.{listed, quoted_number};
+ghost use Rattle.cert_reader.specs.Text.{listed, quoted_number, Stands};
 
 use crate::numerals::{behind_byte, quoted_at, whole_at};
 use std::alloc::Global;

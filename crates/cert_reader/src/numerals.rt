@@ -1,6 +1,5 @@
 ghost use Rattle.std.specs.Prelude.{◌+◌, ◌^◌, ◌<◌, ◌≤◌, [], ◌∷◌, length, decimal, IfSome};
-ghost use Rattle.cert_reader.specs.Steps.{Stands};
-ghost use Rattle.cert_reader.specs.Text.{quoted_number};
+ghost use Rattle.cert_reader.specs.Text.{quoted_number, Stands};
 
 /// The greatest number that takes one digit more within 128 bits, whichever digit it is.
 const MOST: u128 = (u128::MAX - 9) / 10;

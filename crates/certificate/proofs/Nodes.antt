@@ -14,10 +14,10 @@ use Rattle.tree_model.specs.Tree.{core_budget, budget_at, IsNode, node_tasks, no
 use Rattle.tree_model.specs.NodeSupply.{node_budget}
 use Rattle.tree_model.specs.Admission.{Admitted, BudgetStands}
 use Rattle.tree_model.proofs.InRange.{admitted_in_period}
-use Rattle.cert_reader.specs.Proves.{no_node, node_at, nth_place, AreNodes, IsBudget, budgets_of}
-use Rattle.cert_reader.proofs.Admits.{budget_here, one_budget_each}
+use Rattle.cert_verify.specs.Proves.{no_node, node_at, nth_place, AreNodes, IsBudget, budgets_of}
+use Rattle.cert_verify.proofs.Admits.{budget_here, one_budget_each}
 use Rattle.certificate.specs.Made.{ListsPass, ListsLeast, IsMade, IsCertificate}
-use Rattle.certificate.specs.Steps.{IsMadeAt, AreMade}
+use Rattle.certificate.specs.inner.Steps.{IsMadeAt, AreMade}
 
 -- a computed budget is the least
 pub computed_least : (sys : SystemView) (budgets : List ℕ) → Admitted sys budgets → (q : ℕ) → q < length sys.parts

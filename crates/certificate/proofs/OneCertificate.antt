@@ -21,8 +21,8 @@ use Rattle.tree_model.specs.View.{SystemView}
 use Rattle.tree_model.specs.System.{IsSystem, core_at}
 use Rattle.tree_model.specs.Tree.{node_tasks, node_sched, node_cycle, node_bound, given_budget, core_budget, budget_at}
 use Rattle.tree_model.proofs.Unique.{one_admission}
-use Rattle.cert_reader.specs.Proves.{no_node, node_at, IsBudget, budgets_of}
-use Rattle.cert_reader.proofs.Admits.{budget_here, proves_admits}
+use Rattle.cert_verify.specs.Proves.{no_node, node_at, IsBudget, budgets_of}
+use Rattle.cert_verify.proofs.Admits.{budget_here, proves_admits}
 use Rattle.certificate.specs.Made.{IsBackwardCover, AreLeastHits, ListsPass, ListsShort, ListsLeast, IsMade, IsCertificate}
 use Rattle.certificate.proofs.Shows.{certificate_proves}
 

@@ -13,7 +13,7 @@ use Rattle.fp_test.proofs.FallSteps.{falls_chain}
 use Rattle.tree_model.specs.CertificateView.{NodeView}
 use Rattle.tree_model.specs.View.{SystemView}
 use Rattle.tree_model.specs.Tree.{node_tasks, node_sched, node_cycle, node_bound}
-use Rattle.cert_reader.specs.Proves.{node_at, AreHits, IsChainOf, ShowsPass, ShowsShort, ShowsLeast, NodeProves, Proves, budgets_of}
+use Rattle.cert_verify.specs.Proves.{node_at, AreHits, IsChainOf, ShowsPass, ShowsShort, ShowsLeast, NodeProves, Proves, budgets_of}
 use Rattle.certificate.specs.Made.{AreLeastHits, IsFirstTask, ListsPass, ListsShort, ListsLeast, IsMade, IsCertificate}
 
 -- the least hits are hits

@@ -10,7 +10,7 @@ use Rattle.fp_test.specs.Falls.{AreFalls}
 use Rattle.tree_model.specs.CertificateView.{NodeView}
 use Rattle.tree_model.specs.View.{SystemView}
 use Rattle.tree_model.specs.Tree.{node_tasks, node_sched, node_cycle, node_bound}
-use Rattle.cert_reader.specs.Proves.{node_at, AreNodes, HasBudget, budgets_of}
+use Rattle.cert_verify.specs.Proves.{node_at, AreNodes, HasBudget, budgets_of}
 
 -- the cover of the walk backwards from the horizon
 pub record IsBackwardCover

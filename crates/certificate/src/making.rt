@@ -7,9 +7,9 @@ ghost use Rattle.tree_model.specs.declared.system.TheConstants.{MAX_PARTS};
 ghost use Rattle.tree_model.specs.NodeSupply.{node_budget};
 ghost use Rattle.tree_model.specs.Tree.{IsNode, NoLoss};
 ghost use Rattle.compose_tree.specs.Truth.{IsTight, RefusalHolds};
-ghost use Rattle.cert_reader.specs.Proves.{budgets_of, Proves};
+ghost use Rattle.cert_verify.specs.Proves.{budgets_of, Proves};
 ghost use Rattle.certificate.specs.Made.{ListsPass, ListsLeast, IsCertificate};
-ghost use Rattle.certificate.specs.Steps.{IsMadeAt, AreMade};
+ghost use Rattle.certificate.specs.inner.Steps.{IsMadeAt, AreMade};
 
 use crate::levels::{pass_lists, short_lists};
 use compose_tree::compose;

@@ -8,5 +8,5 @@ pub mod Heavier
 mod CoreFails
 pub mod Refusals
 pub mod Settling
-mod Ways
+pub mod Ways
 mod TruthExamples

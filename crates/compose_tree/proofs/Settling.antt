@@ -17,7 +17,7 @@ use Rattle.tree_model.proofs.Unique.{never_both, never_assigned}
 use Rattle.compose_tree.specs.Steps.{NodeRefuses, PartsPassFrom, CoresPassTo}
 
 -- what stands and passes does so under budgets that are the same where it matters
-stands_same : (sys : SystemView) (b c : List ℕ) (q : ℕ) → budget_at b q ≡ budget_at c q
+pub stands_same : (sys : SystemView) (b c : List ℕ) (q : ℕ) → budget_at b q ≡ budget_at c q
     → node_tasks sys b (Part q) ≡ node_tasks sys c (Part q) → (given : Option ℕ) → BudgetStands sys b q given
     → BudgetStands sys c q given
 stands_same sys b c q same tasks given h =
@@ -26,7 +26,7 @@ stands_same sys b c q same tasks given h =
     (subst (λ (ts : List SporadicTask). IsGivenOrLeast (part_at sys q).sched ts (part_at sys q).period given
     (budget_at b q)) tasks h)
 
-passes_same : (sys : SystemView) (b c : List ℕ) (q : ℕ) → budget_at b q ≡ budget_at c q
+pub passes_same : (sys : SystemView) (b c : List ℕ) (q : ℕ) → budget_at b q ≡ budget_at c q
     → node_tasks sys b (Part q) ≡ node_tasks sys c (Part q) → NodePasses sys b (Part q) → NodePasses sys c (Part q)
 passes_same sys b c q same tasks h =
     subst (λ (budget : ℕ). TestPasses (part_at sys q).sched (node_tasks sys c (Part q))

@@ -5,8 +5,12 @@ use Rattle.tree_model.specs.declared.place.Place.{Place}
 use Rattle.tree_model.specs.declared.place.Place.TheVariants.{Core, Part}
 use Rattle.tree_model.specs.View.{SystemView}
 use Rattle.tree_model.specs.System.{part_at}
-use Rattle.tree_model.specs.Tree.{is_child, budget_at, IsNode}
+use Rattle.tree_model.specs.Tree.{place_of, is_child, budget_at, IsNode}
 use Rattle.tree_model.specs.Admission.{NodePasses, BudgetStands}
+
+-- the node on which a part stands
+abbrev pub under : SystemView → ℕ → Place
+under sys q = place_of (part_at sys q).parent
 
 -- a node is a part that stands on another node
 abbrev pub StandsOn : SystemView → Place → Place → Type 0

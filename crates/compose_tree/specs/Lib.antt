@@ -1,4 +1,3 @@
 pub mod Truth
 pub mod Steps
 pub mod Kept
-pub mod Ways

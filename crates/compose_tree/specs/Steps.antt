@@ -8,7 +8,8 @@ use Rattle.tree_model.specs.declared.place.Place.TheVariants.{Core, Part}
 use Rattle.tree_model.specs.declared.plan.Refusal.{Refusal}
 use Rattle.tree_model.specs.declared.plan.Refusal.TheVariants.{Overfull, Wide, NoMemory}
 use Rattle.tree_model.specs.View.{SystemView}
-use Rattle.tree_model.specs.Admission.{NodePasses, IsGivenOrLeast}
+use Rattle.tree_model.specs.Tree.{node_sched, node_tasks, node_cycle}
+use Rattle.tree_model.specs.Admission.{NodePasses, IsGivenOrLeast, refusing_bound}
 
 -- a node refuses: its horizon is too wide, or it can be walked and this is short first
 abbrev pub NodeRefuses : Sched → List SporadicTask → (ℕ → ℕ) → ℕ → Place → Refusal → Type 0
@@ -17,6 +18,12 @@ NodeRefuses sched tasks bound cycle node (Overfull place short) =
 NodeRefuses sched tasks bound cycle node (Wide place) =
     (place ≡ node) × (IsSmall sched tasks cycle → ⊥)
 NodeRefuses sched tasks bound cycle node NoMemory = ⊥
+
+-- so a node of a system refuses under these budgets
+abbrev pub RefusesAt : SystemView → List ℕ → Place → Refusal → Type 0
+RefusesAt sys budgets node refusal =
+    NodeRefuses (node_sched sys node) (node_tasks sys budgets node) (refusing_bound sys node)
+    (node_cycle sys node) node refusal
 
 -- the budget of a part is the one that is given, or the least that passes, and the part passes
 -- under it

@@ -4,7 +4,7 @@ ghost use Rattle.tree_model.specs.System.{IsSystem};
 ghost use Rattle.tree_model.specs.Tree.{NoLoss};
 ghost use Rattle.tree_model.specs.Admission.{NodePasses, AssignedFrom, Assigned, Admitted, FirstRefusal};
 ghost use Rattle.tree_model.specs.Plans.{IsPlan};
-ghost use Rattle.compose_tree.specs.Steps.{PartsPassFrom, CoresPassTo};
+ghost use Rattle.compose_tree.specs.Steps.{RefusesAt, PartsPassFrom, CoresPassTo};
 ghost use Rattle.compose_tree.specs.Truth.{IsTight, RefusalHolds};
 
 use crate::nodes::{part_budget, test_node};
@@ -72,6 +72,7 @@ pub fn settle_part(sys: &System, budgets: &[u64], q: u32, room: &mut [Task]) -> 
     requires room { MAX_PARTS ≤ length room.old }
     ensures assigned { IfOk result (λ b. AssignedFrom sys.now (slice_set budgets.now q b) q) }
     ensures pass { IfOk result (λ b. PartsPassFrom sys.now (slice_set budgets.now q b) q) }
+    ensures refuses { IfErr result (λ r. RefusesAt sys.now budgets.now (Place.Part q) r) }
     ensures refusal { IfErr result (λ r. FirstRefusal sys.now r) }
 {
     let part = &sys.parts()[q as usize];

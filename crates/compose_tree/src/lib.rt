@@ -8,4 +8,4 @@ mod recomposition;
 
 pub use assignment::assign;
 pub use budgets::compose;
-pub use recomposition::recompose;
+pub use recomposition::{recompose, resettle_part, retest_core};

@@ -4,7 +4,7 @@ ghost use Rattle.slot_model.specs.Bound.{dbf};
 ghost use Rattle.slot_model.specs.Points.{IsCover, IsBackward, CoversShow};
 
 use crate::back::given_by;
-use edf_demand::gather;
+use edf_demand::DemandLevel;
 use slot_model::Task;
 use std::alloc::{AllocError, Global};
 use supply_bound::Supply;
@@ -28,12 +28,12 @@ pub fn cover<S: Supply>(
     ensures shows { CoversShow (sporadic_tasks tasks.now) (S.bound s.now) h }
 {
     let mut terms = vec![in alloc; Term::none(); tasks.len()]?;
-    let gathered = gather(tasks, &mut terms);
+    let level = DemandLevel::gather(tasks, &mut terms);
     let mut points = Vec::new(alloc);
     let mut point = h + 1;
     points.push(point)?;
     loop {
-        let Some(given) = given_by(tasks, &terms, gathered, s, point - 1) else {
+        let Some(given) = given_by(&level, s, point - 1) else {
             return Ok(None);
         };
         if given == 0 {

@@ -1,5 +1,6 @@
 use crate::helpers::{MEMORY, system_of};
-use cert_reader::{CertFault, Flaw, read_certificate, verify};
+use cert_reader::{CertFault, read_certificate};
+use cert_verify::{Flaw, verify};
 use certificate::{certify, print_certificate};
 use std::alloc::Global;
 use std::process::Abort;

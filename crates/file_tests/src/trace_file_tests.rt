@@ -1,7 +1,8 @@
 use crate::helpers::{MEMORY, system_of};
 use std::alloc::Global;
 use std::process::Abort;
-use trace_file::{Event, TraceFault, What, check_events, print_trace, read_trace};
+use trace_file::{Event, TraceFault, What, check_events, read_trace};
+use trace_printer::print_trace;
 use tree_model::System;
 
 const A: u32 = 0;

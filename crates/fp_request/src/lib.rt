@@ -6,9 +6,11 @@
 mod by_terms;
 mod fixed;
 mod rank;
+mod ranked;
 mod request_bound;
 
 pub use by_terms::{Above, gather, gather_above, request_by};
 pub use fixed::Fixed;
 pub use rank::higher;
+pub use ranked::{RankedLevel, RankedTask};
 pub use request_bound::request;

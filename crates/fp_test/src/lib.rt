@@ -8,4 +8,4 @@ mod fall;
 mod hits;
 
 pub use fall::falls;
-pub use hits::{hit, hit_by};
+pub use hits::{hit, hit_by, hit_in, hit_of};

@@ -1,18 +1,18 @@
 -- `choose FILE PART LOW HIGH`: what it answers, and what its yes and no mean to who sets the period
 -- of a guest.
-use Rattle.std.specs.Prelude.{◌≡◌, ℕ, ◌<◌, List, [], ◌∷◌, ⊤}
+use Rattle.std.specs.Prelude.{◌≡◌, ℕ, ◌<◌, ◌≤◌, true, List, [], ◌∷◌, ⊤}
 use Rattle.slot_model.specs.Supply.{GivesBudget}
 use Rattle.slot_model.specs.Order.{before_of}
 use Rattle.slot_model.specs.Miss.{NoJobLost, MustMiss}
 use Rattle.period_choice.specs.declared.choice.Choice.{Choice}
 use Rattle.period_choice.specs.declared.choice.Choice.TheVariants.{Best, Nothing}
-use Rattle.period_choice.specs.Choice.{IsBest, IsNothing, IsChoice}
+use Rattle.period_choice.specs.Choice.{is_over, IsBest, IsNothing, IsChoice}
 use Rattle.tree_model.specs.View.{SystemView}
 use Rattle.tree_model.specs.System.{part_at, own_tasks_at}
 use Rattle.system_file.specs.SystemFile.{system_of}
 use Rattle.rt_report.specs.Choose.{best_text, nothing_text}
 use Rattle.command_steps.specs.declared.status.Status.{Status}
-use Rattle.command_steps.specs.declared.status.Status.TheVariants.{Yes, No}
+use Rattle.command_steps.specs.declared.status.Status.TheVariants.{Yes, No, Wide}
 use Rattle.command_steps.specs.CommandSpec.{CommandSpec}
 use Rattle.command_steps.specs.Answer.{Contents, AtFile, OnSystem, IfSystem, HasSystem}
 use Rattle.command_steps.specs.NamedLeaf.{IsLeafNamed, HasNoLeaf, OnLeaf, IsVerdictUnless}
@@ -60,7 +60,8 @@ pub record TellsBest (sys : SystemView) (part : List ℕ) (low high : ℕ) (text
       MustMiss (GivesBudget period b) (before_of (part_at sys leaf).sched tasks) tasks
 
 -- no means: no budget passes at any period of the range, and the text tells at how many even the
--- whole period is short, and how many are too wide
+-- whole period is short, and how many are too wide; at each of the former the leaf must miss with
+-- every whole budget
 pub record TellsNothing (sys : SystemView) (part : List ℕ) (low high : ℕ) (text : List ℕ)
     : Type 0 where
   pub leaf : ℕ
@@ -69,6 +70,9 @@ pub record TellsNothing (sys : SystemView) (part : List ℕ) (low high : ℕ) (t
   pub wide : ℕ
   pub told : text ≡ nothing_text over wide
   pub nothing : IsNothing (part_at sys leaf).sched (own_tasks_at sys leaf) low high over wide
+  pub misses : let tasks = own_tasks_at sys leaf in (q b : ℕ) → low ≤ q → q ≤ high →
+      is_over (nothing.answer q) ≡ true → b ≤ q →
+      MustMiss (GivesBudget q b) (before_of (part_at sys leaf).sched tasks) tasks
 
 -- what an answer to a system means
 abbrev pub ChoiceTells : List ℕ → ℕ → ℕ → SystemView → Status → List ℕ → Type 0
@@ -80,6 +84,11 @@ abbrev pub ChooseMeans : List ℕ → ℕ → ℕ → Contents → Status → Li
 ChooseMeans part low high contents status text =
     IfSystem contents (λ sys. ChoiceTells part low high sys status text)
 
+-- it ends with yes or no, or there is no leaf of that name, or memory runs out
+abbrev pub EndsChoosing : List ℕ → Contents → Status → Type 0
+EndsChoosing part contents Wide = ⊥
+EndsChoosing part contents status = IsVerdictUnless (λ sys. HasNoLeaf sys part) contents status
+
 -- what there is to say of the command
 abbrev pub the_choose : List ℕ → List ℕ → ℕ → ℕ → CommandSpec
 the_choose file part low high = record {
@@ -87,5 +96,5 @@ the_choose file part low high = record {
   Answers = Chooses part low high;
   Means = ChooseMeans part low high;
   CanJudge = HasSystem;
-  EndsAs = IsVerdictUnless (λ sys. HasNoLeaf sys part);
+  EndsAs = EndsChoosing part;
 }

@@ -3,9 +3,9 @@ use Rattle.std.proofs.Common.{◌≡◌, ◌≢◌, ℕ, ◌+◌, ◌-◌, ◌<�
 use Rattle.std.proofs.lemmas.Bool.{cases_eq, cases_lt}
 use Rattle.std.proofs.lemmas.List.{get_or_default}
 use Rattle.guest_sched.specs.declared.releases.Release.{Release}
-use Rattle.guest_sched.specs.Releases.{release_at}
-use Rattle.guest_sched.specs.Places.{StandsIn, IsAscending, AddsPlace, RemovesPlace}
-use Rattle.guest_sched.specs.Ready.{HasCome, IsState}
+use Rattle.guest_sched.specs.inner.Releases.{release_at}
+use Rattle.guest_sched.specs.inner.Places.{StandsIn, IsAscending, AddsPlace, RemovesPlace}
+use Rattle.guest_sched.specs.inner.Ready.{HasCome, IsState}
 
 -- the next release comes
 pub one_comes : (releases : List Release) (n : ℕ) (left ends ready : List ℕ) (soonest now : ℕ) (new : List ℕ)

@@ -11,11 +11,11 @@ use Rattle.slot_model.proofs.FirstRuns.{none_some}
 use Rattle.guest_sched.specs.declared.releases.Release.{Release}
 use Rattle.guest_sched.specs.declared.ready.Ready.{Ready}
 use Rattle.guest_sched.specs.declared.spans.Span.{Span}
-use Rattle.guest_sched.specs.Releases.{release_at, AreReleases}
-use Rattle.guest_sched.specs.Choice.{job_of, IsBeaten, IsUnbeaten, IsFirstUnbeaten}
-use Rattle.guest_sched.specs.Keep.{AreEnds}
-use Rattle.guest_sched.specs.Places.{StandsIn, IsAscending}
-use Rattle.guest_sched.specs.Ready.{HasCome, IsReady, HaveCome, AreToCome, IsServed, IsSteady, left_after}
+use Rattle.guest_sched.specs.inner.Releases.{release_at, AreReleases}
+use Rattle.guest_sched.specs.inner.Choice.{job_of, IsBeaten, IsUnbeaten, IsFirstUnbeaten}
+use Rattle.guest_sched.specs.inner.Keep.{AreEnds}
+use Rattle.guest_sched.specs.inner.Places.{StandsIn, IsAscending}
+use Rattle.guest_sched.specs.inner.Ready.{HasCome, IsReady, HaveCome, AreToCome, IsServed, IsSteady, left_after}
 use Rattle.guest_sched.specs.Spans.{Window, slots_of, entries_of}
 use Rattle.guest_sched.proofs.State.{ready_in}
 use Rattle.guest_sched.proofs.Steady.{Steady, no_entry, span_run, gap_run, service_span}

@@ -1,9 +1,9 @@
 ghost use Rattle.std.specs.Prelude.{◌≡◌, ℕ, ◌+◌, ◌-◌, ◌<◌, ◌≤◌, ◌^◌, ◌↔◌, false, true, length, map, slice_index, All, IsTrue, IfOk, IfSome, OnOk, MatchOption, Some, None};
 ghost use Rattle.slot_model.specs.Task.{sporadic_tasks, task_at};
-ghost use Rattle.guest_sched.specs.Releases.{release_at, AreReleases};
-ghost use Rattle.guest_sched.specs.Keep.{level_of, AreEnds};
-ghost use Rattle.guest_sched.specs.Places.{StandsIn};
-ghost use Rattle.guest_sched.specs.Ready.{IsReady, HaveCome, AreToCome, IsServed, IsBest, StaysBest, StaysFirst, AllEndAfter, IsSteady, left_after};
+ghost use Rattle.guest_sched.specs.inner.Releases.{release_at, AreReleases};
+ghost use Rattle.guest_sched.specs.inner.Keep.{level_of, AreEnds};
+ghost use Rattle.guest_sched.specs.inner.Places.{StandsIn};
+ghost use Rattle.guest_sched.specs.inner.Ready.{IsReady, HaveCome, AreToCome, IsServed, IsBest, StaysBest, StaysFirst, AllEndAfter, IsSteady, left_after};
 
 use crate::choice::first_unbeaten;
 use crate::keep::{Keep, end_moment};

@@ -1,5 +1,5 @@
 ghost use Rattle.std.specs.Prelude.{◌≡◌, ℕ, ◌<◌, ◌^◌, length, IfOk};
-ghost use Rattle.guest_sched.specs.Releases.{release_of, release_at, AreReleases};
+ghost use Rattle.guest_sched.specs.inner.Releases.{release_of, release_at, AreReleases};
 
 use slot_model::Job;
 use std::alloc::{AllocError, Global};

@@ -22,7 +22,7 @@ use Rattle.host_commands.specs.declared.editing.Editing.{Editing}
 use Rattle.command_steps.specs.declared.status.Status.{Status}
 use Rattle.command_steps.specs.declared.status.Status.TheVariants.{Yes}
 use Rattle.host_commands.specs.Session.{EditsBytes}
-use Rattle.host_commands.specs.Editing.{HasEdited, IsToldSession}
+use Rattle.host_commands.specs.inner.Editing.{HasEdited, IsToldSession}
 use Rattle.command_steps.proofs.Budgets.{refusal_told}
 
 -- an answer can be told

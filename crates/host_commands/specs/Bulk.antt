@@ -3,7 +3,7 @@ use Rattle.std.specs.Prelude.{◌≡◌, ℕ, ◌≤◌, List, [], Option, ⊤}
 use Rattle.tree_model.specs.Tree.{NoLoss}
 use Rattle.tree_model.specs.FirstTree.{FirstTree}
 use Rattle.tree_model.specs.Admission.{Admitted}
-use Rattle.server_sched.specs.TreeCounts.{NoneMisses}
+use Rattle.tree_spans.specs.TreeCounts.{NoneMisses}
 use Rattle.bulk_host.specs.Host.{bulk_host}
 use Rattle.bulk_run.specs.declared.counts.BulkCounts.{BulkCounts}
 use Rattle.bulk_run.specs.Summary.{bulk_slots, bulk_supplies, bulk_jobs, AreBulkCounts}

@@ -1,4 +1,4 @@
 pub mod Session
 pub mod Place
 pub mod Bulk
-pub mod Editing
+pub mod inner

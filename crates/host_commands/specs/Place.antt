@@ -1,17 +1,19 @@
 -- `place FILE GUESTS`: what it answers, and what its yes and no mean to who runs the host.
-use Rattle.std.specs.Prelude.{◌≡◌, ◌≢◌, ℕ, false, List, [], ◌∷◌, Ok, None, ⊤}
+use Rattle.std.specs.Prelude.{◌≡◌, ◌≢◌, ℕ, ◌<◌, ◌⊎◌, false, List, [], ◌∷◌, length, take, Ok, None, ⊤}
 use Rattle.toml.specs.Text.{IsDocumentText}
 use Rattle.csv_rows.specs.Reading.{records_of}
 use Rattle.csv_rows.specs.Rules.{row_of}
+use Rattle.tree_model.specs.declared.plan.Refusal.{Refusal}
 use Rattle.tree_model.specs.View.{PartView, SystemView}
 use Rattle.tree_model.specs.Tree.{NoLoss}
-use Rattle.tree_model.specs.Admission.{Admitted}
-use Rattle.compose_tree.specs.Truth.{IsTight}
+use Rattle.tree_model.specs.Admission.{Admitted, FirstRefusal}
+use Rattle.compose_tree.specs.Truth.{IsTight, RefusalHolds}
+use Rattle.admission_session.specs.Leaves.{with_guest}
 use Rattle.admission_session.specs.Answers.{IsAdmitted}
 use Rattle.placement.specs.declared.fault.PlaceFault.{PlaceFault}
 use Rattle.placement.specs.declared.fault.PlaceFault.TheVariants.{Refused, BadGuest, Unplaced, NoMemory}
 use Rattle.placement.specs.Placement.{IsPlaced}
-use Rattle.placement.specs.Answers.{PlaceFails, guest_at}
+use Rattle.placement.specs.Answers.{AreRefused, PlaceFails, guest_at}
 use Rattle.script_file.specs.declared.guests.GuestFault.{GuestFault}
 use Rattle.script_file.specs.declared.guests.GuestFault.TheVariants.{Script as NoScript, Other}
 use Rattle.script_file.specs.Guests.{SpellsGuests, IsGuestFault}
@@ -26,7 +28,7 @@ use Rattle.command_steps.specs.declared.status.Status.TheVariants.{Yes, No, BadF
 use Rattle.command_steps.specs.CommandSpec.{CommandSpec, IsVerdict}
 use Rattle.command_steps.specs.Answer.{Contents}
 use Rattle.command_steps.specs.Attempt.{Attempt, OnAttempt}
-use Rattle.command_steps.specs.Budgets.{refusal_status}
+use Rattle.command_steps.specs.Budgets.{refusal_status, IsTrulyOverfull}
 use Rattle.command_steps.specs.TwoFiles.{OnTwoFiles, SpellsSystem, AreReadable}
 
 -- the bytes of the second file spell guests, or have a first fault
@@ -53,6 +55,7 @@ pub record IsPlaceFault (sys : SystemView) (guests : List PartView) (fault : Pla
     : Type 0 where
   pub real : fault ≢ NoMemory
   pub fails : PlaceFails sys guests fault
+  pub refused : AreRefused sys guests fault
 
 abbrev pub place_status : PlaceFault → Status
 place_status (Refused refusal) = refusal_status refusal
@@ -104,8 +107,28 @@ pub record TellsPlaced (sys : SystemView) (guests : List PartView) (text : List 
   pub no_loss : NoLoss placed budgets
   pub tight : IsTight placed budgets
 
+-- no means: the system is refused as it stands, as `admit` says, or the text tells a guest for
+-- which there is no core: on each core of the host, the system with the guests before it placed and
+-- this one there has a first refusal, which is true of every supply and every release
+pub record IsTrulyRefused (sys : SystemView) : Type 0 where
+  pub refusal : Refusal
+  pub first : FirstRefusal sys refusal
+  pub holds : RefusalHolds sys refusal
+
+pub record TellsUnplaced (sys : SystemView) (guests : List PartView) (text : List ℕ)
+    : Type 0 where
+  pub guest : ℕ
+  pub is_guest : guest < length guests
+  pub told : text ≡ unplaced_text (guest_at guests guest).name
+  pub now : SystemView
+  pub placed : IsPlaced sys (take guest guests) now
+  pub refused : (c : ℕ) → c < length sys.cores →
+      IsTrulyRefused (with_guest now (guest_at guests guest) c)
+
+-- of a wide answer nothing is claimed
 abbrev pub MeansOfPlaces : SystemView → List PartView → Status → List ℕ → Type 0
 MeansOfPlaces sys guests Yes text = TellsPlaced sys guests text
+MeansOfPlaces sys guests No text = IsTrulyOverfull sys text ⊎ TellsUnplaced sys guests text
 MeansOfPlaces sys guests _ text = ⊤
 
 abbrev pub PlaceMeans : Contents → Status → List ℕ → Type 0

@@ -2,7 +2,7 @@ ghost use Rattle.std.specs.Prelude.{◌≡◌, ◌⊎◌, IfOk, IfErr};
 ghost use Rattle.csv_rows.specs.Reading.{records_of};
 ghost use Rattle.script_file.specs.declared.fault.ScriptFault.TheVariants.{NoMemory};
 ghost use Rattle.script_file.specs.Script.{IsScriptFault, script_rows};
-ghost use Rattle.host_commands.specs.Editing.{IsToldSession};
+ghost use Rattle.host_commands.specs.inner.Editing.{IsToldSession};
 
 use admission_session::{Row, Session};
 use csv_rows::{Records, RowRules, read_rows};
@@ -22,7 +22,7 @@ impl RowRules for Editing {
     ghost use Rattle.std.specs.Prelude.{◌≡◌};
     ghost use Rattle.script_file.specs.declared.fault.ScriptFault.TheVariants.{NoMemory};
     ghost use Rattle.script_file.specs.Script.{script_rules};
-    ghost use Rattle.host_commands.specs.Editing.{HasEdited};
+    ghost use Rattle.host_commands.specs.inner.Editing.{HasEdited};
 
     type Fault = ScriptFault;
 
@@ -53,7 +53,7 @@ impl Editing {
     ghost use Rattle.tree_model.specs.Admission.{Admitted};
     ghost use Rattle.script_file.specs.declared.fault.ScriptFault.TheVariants.{NoMemory};
     ghost use Rattle.rt_report.specs.Session.{answer_line, plan_lines};
-    ghost use Rattle.host_commands.specs.Editing.{HasEdited};
+    ghost use Rattle.host_commands.specs.inner.Editing.{HasEdited};
 
     /// Before the first row.
     #[tactic(auto, using(crate::proofs::Edited::none_edited))]

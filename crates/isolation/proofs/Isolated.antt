@@ -11,7 +11,8 @@ use Rattle.tree_model.specs.Tree.{is_child, budget_at}
 use Rattle.tree_model.specs.Plans.{IsPlan}
 use Rattle.release_file.specs.declared.workload.Wake.{Wake}
 use Rattle.release_file.specs.Workload.{is_started, start_of, IsWorkload}
-use Rattle.rtds_sim.specs.Rtds.{can_run, goes_first}
+use Rattle.rtds_sim.specs.Rtds.{can_run}
+use Rattle.rtds_queues.specs.Keys.{goes_first}
 use Rattle.rtds_sim.specs.Demand.{later}
 use Rattle.isolation.specs.Demand.{asked_of, no_tie, IsIsolatedBy}
 use Rattle.isolation.specs.Open.{goes_sooner, OpenRun}

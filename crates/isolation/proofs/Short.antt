@@ -14,7 +14,8 @@ use Rattle.tree_model.specs.Plans.{IsPlan}
 use Rattle.trace_file.specs.Periods.{begins, count_between}
 use Rattle.release_file.specs.declared.workload.Wake.{Wake}
 use Rattle.release_file.specs.Workload.{is_started, is_started_at, is_blocked_at, start_of, IsWorkload}
-use Rattle.rtds_sim.specs.Rtds.{goes_first, period_from, used, can_run, CoreRun}
+use Rattle.rtds_sim.specs.Rtds.{period_from, used, can_run, CoreRun}
+use Rattle.rtds_queues.specs.Keys.{goes_first}
 use Rattle.rtds_sim.specs.Giving.{IsStartedOn, ServersFit}
 use Rattle.rtds_sim.specs.Demand.{later}
 use Rattle.isolation.specs.Demand.{asked_of, AsksTooMuch}

@@ -1,15 +1,17 @@
 -- Guests are placed in one way, or there is one fault, but for want of memory.
-use Rattle.std.proofs.Common.{◌≡◌, ◌≢◌, ℕ, zero, suc, ◌<◌, List, [], ◌∷◌, length, take, get_or, refl, sym, ◌∙◌, ap, subst, inl, inr, arith}
+use Rattle.std.proofs.Common.{◌≡◌, ◌≢◌, ℕ, zero, suc, ◌<◌, List, [], ◌∷◌, length, take, refl, sym, ◌∙◌, ap, subst, inl, inr, arith}
 use Rattle.std.proofs.lemmas.Bool.{cases_lt}
 use Rattle.tree_model.specs.View.{PartView, SystemView}
 use Rattle.tree_model.specs.System.{IsSystem}
 use Rattle.tree_model.specs.declared.plan.Refusal.{Refusal}
 use Rattle.tree_model.specs.Admission.{FirstRefusal}
 use Rattle.tree_model.proofs.Unique.{never_both, one_refusal}
+use Rattle.admission_session.specs.Leaves.{with_guest}
 use Rattle.admission_session.specs.Answers.{IsAdmitted}
+use Rattle.admission_session.proofs.RowSystems.{new_leaf_is}
 use Rattle.placement.specs.declared.fault.PlaceFault.{PlaceFault}
 use Rattle.placement.specs.declared.fault.PlaceFault.TheVariants.{Refused as Refuses, BadGuest, Unplaced, NoMemory}
-use Rattle.placement.specs.Placement.{with_guest, IsFirstFit, IsPlaced}
+use Rattle.placement.specs.Placement.{IsFirstFit, IsPlaced}
 use Rattle.placement.specs.Answers.{guest_at, IsBadGuest, IsUnplaced, PlaceFails, StopsAt}
 
 -- a guest has one first fit
@@ -28,6 +30,18 @@ one_placed sys [] a b p q = p ∙ sym q
 one_placed sys (guest ∷ later) a b p q =
     one_placed (with_guest sys guest p.0) later a b p.2
     (subst (λ (c : ℕ). IsPlaced (with_guest sys guest c) later b) (sym (one_fit sys guest p.0 q.0 p.1 q.1)) q.2)
+
+-- guests stand on the cores of the system, and make a system
+pub placed_is : (sys : SystemView) → IsSystem sys → (guests : List PartView) (placed : SystemView)
+    → IsPlaced sys guests placed → IsSystem placed
+placed_is sys is [] placed e = subst IsSystem (sym e) is
+placed_is sys is (guest ∷ later) placed h =
+    placed_is (with_guest sys guest h.0) (new_leaf_is sys is guest h.0 h.1.new h.1.is_core) later placed h.2
+
+pub placed_cores : (sys : SystemView) (guests : List PartView) (placed : SystemView) → IsPlaced sys guests placed
+    → placed.cores ≡ sys.cores
+placed_cores sys [] placed e = ap (λ (s : SystemView). s.cores) e
+placed_cores sys (guest ∷ later) placed h = placed_cores (with_guest sys guest h.0) later placed h.2
 
 -- where guests are placed, each has its first fit in the system that those before it make
 record PlacedAt (sys : SystemView) (guests : List PartView) (i : ℕ) : Type 0 where

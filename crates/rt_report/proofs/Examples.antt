@@ -22,7 +22,7 @@ use Rattle.auditor.specs.declared.finding.Finding.TheVariants.{Yes, Short, Over}
 use Rattle.rt_report.specs.Audit.{audit_text}
 use Rattle.rt_report.specs.Admit.{admit_text}
 use Rattle.rt_report.specs.Bulk.{bulk_text}
-use Rattle.cert_reader.specs.declared.flaw.Flaw.TheVariants.{Nodes, Budget, Cover, Hit, Least, Wide as TooWide}
+use Rattle.cert_verify.specs.declared.flaw.Flaw.TheVariants.{Nodes, Budget, Cover, Hit, Least, Wide as TooWide}
 use Rattle.rt_report.specs.Refusal.{refusal_text}
 use Rattle.rt_report.specs.Check.{check_text}
 use Rattle.rt_report.specs.Choose.{best_text, nothing_text}

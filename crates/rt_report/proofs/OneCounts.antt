@@ -10,7 +10,7 @@ use Rattle.span_counts.specs.declared.counts.Counts.{Counts}
 use Rattle.span_counts.specs.Counts.{AreCounts}
 use Rattle.tree_model.specs.View.{SystemView}
 use Rattle.tree_model.specs.System.{is_leaf_at}
-use Rattle.server_sched.specs.TreeCounts.{CountsView, no_counts, counts_at, AreTreeCounts}
+use Rattle.tree_spans.specs.TreeCounts.{CountsView, no_counts, counts_at, AreTreeCounts}
 use Rattle.miss_witness.proofs.OneReplay.{one_miss}
 
 abbrev counts_from : ℕ → ℕ → ℕ → Option Miss → Counts

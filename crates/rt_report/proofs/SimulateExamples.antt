@@ -10,7 +10,7 @@ use Rattle.span_counts.specs.declared.counts.Counts.{Counts}
 use Rattle.tree_model.specs.declared.place.Parent.{Parent}
 use Rattle.tree_model.specs.declared.place.Parent.TheVariants.{Core as on_core, Part as on_part}
 use Rattle.tree_model.specs.View.{NamedTask, PartView, SystemView}
-use Rattle.server_sched.specs.TreeCounts.{CountsView, AreTreeCounts}
+use Rattle.tree_spans.specs.TreeCounts.{CountsView, AreTreeCounts}
 use Rattle.rt_report.specs.Simulate.{simulate_text, slots_told, IsTextOfRun}
 
 abbrev part : List ℕ → Parent → List NamedTask → PartView

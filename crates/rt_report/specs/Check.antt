@@ -3,8 +3,8 @@ use Rattle.std.specs.Prelude.{ℕ, ◌+◌, List, [], ◌∷◌, ◌++◌, codes
 use Rattle.std.specs.Fmt.{decimal}
 use Rattle.tree_model.specs.View.{SystemView}
 use Rattle.tree_model.specs.Tree.{IsNode}
-use Rattle.cert_reader.specs.declared.flaw.Flaw.{Flaw}
-use Rattle.cert_reader.specs.declared.flaw.Flaw.TheVariants.{Nodes, Budget, Cover, Hit, Least, Wide}
+use Rattle.cert_verify.specs.declared.flaw.Flaw.{Flaw}
+use Rattle.cert_verify.specs.declared.flaw.Flaw.TheVariants.{Nodes, Budget, Cover, Hit, Least, Wide}
 use Rattle.rt_report.specs.Words.{joined, node_words}
 
 -- the kind of a flaw, and the node; a task is counted from 1

@@ -8,7 +8,7 @@ use Rattle.span_counts.specs.declared.counts.Counts.{Counts}
 use Rattle.tree_model.specs.declared.place.Place.{Place}
 use Rattle.tree_model.specs.declared.place.Place.TheVariants.{Core, Part}
 use Rattle.tree_model.specs.View.{SystemView}
-use Rattle.server_sched.specs.TreeCounts.{CountsView, no_node_misses, AreTreeCounts}
+use Rattle.tree_spans.specs.TreeCounts.{CountsView, no_node_misses, AreTreeCounts}
 use Rattle.rt_report.specs.Words.{joined, node_words, served_name}
 use Rattle.rt_report.specs.Missed.{missed_words}
 

@@ -6,7 +6,7 @@ use Rattle.tree_model.specs.View.{SystemView}
 use Rattle.tree_model.specs.System.{part_at}
 use Rattle.trace_file.specs.Rules.{is_vcpu}
 use Rattle.auditor.specs.declared.finding.Finding.{Finding}
-use Rattle.auditor.specs.declared.tally.Tally.{Tally}
+use Rattle.vcpu_watch.specs.declared.tally.Tally.{Tally}
 use Rattle.rt_report.specs.Words.{joined}
 use Rattle.rt_report.specs.Audit.{audit_text}
 

@@ -2,7 +2,7 @@ ghost use Rattle.std.specs.Prelude.{◌≡◌, ◌++◌, IfOk, IfErr, OnOk, stri
 ghost use Rattle.rt_report.specs.Check.{check_text, flaw_words, IsFlawOf};
 
 use crate::names::push_node;
-use cert_reader::Flaw;
+use cert_verify::Flaw;
 use std::alloc::{AllocError, Global};
 use tree_model::System;
 

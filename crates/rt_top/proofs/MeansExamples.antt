@@ -22,9 +22,9 @@ use Rattle.bulk_run.specs.declared.counts.BulkCounts.{BulkCounts}
 use Rattle.rt_report.specs.Bulk.{bulk_text}
 use Rattle.host_commands.specs.Bulk.{AnswersBulk}
 use Rattle.server_sched.specs.declared.supplies.Pattern.{Pattern}
-use Rattle.server_sched.specs.TreeCounts.{NoneMisses}
+use Rattle.tree_spans.specs.TreeCounts.{NoneMisses}
 use Rattle.cert_reader.specs.CertificateFile.{certificate_of}
-use Rattle.cert_reader.specs.Proves.{Proves}
+use Rattle.cert_verify.specs.Proves.{Proves}
 use Rattle.command_steps.specs.declared.status.Status.{Status}
 use Rattle.command_steps.specs.declared.status.Status.TheVariants.{Yes, No, Usage, BadFile, Absent, TooLong, ReadFault, WriteFault}
 use Rattle.rt_top.specs.Commands.{Command, admit, certify, check, rtds, audit, simulate, bulk}

@@ -10,10 +10,10 @@ use Rattle.trace_file.specs.declared.event.Event.{Event}
 use Rattle.release_file.specs.declared.workload.Wake.{Wake as Row}
 use Rattle.rtds_sim.specs.declared.account.Account.{Account}
 use Rattle.rtds_sim.specs.declared.host.Host.{Host}
-use Rattle.rtds_sim.specs.Accounts.{account_at, holder_at, gone_on, left_of, IsChoice, IsAccount, IsEnd, AreBefore}
+use Rattle.rtds_sim.specs.inner.Accounts.{account_at, holder_at, gone_on, left_of, IsChoice, IsAccount, IsEnd, AreBefore}
 use Rattle.rtds_sim.specs.Printed.{push_some, holder_before, holder_left, on_core_at, switch_to, switch_on}
-use Rattle.rtds_sim.specs.Running.{AreOn, IsUnderway, HasRun}
-use Rattle.rtds_sim.specs.Telling.{told_on}
+use Rattle.rtds_sim.specs.inner.Running.{AreOn, IsUnderway, HasRun}
+use Rattle.rtds_sim.specs.inner.Telling.{told_on}
 use Rattle.rtds_sim.proofs.Entering.{choice_entry}
 use Rattle.rtds_sim.proofs.Gathered.{gathered-zero}
 use Rattle.rtds_sim.proofs.Runs.{entry_unique}

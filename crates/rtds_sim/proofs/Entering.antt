@@ -11,10 +11,11 @@ use Rattle.tree_model.specs.Tree.{is_child, place_of, same_place, budget_at}
 use Rattle.rtds_sim.specs.declared.account.Account.{Account}
 use Rattle.release_file.specs.declared.workload.Wake.{Wake as Row}
 use Rattle.release_file.specs.Workload.{row_at, last_row, is_by, is_of, starts, blocks, started_after, blocked_after, is_started_at, is_blocked_at}
-use Rattle.rtds_sim.specs.Rtds.{used, level_at, deadline_at, can_run, is_eligible, goes_first, goes_before, RtdsEntry}
+use Rattle.rtds_sim.specs.Rtds.{used, level_at, deadline_at, can_run, is_eligible, goes_before, RtdsEntry}
+use Rattle.rtds_queues.specs.Keys.{goes_first}
 use Rattle.rtds_sim.specs.Printed.{core_of}
-use Rattle.rtds_sim.specs.Running.{AreOn}
-use Rattle.rtds_sim.specs.Accounts.{account_at, account_eligible, level_of, deadline_of, ranked, ranks_before, IsChoice, IsInPeriod, IsAccount, AreBefore}
+use Rattle.rtds_sim.specs.inner.Running.{AreOn}
+use Rattle.rtds_sim.specs.inner.Accounts.{account_at, account_eligible, level_of, deadline_of, ranked, ranks_before, IsChoice, IsInPeriod, IsAccount, AreBefore}
 use Rattle.csv_rows.proofs.Last.{last_by_moment}
 
 -- a part on core c

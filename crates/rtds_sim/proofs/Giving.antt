@@ -11,7 +11,8 @@ use Rattle.tree_model.specs.Plans.{IsPlan}
 use Rattle.release_file.specs.declared.workload.Wake.{Wake}
 use Rattle.release_file.specs.Workload.{is_started, start_of, IsWorkload}
 use Rattle.rtds_sim.specs.Demand.{later}
-use Rattle.rtds_sim.specs.Rtds.{can_run, CoreRun, goes_first}
+use Rattle.rtds_sim.specs.Rtds.{can_run, CoreRun}
+use Rattle.rtds_queues.specs.Keys.{goes_first}
 use Rattle.rtds_sim.specs.Giving.{IsStartedOn, AlwaysRunnable, ServersFit, GivesBudgets}
 use Rattle.rtds_sim.proofs.Demands.{steady_demand, demand_rises}
 use Rattle.rtds_sim.proofs.Goes.{place_goes}

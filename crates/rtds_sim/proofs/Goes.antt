@@ -1,8 +1,8 @@
 -- An order of VCPUs by level and deadline, and where periods end at once by the order of the file.
 use Rattle.std.proofs.Common.{◌≡◌, ℕ, ◌+◌, ◌<◌, ◌≤◌, Bool, true, arith}
 use Rattle.std.proofs.lemmas.Bool.Decides.{nat_tests}
-use Rattle.rtds_sim.specs.Rtds.{goes_first}
-use Rattle.rtds_sim.proofs.Order.{first_by_level}
+use Rattle.rtds_queues.specs.Keys.{goes_first}
+use Rattle.rtds_queues.proofs.Order.{first_by_level}
 use Rattle.rtds_sim.specs.Demand.{later}
 use Rattle.rtds_sim.proofs.Windows.{later_few, later_itself, later_in_turn}
 

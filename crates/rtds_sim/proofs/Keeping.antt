@@ -26,7 +26,7 @@ use Rattle.release_file.specs.declared.workload.WakeKind.TheVariants.{Start as T
 use Rattle.release_file.specs.Workload.{row_at, last_row, is_of, is_start, starts, is_block, blocks, started_after, blocked_after, is_started_at, is_blocked_at, may_follow, IsWorkload}
 use Rattle.rtds_sim.specs.Rtds.{can_run, RtdsRun}
 use Rattle.rtds_sim.specs.Printed.{moment_of_slot, push_some, gathered, core_of, what_of, event_of, on_at, on_core_at, switch_to, holder_before, is_blocked_one, holder_left, stop_at, row_event_at, switch_at, printed_at, printed_below, printed}
-use Rattle.rtds_sim.specs.Accounts.{AreBefore}
+use Rattle.rtds_sim.specs.inner.Accounts.{AreBefore}
 use Rattle.rtds_sim.proofs.Runs.{eligible_runs}
 use Rattle.rtds_sim.proofs.Gathered.{gathered-zero, gathered-suc, gathered-none, gathered-rest, push_behind}
 use Rattle.rtds_sim.proofs.Taking.{row_none, row_some}

@@ -10,17 +10,16 @@ use Rattle.tree_model.specs.System.{part_at}
 use Rattle.tree_model.specs.Tree.{is_child, budget_at}
 use Rattle.rtds_sim.specs.declared.account.Account.{Account}
 use Rattle.rtds_sim.specs.declared.account.TheConstants.{PAST_ALL}
-use Rattle.rtds_sim.specs.declared.key.Key.{Key}
+use Rattle.rtds_queues.specs.declared.key.Key.{Key}
 use Rattle.rtds_sim.specs.declared.host.Host.{Host}
-use Rattle.rtds_sim.specs.declared.queues.Queues.{Queues}
-use Rattle.rtds_sim.proofs.Entering.{child_core}
+use Rattle.rtds_queues.specs.declared.queues.Queues.{Queues}
 use Rattle.rtds_sim.proofs.Steady.{same_quotient, lt_same}
 use Rattle.std.specs.Prelude.{is_some}
 use Rattle.std.proofs.Math.Nat.{zero-div}
 use Rattle.std.proofs.lemmas.Nat.{div-mul-add}
-use Rattle.rtds_sim.specs.Keys.{key_at}
-use Rattle.rtds_sim.specs.Queues.{AreQueues}
-use Rattle.rtds_sim.specs.Accounts.{no_account, account_at, holder_at, number_at, account_eligible, left_of, deadline_of, key_of, first_key, end_of, next_key, left_by, gone_on, used_more, period_ended, IsLeft, IsReady}
+use Rattle.rtds_queues.specs.Keys.{key_at}
+use Rattle.rtds_queues.specs.Queues.{AreQueues}
+use Rattle.rtds_sim.specs.inner.Accounts.{no_account, account_at, holder_at, number_at, account_eligible, left_of, deadline_of, key_of, first_key, end_of, next_key, left_by, gone_on, used_more, period_ended, IsLeft, IsReady}
 
 -- one account is set
 pub account_here : (accounts : List Account) (v : ℕ) (a : Account) → v < length accounts
@@ -338,14 +337,6 @@ pub gone_is : (a : Account) (has : Bool) (slots period to : ℕ)
     → period_ended (used_more a has slots) period to ≡ gone_on a has slots period to
 gone_is a true slots period to = refl
 gone_is a false slots period to = refl
-
--- what stands on one core stands on no other
-pub on_one_core : (sys : SystemView) (c d v : ℕ) → d ≢ c → is_child sys (Core c) v ≡ true
-    → is_child sys (Core d) v ≡ false
-on_one_core sys c d v ne its = elim (cases_Bool (is_child sys (Core d) v)) [
-  | inr b ↦ b
-  | inl b ↦ absurd (ne (sym (child_core sys d v b) ∙ child_core sys c v its))
-]
 
 -- a core holds none but its own, and what has no core uses no slots
 pub not_held : (sys : SystemView) (budgets : List ℕ) (host : Host) (c v : ℕ) → c < length sys.cores

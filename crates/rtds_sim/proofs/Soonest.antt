@@ -1,7 +1,7 @@
 -- The soonest of several moments.
 use Rattle.std.proofs.Common.{◌≡◌, ℕ, List, get_or, ◌⊎◌}
 use Rattle.rtds_sim.specs.declared.switches.TheConstants.{NEVER}
-use Rattle.rtds_sim.specs.Soonest.{AreNever, IsSoonest}
+use Rattle.rtds_sim.specs.inner.Soonest.{AreNever, IsSoonest}
 
 -- of the first n moments the least one, and the first core that has it, if one is before all
 abbrev pub SoonestBelow : List ℕ → ℕ → ℕ → ℕ → Type 0

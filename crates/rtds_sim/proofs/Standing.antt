@@ -12,9 +12,9 @@ use Rattle.rtds_sim.specs.declared.host.Host.{Host}
 use Rattle.release_file.specs.declared.workload.Wake.{Wake as Row}
 use Rattle.release_file.specs.Workload.{row_at, starts, is_of, is_start, blocks, IsWorkload}
 use Rattle.rtds_sim.specs.Printed.{core_of, holder_before}
-use Rattle.rtds_sim.specs.Running.{RowsFrom, AreOn}
+use Rattle.rtds_sim.specs.inner.Running.{RowsFrom, AreOn}
 use Rattle.rtds_sim.proofs.Entering.{child_core}
-use Rattle.rtds_sim.specs.Accounts.{no_account, account_at, holder_at, AreAccounts, AreBefore, HasRoom, IsAccount, run_of_part}
+use Rattle.rtds_sim.specs.inner.Accounts.{no_account, account_at, holder_at, AreAccounts, AreBefore, HasRoom, IsAccount, run_of_part}
 use Rattle.csv_rows.proofs.Last.{last_below-zero, some_found}
 use Rattle.release_file.proofs.Rows.{ordered}
 use Rattle.trace_file.specs.Rules.{is_vcpu}

@@ -17,10 +17,11 @@ use Rattle.rtds_sim.specs.declared.account.Account.{Account}
 use Rattle.release_file.specs.declared.workload.Wake.{Wake as Row}
 use Rattle.tree_model.specs.Plans.{IsPlan}
 use Rattle.release_file.specs.Workload.{is_started_at, is_blocked_at, start_of}
-use Rattle.rtds_sim.specs.Rtds.{period_number, period_from, used, level_at, deadline_at, can_run, is_eligible, goes_first, goes_before, RtdsEntry, CoreRun}
+use Rattle.rtds_sim.specs.Rtds.{period_number, period_from, used, level_at, deadline_at, can_run, is_eligible, goes_before, RtdsEntry, CoreRun}
+use Rattle.rtds_queues.specs.Keys.{goes_first}
 use Rattle.rtds_sim.specs.Printed.{core_of}
-use Rattle.rtds_sim.specs.Accounts.{account_at, gone_on, left_of, IsInPeriod, IsAccount, AreBefore, IsEnd}
-use Rattle.rtds_sim.specs.Running.{RowsFrom, AreOn}
+use Rattle.rtds_sim.specs.inner.Accounts.{account_at, gone_on, left_of, IsInPeriod, IsAccount, AreBefore, IsEnd}
+use Rattle.rtds_sim.specs.inner.Running.{RowsFrom, AreOn}
 use Rattle.rtds_sim.proofs.Runs.{entry_unique}
 use Rattle.rtds_sim.proofs.Taking.{none_between}
 use Rattle.rtds_sim.proofs.Entering.{started_by, blocked_by}

@@ -16,7 +16,7 @@ use Rattle.release_file.specs.declared.workload.WakeKind.TheVariants.{Start, Wak
 use Rattle.release_file.specs.Workload.{row_at, last_row, is_of, is_start, starts, is_block, blocks, slot_of, start_of, may_follow, IsWorkload}
 use Rattle.rtds_sim.specs.Rtds.{period_number, period_from}
 use Rattle.rtds_sim.specs.Printed.{event_of, row_event_at}
-use Rattle.rtds_sim.specs.Accounts.{account_at, no_account, row_taken, IsInPeriod, IsAccount, AreAccounts, run_of_part}
+use Rattle.rtds_sim.specs.inner.Accounts.{account_at, no_account, row_taken, IsInPeriod, IsAccount, AreAccounts, run_of_part}
 use Rattle.csv_rows.proofs.Last.{last_below-no, last_below-yes, last_is, some_row}
 
 -- the event of a row at a slot

@@ -19,7 +19,7 @@ use Rattle.trace_file.specs.declared.event.Event.{Event}
 use Rattle.trace_file.specs.declared.event.What.TheVariants.{End}
 use Rattle.trace_file.specs.Events.{event_at, last_among, last_by, starts as starts_event, changes, switches, blocks as blocks_last, runner_of, has_core_at, is_started as trace_started, moment_of, start_of as trace_start, end_of}
 use Rattle.trace_file.specs.declared.unit.Unit.TheVariants.{Microseconds, Nanoseconds}
-use Rattle.trace_file.specs.Printing.{is_whole, unit_for}
+use Rattle.trace_printer.specs.Printing.{is_whole, unit_for}
 use Rattle.trace_file.specs.Periods.{begins, count_between, period_of, running, blocked, got_in, Satisfied}
 use Rattle.csv_rows.proofs.Last.{last_by_moment, found_row, some_row}
 use Rattle.trace_file.proofs.Prefix.{last_same}

@@ -10,9 +10,9 @@ use Rattle.rtds_sim.specs.declared.host.Host.{Host}
 use Rattle.release_file.specs.declared.workload.Wake.{Wake as Row}
 use Rattle.release_file.specs.Workload.{is_started_at, is_blocked_at}
 use Rattle.rtds_sim.specs.Rtds.{can_run, CoreRun}
-use Rattle.rtds_sim.specs.Running.{RowsFrom}
+use Rattle.rtds_sim.specs.inner.Running.{RowsFrom}
 use Rattle.rtds_sim.specs.Printed.{gathered, on_at, on_core_at, switch_to, holder_before, is_blocked_one, holder_left, stop_at, row_event_at, switch_on, printed_at, printed_below}
-use Rattle.rtds_sim.specs.Accounts.{left_at, holder_at, gives_up, stop_of, AreAccounts, AreBefore, HasRoom}
+use Rattle.rtds_sim.specs.inner.Accounts.{left_at, holder_at, gives_up, stop_of, AreAccounts, AreBefore, HasRoom}
 use Rattle.rtds_sim.proofs.Runs.{eligible_runs}
 use Rattle.rtds_sim.proofs.Gathered.{gathered-none, gathered-same}
 use Rattle.rtds_sim.proofs.Taking.{row_none}

@@ -2,15 +2,6 @@ pub mod Rtds
 pub mod Demand
 pub mod Printed
 pub mod Giving
-pub mod Keys
-pub mod KeyTable
-pub mod Queues
-pub mod Accounts
-pub mod Lists
-pub mod Members
-pub mod ByEnd
 pub mod Fault
 pub mod RunText
-pub mod Telling
-pub mod Soonest
-pub mod Running
+pub mod inner

@@ -10,6 +10,7 @@ use Rattle.tree_model.specs.System.{core_at, part_at}
 use Rattle.tree_model.specs.Tree.{is_child, budget_at, run_at}
 use Rattle.trace_file.specs.Periods.{begins, count_between}
 use Rattle.release_file.specs.declared.workload.Wake.{Wake}
+use Rattle.rtds_queues.specs.Keys.{goes_first}
 use Rattle.release_file.specs.Workload.{is_started_at, is_blocked_at, start_of}
 
 -- a core without a supply of its own has every slot
@@ -60,13 +61,6 @@ abbrev pub is_eligible : SystemView → List ℕ → List Wake → ℕ → List 
 is_eligible sys budgets rows c run v x =
     can_run sys rows c v x &&
     (nat_lt (used sys rows run v x) (budget_at budgets v) || (part_at sys v).extra)
-
--- the order of VCPUs: the least level, then the least deadline, then the first in the file
-abbrev pub goes_first : ℕ → ℕ → ℕ → ℕ → ℕ → ℕ → Bool
-goes_first level deadline place level' deadline' place' =
-    nat_lt level level' ||
-    (level == level' &&
-    (nat_lt deadline deadline' || (deadline == deadline' && nat_lt place place')))
 
 abbrev pub goes_before : SystemView → List ℕ → List Wake → List (Option ℕ) → ℕ → ℕ → ℕ → Bool
 goes_before sys budgets rows run x u v =

@@ -6,7 +6,7 @@ use Rattle.tree_model.specs.View.{SystemView}
 use Rattle.trace_file.specs.declared.event.Event.{Event}
 use Rattle.trace_file.specs.File.{Spells}
 use Rattle.trace_file.specs.Periods.{Satisfied}
-use Rattle.trace_file.specs.Printing.{printed_rows}
+use Rattle.trace_printer.specs.Printing.{printed_rows}
 use Rattle.trace_file.specs.Rules.{Kept}
 use Rattle.release_file.specs.declared.workload.Wake.{Wake}
 use Rattle.rtds_sim.specs.Giving.{AlwaysServed, NoneOver}

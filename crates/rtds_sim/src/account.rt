@@ -1,8 +1,8 @@
 ghost use Rattle.std.specs.Prelude.{◌≡◌, ◌≤◌, ◌<◌, ◌+◌, ◌^◌, Some, length};
-ghost use Rattle.rtds_sim.specs.Accounts.{no_account, account_at, account_eligible, key_of, first_key, end_of, level_of, left_of, row_taken, IsLeft};
+ghost use Rattle.rtds_sim.specs.inner.Accounts.{no_account, account_at, account_eligible, key_of, first_key, end_of, level_of, left_of, row_taken, IsLeft};
 
-use crate::key::Key;
 use release_file::{Wake, WakeKind};
+use rtds_queues::Key;
 use slot_model::LIMIT;
 
 /// Past the last slot of each run.

@@ -9,8 +9,8 @@ ghost use Rattle.rtds_sim.specs.Printed.{core_of, event_of, gathered, row_event_
 use crate::account::{Account, PAST_ALL, account_of};
 use crate::levels::budget_of;
 use crate::moment::moment_of_slot;
-use crate::queues::Queues;
 use release_file::{Wake, WakeKind};
+use rtds_queues::Queues;
 use slot_model::LIMIT;
 use std::alloc::AllocError;
 use trace_file::{Event, EventTaker, What};
@@ -104,8 +104,8 @@ impl Host {
     ghost use Rattle.trace_file.specs.declared.event.What.TheVariants.{Stop};
     ghost use Rattle.rtds_sim.specs.Printed.{core_of, gathered, on_at};
     ghost use Rattle.tree_model.specs.System.{IsSystem};
-    ghost use Rattle.rtds_sim.specs.Members.{AreMembers};
-    ghost use Rattle.rtds_sim.specs.Accounts.{no_account, account_at, holder_at, number_at, row_taken, left_at, gives_up, stop_of, IsAccount, AreAccounts, AreBefore, HasRoom, IsReady, AreEnds};
+    ghost use Rattle.rtds_sim.specs.inner.Members.{AreMembers};
+    ghost use Rattle.rtds_sim.specs.inner.Accounts.{no_account, account_at, holder_at, number_at, row_taken, left_at, gives_up, stop_of, IsAccount, AreAccounts, AreBefore, HasRoom, IsReady, AreEnds};
 
     /// Before the first slot.
     pub fn new(sys: &System, plan: &Plan) -> Host

@@ -1,8 +1,8 @@
 ghost use Rattle.std.specs.Prelude.{◌≡◌, ◌<◌, ◌+◌, ◌^◌, Some, length};
 ghost use Rattle.tree_model.specs.Tree.{budget_at};
-ghost use Rattle.rtds_sim.specs.Accounts.{next_key, left_by};
+ghost use Rattle.rtds_sim.specs.inner.Accounts.{next_key, left_by};
 
-use crate::key::Key;
+use rtds_queues::Key;
 use tree_model::Plan;
 
 /// The budget of VCPU `v`.

@@ -2,7 +2,7 @@ ghost use Rattle.std.specs.Prelude.{◌≡◌, ◌<◌, length, IfOk};
 ghost use Rattle.slot_model.specs.Slots.{places_where};
 ghost use Rattle.tree_model.specs.declared.place.Place.TheVariants.{Core};
 ghost use Rattle.tree_model.specs.Tree.{is_child};
-ghost use Rattle.rtds_sim.specs.Members.{AreMembers};
+ghost use Rattle.rtds_sim.specs.inner.Members.{AreMembers};
 
 use std::alloc::{AllocError, Global};
 use tree_model::{MAX_CORES, MAX_PARTS, Parent, System};
@@ -18,7 +18,7 @@ impl Members {
     ghost use Rattle.slot_model.specs.Slots.{places_where};
     ghost use Rattle.tree_model.specs.declared.place.Place.TheVariants.{Core};
     ghost use Rattle.tree_model.specs.Tree.{is_child};
-    ghost use Rattle.rtds_sim.specs.Members.{AreMembers};
+    ghost use Rattle.rtds_sim.specs.inner.Members.{AreMembers};
 
     /// Of a system.
     pub fn new(alloc: Global, sys: &System) -> Result<Members, AllocError>

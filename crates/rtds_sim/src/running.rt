@@ -52,13 +52,14 @@ impl Host {
     ghost use Rattle.tree_model.specs.Tree.{is_child, budget_at};
     ghost use Rattle.tree_model.specs.Plans.{IsPlan};
     ghost use Rattle.release_file.specs.declared.workload.Wake.{Wake as RowView};
-    ghost use Rattle.rtds_sim.specs.Keys.{key_at};
-    ghost use Rattle.rtds_sim.specs.ByEnd.{InOrder, first_end};
-    ghost use Rattle.rtds_sim.specs.Members.{place_at, AreAll, AreMembers};
+    ghost use Rattle.rtds_queues.specs.Keys.{key_at};
+    ghost use Rattle.rtds_sim.specs.inner.ByEnd.{InOrder, first_end};
+    ghost use Rattle.rtds_sim.specs.inner.Members.{AreAll, AreMembers};
+    ghost use Rattle.rtds_queues.specs.Queues.{place_at};
     ghost use Rattle.rtds_sim.specs.Printed.{push_some, on_core_at, switch_to};
-    ghost use Rattle.rtds_sim.specs.Accounts.{account_at, holder_at, number_at, gone_on, used_more, period_ended, left_of, IsChoice, IsReady, IsEnd, AreEnds};
-    ghost use Rattle.rtds_sim.specs.Running.{IsUnderway, HasRun, HasBegun};
-    ghost use Rattle.rtds_sim.specs.Lists.{list_at};
+    ghost use Rattle.rtds_sim.specs.inner.Accounts.{account_at, holder_at, number_at, gone_on, used_more, period_ended, left_of, IsChoice, IsReady, IsEnd, AreEnds};
+    ghost use Rattle.rtds_sim.specs.inner.Running.{IsUnderway, HasRun, HasBegun};
+    ghost use Rattle.rtds_sim.specs.inner.Lists.{list_at};
 
     /// Runs each core by itself up to slot `to`, before which no row comes, and keeps what it
     /// tells.

@@ -3,7 +3,7 @@ ghost use Rattle.csv_rows.specs.Printing.{text_of};
 ghost use Rattle.tree_model.specs.System.{IsSystem};
 ghost use Rattle.tree_model.specs.Tree.{run_at};
 ghost use Rattle.trace_file.specs.declared.event.Event.{Event as EventView};
-ghost use Rattle.trace_file.specs.Printing.{printed_rows};
+ghost use Rattle.trace_printer.specs.Printing.{printed_rows};
 ghost use Rattle.trace_file.specs.Taker.{Took};
 ghost use Rattle.trace_file.specs.Rules.{Kept};
 ghost use Rattle.trace_file.specs.Periods.{Satisfied};
@@ -23,7 +23,8 @@ use crate::switches::Switches;
 use release_file::Wake;
 use slot_model::Sched;
 use std::alloc::{AllocError, Global};
-use trace_file::{Event, EventTaker, Trace, TracePrinter, Unit, What};
+use trace_file::{Event, EventTaker, Trace, Unit, What};
+use trace_printer::TracePrinter;
 use tree_model::{Core, Plan, System};
 
 /// The trace of a workload under RTDS over some slots. The run goes from one change to the next: a

@@ -1,9 +1,9 @@
 ghost use Rattle.std.specs.Prelude.{◌≡◌, ℕ, ◌≤◌, ◌<◌, Option, Some, [], length, map, slice_index, slice_get, MatchOption, IfOk, OnOk};
 ghost use Rattle.trace_file.specs.declared.event.Event.{Event as EventView};
 ghost use Rattle.trace_file.specs.Taker.{Took};
-ghost use Rattle.rtds_sim.specs.Lists.{list_at};
-ghost use Rattle.rtds_sim.specs.Telling.{told_by, AreAtSlots, AreTold};
-ghost use Rattle.rtds_sim.specs.Soonest.{next_moment, AreNever, IsSoonest};
+ghost use Rattle.rtds_sim.specs.inner.Lists.{list_at};
+ghost use Rattle.rtds_sim.specs.inner.Telling.{told_by, AreAtSlots, AreTold};
+ghost use Rattle.rtds_sim.specs.inner.Soonest.{next_moment, AreNever, IsSoonest};
 
 use std::alloc::{AllocError, Global};
 use trace_file::{Event, EventTaker};

@@ -8,7 +8,8 @@ use rtds_sim::{RtdsFault, print_rtds, run_rtds};
 use std::alloc::{AllocError, Global};
 use std::fmt::Write;
 use std::process::Abort;
-use trace_file::{Trace, check_events, print_trace, read_trace};
+use trace_file::{Trace, check_events, read_trace};
+use trace_printer::print_trace;
 use tree_model::System;
 
 /// A, with extra time, and B on cpu0, 3 and 4 slots in every 10, and C on cpu1, 1 in every 4.

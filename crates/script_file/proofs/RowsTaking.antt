@@ -9,7 +9,7 @@ use Rattle.script_file.specs.declared.fault.ScriptFault.TheVariants.{BadRow}
 use Rattle.script_file.specs.declared.script_rows.ScriptRows.{ScriptRows}
 use Rattle.script_file.specs.Script.{edit_of, edits_of, is_row, script_rules, is_script_header, script_rows, SpellsScript, IsScriptFault}
 use Rattle.script_file.specs.Spelt.{IsSpelt}
-use Rattle.script_file.specs.Taken.{HasTakenRows}
+use Rattle.script_file.specs.inner.Taken.{HasTakenRows}
 
 pub edits_more : (rows : List (List (List ℕ))) (row : List (List ℕ))
     → edits_of (rows ++ row ∷ []) ≡ edits_of rows ++ edit_of row ∷ []

@@ -1,5 +1,5 @@
 pub mod Pieces
 pub mod Script
 pub mod Spelt
-pub mod Taken
 pub mod Guests
+pub mod inner

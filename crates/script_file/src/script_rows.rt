@@ -17,7 +17,7 @@ impl RowRules for ScriptRows {
     ghost use Rattle.std.specs.Prelude.{◌≡◌};
     ghost use Rattle.script_file.specs.declared.fault.ScriptFault.TheVariants.{NoMemory};
     ghost use Rattle.script_file.specs.Script.{script_rules};
-    ghost use Rattle.script_file.specs.Taken.{HasTakenRows};
+    ghost use Rattle.script_file.specs.inner.Taken.{HasTakenRows};
 
     type Fault = ScriptFault;
 
@@ -43,7 +43,7 @@ impl RowRules for ScriptRows {
 impl ScriptRows {
     ghost use Rattle.std.specs.Prelude.{◌≡◌, ◌<◌, ◌^◌, ◌∷◌, ◌++◌, [], length, OnOk, IfErr};
     ghost use Rattle.script_file.specs.declared.fault.ScriptFault.TheVariants.{NoMemory};
-    ghost use Rattle.script_file.specs.Taken.{HasTakenRows};
+    ghost use Rattle.script_file.specs.inner.Taken.{HasTakenRows};
 
     /// Before the first row.
     pub fn new(alloc: Global) -> ScriptRows

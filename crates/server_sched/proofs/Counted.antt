@@ -5,7 +5,7 @@ use Rattle.slot_model.specs.declared.job.Job.{Job}
 use Rattle.span_counts.specs.declared.counts.Counts.{Counts}
 use Rattle.tree_model.specs.View.{SystemView}
 use Rattle.tree_model.specs.System.{is_leaf_at}
-use Rattle.server_sched.specs.TreeCounts.{CountsView, counts_at, none_missed, no_node_misses, AreTreeCounts, NoneMisses}
+use Rattle.tree_spans.specs.TreeCounts.{CountsView, counts_at, none_missed, no_node_misses, AreTreeCounts, NoneMisses}
 
 none_at : (counts : List Counts) → none_missed counts ≡ true → (i : ℕ) → i < length counts
     → (counts_at counts i).missed ≡ 0

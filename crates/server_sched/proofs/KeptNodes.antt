@@ -15,11 +15,11 @@ use Rattle.tree_model.specs.System.{IsSystem}
 use Rattle.tree_model.specs.Tree.{is_child, supply_of, rank_among}
 use Rattle.tree_model.proofs.Children.{same_itself}
 use Rattle.tree_model.specs.Releases.{jobs_at}
-use Rattle.server_sched.specs.NodeView.{NodeView, counts_of}
-use Rattle.server_sched.specs.Shares.{share_at}
-use Rattle.server_sched.specs.TreeSpans.{no_node, node_at, node_of, parent_of, runs_of, given_at, supplies_of, IsThere, HasShare, AreTreeSpans}
+use Rattle.tree_spans.specs.NodeView.{NodeView, counts_of}
+use Rattle.tree_spans.specs.Shares.{share_at}
+use Rattle.tree_spans.specs.TreeSpans.{no_node, node_at, node_of, parent_of, runs_of, given_at, supplies_of, IsThere, HasShare, AreTreeSpans}
 use Rattle.server_sched.specs.CountedTree.{KeptView, kept_of, kept_at, kept_in, counts_kept, taken, cores_after, parts_after, IsKept, IsStillKept, IsServerKept, IsPartKept, AreCoresKept, ArePartsRun, HasKeptShare, AreFirstCounts}
-use Rattle.server_sched.proofs.TreeNodes.{no_cores, one_core, cores_give, no_part_nodes, one_part, has_share, share_of_part, tree_spans, tree_counted}
+use Rattle.tree_spans.proofs.TreeNodes.{no_cores, one_core, cores_give, no_part_nodes, one_part, has_share, share_of_part, tree_spans, tree_counted}
 
 -- one more
 added : (nodes : List NodeView) (kept : List KeptView) (node : NodeView) (one : KeptView) → kept ≡ map kept_of nodes

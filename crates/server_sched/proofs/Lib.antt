@@ -6,11 +6,7 @@ mod Tallying
 mod Underway
 mod LevelServed
 mod ServerKept
-mod Sharing
-pub mod Nodes
-pub mod TreeNodes
 mod KeptNodes
-pub mod Lists
 pub mod Counted
 mod Conforming
 mod Patterned

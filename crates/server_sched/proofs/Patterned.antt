@@ -14,7 +14,7 @@ use Rattle.guest_sched.proofs.Given.{slots-long}
 use Rattle.guest_sched.proofs.Spelled.{Spells, then_none, then_all}
 use Rattle.server_sched.specs.declared.supplies.Pattern.{Pattern}
 use Rattle.server_sched.specs.Patterns.{cyclic_slot, pattern_slot, pattern_slots, pattern_supplies}
-use Rattle.server_sched.specs.TreeSpans.{given_at, supplies_of}
+use Rattle.tree_spans.specs.TreeSpans.{given_at, supplies_of}
 
 -- the slots of period k, by their place in it
 cyclic_at : (period first budget k y : ℕ) → y < period

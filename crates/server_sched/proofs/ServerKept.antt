@@ -18,10 +18,10 @@ use Rattle.tree_model.specs.declared.place.Place.{Place}
 use Rattle.tree_model.specs.View.{SystemView}
 use Rattle.tree_model.specs.Tree.{node_sched, server_task, server_tasks, is_child}
 use Rattle.span_counts.specs.Counts.{AreCounts}
-use Rattle.server_sched.specs.Shares.{AreShares}
+use Rattle.tree_spans.specs.Shares.{AreShares}
 use Rattle.server_sched.specs.CountedTree.{KeptView, IsServerKept}
 use Rattle.server_sched.specs.Serving.{IsServerTask, AreServerTasks, IsServed}
-use Rattle.server_sched.proofs.Nodes.{run_long, server_node_made}
+use Rattle.tree_spans.proofs.Nodes.{run_long, server_node_made}
 
 -- servers release as their jobs arrive, and are due at the end of their period
 pub are_servers : (sys : SystemView) (budgets : List ℕ) (place : Place)

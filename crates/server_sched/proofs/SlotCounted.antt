@@ -17,8 +17,8 @@ use Rattle.tree_model.specs.Tree.{IsNode, place_of, node_tasks, server_tasks, se
 use Rattle.tree_model.proofs.NodeTasks.{inner_tasks}
 use Rattle.span_counts.specs.declared.counts.Counts.{Counts}
 use Rattle.span_counts.specs.Counts.{AreCounts}
-use Rattle.server_sched.specs.TreeCounts.{no_counts, AreTreeCounts}
-use Rattle.server_sched.specs.TreeSpans.{parent_of}
+use Rattle.tree_spans.specs.TreeCounts.{no_counts, AreTreeCounts}
+use Rattle.tree_spans.specs.TreeSpans.{parent_of}
 use Rattle.server_sched.specs.Shapes.{RunHolds, TreeHolds}
 use Rattle.server_sched.specs.SlotCounts.{OfTree, ParentHolds, HasRun, AreCoreCounts, IsPartCount, ArePartCounts}
 

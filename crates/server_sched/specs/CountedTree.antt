@@ -8,10 +8,10 @@ use Rattle.tree_model.specs.declared.place.Place.TheVariants.{Core, Part}
 use Rattle.tree_model.specs.View.{SystemView}
 use Rattle.tree_model.specs.Tree.{rank_among}
 use Rattle.tree_model.specs.FirstTree.{FirstTree}
-use Rattle.server_sched.specs.NodeView.{NodeView, counts_of}
-use Rattle.server_sched.specs.Shares.{share_at}
-use Rattle.server_sched.specs.TreeCounts.{CountsView, AreTreeCounts}
-use Rattle.server_sched.specs.TreeSpans.{no_node, node_of, parent_of, HasShare, IsServerNode, IsPartNode, AreCoreNodes, ArePartNodes}
+use Rattle.tree_spans.specs.NodeView.{NodeView, counts_of}
+use Rattle.tree_spans.specs.Shares.{share_at}
+use Rattle.tree_spans.specs.TreeCounts.{CountsView, AreTreeCounts}
+use Rattle.tree_spans.specs.TreeSpans.{no_node, node_of, parent_of, HasShare, IsServerNode, IsPartNode, AreCoreNodes, ArePartNodes}
 
 -- what is kept of a node: what each child gets of its run, and what is counted of it
 pub record KeptView : Type 0 where

@@ -1,7 +1,3 @@
-pub mod Shares
-pub mod NodeView
-pub mod TreeCounts
-pub mod TreeSpans
 pub mod Patterns
 pub mod Shapes
 pub mod SlotCounts

@@ -16,7 +16,7 @@ use Rattle.span_counts.specs.Counts.{AreCounts}
 use Rattle.server_sched.specs.declared.level.Level.{Level}
 use Rattle.server_sched.specs.declared.serving.Server.{Server}
 use Rattle.server_sched.specs.declared.tally.Late.{Late}
-use Rattle.server_sched.specs.Shares.{share_at, AreShares}
+use Rattle.tree_spans.specs.Shares.{share_at, AreShares}
 use Rattle.server_sched.specs.CountedTree.{KeptView}
 
 -- tasks of servers: a job is released as it arrives, and due at the end of its period

@@ -10,8 +10,8 @@ use Rattle.tree_model.specs.System.{own_tasks_at, is_leaf_at}
 use Rattle.tree_model.specs.Tree.{server_tasks, server_jobs, run_at, run_of, supply_of}
 use Rattle.slot_model.specs.Miss.{HoldsReleased}
 use Rattle.server_sched.specs.Shapes.{TreeHolds}
-use Rattle.server_sched.specs.TreeCounts.{counts_at}
-use Rattle.server_sched.specs.TreeSpans.{parent_of}
+use Rattle.tree_spans.specs.TreeCounts.{counts_at}
+use Rattle.tree_spans.specs.TreeSpans.{parent_of}
 
 -- the runs have the shape of the tree's over some slots and these jobs
 pub record OfTree (sys : SystemView) (budgets : List ℕ) (n : ℕ) (jobs : List (List Job))

@@ -8,15 +8,12 @@ ghost use Rattle.tree_model.specs.Plans.{IsPlan};
 ghost use Rattle.tree_model.specs.System.{IsSystem, own_tasks_at, is_leaf_at};
 ghost use Rattle.tree_model.specs.Tree.{IsNode, node_tasks, server_tasks, server_jobs, rank_among};
 ghost use Rattle.tree_model.specs.Releases.{AreReleases};
-ghost use Rattle.server_sched.specs.Shares.{share_at};
-ghost use Rattle.server_sched.specs.TreeSpans.{AreSupplies, AreFewJobs, supplies_of, parent_of};
+ghost use Rattle.tree_spans.specs.Shares.{share_at};
+ghost use Rattle.tree_spans.specs.TreeSpans.{AreSupplies, AreFewJobs, supplies_of, parent_of};
 ghost use Rattle.server_sched.specs.CountedTree.{kept_of, IsServerKept, IsPartKept, AreCoresKept, ArePartsRun, AreFirstCounts, counts_kept, kept_in, taken, cores_after, parts_after, HasKeptShare, HasCores};
 
-use crate::TreeCounts;
 use crate::level::MOST_ROOM;
-use crate::node::NodeSpans;
 use crate::served::serve_level;
-use crate::tree::{leaf_node, rank_of, room_for_tasks};
 use guest_sched::Window;
 use slot_model::{Job, Task};
 use span_counts::Counts;
@@ -24,6 +21,7 @@ use std::alloc::{AllocError, Global};
 use std::marker::Model;
 use std::mem::replace;
 use tree_model::{Parent, Place, Plan, System, sched_of, write_tasks};
+use tree_spans::{NodeSpans, TreeCounts, leaf_node, rank_of, room_for_tasks};
 
 /// What is kept of the run of a node once it is counted: the windows that each child gets of it,
 /// one list a child in file order, and its counts.

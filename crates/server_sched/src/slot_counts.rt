@@ -10,19 +10,18 @@ ghost use Rattle.tree_model.specs.Plans.{IsPlan};
 ghost use Rattle.tree_model.specs.Releases.{AreReleases, jobs_at};
 ghost use Rattle.tree_model.specs.System.{IsSystem, own_tasks_at, is_leaf_at};
 ghost use Rattle.tree_model.specs.Tree.{IsNode, node_tasks, server_tasks, server_jobs, run_at, run_of, supply_of};
-ghost use Rattle.server_sched.specs.TreeSpans.{AreFewJobs, AreLists};
-ghost use Rattle.server_sched.specs.TreeCounts.{AreTreeCounts};
+ghost use Rattle.tree_spans.specs.TreeSpans.{AreFewJobs, AreLists};
+ghost use Rattle.tree_spans.specs.TreeCounts.{AreTreeCounts};
 ghost use Rattle.server_sched.specs.Shapes.{RunHolds, TreeHolds};
 ghost use Rattle.server_sched.specs.SlotCounts.{OfTree, ParentHolds, HasRun, AreCoreCounts, IsPartCount, ArePartCounts};
 
-use crate::TreeCounts;
-use crate::tree::{rank_of, room_for_tasks};
 use guest_sched::{spans_of, windows_of};
 use release_pattern::synchronous_jobs;
 use slot_model::{Job, Task};
 use span_counts::{Counts, count_level};
 use std::alloc::{AllocError, Global};
 use tree_model::{Place, Plan, System, TreeRun, write_tasks};
+use tree_spans::{TreeCounts, rank_of, room_for_tasks};
 
 /// What is counted of a run of a tree that stands slot by slot, over these jobs and these lists of
 /// slots. It may be any run of that shape that holds jobs which are released, as `run_tree` answers

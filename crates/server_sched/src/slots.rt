@@ -6,14 +6,13 @@ ghost use Rattle.tree_model.specs.Tree.{PermittedTree};
 ghost use Rattle.tree_model.specs.FirstTree.{FirstTree};
 ghost use Rattle.tree_model.specs.Releases.{AreReleases, jobs_at};
 ghost use Rattle.server_sched.specs.Shapes.{TreeHolds};
-ghost use Rattle.server_sched.specs.TreeSpans.{AreLists, AreWindowsOf, node_at, runs_of};
+ghost use Rattle.tree_spans.specs.TreeSpans.{AreLists, AreWindowsOf, node_at, runs_of};
 
-use crate::node::NodeSpans;
-use crate::tree::span_tree;
 use guest_sched::{Window, windows_of, written};
 use slot_model::Job;
 use std::alloc::{AllocError, Global};
 use tree_model::{Plan, System, TreeRun};
+use tree_spans::{NodeSpans, span_tree};
 
 /// The one first run of the tree over lists of slots, one a core, slot by slot: cores and inner
 /// parts run the servers of their children, leaves their jobs.

@@ -3,7 +3,7 @@ ghost use Rattle.slot_model.specs.Supply.{Follows};
 ghost use Rattle.guest_sched.specs.Spans.{AreWindows, slots_of};
 ghost use Rattle.tree_model.specs.System.{IsCoreSupply, core_at};
 ghost use Rattle.tree_model.specs.Tree.{CoreConforms};
-ghost use Rattle.server_sched.specs.TreeSpans.{AreSupplies, supplies_of};
+ghost use Rattle.tree_spans.specs.TreeSpans.{AreSupplies, supplies_of};
 ghost use Rattle.server_sched.specs.Patterns.{cyclic_slot, pattern_slot, pattern_supplies};
 
 use guest_sched::{Window, add_window, pattern_windows};

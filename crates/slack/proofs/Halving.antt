@@ -16,7 +16,7 @@ use Rattle.compose_tree.proofs.Heavier.{lighter_test}
 use Rattle.admission_session.specs.Answers.{IsAdmitted}
 use Rattle.admission_session.specs.Leaves.{with_changed}
 use Rattle.admission_session.proofs.KeptByEdits.{changed_here}
-use Rattle.slack.specs.Steps.{part_with_budget, with_budget, IsOpenTo, IsMostBudget, tasks_with, IsMostPassing}
+use Rattle.slack.specs.inner.Steps.{part_with_budget, with_budget, IsOpenTo, IsMostBudget, tasks_with, IsMostPassing}
 use Rattle.slack.proofs.Lower.{standing_open}
 use Rattle.slack.proofs.Most.{AtLeaf, at_leaf, at_changed, budget_admitted, differs, differs_first, heavier_with, with_budget_is}
 

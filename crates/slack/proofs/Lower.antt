@@ -24,7 +24,7 @@ use Rattle.tree_model.proofs.InRange.{admitted_in_period, children_fit}
 use Rattle.compose_tree.specs.Steps.{PartsPassFrom}
 use Rattle.compose_tree.proofs.Heavier.{Heavier, heavier_same, heavier_push_if, lighter_test}
 use Rattle.compose_tree.proofs.Settling.{assign_one, pass_one, settled_admits}
-use Rattle.slack.specs.Steps.{IsOpenTo}
+use Rattle.slack.specs.inner.Steps.{IsOpenTo}
 
 -- a budget of a period passes or not
 passes_not : (sched : Sched) (tasks : List SporadicTask) → AreConstrained tasks → (period b : ℕ) → 1 ≤ period

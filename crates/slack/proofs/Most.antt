@@ -22,7 +22,7 @@ use Rattle.admission_session.specs.Answers.{IsAdmitted}
 use Rattle.admission_session.proofs.KeptByEdits.{changed_at, changed_here}
 use Rattle.admission_session.proofs.EditedSystems.{with_changed_is}
 use Rattle.slack.specs.MostWork.{no_task, named_at, task_with_work, part_with_work, with_work, IsMostWork}
-use Rattle.slack.specs.Steps.{part_with_budget, with_budget, IsOpenTo, IsMostBudget, tasks_with, IsMostPassing}
+use Rattle.slack.specs.inner.Steps.{part_with_budget, with_budget, IsOpenTo, IsMostBudget, tasks_with, IsMostPassing}
 use Rattle.slack.proofs.Lower.{DiffersAt, PartStands, open_stands, standing_open, lowered_admitted}
 
 -- the task at a place with other work, and every other as it was

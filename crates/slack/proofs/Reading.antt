@@ -14,7 +14,7 @@ use Rattle.tree_model.specs.System.{IsSystem, part_at, own_tasks_at, is_leaf_at}
 use Rattle.tree_model.specs.Tree.{budget_at, node_tasks}
 use Rattle.tree_model.proofs.NodeTasks.{leaf_tasks}
 use Rattle.slack.specs.MostWork.{AreMostWorks}
-use Rattle.slack.specs.Steps.{part_with_budget, IsMostBudget, AreMostPassing}
+use Rattle.slack.specs.inner.Steps.{part_with_budget, IsMostBudget, AreMostPassing}
 use Rattle.slack.proofs.Most.{AtLeaf, at_changed, is_most_work, own_length}
 
 -- room that is written back as a whole

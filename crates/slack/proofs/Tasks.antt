@@ -9,7 +9,7 @@ use Rattle.slot_model.proofs.Budgets.{short_not_passes}
 use Rattle.least_budget.specs.declared.answers.Tested.{Tested}
 use Rattle.least_budget.specs.declared.answers.Tested.TheVariants.{Passes as AllPasses, Short as FirstShort, Wide as TestWide}
 use Rattle.least_budget.specs.Answers.{IsTested}
-use Rattle.slack.specs.Steps.{tasks_with}
+use Rattle.slack.specs.inner.Steps.{tasks_with}
 
 pub put_back : (tasks : List Task) (i : ℕ) (changed task : Task) → task ≡ get_or tasks i task
     → set (set tasks i changed) i task ≡ tasks

@@ -1,2 +1,2 @@
 pub mod MostWork
-pub mod Steps
+pub mod inner

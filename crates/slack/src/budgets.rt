@@ -3,7 +3,7 @@ ghost use Rattle.tree_model.specs.System.{IsSystem, part_at, is_leaf_at};
 ghost use Rattle.tree_model.specs.Admission.{Admitted};
 ghost use Rattle.compose_tree.specs.Kept.{IsKept};
 ghost use Rattle.admission_session.specs.Answers.{IsAdmitted};
-ghost use Rattle.slack.specs.Steps.{with_budget, IsMostBudget};
+ghost use Rattle.slack.specs.inner.Steps.{with_budget, IsMostBudget};
 
 use admission_session::copy_system;
 use compose_tree::recompose;

@@ -1,7 +1,7 @@
 ghost use Rattle.std.specs.Prelude.{◌≡◌, ◌↔◌, ◌+◌, ◌^◌, ◌<◌, ◌≤◌, length, IfOk, IsTrue};
 ghost use Rattle.slot_model.specs.Task.{sporadic_tasks, room_of, task_at};
 ghost use Rattle.slot_model.specs.Bound.{sbf, TestPasses};
-ghost use Rattle.slack.specs.Steps.{tasks_with, IsMostPassing, AreMostPassing};
+ghost use Rattle.slack.specs.inner.Steps.{tasks_with, IsMostPassing, AreMostPassing};
 
 use least_budget::{Tested, test};
 use slot_model::{Sched, Task};

@@ -9,7 +9,7 @@ use Rattle.tree_model.specs.Lists.{first_of}
 use Rattle.tree_model.proofs.Lists.{length_map, first_here}
 use Rattle.system_file.specs.declared.fault.SystemFault.{SystemFault}
 use Rattle.system_file.specs.Faults.{in_order}
-use Rattle.system_file.specs.Reading.{Known}
+use Rattle.system_file.specs.inner.Reading.{Known}
 
 abbrev pub before : List Item → ℕ → List Data
 before vs i = map item_view (take i vs)

@@ -5,7 +5,7 @@ use Rattle.std.specs.Prelude.{bytes_eq}
 use Rattle.std.specs.List.{list_any}
 use Rattle.toml.specs.Data.{Data, string, get}
 use Rattle.system_file.specs.Document.{is_text, is_named}
-use Rattle.system_file.specs.Reading.{HaveNames}
+use Rattle.system_file.specs.inner.Reading.{HaveNames}
 
 named_by : (s : List ℕ) (ds : List Data)
     → list_any (is_named s) ds ≡ list_any (is_text s) (map (λ d. get (codes "name") d) ds)

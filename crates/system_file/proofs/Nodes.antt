@@ -15,7 +15,7 @@ use Rattle.tree_model.specs.declared.place.Parent.TheVariants.{Core as on_core, 
 use Rattle.system_file.specs.declared.format.Format.{Format}
 use Rattle.system_file.specs.Document.{text_of, is_text, is_named, core_or_part, parent_named, parent_at}
 use Rattle.system_file.specs.Faults.{in_order, core_faults, part_faults, has_tasks}
-use Rattle.system_file.specs.Reading.{is_on}
+use Rattle.system_file.specs.inner.Reading.{is_on}
 use Rattle.system_file.proofs.Places.{parent_kept, position_within}
 use Rattle.system_file.proofs.Found.{position_none, position_first, position_holds}
 use Rattle.system_file.proofs.Faultless.{NewName}

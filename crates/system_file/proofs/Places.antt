@@ -11,7 +11,7 @@ use Rattle.tree_model.specs.System.{is_leaf}
 use Rattle.tree_model.proofs.Lists.{position_map, length_map}
 use Rattle.system_file.specs.Document.{is_text, is_named, core_or_part, parent_named, spelled_part, spelled_task, tasks_of}
 use Rattle.system_file.specs.Faults.{has_tasks}
-use Rattle.system_file.specs.Reading.{HaveNames, Known}
+use Rattle.system_file.specs.inner.Reading.{HaveNames, Known}
 
 -- the first place by recursion
 pub position_cons : {A : Type 0} (p : A → Bool) (x : A) (xs : List A)

@@ -10,7 +10,7 @@ use Rattle.toml.specs.Data.{Data, string, get}
 use Rattle.tree_model.specs.System.{AreDistinct}
 use Rattle.tree_model.proofs.Distinct.{differ}
 use Rattle.system_file.specs.Document.{is_named}
-use Rattle.system_file.specs.Reading.{HaveNames}
+use Rattle.system_file.specs.inner.Reading.{HaveNames}
 use Rattle.system_file.proofs.Named.{taken_is}
 use Rattle.system_file.proofs.Found.{position_none}
 use Rattle.system_file.proofs.Places.{place_is}

@@ -15,7 +15,7 @@ use Rattle.system_file.specs.declared.fault.SystemFault.{SystemFault}
 use Rattle.system_file.specs.declared.fault.SystemFault.TheVariants.{Empty}
 use Rattle.system_file.specs.Document.{format_of, text_of, is_text, cores_of, parts_of, tasks_of, parent_at, spelled_core, spelled_part, spelled_system}
 use Rattle.system_file.specs.Faults.{required, optional, format_faults, core_array_faults, array_faults, top_faults, top_keys, in_order, core_faults, part_faults, empty_faults, has_tasks, is_parent, faults}
-use Rattle.system_file.specs.Reading.{AreNodes, is_on, has_child, is_empty_part, part_in, ParentsAmong}
+use Rattle.system_file.specs.inner.Reading.{AreNodes, is_on, has_child, is_empty_part, part_in, ParentsAmong}
 use Rattle.system_file.proofs.Places.{leaf_tasks}
 use Rattle.system_file.proofs.Found.{list_any_same, any_at, none_in_order, first_in_order}
 use Rattle.system_file.proofs.Faultless.{table_inside, few_there, cores_there}

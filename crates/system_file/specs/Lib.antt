@@ -2,5 +2,5 @@ pub mod Document
 pub mod Faults
 pub mod SystemFile
 pub mod Written
-pub mod Reading
 pub mod Printed
+pub mod inner

@@ -5,7 +5,7 @@ ghost use Rattle.tree_model.specs.Lists.{first_of};
 ghost use Rattle.system_file.specs.declared.fault.SystemFault.TheVariants.{NoMemory};
 ghost use Rattle.system_file.specs.Document.{spelled_core, supply_of};
 ghost use Rattle.system_file.specs.Faults.{supply_faults, core_keys, core_key_faults, core_faults, table_faults, in_order};
-ghost use Rattle.system_file.specs.Reading.{HaveNames};
+ghost use Rattle.system_file.specs.inner.Reading.{HaveNames};
 
 use crate::keys::{check_keys, find, number_at, number_of, sched_at, table_of};
 use crate::names::{Names, name_at};

@@ -7,7 +7,7 @@ ghost use Rattle.tree_model.specs.Lists.{first_of};
 ghost use Rattle.system_file.specs.declared.fault.SystemFault.TheVariants.{NoMemory};
 ghost use Rattle.system_file.specs.Document.{text_of};
 ghost use Rattle.system_file.specs.Faults.{name_faults, new_name_faults, required, text_faults};
-ghost use Rattle.system_file.specs.Reading.{HaveNames};
+ghost use Rattle.system_file.specs.inner.Reading.{HaveNames};
 
 use crate::keys::text_at;
 use crate::{Spot, SystemFault};

@@ -7,7 +7,7 @@ ghost use Rattle.tree_model.specs.Lists.{first_of};
 ghost use Rattle.system_file.specs.declared.fault.SystemFault.TheVariants.{NoMemory};
 ghost use Rattle.system_file.specs.Document.{flag_of, given_number, number_of, parent_at as parent_in, parent_named, spelled_part, tasks_of};
 ghost use Rattle.system_file.specs.Faults.{in_order, parent_faults, part_faults, required, server_faults, text_faults};
-ghost use Rattle.system_file.specs.Reading.{HaveNames, Known, has_child, is_empty_part, part_in, ParentsAmong};
+ghost use Rattle.system_file.specs.inner.Reading.{HaveNames, Known, has_child, is_empty_part, part_in, ParentsAmong};
 
 use crate::format::Format;
 use crate::keys::{

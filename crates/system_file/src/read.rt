@@ -7,7 +7,7 @@ ghost use Rattle.tree_model.specs.Lists.{first_of};
 ghost use Rattle.system_file.specs.declared.fault.SystemFault.TheVariants.{NoMemory};
 ghost use Rattle.system_file.specs.Document.{cores_of, format_of, parts_of, spelled_system};
 ghost use Rattle.system_file.specs.Faults.{faults, top_faults};
-ghost use Rattle.system_file.specs.Reading.{AreNodes};
+ghost use Rattle.system_file.specs.inner.Reading.{AreNodes};
 ghost use Rattle.system_file.specs.SystemFile.{system_of, system_of_document};
 ghost use Rattle.system_file.specs.Written.{Spells};
 

@@ -6,7 +6,7 @@ ghost use Rattle.toml_items.specs.Item.{item_view, entries_view};
 ghost use Rattle.system_file.specs.declared.fault.SystemFault.TheVariants.{NoMemory};
 ghost use Rattle.system_file.specs.Document.{spelled_task};
 ghost use Rattle.system_file.specs.Faults.{task_number_faults, task_keys as keys, task_key_faults, task_faults, table_faults, in_order};
-ghost use Rattle.system_file.specs.Reading.{HaveNames};
+ghost use Rattle.system_file.specs.inner.Reading.{HaveNames};
 
 use crate::format::{Format, task_keys};
 use crate::keys::{below_at, check_keys, given_number_at, number_at, table_of};

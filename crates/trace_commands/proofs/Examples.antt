@@ -14,7 +14,7 @@ use Rattle.trace_commands.specs.Audit.{tracing, finding_status}
 use Rattle.csv_rows.specs.Printing.{text_of}
 use Rattle.csv_rows.specs.Reading.{records_of}
 use Rattle.trace_file.specs.File.{Spells}
-use Rattle.trace_file.specs.Printing.{printed_rows}
+use Rattle.trace_printer.specs.Printing.{printed_rows}
 use Rattle.release_file.specs.declared.workload.Wake.{Wake}
 use Rattle.rtds_sim.specs.Rtds.{RtdsRun}
 use Rattle.rtds_sim.specs.Giving.{AlwaysRunnable, ServersFit, GivesBudgets, NoneOver}

@@ -9,7 +9,7 @@ use Rattle.tree_model.specs.Tree.{run_at}
 use Rattle.trace_file.specs.declared.event.Event.{Event}
 use Rattle.trace_file.specs.File.{Spells}
 use Rattle.trace_file.specs.Periods.{Satisfied}
-use Rattle.trace_file.specs.Printing.{printed_rows}
+use Rattle.trace_printer.specs.Printing.{printed_rows}
 use Rattle.release_file.specs.declared.fault.ReleaseFault.{ReleaseFault}
 use Rattle.release_file.specs.declared.workload.Wake.{Wake}
 use Rattle.release_file.specs.WorkloadFile.{SpellsWorkload, IsWorkloadFault, wake_rows}

@@ -9,7 +9,7 @@ use Rattle.release_file.specs.declared.fault.ReleaseFault.{ReleaseFault}
 use Rattle.release_file.specs.ReleaseFile.{SpellsReleases, IsReleasesFault, release_rows}
 use Rattle.server_sched.specs.declared.supplies.Pattern.{Pattern}
 use Rattle.server_sched.specs.Patterns.{pattern_supplies}
-use Rattle.server_sched.specs.TreeCounts.{CountsView, no_node_misses, AreTreeCounts, NoneMisses}
+use Rattle.tree_spans.specs.TreeCounts.{CountsView, no_node_misses, AreTreeCounts, NoneMisses}
 use Rattle.rt_report.specs.declared.fault.FileFault.TheVariants.{Release}
 use Rattle.rt_report.specs.Fault.{fault_text}
 use Rattle.rt_report.specs.Simulate.{simulate_text}

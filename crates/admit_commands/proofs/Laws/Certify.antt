@@ -9,8 +9,8 @@ use Rattle.tree_model.proofs.Unique.{one_refusal, never_both}
 use Rattle.compose_tree.proofs.Sound.{admitted_no_loss, admitted_tight}
 use Rattle.cert_reader.specs.CertificateFile.{certificate_of}
 use Rattle.cert_reader.specs.Printed.{certificate_text}
-use Rattle.cert_reader.specs.Proves.{budgets_of, Proves}
-use Rattle.cert_reader.proofs.Admits.{proves_admits}
+use Rattle.cert_verify.specs.Proves.{budgets_of, Proves}
+use Rattle.cert_verify.proofs.Admits.{proves_admits}
 use Rattle.certificate.specs.Made.{IsCertificate}
 use Rattle.certificate.proofs.Shows.{certificate_proves}
 use Rattle.certificate.proofs.OneCertificate.{one_certificate}

@@ -9,13 +9,13 @@ use Rattle.tree_model.specs.View.{SystemView}
 use Rattle.tree_model.specs.System.{IsSystem}
 use Rattle.tree_model.specs.Tree.{IsNode}
 use Rattle.cert_reader.specs.declared.fault.CertFault.{CertFault}
-use Rattle.cert_reader.specs.declared.flaw.Flaw.{Flaw}
-use Rattle.cert_reader.specs.declared.flaw.Flaw.TheVariants.{Nodes, Budget, Cover, Hit, Least, Wide as TooWide}
+use Rattle.cert_verify.specs.declared.flaw.Flaw.{Flaw}
+use Rattle.cert_verify.specs.declared.flaw.Flaw.TheVariants.{Nodes, Budget, Cover, Hit, Least, Wide as TooWide}
 use Rattle.cert_reader.specs.CertificateFile.{certificate_of}
-use Rattle.cert_reader.specs.Proves.{node_at, AreNodes, Proves}
-use Rattle.cert_reader.specs.Flaws.{FirstFlaw}
-use Rattle.cert_reader.proofs.Failing.{flaw_not_proves}
-use Rattle.cert_reader.proofs.OneFlaw.{one_flaw}
+use Rattle.cert_verify.specs.Proves.{node_at, AreNodes, Proves}
+use Rattle.cert_verify.specs.Flaws.{FirstFlaw}
+use Rattle.cert_verify.proofs.Failing.{flaw_not_proves}
+use Rattle.cert_verify.proofs.OneFlaw.{one_flaw}
 use Rattle.rt_report.specs.Check.{check_text, IsFlawOf}
 use Rattle.command_steps.specs.declared.status.Status.{Status}
 use Rattle.command_steps.specs.declared.status.Status.TheVariants.{Yes, No, Usage, BadFile, Wide, Absent, TooLong, ReadFault, WriteFault, NoMemory}

@@ -1,12 +1,20 @@
 -- What `choose` answers: one thing, its statuses, and what it means.
-use Rattle.std.proofs.Common.{◌≡◌, ℕ, ◌≤◌, List, refl, sym, ◌∙◌, ap, subst, inl, inr, arith}
-use Rattle.slot_model.specs.Task.{AreConstrained}
+use Rattle.std.proofs.Common.{◌≡◌, ℕ, ◌≤◌, true, List, refl, sym, ◌∙◌, ap, subst, inl, inr, arith}
+use Rattle.std.proofs.lemmas.Bool.{false≢true}
+use Rattle.slot_model.specs.Task.{SporadicTask, AreConstrained}
+use Rattle.slot_model.specs.declared.sched.Sched.{Sched}
+use Rattle.slot_model.specs.Supply.{GivesBudget}
+use Rattle.slot_model.specs.Order.{before_of}
+use Rattle.slot_model.specs.Miss.{MustMiss}
 use Rattle.slot_model.proofs.WorstPattern.{periodic_laws}
-use Rattle.least_budget.proofs.Budgets.{not_passing_misses}
+use Rattle.least_budget.specs.declared.answers.Least.{Least}
+use Rattle.least_budget.specs.declared.answers.Least.TheVariants.{Budget, Over, Wide as TooWide}
+use Rattle.least_budget.specs.Answers.{IsLeast}
+use Rattle.least_budget.proofs.Budgets.{not_passing_misses, over_misses}
 use Rattle.least_budget.proofs.Level.{level_no_loss}
 use Rattle.period_choice.specs.declared.choice.Choice.{Choice}
 use Rattle.period_choice.specs.declared.choice.Choice.TheVariants.{Best, Nothing}
-use Rattle.period_choice.specs.Choice.{IsChoice}
+use Rattle.period_choice.specs.Choice.{is_over, IsChoice}
 use Rattle.period_choice.proofs.OneChoice.{one_choice}
 use Rattle.tree_model.specs.View.{SystemView}
 use Rattle.tree_model.specs.System.{IsSystem, part_at, own_tasks_at}
@@ -14,8 +22,8 @@ use Rattle.tree_model.proofs.Parents.{leaf_constrained}
 use Rattle.command_steps.specs.declared.status.Status.{Status}
 use Rattle.command_steps.specs.declared.status.Status.TheVariants.{Yes, No}
 use Rattle.command_steps.specs.Answer.{IsOne}
-use Rattle.guest_commands.specs.Choose.{choice_status, choice_text, IsChosen, ChoosesSystem, ChoiceTells, the_choose}
-use Rattle.command_steps.specs.NamedLeaf.{IsLeafNamed, HasNoLeaf, IsVerdictUnless}
+use Rattle.guest_commands.specs.Choose.{choice_status, choice_text, IsChosen, ChoosesSystem, ChoiceTells, EndsChoosing, the_choose}
+use Rattle.command_steps.specs.NamedLeaf.{IsLeafNamed}
 use Rattle.command_steps.specs.Steps.{IsJudged}
 use Rattle.command_steps.proofs.CommandLaws.{CommandLaws}
 use Rattle.command_steps.proofs.NamedLeaf.{one_on_leaf}
@@ -52,6 +60,15 @@ choose_judged part low high sys status text h = elim h [
   | inr none ↦ subst IsJudged (sym none.status_is) tt
 ]
 
+-- at a period that is short even as a whole, every budget must miss
+period_misses : (sched : Sched) (tasks : List SporadicTask) → AreConstrained tasks → (q b : ℕ) → 1 ≤ q → b ≤ q
+    → (answer : Least) → IsLeast sched tasks q answer → is_over answer ≡ true
+    → MustMiss (GivesBudget q b) (before_of sched tasks) tasks
+period_misses sched tasks fits q b some within (Budget least) h over = absurd (false≢true over)
+period_misses sched tasks fits q b some within (Over short) h over =
+    over_misses sched tasks fits q b some within short h.1
+period_misses sched tasks fits q b some within TooWide h over = absurd (false≢true over)
+
 -- what it means
 choice_tells : (part : List ℕ) (low high : ℕ) → 1 ≤ low → (sys : SystemView) → IsSystem sys → (q : ℕ)
     → IsLeafNamed sys part q
@@ -75,7 +92,18 @@ choice_tells part low high some sys is q found (Best period budget) best =
           (omega (arith, less, best.is_least.1.in_range)) (best.is_least.1.least b less);
     }
 choice_tells part low high some sys is q found (Nothing over wide) nothing =
-    record { leaf = q; found = found; over = over; wide = wide; told = refl; nothing = nothing }
+    let fits : AreConstrained (own_tasks_at sys q) = leaf_constrained sys is q found.is_part in
+    record {
+      leaf = q;
+      found = found;
+      over = over;
+      wide = wide;
+      told = refl;
+      nothing = nothing;
+      misses =
+          λ p b from to short within. period_misses (part_at sys q).sched (own_tasks_at sys q) fits p b
+          (omega (arith, some, from)) within (nothing.answer p) (nothing.answers p from to) short;
+    }
 
 choose_means : (part : List ℕ) (low high : ℕ) → 1 ≤ low → (sys : SystemView) → IsSystem sys
     → (status : Status) (text : List ℕ) → ChoosesSystem part low high sys status text
@@ -91,7 +119,7 @@ choose_means part low high some sys is status text h = elim h [
 pub choose_laws : (file part : List ℕ) (low high : ℕ) → 1 ≤ low → CommandLaws (the_choose file part low high)
 choose_laws file part low high some =
     ending_laws file (ChoosesSystem part low high) (ChoiceTells part low high)
-    (IsVerdictUnless (λ sys. HasNoLeaf sys part))
+    (EndsChoosing part)
     (record {
       one = λ sys is. one_on_leaf sys is part (IsChosen sys low high) (λ q found. one_chosen sys low high q some);
       judged = choose_judged part low high;
@@ -101,10 +129,9 @@ choose_laws file part low high some =
     (record {
       verdict = λ contents sys spelled status text h. elim h [
         | inl found ↦
-            chosen_status (IsVerdictUnless (λ sys. HasNoLeaf sys part) contents) tt tt sys low high found.value status
-            text found.said
+            chosen_status (EndsChoosing part contents) tt tt sys low high found.value status text found.said
         | inr none ↦
-            subst (IsVerdictUnless (λ sys. HasNoLeaf sys part) contents) (sym none.status_is)
+            subst (EndsChoosing part contents) (sym none.status_is)
             (record { sys = sys; spelled = spelled; such = none.refuses })
       ];
       no_memory = λ contents. tt;

@@ -1,21 +1,25 @@
 -- What `place` answers: one thing, its statuses, and what it means.
-use Rattle.std.proofs.Common.{◌≡◌, ◌≢◌, ℕ, List, refl, sym, ◌∙◌, subst, inl, inr}
+use Rattle.std.proofs.Common.{◌≡◌, ◌≢◌, ℕ, ◌<◌, List, length, take, refl, sym, ◌∙◌, subst, inl, inr}
 use Rattle.csv_rows.specs.Reading.{records_of}
+use Rattle.tree_model.specs.declared.pinned_core.Core.{Core}
 use Rattle.tree_model.specs.View.{PartView, SystemView}
 use Rattle.tree_model.specs.System.{IsSystem}
 use Rattle.tree_model.specs.declared.plan.Refusal.TheVariants.{Overfull, Wide as TooWide, NoMemory as NoRefusal}
+use Rattle.compose_tree.proofs.Refusals.{refusal_holds}
 use Rattle.compose_tree.proofs.Sound.{admitted_no_loss, admitted_tight}
+use Rattle.admission_session.specs.Leaves.{with_guest}
+use Rattle.admission_session.proofs.RowSystems.{new_leaf_is}
 use Rattle.placement.specs.declared.fault.PlaceFault.{PlaceFault}
 use Rattle.placement.specs.declared.fault.PlaceFault.TheVariants.{Refused, BadGuest, Unplaced, NoMemory}
-use Rattle.placement.specs.Answers.{PlaceFails}
-use Rattle.placement.proofs.OnePlacement.{one_placed, never_placed_fails, one_place_fault}
+use Rattle.placement.specs.Answers.{AreRefused, PlaceFails, guest_at}
+use Rattle.placement.proofs.OnePlacement.{placed_is, placed_cores, one_placed, never_placed_fails, one_place_fault}
 use Rattle.script_file.proofs.OneGuests.{one_guests, no_guest_fault, one_guest_fault}
 use Rattle.system_file.proofs.Laws.{read_is_spelled}
 use Rattle.system_file.proofs.OneText.{one_printed_text}
 use Rattle.command_steps.specs.declared.status.Status.{Status}
 use Rattle.command_steps.specs.declared.status.Status.TheVariants.{Yes, No, Wide, BadFile}
 use Rattle.command_steps.specs.Answer.{Contents, IsOne}
-use Rattle.host_commands.specs.Place.{the_place, guesting, placing, place_status, IsSystemText, PlacesGuests, Places, MeansOfPlaces, PlaceMeans, AreGuests, EndsPlacing}
+use Rattle.host_commands.specs.Place.{the_place, guesting, placing, place_status, place_fault_text, IsPlaceFault, IsSystemText, PlacesGuests, Places, TellsUnplaced, MeansOfPlaces, PlaceMeans, AreGuests, EndsPlacing}
 use Rattle.command_steps.specs.Steps.{IsJudged}
 use Rattle.command_steps.proofs.Attempt.{IsDecided, one_attempt, statuses_attempt}
 use Rattle.command_steps.proofs.Budgets.{refused_status}
@@ -59,14 +63,45 @@ places_status P at_yes at_no at_wide at_bad sys guests status text h =
     (λ placed told. subst P (sym told.is_yes) at_yes) h
 
 -- what it means
-fault_means : (sys : SystemView) (guests : List PartView) (text : List ℕ) (fault : PlaceFault)
-    → MeansOfPlaces sys guests (place_status fault) text
-fault_means sys guests text (Refused (Overfull node short)) = tt
-fault_means sys guests text (Refused (TooWide node)) = tt
-fault_means sys guests text (Refused NoRefusal) = tt
-fault_means sys guests text (BadGuest i) = tt
-fault_means sys guests text (Unplaced i) = tt
-fault_means sys guests text NoMemory = tt
+unplaced_means : (sys : SystemView) → IsSystem sys → (guests : List PartView) (i : ℕ)
+    → AreRefused sys guests (Unplaced i) → TellsUnplaced sys guests (place_fault_text sys guests (Unplaced i))
+unplaced_means sys is guests i stops =
+    let cores : stops.now.cores ≡ sys.cores = placed_cores sys (take i guests) stops.now stops.placed in
+    let now : IsSystem stops.now = placed_is sys is (take i guests) stops.now stops.placed in
+    record {
+      guest = i;
+      is_guest = stops.is_guest;
+      told = refl;
+      now = stops.now;
+      placed = stops.placed;
+      refused = λ c h.
+          let there : c < length stops.now.cores
+          = subst (λ (all : List Core). c < length all) (sym cores) h in
+          let first = stops.fault.1 c there in
+          record {
+            refusal = first.0;
+            first = first.1;
+            holds =
+                refusal_holds (with_guest stops.now (guest_at guests i) c)
+                (new_leaf_is stops.now now (guest_at guests i) c stops.fault.0 there) first.0 first.1;
+          };
+    }
+
+fault_means : (sys : SystemView) → IsSystem sys → (guests : List PartView) (fault : PlaceFault)
+    → IsPlaceFault sys guests fault → MeansOfPlaces sys guests (place_status fault) (place_fault_text sys guests fault)
+fault_means sys is guests (Refused (Overfull node short)) h =
+    inl (record {
+      node = node;
+      short = short;
+      told = refl;
+      first = h.fails;
+      holds = refusal_holds sys is (Overfull node short) h.fails;
+    })
+fault_means sys is guests (Refused (TooWide node)) h = tt
+fault_means sys is guests (Refused NoRefusal) h = tt
+fault_means sys is guests (BadGuest i) h = tt
+fault_means sys is guests (Unplaced i) h = inr (unplaced_means sys is guests i h.refused)
+fault_means sys is guests NoMemory h = tt
 
 places_means : (sys : SystemView) → IsSystem sys → (guests : List PartView) (status : Status) (text : List ℕ)
     → PlacesGuests sys guests status text → MeansOfPlaces sys guests status text
@@ -85,7 +120,8 @@ places_means sys is guests status text h = elim h [
       }))
   | inr a ↦
       subst (λ (s : Status). MeansOfPlaces sys guests s text) (sym a.status_is)
-      (fault_means sys guests text a.refusal)
+      (subst (MeansOfPlaces sys guests (place_status a.refusal)) (sym a.told)
+      (fault_means sys is guests a.refusal a.refuses))
 ]
 
 places_read : JudgesRead (λ sys. guesting) PlacesGuests

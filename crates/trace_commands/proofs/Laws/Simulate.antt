@@ -9,7 +9,7 @@ use Rattle.release_file.specs.ReleaseFile.{release_rows}
 use Rattle.release_file.proofs.OneReleases.{same_jobs, no_release_fault, one_release_fault}
 use Rattle.server_sched.specs.declared.supplies.Pattern.{Pattern}
 use Rattle.server_sched.specs.Patterns.{pattern_supplies}
-use Rattle.server_sched.specs.TreeCounts.{CountsView, no_node_misses, AreTreeCounts}
+use Rattle.tree_spans.specs.TreeCounts.{CountsView, no_node_misses, AreTreeCounts}
 use Rattle.server_sched.proofs.Counted.{kept_exactly}
 use Rattle.rt_report.specs.Simulate.{simulate_text}
 use Rattle.rt_report.proofs.OneCounts.{one_counts}

@@ -6,7 +6,7 @@ use Rattle.tree_model.specs.System.{IsSystem}
 use Rattle.trace_file.specs.declared.event.Event.{Event}
 use Rattle.auditor.specs.declared.finding.Finding.{Finding}
 use Rattle.auditor.specs.declared.finding.Finding.TheVariants.{Yes as Kept, Short, Over}
-use Rattle.auditor.specs.declared.tally.Tally.{Tally}
+use Rattle.vcpu_watch.specs.declared.tally.Tally.{Tally}
 use Rattle.auditor.specs.Finding.{IsFinding}
 use Rattle.auditor.specs.Tally.{AreTallies, tally_at}
 use Rattle.auditor.proofs.OneFinding.{one_finding}

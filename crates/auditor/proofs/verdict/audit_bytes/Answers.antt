@@ -1,6 +1,6 @@
 use Rattle.std.proofs.Common.{subst, sym}
 use Rattle.trace_file.specs.declared.rows.Rows.{Rows}
-use Rattle.auditor.specs.Watches.{AreAtEnd}
+use Rattle.auditor.specs.inner.Watches.{AreAtEnd}
 use Rattle.auditor.proofs.verdict.audit_bytes.Goals as goal
 
 pub watch_bytes-requires-clause-fresh : goal.watch_bytes-requires-clause-fresh

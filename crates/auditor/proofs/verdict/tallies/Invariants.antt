@@ -1,7 +1,7 @@
 use Rattle.std.proofs.Common.{◌≡◌, ◌<◌, ℕ, List, length}
 use Rattle.trace_file.specs.declared.event.Event.{Event}
 use Rattle.auditor.specs.Tally.{IsTally, tally_at}
-use Rattle.auditor.specs.Watches.{AreAtEnd}
+use Rattle.auditor.specs.inner.Watches.{AreAtEnd}
 use Rattle.auditor.proofs.verdict.tallies.Given as goal
 
 -- the tallies of the parts so far

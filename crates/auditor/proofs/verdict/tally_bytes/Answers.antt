@@ -1,24 +1,25 @@
 use Rattle.std.proofs.Common.{subst, sym}
 use Rattle.trace_file.specs.declared.rows.Rows.{Rows}
-use Rattle.auditor.specs.Watches.{AreAtEnd}
+use Rattle.auditor.specs.inner.Watches.{HaveWatched}
+use Rattle.auditor.proofs.Streaming.{memory_or}
 use Rattle.auditor.proofs.verdict.tally_bytes.Goals as goal
 
 pub watch_bytes-requires-clause-fresh : goal.watch_bytes-requires-clause-fresh
 watch_bytes-requires-clause-fresh c = c.new-watches.ensures.watched c.args.plan.now
 
-pub returns-in-Ok-tallies-clause-tallied : goal.returns-in-Ok-tallies-clause-tallied
-returns-in-Ok-tallies-clause-tallied c =
-    let w = c.in-Ok.ensures.watched in
-    record {
-      events = w.events;
-      spelled = w.spelled;
-      kept = w.at_end.kept;
-      found =
-          c.finding.ensures c.args.plan.now w.events
-          (subst (λ (z : Rows). AreAtEnd c.args.sys.now c.args.plan.now w.events z c.watch_bytes.new.watches)
-          (sym c.rows-in-Ok-tallies.ensures) w.at_end);
-      counted =
-          c.in-Ok-tallies.ensures c.args.plan.now w.events
-          (subst (λ (z : Rows). AreAtEnd c.args.sys.now c.args.plan.now w.events z c.watch_bytes.new.watches)
-          (sym c.rows.ensures) w.at_end);
-    }
+pub both_of-requires-clause-watched : goal.both_of-requires-clause-watched
+both_of-requires-clause-watched c = (
+  c.args.plan.now,
+  c.args.bytes.now,
+  subst (λ (z : Rows). HaveWatched c.args.sys.now c.args.plan.now c.args.bytes.now z c.watch_bytes.new.watches)
+      (sym c.rows.ensures) c.in-Ok.ensures.watched,
+)
+
+pub returns-in-Ok-clause-tallied : goal.returns-in-Ok-clause-tallied
+returns-in-Ok-clause-tallied c =
+    c.both_of.ensures.tallied c.args.plan.now c.args.bytes.now
+    (subst (λ (z : Rows). HaveWatched c.args.sys.now c.args.plan.now c.args.bytes.now z c.watch_bytes.new.watches)
+    (sym c.rows.ensures) c.in-Ok.ensures.watched)
+
+pub returns-in-Ok-clause-fault : goal.returns-in-Ok-clause-fault
+returns-in-Ok-clause-fault c = memory_or c.both_of.result _ c.both_of.ensures.fault

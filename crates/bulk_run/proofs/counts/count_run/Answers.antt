@@ -7,8 +7,8 @@ use Rattle.guest_sched.specs.Spans.{run_of}
 use Rattle.span_counts.specs.Pending.{pairs_pending}
 use Rattle.tree_model.specs.View.{SystemView}
 use Rattle.tree_model.specs.Releases.{jobs_at}
-use Rattle.server_sched.specs.NodeView.{NodeView}
-use Rattle.server_sched.specs.TreeSpans.{node_at}
+use Rattle.tree_spans.specs.NodeView.{NodeView}
+use Rattle.tree_spans.specs.TreeSpans.{node_at}
 use Rattle.bulk_host.specs.Host.{bulk_host, bulk_budgets}
 use Rattle.bulk_host.proofs.Systems.{cores-many}
 use Rattle.bulk_run.specs.Summary.{bulk_jobs}

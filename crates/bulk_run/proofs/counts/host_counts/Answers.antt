@@ -1,4 +1,4 @@
-use Rattle.server_sched.specs.TreeSpans.{runs_of}
+use Rattle.tree_spans.specs.TreeSpans.{runs_of}
 use Rattle.bulk_run.proofs.counts.host_counts.Goals as goal
 
 pub returns-clause-counts : goal.returns-clause-counts

@@ -6,8 +6,8 @@ use Rattle.slot_model.proofs.Sums.{sum_below-zero, sum_below-suc}
 use Rattle.guest_sched.specs.Spans.{run_of}
 use Rattle.span_counts.specs.Pending.{pairs_pending}
 use Rattle.tree_model.specs.Releases.{jobs_at}
-use Rattle.server_sched.specs.NodeView.{NodeView}
-use Rattle.server_sched.specs.TreeSpans.{node_at}
+use Rattle.tree_spans.specs.NodeView.{NodeView}
+use Rattle.tree_spans.specs.TreeSpans.{node_at}
 use Rattle.bulk_run.proofs.Counting.{found, run_found, pending_found}
 use Rattle.bulk_run.proofs.counts.pending_of.Goals as goal
 

@@ -4,7 +4,7 @@ use Rattle.slot_model.specs.Slots.{sum_below}
 use Rattle.guest_sched.specs.Spans.{run_of}
 use Rattle.span_counts.specs.Pending.{pairs_pending}
 use Rattle.tree_model.specs.Releases.{jobs_at}
-use Rattle.server_sched.specs.TreeSpans.{node_at}
+use Rattle.tree_spans.specs.TreeSpans.{node_at}
 use Rattle.bulk_run.proofs.counts.pending_of.Given as goal
 
 abbrev pub invariant-loop-place : goal.invariant-loop-place

@@ -6,7 +6,7 @@ use Rattle.tree_model.specs.Plans.{IsPlan}
 use Rattle.tree_model.specs.Releases.{AreReleases}
 use Rattle.server_sched.specs.declared.supplies.Pattern.TheVariants.{Early}
 use Rattle.server_sched.specs.Patterns.{pattern_supplies}
-use Rattle.server_sched.specs.TreeSpans.{supplies_of, AreFewJobs}
+use Rattle.tree_spans.specs.TreeSpans.{supplies_of, AreFewJobs}
 use Rattle.bulk_host.specs.Host.{bulk_host, bulk_budgets}
 use Rattle.bulk_run.specs.Summary.{bulk_slots, bulk_supplies, bulk_jobs}
 use Rattle.bulk_run.proofs.HostRun.{host_plan, host_releases, host_few, carried}

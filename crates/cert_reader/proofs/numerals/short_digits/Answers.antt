@@ -1,6 +1,6 @@
 use Rattle.std.proofs.Common.{◌≡◌, ℕ, suc, ◌+◌, ◌-◌, ◌*◌, ◌≤◌, ◌<◌, ◌^◌, List, arith, sym, subst}
 use Rattle.std.proofs.lemmas.Fmt.{decimal_digit}
-use Rattle.cert_reader.specs.Steps.{Stands}
+use Rattle.cert_reader.specs.Text.{Stands}
 use Rattle.cert_reader.proofs.Standing.{digit_more, more_below, more_fits}
 use Rattle.cert_reader.proofs.numerals.short_digits.Goals as goal
 

@@ -1,5 +1,5 @@
 use Rattle.cert_reader.specs.Printed.{IsInRange}
-use Rattle.cert_reader.specs.Proves.{no_node}
+use Rattle.cert_verify.specs.Proves.{no_node}
 use Rattle.cert_reader.specs.Text.{node_text}
 use Rattle.cert_reader.proofs.Standing.{none_opened, one_opened, all_listed, all_good}
 use Rattle.cert_reader.proofs.printed.nodes_from.Goals as goal

@@ -1,5 +1,5 @@
 use Rattle.std.proofs.Common.{◌-◌, length}
-use Rattle.cert_reader.specs.Proves.{no_node}
+use Rattle.cert_verify.specs.Proves.{no_node}
 use Rattle.cert_reader.specs.Printed.{IsInRange}
 use Rattle.cert_reader.specs.Text.{node_text}
 use Rattle.cert_reader.proofs.Standing.{IsOpened}

@@ -2,8 +2,8 @@ use Rattle.std.proofs.Common.{◌≡◌, ℕ, List, ◌+◌, length, ◌∙◌, 
 use Rattle.tree_model.specs.Admission.{Admitted}
 use Rattle.tree_model.specs.Tree.{NoLoss}
 use Rattle.compose_tree.specs.Truth.{IsTight}
-use Rattle.cert_reader.specs.Proves.{budgets_of}
-use Rattle.certificate.specs.Steps.{AreMade}
+use Rattle.cert_verify.specs.Proves.{budgets_of}
+use Rattle.certificate.specs.inner.Steps.{AreMade}
 use Rattle.certificate.proofs.Shows.{certificate_proves}
 use Rattle.certificate.proofs.Nodes.{all_made, same_budgets}
 use Rattle.certificate.proofs.making.certify.Goals as goal

@@ -1,7 +1,7 @@
 use Rattle.std.proofs.Common.{List, ◌+◌, length, subst, sym, ap, arith}
 use Rattle.tree_model.specs.CertificateView.{NodeView}
 use Rattle.tree_model.specs.View.{PartView}
-use Rattle.certificate.specs.Steps.{AreMade}
+use Rattle.certificate.specs.inner.Steps.{AreMade}
 use Rattle.certificate.proofs.Nodes.{part_more, core_more}
 use Rattle.certificate.proofs.making.make_nodes.Goals as goal
 

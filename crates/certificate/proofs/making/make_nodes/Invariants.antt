@@ -1,5 +1,5 @@
 use Rattle.std.proofs.Common.{◌+◌, length}
-use Rattle.certificate.specs.Steps.{AreMade}
+use Rattle.certificate.specs.inner.Steps.{AreMade}
 use Rattle.certificate.proofs.making.make_nodes.Given as goal
 
 abbrev pub invariant-loop-q : goal.invariant-loop-q

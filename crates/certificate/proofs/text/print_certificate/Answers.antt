@@ -1,6 +1,6 @@
 use Rattle.std.proofs.Common.{◌≡◌, ℕ, List, ◌++◌, codes, ◌∙◌, ap, sym, subst}
 use Rattle.tree_model.specs.CertificateView.{NodeView, CertificateView}
-use Rattle.cert_reader.specs.Proves.{no_node}
+use Rattle.cert_verify.specs.Proves.{no_node}
 use Rattle.cert_reader.specs.CertificateFile.{certificate_of}
 use Rattle.cert_reader.specs.Printed.{certificate_text, AreInRange}
 use Rattle.cert_reader.proofs.TextBack.{text_spells}

@@ -1,12 +1,14 @@
-use Rattle.std.proofs.Common.{◌≡◌, List, length, take, ap, arith}
+use Rattle.std.proofs.Common.{◌≡◌, List, length, take, refl, ap, subst, arith}
 use Rattle.std.proofs.lemmas.Result.{IfOk-weaker, IfErr-weaker}
-use Rattle.slot_model.specs.Task.{sporadic_tasks}
+use Rattle.slot_model.specs.Task.{SporadicTask, sporadic_tasks}
 use Rattle.tree_model.specs.declared.place.Place.TheVariants.{Part}
 use Rattle.tree_model.specs.View.{PartView}
 use Rattle.tree_model.specs.System.{part_at}
-use Rattle.tree_model.specs.Tree.{node_tasks}
+use Rattle.tree_model.specs.Tree.{node_sched, node_tasks, node_cycle}
+use Rattle.tree_model.specs.Admission.{refusing_bound}
 use Rattle.tree_model.proofs.NodeTasks.{part_here}
 use Rattle.tree_model.proofs.InRange.{children_fit}
+use Rattle.compose_tree.specs.Steps.{NodeRefuses}
 use Rattle.compose_tree.proofs.Settling.{assign_one, pass_one, before_part, node_refuses}
 use Rattle.compose_tree.proofs.budgets.settle_part.Goals as goal
 
@@ -41,10 +43,18 @@ returns-clause-pass c =
     (omega (arith, c.requires.is_part, c.requires.assigned.one_each)) c.requires.pass _ (same c)
     (rw (here c) at h.passes)) c.part_budget.ensures.budget
 
+pub returns-clause-refuses : goal.returns-clause-refuses
+returns-clause-refuses c =
+    IfErr-weaker c.part_budget.result _ _
+    (λ r h.
+    subst (λ (ts : List SporadicTask). NodeRefuses (node_sched c.args.sys.now (Part c.args.q)) ts
+    (refusing_bound c.args.sys.now (Part c.args.q)) (node_cycle c.args.sys.now (Part c.args.q)) (Part c.args.q) r)
+    (same c) (rw (here c) at h)) c.part_budget.ensures.refuses
+
 pub returns-clause-refusal : goal.returns-clause-refusal
 returns-clause-refusal c =
     IfErr-weaker c.part_budget.result _ _
     (λ r h.
     node_refuses c.args.sys.now c.args.budgets.now (Part c.args.q) c.requires.is_part
-    (before_part c.args.sys.now c.args.budgets.now c.args.q c.requires.assigned c.requires.pass) _ (same c) r
-    (rw (here c) at h)) c.part_budget.ensures.refuses
+    (before_part c.args.sys.now c.args.budgets.now c.args.q c.requires.assigned c.requires.pass) _ refl r h)
+    (returns-clause-refuses c)

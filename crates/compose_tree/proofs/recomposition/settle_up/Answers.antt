@@ -6,19 +6,13 @@ use Rattle.tree_model.specs.System.{part_at}
 use Rattle.tree_model.specs.Tree.{place_of}
 use Rattle.tree_model.specs.Admission.{visited_from}
 use Rattle.tree_model.proofs.NodeTasks.{part_here}
-use Rattle.compose_tree.specs.Ways.{under, OnWay}
-use Rattle.compose_tree.proofs.Ways.{way_begins, way_goes_on, fewer_left}
+use Rattle.compose_tree.specs.Kept.{under, IsKept}
+use Rattle.compose_tree.proofs.Ways.{fewer_left}
 use Rattle.compose_tree.proofs.recomposition.settle_up.Goals as goal
 
-pub up-init : goal.up-init
-up-init c = way_begins c.args.sys.now c.parts-parts.ensures.system c.args.budgets.now c.args.start c.requires.kept
-
 -- the way has come to part q, and goes on to the node on which it stands
-here : (c : goal.After-place-node)
-    → OnWay c.args.sys.now c.args.budgets.now c.args.start (Part c.in-Part.q) c.up.budgets
-here c =
-    subst (λ (node : Place). OnWay c.args.sys.now c.args.budgets.now c.args.start node c.up.budgets) c.in-Part.is
-    c.up.invariant
+here : (c : goal.After-place-node) → IsKept c.args.sys.now c.up.budgets (Part c.in-Part.q)
+here c = subst (λ (node : Place). IsKept c.args.sys.now c.up.budgets node) c.in-Part.is c.up.invariant
 
 next : (c : goal.After-place-node) → under c.args.sys.now c.in-Part.q ≡ c.place-node.result
 next c =
@@ -30,19 +24,13 @@ next c =
     ap (λ (part : PartView). place_of part.parent) (sym read)
     ∙ (ap place_of (sym c.parent.ensures) ∙ sym c.place-node.ensures)
 
-fewer : (c : goal.After-place-node) → visited_from c.place-node.result < visited_from c.up.node
-fewer c =
+pub up-smaller : goal.up-smaller
+up-smaller c =
     subst (λ (node : Place). visited_from c.place-node.result < visited_from node) (sym c.in-Part.is)
     (subst (λ (node : Place). visited_from node < suc c.in-Part.q) (next c)
     (fewer_left c.args.sys.now c.parts-parts.ensures.system c.in-Part.q (here c).is_node))
 
-pub up-smaller : goal.up-smaller
-up-smaller c = fewer c
-
 pub up-preserved : goal.up-preserved
 up-preserved c =
-    subst (λ (node : Place). OnWay c.args.sys.now c.args.budgets.now c.args.start node
-    (set c.up.budgets c.in-Part.q c.in_ok-budgets-in-Part.field-0)) (next c)
-    (way_goes_on c.args.sys.now c.parts-parts.ensures.system c.args.budgets.now c.args.start c.requires.kept c.in-Part.q
-    c.up.budgets (here c) c.in_ok-budgets-in-Part.field-0 c.in_ok-budgets-in-Part.ensures.assigned
-    c.in_ok-budgets-in-Part.ensures.pass)
+    subst (λ (node : Place). IsKept c.args.sys.now (set c.up.budgets c.in-Part.q c.in_ok-budgets-in-Part.field-0) node)
+    (next c) c.in_ok-budgets-in-Part.ensures.kept

@@ -1,5 +1,5 @@
 use Rattle.std.proofs.Common.{◌≡◌, ℕ, ◌<◌, length}
-use Rattle.guest_sched.specs.Releases.{release_of, release_at}
+use Rattle.guest_sched.specs.inner.Releases.{release_of, release_at}
 use Rattle.guest_sched.proofs.releases.listed.Given as goal
 
 -- the releases of the jobs so far

@@ -9,8 +9,8 @@ use Rattle.slot_model.specs.Run.{FirstRunTo}
 use Rattle.slot_model.proofs.FirstRuns.{none_some}
 use Rattle.guest_sched.specs.declared.ready.Ready.{Ready}
 use Rattle.guest_sched.specs.declared.spans.Span.{Span}
-use Rattle.guest_sched.specs.Keep.{level_of}
-use Rattle.guest_sched.specs.Ready.{HaveCome, AreToCome, IsBest}
+use Rattle.guest_sched.specs.inner.Keep.{level_of}
+use Rattle.guest_sched.specs.inner.Ready.{HaveCome, AreToCome, IsBest}
 use Rattle.guest_sched.specs.Spans.{Window, slots_of, run_of, window_at, AreWindows, AreSpans}
 use Rattle.guest_sched.proofs.Given.{AreOver, slots-long, slot_at, none_given, all_given}
 use Rattle.guest_sched.proofs.SpanByOne.{no_spans}

@@ -16,8 +16,12 @@ placing_refused : {E : Type 0} (sys : SystemView) (refusal : Refusal) → FirstR
     → IfOk result (λ a. a.text.items ≡ refusal_text sys refusal)
     → (guests : List PartView) → IfOk result (λ a. IsRefused (placing sys guests) a.status a.text.items)
 placing_refused sys refusal first (Ok a) status text guests =
-    record
-    { refusal = Refused refusal; refuses = record { real = λ e. cc; fails = first }; status_is = status; told = text }
+    record {
+      refusal = Refused refusal;
+      refuses = record { real = λ e. cc; fails = first; refused = tt };
+      status_is = status;
+      told = text;
+    }
 placing_refused sys refusal first (Err none) status text guests = tt
 
 pub returns-clause-refused : goal.returns-clause-refused

@@ -1,6 +1,6 @@
 use Rattle.std.proofs.Common.{refl, subst}
 use Rattle.tree_model.specs.View.{SystemView}
-use Rattle.host_commands.specs.Editing.{IsToldSession}
+use Rattle.host_commands.specs.inner.Editing.{IsToldSession}
 use Rattle.host_commands.proofs.Edited.{edits_told}
 use Rattle.host_commands.proofs.session.edited.Goals as goal
 

@@ -7,4 +7,5 @@ use Rattle.least_budget.proofs.level_test.test_tasks_in.Given as goal
 abbrev pub invariant-loop-i : goal.invariant-loop-i
 invariant-loop-i g l =
     (k : ℕ) → k < l.i
-    → (t : ℕ) × IsHit (ranks_above l.sched (sporadic_tasks l.tasks)) (sporadic_tasks l.tasks) (g.S.Supply.bound l.s) k t
+    → (t : ℕ) × IsHit (ranks_above l.level.sched (sporadic_tasks l.level.tasks.now)) (sporadic_tasks l.level.tasks.now)
+    (g.S.Supply.bound l.s) k t

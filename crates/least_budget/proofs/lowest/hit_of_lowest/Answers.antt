@@ -10,8 +10,11 @@ use Rattle.least_budget.proofs.lowest.hit_of_lowest.Goals as goal
 
 pub returns : goal.returns
 returns g c =
-    common_answer (ranks_above c.args.sched (sporadic_tasks c.args.tasks.now)) (sporadic_tasks c.args.tasks.now)
-    (ranks_is_rank c.args.sched (sporadic_tasks c.args.tasks.now)) (are_constrained c.args.tasks.now)
+    common_answer (ranks_above c.args.level.now.sched (sporadic_tasks c.args.level.now.tasks.now))
+    (sporadic_tasks c.args.level.now.tasks.now)
+    (ranks_is_rank c.args.level.now.sched (sporadic_tasks c.args.level.now.tasks.now))
+    (are_constrained c.args.level.now.tasks.now)
     (g.S.Supply.bound c.args.s.now) c.lowest.result
-    (subst (λ (n : ℕ). IsLowest (ranks_above c.args.sched (sporadic_tasks c.args.tasks.now)) n c.lowest.result)
-    (sym (sporadic_tasks-length c.args.tasks.now)) c.lowest.ensures.lowest) c.hit_by.result c.hit_by.ensures
+    (subst (λ (n : ℕ). IsLowest (ranks_above c.args.level.now.sched (sporadic_tasks c.args.level.now.tasks.now)) n
+    c.lowest.result)
+    (sym (sporadic_tasks-length c.args.level.now.tasks.now)) c.lowest.ensures.lowest) c.hit_in.result c.hit_in.ensures

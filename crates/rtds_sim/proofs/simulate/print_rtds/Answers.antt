@@ -1,6 +1,6 @@
 use Rattle.std.proofs.Common.{ℕ, List, Option, ◌∙◌, ap}
 use Rattle.csv_rows.specs.Printing.{text_of}
-use Rattle.trace_file.specs.Printing.{printed_rows}
+use Rattle.trace_printer.specs.Printing.{printed_rows}
 use Rattle.rtds_sim.specs.Printed.{printed}
 use Rattle.rtds_sim.proofs.Runs.{rtds_unique}
 use Rattle.rtds_sim.proofs.simulate.print_rtds.Goals as goal

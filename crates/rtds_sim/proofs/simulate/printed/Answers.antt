@@ -3,10 +3,10 @@ use Rattle.trace_file.specs.declared.event.Event.{Event}
 use Rattle.trace_file.specs.declared.unit.Unit.{Unit}
 use Rattle.trace_file.specs.declared.unit.Unit.TheVariants.{Microseconds}
 use Rattle.trace_file.specs.Periods.{Satisfied}
-use Rattle.trace_file.specs.Printer.{HasPrinted}
-use Rattle.trace_file.specs.Printing.{unit_for}
+use Rattle.trace_printer.specs.Printer.{HasPrinted}
+use Rattle.trace_printer.specs.Printing.{unit_for}
 use Rattle.trace_file.specs.Rules.{Kept}
-use Rattle.trace_file.proofs.Printers.{own, as_from}
+use Rattle.trace_printer.proofs.Printers.{own, as_from}
 use Rattle.rtds_sim.specs.Giving.{NoneOver}
 use Rattle.rtds_sim.proofs.Keeping.{printed_keeps}
 use Rattle.rtds_sim.proofs.Traced.{satisfied, none_over, whole_unit}

@@ -12,10 +12,10 @@ use Rattle.release_file.specs.Workload.{row_at}
 use Rattle.rtds_sim.specs.Rtds.{RtdsRun}
 use Rattle.trace_file.specs.Taker.{Took}
 use Rattle.rtds_sim.specs.Printed.{moment_of_slot, printed_below, gathered, row_event_at, stop_at, switch_at, switch_to, on_core_at, holder_left, on_at, printed}
-use Rattle.rtds_sim.specs.Accounts.{account_at, number_at, stop_of, AreBefore, IsAccount, IsEnd}
-use Rattle.rtds_sim.specs.Running.{RowsFrom, HasRun}
-use Rattle.rtds_sim.specs.Lists.{list_at}
-use Rattle.rtds_sim.specs.Telling.{told_by, AreAtSlots}
+use Rattle.rtds_sim.specs.inner.Accounts.{account_at, number_at, stop_of, AreBefore, IsAccount, IsEnd}
+use Rattle.rtds_sim.specs.inner.Running.{RowsFrom, HasRun}
+use Rattle.rtds_sim.specs.inner.Lists.{list_at}
+use Rattle.rtds_sim.specs.inner.Telling.{told_by, AreAtSlots}
 use Rattle.rtds_sim.proofs.Runs.{rtds_run, rtds_run-is}
 use Rattle.rtds_sim.proofs.Entering.{child_core}
 use Rattle.rtds_sim.proofs.Gathered.{took_nothing, took_same, took_more}

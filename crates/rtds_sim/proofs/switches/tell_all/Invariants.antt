@@ -1,6 +1,6 @@
 use Rattle.std.proofs.Common.{◌≡◌, ℕ, Option, length}
 use Rattle.trace_file.specs.declared.event.Event.{Event}
-use Rattle.rtds_sim.specs.Telling.{AreAtSlots, AreTold}
+use Rattle.rtds_sim.specs.inner.Telling.{AreAtSlots, AreTold}
 use Rattle.rtds_sim.proofs.Merging.{ToldSome, AreMoments}
 use Rattle.rtds_sim.proofs.Lists.{left_of}
 use Rattle.rtds_sim.proofs.switches.tell_all.Given as goal

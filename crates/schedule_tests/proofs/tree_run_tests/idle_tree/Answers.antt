@@ -1,7 +1,7 @@
 use Rattle.std.proofs.Common.{List, sym, subst, Vec, Global}
 use Rattle.slot_model.specs.declared.job.Job.{Job}
-use Rattle.server_sched.specs.TreeSpans.{AreFewJobs}
-use Rattle.server_sched.proofs.Lists.{few_in_reach, job_lists}
+use Rattle.tree_spans.specs.TreeSpans.{AreFewJobs}
+use Rattle.tree_spans.proofs.Lists.{few_in_reach, job_lists}
 use Rattle.schedule_tests.proofs.tree_run_tests.idle_tree.Goals as goal
 
 pub span_tree-requires-clause-few : goal.span_tree-requires-clause-few

@@ -2,9 +2,9 @@ use Rattle.std.proofs.Common.{ℕ, suc, ◌<◌, List, length, arith, ap, sym, s
 use Rattle.guest_sched.specs.Spans.{Window, AreWindows, slots_of}
 use Rattle.tree_model.specs.declared.place.Place.TheVariants.{Core}
 use Rattle.tree_model.specs.declared.pinned_core.Core.{Core as CoreView}
-use Rattle.server_sched.specs.TreeSpans.{given_at}
+use Rattle.tree_spans.specs.TreeSpans.{given_at}
 use Rattle.server_sched.specs.CountedTree.{KeptView, AreCoresKept, IsServerKept}
-use Rattle.server_sched.proofs.Lists.{list_read, window_lists}
+use Rattle.tree_spans.proofs.Lists.{list_read, window_lists}
 use Rattle.server_sched.proofs.KeptNodes.{no_core_kept, one_core_kept}
 use Rattle.server_sched.proofs.counted_tree.cores_kept.Goals as goal
 

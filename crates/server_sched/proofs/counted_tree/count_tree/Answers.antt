@@ -3,7 +3,7 @@ use Rattle.std.proofs.lemmas.List.{with_items_is}
 use Rattle.slot_model.specs.declared.job.Job.{Job}
 use Rattle.span_counts.specs.declared.counts.Counts.{Counts}
 use Rattle.guest_sched.specs.Spans.{Window}
-use Rattle.server_sched.specs.TreeSpans.{supplies_of}
+use Rattle.tree_spans.specs.TreeSpans.{supplies_of}
 use Rattle.server_sched.specs.CountedTree.{KeptView, AreCoresKept, ArePartsRun, counts_kept, HasCores, AreFirstCounts}
 use Rattle.server_sched.proofs.KeptNodes.{first_counts}
 use Rattle.server_sched.proofs.counted_tree.count_tree.Goals as goal

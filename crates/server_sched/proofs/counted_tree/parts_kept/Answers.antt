@@ -5,9 +5,9 @@ use Rattle.guest_sched.specs.Spans.{slots_of}
 use Rattle.tree_model.specs.Tree.{supply_of, rank_among}
 use Rattle.tree_model.specs.View.{PartView}
 use Rattle.tree_model.specs.Releases.{jobs_at}
-use Rattle.server_sched.specs.TreeSpans.{runs_of, parent_of}
+use Rattle.tree_spans.specs.TreeSpans.{runs_of, parent_of}
 use Rattle.server_sched.specs.CountedTree.{KeptView, parts_after, HasKeptShare, IsPartKept, ArePartsRun}
-use Rattle.server_sched.proofs.Lists.{list_read, job_lists}
+use Rattle.tree_spans.proofs.Lists.{list_read, job_lists}
 use Rattle.server_sched.proofs.KeptNodes.{no_part_run, part_given, one_part_run}
 use Rattle.server_sched.proofs.counted_tree.parts_kept.Goals as goal
 

@@ -9,7 +9,7 @@ use Rattle.tree_model.specs.View.{SystemView, PartView}
 use Rattle.tree_model.specs.System.{part_at}
 use Rattle.tree_model.specs.Tree.{IsNode, place_of, run_of, server_tasks, server_jobs, node_tasks}
 use Rattle.tree_model.proofs.NodeTasks.{part_here}
-use Rattle.server_sched.specs.TreeSpans.{parent_of}
+use Rattle.tree_spans.specs.TreeSpans.{parent_of}
 use Rattle.server_sched.specs.SlotCounts.{HasRun}
 use Rattle.server_sched.proofs.SlotCounted.{is_parent}
 use Rattle.server_sched.proofs.slot_counts.part_slots.Goals as goal

@@ -3,10 +3,10 @@ use Rattle.std.proofs.lemmas.List.{length-map}
 use Rattle.guest_sched.specs.Spans.{Window, AreSpans}
 use Rattle.tree_model.specs.FirstTree.{FirstTree}
 use Rattle.tree_model.proofs.FirstTrees.{first_tree_permitted, first_tree_unique}
-use Rattle.server_sched.specs.NodeView.{NodeView}
-use Rattle.server_sched.specs.TreeSpans.{node_at, runs_of, supplies_of, AreWindowsOf, AreSupplies}
-use Rattle.server_sched.proofs.TreeNodes.{part_spans}
-use Rattle.server_sched.proofs.Lists.{same_supplies, are_supplies, few_in_reach, slot_lists, window_lists, job_lists}
+use Rattle.tree_spans.specs.NodeView.{NodeView}
+use Rattle.tree_spans.specs.TreeSpans.{node_at, runs_of, supplies_of, AreWindowsOf, AreSupplies}
+use Rattle.tree_spans.proofs.TreeNodes.{part_spans}
+use Rattle.tree_spans.proofs.Lists.{same_supplies, are_supplies, few_in_reach, slot_lists, window_lists, job_lists}
 use Rattle.server_sched.proofs.SlotCounted.{permitted_tree_holds}
 use Rattle.server_sched.proofs.slots.run_tree.Goals as goal
 

@@ -7,7 +7,7 @@ use Rattle.tree_model.proofs.NodeTasks.{part_here}
 use Rattle.compose_tree.specs.Kept.{IsKept}
 use Rattle.admission_session.specs.Answers.{IsAdmitted}
 use Rattle.admission_session.proofs.KeptByEdits.{kept_by_change}
-use Rattle.slack.specs.Steps.{part_with_budget}
+use Rattle.slack.specs.inner.Steps.{part_with_budget}
 use Rattle.slack.proofs.Halving.{BudgetBetween, budget_begins, budget_higher, budget_lower, budget_ends, trial_begins, trial_goes_on}
 use Rattle.slack.proofs.budgets.most_open.Goals as goal
 

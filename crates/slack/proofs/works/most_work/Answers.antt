@@ -3,7 +3,7 @@ use Rattle.std.proofs.lemmas.List.{length-map}
 use Rattle.slot_model.specs.declared.task.Task.{Task}
 use Rattle.slot_model.specs.Task.{sporadic_task, sporadic_tasks}
 use Rattle.slot_model.specs.Bound.{sbf, TestPasses}
-use Rattle.slack.specs.Steps.{tasks_with}
+use Rattle.slack.specs.inner.Steps.{tasks_with}
 use Rattle.slack.proofs.Halving.{work_lower}
 use Rattle.slack.proofs.works.most_work.Goals as goal
 

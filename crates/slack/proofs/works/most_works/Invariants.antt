@@ -1,6 +1,6 @@
 use Rattle.std.proofs.Common.{◌≡◌, length}
 use Rattle.slot_model.specs.Task.{sporadic_tasks}
-use Rattle.slack.specs.Steps.{AreMostPassing}
+use Rattle.slack.specs.inner.Steps.{AreMostPassing}
 use Rattle.slack.proofs.works.most_works.Given as goal
 
 -- the tasks are as they were, and the greatest works of those so far are found

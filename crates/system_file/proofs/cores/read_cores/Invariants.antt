@@ -2,7 +2,7 @@ use Rattle.std.proofs.Common.{◌≡◌, [], map}
 use Rattle.toml_items.specs.Item.{item_view}
 use Rattle.system_file.specs.Document.{spelled_core}
 use Rattle.system_file.specs.Faults.{core_faults, in_order}
-use Rattle.system_file.specs.Reading.{HaveNames}
+use Rattle.system_file.specs.inner.Reading.{HaveNames}
 use Rattle.system_file.proofs.Along.{before, from}
 use Rattle.system_file.proofs.cores.read_cores.Given as goal
 

@@ -2,7 +2,7 @@ use Rattle.std.proofs.Common.{◌≡◌, sym, ap, ◌∙◌, arith}
 use Rattle.std.proofs.lemmas.List.{get_or_default}
 use Rattle.tree_model.specs.declared.place.Parent.TheVariants.{Part}
 use Rattle.tree_model.specs.View.{PartView}
-use Rattle.system_file.specs.Reading.{part_in}
+use Rattle.system_file.specs.inner.Reading.{part_in}
 use Rattle.system_file.proofs.parts.parents.Goals as goal
 
 pub index_mut-requires : goal.index_mut-requires

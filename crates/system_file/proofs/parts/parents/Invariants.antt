@@ -1,5 +1,5 @@
 use Rattle.std.proofs.Common.{◌≡◌, ℕ, ◌<◌, false, get_or, take, length}
-use Rattle.system_file.specs.Reading.{has_child}
+use Rattle.system_file.specs.inner.Reading.{has_child}
 use Rattle.system_file.proofs.parts.parents.Given as goal
 
 abbrev pub invariant-loop-part : goal.invariant-loop-part

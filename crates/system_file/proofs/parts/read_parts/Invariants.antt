@@ -2,7 +2,7 @@ use Rattle.std.proofs.Common.{◌≡◌, ◌+◌, List, [], map, length}
 use Rattle.toml.specs.Data.{Data}
 use Rattle.toml_items.specs.Item.{item_view}
 use Rattle.system_file.specs.Faults.{part_faults, in_order}
-use Rattle.system_file.specs.Reading.{HaveNames, Known}
+use Rattle.system_file.specs.inner.Reading.{HaveNames, Known}
 use Rattle.system_file.proofs.Along.{before, from}
 use Rattle.system_file.proofs.parts.read_parts.Given as goal
 

@@ -2,7 +2,7 @@ use Rattle.std.proofs.Common.{◌≡◌, [], map}
 use Rattle.toml_items.specs.Item.{item_view}
 use Rattle.system_file.specs.Document.{spelled_task}
 use Rattle.system_file.specs.Faults.{task_faults, in_order}
-use Rattle.system_file.specs.Reading.{HaveNames}
+use Rattle.system_file.specs.inner.Reading.{HaveNames}
 use Rattle.system_file.proofs.Along.{before, from}
 use Rattle.system_file.proofs.tasks.read_tasks.Given as goal
 

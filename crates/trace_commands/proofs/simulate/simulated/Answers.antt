@@ -1,5 +1,5 @@
 use Rattle.std.proofs.Common.{map}
-use Rattle.server_sched.proofs.Lists.{few_in_reach}
+use Rattle.tree_spans.proofs.Lists.{few_in_reach}
 use Rattle.trace_commands.proofs.simulate.simulated.Goals as goal
 
 pub count_tree-requires-clause-few : goal.count_tree-requires-clause-few

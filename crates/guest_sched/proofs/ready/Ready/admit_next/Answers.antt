@@ -2,9 +2,9 @@ use Rattle.std.proofs.Common.{◌≡◌, refl, ℕ, ◌+◌, ◌<◌, List, leng
 use Rattle.std.proofs.lemmas.List.{get_or_read}
 use Rattle.slot_model.specs.Task.{sporadic_tasks}
 use Rattle.guest_sched.specs.declared.releases.Release.{Release}
-use Rattle.guest_sched.specs.Releases.{release_at}
-use Rattle.guest_sched.specs.Places.{AddsPlace}
-use Rattle.guest_sched.specs.Ready.{IsState, StaysFirst}
+use Rattle.guest_sched.specs.inner.Releases.{release_at}
+use Rattle.guest_sched.specs.inner.Places.{AddsPlace}
+use Rattle.guest_sched.specs.inner.Ready.{IsState, StaysFirst}
 use Rattle.guest_sched.proofs.State.{one_comes, ready_in}
 use Rattle.guest_sched.proofs.Best.{best_kept}
 use Rattle.guest_sched.proofs.ready.Ready.admit_next.Goals as goal

@@ -1,6 +1,6 @@
 use Rattle.std.proofs.Common.{◌≡◌, ◌-◌, length}
 use Rattle.slot_model.specs.Task.{sporadic_tasks}
-use Rattle.guest_sched.specs.Ready.{IsReady, IsBest, HaveCome}
+use Rattle.guest_sched.specs.inner.Ready.{IsReady, IsBest, HaveCome}
 use Rattle.guest_sched.proofs.ready.Ready.catch_up.Given as goal
 
 -- the jobs so far have come

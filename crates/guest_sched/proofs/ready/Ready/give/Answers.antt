@@ -2,8 +2,8 @@ use Rattle.std.proofs.Common.{◌≡◌, ℕ, ◌+◌, ◌-◌, ◌<◌, ◌≤�
 use Rattle.std.proofs.lemmas.List.{get_or_read}
 use Rattle.guest_sched.specs.declared.releases.Release.{Release}
 use Rattle.guest_sched.specs.declared.ready.Ready.{Ready}
-use Rattle.guest_sched.specs.Places.{StandsIn, RemovesPlace}
-use Rattle.guest_sched.specs.Ready.{IsState, IsReady}
+use Rattle.guest_sched.specs.inner.Places.{StandsIn, RemovesPlace}
+use Rattle.guest_sched.specs.inner.Ready.{IsState, IsReady}
 use Rattle.guest_sched.proofs.State.{ready_in, one_stays, one_done}
 use Rattle.guest_sched.proofs.ready.Ready.give.Goals as goal
 use Rattle.guest_sched.proofs.ready.Ready.give.Goals.{then-slots-lacks, else-slots-lacks}

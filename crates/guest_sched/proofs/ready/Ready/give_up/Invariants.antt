@@ -1,5 +1,5 @@
 use Rattle.std.proofs.Common.{◌≡◌, length, None}
-use Rattle.guest_sched.specs.Ready.{IsReady}
+use Rattle.guest_sched.specs.inner.Ready.{IsReady}
 use Rattle.guest_sched.proofs.ready.Ready.give_up.Given as goal
 
 -- some of the jobs that end by now are given up

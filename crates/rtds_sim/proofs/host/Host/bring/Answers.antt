@@ -2,7 +2,7 @@ use Rattle.std.proofs.Common.{◌≡◌, ℕ, ◌+◌, ◌-◌, ◌<◌, ◌≤�
 use Rattle.slot_model.specs.Run.{holds}
 use Rattle.tree_model.specs.System.{part_at}
 use Rattle.rtds_sim.specs.declared.account.Account.{Account}
-use Rattle.rtds_sim.specs.Accounts.{account_at, holder_at, number_at, used_more, period_ended}
+use Rattle.rtds_sim.specs.inner.Accounts.{account_at, holder_at, number_at, used_more, period_ended}
 use Rattle.rtds_sim.proofs.Ready.{gone_is, not_held, not_used, started_more, from_more}
 use Rattle.rtds_sim.proofs.host.Host.bring.Goals as goal
 

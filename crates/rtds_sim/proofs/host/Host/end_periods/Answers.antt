@@ -8,12 +8,12 @@ use Rattle.tree_model.specs.System.{part_at}
 use Rattle.tree_model.specs.Tree.{is_child}
 use Rattle.rtds_sim.specs.declared.account.Account.{Account}
 use Rattle.rtds_sim.specs.declared.account.TheConstants.{PAST_ALL}
-use Rattle.rtds_sim.specs.Accounts.{account_at, number_at, period_ended}
-use Rattle.rtds_sim.specs.ByEnd.{first_end}
-use Rattle.rtds_sim.specs.Members.{place_at}
+use Rattle.rtds_sim.specs.inner.Accounts.{account_at, number_at, period_ended}
+use Rattle.rtds_sim.specs.inner.ByEnd.{first_end}
+use Rattle.rtds_queues.specs.Queues.{place_at}
 use Rattle.rtds_sim.proofs.Firsts.{first_at, some_first, first_least, first_past}
 use Rattle.rtds_sim.proofs.Ready.{number_here, number_there}
-use Rattle.rtds_sim.proofs.Walking.{count_fewer}
+use Rattle.rtds_queues.proofs.Walking.{count_fewer}
 use Rattle.rtds_sim.proofs.host.Host.end_periods.Goals as goal
 
 -- the first VCPU, whose period begins

@@ -4,9 +4,9 @@ use Rattle.slot_model.specs.Slots.{count_below}
 use Rattle.tree_model.specs.declared.place.Place.TheVariants.{Core}
 use Rattle.tree_model.specs.System.{part_at}
 use Rattle.tree_model.specs.Tree.{is_child}
-use Rattle.rtds_sim.specs.Accounts.{account_at, number_at, period_ended, IsReady}
-use Rattle.rtds_sim.specs.ByEnd.{InOrder}
-use Rattle.rtds_sim.specs.Members.{AreAll}
+use Rattle.rtds_sim.specs.inner.Accounts.{account_at, number_at, period_ended, IsReady}
+use Rattle.rtds_sim.specs.inner.ByEnd.{InOrder}
+use Rattle.rtds_sim.specs.inner.Members.{AreAll}
 use Rattle.rtds_sim.proofs.host.Host.end_periods.Given as goal
 
 -- the periods of the VCPUs that have left the slot have begun, and the others are as they were

@@ -2,7 +2,7 @@ use Rattle.std.proofs.Common.{◌≡◌, ◌+◌, ℕ, true, set, sym, ap, arith
 use Rattle.tree_model.specs.View.{PartView}
 use Rattle.tree_model.specs.System.{part_at}
 use Rattle.rtds_sim.specs.declared.account.Account.{Account}
-use Rattle.rtds_sim.specs.Accounts.{account_at, first_key}
+use Rattle.rtds_sim.specs.inner.Accounts.{account_at, first_key}
 use Rattle.rtds_sim.proofs.Membership.{part_here}
 use Rattle.rtds_sim.proofs.Ready.{ended_started, ready_begun}
 use Rattle.rtds_sim.proofs.host.Host.renew.Goals as goal

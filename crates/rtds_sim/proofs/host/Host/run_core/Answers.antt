@@ -4,7 +4,7 @@ use Rattle.tree_model.specs.declared.place.Place.TheVariants.{Core}
 use Rattle.tree_model.specs.System.{part_at}
 use Rattle.tree_model.specs.Tree.{is_child, budget_at}
 use Rattle.rtds_sim.specs.declared.account.Account.{Account}
-use Rattle.rtds_sim.specs.Accounts.{account_at, holder_at, number_at, left_of, gone_on}
+use Rattle.rtds_sim.specs.inner.Accounts.{account_at, holder_at, number_at, left_of, gone_on}
 use Rattle.rtds_sim.proofs.CoreRuns.{stands_first, stands_last, stands_on, gone_few}
 use Rattle.rtds_sim.proofs.host.Host.run_core.Goals as goal
 

@@ -2,10 +2,10 @@ use Rattle.std.proofs.Common.{◌≡◌, ◌≢◌, ℕ, ◌-◌, ◌≤◌, ◌
 use Rattle.tree_model.specs.declared.place.Place.TheVariants.{Core}
 use Rattle.tree_model.specs.Tree.{is_child}
 use Rattle.release_file.specs.declared.workload.Wake.{Wake as Row}
-use Rattle.rtds_sim.specs.Accounts.{account_at, holder_at, number_at, IsReady, IsEnd}
-use Rattle.rtds_sim.specs.ByEnd.{InOrder}
-use Rattle.rtds_sim.specs.Members.{AreAll}
-use Rattle.rtds_sim.specs.Running.{IsUnderway}
+use Rattle.rtds_sim.specs.inner.Accounts.{account_at, holder_at, number_at, IsReady, IsEnd}
+use Rattle.rtds_sim.specs.inner.ByEnd.{InOrder}
+use Rattle.rtds_sim.specs.inner.Members.{AreAll}
+use Rattle.rtds_sim.specs.inner.Running.{IsUnderway}
 use Rattle.rtds_sim.proofs.CoreRuns.{StandsAt}
 use Rattle.rtds_sim.proofs.host.Host.run_core.Given as goal
 

@@ -8,12 +8,13 @@ use Rattle.tree_model.specs.Tree.{is_child}
 use Rattle.trace_file.specs.declared.event.Event.{Event}
 use Rattle.rtds_sim.specs.declared.account.Account.{Account}
 use Rattle.rtds_sim.specs.declared.host.Host.{Host}
-use Rattle.rtds_sim.specs.Accounts.{account_at, number_at, IsEnd}
-use Rattle.rtds_sim.specs.Members.{AreAll}
-use Rattle.rtds_sim.specs.Running.{IsUnderway, HasRun}
-use Rattle.rtds_sim.specs.Lists.{list_at}
+use Rattle.rtds_sim.specs.inner.Accounts.{account_at, number_at, IsEnd}
+use Rattle.rtds_sim.specs.inner.Members.{AreAll}
+use Rattle.rtds_sim.specs.inner.Running.{IsUnderway, HasRun}
+use Rattle.rtds_sim.specs.inner.Lists.{list_at}
 use Rattle.rtds_sim.proofs.Lists.{list_read, list_here, list_there}
-use Rattle.rtds_sim.proofs.Ready.{on_one_core, ready_later}
+use Rattle.rtds_queues.proofs.Queueing.{on_one_core}
+use Rattle.rtds_sim.proofs.Ready.{ready_later}
 use Rattle.rtds_sim.proofs.CoreRuns.{underway_same, has_run_same, end_same}
 use Rattle.rtds_sim.proofs.host.Host.run_on.Goals as goal
 

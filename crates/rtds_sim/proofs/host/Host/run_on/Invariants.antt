@@ -2,10 +2,10 @@ use Rattle.std.proofs.Common.{◌≡◌, ℕ, ◌≤◌, ◌<◌, false, List, [
 use Rattle.tree_model.specs.declared.place.Place.TheVariants.{Core}
 use Rattle.tree_model.specs.Tree.{is_child}
 use Rattle.release_file.specs.declared.workload.Wake.{Wake as Row}
-use Rattle.rtds_sim.specs.Accounts.{account_at, holder_at, number_at, IsReady, IsEnd}
-use Rattle.rtds_sim.specs.Members.{AreMembers}
-use Rattle.rtds_sim.specs.Running.{IsUnderway, HasRun}
-use Rattle.rtds_sim.specs.Lists.{list_at}
+use Rattle.rtds_sim.specs.inner.Accounts.{account_at, holder_at, number_at, IsReady, IsEnd}
+use Rattle.rtds_sim.specs.inner.Members.{AreMembers}
+use Rattle.rtds_sim.specs.inner.Running.{IsUnderway, HasRun}
+use Rattle.rtds_sim.specs.inner.Lists.{list_at}
 use Rattle.rtds_sim.proofs.host.Host.run_on.Given as goal
 
 -- the cores so far have run, and the others are as they were

@@ -3,9 +3,9 @@ use Rattle.std.proofs.lemmas.List.{length-set}
 use Rattle.tree_model.specs.View.{PartView}
 use Rattle.tree_model.specs.System.{part_at}
 use Rattle.tree_model.specs.Tree.{budget_at}
-use Rattle.rtds_sim.specs.declared.key.Key.{Key}
-use Rattle.rtds_sim.specs.Keys.{key_at}
-use Rattle.rtds_sim.specs.Accounts.{left_of, key_of, end_of, IsLeft}
+use Rattle.rtds_queues.specs.declared.key.Key.{Key}
+use Rattle.rtds_queues.specs.Keys.{key_at}
+use Rattle.rtds_sim.specs.inner.Accounts.{left_of, key_of, end_of, IsLeft}
 use Rattle.rtds_sim.proofs.Membership.{part_here}
 use Rattle.rtds_sim.proofs.Ready.{key_here, key_there, number_here, number_there, ready_set}
 use Rattle.rtds_sim.proofs.host.Host.set.Goals as goal

@@ -1,5 +1,5 @@
 use Rattle.std.proofs.Common.{◌≡◌, ◌<◌, length, sym, ◌∙◌, arith, subst}
-use Rattle.rtds_sim.specs.Accounts.{holder_at, IsChoice}
+use Rattle.rtds_sim.specs.inner.Accounts.{holder_at, IsChoice}
 use Rattle.rtds_sim.proofs.Choices.{first_choice}
 use Rattle.rtds_sim.proofs.Stopping.{set_here}
 use Rattle.rtds_sim.proofs.Visits.{no_switch}

@@ -2,7 +2,7 @@ use Rattle.std.proofs.Common.{◌≡◌, ℕ, ◌+◌, set, sym, ◌∙◌, ap, 
 use Rattle.std.proofs.lemmas.Bool.{cases_eq}
 use Rattle.release_file.specs.declared.workload.Wake.{Wake}
 use Rattle.release_file.specs.Workload.{row_at}
-use Rattle.rtds_sim.specs.Accounts.{account_at, row_taken, AreAccounts}
+use Rattle.rtds_sim.specs.inner.Accounts.{account_at, row_taken, AreAccounts}
 use Rattle.rtds_sim.proofs.Taking.{accounts_more}
 use Rattle.rtds_sim.proofs.host.Host.take_rows.Goals as goal
 

@@ -2,7 +2,7 @@ use Rattle.std.proofs.Common.{◌≡◌, ℕ, ◌≤◌, ◌<◌, ◌-◌, List,
 use Rattle.tree_model.specs.View.{SystemView}
 use Rattle.tree_model.specs.System.{part_at}
 use Rattle.release_file.specs.Workload.{row_at, IsWorkload}
-use Rattle.rtds_sim.specs.Accounts.{AreAccounts, AreBefore, IsReady, AreEnds}
+use Rattle.rtds_sim.specs.inner.Accounts.{AreAccounts, AreBefore, IsReady, AreEnds}
 use Rattle.rtds_sim.proofs.host.Host.take_rows.Given as goal
 
 -- the rows so far are those at the slot, and the accounts are those after them

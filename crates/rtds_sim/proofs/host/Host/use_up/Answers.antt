@@ -2,9 +2,9 @@ use Rattle.std.proofs.Common.{◌≡◌, ◌+◌, ℕ, Option, set, sym, ap, sub
 use Rattle.tree_model.specs.View.{PartView}
 use Rattle.tree_model.specs.System.{part_at}
 use Rattle.tree_model.specs.Tree.{budget_at}
-use Rattle.rtds_sim.specs.declared.key.Key.{Key}
-use Rattle.rtds_sim.specs.Keys.{key_at}
-use Rattle.rtds_sim.specs.Accounts.{account_at, next_key, left_by, IsReady}
+use Rattle.rtds_queues.specs.declared.key.Key.{Key}
+use Rattle.rtds_queues.specs.Keys.{key_at}
+use Rattle.rtds_sim.specs.inner.Accounts.{account_at, next_key, left_by, IsReady}
 use Rattle.rtds_sim.proofs.Membership.{part_here}
 use Rattle.rtds_sim.proofs.Ready.{ready_next}
 use Rattle.rtds_sim.proofs.host.Host.use_up.Goals as goal

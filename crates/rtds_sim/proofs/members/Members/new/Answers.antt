@@ -2,7 +2,7 @@ use Rattle.std.proofs.Common.{List, length, sym, ap, arith, subst}
 use Rattle.tree_model.specs.declared.pinned_core.Core.{Core as CoreView}
 use Rattle.tree_model.specs.declared.place.Place.TheVariants.{Core}
 use Rattle.tree_model.specs.Tree.{is_child}
-use Rattle.rtds_sim.specs.Members.{AreAll}
+use Rattle.rtds_sim.specs.inner.Members.{AreAll}
 use Rattle.rtds_sim.proofs.Sinking.{places_all}
 use Rattle.rtds_sim.proofs.members.Members.new.Goals as goal
 

@@ -7,7 +7,7 @@ use Rattle.server_sched.specs.declared.serving.Server.{Server}
 use Rattle.server_sched.specs.Serving.{server_at, no_server, IsChosen}
 use Rattle.server_sched.proofs.Underway.{no_job, job_served}
 use Rattle.server_sched.proofs.level.Level.step.Goals as goal
-use Rattle.server_sched.proofs.Lists.{share_read}
+use Rattle.tree_spans.proofs.Lists.{share_read}
 
 pub returns-in_ok-add_window-in-Some-clause-run : goal.returns-in_ok-add_window-in-Some-clause-run
 returns-in_ok-add_window-in-Some-clause-run c = λ sched T slots fits are l given h.

@@ -1,0 +1,162 @@
+-- A leaf that is put on one core after another: its budget is the same on each, and with it every
+-- node but that core is settled.
+use Rattle.std.proofs.Common.{◌≡◌, ℕ, ◌<◌, true, Some, List, [], ◌∷◌, ◌++◌, length, length-set, ◌+◌, set, arith, refl, sym, ◌∙◌, ap, subst, inl, inr}
+use Rattle.std.proofs.Math.Seq.{set-append_seam}
+use Rattle.std.proofs.lemmas.Bool.{cases_lt}
+use Rattle.std.proofs.lemmas.List.{set-set}
+use Rattle.slot_model.specs.Bound.{sbf}
+use Rattle.tree_model.specs.declared.place.Parent.TheVariants.{Core as on_core}
+use Rattle.tree_model.specs.declared.place.Place.{Place}
+use Rattle.tree_model.specs.declared.place.Place.TheVariants.{Core, Part}
+use Rattle.tree_model.specs.declared.plan.Refusal.{Refusal}
+use Rattle.tree_model.specs.View.{PartView, SystemView}
+use Rattle.tree_model.specs.System.{IsSystem, part_at, is_leaf, is_leaf_at}
+use Rattle.tree_model.specs.Tree.{place_of, node_tasks}
+use Rattle.tree_model.specs.Admission.{largest_budget, Admitted}
+use Rattle.compose_tree.specs.Steps.{NodeRefuses, RefusesAt}
+use Rattle.compose_tree.specs.Kept.{IsKept, IsSettledNode}
+use Rattle.compose_tree.proofs.Settling.{before_part, node_refuses}
+use Rattle.compose_tree.proofs.Ways.{assigned_later, pass_later, kept_up}
+use Rattle.admission_session.specs.Leaves.{on_parent, with_guest, with_changed, moved_to}
+use Rattle.admission_session.specs.Edits.{IsNewLeaf}
+use Rattle.admission_session.specs.Answers.{HasRefusal, IsRefusedOnAll, IsPutOn}
+use Rattle.admission_session.proofs.Nodes.{same_leaf, settled_with}
+use Rattle.admission_session.proofs.KeptByEdits.{changed_here}
+use Rattle.admission_session.proofs.EditedSystems.{added_here}
+use Rattle.admission_session.proofs.RowSystems.{new_leaf_is, add_keeps}
+
+abbrev of_parts : SystemView → List PartView → SystemView
+of_parts sys parts = record { cores = sys.cores; parts = parts }
+
+moved_part : (sys : SystemView) (q c : ℕ) → q < length sys.parts
+    → part_at (moved_to sys q c) q ≡ on_parent (part_at sys q) (on_core c)
+moved_part sys q c h = changed_here sys q (on_parent (part_at sys q) (on_core c)) h
+
+-- it is put on one core and then on another
+pub moved_again : (sys : SystemView) (q d c : ℕ) → q < length sys.parts
+    → moved_to (moved_to sys q d) q c ≡ moved_to sys q c
+moved_again sys q d c h =
+    ap (λ (p : PartView). with_changed (moved_to sys q d) q (on_parent p (on_core c))) (moved_part sys q d h)
+    ∙ ap (of_parts sys)
+    (set-set sys.parts q (on_parent (part_at sys q) (on_core d)) (on_parent (part_at sys q) (on_core c)))
+
+-- the last part, a guest
+pub moved_guest : (sys : SystemView) (guest : PartView) (d c : ℕ)
+    → moved_to (with_guest sys guest d) (length sys.parts) c ≡ with_guest sys guest c
+moved_guest sys guest d c =
+    ap (λ (p : PartView). with_changed (with_guest sys guest d) (length sys.parts) (on_parent p (on_core c)))
+    (added_here sys (on_parent guest (on_core d)))
+    ∙ ap (of_parts sys)
+    (set-append_seam sys.parts (on_parent guest (on_core d)) [] (on_parent guest (on_core c)))
+
+-- a leaf that is settled on the core on which it stands is on every other
+same_tasks : (sys : SystemView) (q c : ℕ) (b : List ℕ) → q < length sys.parts → is_leaf_at sys q ≡ true
+    → node_tasks sys b (Part q) ≡ node_tasks (moved_to sys q c) b (Part q)
+same_tasks sys q c b h leaf =
+    same_leaf sys (moved_to sys q c) b b q q (sym (ap (λ (p : PartView). p.tasks) (moved_part sys q c h))) leaf
+
+pub kept_on_core : (sys : SystemView) (q c budget : ℕ) (kept : List ℕ) → q < length sys.parts
+    → is_leaf_at sys q ≡ true → IsSystem (moved_to sys q c) → IsKept (moved_to sys q c) kept (Part q)
+    → IsSettledNode sys (set kept q budget) (Part q) → IsKept (moved_to sys q c) (set kept q budget) (Core c)
+kept_on_core sys q c budget kept h leaf is keeps settled =
+    subst (λ (node : Place). IsKept (moved_to sys q c) (set kept q budget) node)
+    (ap (λ (p : PartView). place_of p.parent) (moved_part sys q c h))
+    (kept_up (moved_to sys q c) is kept q keeps budget
+    (settled_with sys (moved_to sys q c) (set kept q budget) (set kept q budget) q q (record {
+      sched = sym (ap (λ (p : PartView). p.sched) (moved_part sys q c h));
+      period = sym (ap (λ (p : PartView). p.period) (moved_part sys q c h));
+      budget = sym (ap (λ (p : PartView). p.budget) (moved_part sys q c h));
+      tasks = sym (ap (λ (p : PartView). p.tasks) (moved_part sys q c h));
+    }) refl (same_tasks sys q c (set kept q budget) h leaf) settled))
+
+-- and one that is refused by itself is refused on every core
+pub refused_on_core : (sys : SystemView) (q c : ℕ) (kept : List ℕ) (r : Refusal) → q < length sys.parts
+    → is_leaf_at sys q ≡ true → IsSystem (moved_to sys q c) → IsKept (moved_to sys q c) kept (Part q)
+    → RefusesAt sys kept (Part q) r → HasRefusal (moved_to sys q c)
+refused_on_core sys q c kept r h leaf is keeps refuses =
+    let now : SystemView = moved_to sys q c in (
+      r,
+      node_refuses now kept (Part q) keeps.is_node
+          (before_part now kept q (assigned_later now is kept (Part q) keeps) (pass_later now is kept (Part q) keeps))
+          (node_tasks sys kept (Part q)) (same_tasks sys q c kept h leaf) r
+          (subst (λ (p : PartView). NodeRefuses p.sched (node_tasks sys kept (Part q))
+          (sbf p.period (largest_budget p.budget p.period)) p.period (Part q) r) (sym (moved_part sys q c h)) refuses),
+    )
+
+-- one core more is refused
+pub refused_more : (sys now : SystemView) (q c : ℕ) → now ≡ moved_to sys q c
+    → ((d : ℕ) → d < c → HasRefusal (moved_to sys q d)) → HasRefusal now
+    → (d : ℕ) → d < c + 1 → HasRefusal (moved_to sys q d)
+refused_more sys now q c e before here d l = elim (cases_lt d c) [
+  | inl b ↦ before d b
+  | inr b ↦
+      subst (λ (k : ℕ). HasRefusal (moved_to sys q k)) (let same : c ≡ d = omega arith in same)
+      (subst HasRefusal e here)
+]
+
+-- a system to which a guest was put, on the first core
+pub trial_at : (was now : SystemView) (guest : PartView) (n c : ℕ) → now ≡ with_guest was guest 0
+    → n ≡ length was.parts → moved_to now n c ≡ with_guest was guest c
+trial_at was now guest n c e l =
+    ap (λ (s : SystemView). moved_to s n c) e
+    ∙ (ap (λ (k : ℕ). moved_to (with_guest was guest 0) k c) l ∙ moved_guest was guest 0 c)
+
+pub trial_leaf : (was now : SystemView) (guest : PartView) (n : ℕ) → now ≡ with_guest was guest 0
+    → n ≡ length was.parts → is_leaf guest.tasks ≡ true → is_leaf_at now n ≡ true
+trial_leaf was now guest n e l filled =
+    ap (λ (s : SystemView). is_leaf_at s n) e
+    ∙ (ap (λ (k : ℕ). is_leaf_at (with_guest was guest 0) k) l
+    ∙ (ap (λ (p : PartView). is_leaf p.tasks) (added_here was (on_parent guest (on_core 0))) ∙ filled))
+
+pub trial_system : (was now : SystemView) (guest : PartView) (n : ℕ) → now ≡ with_guest was guest 0
+    → n ≡ length was.parts → IsSystem was → IsNewLeaf was guest → (c : ℕ) → c < length now.cores
+    → IsSystem (moved_to now n c)
+trial_system was now guest n e l is new c h =
+    subst IsSystem (sym (trial_at was now guest n c e l))
+    (new_leaf_is was is guest c new (subst (λ (s : SystemView). c < length s.cores) e h))
+
+pub trial_kept : (was now : SystemView) (guest : PartView) (n : ℕ) → now ≡ with_guest was guest 0
+    → n ≡ length was.parts → (plan budgets : List ℕ) → budgets ≡ plan ++ 1 ∷ [] → Admitted was plan → (c : ℕ)
+    → IsKept (moved_to now n c) budgets (Part n)
+trial_kept was now guest n e l plan budgets b admitted c =
+    subst (λ (s : SystemView). IsKept s budgets (Part n)) (sym (trial_at was now guest n c e l))
+    (add_keeps was (with_guest was guest c) (on_parent guest (on_core c)) plan budgets 1 n refl b l admitted)
+
+-- the system on which it is moved has as many parts
+pub same_length : (was now : SystemView) (q : ℕ) → moved_to now q 0 ≡ moved_to was q 0 → q < length was.parts
+    → q < length now.parts
+same_length was now q e h =
+    omega (
+      arith,
+      h,
+      ap (λ (s : SystemView). length s.parts) e,
+      length-set now.parts q (on_parent (part_at now q) (on_core 0)),
+      length-set was.parts q (on_parent (part_at was q) (on_core 0)),
+    )
+
+-- a part that is to be settled has its place
+pub leaf_place : (sys : SystemView) (q c : ℕ) (kept : List ℕ) → IsKept (moved_to sys q c) kept (Part q)
+    → q < length sys.parts
+leaf_place sys q c kept keeps =
+    omega (arith, keeps.is_node, length-set sys.parts q (on_parent (part_at sys q) (on_core c)))
+
+-- the guest is put on the first core that takes it, or on none
+pub put_on : (was now after : SystemView) (guest : PartView) (n c : ℕ) (budgets : List ℕ) → now ≡ with_guest was guest 0
+    → n ≡ length was.parts → after ≡ moved_to now n c → c < length now.cores → Admitted after budgets
+    → ((d : ℕ) → d < c → HasRefusal (moved_to now n d)) → IsPutOn was guest (Some c) after
+put_on was now after guest n c budgets e l there h admitted before =
+    let put : after ≡ with_guest was guest c = there ∙ trial_at was now guest n c e l in (
+      put,
+      record {
+        is_core = subst (λ (s : SystemView). c < length s.cores) e h;
+        admitted = (budgets, subst (λ (s : SystemView). Admitted s budgets) put admitted);
+        before = λ d m. subst HasRefusal (trial_at was now guest n d e l) (before d m);
+      },
+    )
+
+pub put_nowhere : (was now : SystemView) (guest : PartView) (n : ℕ) → now ≡ with_guest was guest 0
+    → n ≡ length was.parts → ((d : ℕ) → d < length now.cores → HasRefusal (moved_to now n d))
+    → IsRefusedOnAll was guest
+put_nowhere was now guest n e l refused =
+    λ d h. subst HasRefusal (trial_at was now guest n d e l)
+    (refused d (subst (λ (s : SystemView). d < length s.cores) (sym e) h))

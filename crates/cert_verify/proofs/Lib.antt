@@ -1,0 +1,6 @@
+pub mod Covered
+pub mod Shown
+pub mod Admits
+pub mod Walked
+pub mod Failing
+pub mod OneFlaw

@@ -1,0 +1,10 @@
+use Rattle.std.proofs.Common.{ℕ, ◌<◌}
+use Rattle.slot_model.specs.Task.{sporadic_tasks}
+use Rattle.slot_model.specs.Order.{ranks_above}
+use Rattle.cert_verify.specs.Proves.{IsHitOf}
+use Rattle.cert_verify.proofs.claims.check_hits.Given as goal
+
+abbrev pub invariant-loop-i : goal.invariant-loop-i
+invariant-loop-i g l =
+    (k : ℕ) → k < l.i
+    → IsHitOf (ranks_above l.sched (sporadic_tasks l.tasks)) (sporadic_tasks l.tasks) (g.S.Supply.bound l.s) l.node k

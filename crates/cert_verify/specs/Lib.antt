@@ -1,0 +1,3 @@
+pub mod Proves
+pub mod Flaws
+pub mod inner

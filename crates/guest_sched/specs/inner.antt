@@ -1,0 +1,6 @@
+-- What only private functions promise each other.
+pub mod Choice
+pub mod Releases
+pub mod Places
+pub mod Keep
+pub mod Ready

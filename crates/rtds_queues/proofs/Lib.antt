@@ -1,0 +1,8 @@
+pub mod Order
+pub mod Keys
+pub mod Tables
+pub mod FirstOf
+pub mod Listing
+pub mod Walking
+pub mod Queueing
+mod KeyExamples

@@ -1,0 +1,10 @@
+use Rattle.rtds_queues.proofs.Tables.{in_table, clear_here}
+use Rattle.rtds_queues.proofs.key_table.KeyTable.clear.Goals as goal
+
+pub bounds-self-inside-v : goal.bounds-self-inside-v
+bounds-self-inside-v c = in_table _ _ _ _ c.args.v c.self.invariant c.self.view_is c.requires
+
+pub returns : goal.returns
+returns c =
+    clear_here c.self.inside.eligible c.self.inside.levels c.self.inside.deadlines c.args.self.now c.args.v
+    c.self.invariant c.self.view_is c.requires

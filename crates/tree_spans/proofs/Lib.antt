@@ -1,0 +1,4 @@
+pub mod Sharing
+pub mod Nodes
+pub mod TreeNodes
+pub mod Lists

@@ -1,0 +1,36 @@
+use Rattle.std.proofs.Common.{ℕ, suc, ◌<◌, List, length, arith, ap, sym, subst, add-one}
+use Rattle.guest_sched.specs.Spans.{Window, AreWindows, slots_of}
+use Rattle.tree_model.specs.declared.place.Place.TheVariants.{Core}
+use Rattle.tree_model.specs.declared.pinned_core.Core.{Core as CoreView}
+use Rattle.tree_spans.specs.NodeView.{NodeView}
+use Rattle.tree_spans.specs.TreeSpans.{given_at, AreCoreNodes, IsServerNode}
+use Rattle.tree_spans.proofs.Lists.{list_read, window_lists}
+use Rattle.tree_spans.proofs.TreeNodes.{one_core}
+use Rattle.tree_spans.proofs.tree.core_nodes.Goals as goal
+
+pub server_node-requires-clause-windows : goal.server_node-requires-clause-windows
+server_node-requires-clause-windows c =
+    let l : c.loop-c.c < length c.args.sys.now.cores
+    = omega (arith, c.loop-c-test.true, ap (λ (cs : List CoreView). length cs) c.cores.ensures.cores) in
+    let read
+    = list_read c.args.given.now c.loop-c.c (length c.args.sys.now.cores) c.index-given-c.result c.deref.result.now
+    c.requires.windows.one_each l c.index-given-c.is c.deref.ensures.value in
+    subst (λ (w : List Window). AreWindows w c.args.slots) (sym read) (c.requires.windows.windows c.loop-c.c l)
+
+pub loop-c-preserved : goal.loop-c-preserved
+loop-c-preserved c =
+    let l : c.loop-c.c < length c.args.sys.now.cores
+    = omega (arith, c.loop-c-test.true, ap (λ (cs : List CoreView). length cs) c.cores.ensures.cores) in
+    let sys = c.args.sys.now in
+    let budgets = c.args.budgets.now in let n = c.args.slots in let given = window_lists c.args.given.now in
+    let read
+    = list_read c.args.given.now c.loop-c.c (length sys.cores) c.index-given-c.result c.deref.result.now
+    c.requires.windows.one_each l c.index-given-c.is c.deref.ensures.value in
+    let new : IsServerNode sys budgets n (Core c.loop-c.c) (slots_of (given_at given c.loop-c.c) n)
+    c.in_ok-server_node.field-0
+    = subst (λ (w : List Window). IsServerNode sys budgets n (Core c.loop-c.c) (slots_of w n)
+    c.in_ok-server_node.field-0) read c.in_ok-server_node.ensures in
+    subst (λ (m : ℕ). AreCoreNodes sys budgets n given m c.push.new.self.items) (sym (add-one c.loop-c.c))
+    (subst (λ (v : List NodeView). AreCoreNodes sys budgets n given (suc c.loop-c.c) v) (sym c.in_ok-push.ensures.items)
+    (one_core sys budgets n given c.loop-c.c c.loop-c.nodes.items c.loop-c.invariant c.in_ok-server_node.field-0
+    new))

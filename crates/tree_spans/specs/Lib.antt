@@ -1,0 +1,4 @@
+pub mod Shares
+pub mod NodeView
+pub mod TreeCounts
+pub mod TreeSpans

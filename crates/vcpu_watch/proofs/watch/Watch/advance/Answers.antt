@@ -1,0 +1,24 @@
+use Rattle.std.proofs.Common.{arith}
+use Rattle.vcpu_watch.proofs.Telling.{stays_in}
+use Rattle.vcpu_watch.proofs.watch.Watch.advance.Goals as goal
+
+pub returns-clause-tells : goal.returns-clause-tells
+returns-clause-tells c runs blocks f st t =
+    let s = c.args.state in
+    let from = c.args.self.now.now in
+    let to = c.args.to in
+    let first = c.pass-2.ensures in
+    let second = c.close.ensures in
+    let third = c.skip_to.ensures in
+    let end = c.if-to-end.false in
+    let t2
+    = first.tells runs blocks f (stays_in runs blocks s from to from _ (omega arith) (omega (arith, end)) st) t in
+    let t3
+    = second.tells s runs blocks f
+    (stays_in runs blocks s from to _ _ (omega (arith, first.now, end)) (omega (arith, first.now, end)) st) t2 in
+    let t4
+    = third.tells runs blocks f
+    (stays_in runs blocks s from to _ _ (omega (arith, first.now, second.now, end)) third.now st) t3 in
+    c.pass-3.ensures.tells runs blocks f
+    (stays_in runs blocks s from to _ to (omega (arith, first.now, second.now, third.goes_on, end)) (omega arith) st)
+    t4
