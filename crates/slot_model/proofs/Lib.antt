@@ -1,3 +1,4 @@
+pub mod HandedOn
 mod Names
 pub mod Digits
 pub mod Sums

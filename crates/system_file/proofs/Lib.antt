@@ -1,4 +1,3 @@
-pub mod HandedOn
 pub mod Elements
 pub mod Along
 pub mod Faultless

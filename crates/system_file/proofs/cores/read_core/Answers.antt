@@ -1,5 +1,5 @@
 use Rattle.tree_model.proofs.Lists.{first_here, first_later, none_both}
-use Rattle.system_file.proofs.HandedOn.{handed_on}
+use Rattle.slot_model.proofs.HandedOn.{handed_on}
 use Rattle.system_file.proofs.cores.read_core.Goals as goal
 
 pub returns-in_err-name-clause-fault : goal.returns-in_err-name-clause-fault

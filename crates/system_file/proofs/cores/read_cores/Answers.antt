@@ -1,5 +1,5 @@
 use Rattle.std.proofs.Common.{[], ◌∷◌, ◌++◌, ap, ◌∙◌, arith}
-use Rattle.system_file.proofs.HandedOn.{handed_on}
+use Rattle.slot_model.proofs.HandedOn.{handed_on}
 use Rattle.system_file.specs.Document.{spelled_core}
 use Rattle.system_file.specs.Faults.{core_faults}
 use Rattle.system_file.proofs.Along.{before, before_more, length_before, faulty, faultless, spelled_more}

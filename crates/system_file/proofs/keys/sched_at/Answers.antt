@@ -1,7 +1,7 @@
 use Rattle.std.proofs.Common.{sym, ap, unwrap_or}
 use Rattle.std.proofs.lemmas.Result.{IfOk-weaker}
 use Rattle.slot_model.specs.declared.sched.Sched.TheVariants.{Edf}
-use Rattle.system_file.proofs.HandedOn.{handed_on}
+use Rattle.slot_model.proofs.HandedOn.{handed_on}
 use Rattle.system_file.specs.Faults.{sched_faults}
 use Rattle.system_file.proofs.keys.sched_at.Goals as goal
 

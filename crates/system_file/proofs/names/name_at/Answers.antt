@@ -1,5 +1,5 @@
 use Rattle.std.proofs.lemmas.Result.{IfErr-weaker}
-use Rattle.system_file.proofs.HandedOn.{handed_on, ok_with}
+use Rattle.slot_model.proofs.HandedOn.{handed_on, ok_with}
 use Rattle.system_file.specs.Faults.{new_name_faults}
 use Rattle.system_file.proofs.Named.{taken_is, more_names}
 use Rattle.system_file.proofs.names.name_at.Goals as goal

@@ -1,7 +1,7 @@
 use Rattle.std.proofs.Common.{sym, ap, unwrap_or}
 use Rattle.std.proofs.lemmas.Result.{IfOk-weaker, IfErr-weaker}
 use Rattle.tree_model.specs.declared.place.Parent.TheVariants.{Core}
-use Rattle.system_file.proofs.HandedOn.{handed_on}
+use Rattle.slot_model.proofs.HandedOn.{handed_on}
 use Rattle.system_file.specs.Faults.{parent_faults}
 use Rattle.system_file.proofs.Places.{parent_kept}
 use Rattle.system_file.proofs.parts.parent_at.Goals as goal

@@ -1,7 +1,7 @@
 use Rattle.std.proofs.Common.{◌∷◌, ◌++◌, append_assoc}
 use Rattle.toml_items.specs.Item.{item_view}
 use Rattle.tree_model.proofs.Lists.{first_here, first_later, none_both}
-use Rattle.system_file.proofs.HandedOn.{handed_on}
+use Rattle.slot_model.proofs.HandedOn.{handed_on}
 use Rattle.system_file.proofs.Places.{as_many}
 use Rattle.system_file.proofs.parts.read_part.Goals as goal
 

@@ -2,7 +2,7 @@ use Rattle.std.proofs.Common.{◌+◌, [], ◌∷◌, ◌++◌, map, length-appe
 use Rattle.toml_items.specs.Item.{item_view}
 use Rattle.system_file.specs.Document.{spelled_part}
 use Rattle.system_file.specs.Faults.{part_faults}
-use Rattle.system_file.proofs.HandedOn.{handed_on}
+use Rattle.slot_model.proofs.HandedOn.{handed_on}
 use Rattle.system_file.proofs.Along.{before, from, before_more, known_at, all_values, faulty, faultless, spelled_more}
 use Rattle.system_file.proofs.parts.read_parts.Goals as goal
 

@@ -1,7 +1,7 @@
 use Rattle.std.proofs.Common.{map}
 use Rattle.toml_items.specs.Item.{item_view}
 use Rattle.tree_model.proofs.Lists.{first_here, first_later, length_map}
-use Rattle.system_file.proofs.HandedOn.{handed_on}
+use Rattle.slot_model.proofs.HandedOn.{handed_on}
 use Rattle.system_file.proofs.read.nodes_of.Goals as goal
 
 pub returns-in_err-top-clause-fault : goal.returns-in_err-top-clause-fault

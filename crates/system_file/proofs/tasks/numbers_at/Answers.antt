@@ -1,6 +1,6 @@
 use Rattle.std.proofs.Common.{ap, ◌∙◌, unwrap_or}
 use Rattle.tree_model.proofs.Lists.{first_here, first_later}
-use Rattle.system_file.proofs.HandedOn.{handed_on}
+use Rattle.slot_model.proofs.HandedOn.{handed_on}
 use Rattle.system_file.proofs.tasks.numbers_at.Goals as goal
 
 pub returns-in_err-jitter-clause-fault : goal.returns-in_err-jitter-clause-fault
