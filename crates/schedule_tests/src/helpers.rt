@@ -3,7 +3,10 @@
 ghost use Rattle.tree_model.specs.Plans.{IsPlan};
 
 use compose_tree::assign;
-use std::alloc::Global;
+use guest_sched::Window;
+use slot_model::{Job, Task};
+use std::alloc::{AllocError, Global};
+use std::fmt::Write;
 use std::process::Abort;
 use system_file::read_system;
 use tree_model::{Plan, System};
@@ -23,4 +26,57 @@ pub fn planned(rt: &impl Abort, alloc: Global, sys: &System) -> Plan
         Ok(plan) => plan,
         Err(refusal) => panic!(rt; "{refusal:?}"),
     }
+}
+
+/// Tasks of these periods, which are their deadlines, and works.
+pub fn tasks_of(alloc: Global, rows: &[(u64, u64)]) -> Result<Vec<Task>, AllocError> {
+    let mut tasks = Vec::new(alloc);
+    for (period, work) in rows {
+        if let Some(task) = Task::new(*period, *period, *work) {
+            tasks.push(task)?;
+        }
+    }
+    Ok(tasks)
+}
+
+/// Jobs of these tasks, releases and works.
+pub fn jobs_of(alloc: Global, rows: &[(u32, u64, u64)]) -> Result<Vec<Job>, AllocError> {
+    let mut jobs = Vec::new(alloc);
+    for (task, release, work) in rows {
+        jobs.push(Job {
+            task: *task,
+            release: *release,
+            work: *work,
+            early: 0,
+        })?;
+    }
+    Ok(jobs)
+}
+
+/// Windows from and up to these slots.
+pub fn windows_of(alloc: Global, rows: &[(u64, u64)]) -> Result<Vec<Window>, AllocError> {
+    let mut windows = Vec::new(alloc);
+    for (from, until) in rows {
+        windows.push(Window {
+            from: *from,
+            until: *until,
+        })?;
+    }
+    Ok(windows)
+}
+
+/// A run as a text: at each slot the place of the job that has it, `.` where none has.
+pub fn told_run(alloc: Global, run: &[Option<u32>]) -> Result<String, AllocError> {
+    let mut text = String::new(alloc);
+    for held in run {
+        match held {
+            Some(place) => write!(text, "{place}")?,
+            None => write!(text, ".")?,
+        }
+    }
+    Ok(text)
+}
+
+pub fn expect(rt: &impl Abort, told: String, wanted: &str) {
+    assert_eq!(rt; told.as_str(), wanted);
 }

@@ -1,4 +1,5 @@
-//! Tests of schedules: whole trees, the scheduler after Xen's RTDS, and the generated host.
+//! Tests of schedules: one level, of its jobs or of servers, and what is counted of its spans; whole
+//! trees, the scheduler after Xen's RTDS, and the generated host.
 #![tactic(auto)]
 
 #[cfg(test)]
@@ -6,10 +7,18 @@ mod bulk_host_tests;
 #[cfg(test)]
 mod bulk_run_tests;
 #[cfg(test)]
+mod guest_sched_tests;
+#[cfg(test)]
 mod helpers;
 #[cfg(test)]
 mod isolation_tests;
 #[cfg(test)]
+mod plain_program_tests;
+#[cfg(test)]
 mod rtds_sim_tests;
+#[cfg(test)]
+mod server_sched_tests;
+#[cfg(test)]
+mod span_counts_tests;
 #[cfg(test)]
 mod tree_run_tests;

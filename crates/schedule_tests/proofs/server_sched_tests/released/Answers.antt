@@ -2,7 +2,7 @@ use Rattle.std.proofs.Common.{arith}
 use Rattle.std.proofs.lemmas.List.{length-map}
 use Rattle.slot_model.specs.Task.{sporadic_task, sporadic_tasks}
 use Rattle.release_pattern.proofs.Prompt.{multiples_few}
-use Rattle.span_tests.proofs.server_sched_tests.released.Goals as goal
+use Rattle.schedule_tests.proofs.server_sched_tests.released.Goals as goal
 
 pub server_jobs-requires : goal.server_jobs-requires
 server_jobs-requires c =

@@ -6,7 +6,7 @@ use Rattle.slot_model.specs.Order.{edf_before}
 use Rattle.slot_model.proofs.MissedJobs.{permitted_holds_released}
 use Rattle.guest_sched.specs.Spans.{slots_of, run_of}
 use Rattle.guest_sched.proofs.Given.{slots-long}
-use Rattle.span_tests.proofs.span_counts_tests.spans_of.Goals as goal
+use Rattle.schedule_tests.proofs.span_counts_tests.spans_of.Goals as goal
 
 pub returns-clause-long : goal.returns-clause-long
 returns-clause-long c =

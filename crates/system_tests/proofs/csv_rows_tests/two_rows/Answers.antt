@@ -1,6 +1,6 @@
 use Rattle.std.proofs.Common.{◌≡◌, ℕ, zero, suc, List, [], ◌∷◌, length, refl, arith}
 use Rattle.csv_rows.specs.Printing.{AreOfLength}
-use Rattle.file_tests.proofs.csv_rows_tests.two_rows.Goals as goal
+use Rattle.system_tests.proofs.csv_rows_tests.two_rows.Goals as goal
 
 -- a row stands alone among itself
 one_row : (row : List (List ℕ)) → length row ≡ 3 → AreOfLength 3 (row ∷ [])

@@ -2,7 +2,7 @@ use Rattle.std.proofs.Common.{List, sym, subst}
 use Rattle.slot_model.specs.Miss.{HoldsReleased}
 use Rattle.guest_sched.specs.declared.spans.Span.{Span}
 use Rattle.guest_sched.specs.Spans.{run_of}
-use Rattle.span_tests.proofs.span_counts_tests.counted.Goals as goal
+use Rattle.schedule_tests.proofs.span_counts_tests.counted.Goals as goal
 
 pub misses-requires-clause-released : goal.misses-requires-clause-released
 misses-requires-clause-released c =
