@@ -1,4 +1,4 @@
-//! Tests of schedules: one level, of its jobs or of servers, and what is counted of its spans; whole
+//! Tests of schedules: one level, of its jobs or of servers, and what is counted of its spans;
 //! trees, the scheduler after Xen's RTDS, and the generated host.
 #![tactic(auto)]
 

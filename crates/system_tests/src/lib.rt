@@ -1,4 +1,4 @@
-//! Tests of systems, with the budgets up their trees, and of all files that are read and printed: of
+//! Tests of systems, with the budgets up their trees, and of all files that are read and printed:
 //! systems, traces, releases, scripts and certificates.
 #![tactic(auto)]
 
