@@ -8,7 +8,7 @@ use Rattle.trace_file.specs.declared.event.Event.{Event}
 use Rattle.trace_file.specs.Periods.{Satisfied}
 use Rattle.command_steps.specs.declared.status.Status.{Status}
 use Rattle.command_steps.specs.declared.status.Status.TheVariants.{Yes, No}
-use Rattle.rt_top.specs.Commands.{audit, command_of}
+use Rattle.command_words.specs.Commands.{audit, command_of}
 use Rattle.command_steps.specs.Answer.{Contents}
 use Rattle.trace_commands.specs.Audit.{IsAuditOf, AuditMeans}
 use Rattle.rt_top.specs.Report.{Reported}

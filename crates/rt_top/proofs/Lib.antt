@@ -1,4 +1,3 @@
-mod Laws
 mod Taking
 mod Reporting
 mod Examples

@@ -27,7 +27,7 @@ use Rattle.cert_reader.specs.CertificateFile.{certificate_of}
 use Rattle.cert_verify.specs.Proves.{Proves}
 use Rattle.command_steps.specs.declared.status.Status.{Status}
 use Rattle.command_steps.specs.declared.status.Status.TheVariants.{Yes, No, Usage, BadFile, Absent, TooLong, ReadFault, WriteFault}
-use Rattle.rt_top.specs.Commands.{Command, admit, certify, check, rtds, audit, simulate, bulk}
+use Rattle.command_words.specs.Commands.{Command, admit, certify, check, rtds, audit, simulate, bulk}
 use Rattle.command_steps.specs.Answer.{Contents, file_at, IfSystem, IsReadable}
 use Rattle.command_steps.specs.TwoFiles.{SpellsSystem}
 use Rattle.command_steps.specs.Budgets.{IsTrulyOverfull}

@@ -3,9 +3,10 @@
 use Rattle.std.proofs.Common.{◌≡◌, ℕ, List, [], ◌∷◌, Some, None, refl, arith, inl, inr}
 use Rattle.outside.specs.Files.{Files, file_named}
 use Rattle.command_steps.specs.declared.status.Status.TheVariants.{Yes, No, Usage, BadFile, ReadFault, WriteFault, NoMemory}
-use Rattle.rt_top.specs.Commands.{admit, check, bulk}
+use Rattle.command_words.specs.Commands.{admit, check, bulk}
 use Rattle.command_steps.specs.Reading.{read_in}
-use Rattle.rt_top.specs.Reading.{bytes_to_read, Takes, NamesNoFile, EndsWithoutFile}
+use Rattle.command_words.specs.Reading.{bytes_to_read, NamesNoFile}
+use Rattle.rt_top.specs.Reading.{Takes, EndsWithoutFile}
 
 the_files_of_the_command : (file cert : List ℕ) (files : Files)
     → bytes_to_read (Some (check file cert)) files ≡ read_in (file_named file files ∷ file_named cert files ∷ [])

@@ -5,16 +5,17 @@ use Rattle.std.specs.Io.KnownBytes.{Appends}
 use Rattle.outside.specs.Files.{Files}
 use Rattle.outside.specs.Counts.{Rose}
 use Rattle.outside.specs.Written.{AppendsProperPrefix}
-use Rattle.rt_top.specs.declared.commands.Command.{Command as Parsed}
+use Rattle.command_words.specs.declared.commands.Command.{Command as Parsed}
 use Rattle.command_steps.specs.declared.status.Status.{Status}
 use Rattle.command_steps.specs.declared.status.Status.TheVariants.{Yes, No, Usage, BadFile, Wide, Absent, TooLong, ReadFault, WriteFault, NoMemory}
-use Rattle.rt_top.specs.Commands.{Command, command_told, spec_of}
+use Rattle.command_words.specs.Commands.{Command, command_told, spec_of}
 use Rattle.command_steps.specs.Answer.{Contents, IsOne}
 use Rattle.rt_top.specs.Report.{JobAnswers, Answers, AreContents, IsAnswer, Reported, HasOneAnswer}
-use Rattle.rt_top.specs.Causes.{contents_of, IsJudgeable, IsVerdictOf, Stays}
-use Rattle.rt_top.specs.Steps.{IsSaidTo}
+use Rattle.command_words.specs.Reading.{contents_of}
+use Rattle.rt_top.specs.Causes.{IsJudgeable, IsVerdictOf, Stays}
+use Rattle.command_words.specs.Steps.{IsSaidTo}
 use Rattle.command_steps.proofs.CommandLaws.{CommandLaws, no_contents}
-use Rattle.rt_top.proofs.Laws.{AreLawful, laws_of}
+use Rattle.command_words.proofs.Laws.{AreLawful, laws_of}
 use Rattle.command_steps.proofs.Statuses.{IsOfJob}
 
 parsed_lawful : (parsed : Option Parsed) → AreLawful (option_map command_told parsed)

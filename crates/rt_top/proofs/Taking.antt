@@ -8,15 +8,16 @@ use Rattle.command_steps.specs.declared.status.Status.TheVariants.{Yes, No, Usag
 use Rattle.command_steps.specs.declared.answer.Answer.{Answer}
 use Rattle.command_steps.specs.declared.answer.Ending.{Ending}
 use Rattle.command_steps.specs.declared.answer.Ending.TheVariants.{Answered, Unread}
-use Rattle.rt_top.specs.Commands.{Command, command_told}
+use Rattle.command_words.specs.Commands.{Command, command_told}
 use Rattle.rt_top.specs.Report.{IsAnswer}
 use Rattle.command_steps.specs.Reading.{read_in}
-use Rattle.rt_top.specs.Reading.{bytes_to_read, Takes, NamesNoFile, EndsWithoutFile}
-use Rattle.rt_top.specs.declared.commands.Command.{Command as Parsed}
+use Rattle.command_words.specs.Reading.{bytes_to_read, NamesNoFile}
+use Rattle.rt_top.specs.Reading.{Takes, EndsWithoutFile}
+use Rattle.command_words.specs.declared.commands.Command.{Command as Parsed}
 use Rattle.command_steps.specs.Steps.{EndTakes}
-use Rattle.rt_top.specs.Steps.{CommandTakes}
+use Rattle.command_words.specs.Steps.{CommandTakes}
 use Rattle.command_steps.proofs.Taking.{end_takes}
-use Rattle.rt_top.proofs.Laws.{AreLawful}
+use Rattle.command_words.proofs.Laws.{AreLawful}
 
 status_takes : (status : Status) (bytes before after : ℕ) → RoseBy bytes before after → Takes status bytes before after
 status_takes Yes bytes before after rose = rose
@@ -29,15 +30,6 @@ status_takes TooLong bytes before after rose = rose
 status_takes ReadFault bytes before after rose = rose.1
 status_takes WriteFault bytes before after rose = rose
 status_takes NoMemory bytes before after rose = rose.1
-
--- where nothing is to be read, a store that stays as it is has given that
-pub nothing_taken : (command : Option Command) (files : Option Files) (end : Ending) (before : ℕ) → NamesNoFile command
-    → CommandTakes command files end before before
-nothing_taken None files end before none = λ all told. end_takes end 0 before before (omega arith, omega arith)
-nothing_taken (Some command) files end before none =
-    λ all told. subst
-    (λ (names : List (List ℕ)). EndTakes end (read_in (map (λ name. file_named name all) names)) before before)
-    (sym none) (end_takes end 0 before before (omega arith, omega arith))
 
 -- how words end that name no file: as they are answered, or where writing that failed
 with_it : (answered status result : Status) → status ≡ answered → (result ≡ status) ⊎ (result ≡ WriteFault)

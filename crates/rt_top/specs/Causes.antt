@@ -1,9 +1,10 @@
 -- Why a command stops, as a store counts it, and when a verdict comes.
-use Rattle.std.specs.Prelude.{◌≡◌, ℕ, ◌-◌, ◌^◌, ◌<◌, map, Option, Some, ⊤}
-use Rattle.outside.specs.Files.{Files, file_named}
+use Rattle.std.specs.Prelude.{◌≡◌, ℕ, ◌-◌, ◌^◌, ◌<◌, Option, Some, ⊤}
+use Rattle.outside.specs.Files.{Files}
 use Rattle.command_steps.specs.declared.status.Status.{Status}
 use Rattle.command_steps.specs.declared.status.Status.TheVariants.{Absent, ReadFault, WriteFault, NoMemory}
-use Rattle.rt_top.specs.Commands.{Command, spec_of, file_names}
+use Rattle.command_words.specs.Commands.{Command, spec_of}
+use Rattle.command_words.specs.Reading.{contents_of}
 use Rattle.command_steps.specs.Answer.{Contents}
 
 -- an answer that neither a failed call nor a name that is not there explains
@@ -17,10 +18,6 @@ IsOfQuietStore _ = ⊤
 -- a command that can be judged by what its files hold: they are there, short enough and well formed
 abbrev pub CanJudge : Command → Contents → Type 0
 CanJudge command = (spec_of command).CanJudge
-
--- what stands under the names that a command gives
-abbrev pub contents_of : Command → Files → Contents
-contents_of command files = map (λ name. file_named name files) (file_names command)
 
 -- the words spell a command, and the files are told and let it be judged
 pub record IsJudgeable (command : Option Command) (files : Option Files) : Type 0 where

@@ -1,9 +1,3 @@
-pub mod SlotWords
-pub mod Guests
-pub mod PeriodWords
-pub mod Version
-pub mod Commands
 pub mod Report
 pub mod Causes
 pub mod Reading
-pub mod Steps

@@ -1,12 +1,13 @@
 -- What `run` reports: the answer to a command over what its files hold, what it means, and what of
 -- its text is written.
-use Rattle.std.specs.Prelude.{◌≡◌, ℕ, List, [], Option, Some, None, ⊤}
+use Rattle.std.specs.Prelude.{◌≡◌, ℕ, List, Option, Some, None, ⊤}
 use Rattle.std.specs.Io.KnownBytes.{Appends}
 use Rattle.outside.specs.Files.{Files}
 use Rattle.outside.specs.Written.{AppendsProperPrefix}
 use Rattle.command_steps.specs.declared.status.Status.{Status}
 use Rattle.command_steps.specs.declared.status.Status.TheVariants.{Usage, ReadFault, WriteFault, NoMemory}
-use Rattle.rt_top.specs.Commands.{Command, spec_of, file_names, usage_line}
+use Rattle.command_words.specs.Commands.{Command, spec_of, usage_line}
+use Rattle.command_words.specs.Reading.{names_of}
 use Rattle.command_steps.specs.Answer.{Contents, AreContentsOf, IsOne}
 
 -- the answer to a command, whose files have these contents
@@ -22,10 +23,6 @@ Answers (Some command) contents status text = JobAnswers command contents status
 abbrev pub Means : Option Command → Contents → Status → List ℕ → Type 0
 Means None contents status text = ⊤
 Means (Some command) contents status text = (spec_of command).Means contents status text
-
-abbrev pub names_of : Option Command → List (List ℕ)
-names_of None = []
-names_of (Some command) = file_names command
 
 -- where the files are told, these are the contents of those that the command names
 abbrev pub AreContents : Option Command → Option Files → Contents → Type 0

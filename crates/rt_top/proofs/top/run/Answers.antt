@@ -1,5 +1,5 @@
 use Rattle.std.proofs.Common.{map, string_bytes}
-use Rattle.rt_top.specs.Commands.{command_of}
+use Rattle.command_words.specs.Commands.{command_of}
 use Rattle.rt_top.proofs.Reporting.{answer_of_said, finished_read, finished_report, finished_usage, finished_verdict, finished_write, lawful, no_memory_ends, one_answer, stays_not_rose}
 use Rattle.rt_top.proofs.Taking.{ends_without_file, no_memory_without_file, unread_of_parsed, finished_takes, unanswered_takes}
 use Rattle.rt_top.proofs.top.run.Goals as goal

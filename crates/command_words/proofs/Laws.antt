@@ -1,9 +1,9 @@
 -- What is so of each command.
 pub mod Version
 use Rattle.std.specs.Prelude.{⊤, Option, Some, None}
-use Rattle.rt_top.specs.declared.commands.Command.{Command as Parsed}
-use Rattle.rt_top.specs.declared.commands.Command.TheVariants.{Admit as ToAdmit, Certify as ToCertify, Check as ToCheck, Rtds as ToRtds, Audit as ToAudit, Simulate as ToSimulate, Bulk as ToBulk, Responses as ToResponses, Interface as ToInterface, Choose as ToChoose, Session as ToSession, Place as ToPlace, Isolate as ToIsolate, Slack as ToSlack, Tally as ToTally, Version as ToVersion}
-use Rattle.rt_top.specs.Commands.{Command, spec_of, command_told}
+use Rattle.command_words.specs.declared.commands.Command.{Command as Parsed}
+use Rattle.command_words.specs.declared.commands.Command.TheVariants.{Admit as ToAdmit, Certify as ToCertify, Check as ToCheck, Rtds as ToRtds, Audit as ToAudit, Simulate as ToSimulate, Bulk as ToBulk, Responses as ToResponses, Interface as ToInterface, Choose as ToChoose, Session as ToSession, Place as ToPlace, Isolate as ToIsolate, Slack as ToSlack, Tally as ToTally, Version as ToVersion}
+use Rattle.command_words.specs.Commands.{Command, spec_of, command_told}
 use Rattle.command_steps.proofs.CommandLaws.{CommandLaws}
 use Rattle.admit_commands.proofs.Laws.Admit.{admit_laws}
 use Rattle.admit_commands.proofs.Laws.Certify.{certify_laws}
@@ -20,7 +20,7 @@ use Rattle.host_commands.proofs.Laws.Place.{place_laws}
 use Rattle.trace_commands.proofs.Laws.Isolate.{isolate_laws}
 use Rattle.guest_commands.proofs.Laws.Slack.{slack_laws}
 use Rattle.trace_commands.proofs.Laws.Tally.{tally_laws}
-use Rattle.rt_top.proofs.Laws.Version.{version_laws}
+use Rattle.command_words.proofs.Laws.Version.{version_laws}
 
 pub laws_of : (command : Parsed) → CommandLaws (spec_of (command_told command))
 laws_of (ToAdmit file) = admit_laws file.now

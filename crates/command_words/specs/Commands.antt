@@ -1,11 +1,11 @@
 -- The commands: the words that spell them, and the record of each.
 use Rattle.std.specs.Prelude.{ℕ, List, [], ◌∷◌, ◌++◌, Option, Some, None, option_map, option_and_then, codes, bytes_eq, if◌then◌else◌}
 use Rattle.server_sched.specs.declared.supplies.Pattern.{Pattern}
-use Rattle.rt_top.specs.declared.commands.Command.{Command as Parsed}
-use Rattle.rt_top.specs.declared.commands.Command.TheVariants.{Admit as ToAdmit, Certify as ToCertify, Check as ToCheck, Rtds as ToRtds, Audit as ToAudit, Simulate as ToSimulate, Bulk as ToBulk, Responses as ToResponses, Interface as ToInterface, Choose as ToChoose, Session as ToSession, Place as ToPlace, Isolate as ToIsolate, Slack as ToSlack, Tally as ToTally, Version as ToVersion}
-use Rattle.rt_top.specs.SlotWords.{pattern_of, slot_count}
-use Rattle.rt_top.specs.Guests.{guest_number}
-use Rattle.rt_top.specs.PeriodWords.{period_of, range_of}
+use Rattle.command_words.specs.declared.commands.Command.{Command as Parsed}
+use Rattle.command_words.specs.declared.commands.Command.TheVariants.{Admit as ToAdmit, Certify as ToCertify, Check as ToCheck, Rtds as ToRtds, Audit as ToAudit, Simulate as ToSimulate, Bulk as ToBulk, Responses as ToResponses, Interface as ToInterface, Choose as ToChoose, Session as ToSession, Place as ToPlace, Isolate as ToIsolate, Slack as ToSlack, Tally as ToTally, Version as ToVersion}
+use Rattle.command_words.specs.SlotWords.{pattern_of, slot_count}
+use Rattle.command_words.specs.Guests.{guest_number}
+use Rattle.command_words.specs.PeriodWords.{period_of, range_of}
 use Rattle.command_steps.specs.CommandSpec.{CommandSpec}
 use Rattle.admit_commands.specs.Admit.{the_admit}
 use Rattle.admit_commands.specs.Certify.{the_certify}
@@ -22,7 +22,7 @@ use Rattle.host_commands.specs.Place.{the_place}
 use Rattle.trace_commands.specs.Isolate.{the_isolate}
 use Rattle.guest_commands.specs.Slack.{the_slack}
 use Rattle.trace_commands.specs.Tally.{the_tally}
-use Rattle.rt_top.specs.Version.{the_version}
+use Rattle.command_words.specs.Version.{the_version}
 
 -- one form of words each: the names of its files, in the order of the words, that of a leaf, and
 -- its numbers

@@ -1,9 +1,9 @@
 ghost use Rattle.std.specs.Prelude.{◌≡◌, ◌≢◌, Some, map, option_map, string_bytes, IfOk, IfErr};
 ghost use Rattle.std.specs.Option.{option_copied};
-ghost use Rattle.rt_top.specs.Commands.{choose_of, command_of, command_told, forms, forms_from_isolate, forms_from_responses, forms_from_rtds, interface_of, one_word, rtds_of, simulate_of, spelled_by, two_words, usage_line, version_of};
-ghost use Rattle.rt_top.specs.Guests.{guest_number};
-ghost use Rattle.rt_top.specs.Reading.{NamesNoFile};
-ghost use Rattle.rt_top.specs.Steps.{IsSaidTo, CommandTakes};
+ghost use Rattle.command_words.specs.Commands.{choose_of, command_of, command_told, forms, forms_from_isolate, forms_from_responses, forms_from_rtds, interface_of, one_word, rtds_of, simulate_of, spelled_by, two_words, usage_line, version_of};
+ghost use Rattle.command_words.specs.Guests.{guest_number};
+ghost use Rattle.command_words.specs.Reading.{NamesNoFile};
+ghost use Rattle.command_words.specs.Steps.{IsSaidTo, CommandTakes};
 ghost use Rattle.command_steps.specs.Steps.{counts_of, IfAnswered, Explains};
 
 use crate::period_words::{period_of, range_of};

@@ -1,5 +1,5 @@
 ghost use Rattle.std.specs.Prelude.{◌≡◌, option_map};
-ghost use Rattle.rt_top.specs.SlotWords.{pattern_of, slot_count};
+ghost use Rattle.command_words.specs.SlotWords.{pattern_of, slot_count};
 
 use csv_rows::{is_plain, number};
 use server_sched::Pattern;

@@ -4,7 +4,7 @@ use Rattle.outside.specs.Files.{Files}
 use Rattle.rt_report.specs.Version.{version_text}
 use Rattle.command_steps.specs.declared.status.Status.TheVariants.{Yes}
 use Rattle.command_steps.specs.CommandSpec.{IsVerdict}
-use Rattle.rt_top.specs.Version.{the_version}
+use Rattle.command_words.specs.Version.{the_version}
 use Rattle.command_steps.specs.Steps.{IsSaid}
 use Rattle.command_steps.proofs.CommandLaws.{CommandLaws, no_contents}
 use Rattle.command_steps.proofs.Statuses.{IsOfJob}

@@ -1,6 +1,6 @@
 ghost use Rattle.std.specs.Prelude.{Option};
 ghost use Rattle.outside.specs.Files.{Files};
-ghost use Rattle.rt_top.specs.Version.{the_version};
+ghost use Rattle.command_words.specs.Version.{the_version};
 ghost use Rattle.command_steps.specs.Steps.{Counts, ending_of, IfAnswered, Explains, IsSaid, EndsJudged};
 
 use command_steps::{Answer, Ending, Status};

@@ -1,9 +1,9 @@
 use Rattle.std.proofs.Common.{◌≡◌, Option, Some, subst, sym, rules}
 use Rattle.std.specs.Prelude.{option_map}
-use Rattle.rt_top.specs.Commands.{Command, bulk, version, command_told}
-use Rattle.rt_top.specs.Steps.{IsSaidTo}
+use Rattle.command_words.specs.Commands.{Command, bulk, version, command_told}
+use Rattle.command_words.specs.Steps.{IsSaidTo}
 use Rattle.command_steps.specs.Steps.{ending_of, IfAnswered}
-use Rattle.rt_top.proofs.commands.answer.Goals as goal
+use Rattle.command_words.proofs.commands.answer.Goals as goal
 
 pub returns-in-Some-Bulk-clause-answer : goal.returns-in-Some-Bulk-clause-answer
 returns-in-Some-Bulk-clause-answer g c =

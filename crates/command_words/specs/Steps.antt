@@ -5,8 +5,8 @@ use Rattle.command_steps.specs.declared.status.Status.{Status}
 use Rattle.command_steps.specs.declared.status.Status.TheVariants.{Usage}
 use Rattle.command_steps.specs.declared.answer.Ending.{Ending}
 use Rattle.command_steps.specs.Steps.{IsSaid, EndTakes}
-use Rattle.rt_top.specs.Commands.{Command, spec_of, usage_line}
-use Rattle.rt_top.specs.Reading.{bytes_to_read}
+use Rattle.command_words.specs.Commands.{Command, spec_of, usage_line}
+use Rattle.command_words.specs.Reading.{bytes_to_read}
 
 -- over what the files of the command hold, this status and this text are the answer; or this is the
 -- usage line

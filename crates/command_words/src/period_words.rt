@@ -1,5 +1,5 @@
 ghost use Rattle.std.specs.Prelude.{◌≡◌, option_map};
-ghost use Rattle.rt_top.specs.PeriodWords.{period_of, range_between, range_of};
+ghost use Rattle.command_words.specs.PeriodWords.{period_of, range_between, range_of};
 
 use csv_rows::{is_plain, number};
 use guest_commands::{Period, Periods};

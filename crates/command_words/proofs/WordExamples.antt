@@ -1,0 +1,76 @@
+-- Worked cases of the words that spell a command. A wrong definition breaks one of them.
+use Rattle.std.proofs.Common.{◌≡◌, ℕ, List, [], ◌∷◌, Some, None, refl}
+use Rattle.std.specs.Prelude.{codes, bytes_eq, option_map, option_and_then, if◌then◌else◌}
+use Rattle.command_words.specs.Guests.{guest_number}
+use Rattle.command_words.specs.PeriodWords.{range_of}
+use Rattle.command_words.specs.Commands.{admit, certify, check, audit, bulk, interface, choose, session, place, isolate, slack, tally, responses, one_word, two_words, rtds_of, simulate_of, interface_of, choose_of, version_of, command_of, usage_line}
+
+-- `admit` and one file, and nothing else
+a_file_to_admit : command_of (codes "admit" ∷ codes "host.toml" ∷ []) ≡ Some (admit (codes "host.toml"))
+a_file_to_admit = refl
+
+-- `certify` takes one file, and `check` two
+files_of_certificates :
+    (command_of (codes "certify" ∷ codes "a" ∷ []) ≡ Some (certify (codes "a")))
+    × (command_of (codes "check" ∷ codes "a" ∷ codes "b" ∷ []) ≡ Some (check (codes "a") (codes "b")))
+    × (command_of (codes "check" ∷ codes "a" ∷ []) ≡ None)
+    × (command_of (codes "certify" ∷ codes "a" ∷ codes "b" ∷ []) ≡ None)
+files_of_certificates = (refl, refl, refl, refl)
+
+-- the name of a leaf is any word, and the numbers are in their ranges
+words_of_a_leaf :
+    (command_of (codes "interface" ∷ codes "a" ∷ codes "ctl" ∷ codes "40" ∷ [])
+    ≡ Some (interface (codes "a") (codes "ctl") 40))
+    × (command_of (codes "interface" ∷ codes "a" ∷ codes "1 2" ∷ codes "1" ∷ [])
+    ≡ Some (interface (codes "a") (codes "1 2") 1))
+    × (command_of (codes "choose" ∷ codes "a" ∷ codes "ctl" ∷ codes "5" ∷ codes "14" ∷ [])
+    ≡ Some (choose (codes "a") (codes "ctl") 5 14))
+words_of_a_leaf = (refl, refl, refl)
+
+no_deadline :
+    (command_of (codes "interface" ∷ codes "a" ∷ codes "ctl" ∷ codes "0" ∷ []) ≡ None)
+    × (command_of (codes "interface" ∷ codes "a" ∷ codes "ctl" ∷ codes "1000000001" ∷ []) ≡ None)
+    × (command_of (codes "interface" ∷ codes "a" ∷ codes "ctl" ∷ codes "07" ∷ []) ≡ None)
+    × (command_of (codes "interface" ∷ codes "a" ∷ codes "ctl" ∷ []) ≡ None)
+no_deadline = (refl, refl, refl, refl)
+
+-- as many as 10,000 periods, and no range that falls
+a_range_of_periods :
+    (range_of (codes "1") (codes "10000") ≡ Some (1, 10000)) × (range_of (codes "1") (codes "10001") ≡ None)
+    × (range_of (codes "7") (codes "7") ≡ Some (7, 7)) × (range_of (codes "8") (codes "7") ≡ None)
+    × (range_of (codes "0") (codes "7") ≡ None)
+    × (range_of (codes "999990001") (codes "1000000000") ≡ Some (999990001, 1000000000))
+    × (range_of (codes "1000000000") (codes "1000000001") ≡ None)
+a_range_of_periods = (refl, refl, refl, refl, refl, refl, refl)
+
+no_form_is_left_open :
+    (command_of [] ≡ None) × (command_of (codes "admit" ∷ []) ≡ None)
+    × (command_of (codes "admit" ∷ codes "a" ∷ codes "b" ∷ []) ≡ None)
+    × (command_of (codes "Admit" ∷ codes "a" ∷ []) ≡ None) × (command_of (codes "a" ∷ codes "admit" ∷ []) ≡ None)
+no_form_is_left_open = (refl, refl, refl, refl, refl)
+
+-- the table of forms, word for word
+the_words_of_each_command : (word : List ℕ) (rest : List (List ℕ)) → command_of (word ∷ rest) ≡
+    (if bytes_eq word (codes "admit") then option_map admit (one_word rest)
+    else if bytes_eq word (codes "certify") then option_map certify (one_word rest)
+    else if bytes_eq word (codes "check") then option_map (λ names. check names.0 names.1) (two_words rest)
+    else if bytes_eq word (codes "simulate") then simulate_of rest
+    else if bytes_eq word (codes "rtds") then rtds_of rest
+    else if bytes_eq word (codes "audit") then option_map (λ names. audit names.0 names.1) (two_words rest)
+    else if bytes_eq word (codes "bulk") then option_map bulk (option_and_then guest_number (one_word rest))
+    else if bytes_eq word (codes "interface") then interface_of rest
+    else if bytes_eq word (codes "responses") then option_map responses (one_word rest)
+    else if bytes_eq word (codes "choose") then choose_of rest
+    else if bytes_eq word (codes "session") then option_map (λ names. session names.0 names.1) (two_words rest)
+    else if bytes_eq word (codes "place") then option_map (λ names. place names.0 names.1) (two_words rest)
+    else if bytes_eq word (codes "isolate") then option_map isolate (one_word rest)
+    else if bytes_eq word (codes "slack") then option_map (λ names. slack names.0 names.1) (two_words rest)
+    else if bytes_eq word (codes "tally") then option_map (λ names. tally names.0 names.1) (two_words rest)
+    else if bytes_eq word (codes "version") then version_of rest
+    else None)
+the_words_of_each_command word rest = refl
+
+the_usage : usage_line
+    ≡ codes
+    "usage: rtadmit admit FILE | certify FILE | check FILE CERT | simulate FILE RELEASES PATTERN SLOTS | rtds FILE WORKLOAD SLOTS | audit FILE TRACE | bulk N | interface FILE PART DEADLINE | responses FILE | choose FILE PART LOW HIGH | session FILE SCRIPT | place FILE GUESTS | isolate FILE | slack FILE PART | tally FILE TRACE | version\n"
+the_usage = refl
