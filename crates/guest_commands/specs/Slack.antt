@@ -1,9 +1,10 @@
 -- `slack FILE PART`: what it answers, and what its yes and no mean to who lets a task grow.
-use Rattle.std.specs.Prelude.{◌≡◌, ℕ, List, [], ◌∷◌, ⊤}
+use Rattle.std.specs.Prelude.{◌≡◌, ℕ, ◌<◌, ◌≤◌, List, [], ◌∷◌, length, slice_index_or, ⊤}
 use Rattle.tree_model.specs.View.{SystemView}
 use Rattle.tree_model.specs.System.{part_at}
 use Rattle.tree_model.specs.Admission.{Admitted}
-use Rattle.slack.specs.MostWork.{AreMostWorks}
+use Rattle.tree_model.specs.Tree.{NoLoss}
+use Rattle.slack.specs.MostWork.{AreMostWorks, with_work}
 use Rattle.system_file.specs.SystemFile.{system_of}
 use Rattle.rt_report.specs.Slack.{slack_text}
 use Rattle.command_steps.specs.declared.status.Status.{Status}
@@ -32,10 +33,15 @@ abbrev pub Slackens : List ℕ → Contents → Status → List ℕ → Type 0
 Slackens part contents =
     AtFile 1 contents (λ bytes. OnSystem (system_of bytes) (SlackensSystem part))
 
+-- budgets admit the system, and no job is lost on any level in any permitted run, whenever each
+-- server begins
+abbrev pub CanKeepDeadlines : SystemView → Type 0
+CanKeepDeadlines sys = (budgets : List ℕ) × Admitted sys budgets × NoLoss sys budgets
+
 -- yes means: budgets admit the system, and the text tells the greatest work of each task of the
--- leaf: with each work from 1 to it the system is admitted, and with each from one more up to what
--- the task's deadline leaves past its jitter it is not, under any list of budgets for the open
--- parts
+-- leaf: with each work from 1 to it the system is admitted and loses no job, and with each from one
+-- more up to what the task's deadline leaves past its jitter it is not admitted, under any list of
+-- budgets for the open parts
 pub record TellsSlack (sys : SystemView) (part : List ℕ) (text : List ℕ) : Type 0 where
   pub leaf : ℕ
   pub found : IsLeafNamed sys part leaf
@@ -43,6 +49,8 @@ pub record TellsSlack (sys : SystemView) (part : List ℕ) (text : List ℕ) : T
   pub admitted : Admitted sys budgets
   pub works : List ℕ
   pub most : AreMostWorks sys leaf works
+  pub safe : (i work : ℕ) → i < length (part_at sys leaf).tasks → 1 ≤ work →
+      work ≤ slice_index_or works i 0 → CanKeepDeadlines (with_work sys leaf i work)
   pub told : text ≡ slack_text (part_at sys leaf) works
 
 -- what an answer to a system means; its no means what that of `admit` does

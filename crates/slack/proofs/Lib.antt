@@ -3,5 +3,6 @@ mod Most
 mod Halving
 mod Tasks
 mod Reading
+pub mod Grown
 pub mod OneMost
 mod WorkExamples

@@ -3,6 +3,7 @@ use Rattle.std.proofs.Common.{◌≡◌, ℕ, List, sym, ◌∙◌, ap, subst, i
 use Rattle.tree_model.specs.View.{SystemView}
 use Rattle.tree_model.specs.System.{IsSystem, part_at}
 use Rattle.slack.proofs.OneMost.{one_list_of_works}
+use Rattle.slack.proofs.Grown.{grown_without_loss}
 use Rattle.rt_report.specs.Slack.{slack_text}
 use Rattle.command_steps.specs.declared.status.Status.{Status}
 use Rattle.command_steps.specs.declared.status.Status.TheVariants.{Yes, No, Wide, BadFile}
@@ -55,6 +56,8 @@ slack_means part sys is status text h = elim h [
           admitted = a.gives;
           works = a.said.works;
           most = a.said.most;
+          safe =
+              grown_without_loss sys is found.value found.gives.is_part found.gives.is_leaf a.said.works a.said.most;
           told = a.said.told;
         })
     | inr a ↦
