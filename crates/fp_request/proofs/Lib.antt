@@ -6,3 +6,5 @@ pub mod Parts
 mod ReleasedExamples
 mod OrderExamples
 pub mod Aboves
+pub mod Keyed
+mod KeyExamples

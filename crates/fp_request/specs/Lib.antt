@@ -2,3 +2,4 @@ pub mod Released
 pub mod Ranks
 pub mod Parts
 pub mod Terms
+pub mod Keys

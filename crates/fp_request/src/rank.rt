@@ -1,6 +1,7 @@
 ghost use Rattle.std.specs.Prelude.{◌≡◌, ◌≢◌, ◌<◌, ◌==◌, ◌&&◌, ◌||◌, nat_lt, length};
-ghost use Rattle.slot_model.specs.Task.{sporadic_tasks};
+ghost use Rattle.slot_model.specs.Task.{sporadic_tasks, task_at};
 ghost use Rattle.slot_model.specs.Order.{ranks_above};
+ghost use Rattle.fp_request.specs.Keys.{rank_of};
 
 use slot_model::{Sched, Task};
 
@@ -34,4 +35,16 @@ fn smaller(a: u64, i: usize, b: u64, j: usize) -> bool
     ensures { result ≡ (nat_lt a b || (a == b && nat_lt i j)) }
 {
     a < b || (a == b && i < j)
+}
+
+/// What a task ranks by, before its place: the smaller above.
+pub(crate) fn rank_of(sched: Sched, tasks: &[Task], place: u32) -> u64
+    requires named { place < length tasks.now }
+    ensures { result ≡ rank_of sched (task_at (sporadic_tasks tasks.now) place) }
+{
+    match sched {
+        Sched::Rm => tasks[place as usize].period,
+        Sched::Dm => tasks[place as usize].deadline,
+        Sched::Listed | Sched::Edf => 0,
+    }
 }

@@ -36,3 +36,5 @@ pub mod BudgetSupplies
 pub mod Points
 pub mod Covers
 mod PointExamples
+pub mod Keys
+mod KeyExamples
