@@ -1,5 +1,5 @@
 -- What `?` hands on of a fault, and what is known of a result that is handed on as it is.
-use Rattle.std.proofs.Common.{◌≡◌, Result, Ok, Err, sym, subst}
+use Rattle.std.proofs.Common.{◌≡◌, Result, Ok, Err, Option, None, MatchOption, sym, subst}
 use Rattle.std.specs.Prelude.{IfOk, IfErr, IsErrAnd, OnOk}
 
 module _ {T E : Type 0} where
@@ -13,3 +13,8 @@ module _ {T E : Type 0} where
       → ((x : T) → A x → B → Said x) → IfOk r Said
   ok_with (Ok x) A B Said a b said = said x a b
   ok_with (Err y) A B Said a b said = tt
+
+-- what `?` hands on of a None
+pub none_handed_on : {T : Type 0} (r : Option T) (A : Type 0) (Said : T → Type 0) → r ≡ None → A
+    → MatchOption r A Said
+none_handed_on r A Said none a = subst (λ o. MatchOption o A Said) (sym none) a

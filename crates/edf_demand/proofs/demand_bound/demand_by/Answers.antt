@@ -1,8 +1,9 @@
-use Rattle.std.proofs.Common.{◌≡◌, ℕ, ◌+◌, ◌*◌, ◌-◌, ◌^◌, ◌<◌, ◌≤◌, Option, None, Some, MatchOption, SomeIff, take, List, ap, subst, sym, arith, mul-le-mul_left}
+use Rattle.std.proofs.Common.{◌≡◌, ℕ, ◌+◌, ◌*◌, ◌-◌, ◌^◌, ◌<◌, ◌≤◌, Option, None, Some, MatchOption, SomeIff, take, List, ap, arith, mul-le-mul_left}
 use Rattle.std.proofs.lemmas.List.{length-take-le}
 use Rattle.slot_model.specs.declared.task.Task.{Task}
 use Rattle.slot_model.specs.Task.{sporadic_tasks}
 use Rattle.slot_model.specs.Bound.{dbf}
+use Rattle.slot_model.proofs.HandedOn.{none_handed_on}
 use Rattle.window_terms.specs.declared.term.Term.{Term}
 use Rattle.window_terms.specs.Asked.{asked_by}
 use Rattle.edf_demand.specs.declared.terms.Gathered.{Gathered}
@@ -40,8 +41,7 @@ asked-first-requires-clause-fits c =
 
 pub returns-in_err-demand : goal.returns-in_err-demand
 returns-in_err-demand c =
-    subst (λ (o : Option ℕ). MatchOption o (2 ^ 128 ≤ dbf (sporadic_tasks c.args.tasks.now) c.args.t)
-    (λ d. d ≡ dbf (sporadic_tasks c.args.tasks.now) c.args.t)) (sym c.from_residual.ensures)
+    none_handed_on _ _ _ c.from_residual.ensures
     (omega (arith, dbf_split c.args.tasks.now c.args.gathered.tasks c.args.t, c.in_err-demand.ensures.exact))
 
 sum_is : (whole first rest : ℕ) (answer : Option ℕ) → whole ≡ first + rest

@@ -1,7 +1,8 @@
-use Rattle.std.proofs.Common.{◌≡◌, ℕ, ◌+◌, ◌*◌, ◌-◌, ◌≤◌, ◌^◌, List, [], ◌∷◌, ◌++◌, Option, MatchOption, length, take, sym, ◌∙◌, ap, arith, subst}
+use Rattle.std.proofs.Common.{◌≡◌, ℕ, ◌+◌, ◌*◌, ◌-◌, ◌≤◌, ◌^◌, List, [], ◌∷◌, ◌++◌, take, sym, ◌∙◌, ap, arith, subst}
 use Rattle.std.proofs.lemmas.List.{take_more}
 use Rattle.slot_model.specs.declared.task.Task.{Task}
 use Rattle.slot_model.specs.Task.{sporadic_tasks}
+use Rattle.slot_model.proofs.HandedOn.{none_handed_on}
 use Rattle.edf_test.specs.Rates.{asked_rate, asked_ahead}
 use Rattle.edf_test.proofs.Lines.{IsAbove, above_more, rate-push, ahead-push, ahead_small}
 use Rattle.edf_test.proofs.settled.demand_line.Goals as goal
@@ -9,15 +10,12 @@ use Rattle.edf_test.proofs.settled.demand_line.Goals as goal
 -- 2^32 tasks are needed to pass 128 bits
 pub returns-in_err-slope-clause-offset : goal.returns-in_err-slope-clause-offset
 returns-in_err-slope-clause-offset c =
-    subst (λ (o : Option _). MatchOption o (2 ^ 32 ≤ length c.args.tasks.now)
-    (λ line. line.offset ≡ asked_ahead (sporadic_tasks c.args.tasks.now))) (sym c.from_residual.ensures)
+    none_handed_on _ _ _ c.from_residual.ensures
     (omega (arith, c.in_err-slope.ensures, c.loop-task.invariant.slope_small, c.rate_of-rate.ensures.at_most_one))
 
 pub returns-in_err-offset-clause-offset : goal.returns-in_err-offset-clause-offset
 returns-in_err-offset-clause-offset c =
-    subst (λ (o : Option _). MatchOption o (2 ^ 32 ≤ length c.args.tasks.now)
-    (λ line. line.offset ≡ asked_ahead (sporadic_tasks c.args.tasks.now)))
-    (sym c.from_residual-in_err-offset.ensures) (omega (
+    none_handed_on _ _ _ c.from_residual-in_err-offset.ensures (omega (
       arith,
       c.in_err-offset.ensures,
       c.loop-task.invariant.offset_small,

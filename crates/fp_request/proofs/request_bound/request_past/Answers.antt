@@ -1,16 +1,13 @@
-use Rattle.std.proofs.Common.{◌≡◌, ◌≤◌, ◌^◌, ◌∙◌, ℕ, List, Option, Some, None, MatchOption, sym, ap, arith}
+use Rattle.std.proofs.Common.{◌≡◌, ◌≤◌, ◌^◌, ◌∙◌, ℕ, List, sym, ap, arith}
 use Rattle.slot_model.specs.Task.{SporadicTask, sporadic_task, sporadic_tasks, task_at}
 use Rattle.slot_model.specs.Order.{ranks_above}
 use Rattle.slot_model.specs.Bound.{request_of, rbf}
+use Rattle.slot_model.proofs.HandedOn.{none_handed_on}
 use Rattle.slot_model.proofs.Sums.{sum_below-zero}
 use Rattle.fp_request.specs.Parts.{part_of}
 use Rattle.fp_request.proofs.Parts.{task_at-is, item_request, request_to-above, request_to-not_above, request_to-more, sporadic_tasks-length}
 use Rattle.fp_request.proofs.request_bound.request_past.Goals as goal
 use Rattle.fp_request.proofs.request_bound.request_past.Goals.{then-ranks+in_ok-request_of_task+in_ok-sum, else-ranks}
-
-none_is : (o : Option ℕ) (P : Type 0) (Q : ℕ → Type 0) → o ≡ None → P → MatchOption o P Q
-none_is None P Q e h = h
-none_is (Some x) P Q e h = absurd (cc)
 
 pub loop-k-init : goal.loop-k-init
 loop-k-init c =
@@ -60,7 +57,7 @@ returns-in_err-request_of_task c =
     = request_to-more (ranks_above c.args.sched T) T c.args.i c.args.t c.loop-k.k (2 ^ 128)
     (sym c.ranks.ensures ∙ c.if-ranks.true) (omega (arith, sporadic_tasks-length c.args.tasks.now))
     (omega (arith, r, c.in_err-request_of_task.ensures)) in
-    none_is _ _ _ c.from_residual.ensures h
+    none_handed_on _ _ _ c.from_residual.ensures h
 
 pub returns-in_err-sum : goal.returns-in_err-sum
 returns-in_err-sum c =
@@ -72,4 +69,4 @@ returns-in_err-sum c =
     = request_to-more (ranks_above c.args.sched T) T c.args.i c.args.t c.loop-k.k (2 ^ 128)
     (sym c.ranks.ensures ∙ c.if-ranks.true) (omega (arith, sporadic_tasks-length c.args.tasks.now))
     (omega (arith, r, c.loop-k.invariant, c.in_ok-request_of_task.ensures, c.in_err-sum.ensures)) in
-    none_is _ _ _ c.from_residual-in_err-sum.ensures h
+    none_handed_on _ _ _ c.from_residual-in_err-sum.ensures h
