@@ -1,4 +1,4 @@
-"""Tests of tools/unused: what calls what, by crates of a few lines, and a function that is known to be reached or not."""
+"""Tests of tools/unused: what calls what, by crates of a few lines, beside pages that name it or not; and of the repository."""
 import contextlib
 import io
 import pathlib
@@ -9,22 +9,35 @@ from load import load
 
 tool = load("unused")
 CRATES = {
+    "base": """\
+pub fn twice(x: u64) -> u64 {
+    2 * x
+}
+
+/// Of the name of another crate's function, which that crate's own callers mean.
+pub fn settle(x: u64) -> u64 {
+    x
+}
+""",
     "low": """\
 //! A crate.
 mod more;
-pub use more::twice;
+pub use base::twice;
 
 /// Reached, by its import.
 pub fn reached(x: u64) -> u64
     requires small { unused_too x ≡ x }
-    ensures { result ≡ x }
+    ensures {
+        result ≡ record x {
+          y = unused x;
+        } }
 {
     prove!(unused(x) == x);
     invariant same {
         unused(x) ≡ x
     }
     // unused(x)
-    x
+    settle(x)
 }
 
 /// Named in contracts, in comments and in proofs alone.
@@ -34,8 +47,15 @@ pub fn unused(x: u64) -> u64 {
 
 fn helper(x: u64) -> u64 { x }
 
+fn settle(x: u64) -> u64 {
+    x
+}
+
 pub trait Shape {
-    fn area(&self) -> u64;
+    fn area(&self) -> u64
+        ensures { result ≤ 9 };
+
+    fn corners(&self) -> u64;
 }
 
 pub struct Square { side: u64 }
@@ -54,17 +74,32 @@ impl Shape for Square {
     fn area(&self) -> u64 {
         multiply(self.side)
     }
+
+    // in no name that is reached
+    fn corners(&self) -> u64 {
+        4
+    }
 }
 
 fn multiply(x: u64) -> u64 {
     x * x
 }
-""",
-    "low/more": """\
-pub fn twice(x: u64) -> u64 {
-    2 * x
+
+pub struct Circle { radius: u64 }
+
+impl Circle {
+    pub fn new(radius: u64) -> Circle {
+        Circle { radius }
+    }
 }
 
+impl Shape for Circle {
+    fn area(&self) -> u64 {
+        3 * self.radius
+    }
+}
+""",
+    "low/more": """\
 // of a name that is not imported where it is said
 pub fn value(x: u64) -> u64 {
     x
@@ -87,14 +122,31 @@ fn a_test() {
 }
 """,
 }
+PAGE = """\
+# A page
+
+## What no command calls
+
+| Crate | Functions | For whom |
+|---|---|---|
+| `base` | `settle` | who wants `reached` |
+{row}
+
+## Another part
+
+| `low` | `reached` | who reads on |
+"""
+GOOD = "| `low`, `rtadmit` | `unused`, `Square::corners`; `Circle`, `value`, `unused_too` | others |"
 
 
 class Unused(unittest.TestCase):
-    def told(self, *words):
-        """What is printed of the crates above."""
+    def told(self, row, status, *words):
+        """What is said of the crates above, beside a page with a row more."""
         with tempfile.TemporaryDirectory() as room:
             top = pathlib.Path(room)
-            (top / "crates.txt").write_text("# crates\nlow:\nlow_tests: low\nrtadmit: low\n")
+            (top / "docs").mkdir()
+            (top / "docs" / "architecture.md").write_text(PAGE.format(row=row))
+            (top / "crates.txt").write_text("# crates\nbase:\nlow: base\nlow_tests: low\nrtadmit: low\n")
             for name, text in CRATES.items():
                 crate, _, module = name.partition("/")
                 (top / "crates" / crate / "src").mkdir(parents=True, exist_ok=True)
@@ -103,28 +155,48 @@ class Unused(unittest.TestCase):
             out = io.StringIO()
             try:
                 with contextlib.redirect_stdout(out):
-                    self.assertEqual(tool.main(list(words)), 0)
+                    self.assertEqual(tool.main(list(words)), status)
             finally:
                 tool.top = before
         return out.getvalue().splitlines()
 
-    def test_names(self):
-        self.assertEqual(self.told("--names"), ["low unused", "low helper", "low unused_too", "low value"])
+    def test_list(self):
+        """A private function that only such ones call is listed, and need not be named."""
+        told = self.told(GOOD, 0, "--list")
+        self.assertEqual([line.removesuffix(" tests").split()[-1] for line in told],
+                         ["settle", "unused", "helper", "unused_too", "corners", "new", "area", "value"])
+        self.assertEqual(told[1], "low                crates/low/src/lib.rt:22 3 pub unused tests")
+        self.assertEqual(told[2], "low                crates/low/src/lib.rt:26 1 helper")
 
-    def test_lines(self):
-        told = self.told()
-        self.assertEqual(told[0], "low                crates/low/src/lib.rt:19 3 pub unused tests")
-        self.assertEqual(told[1], "low                crates/low/src/lib.rt:23 1 helper")
-        self.assertEqual(told[-1], "4 of 10 functions, 10 of 38 lines")
+    def test_all_is_named(self):
+        self.assertEqual(self.told(GOOD, 0), [])
+
+    def test_what_is_not_named(self):
+        told = self.told(GOOD.replace(", `value`", "").replace("`unused`, ", ""), 1)
+        ends = ["lib.rt:22: no command reaches unused", "lib.rt:26: no command reaches helper", "more.rt:2: no command reaches value"]
+        self.assertEqual(told, [f"crates/low/src/{end}, and docs/architecture.md does not name it" for end in ends])
+
+    def test_what_is_named_and_is_not_there(self):
+        told = self.told(GOOD + "\n| `low` | `gone`, `twice` | nobody |", 1)
+        self.assertEqual(told, [f"docs/architecture.md names {name}, which `low` does not have" for name in ("gone", "twice")])
+
+    def test_what_is_named_and_reached(self):
+        """`settle` of `low` is not that of `base`."""
+        told = self.told(GOOD + "\n| `low` | `Square`, `settle` | others |", 1)
+        self.assertEqual(told, [
+            "docs/architecture.md names Square, and a command reaches crates/low/src/lib.rt:42",
+            "docs/architecture.md names Square, and a command reaches crates/low/src/lib.rt:52",
+            "docs/architecture.md names settle, and a command reaches crates/low/src/lib.rt:28",
+        ])
 
     def test_the_repository(self):
-        """The program's top call is reached, and what is listed is a function."""
+        """The page and the program agree."""
         out = io.StringIO()
         with contextlib.redirect_stdout(out):
-            tool.main(["--names"])
+            self.assertEqual(tool.main(["--list"]), 0)
         listed = out.getvalue().splitlines()
-        self.assertNotIn("rt_top run", listed)
-        self.assertTrue(all(len(line.split()) == 2 for line in listed))
+        self.assertTrue(any(line.split()[4:] == ["run_tree", "tests"] for line in listed))
+        self.assertFalse(any(line.startswith(("rt_top ", "rtadmit ")) for line in listed))
 
 
 if __name__ == "__main__":

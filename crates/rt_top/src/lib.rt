@@ -3,6 +3,5 @@
 
 mod top;
 
-pub use bulk_host::{bulk_jobs, make_bulk};
 pub use command_steps::Status;
 pub use top::run;

@@ -44,8 +44,9 @@ pub fn run<S: Store, K: Sink>(alloc: Global, words: &[String], store: &mut S, ou
     ensures taken { let command = command_of (map string_bytes words.now) in
         (files : Files) → S.files store.old ≡ Some files
         → Takes result (bytes_to_read command files) (S.taken store.old) (S.taken store.new) }
-    // files that can be judged, over a store and a sink that do not fail, get their verdict, or
-    // `rtds` refuses a core that is not full or not under earliest deadline first
+    // files that can be judged, over a store and a sink that do not fail, get their verdict, or are
+    // refused for what the command alone asks, as a core that is full and under earliest deadline
+    // first, or a leaf of the name
     ensures complete { let command = command_of (map string_bytes words.now) in
         (can : IsJudgeable command (S.files store.old))
         → Stays (S.faults store.old) (S.faults store.new)

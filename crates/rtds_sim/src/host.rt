@@ -132,7 +132,7 @@ impl Host {
         }
     }
 
-    /// Sets an account, its key and the end of its period.
+    /// Sets an account, its key, the end of its period and the slots that it has left.
     #[inline(always)]
     pub fn set(&mut self, sys: &System, plan: &Plan, v: u32, account: Account)
         requires plan { IsPlan sys.now plan.now }
