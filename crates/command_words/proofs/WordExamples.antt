@@ -1,7 +1,7 @@
 -- Worked cases of the words that spell a command. A wrong definition breaks one of them.
 use Rattle.std.proofs.Common.{◌≡◌, ℕ, List, [], ◌∷◌, Some, None, refl}
 use Rattle.std.specs.Prelude.{codes, bytes_eq, option_map, option_and_then, if◌then◌else◌}
-use Rattle.command_words.specs.Guests.{guest_number}
+use Rattle.command_words.specs.Numbers.{guest_number}
 use Rattle.command_words.specs.PeriodWords.{range_of}
 use Rattle.command_words.specs.Commands.{admit, certify, check, audit, bulk, interface, choose, session, place, isolate, slack, tally, responses, one_word, two_words, rtds_of, simulate_of, interface_of, choose_of, version_of, command_of, usage_line}
 

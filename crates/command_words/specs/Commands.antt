@@ -4,7 +4,7 @@ use Rattle.server_sched.specs.declared.supplies.Pattern.{Pattern}
 use Rattle.command_words.specs.declared.commands.Command.{Command as Parsed}
 use Rattle.command_words.specs.declared.commands.Command.TheVariants.{Admit as ToAdmit, Certify as ToCertify, Check as ToCheck, Rtds as ToRtds, Audit as ToAudit, Simulate as ToSimulate, Bulk as ToBulk, Responses as ToResponses, Interface as ToInterface, Choose as ToChoose, Session as ToSession, Place as ToPlace, Isolate as ToIsolate, Slack as ToSlack, Tally as ToTally, Version as ToVersion}
 use Rattle.command_words.specs.SlotWords.{pattern_of, slot_count}
-use Rattle.command_words.specs.Guests.{guest_number}
+use Rattle.command_words.specs.Numbers.{guest_number}
 use Rattle.command_words.specs.PeriodWords.{period_of, range_of}
 use Rattle.command_steps.specs.CommandSpec.{CommandSpec}
 use Rattle.admit_commands.specs.Admit.{the_admit}

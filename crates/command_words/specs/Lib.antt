@@ -1,5 +1,5 @@
+pub mod Numbers
 pub mod SlotWords
-pub mod Guests
 pub mod PeriodWords
 pub mod Version
 pub mod Commands

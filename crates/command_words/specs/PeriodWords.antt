@@ -1,16 +1,13 @@
 -- The words of a period, and of a range of periods.
 use Rattle.std.specs.Prelude.{ℕ, ◌-◌, ◌&&◌, nat_le, List, Option, Some, None, if◌then◌else◌}
-use Rattle.csv_rows.specs.Decimal.{is_plain, number}
+use Rattle.command_words.specs.Numbers.{number_from_one}
 
 -- a plain decimal number of slots from 1 to the longest period
 abbrev pub longest_period : ℕ
 longest_period = 1000000000
 
 abbrev pub period_of : List ℕ → Option ℕ
-period_of word =
-    if is_plain word && nat_le 1 (number word) && nat_le (number word) longest_period
-    then Some (number word)
-    else None
+period_of = number_from_one longest_period
 
 -- two periods in order, and at most 10,000 from the one to the other
 abbrev pub range_between : ℕ → ℕ → Option (ℕ × ℕ)

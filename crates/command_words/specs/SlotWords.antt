@@ -1,8 +1,8 @@
 -- The words of a pattern and of a number of slots.
-use Rattle.std.specs.Prelude.{ℕ, ◌&&◌, nat_le, List, Option, Some, None, codes, bytes_eq, if◌then◌else◌}
-use Rattle.csv_rows.specs.Decimal.{is_plain, number}
+use Rattle.std.specs.Prelude.{ℕ, List, Option, Some, None, codes, bytes_eq, if◌then◌else◌}
 use Rattle.server_sched.specs.declared.supplies.Pattern.{Pattern}
 use Rattle.server_sched.specs.declared.supplies.Pattern.TheVariants.{Early, Late, Worst}
+use Rattle.command_words.specs.Numbers.{number_from_one}
 
 -- `early`, `late` or `worst`
 abbrev pub pattern_of : List ℕ → Option Pattern
@@ -17,7 +17,4 @@ abbrev pub most_slots : ℕ
 most_slots = 1000000
 
 abbrev pub slot_count : List ℕ → Option ℕ
-slot_count word =
-    if is_plain word && nat_le 1 (number word) && nat_le (number word) most_slots
-    then Some (number word)
-    else None
+slot_count = number_from_one most_slots

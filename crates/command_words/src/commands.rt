@@ -1,23 +1,26 @@
 ghost use Rattle.std.specs.Prelude.{◌≡◌, ◌≢◌, Some, map, option_map, string_bytes, IfOk, IfErr};
 ghost use Rattle.std.specs.Option.{option_copied};
 ghost use Rattle.command_words.specs.Commands.{choose_of, command_of, command_told, forms, forms_from_isolate, forms_from_responses, forms_from_rtds, interface_of, one_word, rtds_of, simulate_of, spelled_by, two_words, usage_line, version_of};
-ghost use Rattle.command_words.specs.Guests.{guest_number};
+ghost use Rattle.command_words.specs.Numbers.{guest_number};
 ghost use Rattle.command_words.specs.Reading.{NamesNoFile};
 ghost use Rattle.command_words.specs.Steps.{IsSaidTo, CommandTakes};
 ghost use Rattle.command_steps.specs.Steps.{counts_of, IfAnswered, Explains};
 
+use crate::numbers::number_from_one;
 use crate::period_words::{period_of, range_of};
 use crate::slot_words::{pattern_of, slot_count};
 use crate::version::version;
 use admit_commands::{Admit, Certify, Check};
 use command_steps::{Answer, Ending, Status, ended, over_one, over_two};
-use csv_rows::{is_plain, number};
 use guest_commands::{Choose, Interface, Period, Periods, Responses, Slack};
 use host_commands::{Editor, Guests, Placer, bulk};
 use outside::Store;
 use server_sched::Pattern;
 use std::alloc::Global;
 use trace_commands::{Audit, Isolate, Rtds, Simulate, Slots, Tally};
+
+/// The most guests of `bulk N`.
+const MOST_GUESTS: u64 = 256;
 
 /// A form of words, with the names of its files in the order of the words.
 #[derive(Clone, Copy)]
@@ -295,13 +298,7 @@ fn version_of(words: &[String]) -> Option<Command<'_>>
 fn guest_number(word: &str) -> Option<Guests>
     ensures { option_map (λ guests. guests.number) result ≡ guest_number word.now }
 {
-    let digits = word.as_bytes();
-    if !is_plain(digits) {
-        return None;
-    }
-    let guests = number(digits, 256)?;
-    if guests < 1 {
-        return None;
-    }
-    Some(Guests { number: guests })
+    Some(Guests {
+        number: number_from_one(word, MOST_GUESTS)?,
+    })
 }

@@ -2,6 +2,7 @@
 #![tactic(auto)]
 
 mod commands;
+mod numbers;
 mod period_words;
 mod slot_words;
 mod version;

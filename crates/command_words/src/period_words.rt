@@ -1,7 +1,7 @@
 ghost use Rattle.std.specs.Prelude.{◌≡◌, option_map};
 ghost use Rattle.command_words.specs.PeriodWords.{period_of, range_between, range_of};
 
-use csv_rows::{is_plain, number};
+use crate::numbers::number_from_one;
 use guest_commands::{Period, Periods};
 use slot_model::LIMIT;
 
@@ -12,14 +12,9 @@ const MOST_MORE: u64 = 9_999;
 pub fn period_of(word: &str) -> Option<Period>
     ensures { option_map (λ p. p.slots) result ≡ period_of word.now }
 {
-    let digits = word.as_bytes();
-    if !is_plain(digits) {
-        return None;
-    }
-    match number(digits, LIMIT) {
-        Some(slots) if slots >= 1 => Some(Period { slots }),
-        _ => None,
-    }
+    Some(Period {
+        slots: number_from_one(word, LIMIT)?,
+    })
 }
 
 /// The range of the periods that two words spell: the second is no shorter, and at most 9,999 slots

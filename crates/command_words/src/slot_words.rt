@@ -1,7 +1,7 @@
 ghost use Rattle.std.specs.Prelude.{◌≡◌, option_map};
 ghost use Rattle.command_words.specs.SlotWords.{pattern_of, slot_count};
 
-use csv_rows::{is_plain, number};
+use crate::numbers::number_from_one;
 use server_sched::Pattern;
 use trace_commands::Slots;
 
@@ -27,12 +27,7 @@ pub fn pattern_of(word: &str) -> Option<Pattern>
 pub fn slot_count(word: &str) -> Option<Slots>
     ensures { option_map (λ s. s.count) result ≡ slot_count word.now }
 {
-    let digits = word.as_bytes();
-    if !is_plain(digits) {
-        return None;
-    }
-    match number(digits, MOST_SLOTS) {
-        Some(count) if count >= 1 => Some(Slots { count }),
-        _ => None,
-    }
+    Some(Slots {
+        count: number_from_one(word, MOST_SLOTS)?,
+    })
 }
