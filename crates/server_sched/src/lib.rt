@@ -13,7 +13,6 @@ mod supplies;
 mod tally;
 
 pub use counted_tree::count_tree;
-pub use guest_sched::{Span, Window, server_spans};
 pub use servers::{run_servers, server_jobs};
 pub use slot_counts::count_run;
 pub use slots::run_tree;
