@@ -1,5 +1,6 @@
 -- What only private functions promise each other.
 pub mod Choice
+pub mod Keys
 pub mod Releases
 pub mod Places
 pub mod Keep

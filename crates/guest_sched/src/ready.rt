@@ -2,15 +2,17 @@ ghost use Rattle.std.specs.Prelude.{◌≡◌, ℕ, ◌+◌, ◌-◌, ◌<◌, �
 ghost use Rattle.slot_model.specs.Task.{sporadic_tasks, task_at};
 ghost use Rattle.guest_sched.specs.inner.Releases.{release_at, AreReleases};
 ghost use Rattle.guest_sched.specs.inner.Keep.{level_of, AreEnds};
+ghost use Rattle.guest_sched.specs.inner.Keys.{AreKeys};
 ghost use Rattle.guest_sched.specs.inner.Places.{StandsIn};
-ghost use Rattle.guest_sched.specs.inner.Ready.{IsReady, HaveCome, AreToCome, IsServed, IsBest, StaysBest, StaysFirst, AllEndAfter, IsSteady, left_after};
+ghost use Rattle.guest_sched.specs.inner.Ready.{IsReady, HaveCome, AreToCome, HasKeys, IsServed, IsBest, StaysBest, StaysFirst, AllEndAfter, IsSteady, left_after};
 
 use crate::choice::first_unbeaten;
 use crate::keep::{Keep, end_moment};
+use crate::keys::{first_by_key, keys_of, stays_by_key};
 use crate::places::{insert_place, remove_place};
 use crate::releases::{Release, releases};
 use crate::spans::Span;
-use slot_model::{Job, Order, Task};
+use slot_model::{Job, Key, Order, Task};
 use std::alloc::{AllocError, Global};
 
 /// The jobs of a level between two events.
@@ -26,6 +28,8 @@ pub struct Ready {
     left: Vec<u64>,
     /// The moment from which each job is kept no more.
     ends: Vec<u64>,
+    /// The key of each job, where the order gives keys.
+    keys: Option<Vec<Key>>,
     /// The places of the jobs that have come, lack slots and are kept, ascending.
     ready: Vec<u32>,
     /// No ready job ends before this moment.
@@ -36,7 +40,13 @@ pub struct Ready {
 
 impl Ready {
     /// The jobs before the first slot.
-    pub fn new(alloc: Global, keep: Keep, tasks: &[Task], jobs: &[Job]) -> Result<Ready, AllocError>
+    pub fn new<O: Order>(
+        alloc: Global,
+        keep: Keep,
+        order: &O,
+        tasks: &[Task],
+        jobs: &[Job],
+    ) -> Result<Ready, AllocError>
         requires few { length jobs.now < 2 ^ 32 }
         requires works { All (λ j. 1 ≤ j.work) jobs.now }
         requires named { All (λ a. a.task < length tasks.now) jobs.now }
@@ -49,6 +59,8 @@ impl Ready {
         ensures left { IfOk result (λ r. r.left.items ≡ map (λ j. j.work) jobs.now) }
         ensures ends { let T = sporadic_tasks tasks.now in
             IfOk result (λ r. AreEnds (level_of keep) T jobs.now r.ends.items) }
+        ensures keys { let before = O.goes order.now (sporadic_tasks tasks.now) in
+            IfOk result (λ r. HasKeys before jobs.now r) }
         ensures best { IfOk result (λ r. r.best ≡ None) }
     {
         Ok(Ready {
@@ -57,6 +69,7 @@ impl Ready {
             released: 0,
             left: jobs.iter().map(|job| job.work).collect(alloc)?,
             ends: ends(alloc, keep, tasks, jobs)?,
+            keys: keys_of(alloc, order, tasks, jobs)?,
             ready: Vec::with_capacity(alloc, jobs.len())?,
             soonest: u64::MAX,
             best: None,
@@ -82,6 +95,8 @@ impl Ready {
         requires named { All (λ a. a.task < length tasks.now) jobs.now }
         requires in_jitter { let T = sporadic_tasks tasks.now in
             All (λ a. a.early ≤ (task_at T a.task).jitter) jobs.now }
+        requires keys { let before = O.goes order.now (sporadic_tasks tasks.now) in
+            HasKeys before jobs.now self.old }
         requires best { let before = O.goes order.now (sporadic_tasks tasks.now) in
             IsBest before jobs.now self.old.ready.items self.old.best }
         requires in_time { self.old.time < 2 ^ 64 - 1 }
@@ -95,6 +110,7 @@ impl Ready {
         ensures releases { self.new.releases ≡ self.old.releases }
         ensures left { self.new.left ≡ self.old.left }
         ensures ends { self.new.ends ≡ self.old.ends }
+        ensures keys { self.new.keys ≡ self.old.keys }
     {
         while self.is_next_due() {
             self.admit_next(order, tasks, jobs)?;
@@ -122,6 +138,8 @@ impl Ready {
         requires named { All (λ a. a.task < length tasks.now) jobs.now }
         requires in_jitter { let T = sporadic_tasks tasks.now in
             All (λ a. a.early ≤ (task_at T a.task).jitter) jobs.now }
+        requires keys { let before = O.goes order.now (sporadic_tasks tasks.now) in
+            HasKeys before jobs.now self.old }
         requires best { let before = O.goes order.now (sporadic_tasks tasks.now) in
             IsBest before jobs.now self.old.ready.items self.old.best }
         ensures state { OnOk result (IsReady self.new) }
@@ -132,13 +150,14 @@ impl Ready {
         ensures releases { self.new.releases ≡ self.old.releases }
         ensures left { self.new.left ≡ self.old.left }
         ensures ends { self.new.ends ≡ self.old.ends }
+        ensures keys { self.new.keys ≡ self.old.keys }
     {
         let place = self.releases[self.released].place;
         insert_place(&mut self.ready, place)?;
         self.released += 1;
         self.soonest = self.soonest.min(self.ends[place as usize]);
         if let Some(best) = self.best {
-            if !stays_first(order, tasks, jobs, best, place) {
+            if !stays_first(order, tasks, jobs, &self.keys, best, place) {
                 self.best = None;
             }
         }
@@ -157,6 +176,7 @@ impl Ready {
         ensures released { self.new.released ≡ self.old.released }
         ensures left { self.new.left ≡ self.old.left }
         ensures ends { self.new.ends ≡ self.old.ends }
+        ensures keys { self.new.keys ≡ self.old.keys }
     {
         if self.time < self.soonest {
             return;
@@ -178,6 +198,8 @@ impl Ready {
         requires named { All (λ a. a.task < length tasks.now) jobs.now }
         requires in_jitter { let T = sporadic_tasks tasks.now in
             All (λ a. a.early ≤ (task_at T a.task).jitter) jobs.now }
+        requires keys { let before = O.goes order.now (sporadic_tasks tasks.now) in
+            HasKeys before jobs.now self.old }
         requires best { let before = O.goes order.now (sporadic_tasks tasks.now) in
             IsBest before jobs.now self.old.ready.items self.old.best }
         requires some { self.old.time < until }
@@ -198,6 +220,7 @@ impl Ready {
         ensures releases { self.new.releases ≡ self.old.releases }
         ensures released { self.new.released ≡ self.old.released }
         ensures ends { self.new.ends ≡ self.old.ends }
+        ensures keys { self.new.keys ≡ self.old.keys }
     {
         let until = self.steady_until(until);
         match self.choose(order, tasks, jobs) {
@@ -244,6 +267,8 @@ impl Ready {
         requires named { All (λ a. a.task < length tasks.now) jobs.now }
         requires in_jitter { let T = sporadic_tasks tasks.now in
             All (λ a. a.early ≤ (task_at T a.task).jitter) jobs.now }
+        requires keys { let before = O.goes order.now (sporadic_tasks tasks.now) in
+            HasKeys before jobs.now self.old }
         requires best { let before = O.goes order.now (sporadic_tasks tasks.now) in
             IsBest before jobs.now self.old.ready.items self.old.best }
         ensures served { let before = O.goes order.now (sporadic_tasks tasks.now) in
@@ -255,7 +280,7 @@ impl Ready {
         if self.best.is_some() {
             return self.best;
         }
-        self.best = first_place(order, tasks, jobs, &self.ready);
+        self.best = first_place(order, tasks, jobs, &self.keys, &self.ready);
         self.best
     }
 
@@ -277,6 +302,7 @@ impl Ready {
         ensures releases { self.new.releases ≡ self.old.releases }
         ensures released { self.new.released ≡ self.old.released }
         ensures ends { self.new.ends ≡ self.old.ends }
+        ensures keys { self.new.keys ≡ self.old.keys }
     {
         let from = self.time;
         let lacks = self.left[place as usize];
@@ -311,15 +337,27 @@ fn ends(alloc: Global, keep: Keep, tasks: &[Task], jobs: &[Job]) -> Result<Vec<u
 }
 
 /// Whether the job at `best`, which went first, still does where the job at `place` has come.
-fn stays_first<O: Order>(order: &O, tasks: &[Task], jobs: &[Job], best: u32, place: u32) -> bool
+fn stays_first<O: Order>(
+    order: &O,
+    tasks: &[Task],
+    jobs: &[Job],
+    keys: &Option<Vec<Key>>,
+    best: u32,
+    place: u32,
+) -> bool
     requires best_in { best < length jobs.now }
     requires place_in { place < length jobs.now }
     requires named { All (λ a. a.task < length tasks.now) jobs.now }
     requires in_jitter { let T = sporadic_tasks tasks.now in
         All (λ a. a.early ≤ (task_at T a.task).jitter) jobs.now }
+    requires keys { let before = O.goes order.now (sporadic_tasks tasks.now) in
+        IfSome keys.now (λ k. AreKeys before jobs.now k.items) }
     ensures { let before = O.goes order.now (sporadic_tasks tasks.now) in
         IsTrue result → StaysFirst before jobs.now best place }
 {
+    if let Some(keys) = keys {
+        return stays_by_key(keys, best, place);
+    }
     let old = &jobs[best as usize];
     let new = &jobs[place as usize];
     !order.before(tasks, new, old) && (best < place || order.before(tasks, old, new))
@@ -354,14 +392,25 @@ fn soonest_end(ends: &[u64], ready: &[u32]) -> u64
 }
 
 /// The place of the first of the ready jobs that no ready job goes before.
-fn first_place<O: Order>(order: &O, tasks: &[Task], jobs: &[Job], ready: &[u32]) -> Option<u32>
+fn first_place<O: Order>(
+    order: &O,
+    tasks: &[Task],
+    jobs: &[Job],
+    keys: &Option<Vec<Key>>,
+    ready: &[u32],
+) -> Option<u32>
     requires in_jobs { All (λ p. p < length jobs.now) ready.now }
     requires named { All (λ a. a.task < length tasks.now) jobs.now }
     requires in_jitter { let T = sporadic_tasks tasks.now in
         All (λ a. a.early ≤ (task_at T a.task).jitter) jobs.now }
+    requires keys { let before = O.goes order.now (sporadic_tasks tasks.now) in
+        IfSome keys.now (λ k. AreKeys before jobs.now k.items) }
     ensures { let before = O.goes order.now (sporadic_tasks tasks.now) in
         IsServed before jobs.now ready.now true result }
 {
+    if let Some(keys) = keys {
+        return first_by_key(keys, ready);
+    }
     let at = first_unbeaten(order, tasks, jobs, ready)?;
     Some(ready[at])
 }

@@ -1,5 +1,5 @@
 -- What a level's scheduler keeps between two events.
-use Rattle.std.specs.Prelude.{◌≡◌, ◌⊎◌, ℕ, ◌-◌, ◌<◌, ◌≤◌, Bool, true, false, List, length, slice_index, slice_set, Option, Some, None}
+use Rattle.std.specs.Prelude.{◌≡◌, ◌⊎◌, ℕ, ◌-◌, ◌<◌, ◌≤◌, Bool, true, false, List, length, slice_index, slice_set, Option, Some, None, IfSome}
 use Rattle.slot_model.specs.declared.job.Job.{Job}
 use Rattle.slot_model.specs.Task.{job_at}
 use Rattle.guest_sched.specs.declared.releases.Release.{Release}
@@ -7,6 +7,7 @@ use Rattle.guest_sched.specs.declared.ready.Ready.{Ready}
 use Rattle.guest_sched.specs.inner.Releases.{release_at}
 use Rattle.guest_sched.specs.inner.Places.{StandsIn, IsAscending}
 use Rattle.guest_sched.specs.inner.Choice.{IsFirstUnbeaten}
+use Rattle.guest_sched.specs.inner.Keys.{AreKeys}
 
 -- job j is among the first n releases
 abbrev pub HasCome : List Release → ℕ → ℕ → Type 0
@@ -55,6 +56,10 @@ IsServed before jobs ready false held = held ≡ None
 IsServed before jobs ready true None = length ready ≡ 0
 IsServed before jobs ready true (Some j) = (i : ℕ) × (slice_index ready i ≡ j) ×
     IsFirstUnbeaten before jobs ready (Some i)
+
+-- the keys of all jobs, where there are some
+abbrev pub HasKeys : (Job → Job → Bool) → List Job → Ready → Type 0
+HasKeys before jobs state = IfSome state.keys (λ keys. AreKeys before jobs keys.items)
 
 -- a job that is known to have the next slot
 abbrev pub IsBest : (Job → Job → Bool) → List Job → List ℕ → Option ℕ → Type 0

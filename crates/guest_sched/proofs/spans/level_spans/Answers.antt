@@ -10,7 +10,8 @@ use Rattle.slot_model.proofs.FirstRuns.{none_some}
 use Rattle.guest_sched.specs.declared.ready.Ready.{Ready}
 use Rattle.guest_sched.specs.declared.spans.Span.{Span}
 use Rattle.guest_sched.specs.inner.Keep.{level_of}
-use Rattle.guest_sched.specs.inner.Ready.{HaveCome, AreToCome, IsBest}
+use Rattle.guest_sched.specs.inner.Ready.{HaveCome, AreToCome, HasKeys, IsBest}
+use Rattle.guest_sched.proofs.Best.{keys_kept}
 use Rattle.guest_sched.specs.Spans.{Window, slots_of, run_of, window_at, AreWindows, AreSpans}
 use Rattle.guest_sched.proofs.Given.{AreOver, slots-long, slot_at, none_given, all_given}
 use Rattle.guest_sched.proofs.SpanByOne.{no_spans}
@@ -33,6 +34,7 @@ loop-at-init g c =
           subst (λ (z : List Span). AreSpans z ready.time) (sym c.in_ok-spans.ensures.items)
           (subst (AreSpans []) (sym made.time) no_spans);
       best = λ j e. absurd (none_some ready.best j made.best e);
+      keys = made.keys;
       in_list = omega arith;
       over = λ i l. absurd (omega arith);
       next = λ l. omega (arith, made.time, c.requires.windows.some 0 l);
@@ -80,6 +82,11 @@ best_later : (before : Job → Job → Bool) (jobs : List Job) (old new : Ready)
     → IsBest before jobs old.ready.items old.best → IsBest before jobs new.ready.items new.best
 best_later before jobs old new same h = subst (λ (s : Ready). IsBest before jobs s.ready.items s.best) (sym same) h
 
+-- and the keys
+keys_later : (before : Job → Job → Bool) (jobs : List Job) (old new : Ready) → new ≡ record old { time = new.time }
+    → HasKeys before jobs old → HasKeys before jobs new
+keys_later before jobs old new same h = subst (λ (s : Ready). HasKeys before jobs s) (sym same) h
+
 -- the window of a moment, and the next one where it is over
 window_passed : (windows : List Window) (n at next from now : ℕ) → AreWindows windows n → at < length windows
     → AreOver windows at from → from ≤ now → now ≤ (window_at windows at).until
@@ -115,6 +122,18 @@ pub catch_up-requires-clause-best : goal.catch_up-requires-clause-best
 catch_up-requires-clause-best g c =
     best_later (g.O.Order.goes c.args.order.now (sporadic_tasks c.args.tasks.now)) c.args.jobs.now c.loop-at.ready
     c.pass_until.new.ready c.in_ok-pass_until.ensures.rest c.loop-at.invariant.best
+
+pub catch_up-requires-clause-keys : goal.catch_up-requires-clause-keys
+catch_up-requires-clause-keys g c =
+    keys_later (g.O.Order.goes c.args.order.now (sporadic_tasks c.args.tasks.now)) c.args.jobs.now c.loop-at.ready
+    c.pass_until.new.ready c.in_ok-pass_until.ensures.rest c.loop-at.invariant.keys
+
+pub serve-span-requires-clause-keys : goal.serve-span-requires-clause-keys
+serve-span-requires-clause-keys g c =
+    let before = g.O.Order.goes c.args.order.now (sporadic_tasks c.args.tasks.now) in
+    keys_kept before c.args.jobs.now c.pass_until.new.ready c.catch_up.new.self c.in_ok-catch_up.ensures.keys
+    (keys_later before c.args.jobs.now c.loop-at.ready c.pass_until.new.ready c.in_ok-pass_until.ensures.rest
+    c.loop-at.invariant.keys)
 
 pub loop-at-preserved : goal.loop-at-preserved
 loop-at-preserved g c =
@@ -180,10 +199,14 @@ loop-at-preserved g c =
     (omega (arith, served.in_time, served.time))
     (λ e. c.next_after-at.ensures.over (omega (arith, e, c.time.ensures)))
     (λ ne. c.next_after-at.ensures.stays (λ e. ne (omega (arith, e, c.time.ensures)))) in
+    let came_keys : HasKeys before c.args.jobs.now came
+    = keys_kept before c.args.jobs.now begun came caught.keys
+    (keys_later before c.args.jobs.now old begun passed.rest i.keys) in
     record {
       kept = kept;
       spans = subst (AreSpans c.add_span.new.spans.items) (sym served.time) c.in_ok-add_span.ensures.spans;
       best = served.best;
+      keys = keys_kept before c.args.jobs.now came after served.keys came_keys;
       in_list = next.0;
       over = next.1;
       next = next.2;

@@ -13,6 +13,7 @@ invariant-loop-self g l = record {
   releases : l.self.releases ≡ l.fn.self.releases;
   left : l.self.left ≡ l.fn.self.left;
   ends : l.self.ends ≡ l.fn.self.ends;
+  keys : l.self.keys ≡ l.fn.self.keys;
 }
 
 abbrev pub decreases-loop-self : goal.decreases-loop-self

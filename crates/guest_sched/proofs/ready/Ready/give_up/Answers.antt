@@ -40,4 +40,5 @@ loop-place-preserved c =
       released = i.released;
       left = i.left;
       ends = i.ends;
+      keys = i.keys;
     }

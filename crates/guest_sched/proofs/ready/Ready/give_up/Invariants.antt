@@ -12,6 +12,7 @@ invariant-loop-place l = record {
   released : l.self.released ≡ l.fn.self.released;
   left : l.self.left ≡ l.fn.self.left;
   ends : l.self.ends ≡ l.fn.self.ends;
+  keys : l.self.keys ≡ l.fn.self.keys;
 }
 
 abbrev pub decreases-loop-place : goal.decreases-loop-place
