@@ -16,7 +16,7 @@ use Rattle.compose_tree.proofs.Settling.{settled_admits, stands_same, passes_sam
 use Rattle.compose_tree.specs.Steps.{PartsPassFrom, CoresPassTo}
 use Rattle.compose_tree.specs.Kept.{under, StandsOn, AgreeAt, IsSettledNode, IsKept}
 
-same_is : (x y : Place) → same_place x y ≡ true → x ≡ y
+pub same_is : (x y : Place) → same_place x y ≡ true → x ≡ y
 same_is (Core c) (Core d) e = ap Core (eqb-true c d e)
 same_is (Part q) (Part r) e = ap Part (eqb-true q r e)
 same_is (Core c) (Part r) e = absurd (false≢true e)

@@ -8,6 +8,7 @@ use Rattle.slot_model.specs.Task.{early_job, jittery_task, plain_task}
 use Rattle.tree_model.specs.declared.place.Parent.{Parent}
 use Rattle.tree_model.specs.declared.place.Parent.TheVariants.{Core as on_core, Part as on_part}
 use Rattle.tree_model.specs.View.{NamedTask, PartView, SystemView}
+use Rattle.tree_model.proofs.FewPlaces.{both}
 use Rattle.release_file.specs.declared.fault.ReleaseFault.TheVariants.{BadRow, Unknown, OutOfRange, TooEarly, BadOrder}
 use Rattle.release_file.specs.declared.release_spelling.Version.TheVariants.{First, Second}
 use Rattle.trace_file.specs.Rules.{is_vcpu}
@@ -105,23 +106,18 @@ a_header_of_four_fields_is_none = refl
 abbrev wake : ℕ → ℕ → WakeKind → Wake
 wake at vcpu what = record { at = at; vcpu = vcpu; what = what }
 
-two : (P : ℕ → Type 0) → P 0 → P 1 → (i : ℕ) → i < 2 → P i
-two P p q zero h = p
-two P p q (suc zero) h = q
-two P p q (suc (suc i)) h = absurd (omega arith)
-
 abbrev start_and_block : List Wake
 start_and_block = wake 0 0 Start ∷ wake 3 0 Block ∷ []
 
 a_start_and_a_block_are_a_workload : IsWorkload host start_and_block
 unfolding last_below
 a_start_and_a_block_are_a_workload = record {
-  in_limit = two (λ i. (row_at start_and_block i).at ≤ LIMIT) (lit≤ tt) (lit≤ tt);
+  in_limit = both (λ i. (row_at start_and_block i).at ≤ LIMIT) (lit≤ tt) (lit≤ tt);
   in_order = in_order;
-  known = two (λ i. is_vcpu host (row_at start_and_block i).vcpu ≡ true) refl refl;
+  known = both (λ i. is_vcpu host (row_at start_and_block i).vcpu ≡ true) refl refl;
   one_a_slot = one_a_slot;
   in_turn =
-      two (λ i. may_follow (last_row (is_of (row_at start_and_block i).vcpu) start_and_block i)
+      both (λ i. may_follow (last_row (is_of (row_at start_and_block i).vcpu) start_and_block i)
       (row_at start_and_block i).what ≡ true) refl refl;
 }
   where

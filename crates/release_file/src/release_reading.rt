@@ -23,11 +23,9 @@ fn read_header(records: &mut Records) -> Result<Version, ReleaseFault>
         ⊎ ((fault ≡ BadHeader) × (release_rows (records_of text) ≡ None))) }
     ensures takes_any { OnOk result (IsOpen records.new) }
 {
-    match records.advance() {
-        Ok(true) => {}
-        Ok(false) => return Err(ReleaseFault::BadHeader),
-        Err(_) => return Err(ReleaseFault::NoMemory),
-    }
+    let Ok(()) = records.read_header() else {
+        return Err(ReleaseFault::NoMemory);
+    };
     match header_version(&records.row()) {
         Some(version) => Ok(version),
         None => Err(ReleaseFault::BadHeader),

@@ -22,11 +22,9 @@ fn read_header(records: &mut Records) -> Result<(), ReleaseFault>
         ⊎ ((fault ≡ BadHeader) × (wake_rows (records_of text) ≡ None))) }
     ensures takes_any { OnOk result (IsOpen records.new) }
 {
-    match records.advance() {
-        Ok(true) => {}
-        Ok(false) => return Err(ReleaseFault::BadHeader),
-        Err(_) => return Err(ReleaseFault::NoMemory),
-    }
+    let Ok(()) = records.read_header() else {
+        return Err(ReleaseFault::NoMemory);
+    };
     if !is_wake_header(&records.row()) {
         return Err(ReleaseFault::BadHeader);
     }

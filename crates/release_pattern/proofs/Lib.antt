@@ -1,4 +1,4 @@
-mod FewTasks
+pub mod FewTasks
 pub mod Moments
 pub mod Dues
 pub mod FewJobs

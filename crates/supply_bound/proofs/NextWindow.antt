@@ -3,7 +3,7 @@ use Rattle.std.proofs.Common.{◌≡◌, ℕ, suc, min, max, ◌+◌, ◌*◌, �
 use Rattle.std.proofs.lemmas.Bool.{cases_lt, and_from, or_left, lt-leb}
 use Rattle.std.proofs.lemmas.Nat.{le-div}
 use Rattle.slot_model.specs.Supply.{worst_slot_by}
-use Rattle.slot_model.proofs.WorstPattern.{slot_by_at}
+use Rattle.slot_model.proofs.WorstPattern.{slot_by_at, slot_by_gap}
 use Rattle.supply_bound.specs.declared.next_window.Window.{Window}
 use Rattle.supply_bound.specs.NextWindow.{IsFirstStretch, IsNextWindow}
 
@@ -62,12 +62,6 @@ and_none : (a b : Bool) → b ≡ false → (a && b) ≡ false
 and_none a b e = grind arith
 
 -- the pattern of a deadline by period and place: none past the first budget in its period
-in_first_gap : (period budget deadline x : ℕ) → budget ≤ x → x < period → worst_slot_by period budget deadline x ≡ false
-in_first_gap period budget deadline x l m = none (ltb x budget) (leb period x) _ (le-ltb x budget l) (lt-leb period x m)
-  where
-    none : (a b c : Bool) → a ≡ false → b ≡ false → (a || (b && c)) ≡ false
-    none a b c e f = grind arith
-
 first_it : (period budget deadline x : ℕ) → x < budget → worst_slot_by period budget deadline x ≡ true
 first_it period budget deadline x l = or_left (ltb x budget)
     (leb period x && (leb (deadline - budget) (x % period) && ltb (x % period) deadline)) (lt-ltb x budget l)
@@ -132,7 +126,7 @@ next_budget period budget deadline from begin s m n past first same next = elim 
     k = 0;
     begins = omega (arith, first early);
     not_over = omega (arith, first early);
-    none = λ x a b. in_first_gap period budget deadline x (omega arith) (omega (arith, first early));
+    none = λ x a b. slot_by_gap period budget deadline x (omega arith) (omega (arith, first early));
   }
   | inr late ↦ (
       let whole : (from / period) * period + from % period ≡ from = omega arith in

@@ -18,11 +18,9 @@ pub fn read_header(records: &mut Records) -> Result<Unit, TraceFault>
         → IfErr result (λ fault. (fault ≡ NoMemory)
         ⊎ ((fault ≡ BadHeader) × (rows_of (records_of text) ≡ None))) }
 {
-    match records.advance() {
-        Ok(true) => {}
-        Ok(false) => return Err(TraceFault::BadHeader),
-        Err(_) => return Err(TraceFault::NoMemory),
-    }
+    let Ok(()) = records.read_header() else {
+        return Err(TraceFault::NoMemory);
+    };
     match unit_of(&records.row()) {
         Some(unit) => Ok(unit),
         None => Err(TraceFault::BadHeader),

@@ -13,7 +13,7 @@ use Rattle.tree_model.specs.declared.place.Parent.TheVariants.{Core as on_core, 
 use Rattle.tree_model.specs.declared.place.Place.TheVariants.{Core, Part}
 use Rattle.tree_model.specs.View.{PartView, SystemView}
 use Rattle.slot_model.specs.Release.{staggered_at, staggered}
-use Rattle.tree_model.proofs.Examples.{only}
+use Rattle.tree_model.proofs.FewPlaces.{only, both, each_of_three}
 use Rattle.tree_model.specs.Tree.{run_at, started_jobs, started_supply, StartedServers, StartedTree}
 
 abbrev leaf : ℕ → ℕ → PartView
@@ -115,17 +115,6 @@ the_inner_part_has_two_slots = refl
 the_leaf_has_the_last_slot : started_supply nested budgets later 3 nested_cores nested_parts 1 ≡ true ∷ []
 unfolding sum_below staggered_at staggered
 the_leaf_has_the_last_slot = refl
-
-both : (P : ℕ → Type 0) → P 0 → P 1 → (x : ℕ) → x < 2 → P x
-both P p q zero h = p
-both P p q (suc zero) h = q
-both P p q (suc (suc x)) h = absurd (omega arith)
-
-each_of_three : (P : ℕ → Type 0) → P 0 → P 1 → P 2 → (x : ℕ) → x < 3 → P x
-each_of_three P p q r zero h = p
-each_of_three P p q r (suc zero) h = q
-each_of_three P p q r (suc (suc zero)) h = r
-each_of_three P p q r (suc (suc (suc x))) h = absurd (omega arith)
 
 -- what is to be seen at a place of a run of one job over slots that are all given: none before its
 -- release, and then the job while it lacks work

@@ -1,5 +1,6 @@
 pub mod View
 pub mod System
+pub mod NamedLeaf
 pub mod Tree
 pub mod NodeSupply
 pub mod FirstTree

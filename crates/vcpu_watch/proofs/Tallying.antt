@@ -4,14 +4,11 @@ use Rattle.std.proofs.lemmas.Bool.{cases_lt, lt-ltb, le-ltb}
 use Rattle.slot_model.specs.Slots.{sum_below, count_below}
 use Rattle.slot_model.proofs.Sums.{sum_below-zero, sum_below-suc, sum_below-same, cond-none}
 use Rattle.slot_model.proofs.Runs.{count_below-le}
+use Rattle.trace_file.proofs.Counting.{suc_cond}
 use Rattle.vcpu_watch.specs.declared.tally.Tally.{Tally}
 use Rattle.vcpu_watch.specs.declared.watch.Breach.{Breach}
 use Rattle.vcpu_watch.specs.Numbers.{IsNumberOf, IsLeast, IsLeastOf, IsMost, IsMostOf}
 use Rattle.vcpu_watch.specs.Watch.{is_short_breach, is_over_breach, lesser, greater, least_if, counted, AreAtMost, IsTimeBelow, IsTallied, no_tally}
-
-suc_cond : (v : Bool) (m : ℕ) → cond {A = ℕ} v (suc m) 0 ≡ cond {A = ℕ} v m 0 + cond {A = ℕ} v 1 0
-suc_cond true m = omega arith
-suc_cond false m = refl
 
 -- a count over numbers more that are all alike
 pub count_alike : (passes : ℕ → Bool) (v : Bool) (n m : ℕ) → ((k : ℕ) → n ≤ k → k < n + m → passes k ≡ v)

@@ -70,7 +70,7 @@ fn greater(most: Option<u64>, got: u64) -> u64
 }
 
 impl Tally {
-    ghost use Rattle.std.specs.Prelude.{◌≡◌, ◌≤◌, ◌+◌, ℕ};
+    ghost use Rattle.std.specs.Prelude.{◌≡◌, ◌≤◌, ◌+◌};
     ghost use Rattle.vcpu_watch.specs.Watch.{counted, least_if, AreAtMost, no_tally};
 
     /// Of no periods.

@@ -1,5 +1,6 @@
 use Rattle.std.proofs.Common.{◌≡◌, ℕ, List, ◌++◌, length, take, drop, sym, ◌∙◌, subst}
 use Rattle.std.proofs.lemmas.Result.{err_from_is_err_and}
+use Rattle.slot_model.proofs.HandedOn.{handed_on}
 use Rattle.tree_model.specs.View.{SystemView}
 use Rattle.tree_model.specs.Admission.{Assigned, Admitted}
 use Rattle.tree_model.proofs.InRange.{assigned_is_plan}
@@ -49,11 +50,9 @@ returns-in_err-settle_parts-clause-complete c =
 
 pub returns-in_err-settle_parts-clause-holds : goal.returns-in_err-settle_parts-clause-holds
 returns-in_err-settle_parts-clause-holds c =
-    let p
-    = err_from_is_err_and c.from_residual-in_err-settle_parts.result
-    c.from_residual-in_err-settle_parts.ensures.1 in
-    rw (p.1, p.2) (refusal_holds c.args.sys.now c.rooms.ensures.system c.in_err-settle_parts.field-0.0
-    c.in_err-settle_parts.ensures.refusal)
+    let step = c.from_residual-in_err-settle_parts in
+    handed_on step.result _ _ step.ensures.1 (refusal_holds c.args.sys.now c.rooms.ensures.system
+    c.in_err-settle_parts.field-0.0 c.in_err-settle_parts.ensures.refusal)
 
 pub returns-in_err-test_cores-clause-complete : goal.returns-in_err-test_cores-clause-complete
 returns-in_err-test_cores-clause-complete c =
@@ -64,6 +63,5 @@ returns-in_err-test_cores-clause-complete c =
 
 pub returns-in_err-test_cores-clause-holds : goal.returns-in_err-test_cores-clause-holds
 returns-in_err-test_cores-clause-holds c =
-    let p = err_from_is_err_and c.from_residual-in_err-test_cores.result c.from_residual-in_err-test_cores.ensures.1 in
-    rw (p.1, p.2) (refusal_holds c.args.sys.now c.rooms.ensures.system c.in_err-test_cores.field-0.0
-    c.in_err-test_cores.ensures.refusal)
+    handed_on c.from_residual-in_err-test_cores.result _ _ c.from_residual-in_err-test_cores.ensures.1 (refusal_holds
+    c.args.sys.now c.rooms.ensures.system c.in_err-test_cores.field-0.0 c.in_err-test_cores.ensures.refusal)

@@ -1,8 +1,8 @@
 use Rattle.std.proofs.Common.{◌≡◌, ℕ, Option, Some, List, subst}
-use Rattle.std.proofs.lemmas.Result.{err_from_is_err_and}
 use Rattle.slot_model.specs.declared.sched.Sched.{Sched}
 use Rattle.slot_model.specs.Task.{SporadicTask, sporadic_tasks}
 use Rattle.slot_model.specs.Bound.{sbf}
+use Rattle.slot_model.proofs.HandedOn.{handed_on}
 use Rattle.tree_model.specs.declared.place.Place.{Place}
 use Rattle.tree_model.specs.declared.plan.Refusal.{Refusal}
 use Rattle.tree_model.specs.Admission.{largest_budget}
@@ -21,9 +21,7 @@ refuses_given sched s tasks period p given budget node r same_sched same_period 
 
 pub returns-in_err-test_node-in-Some-clause-refuses : goal.returns-in_err-test_node-in-Some-clause-refuses
 returns-in_err-test_node-in-Some-clause-refuses c =
-    let p = err_from_is_err_and c.from_residual.result c.from_residual.ensures.1 in
-    rw (p.1, p.2)
-    (refuses_given c.args.part.now.sched c.sched.result (sporadic_tasks c.args.tasks.now) c.args.part.now.period
-    c.period-period.result c.args.part.now.budget c.in-Some.budget c.args.node c.in_err-test_node-in-Some.field-0.0
-    c.sched.ensures c.period-period.ensures c.in-Some.ensures
-    c.in_err-test_node-in-Some.ensures.refuses)
+    handed_on c.from_residual.result _ _ c.from_residual.ensures.1 (refuses_given c.args.part.now.sched c.sched.result
+    (sporadic_tasks c.args.tasks.now) c.args.part.now.period c.period-period.result c.args.part.now.budget
+    c.in-Some.budget c.args.node c.in_err-test_node-in-Some.field-0.0 c.sched.ensures c.period-period.ensures
+    c.in-Some.ensures c.in_err-test_node-in-Some.ensures.refuses)

@@ -3,7 +3,7 @@ use Rattle.slot_model.specs.declared.job.Job.{Job}
 use Rattle.slot_model.specs.Task.{SporadicTask, sporadic_tasks}
 use Rattle.slot_model.specs.Release.{LegalRelease, synchronous}
 use Rattle.slot_model.proofs.Constrained.{are_constrained}
-use Rattle.release_pattern.specs.Multiples.{at_multiples, prompt_tasks}
+use Rattle.release_pattern.specs.Multiples.{at_multiples}
 use Rattle.release_pattern.proofs.Prompt.{multiples_synchronous, prompt_synchronous, multiples_legal}
 use Rattle.release_pattern.proofs.multiples.jobs_at_multiples.Goals as goal
 use Rattle.release_pattern.proofs.multiples.jobs_at_multiples.Goals.{After-deref}
