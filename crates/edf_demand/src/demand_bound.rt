@@ -38,7 +38,7 @@ fn demand_of_one(task: &Task, t: u128) -> u128
 }
 
 /// The same, and quicker by the terms that were gathered from the tasks.
-pub fn demand_by(tasks: &[Task], terms: &[Term], gathered: Gathered, t: u128) -> Option<u128>
+pub(crate) fn demand_by(tasks: &[Task], terms: &[Term], gathered: Gathered, t: u128) -> Option<u128>
     requires { IsGathered gathered terms.now tasks.now }
     ensures { MatchOption result
         (2 ^ 128 ≤ dbf (sporadic_tasks tasks.now) t)

@@ -11,7 +11,7 @@ use window_terms::Term;
 pub struct DemandLevel<'a> {
     pub tasks: &'a [Task],
     terms: &'a [Term],
-    gathered: Gathered,
+    pub gathered: Gathered,
     pub ghost is_gathered: { IsGathered gathered terms.now tasks.now },
 }
 

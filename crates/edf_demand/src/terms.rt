@@ -19,7 +19,7 @@ pub struct Gathered {
 /// Writes the terms of as many of the first tasks as `into` has places for: a run of neighbouring
 /// tasks of one period and one room (the deadline less the jitter) has one term. The slack is what
 /// that room leaves of the period.
-pub fn gather(tasks: &[Task], into: &mut [Term]) -> Gathered
+pub(crate) fn gather(tasks: &[Task], into: &mut [Term]) -> Gathered
     ensures stand { IsGathered result into.new tasks.now }
     ensures room { result.tasks < length tasks.now → result.terms ≡ length into.new }
 {

@@ -1,7 +1,7 @@
 use crate::helpers::{
     expect, expect_at, five_long_tasks, late_task, task, two_late_tasks, two_tasks,
 };
-use edf_demand::{demand, demand_by, gather, horizon};
+use edf_demand::{DemandLevel, demand, horizon};
 use slot_model::Task;
 use window_terms::Term;
 
@@ -47,11 +47,11 @@ fn demand_by_terms(rt: HostRuntime) {
         task(&rt, 75, 75, 9),
     ];
     let mut terms = [Term::none(); 3];
-    let whole = gather(&tasks, &mut terms);
-    expect(&rt, (whole.terms, whole.tasks), (2, 3));
+    let whole = DemandLevel::gather(&tasks, &mut terms);
+    expect(&rt, (whole.gathered.terms, whole.gathered.tasks), (2, 3));
     let mut term = [Term::none()];
-    let part = gather(&tasks, &mut term);
-    expect(&rt, (part.terms, part.tasks), (1, 2));
+    let part = DemandLevel::gather(&tasks, &mut term);
+    expect(&rt, (part.gathered.terms, part.gathered.tasks), (1, 2));
     for (window, work) in [
         (44, 0),
         (45, 9),
@@ -63,18 +63,8 @@ fn demand_by_terms(rt: HostRuntime) {
         (u64::MAX as u128, 5_534_023_222_112_865_480),
         (1 << 127, 51_042_355_038_140_769_519_506_191_114_765_231_707),
     ] {
-        expect_at(
-            &rt,
-            window,
-            demand_by(&tasks, &terms, whole, window),
-            Some(work),
-        );
-        expect_at(
-            &rt,
-            window,
-            demand_by(&tasks, &term, part, window),
-            Some(work),
-        );
+        expect_at(&rt, window, whole.demand(window), Some(work));
+        expect_at(&rt, window, part.demand(window), Some(work));
     }
 }
 

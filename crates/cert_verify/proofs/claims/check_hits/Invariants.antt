@@ -7,4 +7,5 @@ use Rattle.cert_verify.proofs.claims.check_hits.Given as goal
 abbrev pub invariant-loop-i : goal.invariant-loop-i
 invariant-loop-i g l =
     (k : ℕ) → k < l.i
-    → IsHitOf (ranks_above l.sched (sporadic_tasks l.tasks)) (sporadic_tasks l.tasks) (g.S.Supply.bound l.s) l.node k
+    → IsHitOf (ranks_above l.level.sched (sporadic_tasks l.level.tasks.now)) (sporadic_tasks l.level.tasks.now)
+    (g.S.Supply.bound l.s) l.node k

@@ -7,5 +7,5 @@ use Rattle.cert_verify.proofs.points.is_chain.Given as goal
 abbrev pub invariant-loop-j : goal.invariant-loop-j
 invariant-loop-j g l =
     (k : ℕ) → k < l.j
-    → FallsShort (ranks_above l.sched (sporadic_tasks l.tasks)) (sporadic_tasks l.tasks) (g.S.Supply.bound l.s) l.i
-    l.falls k
+    → FallsShort (ranks_above l.task.sched (sporadic_tasks l.task.tasks.now)) (sporadic_tasks l.task.tasks.now)
+    (g.S.Supply.bound l.s) l.task.i l.falls k

@@ -4,4 +4,5 @@ use Rattle.cert_verify.proofs.Walked.{Covers}
 use Rattle.cert_verify.proofs.points.is_cover.Given as goal
 
 abbrev pub invariant-loop-j : goal.invariant-loop-j
-invariant-loop-j g l = (k : ℕ) → k < l.j → Covers (sporadic_tasks l.tasks) (g.S.Supply.bound l.s) l.points k
+invariant-loop-j g l =
+    (k : ℕ) → k < l.j → Covers (sporadic_tasks l.level.tasks.now) (g.S.Supply.bound l.s) l.points k
