@@ -1,11 +1,13 @@
 ghost use Rattle.std.specs.Prelude.{◌≡◌, ℕ, ◌≤◌, ◌<◌, ◌&&◌, List, Option, length, IfOk, IfErr, OnOk, MatchOption};
 ghost use Rattle.csv_rows.specs.Printing.{text_of};
+ghost use Rattle.csv_rows.specs.Reading.{records_of};
 ghost use Rattle.tree_model.specs.System.{IsSystem};
 ghost use Rattle.tree_model.specs.Tree.{run_at};
 ghost use Rattle.trace_file.specs.declared.event.Event.{Event as EventView};
 ghost use Rattle.trace_printer.specs.Printing.{printed_rows};
 ghost use Rattle.trace_file.specs.Taker.{Took};
 ghost use Rattle.trace_file.specs.Rules.{Kept};
+ghost use Rattle.trace_file.specs.File.{Spells};
 ghost use Rattle.trace_file.specs.Periods.{Satisfied};
 ghost use Rattle.tree_model.specs.Plans.{IsPlan};
 ghost use Rattle.release_file.specs.Workload.{IsWorkload};
@@ -93,6 +95,26 @@ pub fn print_rtds(
         text.items ≡ text_of (printed_rows sys.now (printed sys.now wakes.now runs slots))) }
     ensures rtds { IfOk result (λ text. AllRtds sys.now (length sys.now.cores)) }
     ensures fault { IfErr result (IsRtdsFault sys.now) }
+
+    // On a core whose servers pass the test, VCPUs that never block have their budgets in each
+    // period, whenever each starts.
+    ensures gives { (runs : List (List (Option ℕ))) (c : ℕ) →
+        RtdsRun sys.now plan.now wakes.now slots runs → c < length sys.now.cores →
+        AlwaysRunnable sys.now wakes.now c → ServersFit sys.now plan.now c →
+        GivesBudgets sys.now plan.now wakes.now slots c (run_at runs c) }
+
+    // So no period is short or over in what this text is read as, where that holds of each core;
+    // that it is read as a trace is `text`.
+    ensures satisfied { IfOk result (λ text. (events : List EventView) →
+        Spells sys.now (records_of text.items) events →
+        AlwaysServed sys.now plan.now wakes.now → Satisfied sys.now plan.now events) }
+
+    // Over any workload no VCPU without extra time has more than its budget in a period.
+    ensures never_over { (runs : List (List (Option ℕ))) (c : ℕ) →
+        RtdsRun sys.now plan.now wakes.now slots runs → c < length sys.now.cores →
+        NeverOver sys.now plan.now wakes.now (run_at runs c) }
+    ensures none_over { IfOk result (λ text. (events : List EventView) →
+        Spells sys.now (records_of text.items) events → NoneOver sys.now plan.now events) }
 {
     if let Some(core) = other_core(sys) {
         return Err(RtdsFault::NotRtds(core));

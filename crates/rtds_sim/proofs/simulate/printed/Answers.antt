@@ -1,15 +1,12 @@
-use Rattle.std.proofs.Common.{◌≡◌, List, [], ◌∙◌, sym, ap, subst, arith}
-use Rattle.trace_file.specs.declared.event.Event.{Event}
+use Rattle.std.proofs.Common.{◌≡◌, ◌≤◌, [], ◌∙◌, sym, ap, subst}
 use Rattle.trace_file.specs.declared.unit.Unit.{Unit}
 use Rattle.trace_file.specs.declared.unit.Unit.TheVariants.{Microseconds}
-use Rattle.trace_file.specs.Periods.{Satisfied}
 use Rattle.trace_printer.specs.Printer.{HasPrinted}
 use Rattle.trace_printer.specs.Printing.{unit_for}
 use Rattle.trace_file.specs.Rules.{Kept}
 use Rattle.trace_printer.proofs.Printers.{own, as_from}
-use Rattle.rtds_sim.specs.Giving.{NoneOver}
-use Rattle.rtds_sim.proofs.Keeping.{printed_keeps}
-use Rattle.rtds_sim.proofs.Traced.{satisfied, none_over, whole_unit}
+use Rattle.rtds_sim.proofs.RunTraces.{trace_kept, trace_none_over, trace_satisfied}
+use Rattle.rtds_sim.proofs.Traced.{whole_unit}
 use Rattle.rtds_sim.proofs.simulate.printed.Goals as goal
 
 pub returns : goal.returns
@@ -28,9 +25,9 @@ returns c =
     let whole : unit_for told ≡ Microseconds = ap unit_for events ∙ whole_unit sys rows runs n in
     let printed : HasPrinted sys (unit_for told) told c.tell_run.new.events
     = subst (λ (u : Unit). HasPrinted sys u told c.tell_run.new.events) (sym whole) all in
+    let few : n ≤ 1000000 = c.requires.short in
     let kept : Kept sys told
-    = subst (λ (es : List Event). Kept sys es) (sym events)
-    (printed_keeps sys system rows c.requires.workload budgets n runs is (omega (arith, c.requires.short))) in
+    = trace_kept sys system budgets c.requires.plan rows c.requires.workload n few told trace in
     record {
       text = record {
         events = told;
@@ -38,13 +35,7 @@ returns c =
         kept = kept;
         told = c.finish.ensures.text sys told printed;
         reads_back = c.finish.ensures.reads_back sys told printed system kept;
-        none_over =
-            subst (λ (es : List Event). NoneOver sys budgets es) (sym events)
-            (none_over sys system budgets c.requires.plan rows c.requires.workload n runs is
-            (omega (arith, c.requires.short)));
-        satisfied =
-            λ served. subst (λ (es : List Event). Satisfied sys budgets es) (sym events)
-            (satisfied sys system budgets c.requires.plan rows c.requires.workload n runs is
-            (omega (arith, c.requires.short)) served);
+        none_over = trace_none_over sys system budgets c.requires.plan rows c.requires.workload n few told trace;
+        satisfied = trace_satisfied sys system budgets c.requires.plan rows c.requires.workload n few told trace;
       };
     }
