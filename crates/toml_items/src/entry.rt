@@ -1,6 +1,6 @@
 ghost use Rattle.std.specs.Prelude.{◌≡◌, ◌≤◌, None, true, length, OnOk, IfSome};
 ghost use Rattle.std.specs.List.{insert};
-ghost use Rattle.toml.specs.Data.{Data, get_member};
+ghost use Rattle.toml.specs.Data.{get_member};
 ghost use Rattle.toml_items.specs.declared.item.Item.{Item as ItemValue};
 ghost use Rattle.toml_items.specs.Item.{item_view, entries_view};
 ghost use Rattle.toml_items.specs.Plain.{insert_member};

@@ -1,4 +1,4 @@
-ghost use Rattle.std.specs.Prelude.{◌≡◌, ◌+◌, ◌<◌, ◌≤◌, true, false, [], ◌∷◌, Some, length, slice_index, IfSome};
+ghost use Rattle.std.specs.Prelude.{◌≡◌, ◌+◌, ◌<◌, ◌≤◌, true, false, [], Some, length, IfSome};
 ghost use Rattle.std.specs.List.{prefix_len};
 ghost use Rattle.toml.specs.Tables.{key_value, array_table};
 ghost use Rattle.toml.specs.Parse.{line, key_equals, scalar_data, val, ends_line};

@@ -22,7 +22,7 @@ recompose-requires c =
           (c.place-start.ensures
           ∙ ap place_of
           (c.fallen.ensures ∙ ap (fallen c.args.q) (c.parent.ensures ∙ ap (λ (p : PartView). p.parent) here)))
-          (record { is_part = c.requires.is_part; named = refl; leaf = c.requires.leaf }) c.requires.admitted;
+          (record { is_part = c.requires.is_part; is_leaf = c.requires.leaf; is_named = refl }) c.requires.admitted;
     }
 
 pub put_back-requires-clause-room : goal.put_back-requires-clause-room

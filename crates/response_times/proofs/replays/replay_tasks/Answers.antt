@@ -4,9 +4,9 @@ use Rattle.slot_model.specs.declared.job.Job.{Job}
 use Rattle.slot_model.specs.Task.{sporadic_tasks}
 use Rattle.slot_model.specs.Order.{before_of}
 use Rattle.slot_model.proofs.Constrained.{are_constrained}
+use Rattle.release_pattern.proofs.FewTasks.{a_job_each}
 use Rattle.fp_request.proofs.Parts.{sporadic_tasks-length}
 use Rattle.response_times.specs.Replay.{seen_at}
-use Rattle.response_times.proofs.FirstJobs.{job_each}
 use Rattle.response_times.proofs.WorstRuns.{RanWorst, ran_worst, ran_released, ran_long, worst_shows, answer_is_least}
 use Rattle.response_times.proofs.replays.replay_tasks.Goals as goal
 use Rattle.response_times.proofs.replays.replay_tasks.Goals.{After-deref-4}
@@ -29,7 +29,7 @@ first_responses-requires-clause-are_jobs g c =
     omega (
       arith,
       sporadic_tasks-length c.args.tasks.now,
-      job_each T c.start-start.result c.args.span c.requires.some_span,
+      a_job_each T c.start-start.result c.args.span c.requires.some_span,
       ap (λ (jobs : List Job). length jobs) c.deref-3.ensures.value,
       ap (λ (jobs : List Job). length jobs) c.in_ok-jobs.ensures.exact,
     )
