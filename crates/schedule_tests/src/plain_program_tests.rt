@@ -1,10 +1,13 @@
 //! Runs from event to event beside a plain program that goes slot by slot, over systems that a
 //! small generator makes.
 
-ghost use Rattle.std.specs.Prelude.{◌<◌, ◌≤◌};
+ghost use Rattle.std.specs.Prelude.{◌≡◌, ◌<◌, ◌≤◌, length};
+ghost use Rattle.slot_model.specs.Task.{sporadic_tasks, task_at, deadline_of};
+ghost use Rattle.slot_model.specs.Order.{edf_before};
+ghost use Rattle.slot_model.specs.EdfOrder.{edf_laws};
 
 use guest_sched::{Span, run_spans, server_spans, windows_of};
-use slot_model::{Edf, Job, Task, is_legal};
+use slot_model::{Edf, Job, Order, Task, deadline_moment, is_legal};
 use std::alloc::{AllocError, Global};
 use std::test::Fail;
 
@@ -167,17 +170,35 @@ fn are_the_run(spans: &[Span], run: &[Option<u32>]) -> bool {
     from == run.len() as u64
 }
 
+/// Earliest deadline first as an order that gives no keys.
+struct WithoutKeys;
+
+impl Order for WithoutKeys {
+    ghost goes = { λ s tasks a b. edf_before tasks a b };
+
+    fn before(&self, tasks: &[Task], a: &Job, b: &Job) -> bool {
+        deadline_moment(tasks, a) < deadline_moment(tasks, b)
+    }
+
+    ghost laws = { λ s. edf_laws };
+}
+
 /// Whether both programs agree on a level, and None where its jobs are not legal.
-fn agree(alloc: Global, level: &Level, is_server: bool) -> Result<Option<bool>, AllocError> {
+fn agree<O: Order>(
+    alloc: Global,
+    order: &O,
+    level: &Level,
+    is_server: bool,
+) -> Result<Option<bool>, AllocError> {
     if !is_legal(&level.tasks, &level.jobs) || level.jobs.len() > 1000 {
         return Ok(None);
     }
     let windows = windows_of(alloc, &level.slots)?;
     let slots = level.slots.len() as u64;
     let spans = if is_server {
-        server_spans(alloc, &level.tasks, &level.jobs, &Edf, &windows, slots)?
+        server_spans(alloc, &level.tasks, &level.jobs, order, &windows, slots)?
     } else {
-        run_spans(alloc, &level.tasks, &level.jobs, &Edf, &windows, slots)?
+        run_spans(alloc, &level.tasks, &level.jobs, order, &windows, slots)?
     };
     let run = plain_run(alloc, level, is_server)?;
     Ok(Some(are_the_run(&spans, &run)))
@@ -191,8 +212,10 @@ fn spans_are_those_of_a_plain_program(rt: HostRuntime) -> Result<(), Fail> {
     for _ in 0..400 {
         let level = level_of(alloc, &mut from)?;
         for is_server in [false, true] {
-            if let Some(same) = agree(alloc, &level, is_server)? {
-                assert!(rt; same);
+            let by_keys = agree(alloc, &Edf, &level, is_server)?;
+            let without = agree(alloc, &WithoutKeys, &level, is_server)?;
+            if let (Some(same), Some(also)) = (by_keys, without) {
+                assert!(rt; same && also);
                 compared = compared.saturating_add(1);
             }
         }
