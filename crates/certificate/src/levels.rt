@@ -7,13 +7,13 @@ ghost use Rattle.certificate.specs.Made.{IsBackwardCover, AreLeastHits, ListsPas
 
 use edf_demand::horizon;
 use edf_test::cover;
-use fp_request::gather;
-use fp_test::{falls, hit_by};
+use fp_request::RankedLevel;
+use fp_test::{falls, hit_in};
 use miss_witness::witness;
 use slot_model::{Sched, Task};
 use std::alloc::{AllocError, Global};
 use supply_bound::{Periodic, Supply};
-use window_terms::Term;
+use window_terms::{KEPT, Term};
 
 /// The points and the hits that show that a level passes. `room` is for the terms of its tasks.
 pub fn pass_lists<S: Supply>(
@@ -32,7 +32,7 @@ pub fn pass_lists<S: Supply>(
 {
     match sched {
         Sched::Edf => Ok((points_of(alloc, tasks, s)?, Vec::new(alloc))),
-        _ => Ok((Vec::new(alloc), hits_of(alloc, room, sched, tasks, s)?)),
+        _ => Ok((Vec::new(alloc), hits_by(alloc, room, sched, tasks, s)?)),
     }
 }
 
@@ -50,8 +50,10 @@ fn points_of<S: Supply>(alloc: Global, tasks: &[Task], s: &S) -> Result<Vec<u128
     Ok(points)
 }
 
-/// The least hit of each task. `room` is for their terms.
-fn hits_of<S: Supply>(
+/// The least hit of each task. `room` is for their terms. It stands apart, since a function pays at
+/// its entry for all the room that it may need.
+#[inline(never)]
+fn hits_by<S: Supply>(
     alloc: Global,
     room: &mut [Term],
     sched: Sched,
@@ -65,11 +67,27 @@ fn hits_of<S: Supply>(
     ensures { let T = sporadic_tasks tasks.now in
         IfOk result (λ hits. AreLeastHits (ranks_above sched T) T (S.bound s.now) hits.items) }
 {
-    let count = gather(tasks, room);
-    let terms = &room[..count];
-    let mut hits = Vec::with_capacity(alloc, tasks.len())?;
-    for i in 0..tasks.len() as u32 {
-        hits.push(hit_by(sched, tasks, terms, i, s).unwrap())?;
+    let level = RankedLevel::gather(sched, tasks, room);
+    hits_of(alloc, &level, &mut [Term::none(); KEPT], s)
+}
+
+/// The same of a level. `above` is for the terms of the tasks above one.
+fn hits_of<S: Supply>(
+    alloc: Global,
+    level: &RankedLevel,
+    above: &mut [Term],
+    s: &S,
+) -> Result<Vec<u64>, AllocError>
+    requires few { length level.now.tasks.now < 2 ^ 32 }
+    requires all_hit { let T = sporadic_tasks level.now.tasks.now in
+        AllHit (ranks_above level.now.sched T) T (S.bound s.now) }
+    ensures { let T = sporadic_tasks level.now.tasks.now in
+        let above = ranks_above level.now.sched T in
+        IfOk result (λ hits. AreLeastHits above T (S.bound s.now) hits.items) }
+{
+    let mut hits = Vec::with_capacity(alloc, level.tasks.len())?;
+    for i in 0..level.tasks.len() as u32 {
+        hits.push(hit_in(level, i, above, s).unwrap())?;
     }
     Ok(hits)
 }

@@ -2,8 +2,8 @@ use Rattle.slot_model.specs.Task.{sporadic_tasks}
 use Rattle.slot_model.proofs.Budgets.{hits_of}
 use Rattle.certificate.proofs.levels.pass_lists.Goals as goal
 
-pub hits_of-requires : goal.hits_of-requires
-hits_of-requires g c =
+pub hits_by-requires : goal.hits_by-requires
+hits_by-requires g c =
     record {
       fixed = c.in_default.not-Edf;
       few = c.requires.few;
