@@ -1,4 +1,4 @@
-ghost use Rattle.std.specs.Prelude.{◌+◌, ◌^◌, ◌<◌, ◌≤◌, [], ◌∷◌, length, decimal, IfSome};
+ghost use Rattle.std.specs.Prelude.{◌+◌, ◌<◌, ◌≤◌, [], ◌∷◌, length, decimal, IfSome};
 ghost use Rattle.cert_reader.specs.Text.{quoted_number, Stands};
 
 /// The greatest number that takes one digit more within 128 bits, whichever digit it is.

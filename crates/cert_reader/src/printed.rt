@@ -1,7 +1,7 @@
-ghost use Rattle.std.specs.Prelude.{◌≡◌, ◌≤◌, length, Ok, IfSome};
+ghost use Rattle.std.specs.Prelude.{◌≡◌, Ok, IfSome};
 ghost use Rattle.cert_reader.specs.CertificateFile.{certificate_of};
 ghost use Rattle.cert_reader.specs.Document.{spelled_place};
-ghost use Rattle.cert_reader.specs.Printed.{kind_text, place_number, IsBelow, IsInRange, AreInRange};
+ghost use Rattle.cert_reader.specs.Printed.{kind_text, IsInRange, AreInRange};
 ghost use Rattle.cert_reader.specs.Text.{listed, witness_text, flag_text, place_text, node_text, Stands};
 
 use crate::listed::{numbers_from, points_from};

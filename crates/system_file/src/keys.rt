@@ -1,4 +1,4 @@
-ghost use Rattle.std.specs.Prelude.{◌≡◌, ℕ, ◌≤◌, pos, true, false, List, [], length, map, codes, bytes_eq, string_bytes, Option, Some, None, option_map, unwrap_or, IfOk, IfErr, IsOkAnd};
+ghost use Rattle.std.specs.Prelude.{◌≡◌, ℕ, ◌≤◌, pos, true, false, List, [], length, map, codes, bytes_eq, Option, Some, None, option_map, unwrap_or, IfOk, IfErr, IsOkAnd};
 ghost use Rattle.toml.specs.Data.{string, integer, array, table, get_member, as_table, as_array};
 ghost use Rattle.toml_items.specs.Item.{item_view, list_view, entries_view};
 ghost use Rattle.tree_model.specs.System.{IsGivenBudget};

@@ -1,20 +1,19 @@
-use Rattle.std.proofs.lemmas.Result.{err_from_is_err_and}
 use Rattle.serde_json.specs.View.{view}
+use Rattle.slot_model.proofs.HandedOn.{handed_on}
 use Rattle.cert_reader.proofs.TextBack.{text_spells}
 use Rattle.cert_reader.proofs.Texts.{file_none, file_spelled, file_fault}
 use Rattle.cert_reader.proofs.file.read_certificate.Goals as goal
 
 pub returns-in_err-top-clause-fault : goal.returns-in_err-top-clause-fault
 returns-in_err-top-clause-fault c =
-    let p = err_from_is_err_and c.from_residual.result c.from_residual.ensures.1 in
-    rw (p.1, p.2)
-    (λ memory. let told = c.in_err-top.ensures.fault memory in rw told.1 (file_none c.args.bytes.now told.0))
+    handed_on c.from_residual.result _ _ c.from_residual.ensures.1 (λ memory. let told = c.in_err-top.ensures.fault
+    memory in rw told.1 (file_none c.args.bytes.now told.0))
 
 pub returns-in_err-nodes-clause-fault : goal.returns-in_err-nodes-clause-fault
 returns-in_err-nodes-clause-fault c =
-    let p = err_from_is_err_and c.from_residual-in_err-nodes.result c.from_residual-in_err-nodes.ensures.1 in
-    rw (p.1, p.2) (λ memory. file_fault c.args.bytes.now (view c.in_ok-top.top) c.in_err-nodes.field-0.0
-    c.in_ok-top.ensures.ok (c.in_err-nodes.ensures.fault memory))
+    let step = c.from_residual-in_err-nodes in
+    handed_on step.result _ _ step.ensures.1 (λ memory. file_fault c.args.bytes.now (view c.in_ok-top.top)
+    c.in_err-nodes.field-0.0 c.in_ok-top.ensures.ok (c.in_err-nodes.ensures.fault memory))
 
 pub returns-clause-spelled : goal.returns-clause-spelled
 returns-clause-spelled c =
