@@ -6,7 +6,7 @@ ghost use Rattle.trace_commands.specs.Audit.{tracing};
 ghost use Rattle.trace_commands.specs.Tally.{TalliesBytes, the_tally};
 ghost use Rattle.command_steps.specs.Steps.{IfAnswered, EndsJudged};
 
-use crate::audit::{found, one_slot_each, refuse, status_of};
+use crate::audit::{checked, refuse, status_of};
 use auditor::{Tallied, tally_bytes};
 use command_steps::{Answer, Ending, JudgeTwo, assigned};
 use rt_report::tally_text;
@@ -38,8 +38,7 @@ impl JudgeTwo for Tally {
                 })
             }
             Err(refused) => {
-                let plan = one_slot_each(alloc, sys)?;
-                found(alloc, sys, &plan, bytes)?;
+                checked(alloc, sys, bytes)?;
                 Err(refused)
             }
         }
