@@ -1,16 +1,12 @@
-ghost use Rattle.std.specs.Prelude.{◌≡◌, ◌⊎◌, List, ℕ, IfOk, IfErr, refl};
-ghost use Rattle.csv_rows.specs.Reading.{records_of};
-ghost use Rattle.tree_model.specs.View.{SystemView};
+ghost use Rattle.std.specs.Prelude.{◌≡◌, IfOk, IfErr, refl};
 ghost use Rattle.tree_model.specs.Plans.{IsPlan};
-ghost use Rattle.trace_file.specs.declared.fault.TraceFault.TheVariants.{NoMemory};
-ghost use Rattle.trace_file.specs.File.{IsFileFault, rows_of};
 ghost use Rattle.auditor.specs.Finding.{IsFindingOf};
 ghost use Rattle.command_steps.specs.Attempt.{IsRefused};
 ghost use Rattle.trace_commands.specs.Audit.{tracing, finding_status, IsTrace, AuditsBytes, the_audit};
 ghost use Rattle.command_steps.specs.Steps.{IfAnswered, EndsJudged};
 
 use auditor::{Finding, audit_bytes};
-use command_steps::{Answer, Ending, JudgeTwo, Status, assigned, bad_file};
+use command_steps::{Answer, Ending, JudgeTwo, Status, assigned, second_fault};
 use rt_report::{FileFault, audit_text};
 use std::alloc::Global;
 use trace_file::{TraceFault, check_bytes};
@@ -61,7 +57,8 @@ fn found(alloc: Global, sys: &System, plan: &Plan, bytes: &[u8]) -> Result<Findi
 {
     match audit_bytes(alloc, sys, plan, bytes) {
         Ok(finding) => Ok(finding),
-        Err(fault) => Err(refuse(alloc, fault)),
+        Err(TraceFault::NoMemory) => Err(Ending::NoMemory),
+        Err(fault) => Err(second_fault(alloc, FileFault::Trace(fault))),
     }
 }
 
@@ -74,23 +71,8 @@ pub fn checked(alloc: Global, sys: &System, bytes: &[u8]) -> Result<(), Ending>
 {
     match check_bytes(alloc, sys, bytes) {
         Ok(()) => Ok(()),
-        Err(fault) => Err(refuse(alloc, fault)),
-    }
-}
-
-// The answer to a fault of the second file word.
-pub fn refuse(alloc: Global, fault: TraceFault) -> Ending
-    ensures refused { (sys : SystemView) (bytes : List ℕ)
-        → (fault ≡ NoMemory) ⊎ IsFileFault sys (rows_of (records_of bytes)) fault
-        → IfAnswered result (λ a. IsRefused (tracing sys bytes) a.status a.text.items) }
-    ensures judged { EndsJudged result }
-{
-    if fault == TraceFault::NoMemory {
-        return Ending::NoMemory;
-    }
-    match bad_file(alloc, FileFault::Trace(fault), 2) {
-        Ok(answer) => Ending::Answered(answer),
-        Err(_) => Ending::NoMemory,
+        Err(TraceFault::NoMemory) => Err(Ending::NoMemory),
+        Err(fault) => Err(second_fault(alloc, FileFault::Trace(fault))),
     }
 }
 
