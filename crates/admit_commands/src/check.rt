@@ -6,7 +6,7 @@ ghost use Rattle.command_steps.specs.Steps.{IfAnswered, EndsJudged};
 
 use cert_reader::{CertFault, read_certificate};
 use cert_verify::verify;
-use command_steps::{Answer, Ending, JudgeTwo, Status, bad_file};
+use command_steps::{Answer, Ending, JudgeTwo, Status, second_fault};
 use rt_report::{FileFault, check_text};
 use std::alloc::{AllocError, Global};
 use tree_model::{Certificate, System};
@@ -42,7 +42,7 @@ fn spelled_certificate(alloc: Global, bytes: &[u8]) -> Result<Certificate, Endin
     match read_certificate(alloc, bytes) {
         Ok(certificate) => Ok(certificate),
         Err(CertFault::NoMemory) => Err(Ending::NoMemory),
-        Err(fault) => Err(Ending::Answered(bad_file(alloc, FileFault::Cert(fault), 2)?)),
+        Err(fault) => Err(second_fault(alloc, FileFault::Cert(fault))),
     }
 }
 

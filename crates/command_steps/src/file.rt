@@ -4,7 +4,7 @@ ghost use Rattle.system_file.specs.SystemFile.{system_of};
 ghost use Rattle.rt_report.specs.Fault.{fault_text, IsFault};
 ghost use Rattle.command_steps.specs.Answer.{file_limit, OnSystem};
 ghost use Rattle.command_steps.specs.Reading.{read_of};
-ghost use Rattle.command_steps.specs.Steps.{counts_of, IfAnswered, IsQuiet, Explains, StepTakes, StopsAt, IsSpelled};
+ghost use Rattle.command_steps.specs.Steps.{counts_of, IfAnswered, IsQuiet, Explains, StepTakes, StopsAt, IsSpelled, EndsJudged};
 
 use crate::Status;
 use crate::answer::{Answer, Ending};
@@ -103,4 +103,17 @@ pub fn bad_file(alloc: Global, fault: FileFault, number: u32) -> Result<Answer, 
         status: Status::BadFile,
         text: fault_text(alloc, None, &fault, number)?,
     })
+}
+
+/// How a command ends whose second file word has a fault.
+pub fn second_fault(alloc: Global, fault: FileFault) -> Ending
+    requires { IsFault None fault }
+    ensures status { IfAnswered result (λ a. a.status ≡ Status.BadFile) }
+    ensures text { IfAnswered result (λ a. a.text.items ≡ fault_text None fault 2) }
+    ensures judged { EndsJudged result }
+{
+    match bad_file(alloc, fault, 2) {
+        Ok(answer) => Ending::Answered(answer),
+        Err(_) => Ending::NoMemory,
+    }
 }

@@ -7,7 +7,7 @@ ghost use Rattle.command_steps.specs.Attempt.{IsRefused};
 ghost use Rattle.host_commands.specs.Place.{guesting, placing, IsPlacement, IsSystemText, PlacesBytes, the_place};
 ghost use Rattle.command_steps.specs.Steps.{IfAnswered, IsJudged, EndsJudged};
 
-use command_steps::{Answer, Ending, JudgeTwo, Status, bad_file, refuse};
+use command_steps::{Answer, Ending, JudgeTwo, Status, refuse, second_fault};
 use placement::{PlaceFault, place};
 use rt_report::{FileFault, unplaced_text};
 use script_file::{GuestFault, ScriptFault, read_guests};
@@ -48,12 +48,8 @@ fn spelled_guests(alloc: Global, bytes: &[u8]) -> Result<Vec<Part>, Ending>
     match read_guests(alloc, bytes) {
         Ok(guests) => Ok(guests),
         Err(GuestFault::Script(ScriptFault::NoMemory)) => Err(Ending::NoMemory),
-        Err(GuestFault::Script(fault)) => {
-            Err(Ending::Answered(bad_file(alloc, FileFault::Script(fault), 2)?))
-        }
-        Err(GuestFault::Other(row)) => {
-            Err(Ending::Answered(bad_file(alloc, FileFault::BadGuest(row), 2)?))
-        }
+        Err(GuestFault::Script(fault)) => Err(second_fault(alloc, FileFault::Script(fault))),
+        Err(GuestFault::Other(row)) => Err(second_fault(alloc, FileFault::BadGuest(row))),
     }
 }
 
@@ -74,7 +70,7 @@ fn placed(alloc: Global, sys: &System, guests: &[Part]) -> Result<System, Ending
         }
         Err(PlaceFault::BadGuest(i)) => {
             let row = u64::from(i) + 2;
-            Err(Ending::Answered(bad_file(alloc, FileFault::BadGuest(row), 2)?))
+            Err(second_fault(alloc, FileFault::BadGuest(row)))
         }
         Err(PlaceFault::Unplaced(i)) => Err(Ending::Answered(Answer {
             status: Status::No,

@@ -1,9 +1,8 @@
-ghost use Rattle.std.specs.Prelude.{◌≡◌, ◌⊎◌, List, ℕ, IfOk, IfErr, refl};
+ghost use Rattle.std.specs.Prelude.{◌≡◌, IfOk, IfErr, refl};
 ghost use Rattle.csv_rows.specs.Reading.{records_of};
 ghost use Rattle.tree_model.specs.Admission.{FirstRefusal};
 ghost use Rattle.admission_session.specs.Answers.{IsAdmitted};
-ghost use Rattle.script_file.specs.declared.fault.ScriptFault.TheVariants.{NoMemory};
-ghost use Rattle.script_file.specs.Script.{IsScriptFault, SpellsScript, script_rows};
+ghost use Rattle.script_file.specs.Script.{SpellsScript};
 ghost use Rattle.command_steps.specs.Attempt.{IsRefused};
 ghost use Rattle.command_steps.specs.Budgets.{composing};
 ghost use Rattle.host_commands.specs.Session.{scripting, EditsBytes, the_session};
@@ -11,7 +10,7 @@ ghost use Rattle.command_steps.specs.Steps.{ending_of, IfAnswered, IsJudged, End
 
 use crate::editing::edit_all;
 use admission_session::{Row, Session, copy_system};
-use command_steps::{Answer, Ending, JudgeTwo, Status, bad_file, refuse};
+use command_steps::{Answer, Ending, JudgeTwo, Status, refuse, second_fault};
 use rt_report::FileFault;
 use script_file::{ScriptFault, read_script};
 use std::alloc::{AllocError, Global};
@@ -59,7 +58,8 @@ fn edited(alloc: Global, sys: &System, opened: Session, bytes: &[u8]) -> Result<
             status: Status::Yes,
             text,
         }),
-        Err(fault) => Err(refuse_script(alloc, fault)),
+        Err(ScriptFault::NoMemory) => Err(Ending::NoMemory),
+        Err(fault) => Err(second_fault(alloc, FileFault::Script(fault))),
     }
 }
 
@@ -72,23 +72,8 @@ fn spelled_script(alloc: Global, bytes: &[u8]) -> Result<Vec<Row>, Ending>
 {
     match read_script(alloc, bytes) {
         Ok(rows) => Ok(rows),
-        Err(fault) => Err(refuse_script(alloc, fault)),
-    }
-}
-
-// The answer to a fault of the second file word.
-fn refuse_script(alloc: Global, fault: ScriptFault) -> Ending
-    ensures refused { (bytes : List ℕ)
-        → (fault ≡ NoMemory) ⊎ IsScriptFault (script_rows (records_of bytes)) fault
-        → IfAnswered result (λ a. IsRefused (scripting bytes) a.status a.text.items) }
-    ensures judged { EndsJudged result }
-{
-    if fault == ScriptFault::NoMemory {
-        return Ending::NoMemory;
-    }
-    match bad_file(alloc, FileFault::Script(fault), 2) {
-        Ok(answer) => Ending::Answered(answer),
-        Err(_) => Ending::NoMemory,
+        Err(ScriptFault::NoMemory) => Err(Ending::NoMemory),
+        Err(fault) => Err(second_fault(alloc, FileFault::Script(fault))),
     }
 }
 

@@ -1,3 +1,2 @@
-mod SlotEach
 pub mod Laws
 mod Examples

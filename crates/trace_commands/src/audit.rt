@@ -1,20 +1,15 @@
-ghost use Rattle.std.specs.Prelude.{◌≡◌, ◌⊎◌, List, ℕ, IfOk, IfErr, refl};
-ghost use Rattle.csv_rows.specs.Reading.{records_of};
-ghost use Rattle.tree_model.specs.View.{SystemView};
+ghost use Rattle.std.specs.Prelude.{◌≡◌, IfOk, IfErr, refl};
 ghost use Rattle.tree_model.specs.Plans.{IsPlan};
-ghost use Rattle.tree_model.specs.System.{IsSystem};
-ghost use Rattle.trace_file.specs.declared.fault.TraceFault.TheVariants.{NoMemory};
-ghost use Rattle.trace_file.specs.File.{IsFileFault, rows_of};
 ghost use Rattle.auditor.specs.Finding.{IsFindingOf};
 ghost use Rattle.command_steps.specs.Attempt.{IsRefused};
-ghost use Rattle.trace_commands.specs.Audit.{tracing, finding_status, AuditsBytes, the_audit};
+ghost use Rattle.trace_commands.specs.Audit.{tracing, finding_status, IsTrace, AuditsBytes, the_audit};
 ghost use Rattle.command_steps.specs.Steps.{IfAnswered, EndsJudged};
 
 use auditor::{Finding, audit_bytes};
-use command_steps::{Answer, Ending, JudgeTwo, Status, assigned, bad_file};
+use command_steps::{Answer, Ending, JudgeTwo, Status, assigned, second_fault};
 use rt_report::{FileFault, audit_text};
-use std::alloc::{AllocError, Global};
-use trace_file::TraceFault;
+use std::alloc::Global;
+use trace_file::{TraceFault, check_bytes};
 use tree_model::{Plan, System};
 
 /// `audit FILE TRACE`: whether the trace gives each VCPU its budget in every period throughout
@@ -44,8 +39,7 @@ impl JudgeTwo for Audit {
                 })
             }
             Err(refused) => {
-                let plan = one_slot_each(alloc, sys)?;
-                found(alloc, sys, &plan, bytes)?;
+                checked(alloc, sys, bytes)?;
                 Err(refused)
             }
         }
@@ -54,7 +48,7 @@ impl JudgeTwo for Audit {
 
 // What is found of the trace that the bytes of the second file word spell. It stops where they are
 // refused.
-pub fn found(alloc: Global, sys: &System, plan: &Plan, bytes: &[u8]) -> Result<Finding, Ending>
+fn found(alloc: Global, sys: &System, plan: &Plan, bytes: &[u8]) -> Result<Finding, Ending>
     requires { IsPlan sys.now plan.now }
     ensures found { IfOk result (IsFindingOf sys.now plan.now bytes.now) }
     ensures refused { IfErr result (λ stop. IfAnswered stop (λ a.
@@ -63,34 +57,22 @@ pub fn found(alloc: Global, sys: &System, plan: &Plan, bytes: &[u8]) -> Result<F
 {
     match audit_bytes(alloc, sys, plan, bytes) {
         Ok(finding) => Ok(finding),
-        Err(fault) => Err(refuse(alloc, fault)),
+        Err(TraceFault::NoMemory) => Err(Ending::NoMemory),
+        Err(fault) => Err(second_fault(alloc, FileFault::Trace(fault))),
     }
 }
 
-#[tactic(auto, using(crate::proofs::SlotEach::is_plan))]
-// A budget of one slot for each part: enough to look for the faults of a trace.
-pub fn one_slot_each(alloc: Global, sys: &System) -> Result<Plan, AllocError>
-    ensures plan { IfOk result (IsPlan sys.now) }
-    ensures system { IsSystem sys.now }
+// That the bytes of the second file word spell a trace. It stops where they are refused.
+pub fn checked(alloc: Global, sys: &System, bytes: &[u8]) -> Result<(), Ending>
+    ensures spelled { IfOk result (λ done. IsTrace sys.now bytes.now) }
+    ensures refused { IfErr result (λ stop. IfAnswered stop (λ a.
+        IsRefused (tracing sys.now bytes.now) a.status a.text.items)) }
+    ensures judged { IfErr result (λ stop. EndsJudged stop) }
 {
-    Ok(Plan {
-        budgets: vec![in alloc; 1; sys.parts().len()]?,
-    })
-}
-
-// The answer to a fault of the second file word.
-pub fn refuse(alloc: Global, fault: TraceFault) -> Ending
-    ensures refused { (sys : SystemView) (bytes : List ℕ)
-        → (fault ≡ NoMemory) ⊎ IsFileFault sys (rows_of (records_of bytes)) fault
-        → IfAnswered result (λ a. IsRefused (tracing sys bytes) a.status a.text.items) }
-    ensures judged { EndsJudged result }
-{
-    if fault == TraceFault::NoMemory {
-        return Ending::NoMemory;
-    }
-    match bad_file(alloc, FileFault::Trace(fault), 2) {
-        Ok(answer) => Ending::Answered(answer),
-        Err(_) => Ending::NoMemory,
+    match check_bytes(alloc, sys, bytes) {
+        Ok(()) => Ok(()),
+        Err(TraceFault::NoMemory) => Err(Ending::NoMemory),
+        Err(fault) => Err(second_fault(alloc, FileFault::Trace(fault))),
     }
 }
 

@@ -12,7 +12,7 @@ ghost use Rattle.trace_commands.specs.Rtds.{waking, running, RunsBytes, the_rtds
 ghost use Rattle.command_steps.specs.Steps.{IfAnswered, EndsJudged};
 
 use crate::slots::Slots;
-use command_steps::{Answer, Ending, JudgeTwo, Status, assigned, bad_file};
+use command_steps::{Answer, Ending, JudgeTwo, Status, assigned, second_fault};
 use release_file::{ReleaseFault, Wake, read_workload};
 use rt_report::{FileFault, fault_text};
 use rtds_sim::{RtdsFault, print_rtds};
@@ -59,7 +59,7 @@ fn spelled_workload(alloc: Global, sys: &System, bytes: &[u8]) -> Result<Vec<Wak
     match read_workload(alloc, sys, bytes) {
         Ok(wakes) => Ok(wakes),
         Err(ReleaseFault::NoMemory) => Err(Ending::NoMemory),
-        Err(fault) => Err(Ending::Answered(bad_file(alloc, FileFault::Release(fault), 2)?)),
+        Err(fault) => Err(second_fault(alloc, FileFault::Release(fault))),
     }
 }
 

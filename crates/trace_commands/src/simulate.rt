@@ -10,7 +10,7 @@ ghost use Rattle.trace_commands.specs.Simulate.{releasing, kept_status, IsSimula
 ghost use Rattle.command_steps.specs.Steps.{IfAnswered, EndsJudged};
 
 use crate::slots::Slots;
-use command_steps::{Answer, Ending, JudgeTwo, Status, assigned, bad_file};
+use command_steps::{Answer, Ending, JudgeTwo, Status, assigned, second_fault};
 use release_file::{ReleaseFault, read_releases};
 use rt_report::{FileFault, counts_text};
 use server_sched::{Pattern, core_supplies, count_tree};
@@ -58,7 +58,7 @@ fn spelled_releases(alloc: Global, sys: &System, bytes: &[u8]) -> Result<Vec<Vec
     match read_releases(alloc, sys, bytes) {
         Ok(jobs) => Ok(jobs),
         Err(ReleaseFault::NoMemory) => Err(Ending::NoMemory),
-        Err(fault) => Err(Ending::Answered(bad_file(alloc, FileFault::Release(fault), 2)?)),
+        Err(fault) => Err(second_fault(alloc, FileFault::Release(fault))),
     }
 }
 

@@ -6,11 +6,12 @@ ghost use Rattle.trace_commands.specs.Audit.{tracing};
 ghost use Rattle.trace_commands.specs.Tally.{TalliesBytes, the_tally};
 ghost use Rattle.command_steps.specs.Steps.{IfAnswered, EndsJudged};
 
-use crate::audit::{found, one_slot_each, refuse, status_of};
+use crate::audit::{checked, status_of};
 use auditor::{Tallied, tally_bytes};
-use command_steps::{Answer, Ending, JudgeTwo, assigned};
-use rt_report::tally_text;
+use command_steps::{Answer, Ending, JudgeTwo, assigned, second_fault};
+use rt_report::{FileFault, tally_text};
 use std::alloc::Global;
+use trace_file::TraceFault;
 use tree_model::{Plan, System};
 
 /// `tally FILE TRACE`: what `audit` answers, and what is counted of each VCPU.
@@ -38,8 +39,7 @@ impl JudgeTwo for Tally {
                 })
             }
             Err(refused) => {
-                let plan = one_slot_each(alloc, sys)?;
-                found(alloc, sys, &plan, bytes)?;
+                checked(alloc, sys, bytes)?;
                 Err(refused)
             }
         }
@@ -58,6 +58,7 @@ fn tallied(alloc: Global, sys: &System, plan: &Plan, bytes: &[u8]) -> Result<Tal
 {
     match tally_bytes(alloc, sys, plan, bytes) {
         Ok(tallied) => Ok(tallied),
-        Err(fault) => Err(refuse(alloc, fault)),
+        Err(TraceFault::NoMemory) => Err(Ending::NoMemory),
+        Err(fault) => Err(second_fault(alloc, FileFault::Trace(fault))),
     }
 }
