@@ -17,7 +17,7 @@ use Rattle.trace_file.specs.File.{Spells}
 use Rattle.trace_printer.specs.Printing.{printed_rows}
 use Rattle.release_file.specs.declared.workload.Wake.{Wake}
 use Rattle.rtds_sim.specs.Rtds.{RtdsRun}
-use Rattle.rtds_sim.specs.Giving.{AlwaysRunnable, ServersFit, GivesBudgets, NoneOver}
+use Rattle.rtds_sim.specs.Giving.{AlwaysRunnable, ServersFit, AlwaysServed, GivesBudgets, NeverOver, NoneOver}
 use Rattle.trace_commands.specs.Rtds.{IsTraceOf, TellsRun}
 
 -- faults of the trace
@@ -38,8 +38,14 @@ what_a_trace_says : (sys : SystemView) (budgets : List ℕ) (wakes : List Wake) 
     → TellsRun sys budgets wakes slots text →
     (events : List Event) × IsTraceOf sys budgets wakes slots events × (text ≡ text_of (printed_rows sys events))
     × Spells sys (records_of text) events × NoneOver sys budgets events
+    × (AlwaysServed sys budgets wakes → Satisfied sys budgets events)
 what_a_trace_says sys budgets wakes slots text told =
-    (told.events, told.trace, told.told, told.reads_back, told.none_over)
+    (told.events, told.trace, told.told, told.reads_back, told.none_over, told.served)
+
+what_no_core_gives : (sys : SystemView) (budgets : List ℕ) (wakes : List Wake) (slots : ℕ) (text : List ℕ)
+    (runs : List (List (Option ℕ))) (c : ℕ) → TellsRun sys budgets wakes slots text
+    → RtdsRun sys budgets wakes slots runs → c < length sys.cores → NeverOver sys budgets wakes (run_at runs c)
+what_no_core_gives sys budgets wakes slots text runs c told = told.never_over runs c
 
 a_core_that_gives : (sys : SystemView) (budgets : List ℕ) (wakes : List Wake) (slots : ℕ) (text : List ℕ)
     (runs : List (List (Option ℕ))) (c : ℕ) → TellsRun sys budgets wakes slots text

@@ -17,7 +17,7 @@ use Rattle.system_file.specs.SystemFile.{system_of}
 use Rattle.rtds_sim.specs.Rtds.{RtdsRun}
 use Rattle.rtds_sim.specs.Printed.{IsRtdsTrace}
 use Rattle.rtds_sim.specs.Fault.{AllRtds, IsFirstOther}
-use Rattle.rtds_sim.specs.Giving.{AlwaysRunnable, ServersFit, GivesBudgets, NoneOver}
+use Rattle.rtds_sim.specs.Giving.{AlwaysRunnable, ServersFit, AlwaysServed, GivesBudgets, NeverOver, NoneOver}
 use Rattle.rt_report.specs.declared.fault.FileFault.TheVariants.{Release, NotRtds}
 use Rattle.rt_report.specs.Fault.{fault_text}
 use Rattle.command_steps.specs.declared.status.Status.{Status}
@@ -79,9 +79,10 @@ pub record IsServed (sys : SystemView) (budgets : List ℕ) (wakes : List Wake) 
   pub runnable : (c : ℕ) → c < length sys.cores → AlwaysRunnable sys wakes c
 
 -- Yes means: the text tells the trace of the one run of the workload under these budgets, and is
--- read back as its events. No VCPU without extra time has more than its budget in a period. Where a
--- core's servers pass its test, and its VCPUs never block, each of them has its budget in each
--- period, whenever each starts; and where that is so on all cores, no period is short or over.
+-- read back as its events. No VCPU without extra time has more than its budget in a period, in the
+-- trace and in the run. Where a core's servers pass its test, and its VCPUs never block, each of
+-- them has its budget in each period, whenever each starts; and where that is so on all cores, no
+-- period in the trace is short or over, so also where the system is admitted and no VCPU blocks.
 pub record TellsRun (sys : SystemView) (budgets : List ℕ) (wakes : List Wake) (slots : ℕ)
     (text : List ℕ) : Type 0 where
   pub events : List Event
@@ -89,9 +90,13 @@ pub record TellsRun (sys : SystemView) (budgets : List ℕ) (wakes : List Wake) 
   pub told : text ≡ text_of (printed_rows sys events)
   pub reads_back : Spells sys (records_of text) events
   pub none_over : NoneOver sys budgets events
+  pub never_over : (runs : List (List (Option ℕ))) (c : ℕ) →
+      RtdsRun sys budgets wakes slots runs → c < length sys.cores →
+      NeverOver sys budgets wakes (run_at runs c)
   pub gives : (runs : List (List (Option ℕ))) (c : ℕ) → RtdsRun sys budgets wakes slots runs →
       c < length sys.cores → AlwaysRunnable sys wakes c → ServersFit sys budgets c →
       GivesBudgets sys budgets wakes slots c (run_at runs c)
+  pub served : AlwaysServed sys budgets wakes → Satisfied sys budgets events
   pub satisfied : IsServed sys budgets wakes → Satisfied sys budgets events
 
 abbrev pub RunMeans : ℕ → Contents → Status → List ℕ → Type 0

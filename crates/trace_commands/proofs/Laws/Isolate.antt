@@ -1,35 +1,31 @@
 -- What `isolate` answers: one thing, its statuses, and what it means.
-use Rattle.std.proofs.Common.{◌≡◌, ℕ, ◌<◌, Bool, true, false, cond, List, length, Ok, refl, sym, ◌∙◌, ap, subst, inl, inr, ltb-true}
-use Rattle.std.specs.Prelude.{All, nat_lt}
+use Rattle.std.proofs.Common.{◌≡◌, ℕ, ◌<◌, Bool, true, false, cond, List, length, refl, sym, ◌∙◌, subst, inl, inr, ltb-true}
+use Rattle.std.specs.Prelude.{nat_lt}
 use Rattle.std.proofs.lemmas.Bool.{and_parts, both_ways}
-use Rattle.tree_model.specs.declared.place.Place.TheVariants.{Core}
 use Rattle.tree_model.specs.View.{SystemView}
 use Rattle.tree_model.specs.System.{part_at, IsSystem}
-use Rattle.tree_model.specs.Tree.{is_child}
 use Rattle.tree_model.specs.Plans.{IsPlan}
 use Rattle.tree_model.specs.Admission.{Admitted}
 use Rattle.tree_model.proofs.InRange.{assigned_is_plan}
 use Rattle.trace_file.specs.Rules.{is_core, is_vcpu}
 use Rattle.rtds_sim.specs.Rtds.{is_rtds}
 use Rattle.rtds_sim.specs.Fault.{AllRtds, IsFirstOther}
-use Rattle.rtds_sim.specs.Giving.{ServersFit}
 use Rattle.rtds_sim.proofs.Keeping.{OnCore, vcpu_core}
 use Rattle.isolation.specs.declared.isolation.Isolation.{Isolation}
 use Rattle.isolation.specs.declared.isolation.Isolation.TheVariants.{Isolated, ByTies, ByBlock}
 use Rattle.isolation.specs.declared.vcpus.PartIsolation.{PartIsolation}
 use Rattle.isolation.specs.Answer.{IsIsolation, Means, MeansInTrace}
-use Rattle.isolation.specs.Answers.{own_core, AreIsolations, are_isolated}
+use Rattle.isolation.specs.Answers.{own_core, are_isolated}
 use Rattle.isolation.proofs.Exposed.{means, means_in_trace}
 use Rattle.isolation.proofs.Listed.{each_vcpu}
 use Rattle.isolation.proofs.OneIsolation.{one_list_of_isolations}
-use Rattle.system_file.specs.SystemFile.{system_of}
 use Rattle.rt_report.specs.Isolation.{isolation_text}
 use Rattle.command_steps.specs.declared.status.Status.{Status}
 use Rattle.command_steps.specs.declared.status.Status.TheVariants.{Yes, No, Wide, BadFile}
-use Rattle.command_steps.specs.Answer.{Contents, IsOne, IsReadable}
+use Rattle.command_steps.specs.Answer.{IsOne}
 use Rattle.command_steps.specs.Attempt.{OnAttempt}
 use Rattle.command_steps.specs.Budgets.{composing}
-use Rattle.trace_commands.specs.Isolate.{the_isolate, isolating, isolation_status, IsolatesAll, IsToldIsolation, IsolatesSystem, LineMeans, TellsIsolations, IsolationsMean}
+use Rattle.trace_commands.specs.Isolate.{the_isolate, isolating, IsolatesAll, IsToldIsolation, IsolatesSystem, LineMeans, TellsIsolations, IsolationsMean}
 use Rattle.trace_commands.specs.Rtds.{IsVerdictOfRun}
 use Rattle.command_steps.specs.Steps.{IsJudged}
 use Rattle.command_steps.proofs.Attempt.{IsDecided, one_attempt, statuses_attempt}

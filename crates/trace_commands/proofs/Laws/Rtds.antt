@@ -1,5 +1,5 @@
 -- What `rtds` answers: one thing, its statuses, and what it means.
-use Rattle.std.proofs.Common.{◌≡◌, ℕ, ◌<◌, ◌≤◌, true, List, length, Option, Some, None, Ok, refl, sym, ◌∙◌, ap, subst, arith, inl, inr}
+use Rattle.std.proofs.Common.{◌≡◌, ℕ, ◌<◌, ◌≤◌, true, List, length, Option, Some, None, Ok, refl, sym, ◌∙◌, subst, arith, inl, inr}
 use Rattle.std.proofs.lemmas.Bool.{and_parts, both_ways, cases_lt, false≢true}
 use Rattle.csv_rows.specs.Reading.{records_of}
 use Rattle.slot_model.specs.declared.sched.Sched.{Sched}
@@ -13,7 +13,6 @@ use Rattle.tree_model.specs.Plans.{IsPlan}
 use Rattle.tree_model.specs.Admission.{Admitted}
 use Rattle.tree_model.proofs.InRange.{assigned_is_plan}
 use Rattle.trace_file.specs.declared.event.Event.{Event}
-use Rattle.trace_file.specs.Periods.{Satisfied}
 use Rattle.release_file.specs.declared.workload.Wake.{Wake}
 use Rattle.release_file.specs.Workload.{IsWorkload}
 use Rattle.release_file.specs.WorkloadFile.{wake_rows}
@@ -21,12 +20,9 @@ use Rattle.release_file.proofs.OneWorkload.{one_workload, no_workload_fault, one
 use Rattle.release_file.proofs.SpeltWorkload.{spelt_workload}
 use Rattle.system_file.specs.SystemFile.{system_of}
 use Rattle.rtds_sim.specs.Rtds.{is_full, is_edf, is_rtds}
-use Rattle.rtds_sim.specs.Printed.{printed}
 use Rattle.rtds_sim.specs.Fault.{AllRtds, IsFirstOther}
-use Rattle.rtds_sim.specs.Giving.{AlwaysServed, ServersFit, NoneOver}
-use Rattle.rtds_sim.proofs.Runs.{rtds_unique}
-use Rattle.rtds_sim.proofs.Giving.{gives_budgets}
-use Rattle.rtds_sim.proofs.Traced.{satisfied, none_over}
+use Rattle.rtds_sim.specs.Giving.{AlwaysServed, ServersFit}
+use Rattle.rtds_sim.proofs.RunTraces.{each_gives, each_never_over, trace_of, trace_none_over, trace_satisfied}
 use Rattle.command_steps.specs.declared.status.Status.{Status}
 use Rattle.command_steps.specs.declared.status.Status.TheVariants.{Yes, BadFile}
 use Rattle.command_steps.specs.Answer.{Contents, IsOne, IsReadable}
@@ -55,9 +51,7 @@ RunsWakes slots sys wakes = OnAssigned sys (λ budgets. OnAttempt (running sys b
 one_trace : (sys : SystemView) (budgets : List ℕ) (wakes : List Wake) (slots : ℕ) (x y : List Event)
     → IsTraceOf sys budgets wakes slots x → IsTraceOf sys budgets wakes slots y → x ≡ y
 one_trace sys budgets wakes slots x y p q =
-    p.trace.2
-    ∙ (ap (λ (runs : List (List (Option ℕ))). printed sys wakes runs slots)
-    (rtds_unique sys budgets wakes slots p.trace.0 q.trace.0 p.trace.1 q.trace.1) ∙ sym q.trace.2)
+    trace_of sys budgets wakes slots x p.trace q.trace.0 q.trace.1 ∙ sym q.trace.2
 
 pub one_other : (sys : SystemView) (c d : ℕ) → IsFirstOther sys c → IsFirstOther sys d → c ≡ d
 one_other sys c d p q = elim (cases_lt c d) [
@@ -146,14 +140,13 @@ tells_run sys is budgets plan wakes workload slots few events status text trace 
   trace = trace;
   told = printed_is.told;
   reads_back = printed_is.reads_back;
-  none_over =
-      subst (λ (es : List Event). NoneOver sys budgets es) (sym trace.trace.2)
-      (none_over sys is budgets plan wakes workload slots trace.trace.0 trace.trace.1 (omega (arith, few)));
-  gives = λ runs c run l always fit. gives_budgets sys budgets plan wakes workload slots c _ (run.cores c l) always fit;
+  none_over = trace_none_over sys is budgets plan wakes workload slots few events trace.trace;
+  never_over = each_never_over sys budgets plan wakes slots;
+  gives = each_gives sys budgets plan wakes workload slots;
+  served = trace_satisfied sys is budgets plan wakes workload slots few events trace.trace;
   satisfied =
-      λ h. subst (λ (es : List Event). Satisfied sys budgets es) (sym trace.trace.2)
-      (satisfied sys is budgets plan wakes workload slots trace.trace.0 trace.trace.1 (omega (arith, few))
-      (served sys budgets wakes trace.all h));
+      λ h. trace_satisfied sys is budgets plan wakes workload slots few events trace.trace
+      (served sys budgets wakes trace.all h);
 }
 
 printed_tells : (sys : SystemView) → IsSystem sys → (budgets : List ℕ) → IsPlan sys budgets → (wakes : List Wake)
