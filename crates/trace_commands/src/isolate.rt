@@ -1,4 +1,4 @@
-ghost use Rattle.std.specs.Prelude.{◌≡◌, IfOk, IfErr, refl};
+ghost use Rattle.std.specs.Prelude.{◌≡◌, List, ℕ, IfOk, IfErr, refl};
 ghost use Rattle.tree_model.specs.Plans.{IsPlan};
 ghost use Rattle.command_steps.specs.Attempt.{IsRefused};
 ghost use Rattle.trace_commands.specs.Isolate.{IsolatesAll, IsolatesSystem, isolating, isolation_status, the_isolate};
