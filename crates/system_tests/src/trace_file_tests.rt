@@ -1,7 +1,7 @@
 use crate::helpers::{MEMORY, system_of};
 use std::alloc::Global;
 use std::process::Abort;
-use trace_file::{Event, TraceFault, What, check_events, read_trace};
+use trace_file::{Event, TraceFault, What, check_bytes, check_events, read_trace};
 use trace_printer::print_trace;
 use tree_model::System;
 
@@ -86,6 +86,10 @@ fn both_versions_tell_the_same(rt: HostRuntime) {
             check_events(alloc, &sys, trace.events()) == Ok(()),
             "{text}"
         );
+        assert!(rt;
+            check_bytes(alloc, &sys, text.as_bytes()) == Ok(()),
+            "{text}"
+        );
     }
 }
 
@@ -95,4 +99,7 @@ fn the_first_fault_is_told(rt: HostRuntime) {
     let sys = system_of(&rt, rt.alloc(), HOST);
     let refused = read_trace(rt.alloc(), &sys, b"at,core,what\n").err();
     assert!(rt; refused == Some(TraceFault::BadHeader));
+    let early = b"at,core,what,vcpu\n0,cpu0,run,A\n1,,end,\n";
+    let checked = check_bytes(rt.alloc(), &sys, early);
+    assert!(rt; checked == Err(TraceFault::NotStarted(2)));
 }
