@@ -1,7 +1,6 @@
-ghost use Rattle.std.specs.Prelude.{◌≡◌, ◌⊎◌, ◌<◌, ◌^◌, true, IsTrue, map, length, IfOk, IfErr, MatchOption};
+ghost use Rattle.std.specs.Prelude.{◌≡◌, ◌⊎◌, ◌<◌, ◌^◌, true, map, length, IfOk, IfErr, MatchOption};
 ghost use Rattle.std.specs.List.{list_all};
 ghost use Rattle.csv_rows.specs.Reading.{records_of};
-ghost use Rattle.admission_session.specs.RowView.{RowView};
 ghost use Rattle.script_file.specs.declared.fault.ScriptFault.TheVariants.{NoMemory};
 ghost use Rattle.script_file.specs.Guests.{SpellsGuests, IsGuestFault, IsFirstOther, guest_of, is_guest};
 

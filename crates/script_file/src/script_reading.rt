@@ -21,11 +21,9 @@ pub fn read_header(records: &mut Records) -> Result<(), ScriptFault>
         ⊎ ((fault ≡ BadHeader) × (script_rows (records_of text) ≡ None))) }
     ensures takes_any { OnOk result (IsOpen records.new) }
 {
-    match records.advance() {
-        Ok(true) => {}
-        Ok(false) => return Err(ScriptFault::BadHeader),
-        Err(_) => return Err(ScriptFault::NoMemory),
-    }
+    let Ok(()) = records.read_header() else {
+        return Err(ScriptFault::NoMemory);
+    };
     if !is_script_header(&records.row()) {
         return Err(ScriptFault::BadHeader);
     }

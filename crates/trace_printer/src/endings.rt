@@ -1,5 +1,5 @@
-ghost use Rattle.std.specs.Prelude.{◌≡◌, ◌∷◌, ◌++◌, [], decimal, IfOk, IfSome, OnOk, List, ℕ};
-ghost use Rattle.csv_rows.specs.Printing.{HasWritten, text_of};
+ghost use Rattle.std.specs.Prelude.{◌≡◌, ◌∷◌, ◌++◌, [], decimal, IfOk, IfSome, OnOk};
+ghost use Rattle.csv_rows.specs.Printing.{text_of};
 ghost use Rattle.trace_printer.specs.inner.Endings.{FitsWord, IsEnding, ending_text};
 ghost use Rattle.trace_printer.specs.Printing.{word_of, core_field, vcpu_field};
 ghost use Rattle.trace_file.specs.Rules.{named};

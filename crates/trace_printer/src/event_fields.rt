@@ -1,4 +1,4 @@
-ghost use Rattle.std.specs.Prelude.{◌≡◌, ◌<◌, [], true, false, Some, length, ℕ};
+ghost use Rattle.std.specs.Prelude.{◌≡◌, ◌<◌, false, Some, length, ℕ};
 ghost use Rattle.trace_file.specs.Events.{is_end};
 ghost use Rattle.trace_file.specs.File.{is_empty};
 ghost use Rattle.trace_printer.specs.Printing.{first_field, word_of, core_field, vcpu_field};

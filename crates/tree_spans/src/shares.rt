@@ -1,4 +1,4 @@
-ghost use Rattle.std.specs.Prelude.{◌≡◌, ◌<◌, length, map, IfOk};
+ghost use Rattle.std.specs.Prelude.{◌<◌, length, map, IfOk};
 ghost use Rattle.slot_model.specs.Miss.{AreNamed, HoldsReleased};
 ghost use Rattle.slot_model.specs.Task.{sporadic_tasks};
 ghost use Rattle.guest_sched.specs.Spans.{AreSpans, run_of};
