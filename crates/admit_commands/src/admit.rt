@@ -1,4 +1,4 @@
-ghost use Rattle.std.specs.Prelude.{List, ℕ, refl};
+ghost use Rattle.std.specs.Prelude.{refl};
 ghost use Rattle.admit_commands.specs.Admit.{AdmitsSystem, the_admit};
 
 use command_steps::{Answer, Ending, JudgeOne, Status, refuse};

@@ -1,4 +1,4 @@
-ghost use Rattle.std.specs.Prelude.{◌≡◌, List, ℕ, Ok, IfOk, IfErr, refl};
+ghost use Rattle.std.specs.Prelude.{◌≡◌, Ok, IfOk, IfErr, refl};
 ghost use Rattle.cert_reader.specs.CertificateFile.{certificate_of};
 ghost use Rattle.command_steps.specs.Attempt.{IsRefused};
 ghost use Rattle.admit_commands.specs.Check.{spelling, ChecksNodes, ChecksBytes, the_check};

@@ -1,7 +1,7 @@
 -- The leaf that a command finds by its name.
-use Rattle.std.specs.Prelude.{◌≡◌, ℕ, ◌<◌, true, List, length, Ok, None}
+use Rattle.std.specs.Prelude.{◌≡◌, ℕ, List, Ok, None}
 use Rattle.tree_model.specs.View.{SystemView}
-use Rattle.tree_model.specs.System.{part_at, is_leaf_at}
+use Rattle.tree_model.specs.NamedLeaf.{IsLeafNamed}
 use Rattle.system_file.specs.SystemFile.{system_of}
 use Rattle.rt_report.specs.declared.fault.FileFault.TheVariants.{NoSuchLeaf}
 use Rattle.rt_report.specs.Fault.{fault_text}
@@ -10,12 +10,6 @@ use Rattle.command_steps.specs.declared.status.Status.TheVariants.{BadFile}
 use Rattle.command_steps.specs.CommandSpec.{IsVerdict}
 use Rattle.command_steps.specs.Answer.{Contents, IsReadable}
 use Rattle.command_steps.specs.Attempt.{Attempt, OnAttempt}
-
--- part q is a leaf of that name
-pub record IsLeafNamed (sys : SystemView) (name : List ℕ) (q : ℕ) : Type 0 where
-  pub is_part : q < length sys.parts
-  pub is_leaf : is_leaf_at sys q ≡ true
-  pub is_named : (part_at sys q).name ≡ name
 
 -- no leaf has that name
 abbrev pub HasNoLeaf : SystemView → List ℕ → Type 0

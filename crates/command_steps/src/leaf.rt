@@ -2,8 +2,9 @@ ghost use Rattle.std.specs.Prelude.{◌≡◌, ◌↔◌, ◌<◌, ◌≤◌, le
 ghost use Rattle.slot_model.specs.declared.task.TheConstants.{LIMIT};
 ghost use Rattle.slot_model.specs.Task.{sporadic_tasks};
 ghost use Rattle.tree_model.specs.System.{is_leaf, own_tasks, part_at};
+ghost use Rattle.tree_model.specs.NamedLeaf.{IsLeafNamed};
 ghost use Rattle.command_steps.specs.Attempt.{IsRefused};
-ghost use Rattle.command_steps.specs.NamedLeaf.{IsLeafNamed, HasNoLeaf, finding};
+ghost use Rattle.command_steps.specs.NamedLeaf.{HasNoLeaf, finding};
 ghost use Rattle.command_steps.specs.Steps.{IfAnswered, EndsJudged};
 
 use crate::answer::Ending;

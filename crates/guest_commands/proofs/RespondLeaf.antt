@@ -12,8 +12,7 @@ use Rattle.slot_model.specs.declared.sched.Sched.TheVariants.{Edf}
 use Rattle.slot_model.specs.Task.{SporadicTask, AreConstrained, room_of, task_at}
 use Rattle.slot_model.specs.Supply.{GivesBudget, worst_slot}
 use Rattle.slot_model.specs.Order.{before_of, ranks_above}
-use Rattle.slot_model.specs.Bound.{sbf, Passes, IsHit, IsShortTask}
-use Rattle.slot_model.proofs.Budgets.{hits_of}
+use Rattle.slot_model.specs.Bound.{sbf, Passes}
 use Rattle.slot_model.proofs.WorstPattern.{periodic_laws}
 use Rattle.fp_test.specs.Hits.{IsLeastHit}
 use Rattle.response_times.specs.Response.{IsGreatestResponse}
@@ -46,16 +45,6 @@ read_passes sys budgets h q l fixed sched tasks period budget read =
     (λ (ts : List SporadicTask). Passes (part_at sys q).sched ts (sbf (part_at sys q).period (budget_at budgets q)))
     (leaf_tasks sys budgets q (has_tasks (part_at sys q) fixed)) (h.passes (Part q) l).1 in
     rw (read.sched_is, read.tasks_are, read.period_is, read.least_is) own
-
--- so none of them is short
-short_no_hit : (above : ℕ → ℕ → Bool) (tasks : List SporadicTask) (bound : ℕ → ℕ) (i : ℕ)
-    → (t : ℕ) × IsHit above tasks bound i t → IsShortTask above tasks bound i → ⊥
-short_no_hit above tasks bound i (t, hit) short = omega (arith, hit.enough, short t hit.some_slots hit.in_deadline)
-
-pub not_short : (sched : Sched) → sched ≢ Edf → (tasks : List SporadicTask) (bound : ℕ → ℕ) → Passes sched tasks bound
-    → (i : ℕ) → i < length tasks → IsShortTask (ranks_above sched tasks) tasks bound i → ⊥
-not_short sched fixed tasks bound passes i l short =
-    short_no_hit (ranks_above sched tasks) tasks bound i (hits_of sched fixed tasks bound passes i l) short
 
 -- what is told of a task, by what was found of it
 pub row_is : (sched : Sched) (tasks : List SporadicTask) (period budget i : ℕ) (row : Response) (worst : ℕ)

@@ -12,6 +12,7 @@ use Rattle.tree_model.specs.declared.place.Place.TheVariants.{Part}
 use Rattle.tree_model.specs.declared.plan.Refusal.TheVariants.{Overfull, Wide as NodeWide}
 use Rattle.tree_model.specs.View.{SystemView}
 use Rattle.tree_model.specs.System.{part_at, own_tasks_at}
+use Rattle.tree_model.specs.NamedLeaf.{IsLeafNamed}
 use Rattle.system_file.specs.SystemFile.{system_of}
 use Rattle.rt_report.specs.declared.fault.FileFault.TheVariants.{BadDeadline}
 use Rattle.rt_report.specs.Fault.{fault_text}
@@ -21,7 +22,7 @@ use Rattle.command_steps.specs.declared.status.Status.{Status}
 use Rattle.command_steps.specs.declared.status.Status.TheVariants.{Yes, No, Wide, BadFile}
 use Rattle.command_steps.specs.CommandSpec.{CommandSpec}
 use Rattle.command_steps.specs.Answer.{Contents, AtFile, OnSystem, IfSystem, HasSystem}
-use Rattle.command_steps.specs.NamedLeaf.{IsLeafNamed, HasNoLeaf, OnLeaf, IsVerdictUnless}
+use Rattle.command_steps.specs.NamedLeaf.{HasNoLeaf, OnLeaf, IsVerdictUnless}
 
 -- the status and the text that tell the least budget of leaf q by a deadline, or that it has none
 abbrev pub least_status : Least → Status

@@ -3,6 +3,7 @@ use Rattle.std.specs.Prelude.{◌≡◌, ℕ, ◌<◌, ◌≤◌, List, [], ◌�
 use Rattle.tree_model.specs.View.{SystemView}
 use Rattle.tree_model.specs.System.{part_at}
 use Rattle.tree_model.specs.Admission.{Admitted}
+use Rattle.tree_model.specs.NamedLeaf.{IsLeafNamed}
 use Rattle.tree_model.specs.Tree.{NoLoss}
 use Rattle.slack.specs.MostWork.{AreMostWorks, with_work}
 use Rattle.system_file.specs.SystemFile.{system_of}
@@ -12,7 +13,7 @@ use Rattle.command_steps.specs.declared.status.Status.TheVariants.{Yes, No}
 use Rattle.command_steps.specs.CommandSpec.{CommandSpec}
 use Rattle.command_steps.specs.Answer.{Contents, AtFile, OnSystem, IfSystem, HasSystem}
 use Rattle.command_steps.specs.Budgets.{OnAdmitted, IsTrulyOverfull}
-use Rattle.command_steps.specs.NamedLeaf.{IsLeafNamed, HasNoLeaf, OnLeaf, IsVerdictUnless}
+use Rattle.command_steps.specs.NamedLeaf.{HasNoLeaf, OnLeaf, IsVerdictUnless}
 
 -- yes: the text tells the greatest work of each task of leaf q
 pub record TellsWorks (sys : SystemView) (q : ℕ) (status : Status) (text : List ℕ) : Type 0 where

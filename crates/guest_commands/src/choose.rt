@@ -1,4 +1,4 @@
-ghost use Rattle.std.specs.Prelude.{◌≡◌, ◌<◌, List, ℕ, length, IfOk, refl};
+ghost use Rattle.std.specs.Prelude.{◌≡◌, ◌<◌, length, IfOk, refl};
 ghost use Rattle.guest_commands.specs.Choose.{choice_status, choice_text, IsChosen, ChoosesSystem, the_choose};
 ghost use Rattle.command_steps.specs.Steps.{IsJudged};
 

@@ -1,4 +1,4 @@
-ghost use Rattle.std.specs.Prelude.{◌≡◌, ◌<◌, List, ℕ, length, IfOk, refl};
+ghost use Rattle.std.specs.Prelude.{◌≡◌, ◌<◌, length, IfOk, refl};
 ghost use Rattle.guest_commands.specs.Interface.{least_status, least_text, AtDeadline, InterfacesSystem, the_interface};
 ghost use Rattle.command_steps.specs.Steps.{IsJudged};
 

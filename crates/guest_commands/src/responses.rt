@@ -1,4 +1,4 @@
-ghost use Rattle.std.specs.Prelude.{List, ℕ, refl};
+ghost use Rattle.std.specs.Prelude.{refl};
 ghost use Rattle.guest_commands.specs.Responses.{RespondsSystem, the_responses};
 
 use crate::responding::respond_all;

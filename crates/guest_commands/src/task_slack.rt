@@ -1,4 +1,4 @@
-ghost use Rattle.std.specs.Prelude.{◌≡◌, ◌<◌, List, ℕ, length, true, refl};
+ghost use Rattle.std.specs.Prelude.{◌≡◌, ◌<◌, length, true, refl};
 ghost use Rattle.tree_model.specs.System.{is_leaf_at};
 ghost use Rattle.guest_commands.specs.Slack.{SlackensLeaf, SlackensSystem, the_slack};
 ghost use Rattle.command_steps.specs.Steps.{ending_of, IfAnswered, EndsJudged};

@@ -47,7 +47,7 @@ impl RowRules for Editing {
 }
 
 impl Editing {
-    ghost use Rattle.std.specs.Prelude.{◌≡◌, ◌++◌, List, ℕ, [], length, codes, IfOk, OnOk, IfErr, string_bytes};
+    ghost use Rattle.std.specs.Prelude.{◌≡◌, ◌++◌, List, ℕ, [], codes, IfOk, OnOk, IfErr, string_bytes};
     ghost use Rattle.admission_session.specs.declared.answer.Answer.{Answer};
     ghost use Rattle.admission_session.specs.Answers.{IsAnswered};
     ghost use Rattle.tree_model.specs.Admission.{Admitted};

@@ -1,4 +1,4 @@
-ghost use Rattle.std.specs.Prelude.{◌≡◌, ◌<◌, ◌^◌, List, length, IfOk, IfErr, refl};
+ghost use Rattle.std.specs.Prelude.{◌<◌, ◌^◌, List, length, IfOk, IfErr, refl};
 ghost use Rattle.csv_rows.specs.Reading.{records_of};
 ghost use Rattle.tree_model.specs.View.{PartView};
 ghost use Rattle.tree_model.specs.Admission.{FirstRefusal};

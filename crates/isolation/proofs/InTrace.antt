@@ -1,9 +1,7 @@
 -- What is kept in a run is kept in its trace, and what is short in it is short there.
-use Rattle.std.proofs.Common.{◌≡◌, ℕ, suc, ◌+◌, ◌-◌, ◌*◌, ◌/◌, ◌<◌, ◌≤◌, ◌==◌, nat_le, Bool, true, false, cond, List, length, Option, Some, refl, sym, ◌∙◌, ap, arith, subst, eq-eqb, le-leb}
+use Rattle.std.proofs.Common.{◌≡◌, ℕ, suc, ◌+◌, ◌-◌, ◌*◌, ◌/◌, ◌<◌, ◌≤◌, nat_le, true, false, List, length, Option, Some, refl, sym, ◌∙◌, ap, arith, subst, eq-eqb, le-leb}
 use Rattle.std.proofs.lemmas.Bool.{and_from}
 use Rattle.slot_model.specs.declared.task.TheConstants.{LIMIT}
-use Rattle.slot_model.specs.Run.{held, holds}
-use Rattle.tree_model.specs.declared.place.Parent.{Parent}
 use Rattle.tree_model.specs.declared.place.Place.TheVariants.{Core}
 use Rattle.tree_model.specs.View.{SystemView}
 use Rattle.tree_model.specs.System.{part_at, IsSystem}
@@ -11,22 +9,18 @@ use Rattle.tree_model.specs.Tree.{is_child, budget_at, run_at}
 use Rattle.tree_model.specs.Plans.{IsPlan}
 use Rattle.trace_file.specs.declared.event.Event.{Event}
 use Rattle.trace_file.specs.Events.{start_of as trace_start, end_of}
-use Rattle.trace_file.specs.Periods.{period_of, budget_of, blocked, begins, count_between, is_clear, is_judged, got_in as trace_got, IsShort}
-use Rattle.trace_file.proofs.Moments.{child_parent}
+use Rattle.trace_file.specs.Periods.{period_of, budget_of, blocked, begins, count_between, is_clear, got_in as trace_got, IsShort}
 use Rattle.trace_file.proofs.Counting.{between_none, between_alike_to}
 use Rattle.release_file.specs.declared.workload.Wake.{Wake}
 use Rattle.release_file.specs.Workload.{start_of, is_blocked_at, IsWorkload}
 use Rattle.rtds_sim.specs.Rtds.{RtdsRun}
 use Rattle.rtds_sim.specs.Printed.{core_of, printed}
-use Rattle.rtds_sim.specs.Giving.{ServersFit, slots_got}
+use Rattle.rtds_sim.specs.Giving.{ServersFit}
+use Rattle.rtds_sim.proofs.Entering.{child_core}
 use Rattle.rtds_sim.proofs.Runs.{rtds_run, rtds_run-is}
 use Rattle.rtds_sim.proofs.Traced.{end_is, blocked_is, StartedAt, started_at, trace_starts, begins_is, got_whole}
 use Rattle.isolation.specs.Keeping.{IsAwakeLast, got_in, KeepsBudget, IsBreakable, IsExposed}
-use Rattle.isolation.specs.InTrace.{IsRunLength, IsAwakeInTrace, KeepsInTrace, CanBeShort, IsExposedInTrace}
-
--- the core on which a child of core c stands
-child_core : (sys : SystemView) (c v : ℕ) → is_child sys (Core c) v ≡ true → core_of (part_at sys v).parent ≡ c
-child_core sys c v child = ap core_of (child_parent sys c v child)
+use Rattle.isolation.specs.InTrace.{IsAwakeInTrace, KeepsInTrace, CanBeShort, IsExposedInTrace}
 
 module _ (sys : SystemView) (system : IsSystem sys) (budgets : List ℕ) (plan : IsPlan sys budgets) (rows : List Wake)
     (workload : IsWorkload sys rows) (n : ℕ) (runs : List (List (Option ℕ))) (is : RtdsRun sys budgets rows n runs)

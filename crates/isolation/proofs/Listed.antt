@@ -1,5 +1,5 @@
 -- Of which parts it is answered.
-use Rattle.std.proofs.Common.{◌≡◌, ℕ, true, List, length, map, get_or, sym, ◌∙◌, ap, arith, subst}
+use Rattle.std.proofs.Common.{◌≡◌, ℕ, true, List, length, get_or, sym, ◌∙◌, ap, arith, subst}
 use Rattle.std.specs.Prelude.{All}
 use Rattle.std.proofs.lemmas.List.{length-map, get_or-map}
 use Rattle.slot_model.specs.Slots.{places_where}

@@ -1,4 +1,4 @@
-ghost use Rattle.std.specs.Prelude.{◌≡◌, ℕ, ◌<◌, ◌≤◌, ◌^◌, Bool, List, length, IfOk};
+ghost use Rattle.std.specs.Prelude.{◌≡◌, ◌<◌, ◌≤◌, ◌^◌, Bool, List, length, IfOk};
 ghost use Rattle.guest_sched.specs.Spans.{AreWindows, slots_of};
 ghost use Rattle.slot_model.specs.declared.sched.Sched.{Sched as AnySched};
 ghost use Rattle.slot_model.specs.Miss.{is_missed};

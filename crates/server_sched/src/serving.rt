@@ -1,5 +1,5 @@
 ghost use Rattle.std.specs.Prelude.{◌≡◌, ℕ, ◌+◌, ◌-◌, ◌<◌, ◌≤◌, ◌^◌, true, false, List, Option, length, Some, None, IfSome};
-ghost use Rattle.slot_model.specs.Task.{sporadic_tasks, sporadic_task, task_at};
+ghost use Rattle.slot_model.specs.Task.{sporadic_tasks, sporadic_task};
 ghost use Rattle.slot_model.specs.Release.{synchronous};
 ghost use Rattle.slot_model.specs.Miss.{HoldsReleased};
 ghost use Rattle.server_sched.specs.Serving.{AreServerTasks, server_at, IsKeyed, goes_first, IsChosen, AtMoment, AtRest};

@@ -10,7 +10,7 @@ ghost use Rattle.tree_model.specs.Plans.{IsPlan};
 ghost use Rattle.tree_model.specs.Releases.{AreReleases, jobs_at};
 ghost use Rattle.tree_model.specs.System.{IsSystem, own_tasks_at, is_leaf_at};
 ghost use Rattle.tree_model.specs.Tree.{IsNode, node_tasks, server_tasks, server_jobs, run_at, run_of, supply_of};
-ghost use Rattle.tree_spans.specs.TreeSpans.{AreFewJobs, AreLists};
+ghost use Rattle.tree_spans.specs.TreeSpans.{AreFewJobs};
 ghost use Rattle.tree_spans.specs.TreeCounts.{AreTreeCounts};
 ghost use Rattle.server_sched.specs.Shapes.{RunHolds, TreeHolds};
 ghost use Rattle.server_sched.specs.SlotCounts.{OfTree, ParentHolds, HasRun, AreCoreCounts, IsPartCount, ArePartCounts};

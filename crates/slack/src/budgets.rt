@@ -1,5 +1,5 @@
-ghost use Rattle.std.specs.Prelude.{◌≡◌, ◌↔◌, ◌<◌, ◌≤◌, ℕ, None, true, length, IfOk, IsTrue};
-ghost use Rattle.tree_model.specs.System.{IsSystem, part_at, is_leaf_at};
+ghost use Rattle.std.specs.Prelude.{◌≡◌, ◌↔◌, ◌<◌, ◌≤◌, None, true, length, IfOk, IsTrue};
+ghost use Rattle.tree_model.specs.System.{part_at, is_leaf_at};
 ghost use Rattle.tree_model.specs.Admission.{Admitted};
 ghost use Rattle.compose_tree.specs.Kept.{IsKept};
 ghost use Rattle.admission_session.specs.Answers.{IsAdmitted};

@@ -18,12 +18,12 @@ use Rattle.period_choice.specs.Choice.{is_over, IsChoice}
 use Rattle.period_choice.proofs.OneChoice.{one_choice}
 use Rattle.tree_model.specs.View.{SystemView}
 use Rattle.tree_model.specs.System.{IsSystem, part_at, own_tasks_at}
+use Rattle.tree_model.specs.NamedLeaf.{IsLeafNamed}
 use Rattle.tree_model.proofs.Parents.{leaf_constrained}
 use Rattle.command_steps.specs.declared.status.Status.{Status}
 use Rattle.command_steps.specs.declared.status.Status.TheVariants.{Yes, No}
 use Rattle.command_steps.specs.Answer.{IsOne}
 use Rattle.guest_commands.specs.Choose.{choice_status, choice_text, IsChosen, ChoosesSystem, ChoiceTells, EndsChoosing, the_choose}
-use Rattle.command_steps.specs.NamedLeaf.{IsLeafNamed}
 use Rattle.command_steps.specs.Steps.{IsJudged}
 use Rattle.command_steps.proofs.CommandLaws.{CommandLaws}
 use Rattle.command_steps.proofs.NamedLeaf.{one_on_leaf}

@@ -14,6 +14,7 @@ use Rattle.least_budget.proofs.OneAnswer.{one_least_of}
 use Rattle.edp_supply.specs.Least.{IsLeastExplicit}
 use Rattle.tree_model.specs.View.{SystemView}
 use Rattle.tree_model.specs.System.{IsSystem, part_at, own_tasks_at}
+use Rattle.tree_model.specs.NamedLeaf.{IsLeafNamed}
 use Rattle.tree_model.proofs.Parents.{leaf_constrained}
 use Rattle.rt_report.specs.declared.fault.FileFault.TheVariants.{BadDeadline}
 use Rattle.rt_report.specs.Fault.{fault_text}
@@ -21,7 +22,7 @@ use Rattle.command_steps.specs.declared.status.Status.{Status}
 use Rattle.command_steps.specs.declared.status.Status.TheVariants.{Yes, No, Wide, BadFile}
 use Rattle.command_steps.specs.Answer.{IsOne}
 use Rattle.guest_commands.specs.Interface.{least_status, least_text, IsInterface, AtDeadline, InterfacesSystem, InterfaceTells, HasNoFit, the_interface}
-use Rattle.command_steps.specs.NamedLeaf.{IsLeafNamed, IsVerdictUnless}
+use Rattle.command_steps.specs.NamedLeaf.{IsVerdictUnless}
 use Rattle.command_steps.specs.Steps.{IsJudged}
 use Rattle.command_steps.proofs.CommandLaws.{CommandLaws}
 use Rattle.command_steps.proofs.NamedLeaf.{one_on_leaf}

@@ -6,7 +6,7 @@ use Rattle.slack.proofs.OneMost.{one_list_of_works}
 use Rattle.slack.proofs.Grown.{grown_without_loss}
 use Rattle.rt_report.specs.Slack.{slack_text}
 use Rattle.command_steps.specs.declared.status.Status.{Status}
-use Rattle.command_steps.specs.declared.status.Status.TheVariants.{Yes, No, Wide, BadFile}
+use Rattle.command_steps.specs.declared.status.Status.TheVariants.{Yes, No, Wide}
 use Rattle.command_steps.specs.Answer.{IsOne}
 use Rattle.command_steps.specs.Budgets.{composing}
 use Rattle.guest_commands.specs.Slack.{TellsWorks, SlackensLeaf, SlackensSystem, SlackTells, LacksLeaf, the_slack}

@@ -1,5 +1,5 @@
 use Rattle.std.proofs.Common.{ℕ, ◌<◌}
-use Rattle.command_steps.specs.NamedLeaf.{IsLeafNamed}
+use Rattle.tree_model.specs.NamedLeaf.{IsLeafNamed}
 use Rattle.command_steps.proofs.leaf.leaf_named.Given as goal
 
 abbrev pub invariant-loop-q : goal.invariant-loop-q

@@ -1,5 +1,6 @@
 use Rattle.std.proofs.Common.{Option, subst, ◌∙◌}
 use Rattle.std.proofs.lemmas.Result.{err_from_is_err_and}
+use Rattle.slot_model.proofs.HandedOn.{handed_on}
 use Rattle.outside.specs.Files.{Files}
 use Rattle.command_steps.specs.Steps.{IfAnswered, StopsAt}
 use Rattle.command_steps.proofs.TwoFiles.{ends_at_first, ends_at_second}
@@ -8,17 +9,15 @@ use Rattle.command_steps.proofs.two_files.read_two.Goals as goal
 
 pub returns-in_err-sys-clause-refused : goal.returns-in_err-sys-clause-refused
 returns-in_err-sys-clause-refused g c =
-    let p = err_from_is_err_and c.from_residual.result c.from_residual.ensures.1 in
-    rw (p.1, p.2) (ends_at_first (g.S.Store.files c.args.store.now) c.args.first.now c.args.second.now (λ _ _ _ _. ⊥)
-    c.in_err-sys.field-0.0 c.in_err-sys.ensures.refused)
+    handed_on c.from_residual.result _ _ c.from_residual.ensures.1 (ends_at_first (g.S.Store.files c.args.store.now)
+    c.args.first.now c.args.second.now (λ _ _ _ _. ⊥) c.in_err-sys.field-0.0 c.in_err-sys.ensures.refused)
 
 pub returns-in_err-bytes-clause-refused : goal.returns-in_err-bytes-clause-refused
 returns-in_err-bytes-clause-refused g c =
-    let p = err_from_is_err_and c.from_residual-in_err-bytes.result c.from_residual-in_err-bytes.ensures.1 in
     let stop = c.in_err-bytes.field-0.0 in
-    rw (p.1, p.2) (ends_at_second (g.S.Store.files c.args.store.now) c.args.first.now c.args.second.now (λ _ _ _ _. ⊥)
-    c.in_ok-sys.sys stop c.in_ok-sys.ensures.spelled
-    (subst (λ (fs : Option Files). IfAnswered stop
+    handed_on c.from_residual-in_err-bytes.result _ _ c.from_residual-in_err-bytes.ensures.1
+    (ends_at_second (g.S.Store.files c.args.store.now) c.args.first.now c.args.second.now (λ _ _ _ _. ⊥)
+    c.in_ok-sys.sys stop c.in_ok-sys.ensures.spelled (subst (λ (fs : Option Files). IfAnswered stop
     (λ a. StopsAt 2 fs c.args.second.now (λ _ _ _. ⊥) a.status a.text.items)) c.in_ok-sys.ensures.same_files
     c.in_err-bytes.ensures.refused))
 

@@ -1,4 +1,4 @@
-use Rattle.std.proofs.Common.{◌≡◌, ◌+◌, ◌++◌, List, sym, ◌∙◌, ap, subst}
+use Rattle.std.proofs.Common.{◌≡◌, ◌+◌, List, sym, ◌∙◌, ap, subst}
 use Rattle.tree_model.specs.System.{part_at}
 use Rattle.tree_model.specs.View.{PartView}
 use Rattle.tree_model.proofs.NodeTasks.{part_here}

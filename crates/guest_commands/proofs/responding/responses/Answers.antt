@@ -1,4 +1,4 @@
-use Rattle.std.proofs.Common.{◌≡◌, ℕ, ◌+◌, ◌<◌, List, length, get_or, arith, ap, sym, subst}
+use Rattle.std.proofs.Common.{ℕ, ◌+◌, ◌<◌, List, length, get_or, arith, ap, sym, subst}
 use Rattle.std.proofs.lemmas.List.{length_push}
 use Rattle.slot_model.specs.Task.{sporadic_tasks}
 use Rattle.slot_model.specs.Supply.{GivesBudget}
@@ -8,14 +8,15 @@ use Rattle.fp_request.proofs.Parts.{sporadic_tasks-length}
 use Rattle.fp_test.specs.Hits.{IsLeastHit}
 use Rattle.response_times.specs.Response.{IsGreatestResponse}
 use Rattle.response_times.proofs.Seen.{each_more}
-use Rattle.guest_commands.proofs.RespondLeaf.{not_short}
+use Rattle.period_choice.proofs.Shares.{short_task_fails}
 use Rattle.guest_commands.proofs.responding.responses.Goals as goal
 
 pub unreachable-requires : goal.unreachable-requires
 unreachable-requires c =
-    not_short c.args.sched c.requires.fixed (sporadic_tasks c.args.tasks.now)
-    (sbf c.args.supply.now.period c.args.supply.now.budget) c.requires.passes c.loop-i.i
+    short_task_fails c.args.sched (sporadic_tasks c.args.tasks.now)
+    (sbf c.args.supply.now.period c.args.supply.now.budget) c.loop-i.i c.requires.fixed
     (omega (arith, sporadic_tasks-length c.args.tasks.now, c.loop-i-test.true)) c.in_default.ensures.exact
+    c.requires.passes
 
 pub loop-i-preserved : goal.loop-i-preserved
 loop-i-preserved c =
