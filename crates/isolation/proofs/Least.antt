@@ -12,7 +12,9 @@ use Rattle.tree_model.specs.Plans.{IsPlan}
 use Rattle.rtds_sim.specs.Demand.{deferrable_demand, later}
 use Rattle.isolation.specs.Demand.{no_tie, asked_of, asked, IsIsolatedBy, IsLeastBy, AsksTooMuch}
 use Rattle.rtds_sim.proofs.Demands.{demand_rises}
+use Rattle.isolation.specs.inner.Neighbours.{IsNextOn}
 use Rattle.isolation.proofs.Asked.{asked-rises, asked-own}
+use Rattle.isolation.proofs.Neighbouring.{sum_next}
 
 module _ (tie : ℕ → ℕ → ℕ) (sys : SystemView) (budgets : List ℕ) (c v : ℕ) where
   -- what part u asks for, if it stands on the core
@@ -28,6 +30,21 @@ module _ (tie : ℕ → ℕ → ℕ) (sys : SystemView) (budgets : List ℕ) (c 
 
   pub asked_more : (t u : ℕ) → asked_by t (suc u) ≡ asked_by t u + part_asks t u
   asked_more t u = sum_below-suc (part_asks t) u
+
+  -- those ahead of the next one of the core
+  pub asked_next : (t from next : ℕ) → IsNextOn sys c from next → asked_by t next ≡ asked_by t from
+  asked_next t from next h =
+      sum_next sys (λ u. asked_of tie v u (part_at sys u).period (budget_at budgets u) t) c from next h
+
+  -- and with one of the core ahead of the next
+  pub asked_with : (t u next : ℕ) → is_child sys (Core c) u ≡ true → IsNextOn sys c (suc u) next
+      → asked_by t next ≡ asked_by t u + asked_of tie v u (part_at sys u).period (budget_at budgets u) t
+  asked_with t u next on h = omega (
+    arith,
+    asked_next t (suc u) next h,
+    asked_more t u,
+    cond-true {A = ℕ} (is_child sys (Core c) u) (asked_of tie v u (part_at sys u).period (budget_at budgets u) t) 0 on,
+  )
 
   -- more slots ask for no less
   rises : IsPlan sys budgets → (s t : ℕ) → s ≤ t → asked tie sys budgets c v s ≤ asked tie sys budgets c v t

@@ -4,3 +4,4 @@ pub mod Keeping
 pub mod InTrace
 pub mod Answer
 pub mod Answers
+pub mod inner

@@ -3,6 +3,7 @@
 #![tactic(auto)]
 
 mod isolation;
+mod neighbours;
 mod ties;
 mod vcpus;
 mod window;

@@ -2,7 +2,8 @@ ghost use Rattle.std.specs.Prelude.{◌≡◌, IfOk};
 ghost use Rattle.tree_model.specs.Plans.{IsPlan};
 ghost use Rattle.isolation.specs.Answers.{AreIsolations, is_isolated, are_isolated};
 
-use crate::isolation::{Isolation, isolation_on};
+use crate::isolation::{Isolation, isolation_among};
+use crate::neighbours::Neighbours;
 use std::alloc::{AllocError, Global};
 use tree_model::{Parent, Plan, System};
 
@@ -22,12 +23,13 @@ pub fn isolations(
     requires { IsPlan sys.now plan.now }
     ensures { IfOk result (λ rows. AreIsolations sys.now plan.now rows.items) }
 {
+    let neighbours = Neighbours::new(sys);
     let mut rows = Vec::new(alloc);
     for (v, part) in sys.parts().iter().enumerate() {
         if let Parent::Core(core) = part.parent() {
             rows.push(PartIsolation {
                 part: v as u32,
-                isolation: isolation_on(sys, plan, core, v),
+                isolation: isolation_among(sys, plan, &neighbours, core, v),
             })?;
         }
     }

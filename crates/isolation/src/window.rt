@@ -1,4 +1,4 @@
-ghost use Rattle.std.specs.Prelude.{◌≡◌, ◌<◌, ◌≤◌, true, length, MatchOption, if◌then◌else◌};
+ghost use Rattle.std.specs.Prelude.{◌≡◌, ◌<◌, ◌≤◌, true, length, MatchOption};
 ghost use Rattle.slot_model.specs.declared.task.TheConstants.{LIMIT};
 ghost use Rattle.tree_model.specs.declared.place.Place.TheVariants.{Core};
 ghost use Rattle.tree_model.specs.Plans.{IsPlan};
@@ -7,15 +7,25 @@ ghost use Rattle.tree_model.specs.Tree.{is_child, budget_at};
 ghost use Rattle.rtds_sim.specs.Demand.{deferrable_demand};
 ghost use Rattle.isolation.specs.Demand.{asked_of, asked, IsLeastBy, AsksTooMuch};
 ghost use Rattle.isolation.specs.Answer.{tie_of};
+ghost use Rattle.isolation.specs.inner.Neighbours.{AreNeighbours};
 
+use crate::neighbours::Neighbours;
 use crate::ties::Ties;
-use tree_model::{MAX_PARTS, Place, Plan, System};
+use tree_model::{MAX_PARTS, Plan, System};
 
 /// The least number of slots at the end of a period of VCPU `v` that is enough for it and all
 /// others of its core; none where its whole period is not. It goes from each number that is too few
 /// to what is asked of so many slots.
-pub fn least_window(sys: &System, plan: &Plan, core: u32, v: usize, ties: Ties) -> Option<u64>
+pub fn least_window(
+    sys: &System,
+    plan: &Plan,
+    neighbours: &Neighbours,
+    core: u32,
+    v: usize,
+    ties: Ties,
+) -> Option<u64>
     requires plan { IsPlan sys.now plan.now }
+    requires neighbours { AreNeighbours sys.now neighbours.now }
     requires is_part { v < length sys.now.parts }
     requires on_core { is_child sys.now (Core core) v ≡ true }
     ensures least { MatchOption result
@@ -26,7 +36,7 @@ pub fn least_window(sys: &System, plan: &Plan, core: u32, v: usize, ties: Ties) 
     let period = sys.parts()[v].period();
     let mut last = plan.budgets()[v];
     while last <= period {
-        let needed = asked_in(sys, plan, core, v, ties, last);
+        let needed = asked_in(sys, plan, neighbours, core, v, ties, last);
         if needed <= last {
             return Some(last);
         }
@@ -36,34 +46,42 @@ pub fn least_window(sys: &System, plan: &Plan, core: u32, v: usize, ties: Ties) 
 }
 
 /// What the VCPUs of the core ask of the last `t` slots of a period of `v`.
-fn asked_in(sys: &System, plan: &Plan, core: u32, v: usize, ties: Ties, t: u64) -> u64
+fn asked_in(
+    sys: &System,
+    plan: &Plan,
+    neighbours: &Neighbours,
+    core: u32,
+    v: usize,
+    ties: Ties,
+    t: u64,
+) -> u64
     requires plan { IsPlan sys.now plan.now }
+    requires neighbours { AreNeighbours sys.now neighbours.now }
+    requires is_core { core < length sys.now.cores }
     requires in_limit { t ≤ LIMIT }
     ensures { result ≡ asked (tie_of ties) sys.now plan.now core v t }
 {
     prove!(sys.parts().len() <= MAX_PARTS);
     let mut total: u64 = 0;
-    for u in 0..sys.parts().len() {
-        total += asked_by(sys, plan, core, v, ties, t, u);
+    let mut u = neighbours.first[core as usize];
+    while u < sys.parts().len() {
+        total += asked_by(sys, plan, v, ties, t, u);
+        u = neighbours.next[u];
     }
     total
 }
 
-/// What VCPU `u` asks of them, if it stands on the core.
-fn asked_by(sys: &System, plan: &Plan, core: u32, v: usize, ties: Ties, t: u64, u: usize) -> u64
+/// What VCPU `u` of the core asks of them.
+fn asked_by(sys: &System, plan: &Plan, v: usize, ties: Ties, t: u64, u: usize) -> u64
     requires plan { IsPlan sys.now plan.now }
     requires is_part { u < length sys.now.parts }
     requires in_limit { t ≤ LIMIT }
-    ensures exact { result ≡ (if is_child sys.now (Core core) u
-        then asked_of (tie_of ties) v u (part_at sys.now u).period (budget_at plan.now u) t
-        else 0) }
+    ensures exact { result
+        ≡ asked_of (tie_of ties) v u (part_at sys.now u).period (budget_at plan.now u) t }
     ensures in_limit { result ≤ LIMIT }
 {
     let part = &sys.parts()[u];
     let budget = plan.budgets()[u];
-    if !part.is_child_of(Place::Core(core)) {
-        return 0;
-    }
     if u == v {
         return budget;
     }

@@ -1,22 +1,58 @@
-use Rattle.std.proofs.Common.{◌≡◌, ℕ, ◌+◌, suc, arith, sym, ap}
+use Rattle.std.proofs.Common.{◌≡◌, ◌<◌, List, length, arith, ap}
+use Rattle.tree_model.specs.View.{PartView}
+use Rattle.rtds_queues.specs.Queues.{place_at}
 use Rattle.isolation.specs.Answer.{tie_of}
-use Rattle.isolation.proofs.Least.{asked_by, asked_none, asked_more}
+use Rattle.isolation.proofs.Least.{asked_by, asked_none, asked_next, asked_with}
 use Rattle.isolation.proofs.window.asked_in.Goals as goal
 
 pub loop-u-init : goal.loop-u-init
 loop-u-init c =
-    (sym (asked_none (tie_of c.args.ties) c.args.sys.now c.args.plan.now c.args.core c.args.v c.args.t), omega arith)
+    let first = c.requires.neighbours.first c.args.core c.requires.is_core in
+    record {
+      within = first.within;
+      here = first.here;
+      total_is = omega (
+        arith,
+        asked_next (tie_of c.args.ties) c.args.sys.now c.args.plan.now c.args.core c.args.v c.args.t 0
+            (place_at c.args.neighbours.now.first c.args.core) first,
+        asked_none (tie_of c.args.ties) c.args.sys.now c.args.plan.now c.args.core c.args.v c.args.t,
+      );
+      few = omega arith;
+    }
 
 pub loop-u-preserved : goal.loop-u-preserved
 loop-u-preserved c =
-    let by : ℕ → ℕ = asked_by (tie_of c.args.ties) c.args.sys.now c.args.plan.now c.args.core c.args.v c.args.t in
-    let e : suc c.loop-u.u ≡ c.loop-u.u + 1 = omega arith in (
-      omega (
+    let parts = ap (λ (ps : List PartView). length ps) c.parts-in-loop-u.ensures.parts in
+    let here : c.loop-u.u < length c.args.sys.now.parts = omega (arith, parts, c.loop-u-test.true) in
+    let on = c.loop-u.invariant.here here in
+    let next = c.requires.neighbours.next c.args.core c.loop-u.u (omega arith) here on in
+    record {
+      within = next.within;
+      here = next.here;
+      total_is = omega (
         arith,
-        c.loop-u.invariant.0,
+        c.loop-u.invariant.total_is,
         c.asked_by-total.ensures.exact,
-        asked_more (tie_of c.args.ties) c.args.sys.now c.args.plan.now c.args.core c.args.v c.args.t c.loop-u.u,
-        ap by e,
-      ),
-      omega (arith, c.loop-u.invariant.1, c.asked_by-total.ensures.in_limit),
+        asked_with (tie_of c.args.ties) c.args.sys.now c.args.plan.now c.args.core c.args.v c.args.t c.loop-u.u
+            (place_at c.args.neighbours.now.next c.loop-u.u) on next,
+      );
+      few = omega (arith, c.loop-u.invariant.few, c.asked_by-total.ensures.in_limit, next.behind);
+    }
+
+pub loop-u-smaller : goal.loop-u-smaller
+loop-u-smaller c =
+    let parts = ap (λ (ps : List PartView). length ps) c.parts-in-loop-u.ensures.parts in
+    let here : c.loop-u.u < length c.args.sys.now.parts = omega (arith, parts, c.loop-u-test.true) in
+    let next = c.requires.neighbours.next c.args.core c.loop-u.u (omega arith) here (c.loop-u.invariant.here here) in
+    omega (arith, next.behind, here)
+
+pub returns : goal.returns
+returns c =
+    let parts = ap (λ (ps : List PartView). length ps) c.parts-in-loop-u.ensures.parts in
+    let e : c.loop-u.u ≡ length c.args.sys.now.parts
+    = omega (arith, parts, c.loop-u-test.false, c.loop-u.invariant.within) in
+    omega (
+      arith,
+      c.loop-u.invariant.total_is,
+      ap (asked_by (tie_of c.args.ties) c.args.sys.now c.args.plan.now c.args.core c.args.v c.args.t) e,
     )
