@@ -5,10 +5,11 @@ ghost use Rattle.slot_model.specs.Bound.{IsShortTask};
 ghost use Rattle.slot_model.specs.Points.{IsChain};
 ghost use Rattle.fp_test.specs.Falls.{IsNextFall, AreFalls, ChainsShow};
 
-use fp_request::request;
+use fp_request::{RankedLevel, RankedTask};
 use slot_model::{Sched, Task};
 use std::alloc::{AllocError, Global};
 use supply_bound::Supply;
+use window_terms::{KEPT, Term};
 
 /// Windows, in slots, that show that task `i` has no hit: from 1 on, each is the least whose supply
 /// bound is the request bound at the one before, and the last is the first past what the deadline
@@ -32,28 +33,47 @@ pub fn falls<S: Supply>(
     ensures shows { let T = sporadic_tasks tasks.now in
         ChainsShow (ranks_above sched T) T (S.bound s.now) i }
 {
-    let task = tasks[i as usize];
-    let end = task.deadline - task.jitter + 1;
-    let mut falls = Vec::new(alloc);
+    let level = RankedLevel {
+        sched,
+        tasks,
+        terms: &[],
+    };
+    falls_of(alloc, &level.task(i, &mut [Term::none(); KEPT]), s)
+}
+
+/// The same, of a task whose terms were gathered.
+pub fn falls_of<S: Supply>(alloc: Global, task: &RankedTask, s: &S) -> Result<Vec<u64>, AllocError>
+    requires { let T = sporadic_tasks task.now.tasks.now in
+        IsShortTask (ranks_above task.now.sched T) T (S.bound s.now) task.now.i }
+    ensures falls { let T = sporadic_tasks task.now.tasks.now in
+        let above = ranks_above task.now.sched T in
+        IfOk result (λ v. AreFalls above T (S.bound s.now) task.now.i v.items) }
+    ensures chain { let T = sporadic_tasks task.now.tasks.now in
+        let above = ranks_above task.now.sched T in
+        IfOk result (λ v. IsChain above T (S.bound s.now) task.now.i v.items) }
+    ensures shows { let T = sporadic_tasks task.now.tasks.now in
+        ChainsShow (ranks_above task.now.sched T) T (S.bound s.now) task.now.i }
+{
+    let own = task.tasks[task.i as usize];
+    let end = own.deadline - own.jitter + 1;
+    let mut windows = Vec::new(alloc);
     let mut last = 1;
-    falls.push(last)?;
+    windows.push(last)?;
     while last < end {
-        last = next_fall(sched, tasks, i, s, last);
-        falls.push(last)?;
+        last = next_fall(task, s, last);
+        windows.push(last)?;
     }
-    Ok(falls)
+    Ok(windows)
 }
 
 /// The fall after a window.
-fn next_fall<S: Supply>(sched: Sched, tasks: &[Task], i: u32, s: &S, from: u64) -> u64
-    requires fixed { sched ≢ Sched.Edf }
-    requires i_named { i < length tasks.now }
-    ensures { let T = sporadic_tasks tasks.now in
-        IsNextFall (ranks_above sched T) T (S.bound s.now) i from result }
+fn next_fall<S: Supply>(task: &RankedTask, s: &S, from: u64) -> u64
+    ensures { let T = sporadic_tasks task.now.tasks.now in
+        IsNextFall (ranks_above task.now.sched T) T (S.bound s.now) task.now.i from result }
 {
-    let task = tasks[i as usize];
-    let room = task.deadline - task.jitter;
-    let Some(asked) = request(sched, tasks, i, from as u128) else {
+    let own = task.tasks[task.i as usize];
+    let room = own.deadline - own.jitter;
+    let Some(asked) = task.request(from as u128) else {
         return room + 1;
     };
     let Some(t) = s.reach(asked) else {

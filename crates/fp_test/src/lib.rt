@@ -6,5 +6,5 @@
 mod fall;
 mod hits;
 
-pub use fall::falls;
+pub use fall::{falls, falls_of};
 pub use hits::{hit, hit_in, hit_of};
