@@ -2,13 +2,14 @@ ghost use Rattle.std.specs.Prelude.{◌≢◌, ℕ, ◌-◌, ◌^◌, ◌<◌, �
 ghost use Rattle.slot_model.specs.declared.task.TheConstants.{LIMIT};
 ghost use Rattle.slot_model.specs.Task.{sporadic_tasks};
 ghost use Rattle.slot_model.specs.Order.{ranks_above};
-ghost use Rattle.slot_model.specs.Bound.{sbf, AllHit, DemandFits, IsSmall, Passes};
+ghost use Rattle.slot_model.specs.Bound.{sbf, AllHit, DemandFits, IsShortTask, IsSmall, Passes};
+ghost use Rattle.fp_test.specs.Falls.{AreFalls};
 ghost use Rattle.certificate.specs.Made.{IsBackwardCover, AreLeastHits, ListsPass, ListsShort};
 
-use edf_demand::horizon;
-use edf_test::cover;
+use edf_demand::{DemandLevel, horizon};
+use edf_test::cover_of;
 use fp_request::RankedLevel;
-use fp_test::{falls, hit_in};
+use fp_test::{falls_of, hit_in};
 use miss_witness::witness;
 use slot_model::{Sched, Task};
 use std::alloc::{AllocError, Global};
@@ -31,20 +32,26 @@ pub fn pass_lists<S: Supply>(
         ListsPass sched T (S.bound s.now) (S.cycle_of s.now) lists.0.items lists.1.items) }
 {
     match sched {
-        Sched::Edf => Ok((points_of(alloc, tasks, s)?, Vec::new(alloc))),
+        Sched::Edf => Ok((points_of(alloc, room, tasks, s)?, Vec::new(alloc))),
         _ => Ok((Vec::new(alloc), hits_by(alloc, room, sched, tasks, s)?)),
     }
 }
 
-/// The windows that cover all windows up to the horizon.
-fn points_of<S: Supply>(alloc: Global, tasks: &[Task], s: &S) -> Result<Vec<u128>, AllocError>
+/// The windows that cover all windows up to the horizon. `room` is for the terms of the tasks.
+fn points_of<S: Supply>(
+    alloc: Global,
+    room: &mut [Term],
+    tasks: &[Task],
+    s: &S,
+) -> Result<Vec<u128>, AllocError>
     requires small { IsSmall Sched.Edf (sporadic_tasks tasks.now) (S.cycle_of s.now) }
     requires fits { DemandFits (sporadic_tasks tasks.now) (S.bound s.now) }
     ensures { let T = sporadic_tasks tasks.now in
         IfOk result (λ points. IsBackwardCover T (S.bound s.now) (S.cycle_of s.now) points.items) }
 {
     let h = horizon(tasks, s.cycle()).unwrap();
-    let mut points = cover(alloc, tasks, s, h)?.unwrap();
+    let level = DemandLevel::gather(tasks, room);
+    let mut points = cover_of(alloc, &level, s, h)?.unwrap();
     // the text of all points finds room in what the lists do not use
     points.shrink_to_fit();
     Ok(points)
@@ -93,8 +100,10 @@ fn hits_of<S: Supply>(
 }
 
 /// The witness and the falls that show that a level does not pass with one slot less than `least`.
+/// `room` is for the terms of its tasks.
 pub fn short_lists(
     alloc: Global,
+    room: &mut [Term],
     sched: Sched,
     tasks: &[Task],
     period: u64,
@@ -118,8 +127,33 @@ pub fn short_lists(
                 period,
                 budget: least - 1,
             };
-            let falls = falls(alloc, sched, tasks, task, &less)?;
+            let falls = falls_by(alloc, room, sched, tasks, task, &less)?;
             Ok((Some(task as u128), falls))
         }
     }
+}
+
+/// The falls of task `i`, which has no hit. `room` is for the terms of the tasks above it, which
+/// are all that is gathered.
+fn falls_by<S: Supply>(
+    alloc: Global,
+    room: &mut [Term],
+    sched: Sched,
+    tasks: &[Task],
+    i: u32,
+    s: &S,
+) -> Result<Vec<u64>, AllocError>
+    requires fixed { sched ≢ Sched.Edf }
+    requires i_named { i < length tasks.now }
+    requires no_hit { let T = sporadic_tasks tasks.now in
+        IsShortTask (ranks_above sched T) T (S.bound s.now) i }
+    ensures { let T = sporadic_tasks tasks.now in
+        IfOk result (λ falls. AreFalls (ranks_above sched T) T (S.bound s.now) i falls.items) }
+{
+    let level = RankedLevel {
+        sched,
+        tasks,
+        terms: &[],
+    };
+    falls_of(alloc, &level.task(i, room), s)
 }

@@ -89,7 +89,7 @@ fn make_node(
     let computed = budget_of(sys, place).is_none();
     let period = supply.cycle();
     let budget = supply.budget();
-    let (witness, falls) = least_lists(alloc, sched, tasks, computed, period, budget)?;
+    let (witness, falls) = least_lists(alloc, terms, sched, tasks, computed, period, budget)?;
     Ok(Node {
         place,
         period,
@@ -102,9 +102,11 @@ fn make_node(
     })
 }
 
-/// The witness and the falls of a node with this budget: none where it was given.
+/// The witness and the falls of a node with this budget: none where it was given. `room` is for the
+/// terms of its tasks.
 fn least_lists(
     alloc: Global,
+    room: &mut [Term],
     sched: Sched,
     tasks: &[Task],
     computed: bool,
@@ -123,7 +125,7 @@ fn least_lists(
         ListsLeast computed sched T period budget lists.0 lists.1.items) }
 {
     if computed {
-        short_lists(alloc, sched, tasks, period, budget)
+        short_lists(alloc, room, sched, tasks, period, budget)
     } else {
         Ok((None, Vec::new(alloc)))
     }

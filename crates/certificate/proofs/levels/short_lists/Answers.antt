@@ -6,4 +6,4 @@ pub returns-in_ok-falls-in-Some : goal.returns-in_ok-falls-in-Some
 returns-in_ok-falls-in-Some c =
     defeat_lists c.args.sched (sporadic_tasks c.args.tasks.now) c.args.period c.args.least c.in-Some.task
     c.in_ok-falls-in-Some.falls.items c.witness-defeat.result c.witness-defeat.ensures.defeat c.in-Some.is
-    c.in_ok-falls-in-Some.ensures.falls
+    c.in_ok-falls-in-Some.ensures

@@ -64,16 +64,18 @@ computed_is : (c : After-budget-budget) → c.is_none-computed.result ≡ is_non
 computed_is c = none_of c.budget_of.result _ c.is_none-computed.result c.is_none-computed.ensures c.budget_of.ensures
 
 pub least_lists-requires-clause-some_budget : goal.least_lists-requires-clause-some_budget
-least_lists-requires-clause-some_budget c = (in_period c).0
+least_lists-requires-clause-some_budget c =
+    (in_period (goal.at.least_lists-requires-clause-some_budget c).After-budget-budget).0
 
 pub least_lists-requires-clause-in_period : goal.least_lists-requires-clause-in_period
-least_lists-requires-clause-in_period c = (in_period c).1
+least_lists-requires-clause-in_period c =
+    (in_period (goal.at.least_lists-requires-clause-in_period c).After-budget-budget).1
 
 pub least_lists-requires-clause-in_limit : goal.least_lists-requires-clause-in_limit
 least_lists-requires-clause-in_limit c =
     omega (
       arith,
-      period_is c,
+      period_is (goal.at.least_lists-requires-clause-in_limit c).After-budget-budget,
       (cycle_range c.args.sys.now c.sched_of-sched.ensures.system c.args.place c.requires.is_node).1,
     )
 
@@ -87,12 +89,13 @@ least_lists-requires-clause-small c =
 pub least_lists-requires-clause-least : goal.least_lists-requires-clause-least
 least_lists-requires-clause-least c =
     let sys = c.args.sys.now in let budgets = c.args.budgets.now in let place = c.args.place in
+    let here = (goal.at.least_lists-requires-clause-least c).After-budget-budget in
     λ t passes.
     not_less sys c.sched_of-sched.ensures.system budgets c.requires.admitted place c.requires.is_node
-    (none_is (given_budget sys place) (sym (computed_is c) ∙ t))
+    (none_is (given_budget sys place) (sym (computed_is here) ∙ t))
     (of_level (λ s T f m. Passes s T f) c.sched_of-sched.ensures.sched c.write_tasks-count.ensures.tasks
-    (ap (λ (p : ℕ). sbf p (c.budget-budget.result - 1)) (period_is c)
-    ∙ ap (λ (b : ℕ). sbf (node_cycle sys place) (b - 1)) (budget_is c)) (period_is c) passes)
+    (ap (λ (p : ℕ). sbf p (c.budget-budget.result - 1)) (period_is here)
+    ∙ ap (λ (b : ℕ). sbf (node_cycle sys place) (b - 1)) (budget_is here)) (period_is here) passes)
 
 pub returns-clause-made : goal.returns-clause-made
 returns-clause-made c =
