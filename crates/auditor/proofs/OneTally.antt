@@ -15,7 +15,8 @@ use Rattle.vcpu_watch.specs.declared.tally.Tally.{Tally}
 use Rattle.auditor.specs.Tally.{IsJudged, IsTally, tally_at, AreTallies}
 use Rattle.vcpu_watch.specs.Watch.{no_tally}
 use Rattle.vcpu_watch.specs.Numbers.{IsNumberOf, IsLeastOf, IsMostOf}
-use Rattle.vcpu_watch.proofs.Tallying.{count_alike, count_same, none_has}
+use Rattle.slot_model.proofs.Counts.{count_same, count_stretch}
+use Rattle.vcpu_watch.proofs.Tallying.{none_has}
 
 -- the numbers below a limit that pass a test, and no others
 clip : (ℕ → Bool) → ℕ → ℕ → Bool
@@ -25,7 +26,7 @@ clip_count : (test : ℕ → Bool) (limit more : ℕ) → count_below (clip test
 unfolding clip
 clip_count test limit more =
     let past
-    = count_alike (clip test limit) false limit more
+    = count_stretch (clip test limit) false limit more
     (λ k l _. and_left (ltb k limit) (test k) (le-ltb k limit l)) in
     let within = count_same (clip test limit) test limit (λ k l. ap (λ (z : Bool). z && test k) (lt-ltb k limit l)) in
     omega (arith, past, within)

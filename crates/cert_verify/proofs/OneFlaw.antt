@@ -1,12 +1,13 @@
 -- A certificate has one first flaw.
-use Rattle.std.proofs.Common.{◌≡◌, ◌≢◌, ℕ, Bool, List, Result, Ok, Err, IfOk, IfErr, sym, ◌∙◌, ap, subst, refl, inl, inr}
+use Rattle.std.proofs.Common.{◌≡◌, ℕ, Bool, List, Result, Ok, Err, IfOk, IfErr, sym, ◌∙◌, ap, subst, refl, inl, inr}
 use Rattle.std.specs.Prelude.{◌⊎◌}
 use Rattle.std.proofs.lemmas.Bool.{cases_order}
 use Rattle.slot_model.specs.declared.sched.Sched.{Sched}
-use Rattle.slot_model.specs.declared.sched.Sched.TheVariants.{Edf, Rm, Dm, Listed}
+use Rattle.slot_model.specs.declared.sched.Sched.TheVariants.{Edf}
 use Rattle.slot_model.specs.Task.{SporadicTask}
 use Rattle.slot_model.specs.Order.{ranks_above}
 use Rattle.slot_model.specs.Bound.{IsSmall}
+use Rattle.slot_model.proofs.Budgets.{fixed_small}
 use Rattle.tree_model.specs.declared.place.Place.{Place}
 use Rattle.tree_model.specs.CertificateView.{NodeView}
 use Rattle.tree_model.specs.View.{SystemView}
@@ -32,12 +33,6 @@ same_node nodes Good A B not_a not_b a b = elim (cases_order a.k b.k) [
       ]
 ]
 
-small_fixed : (sched : Sched) (tasks : List SporadicTask) (cycle : ℕ) → sched ≢ Edf → IsSmall sched tasks cycle
-small_fixed Edf tasks cycle fixed = absurd (fixed refl)
-small_fixed Rm tasks cycle fixed = tt
-small_fixed Dm tasks cycle fixed = tt
-small_fixed Listed tasks cycle fixed = tt
-
 one_hit : (above : ℕ → ℕ → Bool) (tasks : List SporadicTask) (bound : ℕ → ℕ) (node : NodeView) (i j : ℕ)
     → HitFails above tasks bound node i → HitFails above tasks bound node j → i ≡ j
 one_hit above tasks bound node i j a b = elim a [
@@ -57,7 +52,7 @@ one_node_flaw : (sched : Sched) (tasks : List SporadicTask) (bound : ℕ → ℕ
 one_node_flaw sched tasks bound cycle node (Wide p) (Wide q) a b = ap Wide (a.0 ∙ sym b.0)
 one_node_flaw sched tasks bound cycle node (Wide p) (Cover q) a b =
     absurd (a.1 (subst (λ (s : Sched). IsSmall s tasks cycle) (sym b.1) b.2))
-one_node_flaw sched tasks bound cycle node (Wide p) (Hit q j) a b = absurd (a.1 (small_fixed sched tasks cycle b.1))
+one_node_flaw sched tasks bound cycle node (Wide p) (Hit q j) a b = absurd (a.1 (fixed_small sched b.1 tasks cycle))
 one_node_flaw sched tasks bound cycle node (Wide p) (Least q) a b =
     absurd (a.1 (shown_small sched tasks bound cycle node b.1))
 one_node_flaw sched tasks bound cycle node (Cover p) (Wide q) a b =
@@ -69,7 +64,7 @@ one_node_flaw sched tasks bound cycle node (Cover p) (Least q) a b =
     let shows : ShowsPass Edf tasks bound cycle node
     = subst (λ (s : Sched). ShowsPass s tasks bound cycle node) a.1 b.1 in
     a.3 shows.1)
-one_node_flaw sched tasks bound cycle node (Hit p i) (Wide q) a b = absurd (b.1 (small_fixed sched tasks cycle a.1))
+one_node_flaw sched tasks bound cycle node (Hit p i) (Wide q) a b = absurd (b.1 (fixed_small sched a.1 tasks cycle))
 one_node_flaw sched tasks bound cycle node (Hit p i) (Cover q) a b = absurd (a.1 b.1)
 one_node_flaw sched tasks bound cycle node (Hit p i) (Hit q j) a b =
     ap (λ (z : Place). Hit z i) (a.0 ∙ sym b.0)

@@ -1,5 +1,4 @@
 pub mod Keeping
-pub mod Strict
 mod TreeRuns
 mod TreeExists
 pub mod Sound

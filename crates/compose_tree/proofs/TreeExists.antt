@@ -7,7 +7,7 @@ use Rattle.tree_model.specs.System.{IsSystem}
 use Rattle.tree_model.specs.Tree.{HasTreeRun, HasStartedRun}
 use Rattle.tree_model.proofs.FirstTrees.{first_tree_exists, first_tree_permitted}
 use Rattle.tree_model.proofs.StartedTrees.{started_exists}
-use Rattle.compose_tree.proofs.Strict.{order_strict}
+use Rattle.fp_request.proofs.Strict.{order_strict}
 
 pub tree_exists : (sys : SystemView) (budgets : List ℕ) (n : ℕ) (supplies : List (List Bool)) (jobs : List (List Job))
     → IsSystem sys → HasTreeRun sys budgets n supplies jobs

@@ -1,6 +1,7 @@
 pub mod ReleasedWork
 pub mod Rises
 pub mod Before
+pub mod Strict
 pub mod Ceiling
 pub mod Parts
 mod ReleasedExamples

@@ -1,26 +1,25 @@
 -- A workload that is a witness: each VCPU of a core starts in its first period, blocks a slot
 -- later, and wakes at r, so that a period of each ends with v's that begins there. Its rows stand
 -- slot by slot, and at each slot in the order of the file.
-use Rattle.std.proofs.Common.{◌≡◌, ◌≢◌, ◌⊎◌, ℕ, zero, suc, ◌+◌, ◌*◌, ◌-◌, ◌/◌, ◌%◌, ◌<◌, ◌≤◌, ◌==◌, Bool, true, false, cond, not, ◌&&◌, ◌||◌, nat_lt, nat_le, List, length, get_or, map, Option, Some, refl, sym, ◌∙◌, ap, arith, subst, inl, inr, eq-eqb, eqb-true, le-leb, lt-ltb}
+use Rattle.std.proofs.Common.{◌≡◌, ◌≢◌, ◌⊎◌, ℕ, zero, suc, ◌+◌, ◌*◌, ◌-◌, ◌/◌, ◌%◌, ◌<◌, ◌≤◌, ◌==◌, Bool, true, false, cond, not, ◌&&◌, ◌||◌, nat_le, List, length, get_or, map, Option, Some, refl, sym, ◌∙◌, ap, arith, subst, inl, inr, eq-eqb, eqb-true, le-leb}
 use Rattle.std.specs.Prelude.{is_some}
 use Rattle.std.proofs.Math.Nat.{mul-le-mul_right}
 use Rattle.std.proofs.lemmas.Nat.{le-div}
-use Rattle.std.proofs.lemmas.Bool.{cases_eq, cases_lt, cases_Bool, cond-true, cond-false, and_from, and_parts, and_left, lt-leb, both_ways, false≢true}
+use Rattle.std.proofs.lemmas.Bool.{cases_eq, cases_lt, cases_Bool, cond-true, cond-false, and_from, and_parts, and_left, lt-leb, both_ways}
 use Rattle.std.proofs.lemmas.Bool.Decides.{nat_tests}
 use Rattle.std.proofs.lemmas.List.{length-map, get_or-map}
 use Rattle.slot_model.specs.declared.task.TheConstants.{LIMIT}
 use Rattle.slot_model.specs.Slots.{count_below, places_where}
 use Rattle.slot_model.proofs.Places.{length-places_where, counted_below, stands_at}
 use Rattle.slot_model.proofs.Runs.{count_below-mono}
-use Rattle.tree_model.specs.declared.place.Parent.{Parent}
-use Rattle.tree_model.specs.declared.place.Parent.TheVariants.{Core as core_parent, Part as part_parent}
 use Rattle.tree_model.specs.declared.place.Place.TheVariants.{Core}
 use Rattle.tree_model.specs.View.{SystemView}
 use Rattle.tree_model.specs.System.{part_at}
-use Rattle.tree_model.specs.Tree.{is_child, place_of, same_place}
+use Rattle.tree_model.specs.Tree.{is_child}
 use Rattle.tree_model.specs.Plans.{IsPlan}
 use Rattle.trace_file.specs.Periods.{begins}
-use Rattle.trace_file.specs.Rules.{is_core, is_vcpu}
+use Rattle.trace_file.proofs.Known.{child_vcpu}
+use Rattle.trace_file.specs.Rules.{is_vcpu}
 use Rattle.release_file.specs.declared.workload.Wake.{Wake as Row}
 use Rattle.release_file.specs.declared.workload.WakeKind.{WakeKind}
 use Rattle.release_file.specs.declared.workload.WakeKind.TheVariants.{Start, Wake, Block}
@@ -65,17 +64,6 @@ is_second x a b d e = grind (arith, nat_tests)
 
 is_third : (x a b d : ℕ) → x ≡ d → (x == a || (x == b || x == d)) ≡ true
 is_third x a b d e = grind (arith, nat_tests)
-
--- a child of a core is a VCPU, and its core is one of the system
-child_is_vcpu : (sys : SystemView) (c u : ℕ) → u < length sys.parts → is_child sys (Core c) u ≡ true
-    → is_vcpu sys u ≡ true
-child_is_vcpu sys c u l child =
-    and_from (nat_lt u (length sys.parts)) (is_core (part_at sys u).parent) (lt-ltb u (length sys.parts) l)
-    (go (part_at sys u).parent child)
-  where
-    go : (p : Parent) → same_place (place_of p) (Core c) ≡ true → is_core p ≡ true
-    go (core_parent d) h = refl
-    go (part_parent q) h = absurd (false≢true h)
 
 module _ (sys : SystemView) (budgets : List ℕ) (plan : IsPlan sys budgets) (c v longest : ℕ) (lv : v < length sys.parts)
     (cv : is_child sys (Core c) v ≡ true) (up_to : PeriodsUpTo sys c longest) (in_limit : 2 * longest ≤ LIMIT) where
@@ -443,7 +431,7 @@ module _ (sys : SystemView) (budgets : List ℕ) (plan : IsPlan sys budgets) (c 
   is_workload_row : (i : ℕ) → i < length rows → is_vcpu sys (row_at rows i).vcpu ≡ true
   is_workload_row i l =
       let s : Stands (vcpu i) = (is_row i l).stands in
-      subst (λ (u : ℕ). is_vcpu sys u ≡ true) (sym (of_is i l)) (child_is_vcpu sys c (vcpu i) s.is_part s.on_core)
+      subst (λ (u : ℕ). is_vcpu sys u ≡ true) (sym (of_is i l)) (child_vcpu sys c (vcpu i) s.is_part s.on_core)
 
   pub is_workload : IsWorkload sys rows
   is_workload = record {

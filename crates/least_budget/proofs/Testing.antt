@@ -7,7 +7,7 @@ use Rattle.slot_model.specs.declared.sched.Short.TheVariants.{Task}
 use Rattle.slot_model.specs.Task.{SporadicTask, AreConstrained}
 use Rattle.slot_model.specs.Supply.{SupplyLaws}
 use Rattle.slot_model.specs.Order.{before_of, ranks_above}
-use Rattle.slot_model.specs.Bound.{IsHit, IsShortTask, IsFirstShortTask, IsSmall, IsHorizon, DemandFits, dbf, rbf}
+use Rattle.slot_model.specs.Bound.{IsHit, IsShortTask, IsFirstShortTask, IsHorizon, DemandFits, dbf, rbf}
 use Rattle.least_budget.specs.declared.answers.Tested.{Tested}
 use Rattle.least_budget.specs.declared.answers.Tested.TheVariants.{Passes as AllPasses, Short as FirstShort, Wide as TestWide}
 use Rattle.least_budget.specs.Answers.{IsTested, Foretells, HasHit}
@@ -40,13 +40,6 @@ pub tested_foretells : (sched : Sched) (tasks : List SporadicTask) → AreConstr
 tested_foretells sched tasks fits laws AllPasses h = level_no_loss sched tasks fits laws h.1
 tested_foretells sched tasks fits laws (FirstShort short) h = short_misses sched tasks fits laws short h.1
 tested_foretells sched tasks fits laws TestWide h = tt
-
--- it needs no horizon
-pub fixed_small : (sched : Sched) → sched ≢ Edf → (tasks : List SporadicTask) (cycle : ℕ) → IsSmall sched tasks cycle
-fixed_small Edf fixed tasks cycle = absurd (fixed refl)
-fixed_small Rm fixed tasks cycle = tt
-fixed_small Dm fixed tasks cycle = tt
-fixed_small Listed fixed tasks cycle = tt
 
 -- a task without a hit is short
 short_task : (above : ℕ → ℕ → Bool) (tasks : List SporadicTask) (bound : ℕ → ℕ) (i : ℕ)

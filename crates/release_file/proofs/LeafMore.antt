@@ -1,13 +1,14 @@
 -- The jobs of a part, one job later.
-use Rattle.std.proofs.Common.{◌≡◌, ◌≢◌, ℕ, suc, ◌+◌, ◌<◌, ◌≤◌, nat_lt, nat_le, Bool, true, false, not, eqb, ◌||◌, List, [], ◌∷◌, ◌++◌, length, get_or, set, Option, Some, None, refl, sym, ◌∙◌, ap, subst, arith, inl, inr, below_more, leb-true, ltb-true}
+use Rattle.std.proofs.Common.{◌≡◌, ◌≢◌, ℕ, ◌+◌, ◌<◌, ◌≤◌, nat_lt, nat_le, Bool, true, false, not, eqb, List, [], ◌∷◌, ◌++◌, length, get_or, set, Option, Some, None, refl, sym, ◌∙◌, ap, subst, arith, inl, inr, leb-true, ltb-true}
 use Rattle.std.specs.List.{list_any}
 use Rattle.std.proofs.lemmas.Bool.{cases_eq, and_left, and_right, and_from, and_parts, and_cases, eq-eqb, ne_eqb, both_ways, le-ltb, ltb-false, false_from_ne_true}
-use Rattle.std.proofs.lemmas.List.{get_or_append_left, get_or-set_same, get_or-set_other, length-set, length-map}
-use Rattle.std.proofs.lemmas.List.Folds.{list_any_at}
+use Rattle.std.proofs.lemmas.List.{get_or_append_left, get_or_default, get_or-set_same, get_or-set_other, length-set, length-map}
+use Rattle.std.proofs.lemmas.List.Folds.{list_any_at, list_any_none}
 use Rattle.std.proofs.Math.Seq.{get_or-append_seam}
 use Rattle.slot_model.specs.declared.job.Job.{Job}
 use Rattle.slot_model.specs.Task.{SporadicTask, default_job, task_at, job_at, ArrivesAfter}
 use Rattle.slot_model.specs.Release.{LegalRelease, fits_task}
+use Rattle.slot_model.proofs.Places.{each_pushed}
 use Rattle.csv_rows.specs.Rules.{fault_if}
 use Rattle.csv_rows.proofs.Keeping.{length_more}
 use Rattle.tree_model.specs.View.{NamedTask, PartView}
@@ -26,9 +27,7 @@ job_last js j = get_or-append_seam js j [] default_job
 -- a test that passes nowhere
 none_any : {A : Type 0} (p : A → Bool) (xs : List A) (d : A) → ((i : ℕ) → i < length xs → p (get_or xs i d) ≡ false)
     → list_any p xs ≡ false
-none_any p [] d h = refl
-none_any p (x ∷ xs) d h =
-    ap (λ (b : Bool). b || list_any p xs) (h 0 (omega arith)) ∙ none_any p xs d (λ i l. h (suc i) (omega (arith, l)))
+none_any p xs d h = list_any_none p xs (λ k e l. ap p (get_or_default xs k e d l) ∙ h k l)
 
 -- legal jobs come a period after one another, so a job that does not come too soon after the last
 -- of its task does not come too soon after any
@@ -99,9 +98,7 @@ too_early_is tasks jobs job (Some b) legal last = go (nat_lt (job.release + b.ea
 each_more : (js : List Job) (j : Job) (P : Job → Type 0) → ((i : ℕ) → i < length js → P (job_at js i)) → P j → (i : ℕ)
     → i < length (js ++ j ∷ []) → P (job_at (js ++ j ∷ []) i)
 each_more js j P old new i l =
-    below_more (λ (k : ℕ). P (job_at (js ++ j ∷ []) k)) (length js)
-    (λ k m. subst P (sym (job_same js (j ∷ []) k m)) (old k m)) (subst P (sym (job_last js j)) new) i
-    (omega (arith, l, length_more js j))
+    each_pushed (λ _. P) default_job js j (length js) refl old new i (omega (arith, l, length_more js j))
 
 pub legal_more : (tasks : List SporadicTask) (jobs : List Job) (job : Job) → LegalRelease tasks jobs
     → fits_task tasks job ≡ true → is_too_early tasks jobs job ≡ false → LegalRelease tasks (jobs ++ job ∷ [])

@@ -1,7 +1,6 @@
 -- What a wait tells of a job at the end of a run: its response, or that it lacks work.
-use Rattle.std.proofs.Common.{◌≡◌, ℕ, ◌+◌, ◌<◌, ◌≤◌, List, [], ◌∷◌, ◌++◌, length, get_or, Option, Some, None, MatchOption, arith, subst, sym, inl, inr}
+use Rattle.std.proofs.Common.{◌≡◌, ℕ, ◌+◌, ◌<◌, ◌≤◌, List, length, Option, Some, None, MatchOption, arith, subst, sym, inl, inr}
 use Rattle.std.proofs.lemmas.Bool.{cases_lt}
-use Rattle.std.proofs.lemmas.List.{get_or_append_left, get_or_push}
 use Rattle.slot_model.specs.declared.job.Job.{Job}
 use Rattle.slot_model.specs.Task.{job_at}
 use Rattle.slot_model.specs.Run.{service}
@@ -10,17 +9,6 @@ use Rattle.slot_model.proofs.MissedJobs.{service-before_release}
 use Rattle.span_counts.specs.declared.pending.Wait.{Wait}
 use Rattle.span_counts.specs.Pending.{HasWorkFrom, WaitsTo}
 use Rattle.response_times.specs.Replay.{AnswersResponse}
-
--- what is known of each place of a list, and of one more
-pub each_more : {A : Type 0} (P : ℕ → A → Type 0) (d : A) (xs : List A) (y : A) (n : ℕ) → length xs ≡ n
-    → ((k : ℕ) → k < n → P k (get_or xs k d)) → P n y
-    → (k : ℕ) → k < n + 1 → P k (get_or (xs ++ y ∷ []) k d)
-each_more P d xs y n long old new k l = elim (cases_lt k n) [
-  | inl before ↦ subst (P k) (sym (get_or_append_left xs (y ∷ []) d k (omega (arith, long)))) (old k before)
-  | inr last ↦
-      (let e : k ≡ n = omega arith in
-      subst (P k) (sym (get_or_push xs y d k (omega (arith, long)))) (subst (λ (z : ℕ). P z y) (sym e) new))
-]
 
 -- a job has no work before its release, so it has all of it later
 pub ends_from : (jobs : List Job) (run : List (Option ℕ)) (j slots x : ℕ) (wait : Wait) → HoldsReleased jobs run

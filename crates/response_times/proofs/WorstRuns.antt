@@ -21,7 +21,8 @@ use Rattle.guest_sched.specs.Spans.{run_of, slots_of, Window}
 use Rattle.guest_sched.proofs.Given.{slots-long}
 use Rattle.response_times.specs.Replay.{AnswersResponse, IsFirstJob, IsWorstRun, ShowsAnswer, ShowsResponse}
 use Rattle.response_times.specs.Response.{IsResponse}
-use Rattle.response_times.proofs.Responses.{in_run, one_response, responds_from_start, strict_order}
+use Rattle.fp_request.proofs.Strict.{order_strict}
+use Rattle.response_times.proofs.Responses.{in_run, one_response, responds_from_start}
 use Rattle.response_times.proofs.FirstJobs.{first_place, first_from_start}
 
 worst_permitted : (before : Job → Job → Bool) (tasks : List SporadicTask) (pattern : ℕ → Bool) (start span : ℕ)
@@ -172,7 +173,7 @@ module _ (sched : Sched) (fixed : sched ≢ Edf) (tasks : List SporadicTask) (fi
   shows_least =
       let W : List Job = synchronous tasks start t in
       let slots : List Bool = worst_list pattern (start + t) in
-      let made = run_to guest (before_of sched tasks) (strict_order sched tasks) tasks W slots (length slots) in
+      let made = run_to guest (before_of sched tasks) (order_strict sched tasks) tasks W slots (length slots) in
       let worst : IsWorstRun (before_of sched tasks) tasks pattern start t made.0
       = record { slots = slots; worst = worst_list-is pattern start t; first_run = made.1 } in
       let first : IsFirstJob W i i = first_place tasks start t i li least.0.some_slots in

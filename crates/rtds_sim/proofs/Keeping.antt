@@ -13,6 +13,7 @@ use Rattle.tree_model.specs.View.{SystemView}
 use Rattle.tree_model.specs.System.{part_at, IsSystem}
 use Rattle.tree_model.specs.Tree.{place_of, same_place, is_child, run_at}
 use Rattle.tree_model.proofs.Children.{same_itself}
+use Rattle.trace_file.proofs.Known.{child_vcpu}
 use Rattle.trace_file.specs.declared.event.Event.{Event}
 use Rattle.trace_file.specs.declared.event.What.{What}
 use Rattle.trace_file.specs.declared.event.What.TheVariants.{Start, Wake, Block, Run, Stop, End}
@@ -202,15 +203,6 @@ vcpu_core sys is v h =
   where
     go : (q : Parent) → is_core q ≡ true → same_place (place_of q) (Core (core_of q)) ≡ true
     go (on_core c) e = same_itself (Core c)
-    go (on_part r) e = cc
-
-child_vcpu : (sys : SystemView) (c v : ℕ) → v < length sys.parts → is_child sys (Core c) v ≡ true → is_vcpu sys v ≡ true
-child_vcpu sys c v l h =
-    and_from (nat_lt v (length sys.parts)) (is_core (part_at sys v).parent) (lt-ltb v (length sys.parts) l)
-    (go (part_at sys v).parent h)
-  where
-    go : (q : Parent) → same_place (place_of q) (Core c) ≡ true → is_core q ≡ true
-    go (on_core d) e = refl
     go (on_part r) e = cc
 
 module _ (sys : SystemView) (system : IsSystem sys) (rows : List Row) (workload : IsWorkload sys rows) where

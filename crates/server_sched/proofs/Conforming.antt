@@ -1,12 +1,13 @@
 -- Each pattern of a core's supply gives what the file says of it.
-use Rattle.std.proofs.Common.{◌≡◌, ℕ, zero, suc, min, ◌+◌, ◌-◌, ◌*◌, ◌<◌, ◌≤◌, ◌&&◌, nat_le, nat_lt, cond, Bool, true, false, List, length, get_or, Option, Some, None, [], sym, ◌∙◌, ap, arith, subst, inl, inr, lt-ltb, le-leb, add-suc}
+use Rattle.std.proofs.Common.{◌≡◌, ℕ, zero, suc, min, ◌+◌, ◌-◌, ◌*◌, ◌<◌, ◌≤◌, ◌&&◌, nat_le, nat_lt, cond, Bool, true, false, List, [], length, get_or, Option, Some, None, sym, ◌∙◌, ap, arith, subst, inl, inr, lt-ltb, le-leb, add-suc}
 use Rattle.std.proofs.lemmas.Bool.{cases_lt}
 use Rattle.std.proofs.lemmas.List.{get_or-map}
 use Rattle.std.proofs.lemmas.List.FromFn.{get_or-map-range_with_len, length-map-range_with_len}
 use Rattle.std.proofs.lemmas.Nat.{mod-mul-add}
 use Rattle.slot_model.specs.Slots.{count_below, slots_between}
 use Rattle.slot_model.specs.Supply.{GivesBudget, Follows}
-use Rattle.slot_model.proofs.Sums.{sum_below-suc, sum_below-same}
+use Rattle.slot_model.proofs.Sums.{sum_below-suc}
+use Rattle.slot_model.proofs.Counts.{count_same}
 use Rattle.slot_model.proofs.Runs.{count_below-mono}
 use Rattle.slot_model.proofs.WorstPattern.{worst_conforms}
 use Rattle.tree_model.specs.declared.pinned_core.Core.{Core}
@@ -52,9 +53,8 @@ gives_places given period first budget slots fit h follows k l =
     let end : ℕ = min (length slots) (suc k * period) in
     let place : k * period + (end - k * period) ≡ end = omega arith in
     let same : slots_between slots (k * period) end ≡ count_below (λ x. nat_le (k * period) x && given x) end
-    = sum_below-same (λ x. cond (nat_le (k * period) x && get_or slots x false) 1 0)
-    (λ x. cond (nat_le (k * period) x && given x) 1 0) end
-    (λ x lx. ap (λ (v : Bool). cond {A = ℕ} (nat_le (k * period) x && v) 1 0) (follows x (omega arith))) in
+    = count_same (λ x. nat_le (k * period) x && get_or slots x false) (λ x. nat_le (k * period) x && given x) end
+    (λ x lx. ap (λ (v : Bool). nat_le (k * period) x && v) (follows x (omega arith))) in
     omega (
       arith,
       same,

@@ -10,7 +10,7 @@ use Rattle.slot_model.specs.Run.{server, FirstRunTo}
 use Rattle.slot_model.specs.Miss.{is_missed, IsFirstMiss}
 use Rattle.slot_model.proofs.MissedJobs.{none_where_zero, zero_where_none}
 use Rattle.slot_model.proofs.Synchronous.{legal_synchronous}
-use Rattle.slot_model.proofs.FullSupply.{count_all}
+use Rattle.slot_model.proofs.Counts.{count_all}
 use Rattle.guest_sched.specs.Spans.{Window, slots_of}
 use Rattle.guest_sched.proofs.Given.{slots-long}
 use Rattle.span_counts.specs.Counts.{is_early, AreCounts}

@@ -1,16 +1,17 @@
 -- The late jobs of a level of servers, as the run goes on and as each is found.
-use Rattle.std.proofs.Common.{◌≡◌, ◌≢◌, ◌⊎◌, ℕ, zero, suc, ◌+◌, ◌-◌, ◌<◌, ◌≤◌, ◌&&◌, ◌||◌, nat_lt, nat_le, min, Bool, true, false, cond, List, ◌++◌, length, get_or, Option, Some, None, MatchOption, IfSome, eqb, ltb, refl, sym, ◌∙◌, ap, arith, subst, inl, inr, lt-ltb, le-ltb, le-leb, eq-eqb, ne_eqb, add-one}
+use Rattle.std.proofs.Common.{◌≡◌, ◌≢◌, ◌⊎◌, ℕ, zero, suc, ◌+◌, ◌-◌, ◌<◌, ◌≤◌, ◌&&◌, ◌||◌, nat_lt, nat_le, min, Bool, true, false, cond, List, ◌++◌, length, Option, Some, None, MatchOption, IfSome, eqb, ltb, refl, sym, ◌∙◌, ap, arith, subst, inl, inr, lt-ltb, le-ltb, le-leb, eq-eqb, ne_eqb, add-one}
 use Rattle.std.proofs.lemmas.Bool.{cases_eq, cases_lt, both_ways, and_parts, and_from, or_left, or_right, cond-true, cond-false, lt-leb, and_right}
-use Rattle.std.proofs.lemmas.List.{get_or_append_left}
 use Rattle.slot_model.specs.declared.job.Job.{Job}
 use Rattle.slot_model.specs.declared.miss.Miss.{Miss}
 use Rattle.slot_model.specs.declared.sched.Sched.{Sched}
 use Rattle.slot_model.specs.Slots.{count_below}
 use Rattle.slot_model.specs.Task.{SporadicTask, AreConstrained, task_at, job_at, deadline_of}
 use Rattle.slot_model.specs.Release.{synchronous}
-use Rattle.slot_model.specs.Run.{holds, service}
+use Rattle.slot_model.specs.Run.{service}
 use Rattle.slot_model.specs.Miss.{is_missed, miss_of, Missed, IsFirstMiss}
-use Rattle.slot_model.proofs.Sums.{sum_below-same, sum_below-suc}
+use Rattle.slot_model.proofs.Sums.{sum_below-suc}
+use Rattle.slot_model.proofs.Counts.{count_same}
+use Rattle.slot_model.proofs.FirstRuns.{service_same}
 use Rattle.slot_model.proofs.MissedJobs.{none_passes, missed_where_tested, tested_where_missed, none_where_zero}
 use Rattle.slot_model.proofs.Synchronous.{early_at-le, legal_synchronous, synchronous_early, synchronous_whole}
 use Rattle.server_sched.specs.declared.serving.Server.{Server}
@@ -19,10 +20,6 @@ use Rattle.server_sched.specs.Serving.{AreServerTasks, server_at, HasJob, AtRest
 use Rattle.server_sched.proofs.Releasing.{later_jobs, more_moments}
 
 -- one more that passes
-count_same : (f g : ℕ → Bool) (n : ℕ) → ((k : ℕ) → k < n → f k ≡ g k) → count_below f n ≡ count_below g n
-count_same f g n h =
-    sum_below-same (λ k. cond (f k) 1 0) (λ k. cond (g k) 1 0) n (λ k l. ap (λ (b : Bool). cond {A = ℕ} b 1 0) (h k l))
-
 count_more : (f g : ℕ → Bool) (n j : ℕ) → j < n → f j ≡ false → g j ≡ true → ((k : ℕ) → k < n → k ≢ j → f k ≡ g k)
     → count_below g n ≡ count_below f n + 1
 count_more f g zero j l e t h = absurd (omega arith)
@@ -435,13 +432,6 @@ rest_late sched T fits are n run x released next servers m h missed first t =
     (λ k l. sym (late_by_next sched T fits are n run x released next servers m h k l)) t
 
 -- as the run goes on up to there
-pub service_longer : (run more : List (Option ℕ)) (j x : ℕ) → x ≤ length run
-    → service (run ++ more) j x ≡ service run j x
-service_longer run more j x l =
-    sum_below-same (λ y. cond {A = ℕ} (holds (get_or (run ++ more) y None) j) 1 0)
-    (λ y. cond (holds (get_or run y None) j) 1 0) x
-    (λ y m. ap (λ (o : Option ℕ). cond {A = ℕ} (holds o j) 1 0) (get_or_append_left run more None y (omega arith)))
-
 longer_late : (d x t : ℕ) (short now : Bool) → (d < x → short ≡ now)
     → ((ltb d x || (eqb d x && ltb t 0)) && short) ≡ ((ltb d x || (eqb d x && ltb t 0)) && now)
 longer_late d x t short now h = elim (cases_lt d x) [
@@ -469,7 +459,7 @@ tallies_longer sched T fits are n run x released next servers long h more missed
     λ k l. longer_late (deadline_of T (job_at jobs k)) next (job_at jobs k).task
     (nat_lt (service run k (deadline_of T (job_at jobs k))) (job_at jobs k).work)
     (nat_lt (service (run ++ more) k (deadline_of T (job_at jobs k))) (job_at jobs k).work)
-    (λ d. ap (λ (s : ℕ). nat_lt s (job_at jobs k).work) (sym (service_longer run more k (deadline_of T (job_at jobs k))
+    (λ d. ap (λ (s : ℕ). nat_lt s (job_at jobs k).work) (sym (service_same run more k (deadline_of T (job_at jobs k))
     (omega (arith, long, settled sched T fits are n run x released next servers h k l d))))) in
     retold first
     (tallies_same T jobs run (is_late T jobs run next 0) (is_late T jobs (run ++ more) next 0) missed first same t)
@@ -486,7 +476,7 @@ tallies_longer sched T fits are n run x released next servers long h more missed
         told =
             h2.some.told
             ∙ ap (λ (s : ℕ). record (miss_of T (synchronous T 0 n) run late.place) { got = s })
-            (sym (service_longer run more late.place (deadline_of T (job_at (synchronous T 0 n) late.place))
+            (sym (service_same run more late.place (deadline_of T (job_at (synchronous T 0 n) late.place))
             (omega (
               arith,
               long,

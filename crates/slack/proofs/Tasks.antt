@@ -1,10 +1,11 @@
 -- The tasks as the code holds them: one of them is changed and put back, and whether all pass.
 use Rattle.std.proofs.Common.{◌≡◌, ℕ, ◌<◌, List, length, set, get_or, refl, sym, ◌∙◌, ap}
-use Rattle.std.proofs.lemmas.List.{map-set, get_or-map, set-get_or, set-set}
+use Rattle.std.proofs.lemmas.List.{map-set, set-get_or, set-set}
 use Rattle.slot_model.specs.declared.sched.Sched.{Sched}
 use Rattle.slot_model.specs.declared.task.Task.{Task}
-use Rattle.slot_model.specs.Task.{SporadicTask, default_task, jittery_task, sporadic_task, sporadic_tasks, task_at}
+use Rattle.slot_model.specs.Task.{SporadicTask, jittery_task, sporadic_task, sporadic_tasks, task_at}
 use Rattle.slot_model.specs.Bound.{TestPasses}
+use Rattle.slot_model.proofs.LegalJobs.{task_at-read}
 use Rattle.slot_model.proofs.Budgets.{short_not_passes}
 use Rattle.least_budget.specs.declared.answers.Tested.{Tested}
 use Rattle.least_budget.specs.declared.answers.Tested.TheVariants.{Passes as AllPasses, Short as FirstShort, Wide as TestWide}
@@ -15,11 +16,6 @@ pub put_back : (tasks : List Task) (i : ℕ) (changed task : Task) → task ≡ 
     → set (set tasks i changed) i task ≡ tasks
 put_back tasks i changed task e =
     set-set tasks i changed task ∙ (ap (λ (t : Task). set tasks i t) e ∙ set-get_or tasks i task)
-
--- the numbers of the task at a place
-pub task_read : (tasks : List Task) (i : ℕ) (task : Task) → i < length tasks → task ≡ get_or tasks i task
-    → sporadic_task task ≡ task_at (sporadic_tasks tasks) i
-task_read tasks i task h e = ap sporadic_task e ∙ sym (get_or-map sporadic_task tasks i task default_task h)
 
 same_numbers : (p d w j q e v k : ℕ) → p ≡ q → d ≡ e → w ≡ v → j ≡ k → jittery_task p d w j ≡ jittery_task q e v k
 same_numbers p d w j q e v k a b c f =
@@ -33,7 +29,7 @@ pub changed_tasks : (tasks : List Task) (i : ℕ) (task changed : Task) (work : 
     × (changed.jitter ≡ task.jitter)
     → sporadic_tasks (set tasks i changed) ≡ tasks_with (sporadic_tasks tasks) i work
 changed_tasks tasks i task changed work h e n =
-    let read : sporadic_task task ≡ task_at (sporadic_tasks tasks) i = task_read tasks i task h e in
+    let read : sporadic_task task ≡ task_at (sporadic_tasks tasks) i = sym (task_at-read tasks i task h e) in
     let t : SporadicTask = task_at (sporadic_tasks tasks) i in
     map-set sporadic_task tasks i changed
     ∙ ap (λ (x : SporadicTask). set (sporadic_tasks tasks) i x)

@@ -2,6 +2,7 @@ pub mod HandedOn
 mod Names
 pub mod Digits
 pub mod Sums
+pub mod Counts
 pub mod Places
 pub mod Windows
 pub mod Rising
@@ -10,6 +11,7 @@ pub mod Arrivals
 pub mod Served
 pub mod Runs
 pub mod Busy
+pub mod Strict
 pub mod FirstRuns
 pub mod Unique
 pub mod Synchronous

@@ -1,6 +1,6 @@
 -- The numbers below a bound that pass a test: how many they are, and where each of them stands.
-use Rattle.std.proofs.Common.{◌≡◌, ℕ, zero, suc, ◌+◌, ◌<◌, Bool, true, false, cond, List, [], ◌∷◌, map, length, get_or, refl, sym, ◌∙◌, ap, arith, subst, inl, inr}
-use Rattle.std.proofs.lemmas.Bool.{cases_eq, false≢true}
+use Rattle.std.proofs.Common.{◌≡◌, ℕ, zero, suc, ◌+◌, ◌<◌, Bool, true, false, cond, List, [], ◌∷◌, ◌++◌, map, length, get_or, refl, sym, ◌∙◌, ap, arith, subst, inl, inr}
+use Rattle.std.proofs.lemmas.Bool.{cases_eq, cases_lt, false≢true}
 use Rattle.std.proofs.lemmas.List.{get_or_append_left, get_or_push, length_push, map-append}
 use Rattle.std.specs.List.{sum_by}
 use Rattle.std.proofs.lemmas.List.Sums.{sum_by_push}
@@ -31,6 +31,23 @@ pub push_if-last : {X : Type 0} (xs : List X) (b : Bool) (y d : X) (i : ℕ) →
     → get_or (push_if xs b y) i d ≡ y
 push_if-last xs true y d i e l = get_or_push xs y d i l
 push_if-last xs false y d i e l = absurd (false≢true e)
+
+pub push_if-same : {X : Type 0} (xs ys : List X) (b c : Bool) (x y : X) → xs ≡ ys → b ≡ c → (c ≡ true → x ≡ y)
+    → push_if xs b x ≡ push_if ys c y
+push_if-same {X} xs ys b true x y e is same =
+    ap (λ (t : Bool). push_if xs t x) is
+    ∙ (ap (λ (zs : List X). zs ++ x ∷ []) e ∙ ap (λ (z : X). ys ++ z ∷ []) (same refl))
+push_if-same xs ys b false x y e is same = ap (λ (t : Bool). push_if xs t x) is ∙ e
+
+-- what is known of each place of a list, and of one more
+pub each_pushed : {X : Type 0} (P : ℕ → X → Type 0) (d : X) (xs : List X) (y : X) (n : ℕ) → length xs ≡ n
+    → ((k : ℕ) → k < n → P k (get_or xs k d)) → P n y → (k : ℕ) → k < n + 1 → P k (get_or (xs ++ y ∷ []) k d)
+each_pushed P d xs y n long old new k l = elim (cases_lt k n) [
+  | inl before ↦ subst (P k) (sym (get_or_append_left xs (y ∷ []) d k (omega (arith, long)))) (old k before)
+  | inr last ↦
+      (let e : k ≡ n = omega arith in
+      subst (P k) (sym (get_or_push xs y d k (omega (arith, long)))) (subst (λ (z : ℕ). P z y) (sym e) new))
+]
 
 pub places_where-zero : (passes : ℕ → Bool) → places_where passes 0 ≡ []
 places_where-zero passes = refl

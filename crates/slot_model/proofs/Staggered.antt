@@ -7,6 +7,7 @@ use Rattle.slot_model.specs.Release.{LegalRelease, push_if, releases_now, releas
 use Rattle.slot_model.specs.Task.{AreConstrained, ArrivesAfter, plain_job, early_job, job_at, task_at, SporadicTask}
 use Rattle.slot_model.specs.declared.job.Job.{Job}
 use Rattle.slot_model.proofs.Sums.{cond-none}
+use Rattle.slot_model.proofs.Places.{push_if-same}
 use Rattle.slot_model.proofs.Synchronous.{multiple, multiples_apart, last_place}
 use Rattle.slot_model.proofs.HasRelease.{In, in_push, new_push}
 
@@ -249,10 +250,6 @@ same_job tasks x i j =
     ∙ ap (λ (z : ℕ). early_job i (0 + x) (task_at tasks i).work z)
     (sym (ap (λ (z : ℕ). cond (eqb x 0) z 0) j ∙ cond-none (eqb x 0)))
 
-same_push : (xs ys : List Job) (a b : Bool) (y z : Job) → xs ≡ ys → a ≡ b → y ≡ z → push_if xs a y ≡ push_if ys b z
-same_push xs ys a b y z e f g =
-    ap (λ (v : List Job). push_if v a y) e ∙ (ap (λ (v : Bool). push_if ys v y) f ∙ ap (λ (v : Job). push_if ys b v) g)
-
 -- tasks without jitter that all start at 0
 pub record AtZero (tasks : List SporadicTask) (starts : List ℕ) : Type 0 where
   pub prompt : (i : ℕ) → i < length tasks → (task_at tasks i).jitter ≡ 0
@@ -263,9 +260,9 @@ same_moment : (tasks : List SporadicTask) (starts : List ℕ) → AtZero tasks s
 unfolding staggered_at releases_at
 same_moment tasks starts h x zero l one two e = e
 same_moment tasks starts h x (suc i) l one two e =
-    same_push _ _ _ _ _ _ (same_moment tasks starts h x i (omega arith) one two e)
+    push_if-same _ _ _ _ _ _ (same_moment tasks starts h x i (omega arith) one two e)
     (same_now (task_at tasks i) (start_at starts i) x (h.prompt i (omega arith)) (h.at_zero i (omega arith)))
-    (same_job tasks x i (h.prompt i (omega arith)))
+    (λ _. same_job tasks x i (h.prompt i (omega arith)))
 
 -- the staggered release with all starts at 0 is the synchronous one
 pub staggered_at_zero : (tasks : List SporadicTask) (starts : List ℕ) → AtZero tasks starts → (n : ℕ)

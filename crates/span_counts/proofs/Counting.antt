@@ -1,38 +1,18 @@
 -- Counts over stretches of places that are all alike.
-use Rattle.std.proofs.Common.{◌≡◌, ℕ, zero, suc, min, ◌+◌, ◌-◌, ◌<◌, ◌≤◌, ◌&&◌, Bool, true, false, cond, nat_le, List, length, get_or, set, Option, Some, None, refl, sym, ◌∙◌, ap, arith, subst, inl, inr, add-one, add-zero, eqb, eq-eqb, ne_eqb, le-leb, length-set, get_or-set_same, get_or-set_other, replicate}
+use Rattle.std.proofs.Common.{◌≡◌, ℕ, zero, suc, min, ◌+◌, ◌-◌, ◌<◌, ◌≤◌, ◌&&◌, Bool, true, false, cond, nat_le, List, length, get_or, set, Option, Some, None, refl, sym, ◌∙◌, ap, arith, subst, inl, inr, add-one, eqb, eq-eqb, ne_eqb, le-leb, length-set, get_or-set_same, get_or-set_other, replicate}
 use Rattle.std.proofs.lemmas.Bool.{cases_eq, cond-true, cond-false}
 use Rattle.std.proofs.lemmas.List.{get_or-replicate, length-replicate}
 use Rattle.slot_model.specs.declared.job.Job.{Job}
 use Rattle.slot_model.specs.Slots.{count_below, slots_between}
 use Rattle.slot_model.specs.Task.{SporadicTask, job_at, deadline_of}
 use Rattle.slot_model.specs.Run.{held, holds, service}
-use Rattle.slot_model.proofs.Sums.{sum_below-zero, sum_below-suc, sum_below-same}
+use Rattle.slot_model.proofs.Sums.{sum_below-zero}
+use Rattle.slot_model.proofs.Counts.{count_same, count_stretch}
 use Rattle.slot_model.proofs.Runs.{count_below-le}
 use Rattle.guest_sched.specs.Spans.{Window, is_given, slots_of, window_at, AreWindows}
 use Rattle.guest_sched.proofs.Given.{apart, none_given, all_given, slot_at}
 use Rattle.span_counts.specs.Counts.{AreServices}
 use Rattle.guest_sched.proofs.SpanByOne.{Holds}
-
-pub count_stretch : (p : ℕ → Bool) (v : Bool) (a k : ℕ) → ((x : ℕ) → a ≤ x → x < a + k → p x ≡ v)
-    → count_below p (a + k) ≡ count_below p a + cond v k 0
-count_stretch p true a zero h = ap (count_below p) (add-zero a) ∙ sym (add-zero (count_below p a))
-count_stretch p false a zero h = ap (count_below p) (add-zero a) ∙ sym (add-zero (count_below p a))
-count_stretch p true a (suc k) h =
-    omega (
-      arith,
-      ap (count_below p) (let e : a + suc k ≡ suc (a + k) = omega arith in e),
-      sum_below-suc (λ x. cond (p x) 1 0) (a + k),
-      cond-true {A = ℕ} (p (a + k)) 1 0 (h (a + k) (omega arith) (omega arith)),
-      count_stretch p true a k (λ x l m. h x l (omega arith)),
-    )
-count_stretch p false a (suc k) h =
-    omega (
-      arith,
-      ap (count_below p) (let e : a + suc k ≡ suc (a + k) = omega arith in e),
-      sum_below-suc (λ x. cond (p x) 1 0) (a + k),
-      cond-false {A = ℕ} (p (a + k)) 1 0 (h (a + k) (omega arith) (omega arith)),
-      count_stretch p false a k (λ x l m. h x l (omega arith)),
-    )
 
 pub count_to : (p : ℕ → Bool) (v : Bool) (a b : ℕ) → a ≤ b → ((x : ℕ) → a ≤ x → x < b → p x ≡ v)
     → count_below p b ≡ count_below p a + cond v (b - a) 0
@@ -97,10 +77,9 @@ all_windows windows n i given h l e =
     (λ x a b. none_given windows n i (window_end windows i) x h (λ k m. over windows n i k h m (omega arith)) a
     (λ q. absurd (omega arith))) in
     let same : slots_between (slots_of windows n) 0 n ≡ count_below (is_given windows) n
-    = sum_below-same (λ x. cond (nat_le 0 x && get_or (slots_of windows n) x false) 1 0)
-    (λ x. cond (is_given windows x) 1 0) n (λ x m. ap (λ (b : Bool). cond {A = ℕ} b 1 0)
-    (ap (λ (b : Bool). b && get_or (slots_of windows n) x false) (le-leb 0 x (omega arith))
-    ∙ slot_at windows n x m)) in
+    = count_same (λ x. nat_le 0 x && get_or (slots_of windows n) x false) (is_given windows) n
+    (λ x m. ap (λ (b : Bool). b && get_or (slots_of windows n) x false) (le-leb 0 x (omega arith))
+    ∙ slot_at windows n x m) in
     omega (arith, rest, same)
 
 -- the services so far: those of the first spans

@@ -1,40 +1,16 @@
 -- Tallies of periods, and what more periods do to one.
-use Rattle.std.proofs.Common.{◌≡◌, ℕ, zero, suc, ◌+◌, ◌<◌, ◌≤◌, ◌⊎◌, Bool, true, false, cond, Option, Some, None, refl, sym, ◌∙◌, ap, subst, arith, inl, inr}
+use Rattle.std.proofs.Common.{◌≡◌, ℕ, suc, ◌+◌, ◌<◌, ◌≤◌, ◌⊎◌, Bool, true, false, cond, Option, Some, None, refl, sym, ◌∙◌, ap, subst, arith, inl, inr}
 use Rattle.std.proofs.lemmas.Bool.{cases_lt, lt-ltb, le-ltb}
 use Rattle.slot_model.specs.Slots.{sum_below, count_below}
-use Rattle.slot_model.proofs.Sums.{sum_below-zero, sum_below-suc, sum_below-same, cond-none}
+use Rattle.slot_model.proofs.Counts.{count_same, count_stretch, count_all}
 use Rattle.slot_model.proofs.Runs.{count_below-le}
-use Rattle.trace_file.proofs.Counting.{suc_cond}
 use Rattle.vcpu_watch.specs.declared.tally.Tally.{Tally}
 use Rattle.vcpu_watch.specs.declared.watch.Breach.{Breach}
 use Rattle.vcpu_watch.specs.Numbers.{IsNumberOf, IsLeast, IsLeastOf, IsMost, IsMostOf}
 use Rattle.vcpu_watch.specs.Watch.{is_short_breach, is_over_breach, lesser, greater, least_if, counted, AreAtMost, IsTimeBelow, IsTallied, no_tally}
 
--- a count over numbers more that are all alike
-pub count_alike : (passes : ℕ → Bool) (v : Bool) (n m : ℕ) → ((k : ℕ) → n ≤ k → k < n + m → passes k ≡ v)
-    → count_below passes (n + m) ≡ count_below passes n + cond v m 0
-count_alike passes v n zero h =
-    let e : n + 0 ≡ n = omega arith in omega (arith, cond-none v, ap (λ (z : ℕ). count_below passes z) e)
-count_alike passes v n (suc m) h =
-    let e : n + suc m ≡ suc (n + m) = omega arith in
-    omega (
-      arith,
-      ap (λ (z : ℕ). count_below passes z) e,
-      sum_below-suc (λ k. cond {A = ℕ} (passes k) 1 0) (n + m),
-      ap (λ (z : Bool). cond {A = ℕ} z 1 0) (h (n + m) (omega arith) (omega arith)),
-      suc_cond v m,
-      count_alike passes v n m (λ k a b. h k a (omega arith)),
-    )
-
-pub count_same : (passes other : ℕ → Bool) (n : ℕ) → ((k : ℕ) → k < n → passes k ≡ other k)
-    → count_below passes n ≡ count_below other n
-count_same passes other n h =
-    sum_below-same (λ k. cond {A = ℕ} (passes k) 1 0) (λ k. cond {A = ℕ} (other k) 1 0) n
-    (λ k l. ap (λ (z : Bool). cond {A = ℕ} z 1 0) (h k l))
-
 pub count_true : (n : ℕ) → count_below (λ _. true) n ≡ n
-count_true zero = sum_below-zero (λ _. 1)
-count_true (suc n) = omega (arith, sum_below-suc (λ _. 1) n, count_true n)
+count_true n = count_all (λ _. true) n (λ _ _. refl)
 
 -- no number has a property
 pub none_has : (has : ℕ → Type 0) → ((k : ℕ) → has k → ⊥) → IsNumberOf has 0
@@ -141,19 +117,19 @@ pub tallied_more : (test : ℕ → Bool) (time : ℕ → ℕ) (breach : ℕ → 
     → IsTallied test time breach (n + m) (counted t m j g b)
 tallied_more test time breach n m t j g b a h = record {
   begun = ap (λ (z : ℕ). z + m) h.begun;
-  judged = omega (arith, h.judged, count_alike test j n m a.judged);
+  judged = omega (arith, h.judged, count_stretch test j n m a.judged);
   short =
       omega (
         arith,
         h.short,
-        count_alike (λ k. is_short_breach (breach k)) (is_short_breach b) n m
+        count_stretch (λ k. is_short_breach (breach k)) (is_short_breach b) n m
             (λ k l r. ap is_short_breach (a.breaches k l r)),
       );
   over =
       omega (
         arith,
         h.over,
-        count_alike (λ k. is_over_breach (breach k)) (is_over_breach b) n m
+        count_stretch (λ k. is_over_breach (breach k)) (is_over_breach b) n m
             (λ k l r. ap is_over_breach (a.breaches k l r)),
       );
   least = least_alike test time n m j g t.least a.some a.judged a.times h.least;

@@ -2,7 +2,6 @@
 use Rattle.std.proofs.Common.{◌≡◌, ℕ, ◌≤◌, List, [], Option, refl, sym, ◌∙◌, ap, subst}
 use Rattle.outside.specs.Files.{Files}
 use Rattle.compose_tree.proofs.Sound.{admitted_no_loss}
-use Rattle.compose_tree.proofs.Strict.{order_strict}
 use Rattle.bulk_host.specs.Host.{bulk_host}
 use Rattle.bulk_host.proofs.Systems.{host_is_system}
 use Rattle.bulk_run.specs.declared.counts.BulkCounts.{BulkCounts}
@@ -23,7 +22,7 @@ one_bulk : (n : ℕ) → IsOne (AnswersBulk n)
 one_bulk n = λ s t x y a b. (
   a.is_yes ∙ sym b.is_yes,
   a.told
-      ∙ (ap bulk_text (one_count order_strict n a.some a.most a.counts b.counts a.counted b.counted)
+      ∙ (ap bulk_text (one_count n a.some a.most a.counts b.counts a.counted b.counted)
       ∙ sym b.told),
 )
 

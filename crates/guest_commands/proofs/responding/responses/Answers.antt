@@ -7,7 +7,7 @@ use Rattle.slot_model.specs.Bound.{sbf}
 use Rattle.fp_request.proofs.Parts.{sporadic_tasks-length}
 use Rattle.fp_test.specs.Hits.{IsLeastHit}
 use Rattle.response_times.specs.Response.{IsGreatestResponse}
-use Rattle.response_times.proofs.Seen.{each_more}
+use Rattle.slot_model.proofs.Places.{each_pushed}
 use Rattle.period_choice.proofs.Shares.{short_task_fails}
 use Rattle.guest_commands.proofs.responding.responses.Goals as goal
 
@@ -35,10 +35,10 @@ loop-i-preserved c =
           );
       least =
           subst (λ (xs : List ℕ). (k : ℕ) → k < i + 1 → least k (get_or xs k 0)) (sym c.in_ok-push.ensures.items)
-          (each_more least 0 worst c.in-Some.t i c.loop-i.invariant.long c.loop-i.invariant.least
+          (each_pushed least 0 worst c.in-Some.t i c.loop-i.invariant.long c.loop-i.invariant.least
           c.in-Some.ensures.exact);
       greatest =
           subst (λ (xs : List ℕ). (k : ℕ) → k < i + 1 → greatest k (get_or xs k 0)) (sym c.in_ok-push.ensures.items)
-          (each_more greatest 0 worst c.in-Some.t i c.loop-i.invariant.long c.loop-i.invariant.greatest
+          (each_pushed greatest 0 worst c.in-Some.t i c.loop-i.invariant.long c.loop-i.invariant.greatest
           c.in-Some.ensures.greatest);
     }

@@ -5,7 +5,8 @@ use Rattle.guest_sched.specs.Spans.{run_of}
 use Rattle.span_counts.specs.declared.pending.Wait.{Wait}
 use Rattle.span_counts.specs.Pending.{WaitsTo}
 use Rattle.response_times.specs.Replay.{AnswersResponse, seen_at}
-use Rattle.response_times.proofs.Seen.{each_more, ends_from, wait_tells}
+use Rattle.slot_model.proofs.Places.{each_pushed}
+use Rattle.response_times.proofs.Seen.{ends_from, wait_tells}
 use Rattle.response_times.proofs.in_spans.first_responses.Goals as goal
 use Rattle.response_times.proofs.in_spans.first_responses.Goals.{After-index}
 
@@ -51,6 +52,6 @@ loop-place-preserved c =
       each =
           subst (λ (xs : List (Option ℕ)). (k : ℕ) → k < j + 1 → AnswersResponse jobs run k (seen_at xs k))
           (sym c.in_ok-push.ensures.items)
-          (each_more (AnswersResponse jobs run) None seen c.response_of.result j c.loop-place.invariant.long
+          (each_pushed (AnswersResponse jobs run) None seen c.response_of.result j c.loop-place.invariant.long
           c.loop-place.invariant.each told);
     }

@@ -4,7 +4,7 @@ use Rattle.guest_sched.specs.Spans.{Window}
 use Rattle.tree_model.proofs.FirstTrees.{first_tree_permitted, first_tree_unique, one_first_tree}
 use Rattle.tree_spans.specs.NodeView.{NodeView}
 use Rattle.tree_spans.specs.TreeSpans.{AreCoreNodes, ArePartNodes}
-use Rattle.fp_request.specs.Ranks.{order_laws}
+use Rattle.fp_request.proofs.Strict.{order_strict}
 use Rattle.tree_spans.proofs.TreeNodes.{tree_spans, tree_counted}
 use Rattle.tree_spans.proofs.tree.span_tree.Goals as goal
 
@@ -40,6 +40,4 @@ returns-clause-counts c = tree_counted _ _ _ _ _ _ (returns-clause-spans c)
 
 pub returns-clause-one : goal.returns-clause-one
 returns-clause-one c =
-    one_first_tree (λ sched tasks. record
-    { not_itself = (order_laws sched).not_itself tasks; in_turn = (order_laws sched).in_turn tasks }) _ _ _ _ _
-    c.core_nodes.ensures.system
+    one_first_tree order_strict _ _ _ _ _ c.core_nodes.ensures.system
