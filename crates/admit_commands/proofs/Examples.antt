@@ -48,15 +48,15 @@ what_a_yes_gives sys text kept = (
 what_a_witness_gives : (sys : SystemView) (text : List ℕ) → (kept : MeansOfSystem sys Yes text)
     → (k : ℕ) (replay : Replay) → slice_get kept.replays k ≡ Some replay
     → let q = slice_index (computed_leaves sys) k in
-      let leaf = part_at sys q in
-      let tasks = own_tasks leaf in
-      let release = synchronous tasks replay.witness.start replay.witness.span in
-      (slots : List Bool) × WorstList (worst_slot leaf.period replay.witness.budget) replay.witness.start
-      replay.witness.span slots
-      × ((b : ℕ) → b < budget_at kept.budgets q → GivesBudget leaf.period b slots)
-      × LegalRelease tasks release
-      × ((run : List (Option ℕ)) → PermittedRun guest (before_of leaf.sched tasks) tasks release slots run
-      → (j : ℕ) × Missed tasks release run j)
+    let leaf = part_at sys q in
+    let tasks = own_tasks leaf in
+    let release = synchronous tasks replay.witness.start replay.witness.span in
+    (slots : List Bool) × WorstList (worst_slot leaf.period replay.witness.budget) replay.witness.start
+    replay.witness.span slots
+    × ((b : ℕ) → b < budget_at kept.budgets q → GivesBudget leaf.period b slots)
+    × LegalRelease tasks release
+    × ((run : List (Option ℕ)) → PermittedRun guest (before_of leaf.sched tasks) tasks release slots run
+    → (j : ℕ) × Missed tasks release run j)
 what_a_witness_gives sys text kept k replay e =
     let of = kept.replayed.each k replay e in
     let does : Defeats (part_at sys (slice_index (computed_leaves sys) k)).sched
