@@ -1,15 +1,23 @@
 -- What the answers to one system mean, taken apart. A definition that says less breaks one of
 -- these.
-use Rattle.std.proofs.Common.{◌≡◌, ℕ, List}
-use Rattle.std.specs.Prelude.{Ok}
+use Rattle.std.proofs.Common.{◌≡◌, ℕ, ◌<◌, Bool, List, Option, Some, arith, subst}
+use Rattle.std.specs.Prelude.{Ok, slice_get, slice_index}
 use Rattle.tree_model.specs.View.{SystemView}
-use Rattle.tree_model.specs.Tree.{NoLoss}
+use Rattle.tree_model.specs.Tree.{NoLoss, budget_at}
 use Rattle.slot_model.specs.declared.sched.Short.{Short}
+use Rattle.slot_model.specs.Supply.{GivesBudget, worst_slot}
+use Rattle.slot_model.specs.Order.{before_of}
+use Rattle.slot_model.specs.Release.{LegalRelease, synchronous}
+use Rattle.slot_model.specs.Run.{guest, PermittedRun}
+use Rattle.slot_model.specs.Miss.{Missed, WorstList}
+use Rattle.tree_model.specs.System.{part_at, own_tasks, computed_leaves}
 use Rattle.tree_model.specs.declared.place.Place.{Place}
 use Rattle.tree_model.specs.Admission.{Admitted, FirstRefusal}
 use Rattle.tree_model.specs.declared.plan.Refusal.TheVariants.{Overfull}
 use Rattle.compose_tree.specs.Truth.{IsTight, RefusalHolds}
 use Rattle.miss_witness.specs.declared.replay.Replay.{Replay}
+use Rattle.miss_witness.specs.Defeat.{Defeats}
+use Rattle.miss_witness.specs.Replay.{AreReplays, AllDefeat}
 use Rattle.rt_report.specs.Admit.{admit_text}
 use Rattle.rt_report.specs.Refusal.{refusal_text}
 use Rattle.command_steps.specs.declared.status.Status.TheVariants.{Yes, No}
@@ -23,8 +31,47 @@ use Rattle.admit_commands.specs.Certify.{IsProof, CertificateMeans}
 -- computed leaf
 what_a_yes_gives : (sys : SystemView) (text : List ℕ) → MeansOfSystem sys Yes text
     → (budgets : List ℕ) × (replays : List Replay) × (text ≡ admit_text sys budgets replays) × Admitted sys budgets
-    × NoLoss sys budgets × IsTight sys budgets
-what_a_yes_gives sys text kept = (kept.budgets, kept.replays, kept.told, kept.admitted, kept.no_loss, kept.tight)
+    × NoLoss sys budgets × IsTight sys budgets × AreReplays sys budgets replays × AllDefeat sys replays
+what_a_yes_gives sys text kept = (
+  kept.budgets,
+  kept.replays,
+  kept.told,
+  kept.admitted,
+  kept.no_loss,
+  kept.tight,
+  kept.replayed,
+  kept.defeat,
+)
+
+-- the witness of the computed leaf in place k: with each smaller budget than that of the leaf its
+-- supply gives that budget, and its release, which is legal, misses over it in every permitted run
+what_a_witness_gives : (sys : SystemView) (text : List ℕ) → (kept : MeansOfSystem sys Yes text)
+    → (k : ℕ) (replay : Replay) → slice_get kept.replays k ≡ Some replay
+    → let q = slice_index (computed_leaves sys) k in
+    let leaf = part_at sys q in
+    let tasks = own_tasks leaf in
+    let release = synchronous tasks replay.witness.start replay.witness.span in
+    (slots : List Bool) × WorstList (worst_slot leaf.period replay.witness.budget) replay.witness.start
+    replay.witness.span slots
+    × ((b : ℕ) → b < budget_at kept.budgets q → GivesBudget leaf.period b slots)
+    × LegalRelease tasks release
+    × ((run : List (Option ℕ)) → PermittedRun guest (before_of leaf.sched tasks) tasks release slots run
+    → (j : ℕ) × Missed tasks release run j)
+what_a_witness_gives sys text kept k replay e =
+    let of = kept.replayed.each k replay e in
+    let does : Defeats (part_at sys (slice_index (computed_leaves sys) k)).sched
+    (own_tasks (part_at sys (slice_index (computed_leaves sys) k)))
+    (part_at sys (slice_index (computed_leaves sys) k)).period replay.witness
+    = subst (λ (q : ℕ). Defeats (part_at sys q).sched (own_tasks (part_at sys q)) (part_at sys q).period replay.witness)
+    of.of_part (kept.defeat k replay e) in
+    let slots = does.some_supply.0 in
+    let supply = does.some_supply.1 in (
+      slots,
+      supply,
+      λ b less. does.gives slots supply b (omega (arith, less, of.defeat.next_smaller)),
+      does.legal,
+      (does.misses slots supply).misses,
+    )
 
 -- a no tells the first refusal, and it holds
 what_a_no_gives : (sys : SystemView) (text : List ℕ) → MeansOfSystem sys No text

@@ -7,7 +7,7 @@ use Rattle.compose_tree.specs.Truth.{IsTight}
 use Rattle.system_file.specs.SystemFile.{system_of}
 use Rattle.miss_witness.specs.declared.replay.Replay.{Replay}
 use Rattle.rt_report.specs.Admit.{admit_text}
-use Rattle.miss_witness.specs.Replay.{AreReplays}
+use Rattle.miss_witness.specs.Replay.{AreReplays, AllDefeat}
 use Rattle.command_steps.specs.declared.status.Status.{Status}
 use Rattle.command_steps.specs.declared.status.Status.TheVariants.{Yes, No}
 use Rattle.command_steps.specs.Budgets.{OnAdmitted, IsTrulyOverfull}
@@ -32,7 +32,8 @@ Admits contents = AtFile 1 contents (λ bytes. OnSystem (system_of bytes) Admits
 
 -- yes means: the budgets that the text tells admit the system, no job is lost on any level in any
 -- permitted run, whenever each server begins, and every whole budget below a computed leaf budget
--- must miss
+-- must miss: the supply and the release that the text tells of the leaf defeat each of them, and
+-- the miss that it tells is the first of the first run of that release
 pub record KeepsDeadlines (sys : SystemView) (text : List ℕ) : Type 0 where
   pub budgets : List ℕ
   pub replays : List Replay
@@ -40,6 +41,8 @@ pub record KeepsDeadlines (sys : SystemView) (text : List ℕ) : Type 0 where
   pub admitted : Admitted sys budgets
   pub no_loss : NoLoss sys budgets
   pub tight : IsTight sys budgets
+  pub replayed : AreReplays sys budgets replays
+  pub defeat : AllDefeat sys replays
 
 -- what an answer to a system means: no means that the first refusal is true, and of a wide one
 -- nothing is claimed

@@ -131,12 +131,15 @@ pub none_smaller : (sched : Sched) (tasks : List SporadicTask) (period least : �
 none_smaller sched tasks period least h = h.1.least (least - 1) (omega (arith, h.2))
 
 -- so what was found is its replay
-pub read_replay : (sys : SystemView) (budgets : List ℕ) (q : ℕ) (sched : Sched) (tasks : List SporadicTask)
-    (period least : ℕ) → LeafRead sys budgets q sched tasks period least
+pub read_replay : (sys : SystemView) (budgets : List ℕ) (q : ℕ) → q < length sys.parts
+    → is_computed_leaf (part_at sys q) ≡ true → (sched : Sched) (tasks : List SporadicTask) (period least : ℕ)
+    → LeafRead sys budgets q sched tasks period least
     → (witness : Defeat) (miss : Option Miss) → IsDefeat sched tasks period least witness
     → IsReplayed sched tasks period witness miss
     → IsReplay sys budgets q (record { part = q; witness = witness; miss = miss })
-read_replay sys budgets q sched tasks period least read witness miss defeat replayed = record {
+read_replay sys budgets q l computed sched tasks period least read witness miss defeat replayed = record {
+  is_part = l;
+  is_computed = computed;
   of_part = refl;
   defeat = rw (← read.sched_is, ← read.tasks_are, ← read.period_is, ← read.least_is) defeat;
   replayed = rw (← read.sched_is, ← read.tasks_are, ← read.period_is) replayed;

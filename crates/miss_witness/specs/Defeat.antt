@@ -1,10 +1,13 @@
--- What defeats the next smaller budget of a leaf.
-use Rattle.std.specs.Prelude.{◌≡◌, ℕ, ◌+◌, Bool, List, Option, Some, None}
+-- What defeats the next smaller budget of a leaf, and that it does.
+use Rattle.std.specs.Prelude.{◌≡◌, ℕ, ◌+◌, ◌≤◌, Bool, List, Option, Some, None}
 use Rattle.slot_model.specs.declared.sched.Sched.{Sched}
 use Rattle.slot_model.specs.declared.sched.Sched.TheVariants.{Edf, Rm, Dm, Listed}
 use Rattle.slot_model.specs.Task.{SporadicTask, room_of, task_at}
-use Rattle.slot_model.specs.Order.{ranks_above}
+use Rattle.slot_model.specs.Supply.{GivesBudget, worst_slot}
+use Rattle.slot_model.specs.Order.{before_of, ranks_above}
+use Rattle.slot_model.specs.Release.{LegalRelease, synchronous}
 use Rattle.slot_model.specs.Bound.{sbf, IsFirstShortPoint, IsFirstShortTask}
+use Rattle.slot_model.specs.Miss.{WorstList, MissesFromStart, MustMiss}
 use Rattle.miss_witness.specs.declared.defeat.Defeat.{Defeat}
 
 -- the window that is short: up to the least short point under edf, else what the deadline of the
@@ -31,3 +34,24 @@ pub record IsDefeat (sched : Sched) (tasks : List SporadicTask) (period least : 
   pub next_smaller : defeat.budget + 1 ≡ least
   pub at_start : defeat.start ≡ defeat.budget
   pub short : IsShortWindow sched tasks (sbf period defeat.budget) defeat.span defeat.task
+
+-- The list of slots of a defeat: the worst pattern of its budget, up to the end of its window.
+abbrev pub IsDefeatSupply : ℕ → Defeat → List Bool → Type 0
+IsDefeatSupply period defeat =
+    WorstList (worst_slot period defeat.budget) defeat.start defeat.span
+
+-- A defeat defeats its budget and each smaller one: its list of slots, of which there is one, gives
+-- each of them in every period, the release of all tasks at its start is legal, and over that list
+-- a job of it misses by the end of the window in every permitted run of the guest, of which there
+-- is one. So with each of these budgets the guest must miss.
+pub record Defeats (sched : Sched) (tasks : List SporadicTask) (period : ℕ) (defeat : Defeat)
+    : Type 0 where
+  pub some_supply : (slots : List Bool) × IsDefeatSupply period defeat slots
+  pub gives : (slots : List Bool) → IsDefeatSupply period defeat slots →
+      (budget : ℕ) → budget ≤ defeat.budget → GivesBudget period budget slots
+  pub legal : LegalRelease tasks (synchronous tasks defeat.start defeat.span)
+  pub misses : (slots : List Bool) → IsDefeatSupply period defeat slots →
+      MissesFromStart (worst_slot period defeat.budget) defeat.start defeat.span
+      (before_of sched tasks) tasks slots
+  pub must_miss : (budget : ℕ) → budget ≤ defeat.budget →
+      MustMiss (GivesBudget period budget) (before_of sched tasks) tasks

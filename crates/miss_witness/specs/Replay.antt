@@ -1,17 +1,16 @@
 -- Replays: what defeats the next smaller budget of a leaf, and what is seen when it is run.
-use Rattle.std.specs.Prelude.{◌≡◌, ℕ, ◌+◌, ◌<◌, ◌≤◌, Bool, List, length, slice_get, slice_index, Option, Some, None}
+use Rattle.std.specs.Prelude.{◌≡◌, ℕ, ◌+◌, ◌<◌, ◌≤◌, Bool, true, List, length, slice_get, slice_index, Option, Some, None}
 use Rattle.slot_model.specs.declared.sched.Sched.{Sched}
 use Rattle.slot_model.specs.declared.miss.Miss.{Miss}
-use Rattle.slot_model.specs.Supply.{worst_slot}
 use Rattle.slot_model.specs.Task.{SporadicTask}
 use Rattle.slot_model.specs.Order.{before_of}
 use Rattle.slot_model.specs.Release.{synchronous}
 use Rattle.slot_model.specs.Run.{guest, FirstRun}
-use Rattle.slot_model.specs.Miss.{WorstList, IsFirstMiss}
+use Rattle.slot_model.specs.Miss.{IsFirstMiss}
 use Rattle.miss_witness.specs.declared.defeat.Defeat.{Defeat}
-use Rattle.miss_witness.specs.Defeat.{IsDefeat}
+use Rattle.miss_witness.specs.Defeat.{IsDefeat, IsDefeatSupply, Defeats}
 use Rattle.tree_model.specs.View.{SystemView}
-use Rattle.tree_model.specs.System.{part_at, own_tasks, computed_leaves}
+use Rattle.tree_model.specs.System.{part_at, own_tasks, is_computed_leaf, computed_leaves}
 use Rattle.tree_model.specs.Tree.{budget_at}
 use Rattle.miss_witness.specs.declared.replay.Replay.{Replay}
 
@@ -21,7 +20,7 @@ pub record ShowsMiss
     : Type 0 where
   pub slots : List Bool
   pub run : List (Option ℕ)
-  pub worst : WorstList (worst_slot period defeat.budget) defeat.start defeat.span slots
+  pub worst : IsDefeatSupply period defeat slots
   pub first_run : FirstRun guest (before_of sched tasks) tasks
       (synchronous tasks defeat.start defeat.span) slots run
   pub first_miss : IsFirstMiss tasks (synchronous tasks defeat.start defeat.span) run (Some miss)
@@ -34,6 +33,8 @@ IsReplayed sched tasks period defeat (Some miss) =
 
 -- the replay of part q, a leaf with a computed budget
 pub record IsReplay (sys : SystemView) (budgets : List ℕ) (q : ℕ) (replay : Replay) : Type 0 where
+  pub is_part : q < length sys.parts
+  pub is_computed : is_computed_leaf (part_at sys q) ≡ true
   pub of_part : replay.part ≡ q
   pub defeat : IsDefeat (part_at sys q).sched (own_tasks (part_at sys q)) (part_at sys q).period
       (budget_at budgets q) replay.witness
@@ -45,3 +46,13 @@ pub record AreReplays (sys : SystemView) (budgets : List ℕ) (replays : List Re
   pub one_each : length replays ≡ length (computed_leaves sys)
   pub each : (k : ℕ) (replay : Replay) → slice_get replays k ≡ Some replay
       → IsReplay sys budgets (slice_index (computed_leaves sys) k) replay
+
+-- what is replayed defeats its leaf with the budget that it names, and with each smaller one
+abbrev pub DefeatsLeaf : SystemView → Replay → Type 0
+DefeatsLeaf sys replay =
+    let leaf = part_at sys replay.part in
+    Defeats leaf.sched (own_tasks leaf) leaf.period replay.witness
+
+abbrev pub AllDefeat : SystemView → List Replay → Type 0
+AllDefeat sys replays =
+    (k : ℕ) (replay : Replay) → slice_get replays k ≡ Some replay → DefeatsLeaf sys replay

@@ -5,6 +5,7 @@ use Rattle.tree_model.specs.System.{IsSystem}
 use Rattle.compose_tree.proofs.Sound.{admitted_no_loss, admitted_tight}
 use Rattle.miss_witness.specs.declared.replay.Replay.{Replay}
 use Rattle.rt_report.specs.Admit.{admit_text}
+use Rattle.miss_witness.proofs.Defeated.{replays_defeat}
 use Rattle.miss_witness.proofs.OneReplay.{one_list_of_replays}
 use Rattle.command_steps.specs.declared.status.Status.{Status}
 use Rattle.command_steps.specs.declared.status.Status.TheVariants.{Yes, No, Wide}
@@ -43,6 +44,8 @@ admits_means sys is status text h = elim h [
         admitted = a.gives;
         no_loss = admitted_no_loss sys is a.value a.gives;
         tight = admitted_tight sys is a.value a.gives;
+        replayed = a.said.replayed;
+        defeat = replays_defeat sys is a.value a.gives a.said.replays a.said.replayed;
       })
   | inr a ↦
       refused_means MeansOfSystem sys is (λ t over. over) (λ t. tt) a.refusal a.refuses status text a.status_is a.told

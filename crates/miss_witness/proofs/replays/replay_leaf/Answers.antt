@@ -50,7 +50,8 @@ returns c =
     let tasks : List SporadicTask = sporadic_tasks (take c.unwrap-count.result c.tasks_of.new.into) in
     let sched : c.sched-2.result ≡ c.sched.result = c.sched-2.ensures ∙ sym c.sched.ensures in
     let period : c.period-2.result ≡ c.period.result = c.period-2.ensures ∙ sym c.period.ensures in
-    read_replay c.args.sys.now c.args.plan.now c.args.q c.sched.result tasks c.period.result _
+    read_replay c.args.sys.now c.args.plan.now c.args.q c.requires.is_part c.requires.computed c.sched.result tasks
+    c.period.result _
     (read (goal.at.returns c).After-period) c.witness-witness.result c.in_ok-miss.miss
     c.witness-witness.ensures.defeat
     (subst (λ (z : Sched). IsReplayed z tasks c.period.result c.witness-witness.result c.in_ok-miss.miss) sched
