@@ -22,7 +22,8 @@ use Rattle.rtds_sim.proofs.Telling.{told_more}
 use Rattle.rtds_sim.proofs.Visits.{left_before, switch_quiet}
 
 -- how core c stands as slot t comes, when it has run from slot x on
-pub record StandsAt (sys : SystemView) (budgets : List ℕ) (rows : List Row) (c : ℕ) (run : List (Option ℕ)) (x to k t : ℕ)
+pub record StandsAt (sys : SystemView) (budgets : List ℕ) (rows : List Row) (c : ℕ) (run : List (Option ℕ))
+    (x to k t : ℕ)
     (host : Host) (before told : List Event) : Type 0 where
   pub are : AreOn sys budgets rows c run t k host.accounts
   pub left_is : t < to → holder_at host.holders c ≡ holder_left rows run t
@@ -44,7 +45,8 @@ stands_first sys budgets rows n c run x to k host now before a h u = record {
 }
 
 -- at last
-pub stands_last : (sys : SystemView) (budgets : List ℕ) (rows : List Row) (c : ℕ) (run : List (Option ℕ)) (x to k t : ℕ) (host : Host)
+pub stands_last : (sys : SystemView) (budgets : List ℕ) (rows : List Row) (c : ℕ) (run : List (Option ℕ))
+    (x to k t : ℕ) (host : Host)
     (before told : List Event) → x < to → t ≡ to → StandsAt sys budgets rows c run x to k t host before told
     → HasRun sys budgets rows c run x to k host before told
 stands_last sys budgets rows c run x to k t host before told l e h =

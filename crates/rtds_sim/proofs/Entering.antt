@@ -54,7 +54,8 @@ none_had slots budget some = elim (cases_lt slots budget) [
 ]
 
 module _ (sys : SystemView) (budgets : List ℕ) (rows : List Row) (c : ℕ) (run : List (Option ℕ)) (x k : ℕ)
-    (taken : AreBefore rows k (suc x)) (plan : IsPlan sys budgets) (accounts : List Account) (are : AreOn sys budgets rows c run x k accounts) where
+    (taken : AreBefore rows k (suc x)) (plan : IsPlan sys budgets) (accounts : List Account)
+    (are : AreOn sys budgets rows c run x k accounts) where
   abbrev on_this : ℕ → Type 0
   on_this v = (v < length sys.parts) × (is_child sys (Core c) v ≡ true)
 

@@ -1,5 +1,5 @@
 -- Accounts and keys that are set.
-use Rattle.std.proofs.Common.{◌≡◌, ◌≢◌, ℕ, ◌+◌, ◌-◌, ◌<◌, ◌≤◌, Bool, true, false, cond, ◌&&◌, ◌==◌, nat_lt, List, length, set, Option, Some, None, refl, sym, ◌∙◌, ap, arith, subst, inl, inr, eq-eqb}
+use Rattle.std.proofs.Common.{◌≡◌, ◌≢◌, ℕ, ◌+◌, ◌<◌, ◌≤◌, Bool, true, false, cond, ◌&&◌, ◌==◌, nat_lt, List, length, set, Option, None, refl, sym, ◌∙◌, ap, arith, subst, inl, inr, eq-eqb}
 use Rattle.std.proofs.lemmas.Bool.{cases_eq, cases_Bool, both_ways, and_from, false≢true}
 use Rattle.std.proofs.lemmas.List.{get_or-set_same, get_or-set_other, length-set}
 use Rattle.slot_model.specs.Run.{holds}
@@ -64,7 +64,8 @@ ready_set sys host v a queues l h sound listed key_is other_keys =
       sound = λ u lu. at_set (IsSound host.time) host.accounts v u a room (λ e. sound) (h.sound u lu);
       keys = λ u lu. elim (cases_eq u v) [
         | inl e ↦
-            subst (λ (z : ℕ). key_at queues.keys z ≡ key_of (account_at (set host.accounts v a) z) (part_at sys z).extra)
+            subst (λ (z : ℕ). key_at queues.keys z
+            ≡ key_of (account_at (set host.accounts v a) z) (part_at sys z).extra)
             (sym e)
             (key_is ∙ sym (ap (λ (z : Account). key_of z (part_at sys v).extra) (account_here host.accounts v a room)))
         | inr ne ↦

@@ -21,14 +21,16 @@ use Rattle.trace_file.specs.Rules.{is_vcpu}
 use Rattle.rtds_sim.proofs.Keeping.{OnCore, vcpu_core}
 use Rattle.rtds_sim.proofs.Steady.{core_in}
 
-pub record Standing (sys : SystemView) (budgets : List ℕ) (rows : List Row) (runs : List (List (Option ℕ))) (host : Host) : Type 0 where
+pub record Standing (sys : SystemView) (budgets : List ℕ) (rows : List Row) (runs : List (List (Option ℕ)))
+    (host : Host) : Type 0 where
   pub before : AreBefore rows host.taken host.time
   pub are : AreAccounts sys budgets rows runs host.time host.taken host.accounts
   pub holders_are : (c : ℕ) → c < length sys.cores → holder_at host.holders c ≡ holder_before (run_at runs c) host.time
   pub room : HasRoom sys host
 
 -- at the start
-pub standing_start : (sys : SystemView) (budgets : List ℕ) (rows : List Row) (runs : List (List (Option ℕ))) (host : Host) → host.time ≡ 0
+pub standing_start : (sys : SystemView) (budgets : List ℕ) (rows : List Row) (runs : List (List (Option ℕ)))
+    (host : Host) → host.time ≡ 0
     → host.taken ≡ 0 → HasRoom sys host → ((v : ℕ) → account_at host.accounts v ≡ no_account)
     → ((c : ℕ) → holder_at host.holders c ≡ None) → Standing sys budgets rows runs host
 standing_start sys budgets rows runs host t k room accounts holders = record {
@@ -38,7 +40,8 @@ standing_start sys budgets rows runs host t k room accounts holders = record {
       (subst (λ (k : ℕ). AreAccounts sys budgets rows runs 0 k host.accounts) (sym k) (record {
         all_vcpus = room.all_vcpus;
         each =
-            λ v l. subst (λ (a : Account). IsAccount sys budgets rows (run_of_part sys runs v) v 0 0 a) (sym (accounts v))
+            λ v l. subst (λ (a : Account). IsAccount sys budgets rows (run_of_part sys runs v) v 0 0 a)
+            (sym (accounts v))
             (record {
               started = sym (ap is_some (last_below-zero (starts v) (row_at rows)));
               blocked = sym (ap blocks (last_below-zero (is_of v) (row_at rows)));
@@ -73,7 +76,8 @@ idle_account sys budgets rows run v x to k a off h = record {
 -- a VCPU that is started stands on a core
 pub started_core : (sys : SystemView) → IsSystem sys → (budgets : List ℕ) (rows : List Row) → IsWorkload sys rows
     → (runs : List (List (Option ℕ))) (x k : ℕ) (accounts : List Account) → k ≤ length rows
-    → AreAccounts sys budgets rows runs x k accounts → (v : ℕ) → v < length sys.parts → (account_at accounts v).started ≡ true
+    → AreAccounts sys budgets rows runs x k accounts → (v : ℕ) → v < length sys.parts
+    → (account_at accounts v).started ≡ true
     → OnCore sys v
 started_core sys system budgets rows w runs x k accounts in_rows are v l on =
     let f = some_found (starts v) (row_at rows) k (sym (are.each v l).started ∙ on) in
@@ -83,7 +87,8 @@ started_core sys system budgets rows w runs x k accounts in_rows are v l on =
 
 -- the next slot, once each core has run up to it
 module _ (sys : SystemView) (system : IsSystem sys) (budgets : List ℕ) (rows : List Row) (w : IsWorkload sys rows)
-    (runs : List (List (Option ℕ))) (x k : ℕ) (accounts : List Account) (are : AreAccounts sys budgets rows runs x k accounts)
+    (runs : List (List (Option ℕ))) (x k : ℕ) (accounts : List Account)
+    (are : AreAccounts sys budgets rows runs x k accounts)
     (taken : AreBefore rows k (suc x)) (to : ℕ) (later : x < to) (rows_later : RowsFrom rows k to) where
   on_no_core : (v : ℕ) → is_child sys (Core (core_of (part_at sys v).parent)) v ≡ false → (c : ℕ) → c < length sys.cores
       → is_child sys (Core c) v ≡ false
@@ -128,11 +133,13 @@ module _ (sys : SystemView) (system : IsSystem sys) (budgets : List ℕ) (rows :
       not_started v l b = elim (cases_Bool (account_at accounts v).started) [
         | inr off ↦ off
         | inl on ↦
-            absurd (both_ways _ b (started_core sys system budgets rows w runs x k accounts taken.in_rows are v l on).child)
+            absurd (both_ways _ b (started_core sys system budgets rows w runs x k accounts taken.in_rows
+            are v l on).child)
       ]
 
 -- in the middle of a visit: the rows at the slot are taken, and the cores are as before
-pub record Visit (sys : SystemView) (budgets : List ℕ) (rows : List Row) (runs : List (List (Option ℕ))) (host : Host) : Type 0 where
+pub record Visit (sys : SystemView) (budgets : List ℕ) (rows : List Row) (runs : List (List (Option ℕ)))
+    (host : Host) : Type 0 where
   pub taken : AreBefore rows host.taken (suc host.time)
   pub are : AreAccounts sys budgets rows runs host.time host.taken host.accounts
   pub holders_are : (c : ℕ) → c < length sys.cores → holder_at host.holders c ≡ holder_before (run_at runs c) host.time

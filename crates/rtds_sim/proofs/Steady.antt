@@ -1,5 +1,5 @@
 -- From one change to the next each core keeps its VCPU.
-use Rattle.std.proofs.Common.{◌≡◌, ℕ, zero, suc, ◌+◌, ◌*◌, ◌-◌, ◌/◌, ◌%◌, ◌<◌, ◌≤◌, ◌==◌, nat_lt, Bool, true, false, not, cond, if◌then◌else◌, ◌&&◌, ◌||◌, List, length, Option, Some, refl, sym, ◌∙◌, ap, arith, subst, inl, inr, eqb-true, eq-eqb, ltb-true, lt-ltb, le-ltb}
+use Rattle.std.proofs.Common.{◌≡◌, ℕ, zero, suc, ◌+◌, ◌*◌, ◌-◌, ◌/◌, ◌%◌, ◌<◌, ◌≤◌, ◌==◌, nat_lt, Bool, true, false, not, cond, ◌&&◌, ◌||◌, List, length, Option, Some, refl, sym, ◌∙◌, ap, arith, subst, inl, inr, eqb-true, eq-eqb, ltb-true, lt-ltb, le-ltb}
 use Rattle.std.proofs.lemmas.Nat.{div-mul-add}
 use Rattle.std.proofs.Math.Nat.{div-eq_of_lt, zero-div}
 use Rattle.std.proofs.lemmas.Bool.{cases_eq, cases_lt, cases_Bool, both_ways, and_parts, and_from, cond-true, cond-false}
@@ -165,7 +165,8 @@ module _ (sys : SystemView) (budgets : List ℕ) (plan : IsPlan sys budgets) (ro
       → period_number (part_at sys v).period (start_of rows v) y
       ≡ period_number (part_at sys v).period (start_of rows v) x
   from_same v y l m r =
-      number_same (part_at sys v).period (start_of rows v) x y (omega (arith, r.in_period.until_is, r.in_period.begun)) l
+      number_same (part_at sys v).period (start_of rows v) x y
+      (omega (arith, r.in_period.until_is, r.in_period.begun)) l
       (omega (arith, m, r.in_period.until_is, next.in_period v r.is_part r.child))
 
   -- what it had by y

@@ -120,14 +120,16 @@ module _ (sys : SystemView) (budgets : List ℕ) (rows : List Row) (workload : I
               until_is =
                   sym (ap (λ (n : ℕ). begins (part_at sys v).period (start_of rows v) (suc n)) number ∙ first);
               level_is = sym (ap (λ (g : ℕ). g / budget_at budgets v) none ∙ zero-div (budget_at budgets v));
-              left_is = sym (ap (λ (g : ℕ). left_of g (budget_at budgets v)) none ∙ all_left (budget_at budgets v) budget);
+              left_is = sym (ap (λ (g : ℕ). left_of g (budget_at budgets v)) none
+                  ∙ all_left (budget_at budgets v) budget);
               begun = omega (arith, at);
               not_over = omega (arith, at, some);
             };
       }
 
   change_account : (run : List (Option ℕ)) (v x k : ℕ) (b : Bool) (a : Account) → is_of v (row_at rows k) ≡ true
-      → is_start (row_at rows k).what ≡ false → is_block (row_at rows k).what ≡ b → IsAccount sys budgets rows run v x k a
+      → is_start (row_at rows k).what ≡ false → is_block (row_at rows k).what ≡ b
+      → IsAccount sys budgets rows run v x k a
       → IsAccount sys budgets rows run v x (suc k) (record a { blocked = b })
   change_account run v x k b a of not_start is h = record {
     started =
@@ -156,7 +158,8 @@ module _ (sys : SystemView) (budgets : List ℕ) (rows : List Row) (workload : I
   pub accounts_more : (runs : List (List (Option ℕ))) (x k : ℕ) (accounts : List Account) → IsPlan sys budgets
       → k < length rows → (row_at rows k).at ≡ x → (row_at rows k).vcpu < length accounts
       → AreAccounts sys budgets rows runs x k accounts
-      → AreAccounts sys budgets rows runs x (k + 1) (set accounts (row_at rows k).vcpu (own_taken sys budgets rows accounts k))
+      → AreAccounts sys budgets rows runs x (k + 1)
+      (set accounts (row_at rows k).vcpu (own_taken sys budgets rows accounts k))
   accounts_more runs x k accounts plan l at room h =
       let v : ℕ = (row_at rows k).vcpu in
       let r : Account = own_taken sys budgets rows accounts k in

@@ -14,9 +14,9 @@ use tree_model::{MAX_CORES, MAX_PARTS, Plan, System};
 /// How many slots the cores are run by themselves at most: the switches at so many are kept.
 const STRETCH: u64 = 4_096;
 
-/// What the VCPUs and cores have come to at a slot. A run goes on in turns: the rows at the slot are
-/// taken (`take_rows`), the cores whose VCPUs block stop (`stop_blocked`), and then each core runs by
-/// itself (`run_on`) up to the next slot at which there is a row (`next_row`).
+/// What the VCPUs and cores have come to at a slot. A run goes on in turns: the rows at the slot
+/// are taken (`take_rows`), the cores whose VCPUs block stop (`stop_blocked`), and then each core
+/// runs by itself (`run_on`) up to the next slot at which there is a row (`next_row`).
 #[derive(Drop)]
 pub struct Host {
     /// The next slot, and while the cores run by themselves the one up to which they do.

@@ -167,7 +167,8 @@ loop-host-preserved g c =
     ) in
     -- each core has run
     let has_run : (d : ℕ) → d < cores
-    → HasRun sys budgets rows d (run_at runs d) x to k c.run_on.new.self [] (list_at c.run_on.new.switches.lists.items d)
+    → HasRun sys budgets rows d (run_at runs d) x to k c.run_on.new.self []
+    (list_at c.run_on.new.switches.lists.items d)
     = λ d l.
     subst (λ (y : ℕ). HasRun sys budgets rows d (run_at runs d) y to k c.run_on.new.self []
     (list_at c.run_on.new.switches.lists.items d)) time
@@ -180,7 +181,8 @@ loop-host-preserved g c =
           λ v lv child. subst
           (λ (xs : List Account). IsAccount sys budgets rows (run_at runs d) v left.time k (account_at xs v))
           (sym c.stop_blocked.ensures.accounts)
-          (subst (λ (y : ℕ). IsAccount sys budgets rows (run_at runs d) v y k (account_at took_host.accounts v)) (sym time)
+          (subst (λ (y : ℕ). IsAccount sys budgets rows (run_at runs d) v y k (account_at took_host.accounts v))
+          (sym time)
           (subst (λ (e : ℕ). IsAccount sys budgets rows (run_at runs e) v x k (account_at took_host.accounts v))
           (child_core sys d v child) (visit.are.each v lv)));
       holder_is =
@@ -225,7 +227,8 @@ loop-host-preserved g c =
     told_first switches_told in
     record {
       stands =
-          standing_next sys c.new-host.ensures.system budgets rows c.requires.workload runs x k took_host.accounts visit.are
+          standing_next sys c.new-host.ensures.system budgets rows c.requires.workload runs x k took_host.accounts
+          visit.are
           visit.taken to later rows_later c.run_on.new.self
           c.in_ok-run_on.ensures.time (c.in_ok-run_on.ensures.taken ∙ taken) c.in_ok-run_on.ensures.ready.room
           (λ d l. (has_run d l).are) (λ d l. (has_run d l).holder_is)

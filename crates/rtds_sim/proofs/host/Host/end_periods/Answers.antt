@@ -1,4 +1,4 @@
-use Rattle.std.proofs.Common.{◌≡◌, ◌≢◌, ◌<◌, ◌≤◌, ◌+◌, ◌==◌, ℕ, Bool, true, false, ◌&&◌, List, Option, length, sym, ◌∙◌, ap, arith, inl, inr}
+use Rattle.std.proofs.Common.{◌≡◌, ◌≢◌, ◌<◌, ◌+◌, ℕ, Bool, true, false, ◌&&◌, List, Option, length, sym, ◌∙◌, ap, arith, inl, inr}
 use Rattle.std.specs.Prelude.{nat_eq}
 use Rattle.std.proofs.lemmas.Bool.{cases_eq, both_ways, and_parts, and_from, and_right}
 use Rattle.std.proofs.lemmas.Bool.Decides.{nat_tests}
@@ -7,7 +7,6 @@ use Rattle.tree_model.specs.System.{part_at}
 use Rattle.tree_model.specs.Tree.{is_child, budget_at}
 use Rattle.rtds_sim.specs.declared.account.Account.{Account}
 use Rattle.rtds_sim.specs.inner.Accounts.{account_at, end_at, holder_at, renewed, period_ended}
-use Rattle.rtds_sim.specs.inner.ByEnd.{first_end}
 use Rattle.rtds_queues.specs.Queues.{place_at}
 use Rattle.rtds_sim.proofs.CoreRuns.{keeps_by, keeps_more}
 use Rattle.rtds_sim.proofs.Firsts.{first_at, some_first, first_least, first_past, order_behind}

@@ -1,9 +1,7 @@
-use Rattle.std.proofs.Common.{ℕ, ◌≤◌, ◌<◌, length, ap, arith}
+use Rattle.std.proofs.Common.{ℕ, ◌<◌, length, ap, arith}
 use Rattle.tree_model.specs.declared.place.Place.TheVariants.{Core}
 use Rattle.tree_model.specs.Tree.{is_child}
 use Rattle.rtds_sim.specs.declared.account.Account.{Account}
-use Rattle.rtds_sim.specs.inner.Accounts.{account_at, end_at}
-use Rattle.rtds_sim.specs.inner.ByEnd.{first_end}
 use Rattle.rtds_sim.proofs.Firsts.{first_least, first_later}
 use Rattle.rtds_sim.proofs.host.Host.next_change.Goals as goal
 

@@ -11,7 +11,8 @@ abbrev pub invariant-loop-at : goal.invariant-loop-at
 invariant-loop-at l = record {
   run : (rows : List Row) (n k : ℕ) (run : List (Option ℕ))
       → IsUnderway l.sys l.plan rows n l.core run l.from l.initial.self.time k l.initial.self
-      → StandsAt l.sys l.plan rows l.core run l.from l.initial.self.time k l.at l.self l.initial.told.items l.told.items;
+      → StandsAt l.sys l.plan rows l.core run l.from l.initial.self.time k l.at l.self
+      l.initial.told.items l.told.items;
   ready : IsReady l.sys l.self;
   by_end : AreByEnd l.sys l.core l.self.accounts l.vcpus;
   since : l.from ≤ l.at;

@@ -93,7 +93,8 @@ loop-c-preserved c =
             let u' : IsUnderway sys c.args.plan.now rows n i run first.time c.args.to k entry
             = subst (λ (z : ℕ). IsUnderway sys c.args.plan.now rows n z run first.time c.args.to k entry) e u in
             let h : HasRun sys c.args.plan.now rows i run first.time c.args.to k new own c.run_core.new.told.items
-            = subst (λ (y : ℕ). HasRun sys c.args.plan.now rows i run first.time y k new own c.run_core.new.told.items) so_far.time
+            = subst (λ (y : ℕ). HasRun sys c.args.plan.now rows i run first.time y k new own c.run_core.new.told.items)
+            so_far.time
             (ran.run rows n k run (subst (λ (y : ℕ). IsUnderway sys c.args.plan.now rows n i run first.time y k old)
             (sym so_far.time) (underway_same sys c.args.plan.now rows n i run first.time c.args.to k entry old
             kept (so_far.holders i (omega arith)) u'))) in
@@ -101,7 +102,8 @@ loop-c-preserved c =
             (list_at (set lists i c.run_core.new.told) z)) (sym e)
             (subst (HasRun sys c.args.plan.now rows i run first.time c.args.to k new [])
             (sym (list_here lists i c.run_core.new.told room))
-            (subst (λ (es : List Event). HasRun sys c.args.plan.now rows i run first.time c.args.to k new es c.run_core.new.told.items)
+            (subst (λ (es : List Event). HasRun sys c.args.plan.now rows i run first.time c.args.to k new es
+            c.run_core.new.told.items)
             none_yet h))
         | inr ne ↦
             has_run_same sys c.args.plan.now rows d run first.time c.args.to k old new [] (list_at lists d)
@@ -133,7 +135,8 @@ loop-c-preserved c =
             end_same sys old.accounts new.accounts d (suc c.args.to) (stays d ne)
             (so_far.ends d (omega (arith, l, ne)))
       ];
-      same = λ v l none. ran.keeps.accounts v l (none i (omega arith)) ∙ so_far.same v l (λ d m. none d (omega (arith, m)));
+      same = λ v l none. ran.keeps.accounts v l (none i (omega arith))
+          ∙ so_far.same v l (λ d m. none d (omega (arith, m)));
       holders = λ d l. ran.keeps.holders d (λ e. omega (arith, e, l)) ∙ so_far.holders d (omega (arith, l));
       one_each = length-set lists i c.run_core.new.told ∙ so_far.one_each;
       empty =

@@ -1,4 +1,4 @@
-use Rattle.std.proofs.Common.{◌≡◌, ℕ, Bool, set, ap, ◌∙◌}
+use Rattle.std.proofs.Common.{◌≡◌, ℕ, set, ap, ◌∙◌}
 use Rattle.tree_model.specs.View.{PartView}
 use Rattle.tree_model.specs.System.{part_at}
 use Rattle.rtds_sim.specs.inner.Accounts.{key_of}
