@@ -1,13 +1,15 @@
 -- What the accounts say at a slot whose rows are taken: who is eligible, and who goes first.
-use Rattle.std.proofs.Common.{◌≡◌, ℕ, suc, ◌/◌, ◌<◌, nat_lt, Bool, true, not, ◌&&◌, ◌||◌, List, length, Option, sym, ◌∙◌, ap, arith, inl, inr, eqb-true, ltb-true, lt-ltb}
+use Rattle.std.proofs.Common.{◌≡◌, ◌==◌, ℕ, suc, ◌*◌, ◌/◌, ◌<◌, ◌≤◌, nat_lt, Bool, true, not, ◌&&◌, ◌||◌, List, length, Option, sym, ◌∙◌, ap, arith, inl, inr, eqb-true, eq-eqb, ltb-true, lt-ltb, le-ltb}
+use Rattle.std.proofs.Math.Nat.{div-eq_of_lt}
 use Rattle.std.specs.Prelude.{is_some}
-use Rattle.std.proofs.lemmas.Bool.{cases_Bool, both_ways, and_parts}
+use Rattle.std.proofs.lemmas.Bool.{cases_Bool, cases_lt, both_ways, and_parts, ne_eqb}
 use Rattle.tree_model.specs.declared.place.Parent.{Parent}
 use Rattle.tree_model.specs.declared.place.Parent.TheVariants.{Core as on_core, Part as on_part}
 use Rattle.tree_model.specs.declared.place.Place.TheVariants.{Core}
 use Rattle.tree_model.specs.View.{SystemView}
 use Rattle.tree_model.specs.System.{part_at}
 use Rattle.tree_model.specs.Tree.{is_child, place_of, same_place, budget_at}
+use Rattle.tree_model.specs.Plans.{IsPlan}
 use Rattle.rtds_sim.specs.declared.account.Account.{Account}
 use Rattle.release_file.specs.declared.workload.Wake.{Wake as Row}
 use Rattle.release_file.specs.Workload.{row_at, last_row, is_by, is_of, starts, blocks, started_after, blocked_after, is_started_at, is_blocked_at}
@@ -15,7 +17,7 @@ use Rattle.rtds_sim.specs.Rtds.{used, level_at, deadline_at, can_run, is_eligibl
 use Rattle.rtds_queues.specs.Keys.{goes_first}
 use Rattle.rtds_sim.specs.Printed.{core_of}
 use Rattle.rtds_sim.specs.inner.Running.{AreOn}
-use Rattle.rtds_sim.specs.inner.Accounts.{account_at, account_eligible, level_of, deadline_of, ranked, ranks_before, IsChoice, IsInPeriod, IsAccount, AreBefore}
+use Rattle.rtds_sim.specs.inner.Accounts.{account_at, end_at, account_eligible, ranked, ranks_before, IsChoice, IsInPeriod, IsAccount, AreBefore}
 use Rattle.csv_rows.proofs.Last.{last_by_moment}
 
 -- a part on core c
@@ -42,12 +44,22 @@ pub blocked_by : (rows : List Row) (v x k : ℕ) → AreBefore rows k (suc x)
     → is_blocked_at rows v x ≡ blocked_after rows k v
 blocked_by rows v x k h = ap blocks (by_slot (is_of v) rows x k h)
 
+-- a VCPU has budget left where it has not had it once
+pub none_had : (slots budget : ℕ) → 1 ≤ budget → nat_lt slots budget ≡ ((slots / budget) == 0)
+none_had slots budget some = elim (cases_lt slots budget) [
+  | inl l ↦ lt-ltb slots budget l ∙ sym (eq-eqb (slots / budget) 0 (div-eq_of_lt l))
+  | inr m ↦
+      le-ltb slots budget m
+      ∙ sym (ne_eqb (slots / budget) 0 (λ e. omega (arith, m, some, ap (λ (z : ℕ). z * budget) e)))
+]
+
 module _ (sys : SystemView) (budgets : List ℕ) (rows : List Row) (c : ℕ) (run : List (Option ℕ)) (x k : ℕ)
-    (taken : AreBefore rows k (suc x)) (accounts : List Account) (are : AreOn sys rows c run x k accounts) where
+    (taken : AreBefore rows k (suc x)) (plan : IsPlan sys budgets) (accounts : List Account)
+    (are : AreOn sys budgets rows c run x k accounts) where
   abbrev on_this : ℕ → Type 0
   on_this v = (v < length sys.parts) × (is_child sys (Core c) v ≡ true)
 
-  account_on : (v : ℕ) → on_this v → IsAccount sys rows run v x k (account_at accounts v)
+  account_on : (v : ℕ) → on_this v → IsAccount sys budgets rows run v x k (account_at accounts v)
   account_on v on = are v on.0 on.1
 
   -- Bool algebra
@@ -58,16 +70,17 @@ module _ (sys : SystemView) (budgets : List ℕ) (rows : List Row) (c : ℕ) (ru
   eligible_same p child started blocked left extra started' blocked' left' hp hc hs hb hl = grind arith
 
   -- the account tells who is eligible
-  eligible_is : (v : ℕ) → on_this v → is_eligible sys budgets rows c run v x ≡ ranked sys budgets accounts c v
+  eligible_is : (v : ℕ) → on_this v → is_eligible sys budgets rows c run v x ≡ ranked sys accounts c v
   eligible_is v on =
-      let h : IsAccount sys rows run v x k (account_at accounts v) = account_on v on in
+      let h : IsAccount sys budgets rows run v x k (account_at accounts v) = account_on v on in
       eligible_same (nat_lt v (length sys.parts)) (is_child sys (Core c) v) (account_at accounts v).started
-      (account_at accounts v).blocked (nat_lt (account_at accounts v).used (budget_at budgets v))
+      (account_at accounts v).blocked ((account_at accounts v).level == 0)
       (part_at sys v).extra (is_started_at rows v x) (is_blocked_at rows v x)
       (nat_lt (used sys rows run v x) (budget_at budgets v))
       (lt-ltb v (length sys.parts) on.0) on.1 (h.started ∙ sym (started_by rows v x k taken))
       (h.blocked ∙ sym (blocked_by rows v x k taken))
-      (λ s. ap (λ (g : ℕ). nat_lt g (budget_at budgets v)) (h.in_period s).used_is)
+      (λ s. ap (λ (g : ℕ). g == 0) (h.in_period s).level_is
+      ∙ sym (none_had (used sys rows run v x) (budget_at budgets v) (plan.some_budget v on.0)))
 
   eligible_on : (v : ℕ) → is_eligible sys budgets rows c run v x ≡ true → on_this v
   eligible_on v e =
@@ -79,46 +92,42 @@ module _ (sys : SystemView) (budgets : List ℕ) (rows : List Row) (c : ℕ) (ru
       (nat_lt (used sys rows run v x) (budget_at budgets v) || (part_at sys v).extra) e).0).0 in
       (ltb-true v (length sys.parts) p.0, p.1)
 
-  ranked_started : (v : ℕ) → ranked sys budgets accounts c v ≡ true
+  ranked_started : (v : ℕ) → ranked sys accounts c v ≡ true
       → (is_child sys (Core c) v ≡ true) × ((account_at accounts v).started ≡ true)
   ranked_started v e =
       let p
       = and_parts (is_child sys (Core c) v)
-      (account_eligible (account_at accounts v) (budget_at budgets v) (part_at sys v).extra) e in (
+      (account_eligible (account_at accounts v) (part_at sys v).extra) e in (
         p.0,
         (and_parts (account_at accounts v).started (not (account_at accounts v).blocked)
             (and_parts ((account_at accounts v).started && not (account_at accounts v).blocked)
-            (nat_lt (account_at accounts v).used (budget_at budgets v) || (part_at sys v).extra) p.1).0).0,
+            (((account_at accounts v).level == 0) || (part_at sys v).extra) p.1).0).0,
       )
 
   -- and in which order
-  rank_numbers : (v : ℕ) → v < length sys.parts → ranked sys budgets accounts c v ≡ true
-      → (level_of (account_at accounts v) (budget_at budgets v) ≡ level_at sys budgets rows run v x)
-      × (deadline_of (account_at accounts v) (part_at sys v).period ≡ deadline_at sys rows v x)
+  rank_numbers : (v : ℕ) → v < length sys.parts → ranked sys accounts c v ≡ true
+      → ((account_at accounts v).level ≡ level_at sys budgets rows run v x)
+      × (end_at accounts v ≡ deadline_at sys rows v x)
   rank_numbers v l e =
       let s : (is_child sys (Core c) v ≡ true) × ((account_at accounts v).started ≡ true) = ranked_started v e in
-      let h : IsInPeriod sys rows run v x (account_at accounts v) = (account_on v (l, s.0)).in_period s.1 in
-      (ap (λ (g : ℕ). g / budget_at budgets v) h.used_is, omega (arith, h.from_is))
+      let h : IsInPeriod sys budgets rows run v x (account_at accounts v) = (account_on v (l, s.0)).in_period s.1 in
+      (h.level_is, h.until_is)
 
-  before_is : (u v : ℕ) → u < length sys.parts → v < length sys.parts → ranked sys budgets accounts c u ≡ true
-      → ranked sys budgets accounts c v ≡ true
-      → ranks_before sys budgets accounts u v ≡ goes_before sys budgets rows run x u v
+  before_is : (u v : ℕ) → u < length sys.parts → v < length sys.parts → ranked sys accounts c u ≡ true
+      → ranked sys accounts c v ≡ true → ranks_before accounts u v ≡ goes_before sys budgets rows run x u v
   before_is u v lu lv eu ev =
       let a = rank_numbers u lu eu in
       let b = rank_numbers v lv ev in
-      ap (λ (l : ℕ). goes_first l (deadline_of (account_at accounts u) (part_at sys u).period) u
-      (level_of (account_at accounts v) (budget_at budgets v))
-      (deadline_of (account_at accounts v) (part_at sys v).period) v) a.0
-      ∙ (ap (λ (d : ℕ). goes_first (level_at sys budgets rows run u x) d u
-      (level_of (account_at accounts v) (budget_at budgets v))
-      (deadline_of (account_at accounts v) (part_at sys v).period) v) a.1
+      ap (λ (l : ℕ). goes_first l (end_at accounts u) u (account_at accounts v).level (end_at accounts v) v) a.0
+      ∙ (ap (λ (d : ℕ). goes_first (level_at sys budgets rows run u x) d u (account_at accounts v).level
+      (end_at accounts v) v) a.1
       ∙ (ap (λ (l : ℕ). goes_first (level_at sys budgets rows run u x) (deadline_at sys rows u x) u l
-      (deadline_of (account_at accounts v) (part_at sys v).period) v) b.0
+      (end_at accounts v) v) b.0
       ∙ ap (λ (d : ℕ). goes_first (level_at sys budgets rows run u x) (deadline_at sys rows u x) u
       (level_at sys budgets rows run v x) d v) b.1))
 
   -- so the choice is the entry
-  pub choice_entry : (o : Option ℕ) → IsChoice sys budgets accounts c o → RtdsEntry sys budgets rows c run x o
+  pub choice_entry : (o : Option ℕ) → IsChoice sys accounts c o → RtdsEntry sys budgets rows c run x o
   choice_entry o h = record {
     idle = λ q v. elim (cases_Bool (is_eligible sys budgets rows c run v x)) [
       | inr e ↦ e
@@ -128,6 +137,6 @@ module _ (sys : SystemView) (budgets : List ℕ) (rows : List Row) (c : ℕ) (ru
     named = λ v q. eligible_is v (h.within v q, (ranked_started v (h.named v q)).0) ∙ h.named v q;
     first = λ u v q e.
         let on : on_this u = eligible_on u e in
-        let ranked_u : ranked sys budgets accounts c u ≡ true = sym (eligible_is u on) ∙ e in
+        let ranked_u : ranked sys accounts c u ≡ true = sym (eligible_is u on) ∙ e in
         sym (before_is u v on.0 (h.within v q) ranked_u (h.named v q)) ∙ h.first u v q on.0 ranked_u;
   }

@@ -1,25 +1,25 @@
 -- Accounts and keys that are set.
-use Rattle.std.proofs.Common.{◌≡◌, ◌≢◌, ℕ, ◌+◌, ◌*◌, ◌/◌, ◌%◌, ◌<◌, ◌≤◌, not, ◌||◌, if◌then◌else◌, Bool, true, false, cond, ◌&&◌, List, length, set, Option, Some, None, refl, sym, ◌∙◌, ap, arith, subst, inl, inr, suc, ◌-◌, ltb-true, ltb-false, lt-ltb, nat_lt}
-use Rattle.std.proofs.lemmas.Bool.{cases_eq, cases_Bool, both_ways, false≢true}
+use Rattle.std.proofs.Common.{◌≡◌, ◌≢◌, ℕ, ◌+◌, ◌<◌, ◌≤◌, Bool, true, false, cond, ◌&&◌, ◌==◌, nat_lt, List, length, set, Option, None, refl, sym, ◌∙◌, ap, arith, subst, inl, inr, eq-eqb}
+use Rattle.std.proofs.lemmas.Bool.{cases_eq, cases_Bool, both_ways, and_from, false≢true}
 use Rattle.std.proofs.lemmas.List.{get_or-set_same, get_or-set_other, length-set}
 use Rattle.slot_model.specs.Run.{holds}
 use Rattle.slot_model.proofs.Runs.{holds-is}
 use Rattle.tree_model.specs.declared.place.Place.TheVariants.{Core}
 use Rattle.tree_model.specs.View.{SystemView}
+use Rattle.slot_model.specs.declared.task.TheConstants.{LIMIT}
 use Rattle.tree_model.specs.System.{part_at}
+use Rattle.release_file.specs.declared.workload.WakeKind.{WakeKind}
+use Rattle.release_file.specs.declared.workload.WakeKind.TheVariants.{Start, Wake, Block}
 use Rattle.tree_model.specs.Tree.{is_child, budget_at}
 use Rattle.rtds_sim.specs.declared.account.Account.{Account}
 use Rattle.rtds_sim.specs.declared.account.TheConstants.{PAST_ALL}
 use Rattle.rtds_queues.specs.declared.key.Key.{Key}
 use Rattle.rtds_sim.specs.declared.host.Host.{Host}
 use Rattle.rtds_queues.specs.declared.queues.Queues.{Queues}
-use Rattle.rtds_sim.proofs.Steady.{same_quotient, lt_same}
-use Rattle.std.specs.Prelude.{is_some}
-use Rattle.std.proofs.Math.Nat.{zero-div}
-use Rattle.std.proofs.lemmas.Nat.{div-mul-add}
 use Rattle.rtds_queues.specs.Keys.{key_at}
 use Rattle.rtds_queues.specs.Queues.{AreQueues}
-use Rattle.rtds_sim.specs.inner.Accounts.{no_account, account_at, holder_at, number_at, account_eligible, left_of, deadline_of, key_of, first_key, end_of, next_key, left_by, gone_on, used_more, period_ended, IsLeft, IsReady}
+use Rattle.rtds_sim.proofs.Steady.{until_more}
+use Rattle.rtds_sim.specs.inner.Accounts.{no_account, account_at, end_at, holder_at, key_of, row_taken, renewed, using, had_budget, gone_on, used_more, period_ended, IsSound, IsReady}
 
 -- one account is set
 pub account_here : (accounts : List Account) (v : ℕ) (a : Account) → v < length accounts
@@ -44,82 +44,34 @@ key_here keys v k l = get_or-set_same keys v k None l
 pub key_there : (keys : List (Option Key)) (v u : ℕ) (k : Option Key) → u ≢ v → key_at (set keys v k) u ≡ key_at keys u
 key_there keys v u k ne = get_or-set_other keys v u k None ne
 
-pub number_here : (ns : List ℕ) (v n : ℕ) → v < length ns → number_at (set ns v n) v ≡ n
-number_here ns v n l = get_or-set_same ns v n 0 l
-
-pub number_there : (ns : List ℕ) (v u n : ℕ) → u ≢ v → number_at (set ns v n) u ≡ number_at ns u
-number_there ns v u n ne = get_or-set_other ns v u n 0 ne
-
--- an account is set, with its key, the end of its period and the slots that it has left
-pub ready_set : (sys : SystemView) (budgets : List ℕ) (host : Host) (v : ℕ) (a : Account) (queues : Queues)
-    (until : List ℕ) (left : ℕ) → v < length sys.parts → IsReady sys budgets host → a.from ≤ host.time
-    → a.used ≤ host.time
-    → AreQueues sys queues
-    → key_at queues.keys v ≡ key_of a (budget_at budgets v) (part_at sys v).extra (part_at sys v).period
+-- an account is set, with its key
+pub ready_set : (sys : SystemView) (host : Host) (v : ℕ) (a : Account) (queues : Queues) → v < length sys.parts
+    → IsReady sys host → IsSound host.time a → AreQueues sys queues
+    → key_at queues.keys v ≡ key_of a (part_at sys v).extra
     → ((u : ℕ) → u ≢ v → key_at queues.keys u ≡ key_at host.queues.keys u)
-    → length until ≡ 512 → number_at until v ≡ end_of a (part_at sys v).period
-    → ((u : ℕ) → u ≢ v → number_at until u ≡ number_at host.until u)
-    → IsLeft (key_at queues.keys v) left (left_of a (budget_at budgets v))
-    → IsReady sys budgets (record host
-    { accounts = set host.accounts v a; queues = queues; until = until; left = set host.left v left })
-ready_set sys budgets host v a queues until left l h early few listed key_is other_keys long until_is other_until
-    left_is =
+    → IsReady sys (record host { accounts = set host.accounts v a; queues = queues })
+ready_set sys host v a queues l h sound listed key_is other_keys =
     record {
       room = record {
         all_vcpus = length-set host.accounts v a ∙ h.room.all_vcpus;
         all_keys = listed.all_keys;
-        all_until = long;
-        all_left = length-set host.left v left ∙ h.room.all_left;
         all_cores = h.room.all_cores;
-        all_ends = h.room.all_ends;
         few_parts = h.room.few_parts;
         few_cores = h.room.few_cores;
         parts = h.room.parts;
       };
       listed = listed;
-      early = λ u lu. at_set (λ (z : Account). z.from ≤ host.time) host.accounts v u a room (λ e. early) (h.early u lu);
-      few = λ u lu. at_set (λ (z : Account). z.used ≤ host.time) host.accounts v u a room (λ e. few) (h.few u lu);
+      sound = λ u lu. at_set (IsSound host.time) host.accounts v u a room (λ e. sound) (h.sound u lu);
       keys = λ u lu. elim (cases_eq u v) [
         | inl e ↦
             subst (λ (z : ℕ). key_at queues.keys z
-            ≡ key_of (account_at (set host.accounts v a) z) (budget_at budgets z) (part_at sys z).extra
-            (part_at sys z).period) (sym e)
-            (key_is
-            ∙ sym (ap (λ (z : Account). key_of z (budget_at budgets v) (part_at sys v).extra (part_at sys v).period)
-            here))
+            ≡ key_of (account_at (set host.accounts v a) z) (part_at sys z).extra)
+            (sym e)
+            (key_is ∙ sym (ap (λ (z : Account). key_of z (part_at sys v).extra) (account_here host.accounts v a room)))
         | inr ne ↦
             other_keys u ne
             ∙ (h.keys u lu
-            ∙ sym (ap (λ (z : Account). key_of z (budget_at budgets u) (part_at sys u).extra (part_at sys u).period)
-            (account_there host.accounts v u a ne)))
-      ];
-      until = λ u lu. elim (cases_eq u v) [
-        | inl e ↦
-            subst (λ (z : ℕ). number_at until z ≡ end_of (account_at (set host.accounts v a) z) (part_at sys z).period)
-            (sym e)
-            (until_is ∙ sym (ap (λ (z : Account). end_of z (part_at sys v).period) here))
-        | inr ne ↦
-            other_until u ne
-            ∙ (h.until u lu
-            ∙ sym (ap (λ (z : Account). end_of z (part_at sys u).period) (account_there host.accounts v u a ne)))
-      ];
-      left = λ u lu. elim (cases_eq u v) [
-        | inl e ↦
-            subst (λ (z : ℕ). IsLeft (key_at queues.keys z) (number_at (set host.left v left) z)
-            (left_of (account_at (set host.accounts v a) z) (budget_at budgets z))) (sym e)
-            (subst (λ (n : ℕ). IsLeft (key_at queues.keys v) n
-            (left_of (account_at (set host.accounts v a) v) (budget_at budgets v)))
-            (sym (number_here host.left v left (omega (arith, l, h.room.all_left, h.room.few_parts))))
-            (subst (λ (z : Account). IsLeft (key_at queues.keys v) left (left_of z (budget_at budgets v))) (sym here)
-            left_is))
-        | inr ne ↦
-            subst (λ (k : Option Key). IsLeft k (number_at (set host.left v left) u)
-            (left_of (account_at (set host.accounts v a) u) (budget_at budgets u))) (sym (other_keys u ne))
-            (subst (λ (n : ℕ). IsLeft (key_at host.queues.keys u) n
-            (left_of (account_at (set host.accounts v a) u) (budget_at budgets u)))
-            (sym (number_there host.left v u left ne))
-            (subst (λ (z : Account). IsLeft (key_at host.queues.keys u) (number_at host.left u)
-            (left_of z (budget_at budgets u))) (sym (account_there host.accounts v u a ne)) (h.left u lu)))
+            ∙ sym (ap (λ (z : Account). key_of z (part_at sys u).extra) (account_there host.accounts v u a ne)))
       ];
       on_core = h.on_core;
     }
@@ -127,257 +79,145 @@ ready_set sys budgets host v a queues until left l h early few listed key_is oth
     room : v < length host.accounts
     room = omega (arith, l, h.room.all_vcpus, h.room.few_parts)
 
-    here : account_at (set host.accounts v a) v ≡ a
-    here = account_here host.accounts v a room
+-- and where the keys are those with its own set
+pub ready_keyed : (sys : SystemView) (host : Host) (v : ℕ) (a : Account) (queues : Queues) → v < length sys.parts
+    → IsReady sys host → IsSound host.time a → AreQueues sys queues
+    → queues.keys ≡ set host.queues.keys v (key_of a (part_at sys v).extra)
+    → IsReady sys (record host { accounts = set host.accounts v a; queues = queues })
+ready_keyed sys host v a queues l h sound listed keys =
+    ready_set sys host v a queues l h sound listed
+    (ap (λ (ks : List (Option Key)). key_at ks v) keys
+    ∙ key_here host.queues.keys v (key_of a (part_at sys v).extra)
+    (omega (arith, l, h.room.all_keys, h.room.few_parts)))
+    (λ u ne. ap (λ (ks : List (Option Key)). key_at ks u) keys
+    ∙ key_there host.queues.keys v u (key_of a (part_at sys v).extra) ne)
 
--- its key stays until it has had its budget once more
-same_key : (a : Account) (slots budget : ℕ) (extra : Bool) (period : ℕ) → 1 ≤ budget → slots < left_of a budget
-    → key_of a budget extra period ≡ key_of (record a { used = a.used + slots }) budget extra period
-same_key a slots budget extra period some l =
-    ap (λ (g : ℕ). if account_eligible a budget extra then Some (key g) else None)
-    (sym (same_quotient a.used slots budget some l))
-    ∙ ap (λ (b : Bool). if (a.started && not a.blocked)
-    && (b || extra) then Some (key ((a.used + slots) / budget)) else None)
-    (sym (lt_same a.used slots budget some l))
-  where
-    key : ℕ → Key
-    key g = record { level = g; deadline = deadline_of a period }
+-- fewer of its slots are left, which its key does not tell
+pub ready_few : (sys : SystemView) (host : Host) (v slots : ℕ) → v < length sys.parts → IsReady sys host
+    → slots < (account_at host.accounts v).left
+    → IsReady sys (record host {
+      accounts =
+          set host.accounts v
+          (using (account_at host.accounts v) slots);
+    })
+ready_few sys host v slots l h fewer =
+    let a : Account = account_at host.accounts v in
+    let its : IsSound host.time a = h.sound v l in
+    ready_set sys host v (using a slots) host.queues l h (record {
+      few = its.few;
+      some_left = omega (arith, fewer);
+      idle = its.idle;
+    }) h.listed (h.keys v l) (λ u ne. refl)
 
--- and it has as many slots left as before, but for those that it had
-fewer_left : (key : Option Key) (a : Account) (slots left budget : ℕ) → 1 ≤ budget → slots < left
-    → IsLeft key left (left_of a budget)
-    → IsLeft key (left - slots) (left_of (record a { used = a.used + slots }) budget)
-fewer_left key a slots left budget some l h =
-    let rest : left_of a budget ≡ slots + left_of (record a { used = a.used + slots }) budget
-    = omega (
-      arith,
-      l,
-      h.within,
-      some,
-      ap (λ (z : ℕ). z * budget) (same_quotient a.used slots budget some (omega (arith, l, h.within))),
-    ) in
+-- what has no core uses no slots
+pub not_used : (a : Account) (has : Bool) (slots budget : ℕ) → has ≡ false → used_more a has slots budget ≡ a
+not_used a true slots budget e = cc
+not_used a false slots budget e = refl
+
+-- an account is sound after a row, at the begin of a period, and where a budget was had once more
+pub sound_taken : (time end budget : ℕ) (a : Account) → IsSound time a → 1 ≤ budget → (what : WakeKind)
+    → IsSound time (row_taken what end budget a)
+sound_taken time end budget a h some Start =
+    record { few = omega arith; some_left = some; idle = λ off. absurd (false≢true (sym off)) }
+sound_taken time end budget a h some Wake =
+    record { few = h.few; some_left = h.some_left; idle = h.idle }
+sound_taken time end budget a h some Block =
+    record { few = h.few; some_left = h.some_left; idle = h.idle }
+
+pub sound_renewed : (time end budget : ℕ) (a : Account) → IsSound time a → a.until ≤ LIMIT → 1 ≤ budget
+    → IsSound time (renewed a end budget)
+sound_renewed time end budget a h ends some =
     record {
-      some = omega (arith, l);
-      within = omega (arith, l, h.within, rest);
-      exact = λ is. omega (arith, l, h.exact is, rest);
+      few = omega arith;
+      some_left = some;
+      idle = λ off. absurd (omega (arith, h.idle off, ends));
     }
 
-pub ready_few : (sys : SystemView) (budgets : List ℕ) (host : Host) (v slots : ℕ) → v < length sys.parts
-    → 1 ≤ budget_at budgets v → IsReady sys budgets host → (account_at host.accounts v).used + slots ≤ host.time
-    → slots < number_at host.left v
-    → IsReady sys budgets (record host {
-      accounts =
-          set host.accounts v
-          (record (account_at host.accounts v) { used = (account_at host.accounts v).used + slots });
-      left = set host.left v (number_at host.left v - slots);
-    })
-ready_few sys budgets host v slots l some h few fewer =
-    let a : Account = account_at host.accounts v in
-    let its : IsLeft (key_at host.queues.keys v) (number_at host.left v) (left_of a (budget_at budgets v))
-    = h.left v l in
-    ready_set sys budgets host v (record a { used = a.used + slots }) host.queues host.until
-    (number_at host.left v - slots) l h (h.early v l) few h.listed
-    (h.keys v l
-    ∙ same_key a slots (budget_at budgets v) (part_at sys v).extra (part_at sys v).period some
-    (omega (arith, fewer, its.within))) (λ u ne. refl)
-    h.room.all_until (h.until v l) (λ u ne. refl)
-    (fewer_left (key_at host.queues.keys v) a slots (number_at host.left v) (budget_at budgets v) some fewer its)
+pub sound_had : (time budget : ℕ) (a : Account) → IsSound time a → a.level < time → 1 ≤ budget
+    → IsSound time (had_budget a budget)
+sound_had time budget a h less some =
+    record { few = omega (arith, less); some_left = some; idle = h.idle }
 
--- where it has had its budget once more, it is one level higher, and goes by the next key
-whole_level : (a : Account) (slots budget : ℕ) → 1 ≤ budget → slots ≡ left_of a budget
-    → (a.used + slots) / budget ≡ suc (a.used / budget)
-whole_level a slots budget some exact =
-    let e : a.used + slots ≡ suc (a.used / budget) * budget + 0 = omega (arith, exact, some) in
-    ap (λ (z : ℕ). z / budget) e ∙ div-mul-add (suc (a.used / budget)) budget 0 some
+-- nor does its period end by a slot after a row, where neither does nor would one that begins
+pub later_taken : (x end budget : ℕ) (a : Account) → x < end → x < a.until → (what : WakeKind)
+    → x < (row_taken what end budget a).until
+later_taken x end budget a new old Start = new
+later_taken x end budget a new old Wake = old
+later_taken x end budget a new old Block = old
 
-next_level : (a : Account) (slots budget : ℕ) (extra : Bool) (period : ℕ) → 1 ≤ budget
-    → (is_some (key_of a budget extra period) ≡ true → slots ≡ left_of a budget)
-    → next_key (key_of a budget extra period) extra ≡ key_of (record a { used = a.used + slots }) budget extra period
-next_level a slots budget extra period some exact =
-    go (a.started && not a.blocked) extra (nat_lt a.used budget) (nat_lt (a.used + slots) budget) refl refl exact
-  where
-    key : ℕ → Key
-    key g = record { level = g; deadline = deadline_of a period }
+-- an account as its numbers were read
+pub renewed_is : (new old a : Account) (e p b end period budget : ℕ) → new ≡ renewed old (e + p) b → old ≡ a → e ≡ end
+    → p ≡ period → b ≡ budget → new ≡ renewed a (end + period) budget
+renewed_is new old a e p b end period budget is account ends periods budgets =
+    is
+    ∙ (ap (λ (z : Account). renewed z (e + p) b) account
+    ∙ (ap (λ (z : ℕ). renewed a (z + p) b) ends
+    ∙ (ap (λ (z : ℕ). renewed a (end + z) b) periods ∙ ap (renewed a (end + period)) budgets)))
 
-    go : (runs extra left now : Bool) → nat_lt a.used budget ≡ left → nat_lt (a.used + slots) budget ≡ now
-        → (is_some (cond (runs && (left || extra)) (Some (key (a.used / budget))) None) ≡ true
-        → slots ≡ left_of a budget)
-        → next_key (cond (runs && (left || extra)) (Some (key (a.used / budget))) None) extra
-        ≡ cond (runs && (now || extra)) (Some (key ((a.used + slots) / budget))) None
-    go false extra left now e f exact = refl
-    go true true left now e f exact = both left now (exact (there left))
-      where
-        there : (left : Bool) → is_some (cond (left || true) (Some (key (a.used / budget))) None) ≡ true
-        there true = refl
-        there false = refl
+pub taken_is : (what : WakeKind) (new old a : Account) (at p b period budget : ℕ) → new ≡ row_taken what (at + p) b old
+    → old ≡ a → p ≡ period → b ≡ budget → new ≡ row_taken what (at + period) budget a
+taken_is what new old a at p b period budget is account periods budgets =
+    is
+    ∙ (ap (row_taken what (at + p) b) account
+    ∙ (ap (λ (z : ℕ). row_taken what (at + z) b a) periods
+    ∙ ap (λ (z : ℕ). row_taken what (at + period) z a) budgets))
 
-        level : slots ≡ left_of a budget → suc (a.used / budget) ≡ (a.used + slots) / budget
-        level q = sym (whole_level a slots budget some q)
-
-        both : (left now : Bool) → slots ≡ left_of a budget
-            → next_key (cond (left || true) (Some (key (a.used / budget))) None) true
-            ≡ cond (now || true) (Some (key ((a.used + slots) / budget))) None
-        both true true q = ap (λ (g : ℕ). Some (key g)) (level q)
-        both true false q = ap (λ (g : ℕ). Some (key g)) (level q)
-        both false true q = ap (λ (g : ℕ). Some (key g)) (level q)
-        both false false q = ap (λ (g : ℕ). Some (key g)) (level q)
-    go true false true false e f exact = refl
-    go true false false false e f exact = refl
-    go true false true true e f exact = absurd (omega (arith, exact refl, ltb-true (a.used + slots) budget f, some))
-    go true false false true e f exact =
-        absurd (omega (arith, ltb-true (a.used + slots) budget f, ltb-false a.used budget e))
-
-next_left : (key : Option Key) (a : Account) (slots budget : ℕ) → 1 ≤ budget
-    → (is_some key ≡ true → slots ≡ left_of a budget) → (extra : Bool)
-    → IsLeft (next_key key extra) (left_by (next_key key extra) budget)
-    (left_of (record a { used = a.used + slots }) budget)
-next_left None a slots budget some exact extra =
-    record { some = omega arith; within = omega (arith, some); exact = λ is. absurd (false≢true is) }
-next_left (Some key) a slots budget some exact false =
-    record { some = omega arith; within = omega (arith, some); exact = λ is. absurd (false≢true is) }
-next_left (Some key) a slots budget some exact true =
-    let all : budget ≡ left_of (record a { used = a.used + slots }) budget
-    = omega (arith, exact refl, some, ap (λ (z : ℕ). z * budget) (whole_level a slots budget some (exact refl))) in
-    record { some = some; within = omega (arith, all); exact = λ is. all }
-
-pub ready_next : (sys : SystemView) (budgets : List ℕ) (host : Host) (v slots : ℕ) (queues : Queues)
-    → v < length sys.parts → 1 ≤ budget_at budgets v → IsReady sys budgets host
-    → (account_at host.accounts v).used + slots ≤ host.time
-    → (is_some (key_at host.queues.keys v) ≡ true → slots ≡ left_of (account_at host.accounts v) (budget_at budgets v))
-    → AreQueues sys queues
-    → queues.keys ≡ set host.queues.keys v (next_key (key_at host.queues.keys v) (part_at sys v).extra)
-    → IsReady sys budgets (record host {
-      accounts =
-          set host.accounts v
-          (record (account_at host.accounts v) { used = (account_at host.accounts v).used + slots });
-      queues = queues;
-      left =
-          set host.left v
-          (left_by (next_key (key_at host.queues.keys v) (part_at sys v).extra) (budget_at budgets v));
-    })
-ready_next sys budgets host v slots queues l some h few exact listed its_keys =
-    let a : Account = account_at host.accounts v in
-    let key : Option Key = key_at host.queues.keys v in
-    let extra : Bool = (part_at sys v).extra in
-    let exact' : is_some (key_of a (budget_at budgets v) extra (part_at sys v).period) ≡ true
-    → slots ≡ left_of a (budget_at budgets v)
-    = λ is. exact (ap is_some (h.keys v l) ∙ is) in
-    let its : key_at queues.keys v ≡ next_key key extra
-    = ap (λ (ks : List (Option Key)). key_at ks v) its_keys
-    ∙ key_here host.queues.keys v (next_key key extra) (omega (arith, l, h.room.all_keys, h.room.few_parts)) in
-    ready_set sys budgets host v (record a { used = a.used + slots }) queues host.until
-    (left_by (next_key key extra) (budget_at budgets v)) l h (h.early v l) few listed
-    (its
-    ∙ (ap (λ (k : Option Key). next_key k extra) (h.keys v l)
-    ∙ next_level a slots (budget_at budgets v) extra (part_at sys v).period some exact'))
-    (λ u ne. ap (λ (ks : List (Option Key)). key_at ks u) its_keys
-    ∙ key_there host.queues.keys v u (next_key key extra) ne)
-    h.room.all_until (h.until v l) (λ u ne. refl)
-    (subst (λ (k : Option Key). IsLeft k (left_by (next_key key extra) (budget_at budgets v))
-    (left_of (record a { used = a.used + slots }) (budget_at budgets v))) (sym its)
-    (next_left key a slots (budget_at budgets v) some exact extra))
-
--- at the begin of a period a VCPU that is started has no slots used
-begun_key : (a : Account) (at budget : ℕ) (extra : Bool) (period : ℕ) → a.started ≡ true → 1 ≤ budget
-    → first_key a (at + period) ≡ key_of (record a { from = at; used = 0 }) budget extra period
-begun_key a at budget extra period on some = go a.started a.blocked extra (nat_lt 0 budget) on (lt-ltb 0 budget some)
-  where
-    key : ℕ → Key
-    key g = record { level = g; deadline = at + period }
-
-    go : (started blocked extra left : Bool) → started ≡ true → left ≡ true
-        → (if blocked then None else Some (key 0))
-        ≡ (if (started && not blocked) && (left || extra) then Some (key (0 / budget)) else None)
-    go true true extra true e f = refl
-    go true false extra true e f = ap (λ (g : ℕ). Some (key g)) (sym (zero-div budget))
-    go false blocked extra left e f = absurd (false≢true e)
-    go true blocked extra false e f = absurd (false≢true f)
-
--- what has ended has been started
-pub ended_started : (a : Account) (period at : ℕ) → end_of a period ≡ at → at < PAST_ALL → a.started ≡ true
-ended_started a period at e l = elim (cases_Bool a.started) [
-  | inl on ↦ on
-  | inr off ↦ absurd (omega (arith, l, e, sym (ap (λ (b : Bool). if b then deadline_of a period else PAST_ALL) off)))
-]
-
-pub ready_begun : (sys : SystemView) (budgets : List ℕ) (host : Host) (v at : ℕ) (queues : Queues)
-    → v < length sys.parts → 1 ≤ budget_at budgets v → IsReady sys budgets host → at ≤ host.time
-    → (account_at host.accounts v).started ≡ true
-    → AreQueues sys queues
-    → queues.keys ≡ set host.queues.keys v (first_key (account_at host.accounts v) (at + (part_at sys v).period))
-    → IsReady sys budgets (record host {
-      accounts = set host.accounts v (record (account_at host.accounts v) { from = at; used = 0 });
-      queues = queues;
-      until = set host.until v (at + (part_at sys v).period);
-      left = set host.left v (budget_at budgets v);
-    })
-ready_begun sys budgets host v at queues l some h early on listed its_keys =
-    let a : Account = account_at host.accounts v in
-    let begun : Account = record a { from = at; used = 0 } in
-    let end : ℕ = at + (part_at sys v).period in
-    let budget : ℕ = budget_at budgets v in
-    let its : key_at queues.keys v ≡ first_key a end
-    = ap (λ (ks : List (Option Key)). key_at ks v) its_keys
-    ∙ key_here host.queues.keys v (first_key a end) (omega (arith, l, h.room.all_keys, h.room.few_parts)) in
-    ready_set sys budgets host v begun queues (set host.until v end) budget l h early (omega arith) listed
-    (its ∙ begun_key a at budget (part_at sys v).extra (part_at sys v).period on some)
-    (λ u ne. ap (λ (ks : List (Option Key)). key_at ks u) its_keys
-    ∙ key_there host.queues.keys v u (first_key a end) ne)
-    (length-set host.until v end ∙ h.room.all_until)
-    (number_here host.until v end (omega (arith, l, h.room.all_until, h.room.few_parts))
-    ∙ sym (ap (λ (b : Bool). if b then end else PAST_ALL) on))
-    (λ u ne. number_there host.until v u end ne)
-    (record { some = some; within = omega (arith, whole_left budget some); exact = λ is. sym (whole_left budget some) })
-  where
-    whole_left : (budget : ℕ) → 1 ≤ budget → budget - 0 % budget ≡ budget
-    whole_left budget some = omega (arith, some)
+-- slots had change no end
+pub ends_same : (accounts others : List Account) (budgets : List ℕ) (o : Option ℕ) (n slots : ℕ)
+    → ((v : ℕ) → v < n
+    → account_at others v ≡ used_more (account_at accounts v) (holds o v) slots (budget_at budgets v))
+    → (v : ℕ) → v < n → end_at others v ≡ end_at accounts v
+ends_same accounts others budgets o n slots used v l =
+    ap (λ (z : Account). z.until) (used v l)
+    ∙ until_more (account_at accounts v) (holds o v) slots (budget_at budgets v)
 
 -- an account that has gone on is one with the slots that it had, whose period may have ended
-pub gone_is : (a : Account) (has : Bool) (slots period to : ℕ)
-    → period_ended (used_more a has slots) period to ≡ gone_on a has slots period to
-gone_is a true slots period to = refl
-gone_is a false slots period to = refl
+pub gone_is : (a : Account) (has : Bool) (slots period budget to : ℕ)
+    → period_ended (used_more a has slots budget) period budget to ≡ gone_on a has slots period budget to
+gone_is a true slots period budget to = go (nat_lt slots a.left)
+  where
+    go : (q : Bool) → period_ended (cond q (using a slots) (had_budget a budget)) period budget to
+        ≡ cond (a.started && (to == a.until)) (renewed a (to + period) budget)
+        (cond q (using a slots) (had_budget a budget))
+    go true = refl
+    go false = refl
+gone_is a false slots period budget to = refl
 
--- a core holds none but its own, and what has no core uses no slots
-pub not_held : (sys : SystemView) (budgets : List ℕ) (host : Host) (c v : ℕ) → c < length sys.cores
-    → IsReady sys budgets host → is_child sys (Core c) v ≡ false → holds (holder_at host.holders c) v ≡ false
-not_held sys budgets host c v l h other = elim (cases_Bool (holds (holder_at host.holders c) v)) [
+-- what ends at a slot is started, so its next period begins there
+pub ended_is : (a : Account) (period budget at : ℕ) → (a.started ≡ false → a.until ≡ PAST_ALL) → a.until ≡ at
+    → at < PAST_ALL → period_ended a period budget at ≡ renewed a (a.until + period) budget
+ended_is a period budget at idle end l = elim (cases_Bool a.started) [
+  | inr off ↦ absurd (omega (arith, idle off, end, l))
+  | inl on ↦
+      ap (λ (q : Bool). cond q (renewed a (at + period) budget) a)
+      (and_from a.started (at == a.until) on (eq-eqb at a.until (sym end)))
+      ∙ ap (λ (z : ℕ). renewed a (z + period) budget) (sym end)
+]
+
+-- a core holds none but its own
+pub not_held : (sys : SystemView) (host : Host) (c v : ℕ) → c < length sys.cores
+    → IsReady sys host → is_child sys (Core c) v ≡ false → holds (holder_at host.holders c) v ≡ false
+not_held sys host c v l h other = elim (cases_Bool (holds (holder_at host.holders c) v)) [
   | inr b ↦ b
   | inl b ↦ absurd (both_ways _ other (h.on_core c v l (holds-is (holder_at host.holders c) v b)))
 ]
 
-pub not_used : (a : Account) (has : Bool) (slots : ℕ) → has ≡ false → used_more a has slots ≡ a
-not_used a true slots e = cc
-not_used a false slots e = refl
-
-pub started_more : (a : Account) (has : Bool) (slots : ℕ) → (used_more a has slots).started ≡ a.started
-started_more a true slots = refl
-started_more a false slots = refl
-
-pub from_more : (a : Account) (has : Bool) (slots : ℕ) → (used_more a has slots).from ≡ a.from
-from_more a true slots = refl
-from_more a false slots = refl
-
 -- a later time bounds the numbers of the accounts as well
-pub ready_later : (sys : SystemView) (budgets : List ℕ) (host : Host) (to : ℕ) → host.time ≤ to
-    → IsReady sys budgets host → IsReady sys budgets (record host { time = to })
-ready_later sys budgets host to l h = record {
+pub ready_later : (sys : SystemView) (host : Host) (to : ℕ) → host.time ≤ to → IsReady sys host
+    → IsReady sys (record host { time = to })
+ready_later sys host to l h = record {
   room = record {
     all_vcpus = h.room.all_vcpus;
     all_keys = h.room.all_keys;
-    all_until = h.room.all_until;
-    all_left = h.room.all_left;
     all_cores = h.room.all_cores;
-    all_ends = h.room.all_ends;
     few_parts = h.room.few_parts;
     few_cores = h.room.few_cores;
     parts = h.room.parts;
   };
   listed = h.listed;
-  early = λ v lv. omega (arith, l, h.early v lv);
-  few = λ v lv. omega (arith, l, h.few v lv);
+  sound = λ v lv.
+      let its : IsSound host.time (account_at host.accounts v) = h.sound v lv in
+      record { few = omega (arith, l, its.few); some_left = its.some_left; idle = its.idle };
   keys = h.keys;
-  until = h.until;
-  left = h.left;
   on_core = h.on_core;
 }

@@ -21,29 +21,30 @@ use Rattle.trace_file.specs.Rules.{is_vcpu}
 use Rattle.rtds_sim.proofs.Keeping.{OnCore, vcpu_core}
 use Rattle.rtds_sim.proofs.Steady.{core_in}
 
-pub record Standing (sys : SystemView) (rows : List Row) (runs : List (List (Option ℕ))) (host : Host) : Type 0 where
+pub record Standing (sys : SystemView) (budgets : List ℕ) (rows : List Row) (runs : List (List (Option ℕ)))
+    (host : Host) : Type 0 where
   pub before : AreBefore rows host.taken host.time
-  pub are : AreAccounts sys rows runs host.time host.taken host.accounts
+  pub are : AreAccounts sys budgets rows runs host.time host.taken host.accounts
   pub holders_are : (c : ℕ) → c < length sys.cores → holder_at host.holders c ≡ holder_before (run_at runs c) host.time
   pub room : HasRoom sys host
 
 -- at the start
-pub standing_start : (sys : SystemView) (rows : List Row) (runs : List (List (Option ℕ))) (host : Host) → host.time ≡ 0
+pub standing_start : (sys : SystemView) (budgets : List ℕ) (rows : List Row) (runs : List (List (Option ℕ)))
+    (host : Host) → host.time ≡ 0
     → host.taken ≡ 0 → HasRoom sys host → ((v : ℕ) → account_at host.accounts v ≡ no_account)
-    → ((c : ℕ) → holder_at host.holders c ≡ None) → Standing sys rows runs host
-standing_start sys rows runs host t k room accounts holders = record {
+    → ((c : ℕ) → holder_at host.holders c ≡ None) → Standing sys budgets rows runs host
+standing_start sys budgets rows runs host t k room accounts holders = record {
   before = record { in_rows = omega arith; past = λ i l. absurd (omega arith); to_come = λ i a b. omega arith };
   are =
-      subst (λ (x : ℕ). AreAccounts sys rows runs x host.taken host.accounts) (sym t)
-      (subst (λ (k : ℕ). AreAccounts sys rows runs 0 k host.accounts) (sym k) (record {
+      subst (λ (x : ℕ). AreAccounts sys budgets rows runs x host.taken host.accounts) (sym t)
+      (subst (λ (k : ℕ). AreAccounts sys budgets rows runs 0 k host.accounts) (sym k) (record {
         all_vcpus = room.all_vcpus;
         each =
-            λ v l. subst (λ (a : Account). IsAccount sys rows (run_of_part sys runs v) v 0 0 a) (sym (accounts v))
+            λ v l. subst (λ (a : Account). IsAccount sys budgets rows (run_of_part sys runs v) v 0 0 a)
+            (sym (accounts v))
             (record {
               started = sym (ap is_some (last_below-zero (starts v) (row_at rows)));
               blocked = sym (ap blocks (last_below-zero (is_of v) (row_at rows)));
-              early = omega arith;
-              few = omega arith;
               in_period = λ on. absurd (false≢true on);
             });
       }));
@@ -64,30 +65,30 @@ taken_rows sys rows w x k j b l h now no_more = record {
 }
 
 -- an account that is not started stays what it is
-idle_account : (sys : SystemView) (rows : List Row) (run : List (Option ℕ)) (v x to k : ℕ) (a : Account)
-    → a.started ≡ false → x ≤ to → IsAccount sys rows run v x k a → IsAccount sys rows run v to k a
-idle_account sys rows run v x to k a off l h = record {
+idle_account : (sys : SystemView) (budgets : List ℕ) (rows : List Row) (run : List (Option ℕ)) (v x to k : ℕ)
+    (a : Account) → a.started ≡ false → IsAccount sys budgets rows run v x k a → IsAccount sys budgets rows run v to k a
+idle_account sys budgets rows run v x to k a off h = record {
   started = h.started;
   blocked = h.blocked;
-  early = omega (arith, h.early, l);
-  few = omega (arith, h.few, l);
   in_period = λ on. absurd (both_ways a.started off on);
 }
 
 -- a VCPU that is started stands on a core
-pub started_core : (sys : SystemView) → IsSystem sys → (rows : List Row) → IsWorkload sys rows
+pub started_core : (sys : SystemView) → IsSystem sys → (budgets : List ℕ) (rows : List Row) → IsWorkload sys rows
     → (runs : List (List (Option ℕ))) (x k : ℕ) (accounts : List Account) → k ≤ length rows
-    → AreAccounts sys rows runs x k accounts → (v : ℕ) → v < length sys.parts → (account_at accounts v).started ≡ true
+    → AreAccounts sys budgets rows runs x k accounts → (v : ℕ) → v < length sys.parts
+    → (account_at accounts v).started ≡ true
     → OnCore sys v
-started_core sys system rows w runs x k accounts in_rows are v l on =
+started_core sys system budgets rows w runs x k accounts in_rows are v l on =
     let f = some_found (starts v) (row_at rows) k (sym (are.each v l).started ∙ on) in
     let its : f.0.vcpu ≡ v = eqb-true f.0.vcpu v (and_parts (is_of v f.0) (is_start f.0.what) f.2.passes).0 in
     vcpu_core sys system v (subst (λ (u : ℕ). is_vcpu sys u ≡ true) (ap (λ (r : Row). r.vcpu) f.2.is ∙ its)
     (w.known f.2.place (omega (arith, f.2.within, in_rows))))
 
 -- the next slot, once each core has run up to it
-module _ (sys : SystemView) (system : IsSystem sys) (rows : List Row) (w : IsWorkload sys rows)
-    (runs : List (List (Option ℕ))) (x k : ℕ) (accounts : List Account) (are : AreAccounts sys rows runs x k accounts)
+module _ (sys : SystemView) (system : IsSystem sys) (budgets : List ℕ) (rows : List Row) (w : IsWorkload sys rows)
+    (runs : List (List (Option ℕ))) (x k : ℕ) (accounts : List Account)
+    (are : AreAccounts sys budgets rows runs x k accounts)
     (taken : AreBefore rows k (suc x)) (to : ℕ) (later : x < to) (rows_later : RowsFrom rows k to) where
   on_no_core : (v : ℕ) → is_child sys (Core (core_of (part_at sys v).parent)) v ≡ false → (c : ℕ) → c < length sys.cores
       → is_child sys (Core c) v ≡ false
@@ -98,11 +99,11 @@ module _ (sys : SystemView) (system : IsSystem sys) (rows : List Row) (w : IsWor
   ]
 
   pub standing_next : (host : Host) → host.time ≡ to → host.taken ≡ k → HasRoom sys host
-      → ((c : ℕ) → c < length sys.cores → AreOn sys rows c (run_at runs c) to k host.accounts)
+      → ((c : ℕ) → c < length sys.cores → AreOn sys budgets rows c (run_at runs c) to k host.accounts)
       → ((c : ℕ) → c < length sys.cores → holder_at host.holders c ≡ holder_before (run_at runs c) to)
       → ((v : ℕ) → v < length sys.parts → ((c : ℕ) → c < length sys.cores → is_child sys (Core c) v ≡ false)
       → account_at host.accounts v ≡ account_at accounts v)
-      → Standing sys rows runs host
+      → Standing sys budgets rows runs host
   standing_next host t h room own holders others = record {
     before =
         record {
@@ -111,16 +112,16 @@ module _ (sys : SystemView) (system : IsSystem sys) (rows : List Row) (w : IsWor
           to_come = λ i a b. omega (arith, rows_later i (omega (arith, a, h)) b, t);
         };
     are =
-        subst (λ (y : ℕ). AreAccounts sys rows runs y host.taken host.accounts) (sym t)
-        (subst (λ (j : ℕ). AreAccounts sys rows runs to j host.accounts) (sym h) (record {
+        subst (λ (y : ℕ). AreAccounts sys budgets rows runs y host.taken host.accounts) (sym t)
+        (subst (λ (j : ℕ). AreAccounts sys budgets rows runs to j host.accounts) (sym h) (record {
           all_vcpus = room.all_vcpus;
           each = λ v l.
               let d : ℕ = core_of (part_at sys v).parent in
               elim (cases_Bool (is_child sys (Core d) v)) [
                 | inl b ↦ own d (core_in sys system v l) v l b
-                | inr b ↦ subst (IsAccount sys rows (run_at runs d) v to k) (sym (others v l (on_no_core v b)))
-                    (idle_account sys rows (run_at runs d) v x to k (account_at accounts v) (not_started v l b)
-                    (omega (arith, later)) (are.each v l))
+                | inr b ↦ subst (IsAccount sys budgets rows (run_at runs d) v to k) (sym (others v l (on_no_core v b)))
+                    (idle_account sys budgets rows (run_at runs d) v x to k (account_at accounts v) (not_started v l b)
+                    (are.each v l))
               ];
         }));
     holders_are = λ c l. holders c l ∙ sym (ap (holder_before (run_at runs c)) t);
@@ -132,37 +133,35 @@ module _ (sys : SystemView) (system : IsSystem sys) (rows : List Row) (w : IsWor
       not_started v l b = elim (cases_Bool (account_at accounts v).started) [
         | inr off ↦ off
         | inl on ↦
-            absurd (both_ways _ b (started_core sys system rows w runs x k accounts taken.in_rows are v l on).child)
+            absurd (both_ways _ b (started_core sys system budgets rows w runs x k accounts taken.in_rows
+            are v l on).child)
       ]
 
 -- in the middle of a visit: the rows at the slot are taken, and the cores are as before
-pub record Visit (sys : SystemView) (rows : List Row) (runs : List (List (Option ℕ))) (host : Host) : Type 0 where
+pub record Visit (sys : SystemView) (budgets : List ℕ) (rows : List Row) (runs : List (List (Option ℕ)))
+    (host : Host) : Type 0 where
   pub taken : AreBefore rows host.taken (suc host.time)
-  pub are : AreAccounts sys rows runs host.time host.taken host.accounts
+  pub are : AreAccounts sys budgets rows runs host.time host.taken host.accounts
   pub holders_are : (c : ℕ) → c < length sys.cores → holder_at host.holders c ≡ holder_before (run_at runs c) host.time
   pub room : HasRoom sys host
 
-pub some_periods : (sys : SystemView) → IsSystem sys → (v : ℕ) → v < length sys.parts → 1 ≤ (part_at sys v).period
-some_periods sys is v l = (is.parts v l).period.0
-
-pub visit_rows : (sys : SystemView) → IsSystem sys → (rows : List Row) → IsWorkload sys rows
-    → (runs : List (List (Option ℕ))) (old host : Host) → Standing sys rows runs old
+pub visit_rows : (sys : SystemView) (budgets : List ℕ) (rows : List Row) → IsWorkload sys rows
+    → (runs : List (List (Option ℕ))) (old host : Host) → Standing sys budgets rows runs old
     → host.time ≡ old.time → host.holders ≡ old.holders → HasRoom sys host → host.taken ≤ length rows
     → old.taken ≤ host.taken
     → ((i : ℕ) → old.taken ≤ i → i < host.taken → (row_at rows i).at ≡ old.time)
     → (host.taken < length rows → (row_at rows host.taken).at ≢ old.time)
-    → ((sys : SystemView) (runs : List (List (Option ℕ))) → IsWorkload sys rows → AreBefore rows old.taken old.time
-    → ((v : ℕ) → v < length sys.parts → 1 ≤ (part_at sys v).period)
-    → AreAccounts sys rows runs old.time old.taken old.accounts
-    → AreAccounts sys rows runs old.time host.taken host.accounts)
-    → Visit sys rows runs host
-visit_rows sys system rows w runs old host s t hs room in_rows later now no_more accounts = record {
+    → ((runs : List (List (Option ℕ))) → IsWorkload sys rows
+    → AreAccounts sys budgets rows runs old.time old.taken old.accounts
+    → AreAccounts sys budgets rows runs old.time host.taken host.accounts)
+    → Visit sys budgets rows runs host
+visit_rows sys budgets rows w runs old host s t hs room in_rows later now no_more accounts = record {
   taken =
       subst (λ (x : ℕ). AreBefore rows host.taken (suc x)) (sym t)
       (taken_rows sys rows w old.time old.taken host.taken s.before later in_rows now no_more);
   are =
-      subst (λ (x : ℕ). AreAccounts sys rows runs x host.taken host.accounts) (sym t)
-      (accounts sys runs w s.before (some_periods sys system) s.are);
+      subst (λ (x : ℕ). AreAccounts sys budgets rows runs x host.taken host.accounts) (sym t)
+      (accounts runs w s.are);
   holders_are =
       λ c l. ap (λ (xs : List (Option ℕ)). holder_at xs c) hs
       ∙ (s.holders_are c l ∙ sym (ap (holder_before (run_at runs c)) t));

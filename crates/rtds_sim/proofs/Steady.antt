@@ -1,7 +1,7 @@
 -- From one change to the next each core keeps its VCPU.
-use Rattle.std.proofs.Common.{◌≡◌, ℕ, zero, suc, ◌+◌, ◌*◌, ◌-◌, ◌/◌, ◌%◌, ◌<◌, ◌≤◌, ◌==◌, nat_lt, Bool, true, false, not, cond, if◌then◌else◌, ◌&&◌, ◌||◌, List, length, Option, Some, refl, sym, ◌∙◌, ap, arith, subst, inl, inr, eqb-true, eq-eqb, ltb-true, lt-ltb, le-ltb}
+use Rattle.std.proofs.Common.{◌≡◌, ℕ, zero, suc, ◌+◌, ◌*◌, ◌-◌, ◌/◌, ◌%◌, ◌<◌, ◌≤◌, ◌==◌, nat_lt, Bool, true, false, not, cond, ◌&&◌, ◌||◌, List, length, Option, Some, refl, sym, ◌∙◌, ap, arith, subst, inl, inr, eqb-true, eq-eqb, ltb-true, lt-ltb, le-ltb}
 use Rattle.std.proofs.lemmas.Nat.{div-mul-add}
-use Rattle.std.proofs.Math.Nat.{div-eq_of_lt}
+use Rattle.std.proofs.Math.Nat.{div-eq_of_lt, zero-div}
 use Rattle.std.proofs.lemmas.Bool.{cases_eq, cases_lt, cases_Bool, both_ways, and_parts, and_from, cond-true, cond-false}
 use Rattle.slot_model.specs.Run.{held, holds}
 use Rattle.slot_model.proofs.Runs.{holds-is}
@@ -20,10 +20,10 @@ use Rattle.release_file.specs.Workload.{is_started_at, is_blocked_at, start_of}
 use Rattle.rtds_sim.specs.Rtds.{period_number, period_from, used, level_at, deadline_at, can_run, is_eligible, goes_before, RtdsEntry, CoreRun}
 use Rattle.rtds_queues.specs.Keys.{goes_first}
 use Rattle.rtds_sim.specs.Printed.{core_of}
-use Rattle.rtds_sim.specs.inner.Accounts.{account_at, gone_on, left_of, IsInPeriod, IsAccount, AreBefore, IsEnd}
+use Rattle.rtds_sim.specs.inner.Accounts.{account_at, renewed, using, had_budget, used_more, gone_on, left_of, IsInPeriod, IsAccount, AreBefore, NoEndBefore}
 use Rattle.rtds_sim.specs.inner.Running.{RowsFrom, AreOn}
 use Rattle.rtds_sim.proofs.Runs.{entry_unique}
-use Rattle.rtds_sim.proofs.Taking.{none_between}
+use Rattle.rtds_sim.proofs.Taking.{none_between, all_left}
 use Rattle.rtds_sim.proofs.Entering.{started_by, blocked_by}
 
 -- budgets are had as often, until one is had once more
@@ -40,6 +40,37 @@ lt_same g m b some l = elim (cases_lt g b) [
       lt-ltb (g + m) b (omega arith) ∙ sym (lt-ltb g b h)
   | inr h ↦ le-ltb (g + m) b (omega arith) ∙ sym (le-ltb g b h)
 ]
+
+-- and where one is had once more, they are had once more often
+pub whole_level : (g slots b : ℕ) → 1 ≤ b → slots ≡ b - g % b → (g + slots) / b ≡ suc (g / b)
+whole_level g slots b some exact =
+    let e : g + slots ≡ suc (g / b) * b + 0 = omega (arith, exact, some) in
+    ap (λ (z : ℕ). z / b) e ∙ div-mul-add (suc (g / b)) b 0 some
+
+-- slots had change neither where it is nor when its period ends
+pub started_more : (a : Account) (has : Bool) (slots b : ℕ) → (used_more a has slots b).started ≡ a.started
+started_more a true slots b = ends (nat_lt slots a.left)
+  where
+    ends : (q : Bool) → (cond q (using a slots) (had_budget a b)).started ≡ a.started
+    ends true = refl
+    ends false = refl
+started_more a false slots b = refl
+
+pub blocked_more : (a : Account) (has : Bool) (slots b : ℕ) → (used_more a has slots b).blocked ≡ a.blocked
+blocked_more a true slots b = ends (nat_lt slots a.left)
+  where
+    ends : (q : Bool) → (cond q (using a slots) (had_budget a b)).blocked ≡ a.blocked
+    ends true = refl
+    ends false = refl
+blocked_more a false slots b = refl
+
+pub until_more : (a : Account) (has : Bool) (slots b : ℕ) → (used_more a has slots b).until ≡ a.until
+until_more a true slots b = ends (nat_lt slots a.left)
+  where
+    ends : (q : Bool) → (cond q (using a slots) (had_budget a b)).until ≡ a.until
+    ends true = refl
+    ends false = refl
+until_more a false slots b = refl
 
 -- a slot of the same period
 pub number_same : (period f x y : ℕ) → begins period f (period_number period f x) ≤ x → x ≤ y
@@ -70,12 +101,12 @@ core_in sys is v l = go (part_at sys v).parent (is.parents v l)
 pub record IsNext (sys : SystemView) (budgets : List ℕ) (rows : List Row) (c : ℕ) (run : List (Option ℕ)) (x k : ℕ)
     (accounts : List Account) (holder : Option ℕ) (to : ℕ) : Type 0 where
   pub taken : AreBefore rows k (suc x)
-  pub are : AreOn sys rows c run x k accounts
+  pub are : AreOn sys budgets rows c run x k accounts
   pub holder_is : holder ≡ held run x
   pub later : x < to
   pub rows_later : RowsFrom rows k to
-  pub in_period : IsEnd sys accounts c to
-  pub in_budget : (v : ℕ) → holder ≡ Some v → to ≤ x + left_of (account_at accounts v) (budget_at budgets v)
+  pub in_period : NoEndBefore sys accounts c to
+  pub in_budget : (v : ℕ) → holder ≡ Some v → to ≤ x + (account_at accounts v).left
 
 -- no row comes from slot x on and before a later one
 pub taken_by : (rows : List Row) (k x to y : ℕ) → AreBefore rows k (suc x) → RowsFrom rows k to → x ≤ y → y < to
@@ -114,7 +145,7 @@ module _ (sys : SystemView) (budgets : List ℕ) (plan : IsPlan sys budgets) (ro
     is_part : v < length sys.parts
     child : is_child sys (Core c) v ≡ true
     started : (account_at accounts v).started ≡ true
-    in_period : IsInPeriod sys rows run v x (account_at accounts v)
+    in_period : IsInPeriod sys budgets rows run v x (account_at accounts v)
 
   runs_is : (v : ℕ) → can_run sys rows c v x ≡ true → Runs v
   runs_is v h =
@@ -123,7 +154,7 @@ module _ (sys : SystemView) (budgets : List ℕ) (plan : IsPlan sys budgets) (ro
       (is_started_at rows v x && not (is_blocked_at rows v x)) h in
       let q = and_parts (nat_lt v (length sys.parts)) (is_child sys (Core c) v) p.0 in
       let l : v < length sys.parts = ltb-true v (length sys.parts) q.0 in
-      let a : IsAccount sys rows run v x k (account_at accounts v) = next.are v l q.1 in
+      let a : IsAccount sys budgets rows run v x k (account_at accounts v) = next.are v l q.1 in
       let s : (account_at accounts v).started ≡ true
       = a.started
       ∙ (sym (started_by rows v x k next.taken)
@@ -134,8 +165,9 @@ module _ (sys : SystemView) (budgets : List ℕ) (plan : IsPlan sys budgets) (ro
       → period_number (part_at sys v).period (start_of rows v) y
       ≡ period_number (part_at sys v).period (start_of rows v) x
   from_same v y l m r =
-      number_same (part_at sys v).period (start_of rows v) x y (omega (arith, r.in_period.from_is, r.in_period.begun)) l
-      (omega (arith, r.in_period.from_is, next.in_period v r.is_part r.child r.started))
+      number_same (part_at sys v).period (start_of rows v) x y
+      (omega (arith, r.in_period.until_is, r.in_period.begun)) l
+      (omega (arith, m, r.in_period.until_is, next.in_period v r.is_part r.child))
 
   -- what it had by y
   used_is : (v y : ℕ) → x ≤ y → y < to → AlikeTo y → Runs v
@@ -146,7 +178,7 @@ module _ (sys : SystemView) (budgets : List ℕ) (plan : IsPlan sys budgets) (ro
       ap (λ (q : ℕ). count_between p (begins (part_at sys v).period (start_of rows v) q) y) (from_same v y l m r)
       ∙ (ap (λ (z : ℕ). count_between p (period_from sys rows v x) z) (sym e)
       ∙ between_alike p (holds (held run x) v) (period_from sys rows v x) x (y - x)
-      (omega (arith, r.in_period.from_is, r.in_period.begun))
+      (omega (arith, r.in_period.until_is, r.in_period.begun))
       (λ z i j. ap (λ (o : Option ℕ). holds o v) (alike z i (omega arith))))
 
   record Same (v y : ℕ) : Type 0 where
@@ -169,10 +201,10 @@ module _ (sys : SystemView) (budgets : List ℕ) (plan : IsPlan sys budgets) (ro
   same_at : (v y : ℕ) → x ≤ y → y < to → AlikeTo y → Runs v → Same v y
   same_at v y l t alike r = elim (cases_Bool (holds (held run x) v)) [
     | inl b ↦
-        let left : to ≤ x + left_of (account_at accounts v) (budget_at budgets v)
+        let left : to ≤ x + (account_at accounts v).left
         = next.in_budget v (next.holder_is ∙ holds-is (held run x) v b) in
-        let g : (account_at accounts v).used % budget_at budgets v ≡ used sys rows run v x % budget_at budgets v
-        = ap (λ (z : ℕ). z % budget_at budgets v) r.in_period.used_is in
+        let its : (account_at accounts v).left ≡ left_of (used sys rows run v x) (budget_at budgets v)
+        = r.in_period.left_is in
         same_by v y (y - x) l t r (used_is v y l t alike r
         ∙ ap (λ (z : ℕ). used sys rows run v x + z) (cond-true {A = ℕ} (holds (held run x) v) (y - x) 0 b))
         (omega arith)
@@ -245,127 +277,171 @@ module _ (sys : SystemView) (budgets : List ℕ) (plan : IsPlan sys budgets) (ro
 
   -- the account of a VCPU at the next slot, by whether its period ends there and whether it has its
   -- core
-  ended_account : (v : ℕ) → v < length sys.parts → (r : List (Option ℕ)) (a : Account) → IsAccount sys rows r v x k a
-      → a.started ≡ true → to ≡ a.from + (part_at sys v).period
-      → IsAccount sys rows r v to k (record a { from = to; used = 0 })
+  ended_account : (v : ℕ) → v < length sys.parts → (r : List (Option ℕ)) (a : Account)
+      → IsAccount sys budgets rows r v x k a → a.started ≡ true → to ≡ a.until
+      → IsAccount sys budgets rows r v to k (renewed a (to + (part_at sys v).period) (budget_at budgets v))
   ended_account v l r a h on end =
-      let p : IsInPeriod sys rows r v x a = h.in_period on in
+      let p : IsInPeriod sys budgets rows r v x a = h.in_period on in
       let some : 1 ≤ (part_at sys v).period = omega (arith, plan.some_budget v l, plan.in_period v l) in
       let number : period_number (part_at sys v).period (start_of rows v) to
       ≡ suc (period_number (part_at sys v).period (start_of rows v) x)
-      = number_next (part_at sys v).period (start_of rows v) x to some (omega (arith, p.from_is)) in
+      = number_next (part_at sys v).period (start_of rows v) x to some (omega (arith, end, p.until_is)) in
       let from : period_from sys rows v to ≡ to
-      = ap (λ (q : ℕ). begins (part_at sys v).period (start_of rows v) q) number
-      ∙ (
-      let e : begins (part_at sys v).period (start_of rows v)
-      (suc (period_number (part_at sys v).period (start_of rows v) x)) ≡ to
-      = omega (arith, p.from_is) in
-      e) in
+      = ap (λ (q : ℕ). begins (part_at sys v).period (start_of rows v) q) number ∙ sym (end ∙ p.until_is) in
+      let none : used sys rows r v to ≡ 0
+      = ap (λ (b : ℕ). count_between (λ y. holds (held r y) v) b to) from
+      ∙ none_between (λ y. holds (held r y) v) to in
       record {
         started = h.started;
         blocked = h.blocked;
-        early = omega arith;
-        few = omega arith;
         in_period =
             λ _. record {
-              from_is = sym from;
-              used_is =
-                  sym (ap (λ (b : ℕ). count_between (λ y. holds (held r y) v) b to) from
-                  ∙ none_between (λ y. holds (held r y) v) to);
+              until_is = omega (arith, from);
+              level_is = sym (ap (λ (g : ℕ). g / budget_at budgets v) none ∙ zero-div (budget_at budgets v));
+              left_is =
+                  sym (ap (λ (g : ℕ). left_of g (budget_at budgets v)) none
+                  ∙ all_left (budget_at budgets v) (plan.some_budget v l));
               begun = omega arith;
-              not_over = omega arith;
-              few = omega arith;
+              not_over = omega (arith, some);
             };
       }
+
+  -- a period that goes on
+  record GoesOn (v : ℕ) (r : List (Option ℕ)) (a : Account) (more : ℕ) : Type 0 where
+    end_is : a.until ≡ deadline_at sys rows v to
+    count_is : used sys rows r v to ≡ used sys rows r v x + more
+    near : a.until ≤ to + (part_at sys v).period
+
+  goes_on : (v : ℕ) (r : List (Option ℕ)) → ((z : ℕ) → x ≤ z → z < to → held r z ≡ held r x) → (a : Account)
+      → IsInPeriod sys budgets rows r v x a → to < a.until → GoesOn v r a (cond (holds (held r x) v) (to - x) 0)
+  goes_on v r same a p below =
+      let e : x + (to - x) ≡ to = omega (arith, next.later) in
+      let number : period_number (part_at sys v).period (start_of rows v) to
+      ≡ period_number (part_at sys v).period (start_of rows v) x
+      = number_same (part_at sys v).period (start_of rows v) x to (omega (arith, p.until_is, p.begun))
+      (omega (arith, next.later)) (omega (arith, p.until_is, below)) in
+      let count : count_between (λ z. holds (held r z) v) (period_from sys rows v x) (x + (to - x))
+      ≡ count_between (λ z. holds (held r z) v) (period_from sys rows v x) x
+      + cond (holds (held r x) v) (to - x) 0
+      =
+      between_alike (λ z. holds (held r z) v) (holds (held r x) v) (period_from sys rows v x) x (to - x)
+      (omega (arith, p.until_is, p.begun))
+      (λ z i j. ap (λ (o : Option ℕ). holds o v) (same z i (omega (arith, next.later)))) in
+      record {
+        end_is =
+            p.until_is
+            ∙ sym (ap (λ (q : ℕ). begins (part_at sys v).period (start_of rows v) (suc q)) number);
+        count_is =
+            ap (λ (q : ℕ). count_between (λ z. holds (held r z) v)
+            (begins (part_at sys v).period (start_of rows v) q) to) number
+            ∙ (ap (λ (z : ℕ). count_between (λ z. holds (held r z) v) (period_from sys rows v x) z)
+            (sym e) ∙ count);
+        near = omega (arith, p.begun, next.later);
+      }
+
+  -- what is had of a budget, and what is left of it
+  had_is : (a : Account) (g slots b : ℕ) → 1 ≤ b → a.level ≡ g / b → a.left ≡ left_of g b → slots ≤ a.left
+      → ((used_more a true slots b).level ≡ (g + slots) / b) × ((used_more a true slots b).left ≡ left_of (g + slots) b)
+  had_is a g slots b some level left most = elim (cases_lt slots a.left) [
+    | inl l ↦
+        let same : (g + slots) / b ≡ g / b = same_quotient g slots b some (omega (arith, l, left)) in
+        let is : nat_lt slots a.left ≡ true = lt-ltb slots a.left l in
+        let rest : a.left - slots ≡ left_of (g + slots) b
+        = omega (arith, left, l, some, ap (λ (z : ℕ). z * b) same) in (
+          ap (λ (q : Bool). (cond q (using a slots) (had_budget a b)).level) is
+              ∙ (level ∙ sym same),
+          ap (λ (q : Bool). (cond q (using a slots) (had_budget a b)).left) is ∙ rest,
+        )
+    | inr m ↦
+        let whole : (g + slots) / b ≡ suc (g / b) = whole_level g slots b some (omega (arith, m, most, left)) in
+        let is : nat_lt slots a.left ≡ false = le-ltb slots a.left m in
+        let rest : b ≡ left_of (g + slots) b
+        = omega (arith, left, m, most, some, ap (λ (z : ℕ). z * b) whole) in (
+          ap (λ (q : Bool). (cond q (using a slots) (had_budget a b)).level) is
+              ∙ (ap suc level ∙ sym whole),
+          ap (λ (q : Bool). (cond q (using a slots) (had_budget a b)).left) is ∙ rest,
+        )
+  ]
 
   going_account : (v : ℕ) → v < length sys.parts → (r : List (Option ℕ))
       → ((z : ℕ) → x ≤ z → z < to → held r z ≡ held r x) → (a : Account) (has : Bool) → has ≡ holds (held r x) v
-      → IsAccount sys rows r v x k a → (a.started ≡ true → to < a.from + (part_at sys v).period) →
-      IsAccount sys rows r v to k (if has then record a { used = a.used + (to - x) } else a)
-  going_account v l r same a has is_has h below = by has refl
-    where
-      used_to : (on : a.started ≡ true) → a.used + cond has (to - x) 0 ≡ used sys rows r v to
-      used_to on =
-          let p : IsInPeriod sys rows r v x a = h.in_period on in
-          let e : x + (to - x) ≡ to = omega (arith, next.later) in
-          let number : period_number (part_at sys v).period (start_of rows v) to
-          ≡ period_number (part_at sys v).period (start_of rows v) x
-          = number_same (part_at sys v).period (start_of rows v) x to (omega (arith, p.from_is, p.begun))
-          (omega (arith, next.later)) (omega (arith, p.from_is, below on)) in
-          let count : count_between (λ z. holds (held r z) v) (period_from sys rows v x) (x + (to - x))
-          ≡ count_between (λ z. holds (held r z) v) (period_from sys rows v x) x
-          + cond (holds (held r x) v) (to - x) 0
-          =
-          between_alike (λ z. holds (held r z) v) (holds (held r x) v) (period_from sys rows v x) x (to - x)
-          (omega (arith, p.from_is, p.begun))
-          (λ z i j. ap (λ (o : Option ℕ). holds o v) (same z i (omega (arith, next.later)))) in
-          ap (λ (g : ℕ). g + cond has (to - x) 0) p.used_is
-          ∙ (ap (λ (b : Bool). used sys rows r v x + cond b (to - x) 0) is_has
-          ∙ sym (ap (λ (q : ℕ). count_between (λ z. holds (held r z) v)
-          (begins (part_at sys v).period (start_of rows v) q) to) number
-          ∙ (ap (λ (z : ℕ). count_between (λ z. holds (held r z) v) (period_from sys rows v x) z)
-          (sym e) ∙ count)))
-
-      from_to : (on : a.started ≡ true) → a.from ≡ period_from sys rows v to
-      from_to on =
-          let p : IsInPeriod sys rows r v x a = h.in_period on in
-          p.from_is
-          ∙ sym (ap (λ (q : ℕ). begins (part_at sys v).period (start_of rows v) q)
-          (number_same (part_at sys v).period (start_of rows v) x to (omega (arith, p.from_is, p.begun))
-          (omega (arith, next.later)) (omega (arith, p.from_is, below on))))
-
-      with_used : (n : ℕ) → n ≡ a.used + cond has (to - x) 0 → n ≤ a.used + (to - x)
-          → IsAccount sys rows r v to k (record a { used = n })
-      with_used n is most = record {
-        started = h.started;
-        blocked = h.blocked;
-        early = omega (arith, h.early, next.later);
-        few = omega (arith, h.few, next.later);
+      → (has ≡ true → to ≤ x + a.left)
+      → IsAccount sys budgets rows r v x k a → (a.started ≡ true → to < a.until)
+      → IsAccount sys budgets rows r v to k (used_more a has (to - x) (budget_at budgets v))
+  going_account v l r same a true is_has most h below =
+      let b : ℕ = budget_at budgets v in
+      record {
+        started = started_more a true (to - x) b ∙ h.started;
+        blocked = blocked_more a true (to - x) b ∙ h.blocked;
         in_period = λ on.
-            let p : IsInPeriod sys rows r v x a = h.in_period on in
+            let on_before : a.started ≡ true = sym (started_more a true (to - x) b) ∙ on in
+            let p : IsInPeriod sys budgets rows r v x a = h.in_period on_before in
+            let end : (used_more a true (to - x) b).until ≡ a.until = until_more a true (to - x) b in
+            let on_it = goes_on v r same a p (below on_before) in
+            let used_to : used sys rows r v to ≡ used sys rows r v x + (to - x)
+            = on_it.count_is
+            ∙ ap (λ (q : Bool). used sys rows r v x + cond q (to - x) 0) (sym is_has) in
+            let had = had_is a (used sys rows r v x) (to - x) b (plan.some_budget v l) p.level_is p.left_is
+            (omega (arith, most refl)) in
             record {
-              from_is = from_to on;
-              used_is = is ∙ used_to on;
-              begun = omega (arith, p.begun, next.later);
-              not_over = below on;
-              few = omega (arith, p.few, next.later);
+              until_is = end ∙ on_it.end_is;
+              level_is = had.0 ∙ sym (ap (λ (g : ℕ). g / b) used_to);
+              left_is = had.1 ∙ sym (ap (λ (g : ℕ). left_of g b) used_to);
+              begun = omega (arith, end, on_it.near);
+              not_over = omega (arith, end, below on_before);
             };
       }
-
-      by : (b : Bool) → b ≡ has → IsAccount sys rows r v to k (if b then record a { used = a.used + (to - x) } else a)
-      by true e = with_used (a.used + (to - x)) (ap (λ (b : Bool). a.used + cond b (to - x) 0) e) (omega arith)
-      by false e = with_used a.used (omega (arith, ap (λ (b : Bool). cond {A = ℕ} b (to - x) 0) e)) (omega arith)
+  going_account v l r same a false is_has most h below = record {
+    started = h.started;
+    blocked = h.blocked;
+    in_period = λ on.
+        let p : IsInPeriod sys budgets rows r v x a = h.in_period on in
+        let on_it = goes_on v r same a p (below on) in
+        let used_to : used sys rows r v to ≡ used sys rows r v x
+        = on_it.count_is
+        ∙ (ap (λ (q : Bool). used sys rows r v x + cond q (to - x) 0) (sym is_has)
+        ∙ (let e : used sys rows r v x + 0 ≡ used sys rows r v x = omega arith in e)) in
+        record {
+          until_is = on_it.end_is;
+          level_is = p.level_is ∙ sym (ap (λ (g : ℕ). g / budget_at budgets v) used_to);
+          left_is = p.left_is ∙ sym (ap (λ (g : ℕ). left_of g (budget_at budgets v)) used_to);
+          begun = on_it.near;
+          not_over = below on;
+        };
+  }
 
   gone_account : (v : ℕ) → v < length sys.parts → (r : List (Option ℕ))
       → ((z : ℕ) → x ≤ z → z < to → held r z ≡ held r x) → (a : Account) (has : Bool) → has ≡ holds (held r x) v
-      → IsAccount sys rows r v x k a → (a.started ≡ true → to ≤ a.from + (part_at sys v).period) →
-      IsAccount sys rows r v to k (gone_on a has (to - x) (part_at sys v).period to)
-  gone_account v l r same a has is_has h in_period =
-      elim (cases_Bool (a.started && (to == (a.from + (part_at sys v).period)))) [
-        | inl b ↦
-            let p = and_parts a.started (to == (a.from + (part_at sys v).period)) b in
-            subst (λ (z : Account). IsAccount sys rows r v to k z) (sym (ap
-            (λ (q : Bool). cond q (record a { from = to; used = 0 })
-            (if has then record a { used = a.used + (to - x) } else a)) b))
-            (ended_account v l r a h p.0 (eqb-true to (a.from + (part_at sys v).period) p.1))
-        | inr b ↦
-            subst (λ (z : Account). IsAccount sys rows r v to k z) (sym (ap
-            (λ (q : Bool). cond q (record a { from = to; used = 0 })
-            (if has then record a { used = a.used + (to - x) } else a)) b))
-            (going_account v l r same a has is_has h (λ on. elim (cases_eq to (a.from + (part_at sys v).period)) [
-              | inl e ↦
-                  absurd (both_ways _ b (and_from a.started (to == (a.from + (part_at sys v).period)) on
-                  (eq-eqb to (a.from + (part_at sys v).period) e)))
-              | inr ne ↦ omega (arith, in_period on)
+      → (has ≡ true → to ≤ x + a.left)
+      → IsAccount sys budgets rows r v x k a → to ≤ a.until
+      → IsAccount sys budgets rows r v to k
+      (gone_on a has (to - x) (part_at sys v).period (budget_at budgets v) to)
+  gone_account v l r same a has is_has most h in_period =
+      let period : ℕ = (part_at sys v).period in
+      let b : ℕ = budget_at budgets v in
+      elim (cases_Bool (a.started && (to == a.until))) [
+        | inl e ↦
+            let p = and_parts a.started (to == a.until) e in
+            subst (λ (z : Account). IsAccount sys budgets rows r v to k z)
+            (sym (ap (λ (q : Bool). cond q (renewed a (to + period) b) (used_more a has (to - x) b)) e))
+            (ended_account v l r a h p.0 (eqb-true to a.until p.1))
+        | inr e ↦
+            subst (λ (z : Account). IsAccount sys budgets rows r v to k z)
+            (sym (ap (λ (q : Bool). cond q (renewed a (to + period) b) (used_more a has (to - x) b)) e))
+            (going_account v l r same a has is_has most h (λ on. elim (cases_eq to a.until) [
+              | inl q ↦ absurd (both_ways _ e (and_from a.started (to == a.until) on (eq-eqb to a.until q)))
+              | inr ne ↦ omega (arith, in_period, ne)
             ]))
       ]
 
   -- the accounts of the core at the next slot
   pub gone_accounts : to ≤ n → (new : List Account)
       → ((v : ℕ) → v < length sys.parts → is_child sys (Core c) v ≡ true
-      → account_at new v ≡ gone_on (account_at accounts v) (holds holder v) (to - x) (part_at sys v).period to)
-      → AreOn sys rows c run to k new
+      → account_at new v
+      ≡ gone_on (account_at accounts v) (holds holder v) (to - x) (part_at sys v).period (budget_at budgets v) to)
+      → AreOn sys budgets rows c run to k new
   gone_accounts fits new each v l child =
-      subst (λ (z : Account). IsAccount sys rows run v to k z) (sym (each v l child))
+      subst (λ (z : Account). IsAccount sys budgets rows run v to k z) (sym (each v l child))
       (gone_account v l run (alike fits) (account_at accounts v) (holds holder v)
-      (ap (λ (o : Option ℕ). holds o v) next.holder_is) (next.are v l child) (next.in_period v l child))
+      (ap (λ (o : Option ℕ). holds o v) next.holder_is) (λ has. next.in_budget v (holds-is holder v has))
+      (next.are v l child) (next.in_period v l child))

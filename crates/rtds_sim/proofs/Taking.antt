@@ -3,20 +3,22 @@ use Rattle.std.proofs.Common.{◌≡◌, ◌≢◌, ℕ, suc, ◌+◌, ◌*◌, 
 use Rattle.std.specs.Prelude.{is_some}
 use Rattle.std.proofs.lemmas.Bool.{cases_eq, cases_Bool, and_parts, and_from, false≢true, lt-leb, and_right}
 use Rattle.std.proofs.lemmas.List.{get_or-set_same, get_or-set_other, length-set}
-use Rattle.std.proofs.Math.Nat.{div-eq_of_lt}
+use Rattle.std.proofs.Math.Nat.{div-eq_of_lt, zero-div}
 use Rattle.slot_model.specs.Run.{held, holds}
 use Rattle.slot_model.proofs.Sums.{sum_below-same, sum_below-none}
 use Rattle.tree_model.specs.View.{SystemView}
 use Rattle.tree_model.specs.System.{part_at}
+use Rattle.tree_model.specs.Tree.{budget_at}
+use Rattle.tree_model.specs.Plans.{IsPlan}
 use Rattle.trace_file.specs.Periods.{begins, count_between}
 use Rattle.rtds_sim.specs.declared.account.Account.{Account}
 use Rattle.release_file.specs.declared.workload.Wake.{Wake as Row}
 use Rattle.release_file.specs.declared.workload.WakeKind.{WakeKind}
 use Rattle.release_file.specs.declared.workload.WakeKind.TheVariants.{Start, Wake, Block}
 use Rattle.release_file.specs.Workload.{row_at, last_row, is_of, is_start, starts, is_block, blocks, slot_of, start_of, may_follow, IsWorkload}
-use Rattle.rtds_sim.specs.Rtds.{period_number, period_from}
+use Rattle.rtds_sim.specs.Rtds.{period_number, period_from, used}
 use Rattle.rtds_sim.specs.Printed.{event_of, row_event_at}
-use Rattle.rtds_sim.specs.inner.Accounts.{account_at, no_account, row_taken, IsInPeriod, IsAccount, AreAccounts, run_of_part}
+use Rattle.rtds_sim.specs.inner.Accounts.{account_at, no_account, left_of, row_taken, IsInPeriod, IsAccount, AreAccounts, run_of_part}
 use Rattle.csv_rows.proofs.Last.{last_below-no, last_below-yes, last_is, some_row}
 
 -- the event of a row at a slot
@@ -35,6 +37,16 @@ pub none_between : (p : ℕ → Bool) (x : ℕ) → count_between p x x ≡ 0
 none_between p x =
     sum_below-same (λ y. cond (leb x y && p y) 1 0) (λ y. 0) x
     (λ y l. ap (λ (b : Bool). cond {A = ℕ} (b && p y) 1 0) (lt-leb x y l)) ∙ sum_below-none x
+
+-- the account of its VCPU after row k
+abbrev pub own_taken : SystemView → List ℕ → List Row → List Account → ℕ → Account
+own_taken sys budgets rows accounts k =
+    row_taken (row_at rows k).what ((row_at rows k).at + (part_at sys (row_at rows k).vcpu).period)
+    (budget_at budgets (row_at rows k).vcpu) (account_at accounts (row_at rows k).vcpu)
+
+-- without slots all of a budget is left
+pub all_left : (budget : ℕ) → 1 ≤ budget → left_of 0 budget ≡ budget
+all_left budget some = omega (arith, some)
 
 module _ (sys : SystemView) (rows : List Row) (workload : IsWorkload sys rows) where
   -- a VCPU starts once
@@ -64,9 +76,10 @@ module _ (sys : SystemView) (rows : List Row) (workload : IsWorkload sys rows) w
       → start_of rows v ≡ (row_at rows k).at
   start_is k v l of is = ap slot_of (start_once k v (length rows) l (omega arith) of is)
 
+module _ (sys : SystemView) (budgets : List ℕ) (rows : List Row) (workload : IsWorkload sys rows) where
   -- the row of another VCPU
   other_account : (run : List (Option ℕ)) (u x k : ℕ) (a : Account) → (row_at rows k).vcpu ≢ u
-      → IsAccount sys rows run u x k a → IsAccount sys rows run u x (suc k) a
+      → IsAccount sys budgets rows run u x k a → IsAccount sys budgets rows run u x (suc k) a
   other_account run u x k a ne h =
       let no : is_of u (row_at rows k) ≡ false = ne_eqb (row_at rows k).vcpu u ne in
       record {
@@ -75,17 +88,16 @@ module _ (sys : SystemView) (rows : List Row) (workload : IsWorkload sys rows) w
             ∙ ap is_some (sym (last_below-no (starts u) (row_at rows) k
             (ap (λ (b : Bool). b && is_start (row_at rows k).what) no)));
         blocked = h.blocked ∙ ap blocks (sym (last_below-no (is_of u) (row_at rows) k no));
-        early = h.early;
-        few = h.few;
         in_period = h.in_period;
       }
 
-  start_account : (run : List (Option ℕ)) (v x k : ℕ) → 1 ≤ (part_at sys v).period → k < length rows
-      → (row_at rows k).at ≡ x → is_of v (row_at rows k) ≡ true → (row_at rows k).what ≡ Start →
-      IsAccount sys rows run v x (suc k)
-      (record { started = true; blocked = false; from = (row_at rows k).at; used = 0 })
-  start_account run v x k some l at of is =
-      let f : start_of rows v ≡ x = start_is k v l of is ∙ at in
+  start_account : (run : List (Option ℕ)) (v x k : ℕ) (a : Account) → 1 ≤ (part_at sys v).period
+      → 1 ≤ budget_at budgets v → k < length rows → (row_at rows k).at ≡ x → is_of v (row_at rows k) ≡ true
+      → (row_at rows k).what ≡ Start
+      → IsAccount sys budgets rows run v x (suc k)
+      (row_taken Start ((row_at rows k).at + (part_at sys v).period) (budget_at budgets v) a)
+  start_account run v x k a some budget l at of is =
+      let f : start_of rows v ≡ x = start_is sys rows workload k v l of is ∙ at in
       let number : period_number (part_at sys v).period (start_of rows v) x ≡ 0
       = ap (λ (z : ℕ). (x - z) / (part_at sys v).period) f
       ∙ (ap (λ (z : ℕ). z / (part_at sys v).period) (let e : x - x ≡ 0 = omega arith in e)
@@ -93,77 +105,82 @@ module _ (sys : SystemView) (rows : List Row) (workload : IsWorkload sys rows) w
       let from : period_from sys rows v x ≡ x
       = ap (λ (n : ℕ). begins (part_at sys v).period (start_of rows v) n) number
       ∙ (let e : start_of rows v + 0 * (part_at sys v).period ≡ x = omega arith in e) in
+      let first : begins (part_at sys v).period (start_of rows v) (suc 0) ≡ (row_at rows k).at + (part_at sys v).period
+      = omega (arith, at, f) in
+      let none : used sys rows run v x ≡ 0
+      = ap (λ (a : ℕ). count_between (λ y. holds (held run y) v) a x) from
+      ∙ none_between (λ y. holds (held run y) v) x in
       record {
         started =
             sym (ap is_some (last_below-yes (starts v) (row_at rows) k
             (and_from (is_of v (row_at rows k)) (is_start (row_at rows k).what) of (ap is_start is))));
         blocked = sym (ap blocks (last_below-yes (is_of v) (row_at rows) k of) ∙ ap is_block is);
-        early = omega arith;
-        few = omega arith;
         in_period =
             λ on. record {
-              from_is = at ∙ sym from;
-              used_is =
-                  sym (ap (λ (a : ℕ). count_between (λ y. holds (held run y) v) a x) from
-                  ∙ none_between (λ y. holds (held run y) v) x);
-              begun = omega arith;
-              not_over = omega arith;
-              few = omega arith;
+              until_is =
+                  sym (ap (λ (n : ℕ). begins (part_at sys v).period (start_of rows v) (suc n)) number ∙ first);
+              level_is = sym (ap (λ (g : ℕ). g / budget_at budgets v) none ∙ zero-div (budget_at budgets v));
+              left_is = sym (ap (λ (g : ℕ). left_of g (budget_at budgets v)) none
+                  ∙ all_left (budget_at budgets v) budget);
+              begun = omega (arith, at);
+              not_over = omega (arith, at, some);
             };
       }
 
   change_account : (run : List (Option ℕ)) (v x k : ℕ) (b : Bool) (a : Account) → is_of v (row_at rows k) ≡ true
-      → is_start (row_at rows k).what ≡ false → is_block (row_at rows k).what ≡ b → IsAccount sys rows run v x k a
-      → IsAccount sys rows run v x (suc k) (record a { blocked = b })
+      → is_start (row_at rows k).what ≡ false → is_block (row_at rows k).what ≡ b
+      → IsAccount sys budgets rows run v x k a
+      → IsAccount sys budgets rows run v x (suc k) (record a { blocked = b })
   change_account run v x k b a of not_start is h = record {
     started =
         h.started
         ∙ ap is_some (sym (last_below-no (starts v) (row_at rows) k
         (and_right (is_of v (row_at rows k)) (is_start (row_at rows k).what) not_start)));
     blocked = sym (ap blocks (last_below-yes (is_of v) (row_at rows) k of) ∙ is);
-    early = h.early;
-    few = h.few;
     in_period =
-        λ on. let p : IsInPeriod sys rows run v x a
+        λ on. let p : IsInPeriod sys budgets rows run v x a
         = h.in_period on in record
-        { from_is = p.from_is; used_is = p.used_is; begun = p.begun; not_over = p.not_over; few = p.few };
+        { until_is = p.until_is; level_is = p.level_is; left_is = p.left_is; begun = p.begun; not_over = p.not_over };
   }
 
-  own_account : (run : List (Option ℕ)) (v x k : ℕ) (a : Account) → 1 ≤ (part_at sys v).period → k < length rows
-      → (row_at rows k).at ≡ x → is_of v (row_at rows k) ≡ true → IsAccount sys rows run v x k a →
-      (what : WakeKind) → (row_at rows k).what ≡ what
-      → IsAccount sys rows run v x (suc k) (row_taken what (row_at rows k).at a)
-  own_account run v x k a some l at of h Start is = start_account run v x k some l at of is
-  own_account run v x k a some l at of h Wake is =
+  own_account : (run : List (Option ℕ)) (v x k : ℕ) (a : Account) → 1 ≤ (part_at sys v).period
+      → 1 ≤ budget_at budgets v → k < length rows → (row_at rows k).at ≡ x → is_of v (row_at rows k) ≡ true
+      → IsAccount sys budgets rows run v x k a → (what : WakeKind) → (row_at rows k).what ≡ what
+      → IsAccount sys budgets rows run v x (suc k)
+      (row_taken what ((row_at rows k).at + (part_at sys v).period) (budget_at budgets v) a)
+  own_account run v x k a some budget l at of h Start is = start_account run v x k a some budget l at of is
+  own_account run v x k a some budget l at of h Wake is =
       change_account run v x k false a of (ap is_start is) (ap is_block is) h
-  own_account run v x k a some l at of h Block is =
+  own_account run v x k a some budget l at of h Block is =
       change_account run v x k true a of (ap is_start is) (ap is_block is) h
 
   -- one row more
-  pub accounts_more : (runs : List (List (Option ℕ))) (x k : ℕ) (accounts : List Account)
-      → ((v : ℕ) → v < length sys.parts → 1 ≤ (part_at sys v).period) → k < length rows → (row_at rows k).at ≡ x
-      → (row_at rows k).vcpu < length accounts → AreAccounts sys rows runs x k accounts →
-      AreAccounts sys rows runs x (k + 1) (set accounts (row_at rows k).vcpu
-      (row_taken (row_at rows k).what (row_at rows k).at (account_at accounts (row_at rows k).vcpu)))
-  accounts_more runs x k accounts some l at room h =
+  pub accounts_more : (runs : List (List (Option ℕ))) (x k : ℕ) (accounts : List Account) → IsPlan sys budgets
+      → k < length rows → (row_at rows k).at ≡ x → (row_at rows k).vcpu < length accounts
+      → AreAccounts sys budgets rows runs x k accounts
+      → AreAccounts sys budgets rows runs x (k + 1)
+      (set accounts (row_at rows k).vcpu (own_taken sys budgets rows accounts k))
+  accounts_more runs x k accounts plan l at room h =
       let v : ℕ = (row_at rows k).vcpu in
-      let r : Account = row_taken (row_at rows k).what (row_at rows k).at (account_at accounts v) in
+      let r : Account = own_taken sys budgets rows accounts k in
       record {
         all_vcpus = length-set accounts v r ∙ h.all_vcpus;
         each =
             λ u p. subst
-            (λ (n : ℕ). IsAccount sys rows (run_of_part sys runs u) u x n (account_at (set accounts v r) u))
+            (λ (n : ℕ). IsAccount sys budgets rows (run_of_part sys runs u) u x n (account_at (set accounts v r) u))
             (let e : suc k ≡ k + 1 = omega arith in e) (elim (cases_eq u v) [
               | inl e ↦
-                  subst (λ (z : Account). IsAccount sys rows (run_of_part sys runs u) u x (suc k) z)
+                  subst (λ (z : Account). IsAccount sys budgets rows (run_of_part sys runs u) u x (suc k) z)
                   (sym (ap (account_at (set accounts v r)) e ∙ get_or-set_same accounts v r no_account room))
-                  (subst (λ (z : ℕ). IsAccount sys rows (run_of_part sys runs u) u x (suc k)
-                  (row_taken (row_at rows k).what (row_at rows k).at (account_at accounts z))) e
-                  (own_account (run_of_part sys runs u) u x k (account_at accounts u) (some u p) l at
+                  (subst (λ (z : ℕ). IsAccount sys budgets rows (run_of_part sys runs u) u x (suc k)
+                  (row_taken (row_at rows k).what ((row_at rows k).at + (part_at sys z).period) (budget_at budgets z)
+                  (account_at accounts z))) e
+                  (own_account (run_of_part sys runs u) u x k (account_at accounts u)
+                  (omega (arith, plan.some_budget u p, plan.in_period u p)) (plan.some_budget u p) l at
                   (eq-eqb v u (sym e))
                   (h.each u p) (row_at rows k).what refl))
               | inr ne ↦
-                  subst (λ (z : Account). IsAccount sys rows (run_of_part sys runs u) u x (suc k) z)
+                  subst (λ (z : Account). IsAccount sys budgets rows (run_of_part sys runs u) u x (suc k) z)
                   (sym (get_or-set_other accounts v u r no_account ne))
                   (other_account (run_of_part sys runs u) u x k (account_at accounts u) (λ e. ne (sym e)) (h.each u p))
             ]);

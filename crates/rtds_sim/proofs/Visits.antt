@@ -98,9 +98,9 @@ rows_none sys rows x k to taken later y a b =
     (λ e. elim (cases_lt i k) [ inl h ↦ omega (arith, e, taken.past i h) | inr h ↦ omega (arith, e, later i h l) ]))
 
 -- what is told of the cores that stop
-module _ (sys : SystemView) (rows : List Row) (runs : List (List (Option ℕ)))
+module _ (sys : SystemView) (budgets : List ℕ) (rows : List Row) (runs : List (List (Option ℕ)))
     (host : Host) (taken : AreBefore rows host.taken (suc host.time))
-    (are : AreAccounts sys rows runs host.time host.taken host.accounts) (room : HasRoom sys host)
+    (are : AreAccounts sys budgets rows runs host.time host.taken host.accounts) (room : HasRoom sys host)
     (holders_are : (c : ℕ) → c < length sys.cores → holder_at host.holders c ≡ holder_before (run_at runs c) host.time)
   where
     abbrev x : ℕ

@@ -1,7 +1,7 @@
-ghost use Rattle.std.specs.Prelude.{◌≡◌, ◌≤◌, ◌<◌, ◌+◌, ◌^◌, Some, length};
-ghost use Rattle.rtds_sim.specs.inner.Accounts.{no_account, account_at, account_eligible, key_of, first_key, end_of, level_of, left_of, row_taken, IsLeft};
+ghost use Rattle.std.specs.Prelude.{◌≡◌, ◌≤◌, ◌<◌, ◌+◌, ◌^◌, length};
+ghost use Rattle.rtds_sim.specs.inner.Accounts.{no_account, account_at, end_at, renewed, row_taken, using, had_budget, account_eligible, key_of};
 
-use release_file::{Wake, WakeKind};
+use release_file::WakeKind;
 use rtds_queues::Key;
 use slot_model::LIMIT;
 
@@ -9,6 +9,7 @@ use slot_model::LIMIT;
 pub const PAST_ALL: u64 = LIMIT + 1;
 
 /// The account of VCPU `v`.
+#[inline(always)]
 pub fn account_of(accounts: &[Account], v: u32) -> Account
     requires { v < length accounts.now }
     ensures { result ≡ account_at accounts.now v }
@@ -16,14 +17,26 @@ pub fn account_of(accounts: &[Account], v: u32) -> Account
     accounts[v as usize]
 }
 
+/// The slot at which the period of VCPU `v` ends, and one past all where it is not started.
+#[inline(always)]
+pub fn end_of(accounts: &[Account], v: u32) -> u64
+    requires { v < length accounts.now }
+    ensures { result ≡ end_at accounts.now v }
+{
+    accounts[v as usize].until
+}
+
 /// What is kept of a VCPU between two events.
 #[derive(Clone, Copy, Debug, PartialEq, Eq)]
 pub struct Account {
     pub started: bool,
     pub blocked: bool,
-    /// Where its period begins, and the slots that it had in it.
-    pub from: u64,
-    pub used: u64,
+    /// The slot at which its period ends, and one past all where it is not started.
+    pub until: u64,
+    /// How often it has had its budget in its period.
+    pub level: u64,
+    /// The slots until it has had its budget once more.
+    pub left: u64,
 }
 
 impl Account {
@@ -34,21 +47,36 @@ impl Account {
         Account {
             started: false,
             blocked: false,
-            from: 0,
-            used: 0,
+            until: PAST_ALL,
+            level: 0,
+            left: 1,
         }
     }
 
-    /// After a row of its VCPU.
-    pub fn taking(self, row: Wake) -> Account
-        ensures { result ≡ row_taken row.what row.at self }
+    /// Where a period of it begins that ends at slot `end`.
+    #[inline(always)]
+    pub fn renewed(self, end: u64, budget: u64) -> Account
+        ensures { result ≡ renewed self end budget }
     {
-        match row.what {
+        Account {
+            until: end,
+            level: 0,
+            left: budget,
+            ..self
+        }
+    }
+
+    /// After a row of its VCPU, at which a period would begin that ends at slot `end`.
+    pub fn taking(self, what: WakeKind, end: u64, budget: u64) -> Account
+        ensures { result ≡ row_taken what end budget self }
+    {
+        match what {
             WakeKind::Start => Account {
                 started: true,
                 blocked: false,
-                from: row.at,
-                used: 0,
+                until: end,
+                level: 0,
+                left: budget,
             },
             WakeKind::Wake => Account {
                 blocked: false,
@@ -61,82 +89,50 @@ impl Account {
         }
     }
 
+    /// Once it has had some slots, where more are left.
+    #[inline(always)]
+    pub fn using(self, slots: u64) -> Account
+        requires { slots ≤ self.left }
+        ensures { result ≡ using self slots }
+    {
+        Account {
+            left: self.left - slots,
+            ..self
+        }
+    }
+
+    /// Once it has had its budget once more.
+    #[inline(always)]
+    pub fn had_budget(self, budget: u64) -> Account
+        requires { self.level + 1 < 2 ^ 64 }
+        ensures { result ≡ had_budget self budget }
+    {
+        Account {
+            level: self.level + 1,
+            left: budget,
+            ..self
+        }
+    }
+
     /// Whether it is started and not blocked, and has budget left or extra time.
-    pub fn is_eligible(self, budget: u64, extra: bool) -> bool
-        ensures { result ≡ account_eligible self budget extra }
+    #[inline(always)]
+    pub fn is_eligible(self, extra: bool) -> bool
+        ensures { result ≡ account_eligible self extra }
     {
-        self.started && !self.blocked && (self.used < budget || extra)
-    }
-
-    /// The slots until it has had its budget once more, where this is its level.
-    pub fn left(self, budget: u64, level: u64) -> u64
-        requires some { 1 ≤ budget }
-        requires level { level ≡ level_of self budget }
-        ensures value { result ≡ left_of self budget }
-        ensures some { 1 ≤ result }
-    {
-        budget - (self.used - level * budget)
-    }
-
-    /// The same, where this is what it goes by, and one slot where it is not eligible.
-    pub fn left_by(self, budget: u64, key: Option<Key>) -> u64
-        requires some { 1 ≤ budget }
-        requires level { (k : Key) → key ≡ Some k → k.level ≡ level_of self budget }
-        ensures { IsLeft key result (left_of self budget) }
-    {
-        match key {
-            Some(key) => self.left(budget, key.level),
-            None => 1,
-        }
-    }
-
-    /// How often it has had its budget.
-    fn level(self, budget: u64) -> u64
-        requires { 1 ≤ budget }
-        ensures { result ≡ level_of self budget }
-    {
-        if self.used < budget {
-            return 0;
-        }
-        self.used / budget
+        self.started && !self.blocked && (self.level == 0 || extra)
     }
 
     /// What it goes by, where it is eligible.
-    pub fn key(self, budget: u64, extra: bool, period: u64) -> Option<Key>
-        requires some { 1 ≤ budget }
-        requires deadline { self.from + period < 2 ^ 64 }
-        ensures { result ≡ key_of self budget extra period }
+    #[inline(always)]
+    pub fn key(self, extra: bool) -> Option<Key>
+        ensures { result ≡ key_of self extra }
     {
-        if !self.is_eligible(budget, extra) {
+        if !self.is_eligible(extra) {
             return None;
         }
         Some(Key {
-            level: self.level(budget),
-            deadline: self.from + period,
+            level: self.level,
+            deadline: self.until,
         })
-    }
-
-    /// What it goes by where a period of it begins that ends at slot `end`, once it is started.
-    pub fn first_key(self, end: u64) -> Option<Key>
-        ensures { result ≡ first_key self end }
-    {
-        if self.blocked {
-            return None;
-        }
-        Some(Key {
-            level: 0,
-            deadline: end,
-        })
-    }
-
-    /// The slot at which its period ends, and one past all where it is not started.
-    pub fn end(self, period: u64) -> u64
-        requires { self.from + period < 2 ^ 64 }
-        ensures { result ≡ end_of self period }
-    {
-        if self.started {
-            return self.from + period;
-        }
-        PAST_ALL
     }
 }

@@ -2,10 +2,9 @@ ghost use Rattle.std.specs.Prelude.{◌≡◌, ◌≤◌, ◌<◌};
 ghost use Rattle.slot_model.specs.declared.task.TheConstants.{LIMIT};
 ghost use Rattle.rtds_sim.specs.Printed.{on_core_at, switch_to};
 
-use crate::account::{Account, PAST_ALL, account_of};
-use crate::by_end::{settle, sort};
-use crate::host::Host;
-use crate::levels::{budget_of, next_key, next_left};
+use crate::account::{Account, account_of, end_of};
+use crate::by_end::{first_end, settle, sort};
+use crate::host::{Host, budget_of};
 use crate::members::Members;
 use crate::moment::moment_of_slot;
 use crate::switches::Switches;
@@ -44,7 +43,7 @@ fn switch_event(core: usize, at: u64, holder: Option<u32>, next: Option<u32>) ->
 }
 
 impl Host {
-    ghost use Rattle.std.specs.Prelude.{◌≡◌, ◌≢◌, ℕ, ◌≤◌, ◌<◌, ◌+◌, ◌-◌, true, false, is_some, List, [], Option, Some, length, slice_set, OnOk};
+    ghost use Rattle.std.specs.Prelude.{◌≡◌, ℕ, suc, ◌≤◌, ◌<◌, ◌+◌, ◌-◌, true, false, List, [], Option, Some, length, slice_set, OnOk};
     ghost use Rattle.slot_model.specs.Run.{holds};
     ghost use Rattle.slot_model.specs.declared.task.TheConstants.{LIMIT};
     ghost use Rattle.tree_model.specs.declared.place.Place.TheVariants.{Core};
@@ -52,13 +51,11 @@ impl Host {
     ghost use Rattle.tree_model.specs.Tree.{is_child, budget_at};
     ghost use Rattle.tree_model.specs.Plans.{IsPlan};
     ghost use Rattle.release_file.specs.declared.workload.Wake.{Wake as RowView};
-    ghost use Rattle.rtds_queues.specs.Keys.{key_at};
-    ghost use Rattle.rtds_sim.specs.inner.ByEnd.{InOrder, first_end};
+    ghost use Rattle.rtds_sim.specs.inner.ByEnd.{AreByEnd};
     ghost use Rattle.rtds_sim.specs.inner.Members.{AreAll, AreMembers};
-    ghost use Rattle.rtds_queues.specs.Queues.{place_at};
     ghost use Rattle.rtds_sim.specs.Printed.{push_some, on_core_at, switch_to};
-    ghost use Rattle.rtds_sim.specs.inner.Accounts.{account_at, holder_at, number_at, gone_on, used_more, period_ended, left_of, IsChoice, IsReady, IsEnd, AreEnds};
-    ghost use Rattle.rtds_sim.specs.inner.Running.{IsUnderway, HasRun, HasBegun};
+    ghost use Rattle.rtds_sim.specs.inner.Accounts.{account_at, end_at, holder_at, gone_on, used_more, period_ended, renewed, IsChoice, IsSound, IsReady, NoEndBefore, NoneEnds, NoneAbove};
+    ghost use Rattle.rtds_sim.specs.inner.Running.{IsUnderway, HasRun, KeepsOthers};
     ghost use Rattle.rtds_sim.specs.inner.Lists.{list_at};
 
     /// Runs each core by itself up to slot `to`, before which no row comes, and keeps what it
@@ -73,19 +70,19 @@ impl Host {
     ) -> Result<(), AllocError>
         requires members { AreMembers sys.now members.old }
         requires plan { IsPlan sys.now plan.now }
-        requires ready { IsReady sys.now plan.now self.old }
-        requires ends { AreEnds sys.now self.old }
+        requires ready { IsReady sys.now self.old }
+        requires ends { NoneEnds sys.now self.old }
         requires later { self.old.time < to }
         requires in_limit { to ≤ LIMIT }
         requires one_each { length switches.old.lists.items ≡ length sys.now.cores }
         requires empty { (c : ℕ) → list_at switches.old.lists.items c ≡ [] }
         ensures members { OnOk result (AreMembers sys.now members.new) }
-        ensures ready { OnOk result (IsReady sys.now plan.now self.new) }
-        ensures ends { OnOk result (AreEnds sys.now self.new) }
+        ensures ready { OnOk result (IsReady sys.now self.new) }
+        ensures ends { OnOk result (NoneEnds sys.now self.new) }
         ensures run { OnOk result ((rows : List RowView) (n k c : ℕ) (run : List (Option ℕ)) →
             c < length sys.now.cores →
             IsUnderway sys.now plan.now rows n c run self.old.time to k self.old →
-            HasRun sys.now rows c run self.old.time to k self.new []
+            HasRun sys.now plan.now rows c run self.old.time to k self.new []
             (list_at switches.new.lists.items c)) }
         ensures others { OnOk result ((v : ℕ) → v < length sys.now.parts →
             ((c : ℕ) → c < length sys.now.cores → is_child sys.now (Core c) v ≡ false) →
@@ -115,42 +112,30 @@ impl Host {
         from: u64,
         told: &mut Vec<Event>,
     ) -> Result<(), AllocError>
-        requires vcpus { AreAll (is_child sys.now (Core core)) (length sys.now.parts) vcpus.old }
         requires plan { IsPlan sys.now plan.now }
-        requires ready { IsReady sys.now plan.now self.old }
+        requires ready { IsReady sys.now self.old }
         requires is_core { core < length sys.now.cores }
-        requires later { from < self.old.time }
         requires in_limit { self.old.time ≤ LIMIT }
-        requires few { (v : ℕ) → v < length sys.now.parts → is_child sys.now (Core core) v ≡ true
-            → (account_at self.old.accounts v).used ≤ from }
-        requires bound { IsEnd sys.now self.old.accounts core (number_at self.old.ends core) }
-        requires in_time { from < number_at self.old.ends core }
-        requires system { IsSystem sys.now }
+        requires vcpus { AreAll (is_child sys.now (Core core)) (length sys.now.parts) vcpus.old }
+        requires later { from < self.old.time }
+        requires few { NoneAbove sys.now self.old.accounts core from }
+        requires ends { NoEndBefore sys.now self.old.accounts core (suc from) }
         ensures vcpus { OnOk result
             (AreAll (is_child sys.now (Core core)) (length sys.now.parts) vcpus.new) }
-        ensures ready { OnOk result (IsReady sys.now plan.now self.new) }
+        ensures ready { OnOk result (IsReady sys.now self.new) }
         ensures run { OnOk result ((rows : List RowView) (n k : ℕ) (run : List (Option ℕ)) →
             IsUnderway sys.now plan.now rows n core run from self.old.time k self.old →
-            HasRun sys.now rows core run from self.old.time k self.new told.old.items
+            HasRun sys.now plan.now rows core run from self.old.time k self.new told.old.items
             told.new.items) }
-        ensures bound { OnOk result
-            (IsEnd sys.now self.new.accounts core (number_at self.new.ends core)) }
-        ensures in_time { OnOk result (self.old.time < number_at self.new.ends core) }
-        ensures others { OnOk result ((v : ℕ) → v < length sys.now.parts
-            → is_child sys.now (Core core) v ≡ false
-            → account_at self.new.accounts v ≡ account_at self.old.accounts v) }
-        ensures ends { OnOk result ((d : ℕ) → d ≢ core
-            → number_at self.new.ends d ≡ number_at self.old.ends d) }
-        ensures holders { OnOk result ((d : ℕ) → d ≢ core
-            → holder_at self.new.holders d ≡ holder_at self.old.holders d) }
-        ensures time { OnOk result (self.new.time ≡ self.old.time) }
-        ensures taken { OnOk result (self.new.taken ≡ self.old.taken) }
+        ensures ends { OnOk result
+            (NoEndBefore sys.now self.new.accounts core (suc self.old.time)) }
+        ensures keeps { OnOk result (KeepsOthers sys.now core self.old self.new) }
     {
-        sort(vcpus, &self.until);
+        sort(vcpus, &self.accounts);
         let mut at = from;
         while at < self.time {
-            self.switch(sys, plan, core, at, told)?;
-            let next = self.next_change(sys, plan, core, at);
+            self.switch(sys, core, at, told)?;
+            let next = self.next_change(sys, vcpus, core, at);
             self.bring(sys, plan, vcpus, core, at, next);
             at = next;
         }
@@ -162,28 +147,21 @@ impl Host {
     fn switch(
         &mut self,
         sys: &System,
-        plan: &Plan,
         core: usize,
         at: u64,
         told: &mut Vec<Event>,
     ) -> Result<(), AllocError>
-        requires plan { IsPlan sys.now plan.now }
-        requires ready { IsReady sys.now plan.now self.old }
+        requires ready { IsReady sys.now self.old }
         requires is_core { core < length sys.now.cores }
         requires in_limit { at ≤ LIMIT }
-        ensures ready { OnOk result (IsReady sys.now plan.now self.new) }
-        ensures chosen { OnOk result (IsChoice sys.now plan.now self.old.accounts core
+        ensures ready { OnOk result (IsReady sys.now self.new) }
+        ensures chosen { OnOk result (IsChoice sys.now self.old.accounts core
             (holder_at self.new.holders core)) }
         ensures told { OnOk result (told.new.items
             ≡ push_some told.old.items (on_core_at core at
             (switch_to (holder_at self.old.holders core) (holder_at self.new.holders core)))) }
-        ensures others { OnOk result ((d : ℕ) → d ≢ core
-            → holder_at self.new.holders d ≡ holder_at self.old.holders d) }
-        ensures accounts { self.new.accounts ≡ self.old.accounts }
-        ensures ends { self.new.ends ≡ self.old.ends }
-        ensures taken { self.new.taken ≡ self.old.taken }
-        ensures until { self.new.until ≡ self.old.until }
-        ensures time { self.new.time ≡ self.old.time }
+        ensures accounts { OnOk result (self.new.accounts ≡ self.old.accounts) }
+        ensures keeps { OnOk result (KeepsOthers sys.now core self.old self.new) }
     {
         let next = self.queues.first_of(sys, core);
         if let Some(event) = switch_event(core, at, self.holders[core], next) {
@@ -195,23 +173,22 @@ impl Host {
 
     /// The slot at which something may change on core `core` next: a period ends, its VCPU has had
     /// its budget once more, or the time of the host has come.
-    fn next_change(&self, sys: &System, plan: &Plan, core: usize, at: u64) -> u64
-        requires plan { IsPlan sys.now plan.now }
-        requires ready { IsReady sys.now plan.now self.now }
+    fn next_change(&self, sys: &System, vcpus: &[u32], core: usize, at: u64) -> u64
+        requires ready { IsReady sys.now self.now }
         requires is_core { core < length sys.now.cores }
         requires in_limit { self.now.time ≤ LIMIT }
+        requires by_end { AreByEnd sys.now core self.now.accounts vcpus.now }
         requires in_time { at < self.now.time }
-        requires in_period { at < number_at self.now.ends core }
-        requires system { IsSystem sys.now }
+        requires ends { NoEndBefore sys.now self.now.accounts core (suc at) }
         ensures in_time { result ≤ self.now.time }
-        ensures period { result ≤ number_at self.now.ends core }
-        ensures budget { (v : ℕ) → holder_at self.now.holders core ≡ Some v → result
-            ≤ at + left_of (account_at self.now.accounts v) (budget_at plan.now v) }
+        ensures ends { NoEndBefore sys.now self.now.accounts core result }
+        ensures budget { (v : ℕ) → holder_at self.now.holders core ≡ Some v
+            → result ≤ at + (account_at self.now.accounts v).left }
         ensures later { at < result }
     {
-        let end = self.time.min(self.ends[core]);
+        let end = self.time.min(first_end(vcpus, &self.accounts));
         match self.holders[core] {
-            Some(v) => end.min(at + self.left[v as usize]),
+            Some(v) => at + account_of(&self.accounts, v).left.min(end - at),
             None => end,
         }
     }
@@ -227,37 +204,24 @@ impl Host {
         from: u64,
         to: u64,
     )
-        requires vcpus { AreAll (is_child sys.now (Core core)) (length sys.now.parts) vcpus.old }
-        requires order { InOrder self.old.until vcpus.old 0 }
         requires plan { IsPlan sys.now plan.now }
-        requires ready { IsReady sys.now plan.now self.old }
+        requires ready { IsReady sys.now self.old }
         requires is_core { core < length sys.now.cores }
         requires in_limit { self.old.time ≤ LIMIT }
-        requires later { from ≤ to }
+        requires by_end { AreByEnd sys.now core self.old.accounts vcpus.old }
+        requires later { from < to }
         requires in_time { to ≤ self.old.time }
-        requires few { (v : ℕ) → v < length sys.now.parts → is_child sys.now (Core core) v ≡ true
-            → (account_at self.old.accounts v).used ≤ from }
-        requires bound { IsEnd sys.now self.old.accounts core (number_at self.old.ends core) }
-        requires in_period { to ≤ number_at self.old.ends core }
-        requires in_budget { (v : ℕ) → holder_at self.old.holders core ≡ Some v → to
-            ≤ from + left_of (account_at self.old.accounts v) (budget_at plan.now v) }
-        ensures vcpus { AreAll (is_child sys.now (Core core)) (length sys.now.parts) vcpus.new }
-        ensures order { InOrder self.new.until vcpus.new 0 }
-        ensures ready { IsReady sys.now plan.now self.new }
+        requires few { NoneAbove sys.now self.old.accounts core from }
+        requires ends { NoEndBefore sys.now self.old.accounts core to }
+        ensures by_end { AreByEnd sys.now core self.new.accounts vcpus.new }
+        ensures ready { IsReady sys.now self.new }
         ensures own { (v : ℕ) → v < length sys.now.parts → is_child sys.now (Core core) v ≡ true
             → account_at self.new.accounts v
             ≡ gone_on (account_at self.old.accounts v) (holds (holder_at self.old.holders core) v)
-            (to - from) (part_at sys.now v).period to }
-        ensures others { (v : ℕ) → v < length sys.now.parts
-            → is_child sys.now (Core core) v ≡ false
-            → account_at self.new.accounts v ≡ account_at self.old.accounts v }
-        ensures bound { IsEnd sys.now self.new.accounts core (number_at self.new.ends core) }
-        ensures in_period { to < number_at self.new.ends core }
-        ensures ends { (d : ℕ) → d ≢ core
-            → number_at self.new.ends d ≡ number_at self.old.ends d }
-        ensures time { self.new.time ≡ self.old.time }
-        ensures holders { self.new.holders ≡ self.old.holders }
-        ensures taken { self.new.taken ≡ self.old.taken }
+            (to - from) (part_at sys.now v).period (budget_at plan.now v) to }
+        ensures ends { NoEndBefore sys.now self.new.accounts core (suc to) }
+        ensures holder { holder_at self.new.holders core ≡ holder_at self.old.holders core }
+        ensures keeps { KeepsOthers sys.now core self.old self.new }
     {
         self.use_slots(sys, plan, core, to - from);
         self.end_periods(sys, plan, vcpus, core, to);
@@ -266,141 +230,94 @@ impl Host {
     /// Counts some slots, which the VCPU of core `core` had.
     fn use_slots(&mut self, sys: &System, plan: &Plan, core: usize, slots: u64)
         requires plan { IsPlan sys.now plan.now }
-        requires ready { IsReady sys.now plan.now self.old }
+        requires ready { IsReady sys.now self.old }
         requires is_core { core < length sys.now.cores }
         requires in_limit { self.old.time ≤ LIMIT }
         requires few { (v : ℕ) → holder_at self.old.holders core ≡ Some v
-            → (account_at self.old.accounts v).used + slots ≤ self.old.time }
-        requires in_budget { (v : ℕ) → holder_at self.old.holders core ≡ Some v
-            → slots ≤ left_of (account_at self.old.accounts v) (budget_at plan.now v) }
-        ensures ready { IsReady sys.now plan.now self.new }
+            → (account_at self.old.accounts v).level < self.old.time }
+        ensures ready { IsReady sys.now self.new }
         ensures accounts { (v : ℕ) → v < length sys.now.parts
             → account_at self.new.accounts v
             ≡ used_more (account_at self.old.accounts v)
-            (holds (holder_at self.old.holders core) v) slots }
-        ensures until { self.new.until ≡ self.old.until }
+            (holds (holder_at self.old.holders core) v) slots (budget_at plan.now v) }
         ensures time { self.new.time ≡ self.old.time }
         ensures holders { self.new.holders ≡ self.old.holders }
         ensures taken { self.new.taken ≡ self.old.taken }
-        ensures ends { self.new.ends ≡ self.old.ends }
     {
         if let Some(v) = self.holders[core] {
-            let left = self.left[v as usize];
-            if slots < left {
-                self.accounts[v as usize].used += slots;
-                self.left[v as usize] = left - slots;
+            let account = account_of(&self.accounts, v);
+            if slots < account.left {
+                self.accounts[v as usize] = account.using(slots);
             } else {
-                self.use_up(sys, plan, core, v, slots);
+                let account = account.had_budget(budget_of(plan, v));
+                self.set_on(sys, core, v, account);
             }
         }
     }
 
-    /// Counts the slots with which VCPU `v` has had its budget once more.
-    fn use_up(&mut self, sys: &System, plan: &Plan, core: usize, v: u32, slots: u64)
-        requires plan { IsPlan sys.now plan.now }
-        requires ready { IsReady sys.now plan.now self.old }
-        requires is_core { core < length sys.now.cores }
-        requires is_part { v < length sys.now.parts }
-        requires on_core { is_child sys.now (Core core) v ≡ true }
-        requires in_limit { self.old.time ≤ LIMIT }
-        requires few { (account_at self.old.accounts v).used + slots ≤ self.old.time }
-        requires exact { is_some (key_at self.old.queues.keys v) ≡ true
-            → slots ≡ left_of (account_at self.old.accounts v) (budget_at plan.now v) }
-        ensures ready { IsReady sys.now plan.now self.new }
-        ensures accounts { self.new.accounts ≡ slice_set self.old.accounts v
-            (used_more (account_at self.old.accounts v) true slots) }
-        ensures until { self.new.until ≡ self.old.until }
-        ensures time { self.new.time ≡ self.old.time }
-        ensures holders { self.new.holders ≡ self.old.holders }
-        ensures taken { self.new.taken ≡ self.old.taken }
-        ensures ends { self.new.ends ≡ self.old.ends }
-    {
-        let key = next_key(self.queues.keys.get(v), sys.parts()[v as usize].extra());
-        let left = next_left(key, budget_of(plan, v));
-        self.accounts[v as usize].used += slots;
-        self.queues.set_on(sys, core as u32, v, key);
-        self.left[v as usize] = left;
-    }
-
     /// Begins the periods that begin at slot `at` on core `core`.
     fn end_periods(&mut self, sys: &System, plan: &Plan, vcpus: &mut [u32], core: usize, at: u64)
-        requires vcpus { AreAll (is_child sys.now (Core core)) (length sys.now.parts) vcpus.old }
-        requires order { InOrder self.old.until vcpus.old 0 }
         requires plan { IsPlan sys.now plan.now }
-        requires ready { IsReady sys.now plan.now self.old }
+        requires ready { IsReady sys.now self.old }
         requires is_core { core < length sys.now.cores }
         requires in_limit { self.old.time ≤ LIMIT }
+        requires by_end { AreByEnd sys.now core self.old.accounts vcpus.old }
         requires in_time { at ≤ self.old.time }
-        requires bound { IsEnd sys.now self.old.accounts core (number_at self.old.ends core) }
-        requires in_period { at ≤ number_at self.old.ends core }
-        ensures vcpus { AreAll (is_child sys.now (Core core)) (length sys.now.parts) vcpus.new }
-        ensures order { InOrder self.new.until vcpus.new 0 }
-        ensures ready { IsReady sys.now plan.now self.new }
+        requires ends { NoEndBefore sys.now self.old.accounts core at }
+        ensures by_end { AreByEnd sys.now core self.new.accounts vcpus.new }
+        ensures ready { IsReady sys.now self.new }
         ensures own { (v : ℕ) → v < length sys.now.parts → is_child sys.now (Core core) v ≡ true
             → account_at self.new.accounts v
-            ≡ period_ended (account_at self.old.accounts v) (part_at sys.now v).period at }
-        ensures others { (v : ℕ) → v < length sys.now.parts
-            → is_child sys.now (Core core) v ≡ false
-            → account_at self.new.accounts v ≡ account_at self.old.accounts v }
-        ensures bound { IsEnd sys.now self.new.accounts core (number_at self.new.ends core) }
-        ensures in_period { at < number_at self.new.ends core }
-        ensures ends { (d : ℕ) → d ≢ core
-            → number_at self.new.ends d ≡ number_at self.old.ends d }
+            ≡ period_ended (account_at self.old.accounts v) (part_at sys.now v).period
+            (budget_at plan.now v) at }
+        ensures ends { NoEndBefore sys.now self.new.accounts core (suc at) }
+        ensures holder { holder_at self.new.holders core ≡ holder_at self.old.holders core }
+        ensures keeps { KeepsOthers sys.now core self.old self.new }
+    {
+        while first_end(vcpus, &self.accounts) == at {
+            self.renew(sys, plan, core, vcpus[0]);
+            settle(vcpus, &self.accounts);
+        }
+    }
+
+    /// Begins the next period of VCPU `v` where one ends.
+    fn renew(&mut self, sys: &System, plan: &Plan, core: usize, v: u32)
+        requires plan { IsPlan sys.now plan.now }
+        requires ready { IsReady sys.now self.old }
+        requires is_core { core < length sys.now.cores }
+        requires is_part { v < length sys.now.parts }
+        requires on_core { is_child sys.now (Core core) v ≡ true }
+        requires in_limit { end_at self.old.accounts v ≤ LIMIT }
+        ensures ready { IsReady sys.now self.new }
+        ensures accounts { self.new.accounts
+            ≡ slice_set self.old.accounts v (renewed (account_at self.old.accounts v)
+            (end_at self.old.accounts v + (part_at sys.now v).period) (budget_at plan.now v)) }
         ensures time { self.new.time ≡ self.old.time }
         ensures holders { self.new.holders ≡ self.old.holders }
         ensures taken { self.new.taken ≡ self.old.taken }
     {
-        if at < self.ends[core] {
-            return;
-        }
-        while self.first_end(vcpus) == at {
-            self.renew(sys, plan, core, vcpus[0], at);
-            settle(vcpus, &self.until);
-        }
-        self.ends[core] = self.first_end(vcpus);
+        let end = end_of(&self.accounts, v) + sys.parts()[v as usize].period();
+        let account = account_of(&self.accounts, v).renewed(end, budget_of(plan, v));
+        self.set_on(sys, core, v, account);
     }
 
-    /// Where the period of the first of some VCPUs ends, and one past all where there is none.
+    /// Sets the account of VCPU `v` of core `core`, and what it goes by.
     #[inline(always)]
-    fn first_end(&self, vcpus: &[u32]) -> u64
-        requires { (i : ℕ) → i < length vcpus.now → place_at vcpus.now i < 512 }
-        ensures { result ≡ first_end self.now.until vcpus.now }
-    {
-        if vcpus.len() == 0 {
-            return PAST_ALL;
-        }
-        self.until[vcpus[0] as usize]
-    }
-
-    /// Begins the period of VCPU `v` at slot `at`, at which the one before ends. Gives the slot at
-    /// which it ends.
-    fn renew(&mut self, sys: &System, plan: &Plan, core: usize, v: u32, at: u64) -> u64
-        requires plan { IsPlan sys.now plan.now }
-        requires ready { IsReady sys.now plan.now self.old }
+    fn set_on(&mut self, sys: &System, core: usize, v: u32, account: Account)
+        requires ready { IsReady sys.now self.old }
         requires is_core { core < length sys.now.cores }
         requires is_part { v < length sys.now.parts }
         requires on_core { is_child sys.now (Core core) v ≡ true }
-        requires in_limit { self.old.time ≤ LIMIT }
-        requires in_time { at ≤ self.old.time }
-        requires ended { number_at self.old.until v ≡ at }
-        requires in_period { (account_at self.old.accounts v).started ≡ true
-            → at ≤ (account_at self.old.accounts v).from + (part_at sys.now v).period }
-        ensures ready { IsReady sys.now plan.now self.new }
-        ensures begun { HasBegun sys.now v at self.old self.new result }
-        ensures until { self.new.until ≡ slice_set self.old.until v result }
+        requires sound { IsSound self.old.time account }
+        ensures ready { IsReady sys.now self.new }
+        ensures accounts { self.new.accounts ≡ slice_set self.old.accounts v account }
+        ensures time { self.new.time ≡ self.old.time }
+        ensures holders { self.new.holders ≡ self.old.holders }
+        ensures taken { self.new.taken ≡ self.old.taken }
     {
-        let end = at + sys.parts()[v as usize].period();
-        let account = account_of(&self.accounts, v);
-        let begun = Account {
-            from: at,
-            used: 0,
-            ..account
-        };
-        self.accounts[v as usize] = begun;
-        self.queues
-            .set_on(sys, core as u32, v, account.first_key(end));
-        self.until[v as usize] = end;
-        self.left[v as usize] = budget_of(plan, v);
-        end
+        prove!(sys.cores().len() <= MAX_CORES);
+        let key = account.key(sys.parts()[v as usize].extra());
+        self.accounts[v as usize] = account;
+        self.queues.set_on(sys, core as u32, v, key);
     }
 }

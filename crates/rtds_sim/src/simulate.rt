@@ -18,9 +18,10 @@ ghost use Rattle.rtds_sim.specs.Fault.{AllRtds, IsFirstOther, IsRtdsFault};
 ghost use Rattle.rtds_sim.specs.Giving.{AlwaysRunnable, ServersFit, AlwaysServed, GivesBudgets, NeverOver, NoneOver};
 
 use crate::RtdsFault;
-use crate::host::{Host, print_rows};
+use crate::host::Host;
 use crate::members::Members;
 use crate::moment::moment_of_slot;
+use crate::rows::print_rows;
 use crate::switches::Switches;
 use release_file::Wake;
 use slot_model::Sched;
@@ -201,13 +202,13 @@ fn tell_run<T: EventTaker>(
         × Took T.has_taken events.old events.new told) }
     ensures system { IsSystem sys.now }
 {
-    let mut host = Host::new(sys, plan);
+    let mut host = Host::new(sys);
     let mut members = Members::new(alloc, sys)?;
     let mut switches = Switches::new(alloc, sys)?;
     while host.time < slots {
         let first = host.taken;
         host.take_rows(sys, plan, wakes);
-        host.stop_blocked(sys, plan, first, events)?;
+        host.stop_blocked(sys, first, events)?;
         print_rows(sys, wakes, first, host.taken, events)?;
         let next = host.next_row(wakes, slots);
         host.run_on(sys, plan, &mut members, next, &mut switches)?;

@@ -12,7 +12,7 @@ use Rattle.release_file.specs.Workload.{row_at}
 use Rattle.rtds_sim.specs.Rtds.{RtdsRun}
 use Rattle.trace_file.specs.Taker.{Took}
 use Rattle.rtds_sim.specs.Printed.{moment_of_slot, printed_below, gathered, row_event_at, stop_at, switch_at, switch_to, on_core_at, holder_left, on_at, printed}
-use Rattle.rtds_sim.specs.inner.Accounts.{account_at, number_at, stop_of, AreBefore, IsAccount, IsEnd}
+use Rattle.rtds_sim.specs.inner.Accounts.{account_at, end_at, stop_of, AreBefore, IsAccount}
 use Rattle.rtds_sim.specs.inner.Running.{RowsFrom, HasRun}
 use Rattle.rtds_sim.specs.inner.Lists.{list_at}
 use Rattle.rtds_sim.specs.inner.Telling.{told_by, AreAtSlots}
@@ -30,7 +30,7 @@ loop-host-init g c =
     let made = c.new-host.ensures in
     record {
       stands =
-          standing_start c.args.sys.now c.args.wakes.now
+          standing_start c.args.sys.now c.args.plan.now c.args.wakes.now
           (rtds_run c.args.sys.now c.args.plan.now c.args.wakes.now c.args.slots) c.new-host.result made.time made.taken
           made.ready.room made.accounts made.holders;
       told =
@@ -60,15 +60,15 @@ stop_blocked-requires-clause-awake g c same d l =
     let is : RtdsRun sys budgets rows c.args.slots runs = rtds_run-is sys budgets rows c.args.slots in
     let took = c.take_rows.ensures in
     let host = c.take_rows.new.self in
-    let visit : Visit sys rows runs host
-    = visit_rows sys c.new-host.ensures.system rows c.requires.workload runs c.loop-host.host host
+    let visit : Visit sys budgets rows runs host
+    = visit_rows sys budgets rows c.requires.workload runs c.loop-host.host host
     c.loop-host.invariant.stands took.time took.holders took.ready.room took.in_rows took.later took.now
     took.no_more took.accounts in
     let within : host.time < c.args.slots = omega (arith, took.time, c.loop-host-test.true) in
     let before : AreBefore rows host.taken host.time
     = subst (λ (k : ℕ). AreBefore rows k host.time) same
     (subst (AreBefore rows c.loop-host.host.taken) (sym took.time) c.loop-host.invariant.stands.before) in
-    gives_up_at sys rows runs host visit.taken visit.are visit.room visit.holders_are d l
+    gives_up_at sys budgets rows runs host visit.taken visit.are visit.room visit.holders_are d l
     ∙ none_blocks sys budgets rows c.args.slots d (run_at runs d) (is.cores d l) host.time host.taken before visit.taken
     within
 
@@ -81,20 +81,13 @@ at_slots rows runs y c event is = go (switch_to (holder_left rows (run_at runs c
     go (Some what) e = sym (ap (λ (z : Event). z.at) (same_Some (on_at c y what) event e))
 
 pub run_on-requires-clause-ends : goal.run_on-requires-clause-ends
-run_on-requires-clause-ends g c = record {
-  bound =
-      λ d l. subst (λ (xs : List Account). IsEnd c.args.sys.now xs d (number_at c.stop_blocked.new.self.ends d))
-      (sym c.stop_blocked.ensures.accounts)
-      (subst (λ (ns : List ℕ). IsEnd c.args.sys.now c.take_rows.new.self.accounts d (number_at ns d))
-      (sym c.stop_blocked.ensures.ends) (c.take_rows.ensures.ends.bound d l));
-  later =
-      λ d l. omega (
-        arith,
-        c.take_rows.ensures.ends.later d l,
-        ap (λ (ns : List ℕ). number_at ns d) c.stop_blocked.ensures.ends,
-        c.stop_blocked.ensures.time,
-      );
-}
+run_on-requires-clause-ends g c d l v lv child =
+    omega (
+      arith,
+      c.take_rows.ensures.ends d l v lv child,
+      ap (λ (xs : List Account). end_at xs v) c.stop_blocked.ensures.accounts,
+      c.stop_blocked.ensures.time,
+    )
 
 -- the slot up to which the cores run is a later one
 next_later : (rows : List Row) (host other : Host) (slots next : ℕ) → AreBefore rows host.taken (suc host.time)
@@ -108,11 +101,12 @@ next_later rows host other slots next taken t k l later =
 pub run_on-requires-clause-later : goal.run_on-requires-clause-later
 run_on-requires-clause-later g c =
     let sys = c.args.sys.now in
+    let budgets = c.args.plan.now in
     let rows = c.args.wakes.now in
-    let runs = rtds_run sys c.args.plan.now rows c.args.slots in
+    let runs = rtds_run sys budgets rows c.args.slots in
     let took = c.take_rows.ensures in
-    let visit : Visit sys rows runs c.take_rows.new.self
-    = visit_rows sys c.new-host.ensures.system rows c.requires.workload runs c.loop-host.host c.take_rows.new.self
+    let visit : Visit sys budgets rows runs c.take_rows.new.self
+    = visit_rows sys budgets rows c.requires.workload runs c.loop-host.host c.take_rows.new.self
     c.loop-host.invariant.stands took.time took.holders took.ready.room took.in_rows took.later took.now
     took.no_more took.accounts in
     omega (
@@ -126,11 +120,12 @@ run_on-requires-clause-later g c =
 pub loop-host-smaller : goal.loop-host-smaller
 loop-host-smaller g c =
     let sys = c.args.sys.now in
+    let budgets = c.args.plan.now in
     let rows = c.args.wakes.now in
-    let runs = rtds_run sys c.args.plan.now rows c.args.slots in
+    let runs = rtds_run sys budgets rows c.args.slots in
     let took = c.take_rows.ensures in
-    let visit : Visit sys rows runs c.take_rows.new.self
-    = visit_rows sys c.new-host.ensures.system rows c.requires.workload runs c.loop-host.host c.take_rows.new.self
+    let visit : Visit sys budgets rows runs c.take_rows.new.self
+    = visit_rows sys budgets rows c.requires.workload runs c.loop-host.host c.take_rows.new.self
     c.loop-host.invariant.stands took.time took.holders took.ready.room took.in_rows took.later took.now
     took.no_more took.accounts in
     let later : c.take_rows.new.self.time < c.next_row-next.result
@@ -143,14 +138,14 @@ loop-host-smaller g c =
 pub loop-host-preserved : goal.loop-host-preserved
 loop-host-preserved g c =
     let sys = c.args.sys.now in
+    let budgets = c.args.plan.now in
     let rows = c.args.wakes.now in
-    let runs = rtds_run sys c.args.plan.now rows c.args.slots in
+    let runs = rtds_run sys budgets rows c.args.slots in
     let took = c.take_rows.ensures in
-    let visit : Visit sys rows runs c.take_rows.new.self
-    = visit_rows sys c.new-host.ensures.system rows c.requires.workload runs c.loop-host.host c.take_rows.new.self
+    let visit : Visit sys budgets rows runs c.take_rows.new.self
+    = visit_rows sys budgets rows c.requires.workload runs c.loop-host.host c.take_rows.new.self
     c.loop-host.invariant.stands took.time took.holders took.ready.room took.in_rows took.later took.now
     took.no_more took.accounts in
-    let budgets = c.args.plan.now in
     let is : RtdsRun sys budgets rows c.args.slots runs = rtds_run-is sys budgets rows c.args.slots in
     let took_host : Host = c.take_rows.new.self in
     let left : Host = c.stop_blocked.new.self in
@@ -172,9 +167,10 @@ loop-host-preserved g c =
     ) in
     -- each core has run
     let has_run : (d : ℕ) → d < cores
-    → HasRun sys rows d (run_at runs d) x to k c.run_on.new.self [] (list_at c.run_on.new.switches.lists.items d)
+    → HasRun sys budgets rows d (run_at runs d) x to k c.run_on.new.self []
+    (list_at c.run_on.new.switches.lists.items d)
     = λ d l.
-    subst (λ (y : ℕ). HasRun sys rows d (run_at runs d) y to k c.run_on.new.self []
+    subst (λ (y : ℕ). HasRun sys budgets rows d (run_at runs d) y to k c.run_on.new.self []
     (list_at c.run_on.new.switches.lists.items d)) time
     (c.in_ok-run_on.ensures.run rows c.args.slots k d (run_at runs d) l (record {
       is_run = is.cores d l;
@@ -183,14 +179,15 @@ loop-host-preserved g c =
       rows_later = rows_later;
       are =
           λ v lv child. subst
-          (λ (xs : List Account). IsAccount sys rows (run_at runs d) v left.time k (account_at xs v))
+          (λ (xs : List Account). IsAccount sys budgets rows (run_at runs d) v left.time k (account_at xs v))
           (sym c.stop_blocked.ensures.accounts)
-          (subst (λ (y : ℕ). IsAccount sys rows (run_at runs d) v y k (account_at took_host.accounts v)) (sym time)
-          (subst (λ (e : ℕ). IsAccount sys rows (run_at runs e) v x k (account_at took_host.accounts v))
+          (subst (λ (y : ℕ). IsAccount sys budgets rows (run_at runs d) v y k (account_at took_host.accounts v))
+          (sym time)
+          (subst (λ (e : ℕ). IsAccount sys budgets rows (run_at runs e) v x k (account_at took_host.accounts v))
           (child_core sys d v child) (visit.are.each v lv)));
       holder_is =
           c.in_ok-stop_blocked.ensures.left d l
-          ∙ (left_is sys rows runs took_host visit.taken visit.are visit.room visit.holders_are d l
+          ∙ (left_is sys budgets rows runs took_host visit.taken visit.are visit.room visit.holders_are d l
           ∙ ap (holder_left rows (run_at runs d)) (sym time));
     })) in
     let has_taken = g.T.EventTaker.has_taken in
@@ -210,7 +207,7 @@ loop-host-preserved g c =
     (λ d l. (has_run d (omega (arith, l, each_told))).told_is)) in
     let at_first : stops ++ of_rows ≡ gathered (stop_at rows runs x) cores ++ of_rows
     = ap (λ (es : List Event). es ++ of_rows)
-    (stops_are sys rows runs took_host visit.taken visit.are visit.room visit.holders_are) in
+    (stops_are sys budgets rows runs took_host visit.taken visit.are visit.room visit.holders_are) in
     let some : x + suc (to - x - 1) ≡ to = omega (arith, later) in
     let some' : suc (to - x - 1) ≡ to - x = omega (arith, later) in
     let printed_to : printed_below sys rows runs to
@@ -230,7 +227,8 @@ loop-host-preserved g c =
     told_first switches_told in
     record {
       stands =
-          standing_next sys c.new-host.ensures.system rows c.requires.workload runs x k took_host.accounts visit.are
+          standing_next sys c.new-host.ensures.system budgets rows c.requires.workload runs x k took_host.accounts
+          visit.are
           visit.taken to later rows_later c.run_on.new.self
           c.in_ok-run_on.ensures.time (c.in_ok-run_on.ensures.taken ∙ taken) c.in_ok-run_on.ensures.ready.room
           (λ d l. (has_run d l).are) (λ d l. (has_run d l).holder_is)
@@ -257,8 +255,9 @@ loop-host-preserved g c =
 pub returns-clause-trace : goal.returns-clause-trace
 returns-clause-trace g c =
     let sys = c.args.sys.now in
+    let budgets = c.args.plan.now in
     let rows = c.args.wakes.now in
-    let runs = rtds_run sys c.args.plan.now rows c.args.slots in
+    let runs = rtds_run sys budgets rows c.args.slots in
     let end : c.loop-host.host.time ≡ c.args.slots
     = omega (arith, c.loop-host.invariant.in_slots, c.loop-host-test.false) in
     let below : List Event = printed_below sys rows runs c.args.slots in

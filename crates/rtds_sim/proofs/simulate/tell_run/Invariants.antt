@@ -1,7 +1,7 @@
 use Rattle.std.proofs.Common.{◌≡◌, ℕ, ◌-◌, ◌≤◌, [], length}
 use Rattle.trace_file.specs.Taker.{Took}
 use Rattle.rtds_sim.specs.Printed.{printed_below}
-use Rattle.rtds_sim.specs.inner.Accounts.{IsReady, AreEnds}
+use Rattle.rtds_sim.specs.inner.Accounts.{IsReady, NoneEnds}
 use Rattle.rtds_sim.specs.inner.Lists.{list_at}
 use Rattle.rtds_sim.specs.inner.Members.{AreMembers}
 use Rattle.rtds_sim.proofs.Runs.{rtds_run}
@@ -11,12 +11,12 @@ use Rattle.rtds_sim.proofs.simulate.tell_run.Given as goal
 -- the state is that of the run so far
 abbrev pub invariant-loop-host : goal.invariant-loop-host
 invariant-loop-host g l = record {
-  stands : Standing l.sys l.wakes (rtds_run l.sys l.plan l.wakes l.slots) l.host;
+  stands : Standing l.sys l.plan l.wakes (rtds_run l.sys l.plan l.wakes l.slots) l.host;
   told : Took g.T.EventTaker.has_taken l.initial.events l.events
       (printed_below l.sys l.wakes (rtds_run l.sys l.plan l.wakes l.slots) l.host.time);
-  ready : IsReady l.sys l.plan l.host;
+  ready : IsReady l.sys l.host;
   members : AreMembers l.sys l.members;
-  ends : AreEnds l.sys l.host;
+  ends : NoneEnds l.sys l.host;
   in_slots : l.host.time ≤ l.slots;
   one_each : length l.switches.lists.items ≡ length l.sys.cores;
   empty : (c : ℕ) → list_at l.switches.lists.items c ≡ [];

@@ -1,9 +1,12 @@
-use Rattle.std.proofs.Common.{◌≡◌, ℕ, ◌+◌, ◌-◌, ◌<◌, ◌≤◌, Bool, List, length, sym, ◌∙◌, ap, arith}
+use Rattle.std.proofs.Common.{ℕ, ◌-◌, ◌<◌, Bool, List, Option, length, ◌∙◌, ap, arith}
 use Rattle.slot_model.specs.Run.{holds}
 use Rattle.tree_model.specs.System.{part_at}
+use Rattle.tree_model.specs.Tree.{budget_at}
 use Rattle.rtds_sim.specs.declared.account.Account.{Account}
-use Rattle.rtds_sim.specs.inner.Accounts.{account_at, holder_at, number_at, used_more, period_ended}
-use Rattle.rtds_sim.proofs.Ready.{gone_is, not_held, not_used, started_more, from_more}
+use Rattle.rtds_sim.specs.inner.Accounts.{account_at, holder_at, period_ended}
+use Rattle.rtds_sim.proofs.CoreRuns.{keeps_by, keeps_more}
+use Rattle.rtds_sim.proofs.Firsts.{order_same}
+use Rattle.rtds_sim.proofs.Ready.{ends_same, gone_is, not_held, not_used}
 use Rattle.rtds_sim.proofs.host.Host.bring.Goals as goal
 
 pub use_slots-requires-clause-few : goal.use_slots-requires-clause-few
@@ -16,27 +19,27 @@ use_slots-requires-clause-few c v e =
       c.requires.in_time,
     )
 
-pub end_periods-requires-clause-bound : goal.end_periods-requires-clause-bound
-end_periods-requires-clause-bound c v l its on =
+pub end_periods-requires-clause-by_end : goal.end_periods-requires-clause-by_end
+end_periods-requires-clause-by_end c =
     let old = c.args.self.now in
-    let has : Bool = holds (holder_at old.holders c.args.core) v in
-    let slots : ℕ = c.args.to - c.args.from in
-    let used : account_at c.use_slots.new.self.accounts v ≡ used_more (account_at old.accounts v) has slots
-    = c.use_slots.ensures.accounts v l in
-    let bound : number_at old.ends c.args.core ≤ (account_at old.accounts v).from + (part_at c.args.sys.now v).period
-    = c.requires.bound v l its (sym (started_more (account_at old.accounts v) has slots)
-    ∙ (sym (ap (λ (a : Account). a.started) used) ∙ on)) in
+    record {
+      all = c.requires.by_end.all;
+      order =
+          order_same old.accounts c.use_slots.new.self.accounts c.args.vcpus.now (length c.args.sys.now.parts) 0
+          c.requires.by_end.all.within
+          (ends_same old.accounts c.use_slots.new.self.accounts c.args.plan.now (holder_at old.holders c.args.core)
+          (length c.args.sys.now.parts) (c.args.to - c.args.from) c.use_slots.ensures.accounts) c.requires.by_end.order;
+    }
+
+pub end_periods-requires-clause-ends : goal.end_periods-requires-clause-ends
+end_periods-requires-clause-ends c v l child =
+    let old = c.args.self.now in
     omega (
       arith,
-      bound,
-      ap (λ (ns : List ℕ). number_at ns c.args.core) c.use_slots.ensures.ends,
-      ap (λ (a : Account). a.from) used,
-      from_more (account_at old.accounts v) has slots,
+      c.requires.ends v l child,
+      ends_same old.accounts c.use_slots.new.self.accounts c.args.plan.now (holder_at old.holders c.args.core)
+          (length c.args.sys.now.parts) (c.args.to - c.args.from) c.use_slots.ensures.accounts v l,
     )
-
-pub end_periods-requires-clause-in_period : goal.end_periods-requires-clause-in_period
-end_periods-requires-clause-in_period c =
-    omega (arith, c.requires.in_period, ap (λ (ns : List ℕ). number_at ns c.args.core) c.use_slots.ensures.ends)
 
 pub returns-clause-own : goal.returns-clause-own
 returns-clause-own c v l child =
@@ -44,18 +47,25 @@ returns-clause-own c v l child =
     let has : Bool = holds (holder_at old.holders c.args.core) v in
     let slots : ℕ = c.args.to - c.args.from in
     let period : ℕ = (part_at c.args.sys.now v).period in
+    let budget : ℕ = budget_at c.args.plan.now v in
     c.end_periods.ensures.own v l child
-    ∙ (ap (λ (a : Account). period_ended a period c.args.to) (c.use_slots.ensures.accounts v l)
-    ∙ gone_is (account_at old.accounts v) has slots period c.args.to)
+    ∙ (ap (λ (a : Account). period_ended a period budget c.args.to) (c.use_slots.ensures.accounts v l)
+    ∙ gone_is (account_at old.accounts v) has slots period budget c.args.to)
 
-pub returns-clause-others : goal.returns-clause-others
-returns-clause-others c v l other =
+pub returns-clause-holder : goal.returns-clause-holder
+returns-clause-holder c =
+    c.end_periods.ensures.holder
+    ∙ ap (λ (hs : List (Option ℕ)). holder_at hs c.args.core) c.use_slots.ensures.holders
+
+pub returns-clause-keeps : goal.returns-clause-keeps
+returns-clause-keeps c =
+    let sys = c.args.sys.now in
     let old = c.args.self.now in
-    c.end_periods.ensures.others v l other
-    ∙ (c.use_slots.ensures.accounts v l
+    let used = c.use_slots.ensures in
+    keeps_more sys c.args.core old c.use_slots.new.self c.end_periods.new.self
+    (keeps_by sys c.args.core old c.use_slots.new.self
+    (λ v l other. used.accounts v l
     ∙ not_used (account_at old.accounts v) (holds (holder_at old.holders c.args.core) v) (c.args.to - c.args.from)
-    (not_held c.args.sys.now c.args.plan.now old c.args.core v c.requires.is_core c.requires.ready other))
-
-pub returns-clause-ends : goal.returns-clause-ends
-returns-clause-ends c d ne =
-    c.end_periods.ensures.ends d ne ∙ ap (λ (ns : List ℕ). number_at ns d) c.use_slots.ensures.ends
+    (budget_at c.args.plan.now v)
+    (not_held sys old c.args.core v c.requires.is_core c.requires.ready other))
+    used.holders used.time used.taken) c.end_periods.ensures.keeps

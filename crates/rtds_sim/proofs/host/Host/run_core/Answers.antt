@@ -1,11 +1,11 @@
-use Rattle.std.proofs.Common.{◌≡◌, ℕ, ◌-◌, ◌<◌, ◌≤◌, List, length, Option, refl, ◌∙◌, ap, arith}
+use Rattle.std.proofs.Common.{◌≡◌, ℕ, ◌-◌, ◌<◌, ◌≤◌, List, length, Option, refl, ◌∙◌, ap, arith, subst}
 use Rattle.slot_model.specs.Run.{holds}
 use Rattle.tree_model.specs.declared.place.Place.TheVariants.{Core}
 use Rattle.tree_model.specs.System.{part_at}
 use Rattle.tree_model.specs.Tree.{is_child, budget_at}
 use Rattle.rtds_sim.specs.declared.account.Account.{Account}
-use Rattle.rtds_sim.specs.inner.Accounts.{account_at, holder_at, number_at, left_of, gone_on}
-use Rattle.rtds_sim.proofs.CoreRuns.{stands_first, stands_last, stands_on, gone_few}
+use Rattle.rtds_sim.specs.inner.Accounts.{account_at, holder_at, gone_on, NoEndBefore}
+use Rattle.rtds_sim.proofs.CoreRuns.{keeps_all, keeps_more, stands_first, stands_last, stands_on, gone_few}
 use Rattle.rtds_sim.proofs.host.Host.run_core.Goals as goal
 
 pub loop-at-init : goal.loop-at-init
@@ -14,19 +14,18 @@ loop-at-init c = record {
       λ rows n k run u. stands_first c.args.sys.now c.args.plan.now rows n c.args.core run c.args.from
       c.args.self.now.time k c.args.self.now c.args.self.now c.args.told.now.items refl refl u;
   ready = c.requires.ready;
-  vcpus =
-      c.sort.ensures.all (is_child c.args.sys.now (Core c.args.core)) (length c.args.sys.now.parts) c.requires.vcpus;
-  order = c.sort.ensures.order;
+  by_end =
+      record {
+        all =
+            c.sort.ensures.all (is_child c.args.sys.now (Core c.args.core)) (length c.args.sys.now.parts)
+            c.requires.vcpus;
+        order = c.sort.ensures.order;
+      };
   since = omega arith;
   in_time = omega (arith, c.requires.later);
   few = c.requires.few;
-  bound = c.requires.bound;
-  in_period = c.requires.in_time;
-  others = λ v l other. refl;
-  ends = λ d ne. refl;
-  holders = λ d ne. refl;
-  time = refl;
-  taken = refl;
+  ends = c.requires.ends;
+  keeps = keeps_all c.args.sys.now c.args.core c.args.self.now;
 }
 
 pub loop-at-preserved : goal.loop-at-preserved
@@ -42,63 +41,59 @@ loop-at-preserved c =
     let switched = c.switch.new.self in
     let new = c.bring.new.self in
     let brought = c.bring.ensures in
-    let same : switched.accounts ≡ old.accounts = c.switch.ensures.accounts in
+    let same : switched.accounts ≡ old.accounts = on.accounts in
     let holder : Option ℕ = holder_at switched.holders core in
     let gone : (v : ℕ) → v < length sys.parts → _
     → account_at new.accounts v
-    ≡ gone_on (account_at old.accounts v) (holds holder v) (next - at) (part_at sys v).period next
+    ≡ gone_on (account_at old.accounts v) (holds holder v) (next - at) (part_at sys v).period (budget_at budgets v) next
     = λ v l child.
     brought.own v l child
-    ∙ ap (λ (xs : List Account). gone_on (account_at xs v) (holds holder v) (next - at) (part_at sys v).period next)
-    same in
+    ∙ ap (λ (xs : List Account). gone_on (account_at xs v) (holds holder v) (next - at) (part_at sys v).period
+    (budget_at budgets v) next) same in
     let in_time : next ≤ c.args.self.now.time
-    = omega (arith, c.next_change-next.ensures.in_time, c.switch.ensures.time, so_far.time) in
+    = omega (arith, c.next_change-next.ensures.in_time, on.keeps.time, so_far.keeps.time) in
     record {
       run =
           λ rows n k run u. stands_on sys budgets c.requires.plan rows n core run c.args.from c.args.self.now.time k
           c.args.self.now u at next so_far.since c.next_change-next.ensures.later in_time old c.args.told.now.items
           c.loop-at.told.items (so_far.run rows n k run u) holder on.chosen
-          (λ v l child started. omega (
-            arith,
-            so_far.bound v l child started,
-            c.next_change-next.ensures.period,
-            ap (λ (ns : List ℕ). number_at ns core) c.switch.ensures.ends,
-          ))
+          (subst (λ (xs : List Account). NoEndBefore sys xs core next) same c.next_change-next.ensures.ends)
           (λ v e. omega (
             arith,
             c.next_change-next.ensures.budget v e,
-            ap (λ (xs : List Account). left_of (account_at xs v) (budget_at budgets v)) same,
+            ap (λ (xs : List Account). (account_at xs v).left) same,
           ))
-          new c.switch.new.told.items gone (ap (λ (hs : List (Option ℕ)). holder_at hs core) brought.holders) on.told;
+          new c.switch.new.told.items gone brought.holder on.told;
       ready = brought.ready;
-      vcpus = brought.vcpus;
-      order = brought.order;
+      by_end = brought.by_end;
       since = omega (arith, so_far.since, c.next_change-next.ensures.later);
       in_time = in_time;
       few =
           λ v l child. omega (
             arith,
-            gone_few (account_at old.accounts v) (holds holder v) at next (part_at sys v).period
+            gone_few (account_at old.accounts v) (holds holder v) at next (part_at sys v).period (budget_at budgets v)
                 (so_far.few v l child) c.next_change-next.ensures.later,
-            ap (λ (a : Account). a.used) (gone v l child),
+            ap (λ (a : Account). a.level) (gone v l child),
           );
-      bound = brought.bound;
-      in_period = brought.in_period;
-      others =
-          λ v l other. brought.others v l other
-          ∙ (ap (λ (xs : List Account). account_at xs v) same ∙ so_far.others v l other);
-      ends =
-          λ d ne. brought.ends d ne ∙ (ap (λ (ns : List ℕ). number_at ns d) c.switch.ensures.ends ∙ so_far.ends d ne);
-      holders =
-          λ d ne. ap (λ (hs : List (Option ℕ)). holder_at hs d) brought.holders
-          ∙ (on.others d ne ∙ so_far.holders d ne);
-      time = brought.time ∙ (c.switch.ensures.time ∙ so_far.time);
-      taken = brought.taken ∙ (c.switch.ensures.taken ∙ so_far.taken);
+      ends = brought.ends;
+      keeps =
+          keeps_more sys core c.args.self.now switched new
+          (keeps_more sys core c.args.self.now old switched so_far.keeps on.keeps) brought.keeps;
     }
 
 pub returns-clause-run : goal.returns-clause-run
 returns-clause-run c rows n k run u =
-    stands_last c.args.sys.now rows c.args.core run c.args.from c.args.self.now.time k c.loop-at.at c.loop-at.self
-    c.args.told.now.items c.loop-at.told.items c.requires.later
-    (omega (arith, c.loop-at.invariant.in_time, c.loop-at-test.false, c.loop-at.invariant.time))
+    stands_last c.args.sys.now c.args.plan.now rows c.args.core run c.args.from c.args.self.now.time k c.loop-at.at
+    c.loop-at.self c.args.told.now.items c.loop-at.told.items c.requires.later
+    (omega (arith, c.loop-at.invariant.in_time, c.loop-at-test.false, c.loop-at.invariant.keeps.time))
     (c.loop-at.invariant.run rows n k run u)
+
+pub returns-clause-ends : goal.returns-clause-ends
+returns-clause-ends c v l child =
+    omega (
+      arith,
+      c.loop-at.invariant.ends v l child,
+      c.loop-at.invariant.in_time,
+      c.loop-at.invariant.keeps.time,
+      c.loop-at-test.false,
+    )

@@ -1,4 +1,4 @@
-use Rattle.std.proofs.Common.{◌≡◌, ◌≢◌, ℕ, ◌<◌, true, List, [], length, set, Vec, Global, refl, sym, ◌∙◌, ap, arith, subst, inl, inr}
+use Rattle.std.proofs.Common.{◌≡◌, ◌≢◌, ℕ, suc, ◌<◌, true, List, [], length, set, Vec, Global, refl, sym, ◌∙◌, ap, arith, subst, inl, inr}
 use Rattle.std.specs.Vec.{with_items}
 use Rattle.std.proofs.lemmas.Bool.{cases_eq}
 use Rattle.std.proofs.lemmas.List.{length-set, with_items_is}
@@ -8,7 +8,7 @@ use Rattle.tree_model.specs.Tree.{is_child}
 use Rattle.trace_file.specs.declared.event.Event.{Event}
 use Rattle.rtds_sim.specs.declared.account.Account.{Account}
 use Rattle.rtds_sim.specs.declared.host.Host.{Host}
-use Rattle.rtds_sim.specs.inner.Accounts.{account_at, number_at, IsEnd}
+use Rattle.rtds_sim.specs.inner.Accounts.{account_at, NoEndBefore}
 use Rattle.rtds_sim.specs.inner.Members.{AreAll}
 use Rattle.rtds_sim.specs.inner.Running.{IsUnderway, HasRun}
 use Rattle.rtds_sim.specs.inner.Lists.{list_at}
@@ -22,13 +22,10 @@ pub loop-c-init : goal.loop-c-init
 loop-c-init c = record {
   run = λ rows n k d run l. absurd (omega (arith, l));
   ready =
-      ready_later c.args.sys.now c.args.plan.now c.args.self.now c.args.to (omega (arith, c.requires.later))
-      c.requires.ready;
+      ready_later c.args.sys.now c.args.self.now c.args.to (omega (arith, c.requires.later)) c.requires.ready;
   members = c.requires.members;
-  bound = λ d l. absurd (omega (arith, l));
-  later = λ d l. absurd (omega (arith, l));
+  ends = λ d l. absurd (omega (arith, l));
   same = λ v l none. refl;
-  ends = λ d l. refl;
   holders = λ d l. refl;
   one_each = c.requires.one_each;
   empty = λ d l. c.requires.empty d;
@@ -52,24 +49,16 @@ run_core-requires-clause-few c v l child =
     let same : account_at c.loop-c.self.accounts v ≡ account_at c.args.self.now.accounts v
     = c.loop-c.invariant.same v l
     (λ d m. on_one_core c.args.sys.now c.loop-c.c d v (λ q. omega (arith, q, m)) child) in
-    omega (arith, ap (λ (a : Account). a.used) same, c.requires.ready.few v l)
+    omega (arith, ap (λ (a : Account). a.level) same, (c.requires.ready.sound v l).few)
 
-pub run_core-requires-clause-bound : goal.run_core-requires-clause-bound
-run_core-requires-clause-bound c =
+pub run_core-requires-clause-ends : goal.run_core-requires-clause-ends
+run_core-requires-clause-ends c =
     let i : ℕ = c.loop-c.c in
     let within : i < length c.args.sys.now.cores
     = omega (arith, c.loop-c-test.true, ap (λ (xs : List CoreView). length xs) c.cores-c-end.ensures.cores) in
-    end_same c.args.sys.now c.args.self.now.accounts c.loop-c.self.accounts i (number_at c.args.self.now.ends i)
-    (number_at c.loop-c.self.ends i) (c.loop-c.invariant.ends i (omega arith))
+    end_same c.args.sys.now c.args.self.now.accounts c.loop-c.self.accounts i (suc c.args.self.now.time)
     (λ v l child. c.loop-c.invariant.same v l
-    (λ d m. on_one_core c.args.sys.now i d v (λ q. omega (arith, q, m)) child)) (c.requires.ends.bound i within)
-
-pub run_core-requires-clause-in_time : goal.run_core-requires-clause-in_time
-run_core-requires-clause-in_time c =
-    let i : ℕ = c.loop-c.c in
-    let within : i < length c.args.sys.now.cores
-    = omega (arith, c.loop-c-test.true, ap (λ (xs : List CoreView). length xs) c.cores-c-end.ensures.cores) in
-    omega (arith, c.requires.ends.later i within, c.loop-c.invariant.ends i (omega arith))
+    (λ d m. on_one_core c.args.sys.now i d v (λ q. omega (arith, q, m)) child)) (c.requires.ends i within)
 
 pub loop-c-preserved : goal.loop-c-preserved
 loop-c-preserved c =
@@ -97,26 +86,28 @@ loop-c-preserved c =
     = λ v l child. so_far.same v l (λ d m. on_one_core sys i d v (λ q. omega (arith, q, m)) child) in
     let stays : (d : ℕ) → d ≢ i → (v : ℕ) → v < length sys.parts → is_child sys (Core d) v ≡ true
     → account_at new.accounts v ≡ account_at old.accounts v
-    = λ d ne v l child. ran.others v l (on_one_core sys d i v (λ q. ne (sym q)) child) in
+    = λ d ne v l child. ran.keeps.accounts v l (on_one_core sys d i v (λ q. ne (sym q)) child) in
     record {
       run = λ rows n k d run l u. elim (cases_eq d i) [
         | inl e ↦
             let u' : IsUnderway sys c.args.plan.now rows n i run first.time c.args.to k entry
             = subst (λ (z : ℕ). IsUnderway sys c.args.plan.now rows n z run first.time c.args.to k entry) e u in
-            let h : HasRun sys rows i run first.time c.args.to k new own c.run_core.new.told.items
-            = subst (λ (y : ℕ). HasRun sys rows i run first.time y k new own c.run_core.new.told.items) so_far.time
+            let h : HasRun sys c.args.plan.now rows i run first.time c.args.to k new own c.run_core.new.told.items
+            = subst (λ (y : ℕ). HasRun sys c.args.plan.now rows i run first.time y k new own c.run_core.new.told.items)
+            so_far.time
             (ran.run rows n k run (subst (λ (y : ℕ). IsUnderway sys c.args.plan.now rows n i run first.time y k old)
             (sym so_far.time) (underway_same sys c.args.plan.now rows n i run first.time c.args.to k entry old
             kept (so_far.holders i (omega arith)) u'))) in
-            subst (λ (z : ℕ). HasRun sys rows z run first.time c.args.to k new []
+            subst (λ (z : ℕ). HasRun sys c.args.plan.now rows z run first.time c.args.to k new []
             (list_at (set lists i c.run_core.new.told) z)) (sym e)
-            (subst (HasRun sys rows i run first.time c.args.to k new [])
+            (subst (HasRun sys c.args.plan.now rows i run first.time c.args.to k new [])
             (sym (list_here lists i c.run_core.new.told room))
-            (subst (λ (es : List Event). HasRun sys rows i run first.time c.args.to k new es c.run_core.new.told.items)
+            (subst (λ (es : List Event). HasRun sys c.args.plan.now rows i run first.time c.args.to k new es
+            c.run_core.new.told.items)
             none_yet h))
         | inr ne ↦
-            has_run_same sys rows d run first.time c.args.to k old new [] (list_at lists d)
-            (list_at (set lists i c.run_core.new.told) d) (stays d ne) (ran.holders d ne)
+            has_run_same sys c.args.plan.now rows d run first.time c.args.to k old new [] (list_at lists d)
+            (list_at (set lists i c.run_core.new.told) d) (stays d ne) (ran.keeps.holders d ne)
             (list_there lists i d c.run_core.new.told ne) (so_far.run rows n k d run (omega (arith, l, ne)) u)
       ];
       ready = ran.ready;
@@ -136,25 +127,23 @@ loop-c-preserved c =
               (so_far.members.lists d l)
         ];
       };
-      bound = λ d l. elim (cases_eq d i) [
-        | inl e ↦ subst (λ (z : ℕ). IsEnd sys new.accounts z (number_at new.ends z)) (sym e) ran.bound
+      ends = λ d l. elim (cases_eq d i) [
+        | inl e ↦
+            subst (λ (z : ℕ). NoEndBefore sys new.accounts z (suc c.args.to)) (sym e)
+            (subst (λ (y : ℕ). NoEndBefore sys new.accounts i (suc y)) so_far.time ran.ends)
         | inr ne ↦
-            end_same sys old.accounts new.accounts d (number_at old.ends d) (number_at new.ends d) (ran.ends d ne)
-            (stays d ne) (so_far.bound d (omega (arith, l, ne)))
+            end_same sys old.accounts new.accounts d (suc c.args.to) (stays d ne)
+            (so_far.ends d (omega (arith, l, ne)))
       ];
-      later = λ d l. elim (cases_eq d i) [
-        | inl e ↦ omega (arith, ran.in_time, so_far.time, ap (number_at new.ends) e)
-        | inr ne ↦ omega (arith, so_far.later d (omega (arith, l, ne)), ran.ends d ne)
-      ];
-      same = λ v l none. ran.others v l (none i (omega arith)) ∙ so_far.same v l (λ d m. none d (omega (arith, m)));
-      ends = λ d l. ran.ends d (λ e. omega (arith, e, l)) ∙ so_far.ends d (omega (arith, l));
-      holders = λ d l. ran.holders d (λ e. omega (arith, e, l)) ∙ so_far.holders d (omega (arith, l));
+      same = λ v l none. ran.keeps.accounts v l (none i (omega arith))
+          ∙ so_far.same v l (λ d m. none d (omega (arith, m)));
+      holders = λ d l. ran.keeps.holders d (λ e. omega (arith, e, l)) ∙ so_far.holders d (omega (arith, l));
       one_each = length-set lists i c.run_core.new.told ∙ so_far.one_each;
       empty =
           λ d l. list_there lists i d c.run_core.new.told (λ e. omega (arith, e, l))
           ∙ so_far.empty d (omega (arith, l));
-      time = ran.time ∙ so_far.time;
-      taken = ran.taken ∙ so_far.taken;
+      time = ran.keeps.time ∙ so_far.time;
+      taken = ran.keeps.taken ∙ so_far.taken;
     }
 
 pub returns-clause-run : goal.returns-clause-run
@@ -164,3 +153,9 @@ returns-clause-run c rows n k d run l u =
     (omega (arith, l, c.loop-c-test.false, ap (λ (xs : List CoreView). length xs) c.cores-c-end.ensures.cores))
     (underway_same c.args.sys.now c.args.plan.now rows n d run first.time c.args.to k first
     (record first { time = c.args.to }) (λ v lv child. refl) refl u)
+
+pub returns-clause-ends : goal.returns-clause-ends
+returns-clause-ends c d l =
+    subst (λ (y : ℕ). NoEndBefore c.args.sys.now c.loop-c.self.accounts d (suc y)) (sym c.loop-c.invariant.time)
+    (c.loop-c.invariant.ends d
+    (omega (arith, l, c.loop-c-test.false, ap (λ (xs : List CoreView). length xs) c.cores-c-end.ensures.cores)))

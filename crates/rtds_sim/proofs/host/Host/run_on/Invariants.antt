@@ -1,8 +1,8 @@
-use Rattle.std.proofs.Common.{◌≡◌, ℕ, ◌≤◌, ◌<◌, false, List, [], length, Option}
+use Rattle.std.proofs.Common.{◌≡◌, ℕ, suc, ◌≤◌, ◌<◌, false, List, [], length, Option}
 use Rattle.tree_model.specs.declared.place.Place.TheVariants.{Core}
 use Rattle.tree_model.specs.Tree.{is_child}
 use Rattle.release_file.specs.declared.workload.Wake.{Wake as Row}
-use Rattle.rtds_sim.specs.inner.Accounts.{account_at, holder_at, number_at, IsReady, IsEnd}
+use Rattle.rtds_sim.specs.inner.Accounts.{account_at, holder_at, IsReady, NoEndBefore}
 use Rattle.rtds_sim.specs.inner.Members.{AreMembers}
 use Rattle.rtds_sim.specs.inner.Running.{IsUnderway, HasRun}
 use Rattle.rtds_sim.specs.inner.Lists.{list_at}
@@ -13,14 +13,12 @@ abbrev pub invariant-loop-c : goal.invariant-loop-c
 invariant-loop-c l = record {
   run : (rows : List Row) (n k d : ℕ) (run : List (Option ℕ)) → d < l.c
       → IsUnderway l.sys l.plan rows n d run l.from l.to k l.initial.self
-      → HasRun l.sys rows d run l.from l.to k l.self [] (list_at l.switches.lists.items d);
-  ready : IsReady l.sys l.plan l.self;
+      → HasRun l.sys l.plan rows d run l.from l.to k l.self [] (list_at l.switches.lists.items d);
+  ready : IsReady l.sys l.self;
   members : AreMembers l.sys l.members;
-  bound : (d : ℕ) → d < l.c → IsEnd l.sys l.self.accounts d (number_at l.self.ends d);
-  later : (d : ℕ) → d < l.c → l.to < number_at l.self.ends d;
+  ends : (d : ℕ) → d < l.c → NoEndBefore l.sys l.self.accounts d (suc l.to);
   same : (v : ℕ) → v < length l.sys.parts → ((d : ℕ) → d < l.c → is_child l.sys (Core d) v ≡ false)
       → account_at l.self.accounts v ≡ account_at l.initial.self.accounts v;
-  ends : (d : ℕ) → l.c ≤ d → number_at l.self.ends d ≡ number_at l.initial.self.ends d;
   holders : (d : ℕ) → l.c ≤ d → holder_at l.self.holders d ≡ holder_at l.initial.self.holders d;
   one_each : length l.switches.lists.items ≡ length l.sys.cores;
   empty : (d : ℕ) → l.c ≤ d → list_at l.switches.lists.items d ≡ [];

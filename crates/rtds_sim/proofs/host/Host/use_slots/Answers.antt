@@ -1,19 +1,32 @@
-use Rattle.std.proofs.Common.{◌<◌, ℕ, arith, length}
-use Rattle.rtds_sim.proofs.Ready.{ready_few}
+use Rattle.std.proofs.Common.{◌≡◌, ◌<◌, ℕ, length, set, sym, ◌∙◌, ap, arith, subst}
+use Rattle.tree_model.specs.Tree.{budget_at}
+use Rattle.rtds_sim.specs.declared.account.Account.{Account}
+use Rattle.rtds_sim.specs.inner.Accounts.{account_at, using, had_budget, IsReady, IsSound}
+use Rattle.rtds_sim.proofs.Ready.{ready_few, sound_had}
 use Rattle.rtds_sim.proofs.host.Host.use_slots.Goals as goal
 
-pub use_up-requires-clause-exact : goal.use_up-requires-clause-exact
-use_up-requires-clause-exact c is =
+pub set_on-requires-clause-sound : goal.set_on-requires-clause-sound
+set_on-requires-clause-sound c =
+    let sys = c.args.sys.now in
     let v : ℕ = c.in-Some.v in
-    let part : v < length c.args.sys.now.parts
-    = c.requires.ready.room.parts c.args.core v c.requires.is_core c.in-Some.is in
-    omega (arith, (c.requires.ready.left v part).exact is, c.requires.in_budget v c.in-Some.is, c.if-slots-left.false)
+    let budget : ℕ = budget_at c.args.plan.now v in
+    let part : v < length sys.parts = c.requires.ready.room.parts c.args.core v c.requires.is_core c.in-Some.is in
+    let a : Account = account_at c.args.self.now.accounts v in
+    let is : c.had_budget-account.result ≡ had_budget a budget
+    = c.had_budget-account.ensures
+    ∙ (ap (λ (z : Account). had_budget z c.budget_of.result) c.account_of-account.ensures
+    ∙ ap (had_budget a) c.budget_of.ensures) in
+    subst (IsSound c.args.self.now.time) (sym is)
+    (sound_had c.args.self.now.time budget a (c.requires.ready.sound v part) (c.requires.few v c.in-Some.is)
+    (c.requires.plan.some_budget v part))
 
-pub returns-then-slots-left-clause-ready : goal.returns-then-slots-left-clause-ready
-returns-then-slots-left-clause-ready c =
+pub returns-then-slots-account-clause-ready : goal.returns-then-slots-account-clause-ready
+returns-then-slots-account-clause-ready c =
     let sys = c.args.sys.now in
     let old = c.args.self.now in
     let v : ℕ = c.in-Some.v in
-    let part : v < length sys.parts = c.requires.ready.room.parts c.args.core v c.requires.is_core c.in-Some.is in
-    ready_few sys c.args.plan.now old v c.args.slots part (c.requires.plan.some_budget v part) c.requires.ready
-    (c.requires.few v c.in-Some.is) c.if-slots-left.true
+    let is : c.account_of-account.result ≡ account_at old.accounts v = c.account_of-account.ensures in
+    subst (λ (a : Account). IsReady sys (record old { accounts = set old.accounts v a }))
+    (sym (c.using.ensures ∙ ap (λ (a : Account). using a c.args.slots) is))
+    (ready_few sys old v c.args.slots (c.requires.ready.room.parts c.args.core v c.requires.is_core c.in-Some.is)
+    c.requires.ready (omega (arith, c.if-slots-account.true, ap (λ (a : Account). a.left) is)))

@@ -5,7 +5,7 @@ use Rattle.release_file.specs.Workload.{row_at}
 use Rattle.rtds_sim.specs.Printed.{event_of, gathered, row_event_at}
 use Rattle.rtds_sim.proofs.Gathered.{gathered-none, gathered-rest, took_nothing, took_same, took_one}
 use Rattle.rtds_sim.proofs.Taking.{row_none, row_some}
-use Rattle.rtds_sim.proofs.host.print_rows.Goals as goal
+use Rattle.rtds_sim.proofs.rows.print_rows.Goals as goal
 
 pub loop-i-init : goal.loop-i-init
 loop-i-init g c x past now later =

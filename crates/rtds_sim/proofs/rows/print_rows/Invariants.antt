@@ -2,7 +2,7 @@ use Rattle.std.proofs.Common.{◌≡◌, ℕ, ◌≤◌, ◌<◌, length}
 use Rattle.release_file.specs.Workload.{row_at}
 use Rattle.trace_file.specs.Taker.{Took}
 use Rattle.rtds_sim.specs.Printed.{gathered, row_event_at}
-use Rattle.rtds_sim.proofs.host.print_rows.Given as goal
+use Rattle.rtds_sim.proofs.rows.print_rows.Given as goal
 
 -- the events of the rows so far
 abbrev pub invariant-loop-i : goal.invariant-loop-i

@@ -1,0 +1,21 @@
+use Rattle.std.proofs.Common.{◌≡◌, ℕ, set, ap, ◌∙◌}
+use Rattle.tree_model.specs.View.{PartView}
+use Rattle.tree_model.specs.System.{part_at}
+use Rattle.rtds_sim.specs.inner.Accounts.{key_of}
+use Rattle.rtds_sim.proofs.Membership.{part_here}
+use Rattle.rtds_sim.proofs.Ready.{ready_keyed}
+use Rattle.rtds_sim.proofs.host.Host.set_on.Goals as goal
+
+pub returns-clause-ready : goal.returns-clause-ready
+returns-clause-ready c =
+    let sys = c.args.sys.now in
+    let old = c.args.self.now in
+    let v : ℕ = c.args.v in
+    let part : c.index-parts-v.result ≡ part_at sys v
+    = part_here sys c.parts.result.now v c.index-parts-v.result c.parts.ensures.parts c.requires.is_part
+    c.index-parts-v.is in
+    ready_keyed sys old v c.args.account c.set_on.new.self c.requires.is_part c.requires.ready c.requires.sound
+    c.set_on.ensures.are
+    (c.set_on.ensures.keys
+    ∙ ap (set old.queues.keys v) (c.key-key.ensures
+    ∙ ap (key_of c.args.account) (c.extra.ensures ∙ ap (λ (p : PartView). p.extra) part)))
