@@ -6,7 +6,6 @@ mod Tallying
 mod Underway
 mod LevelServed
 mod ServerKept
-mod KeptNodes
 pub mod Counted
 mod Conforming
 mod Patterned

@@ -1,5 +1,5 @@
--- What is kept of a level of servers is what is kept of a node with some spans.
-use Rattle.std.proofs.Common.{◌≡◌, ◌≢◌, ◌⊎◌, ℕ, zero, suc, ◌+◌, ◌-◌, ◌<◌, ◌≤◌, List, [], ◌∷◌, ◌++◌, length, replicate, set, Option, Some, None, refl, sym, ◌∙◌, ap, arith, subst, inl, inr, append_assoc, append-nil}
+-- What is kept of a level is kept of a node with some spans, and is so once a child has run.
+use Rattle.std.proofs.Common.{◌≡◌, ◌≢◌, ◌⊎◌, ℕ, zero, suc, ◌+◌, ◌-◌, ◌<◌, ◌≤◌, List, [], ◌∷◌, ◌++◌, length, replicate, set, Option, Some, None, refl, sym, ◌∙◌, ap, arith, subst, inl, inr, append_assoc, append-nil, length-set, get_or-set_other}
 use Rattle.std.proofs.lemmas.Bool.{cases_eq}
 use Rattle.std.proofs.lemmas.List.{get_or-map, length-map, get_or_append_left, get_or_push, length_push}
 use Rattle.std.proofs.lemmas.List.Concat.{flat_map-append}
@@ -16,12 +16,15 @@ use Rattle.guest_sched.proofs.SpanByOne.{no_spans}
 use Rattle.guest_sched.proofs.Grown.{grown_spans, grown_run}
 use Rattle.tree_model.specs.declared.place.Place.{Place}
 use Rattle.tree_model.specs.View.{SystemView}
-use Rattle.tree_model.specs.Tree.{node_sched, server_task, server_tasks, is_child}
+use Rattle.tree_model.specs.Tree.{server_task, server_tasks, is_child}
 use Rattle.span_counts.specs.Counts.{AreCounts}
+use Rattle.tree_spans.specs.NodeView.{NodeView}
 use Rattle.tree_spans.specs.Shares.{AreShares}
-use Rattle.server_sched.specs.CountedTree.{KeptView, IsServerKept}
+use Rattle.tree_spans.specs.KeptNodes.{IsKeptOf}
+use Rattle.server_sched.specs.CountedTree.{KeptView, kept_of, IsStillKept}
+use Rattle.tree_spans.specs.Levels.{IsServerLevel}
 use Rattle.server_sched.specs.Serving.{IsServerTask, AreServerTasks, IsServed}
-use Rattle.tree_spans.proofs.Nodes.{run_long, server_node_made}
+use Rattle.tree_spans.proofs.Nodes.{run_long}
 
 -- servers release as their jobs arrive, and are due at the end of their period
 pub are_servers : (sys : SystemView) (budgets : List ℕ) (place : Place)
@@ -152,25 +155,45 @@ spans_for : (run : List (Option ℕ)) → SpansTo run (length run)
 spans_for run =
     subst (SpansTo run) (let e : 0 + length run ≡ length run = omega arith in e) (more_entries [] 0 run no_spans)
 
--- what is kept of a level is what is kept of a node
-pub server_kept : (sys : SystemView) (budgets : List ℕ) (n : ℕ) (place : Place) (given : List Window)
-    (T : List SporadicTask) (sched : Sched) (kept : KeptView) → T ≡ server_tasks sys budgets place
-    → sched ≡ node_sched sys place → IsServed sched T given n kept
-    → IsServerKept sys budgets n place (slots_of given n) kept
-server_kept sys budgets n place given T sched kept e g h =
+-- what is kept of a level is kept of a node
+pub server_kept : (sched : Sched) (T : List SporadicTask) (given : List Window) (n : ℕ) (kept : KeptView)
+    → IsServed sched T given n kept → IsKeptOf IsStillKept (IsServerLevel sched T given n) kept
+server_kept sched T given n kept h =
     let jobs = synchronous T 0 n in
     let s = spans_for h.run in
     let long : length h.run ≡ n = run_long server (before_of sched T) T jobs given n h.run h.first in
-    let shares : AreShares jobs (run_of s.spans) (length (run_of s.spans)) (length T) kept.shares
-    = subst (λ (r : List (Option ℕ)). AreShares jobs r (length r) (length T) kept.shares) (sym s.same)
-    (subst (λ (x : ℕ). AreShares jobs h.run x (length T) kept.shares) (sym long) h.shares) in
     record {
       node = record { spans = s.spans; shares = kept.shares; counts = kept.counts };
-      is_node =
-          server_node_made sys budgets n place given s.spans kept.shares T jobs sched (length T) e refl g refl
-          (subst (AreSpans s.spans) long s.are)
-          (subst (λ (r : List (Option ℕ)). FirstRun server (before_of sched T) T jobs (slots_of given n) r) (sym s.same)
-          h.first) shares kept.counts
-          (subst (λ (r : List (Option ℕ)). AreCounts T jobs (slots_of given n) r kept.counts) (sym s.same) h.counts);
-      same = refl;
+      is_node = record {
+        spans = subst (AreSpans s.spans) long s.are;
+        first =
+            subst (λ (r : List (Option ℕ)). FirstRun server (before_of sched T) T jobs (slots_of given n) r)
+            (sym s.same) h.first;
+        shares =
+            subst (λ (r : List (Option ℕ)). AreShares jobs r n (length T) kept.shares) (sym s.same) h.shares;
+        counts =
+            subst (λ (r : List (Option ℕ)). AreCounts T jobs (slots_of given n) r kept.counts) (sym s.same) h.counts;
+      };
+      kept = record { counts = refl; one_each = refl; later = λ m l. refl };
     }
+
+-- and so is what is kept of a run of a leaf's jobs
+pub guests_kept : (Is : NodeView → Type 0) (node : NodeView)
+    → IsKeptOf (λ (one : NodeView) (of : NodeView) (k : ℕ). one ≡ of) Is node
+    → IsKeptOf IsStillKept Is (kept_of node)
+guests_kept Is node h = record {
+  node = node;
+  is_node = subst Is (sym h.kept) h.is_node;
+  kept = record { counts = refl; one_each = refl; later = λ m l. refl };
+}
+
+-- once one child more has run
+pub still_kept : (kept : KeptView) (node : NodeView) (k : ℕ) → IsStillKept kept node k
+    → IsStillKept (record kept { shares = set kept.shares k [] }) node (k + 1)
+still_kept kept node k h = record {
+  counts = h.counts;
+  one_each = length-set kept.shares k [] ∙ h.one_each;
+  later =
+      λ m l. get_or-set_other kept.shares k m [] [] (λ e. absurd (omega (arith, l, e)))
+      ∙ h.later m (omega (arith, l));
+}

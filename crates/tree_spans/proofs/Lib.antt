@@ -1,4 +1,5 @@
 pub mod Sharing
 pub mod Nodes
 pub mod TreeNodes
+pub mod KeptNodes
 pub mod Lists

@@ -23,7 +23,7 @@ use Rattle.tree_spans.specs.NodeView.{NodeView, TreeView, counts_of}
 use Rattle.tree_spans.specs.TreeCounts.{no_counts, counts_at, AreTreeCounts}
 use Rattle.tree_spans.specs.Shares.{AreShare, share_at}
 use Rattle.tree_model.specs.Releases.{jobs_at}
-use Rattle.tree_spans.specs.TreeSpans.{given_at, no_node, node_at, runs_of, supplies_of, IsServerNode, IsPartNode, AreCoreNodes, ArePartNodes, GivesShares, CoresGive, IsThere, node_of, parent_of, HasShare, AreTreeSpans}
+use Rattle.tree_spans.specs.TreeSpans.{given_at, no_node, node_at, runs_of, supplies_of, IsServerNode, IsPartNode, AreCoreNodes, ArePartNodes, GivesShares, CoresGive, IsThere, node_of, parent_of, AreTreeSpans}
 
 abbrev nothing : NodeView
 nothing = no_node
@@ -141,30 +141,33 @@ server_of : (sys : SystemView) (budgets : List ℕ) (q : ℕ) → q < length sys
     → IsServer sys budgets q (server_tasks sys budgets (parent_of sys q)) (rank_among sys q)
 server_of sys budgets q l = server_at sys budgets (parent_of sys q) q l (same_itself (parent_of sys q))
 
-pub has_share : (sys : SystemView) (budgets : List ℕ) (n : ℕ) (jobs : List (List Job)) (cores nodes : List NodeView)
-    → IsSystem sys → CoresGive sys budgets n cores → (q : ℕ) → q < length sys.parts
-    → ArePartNodes sys budgets n jobs cores q nodes → HasShare sys cores nodes q
-has_share sys budgets n jobs cores nodes fits h q l k =
-    let g : Given sys budgets n cores nodes q (parent_of sys q)
-    = given_of sys budgets n jobs cores nodes fits h q l k in
-    record { parent = g.there; share = omega (arith, g.gives.shares.one_each, (server_of sys budgets q l).within) }
+-- what a part gets of its parent
+pub record PartShare (sys : SystemView) (budgets : List ℕ) (n : ℕ) (cores nodes : List NodeView) (q : ℕ) : Type 0 where
+  pub there : IsThere cores nodes (parent_of sys q)
+  pub child : rank_among sys q < length (node_of cores nodes (parent_of sys q)).shares
+  pub windows : AreWindows (share_at (node_of cores nodes (parent_of sys q)).shares (rank_among sys q)) n
+  pub slots : slots_of (share_at (node_of cores nodes (parent_of sys q)).shares (rank_among sys q)) n
+      ≡ supply_of sys budgets n (runs_of cores) (runs_of nodes) q
 
 pub share_of_part : (sys : SystemView) (budgets : List ℕ) (n : ℕ) (jobs : List (List Job)) (cores nodes : List NodeView)
     → IsSystem sys → CoresGive sys budgets n cores → (q : ℕ) → q < length sys.parts
-    → ArePartNodes sys budgets n jobs cores q nodes
-    → (AreWindows (share_at (node_of cores nodes (parent_of sys q)).shares (rank_among sys q)) n)
-    × (slots_of (share_at (node_of cores nodes (parent_of sys q)).shares (rank_among sys q)) n
-    ≡ supply_of sys budgets n (runs_of cores) (runs_of nodes) q)
+    → ArePartNodes sys budgets n jobs cores q nodes → PartShare sys budgets n cores nodes q
 share_of_part sys budgets n jobs cores nodes fits h q l k =
     let g : Given sys budgets n cores nodes q (parent_of sys q)
     = given_of sys budgets n jobs cores nodes fits h q l k in
+    let within = (server_of sys budgets q l).within in
     let s : AreShare (server_jobs sys budgets (parent_of sys q) n)
     (run_of (node_of cores nodes (parent_of sys q)).spans) n (rank_among sys q)
     (share_at (node_of cores nodes (parent_of sys q)).shares (rank_among sys q))
-    = g.gives.shares.each (rank_among sys q) (server_of sys budgets q l).within in (
-      s.fit,
-      s.slots ∙ ap (λ v. child_supply (server_jobs sys budgets (parent_of sys q) n) v (rank_among sys q)) (sym g.run),
-    )
+    = g.gives.shares.each (rank_among sys q) within in
+    record {
+      there = g.there;
+      child = omega (arith, g.gives.shares.one_each, within);
+      windows = s.fit;
+      slots =
+          s.slots
+          ∙ ap (λ v. child_supply (server_jobs sys budgets (parent_of sys q) n) v (rank_among sys q)) (sym g.run);
+    }
 
 -- the whole tree
 core_slots : (sys : SystemView) (n : ℕ) (given : List (List Window)) → length given ≡ length sys.cores → (c : ℕ)

@@ -7,7 +7,7 @@ use Rattle.tree_model.specs.declared.place.Place.{Place}
 use Rattle.tree_model.specs.declared.place.Place.TheVariants.{Core, Part}
 use Rattle.tree_model.specs.View.{SystemView}
 use Rattle.tree_model.specs.System.{part_at, own_tasks_at, is_leaf_at}
-use Rattle.tree_model.specs.Tree.{IsNode, place_of, server_tasks, server_jobs, rank_among, supply_of}
+use Rattle.tree_model.specs.Tree.{IsNode, place_of, server_tasks, server_jobs, supply_of}
 use Rattle.tree_model.specs.Releases.{jobs_at}
 use Rattle.tree_model.specs.FirstTree.{FirstServers, FirstLeaf, FirstTree}
 use Rattle.tree_spans.specs.NodeView.{NodeView, TreeView}
@@ -104,7 +104,7 @@ pub record CoresGive (sys : SystemView) (budgets : List ℕ) (n : ℕ)
   pub long : length cores ≡ length sys.cores
   pub each : (c : ℕ) → c < length sys.cores → GivesShares sys budgets n (Core c) (node_at cores c)
 
--- the parent of part q has its run, with windows for that part
+-- the node at a place, and that it has run; the place of a part's parent
 abbrev pub IsThere : List NodeView → List NodeView → Place → Type 0
 IsThere cores parts (Core c) = c < length cores
 IsThere cores parts (Part r) = r < length parts
@@ -115,10 +115,6 @@ node_of cores parts (Part r) = node_at parts r
 
 abbrev pub parent_of : SystemView → ℕ → Place
 parent_of sys q = place_of (part_at sys q).parent
-
-pub record HasShare (sys : SystemView) (cores parts : List NodeView) (q : ℕ) : Type 0 where
-  pub parent : IsThere cores parts (parent_of sys q)
-  pub share : rank_among sys q < length (node_of cores parts (parent_of sys q)).shares
 
 -- the spans of a tree spell its one first run; each core and inner part tells what its children
 -- get, and each node its counts

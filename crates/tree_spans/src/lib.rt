@@ -3,11 +3,15 @@
 //! jobs.
 #![tactic(auto)]
 
+mod kept;
 mod node;
 mod shares;
 mod tree;
 mod tree_counts;
+mod walk;
 
+pub use kept::{KeptNode, counts_kept};
 pub use node::{NodeSpans, TreeSpans};
-pub use tree::{leaf_node, rank_of, room_for_tasks, span_tree};
+pub use tree::span_tree;
 pub use tree_counts::TreeCounts;
+pub use walk::{KeptTree, rank_of, room_for_tasks, walk_tree};

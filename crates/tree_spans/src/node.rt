@@ -3,8 +3,12 @@ ghost use Rattle.tree_spans.specs.Shares.{share_at};
 ghost use Rattle.tree_spans.specs.NodeView.{counts_of};
 
 use crate::TreeCounts;
-use guest_sched::{Span, Window};
-use span_counts::Counts;
+use crate::kept::{KeptNode, counts_kept};
+use crate::shares::shares_of;
+use guest_sched::{Span, Window, guest_by, servers_by};
+use release_pattern::synchronous_jobs;
+use slot_model::{Job, Sched, Task};
+use span_counts::{Counts, count_level};
 use std::alloc::{AllocError, Global};
 use std::marker::Model;
 
@@ -54,6 +58,60 @@ impl NodeSpans {
     }
 }
 
+/// It keeps all of the run, and the windows of each child.
+impl KeptNode for NodeSpans {
+    ghost use Rattle.std.specs.Prelude.{◌≡◌, ⊤};
+
+    ghost takes = { λ _. ⊤ };
+
+    ghost is_kept_of = { λ one node _. one ≡ node };
+
+    fn of_servers(
+        alloc: Global,
+        sched: Sched,
+        tasks: &[Task],
+        given: &[Window],
+        slots: u64,
+    ) -> Result<NodeSpans, AllocError> {
+        let jobs = synchronous_jobs(alloc, tasks, 0, slots)?;
+        let spans = servers_by(alloc, sched, tasks, &jobs, given, slots)?;
+        let shares = shares_of(alloc, tasks, &jobs, &spans)?;
+        let counts = count_level(alloc, tasks, &jobs, given, &spans, slots)?;
+        Ok(NodeSpans {
+            spans,
+            shares,
+            counts,
+        })
+    }
+
+    fn of_guests(
+        alloc: Global,
+        sched: Sched,
+        tasks: &[Task],
+        jobs: &[Job],
+        given: &[Window],
+        slots: u64,
+    ) -> Result<NodeSpans, AllocError> {
+        let spans = guest_by(alloc, sched, tasks, jobs, given, slots)?;
+        let counts = count_level(alloc, tasks, jobs, given, &spans, slots)?;
+        Ok(NodeSpans {
+            spans,
+            shares: Vec::new(alloc),
+            counts,
+        })
+    }
+
+    fn share(&self, k: usize) -> &[Window] {
+        &self.shares[k]
+    }
+
+    fn let_go(&mut self, _alloc: Global, _k: usize) {}
+
+    fn counts(&self) -> Counts {
+        self.counts
+    }
+}
+
 /// The run of a tree as spans: a node for each core and one for each part, in file order.
 #[derive(Drop, Debug)]
 pub struct TreeSpans {
@@ -88,18 +146,8 @@ impl TreeSpans {
         ensures cores { IfOk result (λ counts. counts.cores ≡ counts_of self.now.cores) }
         ensures parts { IfOk result (λ counts. counts.parts ≡ counts_of self.now.parts) }
     {
-        let cores = node_counts(alloc, self.cores())?;
-        let parts = node_counts(alloc, self.parts())?;
+        let cores = counts_kept(alloc, self.cores())?;
+        let parts = counts_kept(alloc, self.parts())?;
         Ok(TreeCounts { cores, parts })
     }
-}
-
-fn node_counts(alloc: Global, nodes: &[NodeSpans]) -> Result<Vec<Counts>, AllocError>
-    ensures { IfOk result (λ counts. counts.items ≡ counts_of nodes.now) }
-{
-    let mut counts = Vec::with_capacity(alloc, nodes.len())?;
-    for node in nodes {
-        counts.push(node.counts())?;
-    }
-    Ok(counts)
 }

@@ -1,0 +1,140 @@
+use Rattle.std.proofs.Common.{◌≡◌, ℕ, suc, ◌<◌, Bool, List, [], ◌∷◌, ◌++◌, ◌∙◌, length, arith, ap, sym, subst, add-one}
+use Rattle.std.proofs.lemmas.List.{with_items_is}
+use Rattle.slot_model.specs.declared.job.Job.{Job}
+use Rattle.guest_sched.specs.Spans.{Window, AreWindows, slots_of}
+use Rattle.tree_model.specs.Tree.{place_of, supply_of, rank_among}
+use Rattle.tree_model.specs.View.{PartView}
+use Rattle.tree_model.specs.Releases.{jobs_at}
+use Rattle.tree_spans.specs.NodeView.{NodeView}
+use Rattle.tree_spans.specs.Shares.{share_at}
+use Rattle.tree_spans.specs.TreeSpans.{runs_of, parent_of, node_of, IsPartNode}
+use Rattle.tree_spans.specs.KeptNodes.{IsKeptOf}
+use Rattle.tree_spans.specs.inner.Walking.{ArePartsKept, HasChild}
+use Rattle.tree_spans.proofs.Lists.{list_read, job_lists}
+use Rattle.tree_spans.proofs.KeptNodes.{IsTold, PartGiven, child_read, told_read, no_part_kept, part_given, one_part_kept}
+use Rattle.tree_spans.proofs.walk.part_nodes.Goals as goal
+
+pub loop-q-init : goal.loop-q-init
+loop-q-init g c =
+    λ h. subst (λ (v : List g.row.K.Denot). ArePartsKept g.K.KeptNode.is_kept_of c.args.sys.now c.args.budgets.now
+    c.args.slots (job_lists c.args.jobs.now) h.nodes 0 c.args.cores.now v) (sym c.new-nodes.ensures.items)
+    (no_part_kept g.K.KeptNode.is_kept_of c.args.sys.now c.args.budgets.now c.args.slots (job_lists c.args.jobs.now)
+    c.args.cores.now h)
+
+pub share_of-windows-requires : goal.share_of-windows-requires
+share_of-windows-requires g c =
+    let is_kept_of = g.K.KeptNode.is_kept_of in
+    let sys = c.args.sys.now in let budgets = c.args.budgets.now in let n = c.args.slots in let q = c.loop-q.q in
+    let l : q < length sys.parts
+    = omega (arith, c.loop-q-test.true, ap (λ (ps : List PartView). length ps) c.parts.ensures.parts) in
+    let k = c.loop-q.invariant c.requires.cores in
+    let given : PartGiven is_kept_of sys budgets n q c.requires.cores.nodes k.nodes c.loop-q.cores c.loop-q.nodes.items
+    = part_given is_kept_of sys budgets n (job_lists c.args.jobs.now) c.args.cores.now c.loop-q.cores
+    c.loop-q.nodes.items c.parts.ensures.system c.requires.cores q l k in
+    let node : NodeView = node_of c.requires.cores.nodes k.nodes (parent_of sys q) in (
+      node,
+      child_read is_kept_of c.loop-q.cores c.loop-q.nodes.items c.deref.result.now (parent_of sys q)
+          (place_of c.parent_of-parent.result) node (rank_among sys q) c.rank_of-rank.result given.has
+          c.deref.ensures.value c.parent_of-parent.ensures c.rank_of-rank.ensures,
+    )
+
+pub part_node-requires-clause-windows : goal.part_node-requires-clause-windows
+part_node-requires-clause-windows g c =
+    let is_kept_of = g.K.KeptNode.is_kept_of in
+    let sys = c.args.sys.now in let budgets = c.args.budgets.now in let n = c.args.slots in let q = c.loop-q.q in
+    let l : q < length sys.parts
+    = omega (arith, c.loop-q-test.true, ap (λ (ps : List PartView). length ps) c.parts.ensures.parts) in
+    let k = c.loop-q.invariant c.requires.cores in
+    let given : PartGiven is_kept_of sys budgets n q c.requires.cores.nodes k.nodes c.loop-q.cores c.loop-q.nodes.items
+    = part_given is_kept_of sys budgets n (job_lists c.args.jobs.now) c.args.cores.now c.loop-q.cores
+    c.loop-q.nodes.items c.parts.ensures.system c.requires.cores q l k in
+    let node : NodeView = node_of c.requires.cores.nodes k.nodes (parent_of sys q) in
+    let child : HasChild is_kept_of c.loop-q.cores c.deref.result.now (place_of c.parent_of-parent.result) node
+    c.rank_of-rank.result
+    = child_read is_kept_of c.loop-q.cores c.loop-q.nodes.items c.deref.result.now (parent_of sys q)
+    (place_of c.parent_of-parent.result) node (rank_among sys q) c.rank_of-rank.result given.has
+    c.deref.ensures.value c.parent_of-parent.ensures c.rank_of-rank.ensures in
+    let read : c.share_of-windows.result.now ≡ share_at node.shares (rank_among sys q)
+    = c.share_of-windows.ensures node child ∙ ap (λ (i : ℕ). share_at node.shares i) c.rank_of-rank.ensures in
+    subst (λ (w : List Window). AreWindows w n) (sym read) given.share.windows
+
+pub let_go-requires : goal.let_go-requires
+let_go-requires g c =
+    let is_kept_of = g.K.KeptNode.is_kept_of in
+    let sys = c.args.sys.now in let budgets = c.args.budgets.now in let n = c.args.slots in let q = c.loop-q.q in
+    let l : q < length sys.parts
+    = omega (arith, c.loop-q-test.true, ap (λ (ps : List PartView). length ps) c.parts.ensures.parts) in
+    let k = c.loop-q.invariant c.requires.cores in
+    let given : PartGiven is_kept_of sys budgets n q c.requires.cores.nodes k.nodes c.loop-q.cores c.loop-q.nodes.items
+    = part_given is_kept_of sys budgets n (job_lists c.args.jobs.now) c.args.cores.now c.loop-q.cores
+    c.loop-q.nodes.items c.parts.ensures.system c.requires.cores q l k in
+    let node : NodeView = node_of c.requires.cores.nodes k.nodes (parent_of sys q) in (
+      node,
+      child_read is_kept_of c.loop-q.cores c.loop-q.nodes.items c.deref_mut.result.now (parent_of sys q)
+          (place_of c.parent_of-parent.result) node (rank_among sys q) c.rank_of-rank.result given.has
+          c.deref_mut.ensures.value c.parent_of-parent.ensures c.rank_of-rank.ensures,
+    )
+
+pub loop-q-preserved : goal.loop-q-preserved
+loop-q-preserved g c = λ h.
+    let is_kept_of = g.K.KeptNode.is_kept_of in
+    let sys = c.args.sys.now in let budgets = c.args.budgets.now in let n = c.args.slots in let q = c.loop-q.q in
+    let l : q < length sys.parts
+    = omega (arith, c.loop-q-test.true, ap (λ (ps : List PartView). length ps) c.parts.ensures.parts) in
+    let k = c.loop-q.invariant h in
+    let given : PartGiven is_kept_of sys budgets n q h.nodes k.nodes c.loop-q.cores c.loop-q.nodes.items
+    = part_given is_kept_of sys budgets n (job_lists c.args.jobs.now) c.args.cores.now c.loop-q.cores
+    c.loop-q.nodes.items c.parts.ensures.system h q l k in
+    let node : NodeView = node_of h.nodes k.nodes (parent_of sys q) in
+    let child : HasChild is_kept_of c.loop-q.cores c.deref.result.now (place_of c.parent_of-parent.result) node
+    c.rank_of-rank.result
+    = child_read is_kept_of c.loop-q.cores c.loop-q.nodes.items c.deref.result.now (parent_of sys q)
+    (place_of c.parent_of-parent.result) node (rank_among sys q) c.rank_of-rank.result given.has
+    c.deref.ensures.value c.parent_of-parent.ensures c.rank_of-rank.ensures in
+    let read : c.share_of-windows.result.now ≡ share_at node.shares (rank_among sys q)
+    = c.share_of-windows.ensures node child ∙ ap (λ (i : ℕ). share_at node.shares i) c.rank_of-rank.ensures in
+    let jobs = job_lists c.args.jobs.now in
+    let supply : List Bool = supply_of sys budgets n (runs_of h.nodes) (runs_of k.nodes) q in
+    let slots : slots_of c.share_of-windows.result.now n ≡ supply
+    = ap (λ (w : List Window). slots_of w n) read ∙ given.share.slots in
+    let own
+    = list_read c.args.jobs.now q (length sys.parts) c.index-jobs-q.result c.deref-in-loop-q.result.now
+    c.requires.jobs.one_each l c.index-jobs-q.is c.deref-in-loop-q.ensures.value in
+    let part = c.in_ok-part.part in
+    let new : IsKeptOf is_kept_of (IsPartNode sys budgets n q (jobs_at jobs q) supply) part
+    =
+    subst (λ (js : List Job). IsKeptOf is_kept_of (IsPartNode sys budgets n q js supply) part) own
+    (subst (λ (v : List Bool). IsKeptOf is_kept_of (IsPartNode sys budgets n q c.deref-in-loop-q.result.now v) part)
+    slots c.in_ok-part.ensures) in
+    let told : IsTold is_kept_of (parent_of sys q) (rank_among sys q) c.loop-q.cores c.loop-q.nodes.items
+    c.let_go.new.cores c.let_go.new.parts
+    =
+    told_read is_kept_of c.loop-q.cores c.loop-q.nodes.items c.deref_mut.result.now c.let_go.new.cores
+    c.let_go.new.parts (parent_of sys q) (place_of c.parent_of-parent.result) (rank_among sys q) c.rank_of-rank.result
+    (record {
+      cores_long = c.let_go.auto.cores;
+      parts_long = c.let_go.auto.parts;
+      own = c.let_go.ensures.parent;
+      others = c.let_go.ensures.others;
+    }) c.deref_mut.ensures.value c.parent_of-parent.ensures c.rank_of-rank.ensures in
+    let pushed : c.push.new.self.items ≡ c.let_go.new.parts ++ part ∷ []
+    = c.in_ok-push.ensures.items
+    ∙ ap (λ (v : List g.row.K.Denot). v ++ part ∷ []) (with_items_is c.loop-q.nodes c.let_go.new.parts (omega (
+      arith,
+      c.let_go.auto.parts,
+      ap (λ (v : List g.row.K.Denot). length v) c.deref_mut.ensures.value,
+      c.loop-q.nodes.ok.0,
+    ))) in
+    subst (λ (m : ℕ). ArePartsKept is_kept_of sys budgets n jobs h.nodes m c.let_go.new.cores c.push.new.self.items)
+    (sym (add-one q))
+    (subst (λ (v : List g.row.K.Denot). ArePartsKept is_kept_of sys budgets n jobs h.nodes (suc q) c.let_go.new.cores v)
+    (sym pushed)
+    (one_part_kept is_kept_of sys budgets n jobs h.nodes c.parts.ensures.system q l c.loop-q.cores
+    c.loop-q.nodes.items c.let_go.new.cores c.let_go.new.parts k given.has told part new))
+
+pub returns : goal.returns
+returns g c =
+    λ h. subst (λ (m : ℕ). ArePartsKept g.K.KeptNode.is_kept_of c.args.sys.now c.args.budgets.now c.args.slots
+    (job_lists c.args.jobs.now) h.nodes m c.loop-q.cores c.loop-q.nodes.items)
+    (omega (arith, c.loop-q-test.false, ap (λ (ps : List PartView). length ps) c.parts.ensures.parts))
+    (c.loop-q.invariant h)
