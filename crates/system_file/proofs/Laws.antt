@@ -320,7 +320,7 @@ module _ (format : Format) (cores parts : List Data) (wc : (c : ℕ) → c < len
           (ap (λ (p : PartView). p.parent) (sym (part_spelled cores parts child.0 few)) ∙ child.1.1))
 
 -- 1 to 64 cores
-cores_fit : (o : Option Data) → There IsArray o → 1 ≤ length (array_of o) → length (array_of o) ≤ 64
+pub cores_fit : (o : Option Data) → There IsArray o → 1 ≤ length (array_of o) → length (array_of o) ≤ 64
     → required Top core_array_faults o ≡ []
 cores_fit None w some few = absurd w
 cores_fit (Some d) w some few =

@@ -24,3 +24,5 @@ pub mod PrintedSystem
 pub mod PrintedText
 pub mod PrintedPut
 pub mod OneText
+pub mod AtEnd
+pub mod OneWalk

@@ -1,2 +1,3 @@
 -- What only private functions promise each other.
 pub mod Reading
+pub mod Plain

@@ -40,7 +40,7 @@ fn supply_at(table: &[Entry<'_>], spot: Spot) -> Result<Option<(u64, u64)>, Syst
 }
 
 /// A core, whose name is put behind the names of the cores before it.
-fn read_core<'t>(
+pub fn read_core<'t>(
     alloc: Global,
     value: &Item<'t>,
     spot: Spot,

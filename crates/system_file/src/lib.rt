@@ -9,9 +9,11 @@ mod format;
 mod keys;
 mod names;
 mod parts;
+mod plain;
 mod print;
 mod read;
 mod tasks;
+mod whole;
 
 pub use fault::{Spot, SystemFault};
 pub use print::print_system;

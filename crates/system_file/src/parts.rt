@@ -121,7 +121,7 @@ fn served_at<'e, 't>(table: &'e [Entry<'t>], spot: Spot) -> Result<Served<'e, 't
 
 /// A part, whose name is put behind the names of the cores and the parts before it. `tasks` is a
 /// set for the names of its tasks.
-fn read_part<'t>(
+pub fn read_part<'t>(
     alloc: Global,
     value: &Item<'t>,
     format: Format,

@@ -15,12 +15,14 @@ use crate::cores::read_cores;
 use crate::format::Format;
 use crate::keys::{check_keys, cores_at, elements_at, format_at};
 use crate::names::Names;
-use crate::parts::{first_empty, read_parts};
+use crate::parts::read_parts;
+use crate::plain::read_plain;
+use crate::whole::{Nodes, whole_system};
 use crate::{Spot, SystemFault};
 use std::alloc::Global;
 use std::str;
 use toml_items::{Document, DocumentFault, Entry, Item, read_document, table_entries};
-use tree_model::{Core, Part, System};
+use tree_model::System;
 
 /// The format of a document, and the values of its cores and parts.
 #[derive(Clone, Copy)]
@@ -52,13 +54,6 @@ fn top_of<'e, 't>(table: &'e [Entry<'t>]) -> Result<Top<'e, 't>, SystemFault>
     })
 }
 
-/// The cores and the parts of a document.
-#[derive(Drop)]
-struct Nodes {
-    cores: Vec<Core>,
-    parts: Vec<Part>,
-}
-
 /// The cores and the parts of a document's entries, of which a part may still be empty.
 fn nodes_of(alloc: Global, table: &[Entry<'_>]) -> Result<Nodes, SystemFault>
     ensures ok { IfOk result (λ nodes.
@@ -81,17 +76,11 @@ fn system_in(alloc: Global, table: &[Entry<'_>]) -> Result<System, SystemFault>
         first_of (faults (toml_table (entries_view table.now))) ≡ Some fault) }
 {
     let nodes = nodes_of(alloc, table)?;
-    match first_empty(alloc, &nodes.parts)? {
-        Some(place) => Err(SystemFault::Empty(Spot::Part(place as u32))),
-        None => Ok(System {
-            cores: nodes.cores,
-            parts: nodes.parts,
-        }),
-    }
+    whole_system(alloc, nodes)
 }
 
-/// The system of a text's document, or its first fault.
-fn read_text(alloc: Global, text: &str) -> Result<System, SystemFault>
+/// The system of a text's document, or its first fault, by way of all items of the document.
+fn read_items(alloc: Global, text: &str) -> Result<System, SystemFault>
     ensures spelled { IfOk result (λ sys. system_of_document (parse_document text.now) ≡ Ok sys) }
     ensures fault { IfErr result (λ fault. fault ≢ NoMemory →
         system_of_document (parse_document text.now) ≡ Err fault) }
@@ -104,6 +93,20 @@ fn read_text(alloc: Global, text: &str) -> Result<System, SystemFault>
         }
         Err(DocumentFault::NotToml) => Err(SystemFault::NotToml),
         Err(DocumentFault::NoMemory) => Err(SystemFault::NoMemory),
+    }
+}
+
+/// The system of a text's document, or its first fault. Where the text is not read to its end in
+/// one walk, it is read whole.
+fn read_text(alloc: Global, text: &str) -> Result<System, SystemFault>
+    ensures spelled { IfOk result (λ sys. system_of_document (parse_document text.now) ≡ Ok sys) }
+    ensures fault { IfErr result (λ fault. fault ≢ NoMemory →
+        system_of_document (parse_document text.now) ≡ Err fault) }
+{
+    match read_plain(alloc, text) {
+        Ok(system) => Ok(system),
+        Err(SystemFault::NoMemory) => Err(SystemFault::NoMemory),
+        Err(_) => read_items(alloc, text),
     }
 }
 

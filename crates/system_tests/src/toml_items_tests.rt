@@ -1,7 +1,10 @@
 use std::alloc::Global;
 use std::process::Abort;
 use toml::Table;
-use toml_items::{Document, DocumentFault, Entry, Item, read_document, table_entries};
+use toml_items::{
+    Body, Document, DocumentFault, Entry, Header, Item, array_at, element, header_again, is_end,
+    read_document, table_entries, top_pairs,
+};
 
 const PLAIN: &str = "# a host
 format = 1
@@ -87,6 +90,55 @@ fn a_plain_text_gives_its_items_without_a_table(rt: HostRuntime) {
     assert!(rt; number_at(task, "period") == Some(-5));
     let second = table_at(&top, "part", 1).expect(&rt, "another part");
     assert!(rt; second.len() == 1 && is_text_at(second, "name", "c"));
+}
+
+/// The element behind a header of an array of a plain text.
+fn element_at<'t>(rt: &impl Abort, alloc: Global, header: Header<'t>, text: &'t str) -> Body<'t> {
+    let found = element(alloc, header, text).expect(rt, "out of memory");
+    found.expect(rt, "an element")
+}
+
+#[test]
+fn a_plain_text_is_walked_element_by_element(rt: HostRuntime) {
+    let alloc = rt.alloc();
+    let top = top_pairs(alloc, PLAIN)
+        .expect(&rt, "out of memory")
+        .expect(&rt, "pairs");
+    assert!(rt; top.entries.len() == 1 && number_at(&top.entries, "format") == Some(1));
+    let cores = array_at(top.rest).expect(&rt, "an array");
+    let core = element_at(&rt, alloc, cores, cores.rest);
+    assert!(rt; cores.key == "core" && is_text_at(&core.entries, "name", "cpu0"));
+    assert!(rt; header_again(cores, core.rest).is_none() && !is_end(core.rest));
+    let parts = array_at(core.rest).expect(&rt, "another array");
+    let first = element_at(&rt, alloc, parts, parts.rest);
+    assert!(rt; parts.key == "part" && count_at(&first.entries, "task") == 2);
+    let again = header_again(parts, first.rest).expect(&rt, "another part");
+    let second = element_at(&rt, alloc, parts, again);
+    assert!(rt; is_text_at(&second.entries, "name", "c") && is_end(second.rest));
+    assert!(rt; header_again(parts, second.rest).is_none() && array_at(second.rest).is_none());
+}
+
+/// Texts that are not walked from their front on, or from a header on.
+#[test]
+fn a_walk_ends_where_a_text_is_not_plain(rt: HostRuntime) {
+    let alloc = rt.alloc();
+    for text in &["\u{feff}a = 1", "a = 'b'", "a = 1\na = 2"] {
+        assert!(rt;
+            top_pairs(alloc, text)
+                .expect(&rt, "out of memory")
+                .is_none(),
+            "{text}"
+        );
+    }
+    for text in &["[a]", "[[a.b]]", "a = 1", "", "[[a]] b"] {
+        assert!(rt; array_at(text).is_none(), "{text}");
+    }
+    let header = array_at("[[a]]\nb = 'c'").expect(&rt, "an array");
+    assert!(rt;
+        element(alloc, header, header.rest)
+            .expect(&rt, "out of memory")
+            .is_none()
+    );
 }
 
 const PLAIN_TEXTS: [(&str, usize); 7] = [

@@ -8,7 +8,7 @@ use Rattle.toml.specs.Tables.{Nodes, no_nodes, value, open_array, insert, close,
 use Rattle.toml.specs.Parse.{lines, skip_bom, parse_document}
 use Rattle.toml.proofs.Blanks.{skip_within}
 use Rattle.toml.proofs.Turns.{lines_more, lines_end, document_some}
-use Rattle.toml_items.specs.Plain.{insert_member, IsLine, IsPlace, GoesOn, ReadsTable, ReadsArray}
+use Rattle.toml_items.specs.Plain.{insert_member, IsLine, IsPlace, GoesOn, ReadsTable, ReadsArray, BeginsWith, HasArray}
 use Rattle.toml_items.proofs.Places.{close-insert, new_node-at, top_place, element_place, define_pair, define_array, define_element}
 
 stays : (text : List ℕ) (doc : Document) → GoesOn text doc text doc
@@ -180,3 +180,16 @@ whole_document text rest ms other reads ended =
     let all : lines (suc (length text)) (no_nodes, []) (skip_bom text) ≡ Some (ns, section) =
     rw (without_mark text other) (e ∙ over) in
     document_some text (ns, section) all ∙ ap Some same
+
+pub begins_with_more : (text here rest k : List ℕ) (ms : Members) (items : Items) →
+    BeginsWith text ms here → HasArray here k items rest → get_member k ms ≡ None →
+    BeginsWith text (insert_member k (array items) ms) rest
+begins_with_more text here rest k ms items begins has none = record {
+  unmarked = begins.unmarked;
+  reads = one_more_array [] text here has.behind rest k ms items begins.reads has.header has.reads none;
+}
+
+pub begun_to_the_end : (text rest : List ℕ) (ms : Members) →
+    BeginsWith text ms rest → length (skip_blank rest) ≡ 0 → parse_document text ≡ Some ms
+begun_to_the_end text rest ms begins ended =
+    whole_document text rest ms begins.unmarked begins.reads ended

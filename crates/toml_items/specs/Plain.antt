@@ -1,11 +1,11 @@
 -- What a reader of plain lines keeps to, in the words in which TOML reads a document.
-use Rattle.std.specs.Prelude.{◌≡◌, ℕ, ◌<◌, List, [], ◌∷◌, ◌++◌, length, Option, Some, None, option_map}
+use Rattle.std.specs.Prelude.{◌≡◌, ℕ, ◌<◌, ◌==◌, false, List, [], ◌∷◌, ◌++◌, length, Option, Some, None, option_map}
 use Rattle.std.specs.Borrow.{Bor}
 use Rattle.std.specs.Ordering.{nat_cmp, match_ordering}
 use Rattle.std.specs.Cmp.Lexicographic.{slice_cmp}
-use Rattle.toml_parser.specs.Lexical.{skip_blank}
+use Rattle.toml_parser.specs.Lexical.{first, skip_blank}
 use Rattle.toml.specs.Data.{Data, table, Items, no_items, Members, no_members, member, push_item}
-use Rattle.toml.specs.Tables.{Nodes, no_nodes, insert, open_array, close, Edit, along_header, Expression, Document}
+use Rattle.toml.specs.Tables.{Nodes, no_nodes, insert, open_array, close, Edit, along_header, array_table, Expression, Document}
 use Rattle.toml.specs.Parse.{line, lines}
 
 -- the members with one more, at its place in the order of the keys
@@ -50,3 +50,16 @@ ReadsArray path key text items rest = (root_of : Nodes → Nodes) → IsPlace pa
     × (push_item done (table (close last)) ≡ items)
     × GoesOn text (root_of (insert key (open_array no_items no_nodes) ns), path ++ key ∷ [])
     rest (root_of (insert key (open_array done last) ns), section)
+
+-- From its front on, where no byte order mark stands, up to a later text, the lines of a text give
+-- the top table these members.
+pub record BeginsWith (text : List ℕ) (members : Members) (rest : List ℕ) : Type 0 where
+  pub unmarked : (first text == 0xEF) ≡ false
+  pub reads : ReadsTable [] text members rest
+
+-- A text begins with the first header of an array in the top table, and goes on with the array's
+-- items up to a later text.
+pub record HasArray (text : List ℕ) (key : List ℕ) (items : Items) (rest : List ℕ) : Type 0 where
+  pub behind : List ℕ
+  pub header : IsLine text (([], key), array_table) behind
+  pub reads : ReadsArray [] key behind items rest

@@ -12,4 +12,6 @@ mod table;
 
 pub use document::{Document, DocumentFault, read_document};
 pub use item::{Entry, Item};
+pub use line::Header;
+pub use plain::{Body, array_at, element, header_again, is_end, top_pairs};
 pub use table::table_entries;

@@ -1,8 +1,9 @@
-ghost use Rattle.std.specs.Prelude.{◌≡◌, ◌<◌, ◌≤◌, List, ℕ, [], ◌∷◌, ◌++◌, length, Some, IsTrue, IfOk, IfSome};
+ghost use Rattle.std.specs.Prelude.{◌≡◌, ◌<◌, ◌≤◌, ◌↔◌, ◌==◌, List, ℕ, [], ◌∷◌, ◌++◌, length, Some, IsTrue, IfOk, IfSome};
+ghost use Rattle.toml_parser.specs.Lexical as lexical;
 ghost use Rattle.toml.specs.Tables.{array_table};
 ghost use Rattle.toml.specs.Parse.{parse_document};
 ghost use Rattle.toml_items.specs.Item.{list_view, entries_view};
-ghost use Rattle.toml_items.specs.Plain.{path_of, IsLine, ReadsTable, ReadsArray};
+ghost use Rattle.toml_items.specs.Plain.{path_of, IsLine, ReadsTable, ReadsArray, BeginsWith};
 
 use crate::entry::put_entry;
 use crate::line::{Header, header_at, pair_at};
@@ -17,24 +18,58 @@ pub(crate) fn plain_entries(alloc: Global, text: &str) -> Result<Option<Vec<Entr
     ensures { IfOk result (λ found. IfSome found
         (λ entries. parse_document text.now ≡ Some (entries_view entries.items))) }
 {
-    if first(text) == 0xEF {
+    if is_marked(text) {
         return Ok(None);
     }
     let Some(top) = table(alloc, None, text)? else {
         return Ok(None);
     };
-    if skip_blank(top.rest, true).is_empty() {
+    if is_end(top.rest) {
         Ok(Some(top.entries))
     } else {
         Ok(None)
     }
 }
 
+/// The pairs of the top table of a plain text, and the text from the first header or the end on.
+pub fn top_pairs(alloc: Global, text: &str) -> Result<Option<Body<'_>>, AllocError>
+    ensures { IfOk result (λ found. IfSome found (λ top.
+        BeginsWith text.now (entries_view top.entries.items) top.rest.now)) }
+{
+    if is_marked(text) {
+        return Ok(None);
+    }
+    pairs(alloc, text)
+}
+
+/// Whether a byte order mark may stand at the front of a text.
+fn is_marked(text: &str) -> bool
+    ensures { result ≡ (lexical.first text.now == 0xEF) }
+{
+    first(text) == 0xEF
+}
+
+/// The header at the front of a text, if its array stands in the top table.
+pub fn array_at(text: &str) -> Option<Header<'_>>
+    ensures top { IfSome result (λ h. path_of h.parent ≡ []) }
+    ensures line { IfSome result (λ h.
+        IsLine text.now (([], h.key.now), array_table) h.rest.now) }
+{
+    header_in(None, text)
+}
+
+/// Whether nothing stands in a text but blank lines and comments.
+pub fn is_end(text: &str) -> bool
+    ensures { IsTrue result ↔ length (lexical.skip_blank text.now) ≡ 0 }
+{
+    skip_blank(text, true).is_empty()
+}
+
 /// The entries of a table, and the text behind them.
 #[derive(Drop)]
-struct Entries<'t> {
-    entries: Vec<Entry<'t>>,
-    rest: &'t str,
+pub struct Body<'t> {
+    pub entries: Vec<Entry<'t>>,
+    pub rest: &'t str,
 }
 
 /// The items of an array of tables, and the text behind them.
@@ -50,7 +85,7 @@ fn table<'t>(
     alloc: Global,
     key: Option<&'t str>,
     text: &'t str,
-) -> Result<Option<Entries<'t>>, AllocError>
+) -> Result<Option<Body<'t>>, AllocError>
     ensures reads { IfOk result (λ found. IfSome found (λ t.
         ReadsTable (path_of key.entry) text.now (entries_view t.entries.items) t.rest.now)) }
     ensures within { IfOk result (λ found. IfSome found (λ t.
@@ -99,13 +134,14 @@ fn array<'t>(alloc: Global, header: Header<'t>) -> Result<Option<Elements<'t>>, 
     }
 }
 
-/// An element of the array of this header. Two arrays deep it has no array in it.
+/// The element at the front of a text, behind a header of its array. Two arrays deep it has no
+/// array in it.
 #[cycle(table)]
-fn element<'t>(
+pub fn element<'t>(
     alloc: Global,
     header: Header<'t>,
     text: &'t str,
-) -> Result<Option<Entries<'t>>, AllocError>
+) -> Result<Option<Body<'t>>, AllocError>
     ensures reads { IfOk result (λ found. IfSome found (λ t.
         ReadsTable (path_of header.entry.parent ++ header.entry.key.now ∷ [])
         text.now (entries_view t.entries.items) t.rest.now)) }
@@ -119,7 +155,7 @@ fn element<'t>(
 }
 
 /// The pairs up to a header or the end, and the text from there.
-fn pairs(alloc: Global, text: &str) -> Result<Option<Entries<'_>>, AllocError>
+fn pairs(alloc: Global, text: &str) -> Result<Option<Body<'_>>, AllocError>
     ensures reads { IfOk result (λ found. IfSome found (λ t. (path : List (List ℕ)) →
         ReadsTable path text.now (entries_view t.entries.items) t.rest.now)) }
     ensures within { IfOk result (λ found. IfSome found (λ t.
@@ -130,7 +166,7 @@ fn pairs(alloc: Global, text: &str) -> Result<Option<Entries<'_>>, AllocError>
     'pairs: loop {
         let start = skip_blank(rest, true);
         if start.is_empty() || first(start) == b'[' {
-            return Ok(Some(Entries {
+            return Ok(Some(Body {
                 entries,
                 rest: start,
             }));
@@ -162,7 +198,7 @@ fn header_in<'t>(key: Option<&'t str>, text: &'t str) -> Option<Header<'t>>
 }
 
 /// The text behind the header at the front, if it is this one again.
-fn header_again<'t>(header: Header<'t>, text: &'t str) -> Option<&'t str>
+pub fn header_again<'t>(header: Header<'t>, text: &'t str) -> Option<&'t str>
     ensures line { IfSome result (λ rest. IsLine text.now
         ((path_of header.entry.parent, header.entry.key.now), array_table) rest.now) }
     ensures shorter { IfSome result (λ rest. length rest.now < length text.now) }

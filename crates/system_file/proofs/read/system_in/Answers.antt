@@ -1,29 +1,15 @@
-use Rattle.std.proofs.Common.{length, ap, refl, arith}
-use Rattle.system_file.proofs.Systems.{among, few_parts, fault_in_tree, no_fault, is_whole}
+use Rattle.std.proofs.lemmas.Result.{IfOk-weaker, IfErr-weaker}
+use Rattle.toml.specs.Data.{table}
+use Rattle.toml_items.specs.Item.{entries_view}
 use Rattle.system_file.proofs.read.system_in.Goals as goal
 
-pub first_empty-requires : goal.first_empty-requires
-first_empty-requires c = record { among = rw c.deref.ensures.value (among c.in_ok-nodes.ensures.ok) }
+pub returns-clause-ok : goal.returns-clause-ok
+returns-clause-ok c =
+    IfOk-weaker c.whole_system.result _ _
+    (λ sys ok. ok (table (entries_view c.args.table.now)) c.in_ok-nodes.ensures.ok) c.whole_system.ensures.ok
 
-pub overflow_cast-result : goal.overflow_cast-result
-overflow_cast-result c =
-    let found = rw c.in-Some.is at c.in_ok-place.ensures.found in
-    omega (arith, found.0, ap length c.deref.ensures.value, few_parts c.in_ok-nodes.ensures.ok)
-
-pub returns-in-Some-clause-fault : goal.returns-in-Some-clause-fault
-returns-in-Some-clause-fault c = λ memory.
-    let found = rw (c.in-Some.is, c.deref.ensures.value) at c.in_ok-place.ensures.found in
-    fault_in_tree c.in_ok-nodes.ensures.ok c.in-Some.place found.0 found.1 found.2
-
-pub invariant_of-result : goal.invariant_of-result
-invariant_of-result c =
-    let none = rw (c.in-None.is, c.deref.ensures.value) at c.in_ok-place.ensures.found in
-    rw (c.in_ok-nodes.ensures.ok.cores_are, c.in_ok-nodes.ensures.ok.parts_are)
-    (is_whole c.in_ok-nodes.ensures.ok none)
-
-pub returns-in-None-clause-ok : goal.returns-in-None-clause-ok
-returns-in-None-clause-ok c =
-    let none = rw (c.in-None.is, c.deref.ensures.value) at c.in_ok-place.ensures.found in (
-      no_fault c.in_ok-nodes.ensures.ok none,
-      rw (c.in_ok-nodes.ensures.ok.cores_are, c.in_ok-nodes.ensures.ok.parts_are) refl,
-    )
+pub returns-clause-fault : goal.returns-clause-fault
+returns-clause-fault c =
+    IfErr-weaker c.whole_system.result _ _
+    (λ fault wrong memory. wrong memory (table (entries_view c.args.table.now)) c.in_ok-nodes.ensures.ok)
+    c.whole_system.ensures.fault

@@ -5,8 +5,8 @@ use Rattle.toml_items.specs.Item.{entries_view}
 use Rattle.toml_items.proofs.Going.{whole_document}
 use Rattle.toml_items.proofs.plain.plain_entries.Goals as goal
 
-pub returns-then-is_empty : goal.returns-then-is_empty
-returns-then-is_empty c =
+pub returns-then-is_end : goal.returns-then-is_end
+returns-then-is_end c =
     let text = c.args.text.now in
     let top = c.in-Some.top in
     let other : (first text == 0xEF) ≡ false = grind (arith, common_steps) in

@@ -3,7 +3,7 @@ use Rattle.toml_items.specs.declared.document.Document.{Document}
 use Rattle.toml_items.specs.Document.{members_in}
 use Rattle.toml_items.specs.Item.{entries_view}
 use Rattle.system_file.proofs.Texts.{document_refused}
-use Rattle.system_file.proofs.read.read_text.Goals as goal
+use Rattle.system_file.proofs.read.read_items.Goals as goal
 
 pub returns-in-Ok-Entries-clause-fault : goal.returns-in-Ok-Entries-clause-fault
 returns-in-Ok-Entries-clause-fault c =
