@@ -1,5 +1,5 @@
 -- The jobs of a part, one job later.
-use Rattle.std.proofs.Common.{◌≡◌, ◌≢◌, ℕ, suc, ◌+◌, ◌<◌, ◌≤◌, nat_lt, nat_le, Bool, true, false, not, eqb, ◌||◌, List, [], ◌∷◌, ◌++◌, length, get_or, set, Option, Some, None, refl, sym, ◌∙◌, ap, subst, arith, inl, inr, below_more, leb-true, ltb-true}
+use Rattle.std.proofs.Common.{◌≡◌, ◌≢◌, ℕ, suc, ◌+◌, ◌-◌, ◌^◌, min, ◌<◌, ◌≤◌, nat_lt, nat_le, Bool, true, false, not, eqb, ◌||◌, List, [], ◌∷◌, ◌++◌, length, get_or, set, Option, Some, None, refl, sym, ◌∙◌, ap, subst, arith, inl, inr, below_more, leb-true, ltb-true}
 use Rattle.std.specs.List.{list_any}
 use Rattle.std.proofs.lemmas.Bool.{cases_eq, and_left, and_right, and_from, and_parts, and_cases, eq-eqb, ne_eqb, both_ways, le-ltb, ltb-false, false_from_ne_true}
 use Rattle.std.proofs.lemmas.List.{get_or_append_left, get_or-set_same, get_or-set_other, length-set, length-map}
@@ -22,6 +22,10 @@ job_same js more i l = get_or_append_left js more default_job i l
 
 job_last : (js : List Job) (j : Job) → job_at (js ++ j ∷ []) (length js) ≡ j
 job_last js j = get_or-append_seam js j [] default_job
+
+-- a number that is told up to the greatest of 64 bits, and within a smaller limit
+pub is_told : (n k limit : ℕ) → n ≡ min k (2 ^ 64 - 1) → n ≤ limit → limit < 2 ^ 64 - 1 → n ≡ k
+is_told n k limit e l few = omega (arith, e, l, few)
 
 -- a test that passes nowhere
 none_any : {A : Type 0} (p : A → Bool) (xs : List A) (d : A) → ((i : ℕ) → i < length xs → p (get_or xs i d) ≡ false)
