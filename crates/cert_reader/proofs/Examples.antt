@@ -6,6 +6,7 @@ use Rattle.serde_json.proofs.OnLiterals.{serde_json_on_literals}
 use Rattle.serde_json.specs.Data.{Data, null, boolean, number, unsigned, string, array, object, Items, no_items, item, no_members, member}
 use Rattle.tree_model.specs.declared.place.Place.TheVariants.{Core, Part}
 use Rattle.cert_reader.specs.declared.fault.CertFault.TheVariants.{NotJson, WrongShape, BadNumber}
+use Rattle.cert_reader.specs.declared.kind.Kind.TheVariants.{Part as OfPart, Core as OfCore}
 use Rattle.cert_reader.specs.Document.{decimal_of, kind_named}
 use Rattle.cert_reader.specs.CertificateFile.{certificate_of, certificate_of_value}
 
@@ -132,6 +133,6 @@ no_quoted_numbers : (decimal_of [] ≡ None) × (decimal_of (codes "010") ≡ No
     × (decimal_of (codes "-1") ≡ None) × (decimal_of (codes "340282366920938463463374607431768211456") ≡ None)
 no_quoted_numbers = (refl, refl, refl, refl, refl)
 
-kinds : (kind_named (codes "part") ≡ Some true) × (kind_named (codes "core") ≡ Some false)
+kinds : (kind_named (codes "part") ≡ Some OfPart) × (kind_named (codes "core") ≡ Some OfCore)
     × (kind_named (codes "Part") ≡ None) × (kind_named [] ≡ None)
 kinds = (refl, refl, refl, refl)

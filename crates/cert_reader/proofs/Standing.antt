@@ -84,49 +84,49 @@ listed_last text (y ∷ xs) x =
     append_assoc (text y) (44 ∷ opened text xs) (text x) ∙ ap (λ (s : List ℕ). text y ++ s) (behind_last text xs x)
 
 -- the elements that were read, each with its comma, and what is so of each
-pub record IsOpened {A : Type 0} (text : A → List ℕ) (Good : A → Type 0) (d : A) (bytes : List ℕ) (at to : ℕ)
+pub record IsOpened {A : Type 0} (text : A → List ℕ) (Good : A → Type 0) (bytes : List ℕ) (at to : ℕ)
     (xs : List A) : Type 0 where
   pub stands : Stands bytes at to (opened text xs)
-  pub good : (k : ℕ) → k < length xs → Good (get_or xs k d)
+  pub good : (k : ℕ) (d : A) → k < length xs → Good (get_or xs k d)
 
-pub none_opened : {A : Type 0} (text : A → List ℕ) (Good : A → Type 0) (d : A) (bytes : List ℕ) (at : ℕ)
-    → IsOpened text Good d bytes at at []
-none_opened text Good d bytes at = record { stands = stands_here bytes at; good = λ k l. absurd (omega arith) }
+pub none_opened : {A : Type 0} (text : A → List ℕ) (Good : A → Type 0) (bytes : List ℕ) (at : ℕ)
+    → IsOpened text Good bytes at at []
+none_opened text Good bytes at = record { stands = stands_here bytes at; good = λ k d l. absurd (omega arith) }
 
-good_push : {A : Type 0} (Good : A → Type 0) (d : A) (xs : List A) (x : A)
-    → ((k : ℕ) → k < length xs → Good (get_or xs k d)) → Good x → (k : ℕ) → k < length (xs ++ x ∷ [])
+good_push : {A : Type 0} (Good : A → Type 0) (xs : List A) (x : A)
+    → ((k : ℕ) (d : A) → k < length xs → Good (get_or xs k d)) → Good x → (k : ℕ) (d : A) → k < length (xs ++ x ∷ [])
     → Good (get_or (xs ++ x ∷ []) k d)
-good_push Good d xs x before good k l = elim (cases_lt k (length xs)) [
-  | inl sooner ↦ subst Good (sym (get_or_append_left xs (x ∷ []) d k sooner)) (before k sooner)
+good_push Good xs x before good k d l = elim (cases_lt k (length xs)) [
+  | inl sooner ↦ subst Good (sym (get_or_append_left xs (x ∷ []) d k sooner)) (before k d sooner)
   | inr late ↦
       let same : length xs ≡ k = omega (arith, length_push xs x) in
       subst Good (sym (get_or_push xs x d k same)) good
 ]
 
-pub one_opened : {A : Type 0} (text : A → List ℕ) (Good : A → Type 0) (d : A) (bytes : List ℕ) (at from to next : ℕ)
-    (xs : List A) (x : A) → IsOpened text Good d bytes at from xs → Stands bytes from to (text x)
+pub one_opened : {A : Type 0} (text : A → List ℕ) (Good : A → Type 0) (bytes : List ℕ) (at from to next : ℕ)
+    (xs : List A) (x : A) → IsOpened text Good bytes at from xs → Stands bytes from to (text x)
     → Stands bytes to next (44 ∷ []) → Good x
-    → IsOpened text Good d bytes at next (xs ++ x ∷ [])
-one_opened text Good d bytes at from to next xs x before here comma good = record {
+    → IsOpened text Good bytes at next (xs ++ x ∷ [])
+one_opened text Good bytes at from to next xs x before here comma good = record {
   stands =
       subst (λ (s : List ℕ). Stands bytes at next s) (opened_more text xs x)
       (stands_then bytes at from next (opened text xs) (text x ++ 44 ∷ []) before.stands
       (stands_then bytes from to next (text x) (44 ∷ []) here comma));
-  good = good_push Good d xs x before.good good;
+  good = good_push Good xs x before.good good;
 }
 
 -- the last has no comma
-pub all_listed : {A : Type 0} (text : A → List ℕ) (Good : A → Type 0) (d : A) (bytes : List ℕ) (at from to : ℕ)
-    (xs : List A) (x : A) → IsOpened text Good d bytes at from xs → Stands bytes from to (text x)
+pub all_listed : {A : Type 0} (text : A → List ℕ) (Good : A → Type 0) (bytes : List ℕ) (at from to : ℕ)
+    (xs : List A) (x : A) → IsOpened text Good bytes at from xs → Stands bytes from to (text x)
     → Stands bytes at to (listed text (xs ++ x ∷ []))
-all_listed text Good d bytes at from to xs x before here =
+all_listed text Good bytes at from to xs x before here =
     subst (λ (s : List ℕ). Stands bytes at to s) (listed_last text xs x)
     (stands_then bytes at from to (opened text xs) (text x) before.stands here)
 
-pub all_good : {A : Type 0} (text : A → List ℕ) (Good : A → Type 0) (d : A) (bytes : List ℕ) (at from : ℕ) (xs : List A)
-    (x : A) → IsOpened text Good d bytes at from xs → Good x → (k : ℕ) → k < length (xs ++ x ∷ [])
+pub all_good : {A : Type 0} (text : A → List ℕ) (Good : A → Type 0) (bytes : List ℕ) (at from : ℕ) (xs : List A)
+    (x : A) → IsOpened text Good bytes at from xs → Good x → (k : ℕ) (d : A) → k < length (xs ++ x ∷ [])
     → Good (get_or (xs ++ x ∷ []) k d)
-all_good text Good d bytes at from xs x before good = good_push Good d xs x before.good good
+all_good text Good bytes at from xs x before good = good_push Good xs x before.good good
 
 -- a text of nodes from its first byte to its last is the certificate's
 pub printed_spells : (bytes : List ℕ) (nodes : List NodeView) (end : ℕ) → end ≡ length bytes

@@ -6,6 +6,7 @@ ghost use Rattle.cert_reader.specs.CertificateFile.{value_of, certificate_of};
 ghost use Rattle.cert_reader.specs.Printed.{TextSpells};
 
 use crate::CertFault;
+use crate::not_printed::NotPrinted;
 use crate::printed::read_printed;
 use crate::reading::read_top;
 use serde_json::Value;
@@ -38,8 +39,10 @@ pub fn read_certificate(alloc: Global, bytes: &[u8]) -> Result<Certificate, Cert
     // what the text of a certificate spells
     ensures back { (nodes : List NodeView) → TextSpells nodes }
 {
-    if let Some(nodes) = read_printed(alloc, bytes) {
-        return Ok(Certificate { nodes });
+    match read_printed(alloc, bytes) {
+        Ok(nodes) => return Ok(Certificate { nodes }),
+        Err(NotPrinted::NoMemory) => return Err(CertFault::NoMemory),
+        Err(NotPrinted::Other) => {}
     }
     let top = value_of_text(alloc, bytes)?;
     let nodes = read_top(alloc, &top)?;

@@ -1,11 +1,22 @@
-ghost use Rattle.std.specs.Prelude.{◌+◌, ◌<◌, ◌≤◌, [], ◌∷◌, length, decimal, IfSome};
+ghost use Rattle.std.specs.Prelude.{◌+◌, ◌<◌, ◌≤◌, [], ◌∷◌, length, decimal, IfSome, IfOk};
 ghost use Rattle.cert_reader.specs.Text.{quoted_number, Stands};
+
+use crate::not_printed::NotPrinted;
+use crate::read_at::ReadAt;
+use std::alloc::Global;
 
 /// The greatest number that takes one digit more within 128 bits, whichever digit it is.
 const MOST: u128 = (u128::MAX - 9) / 10;
 
 /// So many digits fit 64 bits.
 const SHORT: usize = 19;
+
+/// The place behind a word that has to stand at a place.
+pub fn behind(bytes: &[u8], at: usize, word: &[u8]) -> Result<usize, NotPrinted>
+    ensures { IfOk result (λ to. Stands bytes.now at to word.now) }
+{
+    behind_word(bytes, at, word).ok_or(NotPrinted::Other)
+}
 
 /// The place behind a word that stands at a place.
 pub fn behind_word(bytes: &[u8], at: usize, word: &[u8]) -> Option<usize>
@@ -46,7 +57,7 @@ fn digit_at(bytes: &[u8], at: usize) -> Option<u8>
 
 /// The number whose decimal text stands at a place, and the place behind it. None also for some
 /// numbers near 2^128.
-pub fn number_at(bytes: &[u8], at: usize) -> Option<(u128, usize)>
+fn number_at(bytes: &[u8], at: usize) -> Option<(u128, usize)>
     ensures { IfSome result (λ p. Stands bytes.now at p.1 (decimal p.0)) }
 {
     let first = digit_at(bytes, at)?;
@@ -102,19 +113,37 @@ fn short_digits(bytes: &[u8], at: usize, first: u8) -> (u64, usize)
     (number, to)
 }
 
-/// The number at a place, below 2^64, and the place behind it.
-pub fn whole_at(bytes: &[u8], at: usize) -> Option<(u64, usize)>
-    ensures { IfSome result (λ p. Stands bytes.now at p.1 (decimal p.0)) }
-{
-    let (number, to) = number_at(bytes, at)?;
-    if number > u64::MAX as u128 {
-        return None;
+impl ReadAt for u64 {
+    ghost use Rattle.std.specs.Prelude.{◌<◌, ◌^◌, decimal};
+
+    ghost text = { decimal };
+
+    ghost in_range = { λ n. n < 2 ^ 64 };
+
+    fn read_at(_alloc: Global, bytes: &[u8], at: usize) -> Result<(u64, usize), NotPrinted> {
+        match number_at(bytes, at) {
+            Some((number, to)) if number <= u64::MAX as u128 => Ok((number as u64, to)),
+            _ => Err(NotPrinted::Other),
+        }
     }
-    Some((number as u64, to))
+}
+
+/// In quotes.
+impl ReadAt for u128 {
+    ghost use Rattle.std.specs.Prelude.{◌<◌, ◌^◌};
+    ghost use Rattle.cert_reader.specs.Text.{quoted_number};
+
+    ghost text = { quoted_number };
+
+    ghost in_range = { λ n. n < 2 ^ 128 };
+
+    fn read_at(_alloc: Global, bytes: &[u8], at: usize) -> Result<(u128, usize), NotPrinted> {
+        quoted_at(bytes, at).ok_or(NotPrinted::Other)
+    }
 }
 
 /// The number in quotes at a place, and the place behind it.
-pub fn quoted_at(bytes: &[u8], at: usize) -> Option<(u128, usize)>
+fn quoted_at(bytes: &[u8], at: usize) -> Option<(u128, usize)>
     ensures { IfSome result (λ p. Stands bytes.now at p.1 (quoted_number p.0)) }
 {
     let from = behind_byte(bytes, at, b'"')?;

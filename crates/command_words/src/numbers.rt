@@ -1,7 +1,7 @@
 ghost use Rattle.std.specs.Prelude.{◌≡◌, ◌≤◌, IfSome};
 ghost use Rattle.command_words.specs.Numbers.{number_from_one};
 
-use csv_rows::{is_plain, number};
+use csv_rows::{Plain, plain_number};
 
 /// The plain decimal number from 1 to `most` that a word spells.
 pub fn number_from_one(word: &str, most: u64) -> Option<u64>
@@ -9,12 +9,8 @@ pub fn number_from_one(word: &str, most: u64) -> Option<u64>
     ensures is { result ≡ number_from_one most word.now }
     ensures within { IfSome result (λ n. (1 ≤ n) × (n ≤ most)) }
 {
-    let digits = word.as_bytes();
-    if !is_plain(digits) {
-        return None;
-    }
-    match number(digits, most) {
-        Some(n) if n >= 1 => Some(n),
+    match plain_number(word.as_bytes(), most) {
+        Plain::Is(n) if n >= 1 => Some(n),
         _ => None,
     }
 }

@@ -7,6 +7,7 @@ ghost use Rattle.command_steps.specs.Steps.{IfAnswered, IsJudged, EndsJudged};
 
 use crate::refusing::refuse_system;
 use command_steps::{Answer, Ending, JudgeTwo, Status, second_fault};
+use csv_rows::row_of;
 use placement::{PlaceFault, place};
 use rt_report::{FileFault, unplaced_text};
 use script_file::{GuestFault, ScriptFault, read_guests};
@@ -69,7 +70,7 @@ fn placed(alloc: Global, sys: &System, guests: &[Part]) -> Result<System, Ending
             Err(Ending::Answered(refuse_system(alloc, sys, refusal)?))
         }
         Err(PlaceFault::BadGuest(i)) => {
-            let row = u64::from(i) + 2;
+            let row = row_of(u64::from(i));
             Err(second_fault(alloc, FileFault::BadGuest(row)))
         }
         Err(PlaceFault::Unplaced(i)) => Err(Ending::Answered(Answer {

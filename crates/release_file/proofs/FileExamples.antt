@@ -1,6 +1,7 @@
 -- Worked rows, on which the rules are computed: A with the tasks t1, of 7 slots in 50 with a jitter
 -- of 5, and t2, of 9 slots in 75; and B, without tasks, on which C stands.
-use Rattle.std.proofs.Common.{◌≡◌, ◌≢◌, ℕ, zero, suc, ◌+◌, ◌<◌, ◌≤◌, true, false, Some, None, List, [], ◌∷◌, codes, refl, arith, lit<, lit≤}
+use Rattle.std.proofs.Common.{◌≡◌, ◌≢◌, ℕ, zero, suc, ◌+◌, ◌<◌, ◌≤◌, Bool, true, false, ◌||◌, Some, None, is_some, if◌then◌else◌, List, [], ◌∷◌, codes, refl, arith, lit<, lit≤}
+use Rattle.std.specs.Prelude.{bytes_eq, unwrap_or}
 use Rattle.csv_rows.specs.Last.{last_below}
 use Rattle.slot_model.specs.declared.task.TheConstants.{LIMIT}
 use Rattle.slot_model.specs.declared.sched.Sched.TheVariants.{Edf}
@@ -16,7 +17,7 @@ use Rattle.release_file.specs.declared.workload.Wake.{Wake}
 use Rattle.release_file.specs.declared.workload.WakeKind.{WakeKind}
 use Rattle.release_file.specs.declared.workload.WakeKind.TheVariants.{Start, Wake as ToWake, Block}
 use Rattle.release_file.specs.Workload.{row_at, last_row, is_of, is_started_at, is_blocked_at, is_started, start_of, may_follow, IsWorkload}
-use Rattle.release_file.specs.WorkloadFile.{wakes_of, wake_rules, wake_rows}
+use Rattle.release_file.specs.WorkloadFile.{kind_named, wakes_of, wake_rules, wake_rows}
 use Rattle.release_file.specs.ReleaseFile.{jobs_of, releases_of, release_rules, release_rows}
 
 abbrev part : ℕ → Parent → List NamedTask → PartView
@@ -49,6 +50,24 @@ a_blocks = codes "3" ∷ codes "A" ∷ codes "block" ∷ []
 
 abbrev a_wakes : ℕ → Row
 a_wakes digit = (digit ∷ []) ∷ codes "A" ∷ codes "wake" ∷ []
+
+-- each word and what it does
+the_words : (word : List ℕ)
+    → (is_some (kind_named word)
+    ≡ bytes_eq word (codes "start") || bytes_eq word (codes "wake") || bytes_eq word (codes "block"))
+    × (unwrap_or (kind_named word) Block
+    ≡ (if bytes_eq word (codes "start") then Start else if bytes_eq word (codes "wake") then ToWake else Block))
+the_words word =
+    told (bytes_eq word (codes "start")) (bytes_eq word (codes "wake")) (bytes_eq word (codes "block"))
+  where
+    told : (s w b : Bool)
+        → (is_some (if s then Some Start else if w then Some ToWake else if b then Some Block else None) ≡ s || w || b)
+        × (unwrap_or (if s then Some Start else if w then Some ToWake else if b then Some Block else None) Block
+        ≡ (if s then Start else if w then ToWake else Block))
+    told true w b = (refl, refl)
+    told false true b = (refl, refl)
+    told false false true = (refl, refl)
+    told false false false = (refl, refl)
 
 they_spell : wakes_of host (a_starts ∷ a_blocks ∷ a_wakes 53 ∷ [])
     ≡ record { at = 0; vcpu = 0; what = Start } ∷ record { at = 3; vcpu = 0; what = Block }

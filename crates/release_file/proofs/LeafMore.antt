@@ -24,6 +24,10 @@ job_same js more i l = get_or_append_left js more default_job i l
 job_last : (js : List Job) (j : Job) → job_at (js ++ j ∷ []) (length js) ≡ j
 job_last js j = get_or-append_seam js j [] default_job
 
+-- a number that is told up to the greatest of 64 bits, and within a smaller limit
+pub is_told : (n k limit : ℕ) → n ≡ min k (2 ^ 64 - 1) → n ≤ limit → limit < 2 ^ 64 - 1 → n ≡ k
+is_told n k limit e l few = omega (arith, e, l, few)
+
 -- a test that passes nowhere
 none_any : {A : Type 0} (p : A → Bool) (xs : List A) (d : A) → ((i : ℕ) → i < length xs → p (get_or xs i d) ≡ false)
     → list_any p xs ≡ false

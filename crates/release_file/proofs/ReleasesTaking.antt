@@ -16,7 +16,7 @@ use Rattle.csv_rows.specs.Reading.{records_of}
 use Rattle.csv_rows.proofs.Consuming.{few_records}
 use Rattle.csv_rows.specs.Decimal.{number}
 use Rattle.csv_rows.specs.Rules.{row_of, fault_if, RowsKeep, IsFirstFault}
-use Rattle.csv_rows.proofs.Keeping.{length_more, fault_skipped}
+use Rattle.csv_rows.proofs.Keeping.{length_more}
 use Rattle.tree_model.specs.View.{NamedTask, PartView, SystemView}
 use Rattle.tree_model.specs.System.{IsPart, is_leaf, own_tasks, own_tasks_at, part_at, part_names}
 use Rattle.tree_model.specs.Releases.{AreReleases, jobs_at}
@@ -116,120 +116,124 @@ spelt_is sys f part at found slot =
           (number f.early.now);
     }) (sym slot)
 
--- what taking a row gives
-pub took_release : (s a b : ReleaseRows) (rows : List (List (List ℕ))) (row : List (List ℕ)) (f : ReleaseFields)
-    (at part n : ℕ) (leaf next : LeafRows) → HasTakenReleases s a rows → n ≡ row_of (length rows)
-    → all_fields a.version row ≡ fields_in f → is_release_row (fields_in f) ≡ true
-    → at ≡ number f.at.now → at ≤ LIMIT → a.slot ≤ at → Some part ≡ position (bytes_eq f.part.now) a.parts
-    → part < length a.leaves.items → leaf ≡ get_or a.leaves.items part leaf
-    → next.part ≡ leaf.part → IsLeaf next → next.jobs.items ≡ leaf.jobs.items ++ job_in leaf.part.now f at ∷ []
-    → part_fault leaf.part.now leaf.jobs.items (job_in leaf.part.now f at) n ≡ None
-    → b.sys ≡ a.sys → b.version ≡ a.version → b.parts ≡ a.parts → b.slot ≡ at
-    → b.leaves.items ≡ set a.leaves.items part next
-    → (release_rules s.sys.now s.version rows row ≡ None) × HasTakenReleases s b (rows ++ row ∷ [])
-took_release s a b rows row f at part n leaf next h number_is fields plain at_is in_limit in_order found inside leaf_is
-    part_same next_leaf jobs keeps sys version parts slot leaves = (
-      rules,
-      record {
-        system = rw (sys) h.system;
-        sys = sys ∙ h.sys;
-        version = version ∙ h.version;
-        parts = parts ∙ (h.parts ∙ ap (λ z. part_names z.now.parts) (sym sys));
-        slot = slot ∙ sym (ap last_slot more ∙ slot_more R r);
-        one_each =
-            ap (λ (z : List LeafRows). length z) leaves
-            ∙ (length-set a.leaves.items part next ∙ (h.one_each ∙ ap (λ z. length z.now.parts) (sym sys)));
-        leaves =
-            λ q d l. subst (λ (z : List Release). IsLeafOf b.sys.now z q (get_or b.leaves.items q d)) (sym more)
-            (subst (λ (z : List LeafRows). IsLeafOf b.sys.now (R ++ r ∷ []) q (get_or z q d)) (sym leaves)
-            (subst (λ z. IsLeafOf z.now (R ++ r ∷ []) q (get_or (set a.leaves.items part next) q d)) (sym sys)
-            (each q d (omega (arith, l, ap (λ z. length z.now.parts) sys)))));
-      },
-    )
-  where
-    S : SystemView
-    S = a.sys.now
+-- a rule that is kept is passed by
+passed : {F : Type 0} (broken : Bool) (fault : F) (later : Option F) → broken ≡ false
+    → fault_if broken fault later ≡ later
+passed broken fault later e = ap (λ (z : Bool). fault_if z fault later) e
 
-    R : List Release
-    R = releases_of s.sys.now s.version rows
+-- a row that names a part, at a slot that is in order
+module _ (s a : ReleaseRows) (rows : List (List (List ℕ))) (row : List (List ℕ)) (f : ReleaseFields) (at part n : ℕ)
+    (leaf : LeafRows) (h : HasTakenReleases s a rows) (number_is : n ≡ row_of (length rows))
+    (fields : all_fields a.version row ≡ fields_in f) (plain : is_release_row (fields_in f) ≡ true)
+    (at_is : at ≡ number f.at.now) (in_limit : at ≤ LIMIT) (in_order : a.slot ≤ at)
+    (found : Some part ≡ position (bytes_eq f.part.now) a.parts) (inside : part < length a.leaves.items)
+    (leaf_is : leaf ≡ get_or a.leaves.items part leaf) where
+  abbrev R : List Release
+  R = releases_of s.sys.now s.version rows
 
-    job : Job
-    job = job_in leaf.part.now f at
+  abbrev r : Release
+  r = record { part = part; job = job_in leaf.part.now f at }
 
-    r : Release
-    r = record { part = part; job = job_in leaf.part.now f at }
+  here : IsLeafOf a.sys.now (releases_of s.sys.now s.version rows) part leaf
+  here =
+      subst (IsLeafOf a.sys.now (releases_of s.sys.now s.version rows) part) (sym leaf_is)
+      (h.leaves part leaf (omega (arith, inside, h.one_each)))
 
-    here : IsLeafOf a.sys.now (releases_of s.sys.now s.version rows) part leaf
-    here =
-        subst (IsLeafOf a.sys.now (releases_of s.sys.now s.version rows) part) (sym leaf_is)
-        (h.leaves part leaf (omega (arith, inside, h.one_each)))
+  same_fields : all_fields s.version row ≡ fields_in f
+  same_fields = ap (λ (v : Version). all_fields v row) (sym h.version) ∙ fields
 
-    same_fields : all_fields s.version row ≡ fields_in f
-    same_fields = ap (λ (v : Version). all_fields v row) (sym h.version) ∙ fields
+  told : release_of s.sys.now (all_fields s.version row) ≡ record { part = part; job = job_in leaf.part.now f at }
+  told =
+      ap (release_of s.sys.now) same_fields ∙ (ap (λ z. release_of z.now (fields_in f)) (sym h.sys)
+      ∙ (spelt_is a.sys.now f part at (found ∙ ap (position (bytes_eq f.part.now)) h.parts) at_is
+      ∙ ap (λ (p : PartView). record { part = part; job = job_in p f at }) (sym here.part_is)))
 
-    told : release_of s.sys.now (all_fields s.version row) ≡ record { part = part; job = job_in leaf.part.now f at }
-    told =
-        ap (release_of s.sys.now) same_fields ∙ (ap (λ z. release_of z.now (fields_in f)) (sym h.sys)
-        ∙ (spelt_is a.sys.now f part at (found ∙ ap (position (bytes_eq f.part.now)) h.parts) at_is
-        ∙ ap (λ (p : PartView). record { part = part; job = job_in p f at }) (sym here.part_is)))
+  -- the rules of the row are those of its part
+  pub rules_of_part : release_rules s.sys.now s.version rows row
+      ≡ part_fault leaf.part.now leaf.jobs.items (job_in leaf.part.now f at) n
+  rules_of_part =
+      ap (λ (z : List (List ℕ)). fault_if (not (is_release_row z)) (BadRow (row_of (length rows)))
+      (release_fault s.sys.now R (release_of s.sys.now (all_fields s.version row)))) same_fields
+      ∙ (passed (not (is_release_row (fields_in f))) (BadRow (row_of (length rows))) _ (ap not plain)
+      ∙ (ap (λ (x : Release). release_fault s.sys.now (releases_of s.sys.now s.version rows) x) told
+      ∙ (passed (nat_lt LIMIT at) (OutOfRange (row_of (length R))) _ (le-ltb LIMIT at in_limit)
+      ∙ (passed (nat_lt at (last_slot R)) (BadOrder (row_of (length R))) _
+      (le-ltb at (last_slot R) (omega (arith, in_order, h.slot)))
+      ∙ (ap (λ z. part_fault (part_at z.now part) (jobs_of part R) (job_in leaf.part.now f at) (row_of (length R)))
+      (sym h.sys)
+      ∙ (ap (λ (p : PartView). part_fault p (jobs_of part R) (job_in leaf.part.now f at) (row_of (length R)))
+      (sym here.part_is)
+      ∙ (ap (λ (js : List Job). part_fault leaf.part.now js (job_in leaf.part.now f at) (row_of (length R)))
+      (sym here.jobs_are)
+      ∙ ap (part_fault leaf.part.now leaf.jobs.items (job_in leaf.part.now f at))
+      (ap row_of (length-map rows (λ (x : List (List ℕ)). release_of s.sys.now (all_fields s.version x)))
+      ∙ sym number_is))))))))
 
-    more : releases_of s.sys.now s.version (rows ++ row ∷ [])
-        ≡ releases_of s.sys.now s.version rows ++ record { part = part; job = job_in leaf.part.now f at } ∷ []
-    more =
-        releases_more s.sys.now s.version rows row
-        ∙ ap (λ (x : Release). releases_of s.sys.now s.version rows ++ x ∷ []) told
+  -- what taking it gives
+  pub took_release : (b : ReleaseRows) (next : LeafRows)
+      → next.part ≡ leaf.part → IsLeaf next → next.jobs.items ≡ leaf.jobs.items ++ job_in leaf.part.now f at ∷ []
+      → part_fault leaf.part.now leaf.jobs.items (job_in leaf.part.now f at) n ≡ None
+      → b.sys ≡ a.sys → b.version ≡ a.version → b.parts ≡ a.parts → b.slot ≡ at
+      → b.leaves.items ≡ set a.leaves.items part next
+      → (release_rules s.sys.now s.version rows row ≡ None) × HasTakenReleases s b (rows ++ row ∷ [])
+  took_release b next part_same next_leaf jobs keeps sys version parts slot leaves = (
+    rules_of_part ∙ keeps,
+    record {
+      system = rw (sys) h.system;
+      sys = sys ∙ h.sys;
+      version = version ∙ h.version;
+      parts = parts ∙ (h.parts ∙ ap (λ z. part_names z.now.parts) (sym sys));
+      slot = slot ∙ sym (ap last_slot more ∙ slot_more R r);
+      one_each =
+          ap (λ (z : List LeafRows). length z) leaves
+          ∙ (length-set a.leaves.items part next ∙ (h.one_each ∙ ap (λ z. length z.now.parts) (sym sys)));
+      leaves =
+          λ q d l. subst (λ (z : List Release). IsLeafOf b.sys.now z q (get_or b.leaves.items q d)) (sym more)
+          (subst (λ (z : List LeafRows). IsLeafOf b.sys.now (R ++ r ∷ []) q (get_or z q d)) (sym leaves)
+          (subst (λ z. IsLeafOf z.now (R ++ r ∷ []) q (get_or (set a.leaves.items part next) q d)) (sym sys)
+          (each q d (omega (arith, l, ap (λ z. length z.now.parts) sys)))));
+    },
+  )
+    where
+      more : releases_of s.sys.now s.version (rows ++ row ∷ [])
+          ≡ releases_of s.sys.now s.version rows ++ record { part = part; job = job_in leaf.part.now f at } ∷ []
+      more =
+          releases_more s.sys.now s.version rows row
+          ∙ ap (λ (x : Release). releases_of s.sys.now s.version rows ++ x ∷ []) told
 
-    rules : release_rules s.sys.now s.version rows row ≡ None
-    rules =
-        ap (λ (z : List (List ℕ)). fault_if (not (is_release_row z)) (BadRow (row_of (length rows)))
-        (release_fault s.sys.now R (release_of s.sys.now (all_fields s.version row)))) same_fields
-        ∙ (fault_skipped (not (is_release_row (fields_in f))) (BadRow (row_of (length rows))) _ (ap not plain)
-        (ap (λ (x : Release). release_fault s.sys.now (releases_of s.sys.now s.version rows) x) told
-        ∙ (fault_skipped (nat_lt LIMIT at) (OutOfRange (row_of (length R))) _ (le-ltb LIMIT at in_limit)
-        (fault_skipped (nat_lt at (last_slot R)) (BadOrder (row_of (length R))) _
-        (le-ltb at (last_slot R) (omega (arith, in_order, h.slot)))
-        (ap (λ z. part_fault (part_at z.now part) (jobs_of part R) (job_in leaf.part.now f at) (row_of (length R)))
-        (sym h.sys)
-        ∙ (ap (λ (p : PartView). part_fault p (jobs_of part R) (job_in leaf.part.now f at) (row_of (length R)))
-        (sym here.part_is)
-        ∙ (ap (λ (js : List Job). part_fault leaf.part.now js (job_in leaf.part.now f at) (row_of (length R)))
-        (sym here.jobs_are)
-        ∙ (ap (part_fault leaf.part.now leaf.jobs.items (job_in leaf.part.now f at))
-        (ap row_of (length-map rows (λ (x : List (List ℕ)). release_of s.sys.now (all_fields s.version x)))
-        ∙ sym number_is) ∙ keeps))))))))
-
-    each : (q : ℕ) (d : LeafRows) → q < length a.sys.now.parts
-        → IsLeafOf a.sys.now
-        (releases_of s.sys.now s.version rows ++ record { part = part; job = job_in leaf.part.now f at } ∷ []) q
-        (get_or (set a.leaves.items part next) q d)
-    each q d l = elim (cases_eq q part) [
-      | inl e ↦
-          subst (IsLeafOf a.sys.now (R ++ r ∷ []) q) (sym (ap (λ (z : ℕ). get_or (set a.leaves.items part next) z d) e
-          ∙ get_or-set_same a.leaves.items part next d inside)) (record {
-            leaf_is = next_leaf;
-            part_is = ap (λ z. z.now) part_same ∙ (here.part_is ∙ ap (part_at a.sys.now) (sym e));
-            jobs_are =
-                jobs
-                ∙ (ap (λ (z : List Job). z ++ job_in leaf.part.now f at ∷ [])
-                (here.jobs_are ∙ ap (λ (z : ℕ). jobs_of z R) (sym e))
-                ∙ sym (jobs_more q R r
-                ∙ ap (λ (z : List Job). jobs_of q R ++ z) (one_job q r
-                ∙ ap (λ (z : Bool). cond z (job_in leaf.part.now f at ∷ []) []) (eq-eqb part q (sym e)))));
-          })
-      | inr ne ↦
-          let old = h.leaves q d l in
-          subst (IsLeafOf a.sys.now (R ++ r ∷ []) q) (sym (get_or-set_other a.leaves.items part q next d ne)) (record {
-            leaf_is = old.leaf_is;
-            part_is = old.part_is;
-            jobs_are =
-                old.jobs_are
-                ∙ (sym (append-nil (jobs_of q R))
-                ∙ sym (jobs_more q R r
-                ∙ ap (λ (z : List Job). jobs_of q R ++ z) (one_job q r
-                ∙ ap (λ (z : Bool). cond z (job_in leaf.part.now f at ∷ []) [])
-                (ne_eqb part q (λ e. ne (sym e))))));
-          })
-    ]
+      each : (q : ℕ) (d : LeafRows) → q < length a.sys.now.parts
+          → IsLeafOf a.sys.now
+          (releases_of s.sys.now s.version rows ++ record { part = part; job = job_in leaf.part.now f at } ∷ []) q
+          (get_or (set a.leaves.items part next) q d)
+      each q d l = elim (cases_eq q part) [
+        | inl e ↦
+            subst (IsLeafOf a.sys.now (R ++ r ∷ []) q) (sym (ap (λ (z : ℕ). get_or (set a.leaves.items part next) z d) e
+            ∙ get_or-set_same a.leaves.items part next d inside)) (record {
+              leaf_is = next_leaf;
+              part_is = ap (λ z. z.now) part_same ∙ (here.part_is ∙ ap (part_at a.sys.now) (sym e));
+              jobs_are =
+                  jobs
+                  ∙ (ap (λ (z : List Job). z ++ job_in leaf.part.now f at ∷ [])
+                  (here.jobs_are ∙ ap (λ (z : ℕ). jobs_of z R) (sym e))
+                  ∙ sym (jobs_more q R r
+                  ∙ ap (λ (z : List Job). jobs_of q R ++ z) (one_job q r
+                  ∙ ap (λ (z : Bool). cond z (job_in leaf.part.now f at ∷ []) []) (eq-eqb part q (sym e)))));
+            })
+        | inr ne ↦
+            let old = h.leaves q d l in
+            subst (IsLeafOf a.sys.now (R ++ r ∷ []) q)
+            (sym (get_or-set_other a.leaves.items part q next d ne)) (record {
+              leaf_is = old.leaf_is;
+              part_is = old.part_is;
+              jobs_are =
+                  old.jobs_are
+                  ∙ (sym (append-nil (jobs_of q R))
+                  ∙ sym (jobs_more q R r
+                  ∙ ap (λ (z : List Job). jobs_of q R ++ z) (one_job q r
+                  ∙ ap (λ (z : Bool). cond z (job_in leaf.part.now f at ∷ []) [])
+                  (ne_eqb part q (λ e. ne (sym e))))));
+            })
+      ]
 
 -- the rows behind a header
 behind_header : (records : List (List (List ℕ))) (header : List (List ℕ)) (rows : List (List (List ℕ)))

@@ -1,19 +1,31 @@
 -- The rows of a workload that were read.
-use Rattle.std.proofs.Common.{◌≡◌, ℕ, true, List, [], ◌∷◌, ◌++◌, length, Option, Some, None, refl, sym, ◌∙◌, ap, subst, arith, replicate}
+use Rattle.std.proofs.Common.{◌≡◌, ℕ, Bool, true, not, List, [], ◌∷◌, ◌++◌, length, Option, Some, None, refl, sym, ◌∙◌, ap, subst, arith, replicate}
 use Rattle.std.proofs.lemmas.List.{map-append, get_or-replicate, length-replicate}
-use Rattle.csv_rows.specs.Rules.{RowsKeep, IsFirstFault}
+use Rattle.csv_rows.specs.Rules.{RowsKeep, IsFirstFault, fault_if, row_of}
 use Rattle.tree_model.specs.View.{SystemView}
 use Rattle.release_file.specs.declared.fault.ReleaseFault.{ReleaseFault}
+use Rattle.release_file.specs.declared.fault.ReleaseFault.TheVariants.{BadRow}
 use Rattle.release_file.specs.declared.workload.Wake.{Wake}
 use Rattle.release_file.specs.declared.wake_rows.WakeRows.{WakeRows}
 use Rattle.release_file.specs.Workload.{row_at, is_of, IsWorkload}
-use Rattle.release_file.specs.WorkloadFile.{wake_of, wakes_of, wake_rules, is_wake_header, wake_rows, SpellsWorkload, IsWorkloadFault}
+use Rattle.release_file.specs.WorkloadFile.{is_wake_row, wake_of, wakes_of, wake_fault, wake_rules, is_wake_header, wake_rows, SpellsWorkload, IsWorkloadFault}
 use Rattle.release_file.specs.WakesTaken.{last_at, IsBehind, HasTakenWakes}
 use Rattle.csv_rows.proofs.Last.{last_below-zero}
 
 pub wakes_more : (sys : SystemView) (rows : List (List (List ℕ))) (row : List (List ℕ))
     → wakes_of sys (rows ++ row ∷ []) ≡ wakes_of sys rows ++ wake_of sys row ∷ []
 wakes_more sys rows row = map-append (wake_of sys) rows (row ∷ [])
+
+-- the first rule that a row breaks, told of what is kept of the rows before it
+pub row_breaks : (start now : WakeRows) (rows : List (List (List ℕ))) (row : List (List ℕ)) (fault : ReleaseFault)
+    → HasTakenWakes start now rows → is_wake_row row ≡ true
+    → wake_fault now.sys.now now.wakes.items (wake_of now.sys.now row) ≡ Some fault
+    → wake_rules start.sys.now rows row ≡ Some fault
+row_breaks start now rows row fault has is breaks =
+    ap (λ (z : Bool). fault_if (not z) (BadRow (row_of (length rows)))
+    (wake_fault start.sys.now (wakes_of start.sys.now rows) (wake_of start.sys.now row))) is
+    ∙ (ap (λ z. wake_fault z.now (wakes_of start.sys.now rows) (wake_of z.now row)) (sym has.sys)
+    ∙ (ap (λ (z : List Wake). wake_fault now.sys.now z (wake_of now.sys.now row)) (sym has.wakes) ∙ breaks))
 
 -- before the first row
 pub no_rows : (sys : SystemView) → IsWorkload sys []

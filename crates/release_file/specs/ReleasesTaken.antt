@@ -1,5 +1,5 @@
 -- What is kept of the rows of a release file that were read.
-use Rattle.std.specs.Prelude.{◌≡◌, ◌≢◌, ℕ, ◌+◌, ◌<◌, ◌≤◌, Bool, false, ◌&&◌, nat_lt, nat_le, List, [], ◌∷◌, length, slice_index_or, Option, Some, None}
+use Rattle.std.specs.Prelude.{◌≡◌, ◌≢◌, ℕ, ◌+◌, ◌-◌, ◌^◌, min, ◌<◌, ◌≤◌, Bool, false, ◌&&◌, nat_lt, nat_le, List, [], ◌∷◌, length, slice_index_or, Option, Some, None}
 use Rattle.slot_model.specs.declared.job.Job.{Job}
 use Rattle.slot_model.specs.Task.{SporadicTask, early_job, job_at}
 use Rattle.csv_rows.specs.Decimal.{number}
@@ -9,11 +9,18 @@ use Rattle.tree_model.specs.System.{IsPart, IsSystem, own_tasks, part_at, part_n
 use Rattle.release_file.specs.declared.leaf_rows.LeafRows.{LeafRows}
 use Rattle.release_file.specs.declared.release_rows.ReleaseRows.{ReleaseRows}
 use Rattle.release_file.specs.declared.release_spelling.ReleaseFields.{ReleaseFields}
+use Rattle.release_file.specs.declared.release_spelling.ReleaseNumbers.{ReleaseNumbers}
 use Rattle.release_file.specs.ReleaseFile.{Release, jobs_of, last_slot, releases_of, task_names, task_place}
 
 -- the five fields of a row
 abbrev pub fields_in : ReleaseFields → List (List ℕ)
 fields_in f = f.at.now ∷ f.part.now ∷ f.task.now ∷ f.work.now ∷ f.early.now ∷ []
+
+-- the numbers of a row, each up to the greatest of 64 bits
+pub record AreNumbers (f : ReleaseFields) (numbers : ReleaseNumbers) : Type 0 where
+  pub at : numbers.at ≡ min (number f.at.now) (2 ^ 64 - 1)
+  pub work : numbers.work ≡ min (number f.work.now) (2 ^ 64 - 1)
+  pub early : numbers.early ≡ min (number f.early.now) (2 ^ 64 - 1)
 
 -- the last job of the task at a place, or none
 pub record IsLastJob (jobs : List Job) (task : ℕ) (job : Job) : Type 0 where

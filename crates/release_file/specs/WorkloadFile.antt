@@ -1,6 +1,6 @@
 -- The workload that the records of a file spell. A record is a list of fields, and a field a list
 -- of bytes.
-use Rattle.std.specs.Prelude.{◌≡◌, ℕ, zero, suc, ◌==◌, Bool, false, not, ◌&&◌, ◌||◌, nat_lt, if◌then◌else◌, List, [], ◌∷◌, length, map, Option, Some, None, is_some, codes, bytes_eq}
+use Rattle.std.specs.Prelude.{◌≡◌, ℕ, zero, suc, ◌==◌, Bool, false, not, ◌&&◌, nat_lt, if◌then◌else◌, List, [], ◌∷◌, length, map, Option, Some, None, is_some, unwrap_or, codes, bytes_eq}
 use Rattle.slot_model.specs.declared.task.TheConstants.{LIMIT}
 use Rattle.csv_rows.specs.Decimal.{is_plain, number}
 use Rattle.csv_rows.specs.Rules.{RulesOf, RowsKeep, IsFirstFault, row_of, fault_if}
@@ -15,25 +15,22 @@ use Rattle.release_file.specs.declared.workload.WakeKind.TheVariants.{Start, Wak
 use Rattle.release_file.specs.Workload.{row_at, last_row, is_of, may_follow}
 
 -- the three words
-abbrev pub is_kind : List ℕ → Bool
-is_kind word =
-    bytes_eq word (codes "start") || bytes_eq word (codes "wake") || bytes_eq word (codes "block")
-
-abbrev pub kind_of : List ℕ → WakeKind
-kind_of word =
-    if bytes_eq word (codes "start") then Start
-    else if bytes_eq word (codes "wake") then ToWake
-    else Block
+abbrev pub kind_named : List ℕ → Option WakeKind
+kind_named word =
+    if bytes_eq word (codes "start") then Some Start
+    else if bytes_eq word (codes "wake") then Some ToWake
+    else if bytes_eq word (codes "block") then Some Block
+    else None
 
 -- a row has three fields: a plain number, a VCPU and a word
 abbrev pub is_wake_row : List (List ℕ) → Bool
-is_wake_row (at ∷ vcpu ∷ what ∷ []) = is_plain at && is_kind what
+is_wake_row (at ∷ vcpu ∷ what ∷ []) = is_plain at && is_some (kind_named what)
 is_wake_row _ = false
 
 -- what such a row spells
 abbrev pub wake_of : SystemView → List (List ℕ) → Wake
 wake_of sys (at ∷ vcpu ∷ what ∷ []) =
-    record { at = number at; vcpu = part_place sys vcpu; what = kind_of what }
+    record { at = number at; vcpu = part_place sys vcpu; what = unwrap_or (kind_named what) Block }
 wake_of sys _ = record { at = 0; vcpu = 0; what = Start }
 
 abbrev pub wakes_of : SystemView → List (List (List ℕ)) → List Wake

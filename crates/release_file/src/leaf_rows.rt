@@ -3,11 +3,10 @@ ghost use Rattle.csv_rows.specs.Decimal.{number};
 ghost use Rattle.slot_model.specs.Task.{early_job, sporadic_task};
 ghost use Rattle.tree_model.specs.System.{AreDistinct};
 ghost use Rattle.release_file.specs.ReleaseFile.{task_names};
-ghost use Rattle.release_file.specs.ReleasesTaken.{fits_numbers, follows_too_soon};
+ghost use Rattle.release_file.specs.ReleasesTaken.{AreNumbers, fits_numbers, follows_too_soon};
 
 use crate::ReleaseFault;
-use crate::release_spelling::ReleaseFields;
-use csv_rows::number;
+use crate::release_spelling::{ReleaseFields, ReleaseNumbers};
 use slot_model::{Job, Task};
 use std::alloc::{AllocError, Global};
 use trace_file::Places;
@@ -43,7 +42,7 @@ impl<'s> LeafRows<'s> {
     ghost use Rattle.tree_model.specs.System.{IsPart, own_tasks};
     ghost use Rattle.release_file.specs.declared.fault.ReleaseFault.TheVariants.{NoMemory};
     ghost use Rattle.release_file.specs.ReleaseFile.{part_fault, job_fault};
-    ghost use Rattle.release_file.specs.ReleasesTaken.{IsLeaf, job_in};
+    ghost use Rattle.release_file.specs.ReleasesTaken.{AreNumbers, IsLeaf, job_in};
 
     /// Before the first row.
     pub fn new(alloc: Global, part: &'s Part) -> Result<LeafRows<'s>, AllocError>
@@ -61,27 +60,35 @@ impl<'s> LeafRows<'s> {
         })
     }
 
-    /// Takes the job of a row, at this slot, where it keeps the rules.
-    pub fn keep(&mut self, fields: &ReleaseFields, at: u64, row: u64) -> Result<(), ReleaseFault>
-        requires { IsLeaf self.old }
+    /// Takes the job of a row, which has these numbers, where it keeps the rules.
+    pub fn keep(
+        &mut self,
+        fields: &ReleaseFields,
+        numbers: &ReleaseNumbers,
+        row: u64,
+    ) -> Result<(), ReleaseFault>
+        requires leaf { IsLeaf self.old }
+        requires numbers { AreNumbers fields.now numbers.now }
         ensures part { self.new.part ≡ self.old.part }
         ensures leaf { OnOk result (IsLeaf self.new) }
-        ensures jobs { let job = job_in self.old.part.now fields.now at in
+        ensures jobs { let job = job_in self.old.part.now fields.now numbers.now.at in
             OnOk result (self.new.jobs.items ≡ self.old.jobs.items ++ job ∷ []) }
-        ensures kept { let part = self.old.part.now in let job = job_in part fields.now at in
+        ensures kept { let part = self.old.part.now in
+            let job = job_in part fields.now numbers.now.at in
             OnOk result (part_fault part self.old.jobs.items job row ≡ None) }
-        ensures fault { let part = self.old.part.now in let job = job_in part fields.now at in
+        ensures fault { let part = self.old.part.now in
+            let job = job_in part fields.now numbers.now.at in
             IfErr result (λ fault. (fault ≡ NoMemory)
             ⊎ (part_fault part self.old.jobs.items job row ≡ Some fault)) }
     {
-        let Some(task) = self.names.find(fields.task) else {
+        let Some(place) = self.names.find(fields.task) else {
             return Err(ReleaseFault::Unknown(row));
         };
-        let numbers = self.part.tasks()[task].task();
-        let Some(job) = job_of(task as u32, &numbers, fields, at) else {
+        let task = self.part.tasks()[place].task();
+        let Some(job) = job_of(place as u32, &task, fields, numbers) else {
             return Err(ReleaseFault::OutOfRange(row));
         };
-        self.put(job, numbers.period, row)
+        self.put(job, task.period, row)
     }
 
     /// The same of a job that fits its task, which has this period.
@@ -109,30 +116,25 @@ impl<'s> LeafRows<'s> {
     }
 }
 
-/// The job of a row at this slot, of the task at this place, where it fits its numbers.
-fn job_of(task: u32, numbers: &Task, fields: &ReleaseFields, at: u64) -> Option<Job>
+/// The job of a row, of the task at this place, where it fits the task.
+fn job_of(place: u32, task: &Task, fields: &ReleaseFields, numbers: &ReleaseNumbers) -> Option<Job>
+    requires { AreNumbers fields.now numbers.now }
     ensures made { let f = fields.now in IfSome result (λ job.
-        job ≡ early_job task at (number f.work.now) (number f.early.now)) }
+        job ≡ early_job place numbers.now.at (number f.work.now) (number f.early.now)) }
     ensures fits { IfSome result
-        (λ job. fits_numbers (sporadic_task numbers.now) job ≡ true) }
+        (λ job. fits_numbers (sporadic_task task.now) job ≡ true) }
     ensures refused { let f = fields.now in IfNone result
-        (fits_numbers (sporadic_task numbers.now)
-        (early_job task at (number f.work.now) (number f.early.now)) ≡ false) }
+        (fits_numbers (sporadic_task task.now)
+        (early_job place numbers.now.at (number f.work.now) (number f.early.now)) ≡ false) }
 {
-    let Some(work) = number(fields.work, numbers.work) else {
-        return None;
-    };
-    let Some(early) = number(fields.early, numbers.jitter) else {
-        return None;
-    };
-    if work == 0 {
+    if numbers.work == 0 || numbers.work > task.work || numbers.early > task.jitter {
         return None;
     }
     Some(Job {
-        task,
-        release: at,
-        work,
-        early,
+        task: place,
+        release: numbers.at,
+        work: numbers.work,
+        early: numbers.early,
     })
 }
 

@@ -4,8 +4,8 @@ ghost use Rattle.release_file.specs.ReleasesTaken.{AreEmptyLeaves};
 
 use crate::ReleaseFault;
 use crate::leaf_rows::LeafRows;
-use crate::release_spelling::{Version, are_plain, release_fields};
-use csv_rows::{Row, RowRules, number as number_of};
+use crate::release_spelling::{Version, release_fields, release_numbers};
+use csv_rows::{Row, RowRules};
 use slot_model::{Job, LIMIT};
 use std::alloc::{AllocError, Global};
 use trace_file::{Places, part_places};
@@ -42,22 +42,22 @@ impl<'s> RowRules for ReleaseRows<'s> {
         let Some(fields) = release_fields(self.version, row) else {
             return Err(ReleaseFault::BadRow(number));
         };
-        if !are_plain(&fields) {
+        let Some(numbers) = release_numbers(&fields) else {
             return Err(ReleaseFault::BadRow(number));
-        }
-        let Some(at) = number_of(fields.at, LIMIT) else {
-            return Err(ReleaseFault::OutOfRange(number));
         };
-        if at < self.slot {
+        if numbers.at > LIMIT {
+            return Err(ReleaseFault::OutOfRange(number));
+        }
+        if numbers.at < self.slot {
             return Err(ReleaseFault::BadOrder(number));
         }
         let Some(part) = self.parts.find(fields.part) else {
             return Err(ReleaseFault::Unknown(number));
         };
-        if let Err(fault) = self.leaves[part].keep(&fields, at, number) {
+        if let Err(fault) = self.leaves[part].keep(&fields, &numbers, number) {
             return Err(fault);
         }
-        self.slot = at;
+        self.slot = numbers.at;
         Ok(())
     }
 

@@ -1,9 +1,10 @@
-ghost use Rattle.std.specs.Prelude.{◌≡◌, ◌≢◌, length, if◌then◌else◌, Some, None, MatchOption};
+ghost use Rattle.std.specs.Prelude.{◌≡◌, ◌≢◌, ◌-◌, ◌^◌, min, true, false, length, if◌then◌else◌, Some, None, MatchOption};
+ghost use Rattle.csv_rows.specs.Decimal.{is_plain, number};
 ghost use Rattle.csv_rows.specs.Row.{fields_of};
 ghost use Rattle.release_file.specs.ReleaseFile.{all_fields, is_release_row, are_names, header_version};
-ghost use Rattle.release_file.specs.ReleasesTaken.{fields_in};
+ghost use Rattle.release_file.specs.ReleasesTaken.{AreNumbers, fields_in};
 
-use csv_rows::{Row, field, is_plain, is_word};
+use csv_rows::{Plain, Row, field, is_word, plain_number};
 
 /// The version of a release file, which its header tells.
 #[derive(Clone, Copy, Debug, PartialEq, Eq)]
@@ -67,11 +68,37 @@ fn five_fields<'r>(row: &Row<'r>) -> Option<ReleaseFields<'r>>
     })
 }
 
-/// Whether the numbers of a row are plain.
-pub fn are_plain(fields: &ReleaseFields) -> bool
-    ensures { result ≡ is_release_row (fields_in fields.now) }
+/// The numbers of a row. In place of one past 64 bits stands the greatest of these.
+#[derive(Clone, Copy)]
+pub struct ReleaseNumbers {
+    pub at: u64,
+    pub work: u64,
+    pub early: u64,
+}
+
+/// The number of a field that is a plain one, up to the greatest of 64 bits.
+fn capped_number(field: &[u8]) -> Option<u64>
+    ensures { MatchOption result
+        (is_plain field.now ≡ false)
+        (λ n. (is_plain field.now ≡ true) × (n ≡ min (number field.now) (2 ^ 64 - 1))) }
 {
-    is_plain(fields.at) && is_plain(fields.work) && is_plain(fields.early)
+    match plain_number(field, u64::MAX) {
+        Plain::No => None,
+        Plain::Past => Some(u64::MAX),
+        Plain::Is(n) => Some(n),
+    }
+}
+
+/// The numbers of a row, where all of them are plain.
+pub fn release_numbers(fields: &ReleaseFields) -> Option<ReleaseNumbers>
+    ensures { let row = fields_in fields.now in MatchOption result
+        (is_release_row row ≡ false)
+        (λ numbers. (is_release_row row ≡ true) × AreNumbers fields.now numbers) }
+{
+    let at = capped_number(fields.at)?;
+    let work = capped_number(fields.work)?;
+    let early = capped_number(fields.early)?;
+    Some(ReleaseNumbers { at, work, early })
 }
 
 fn are_names(fields: &ReleaseFields) -> bool

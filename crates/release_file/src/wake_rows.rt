@@ -6,7 +6,7 @@ use crate::wake_spelling::{SpeltWake, spell_wake};
 use crate::{ReleaseFault, Wake, WakeKind};
 use csv_rows::{Row, RowRules};
 use std::alloc::Global;
-use trace_file::{Places, is_vcpu, part_places};
+use trace_file::{Places, part_places};
 use tree_model::{MAX_PARTS, System};
 
 /// The rows of a workload so far.
@@ -40,6 +40,7 @@ impl<'s> RowRules for WakeRows<'s> {
         match spell_wake(self.sys, &self.parts, row) {
             SpeltWake::Bad => Err(ReleaseFault::BadRow(number)),
             SpeltWake::TooLate => Err(ReleaseFault::OutOfRange(number)),
+            SpeltWake::Unknown(at) => Err(self.unknown_fault(at, number)),
             SpeltWake::Spelled(wake) => self.keep(wake, number),
         }
     }
@@ -50,10 +51,11 @@ impl<'s> RowRules for WakeRows<'s> {
 }
 
 impl<'s> WakeRows<'s> {
-    ghost use Rattle.std.specs.Prelude.{◌≡◌, ◌⊎◌, ◌≤◌, ◌<◌, ◌+◌, ◌∷◌, ◌++◌, [], Some, None, length, true, IfOk, IfErr, OnOk};
+    ghost use Rattle.std.specs.Prelude.{◌≡◌, ◌⊎◌, ◌≤◌, ◌<◌, ◌+◌, ◌∷◌, ◌++◌, [], Some, None, length, true, false, IfOk, IfErr, OnOk};
     ghost use Rattle.slot_model.specs.declared.task.TheConstants.{LIMIT};
     ghost use Rattle.tree_model.specs.System.{IsSystem};
     ghost use Rattle.trace_file.specs.Rules.{is_vcpu};
+    ghost use Rattle.release_file.specs.declared.workload.Wake.{Wake as WakeView};
     ghost use Rattle.release_file.specs.declared.fault.ReleaseFault.TheVariants.{NoMemory};
     ghost use Rattle.csv_rows.specs.Rules.{row_of};
     ghost use Rattle.release_file.specs.WorkloadFile.{turn_fault, wake_fault};
@@ -84,19 +86,32 @@ impl<'s> WakeRows<'s> {
         self.wakes
     }
 
-    /// The first rule that a row breaks, whose slot is in the limit.
+    /// The first rule that a row breaks which names no VCPU, at a slot in the limit.
+    fn unknown_fault(&self, at: u64, number: u64) -> ReleaseFault
+        requires behind { IsBehind self.now.wakes.items self.now }
+        requires in_limit { at ≤ LIMIT }
+        requires row { number ≡ row_of (length self.now.wakes.items) }
+        ensures { (wake : WakeView) → at ≡ wake.at
+            → is_vcpu self.now.sys.now wake.vcpu ≡ false
+            → wake_fault self.now.sys.now self.now.wakes.items wake ≡ Some result }
+    {
+        if at < self.slot {
+            return ReleaseFault::BadOrder(number);
+        }
+        ReleaseFault::Unknown(number)
+    }
+
+    /// The first rule that a row of a VCPU breaks, whose slot is in the limit.
     fn fault(&self, wake: Wake, number: u64) -> Option<ReleaseFault>
         requires system { IsSystem self.now.sys.now }
         requires behind { IsBehind self.now.wakes.items self.now }
         requires in_limit { wake.at ≤ LIMIT }
+        requires vcpu { is_vcpu self.now.sys.now wake.vcpu ≡ true }
         requires row { number ≡ row_of (length self.now.wakes.items) }
         ensures { result ≡ wake_fault self.now.sys.now self.now.wakes.items wake }
     {
         if wake.at < self.slot {
             return Some(ReleaseFault::BadOrder(number));
-        }
-        if !is_vcpu(self.sys, wake.vcpu) {
-            return Some(ReleaseFault::Unknown(number));
         }
         self.turn_fault(wake, number)
     }
@@ -119,11 +134,12 @@ impl<'s> WakeRows<'s> {
         None
     }
 
-    /// Takes a row, where it keeps the rules.
+    /// Takes the row of a VCPU, where it keeps the rules.
     fn keep(&mut self, wake: Wake, number: u64) -> Result<(), ReleaseFault>
         requires system { IsSystem self.old.sys.now }
         requires behind { IsBehind self.old.wakes.items self.old }
         requires in_limit { wake.at ≤ LIMIT }
+        requires vcpu { is_vcpu self.old.sys.now wake.vcpu ≡ true }
         requires row { number ≡ row_of (length self.old.wakes.items) }
         ensures sys { self.new.sys ≡ self.old.sys }
         ensures parts { self.new.parts ≡ self.old.parts }

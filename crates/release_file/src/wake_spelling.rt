@@ -1,13 +1,15 @@
-ghost use Rattle.std.specs.Prelude.{◌≡◌, ◌≢◌, length, MatchOption};
+ghost use Rattle.std.specs.Prelude.{◌≡◌, ◌≢◌, true, false, length, MatchOption};
 ghost use Rattle.csv_rows.specs.Row.{fields_of};
-ghost use Rattle.tree_model.specs.System.{part_names};
-ghost use Rattle.release_file.specs.WorkloadFile.{is_kind, kind_of, is_wake_header};
+ghost use Rattle.tree_model.specs.System.{IsSystem, part_names};
+ghost use Rattle.release_file.specs.WorkloadFile.{kind_named, is_wake_header};
+ghost use Rattle.trace_file.specs.File.{part_place};
+ghost use Rattle.trace_file.specs.Rules.{is_vcpu};
 ghost use Rattle.release_file.specs.WakeSpelt.{IsSpeltWake, wake_fields};
 
 use crate::{Wake, WakeKind};
-use csv_rows::{Row, field, is_plain, is_word, number};
+use csv_rows::{Plain, Row, field, is_word, plain_number};
 use slot_model::LIMIT;
-use trace_file::{Places, part_place};
+use trace_file::{Places, is_vcpu};
 use tree_model::System;
 
 /// The three fields of a row of a workload.
@@ -18,11 +20,13 @@ struct WakeRow<'r> {
     what: &'r [u8],
 }
 
-/// What is made of a record: it is no row, its slot is past the last one, or what the row spells.
+/// What is made of a record: it is no row, its slot is past the last one, it names no VCPU at a
+/// slot, or what the row of a VCPU spells.
 #[derive(Clone, Copy)]
 pub enum SpeltWake {
     Bad,
     TooLate,
+    Unknown(u64),
     Spelled(Wake),
 }
 
@@ -40,50 +44,61 @@ fn three_fields<'r>(fields: &Row<'r>) -> Option<WakeRow<'r>>
     Some(WakeRow { at, vcpu, what })
 }
 
-/// Whether a word is one of the three.
-fn is_kind(word: &[u8]) -> bool
-    ensures { result ≡ is_kind word.now }
-{
-    is_word(word, "start") || is_word(word, "wake") || is_word(word, "block")
-}
-
-/// What a word does to a VCPU. Each other word blocks it.
-fn kind_of(word: &[u8]) -> WakeKind
-    ensures { result ≡ kind_of word.now }
+/// What a word does to a VCPU.
+fn kind_named(word: &[u8]) -> Option<WakeKind>
+    ensures { result ≡ kind_named word.now }
 {
     if is_word(word, "start") {
-        return WakeKind::Start;
+        return Some(WakeKind::Start);
     }
     if is_word(word, "wake") {
-        return WakeKind::Wake;
+        return Some(WakeKind::Wake);
     }
-    WakeKind::Block
+    if is_word(word, "block") {
+        return Some(WakeKind::Block);
+    }
+    None
+}
+
+/// The VCPU of a name.
+fn vcpu_named(sys: &System, parts: &Places, name: &[u8]) -> Option<u32>
+    requires system { IsSystem sys.now }
+    requires parts { parts.now ≡ part_names sys.now.parts }
+    ensures { MatchOption result
+        (is_vcpu sys.now (part_place sys.now name.now) ≡ false)
+        (λ v. (v ≡ part_place sys.now name.now) × (is_vcpu sys.now v ≡ true)) }
+{
+    let place = parts.find(name)?;
+    let vcpu = place as u32;
+    if !is_vcpu(sys, vcpu) {
+        return None;
+    }
+    Some(vcpu)
 }
 
 /// What is made of three fields.
 fn spell_row(sys: &System, parts: &Places, row: &WakeRow) -> SpeltWake
-    requires { parts.now ≡ part_names sys.now.parts }
+    requires system { IsSystem sys.now }
+    requires parts { parts.now ≡ part_names sys.now.parts }
     ensures { IsSpeltWake sys.now (wake_fields row.now) result }
 {
-    if !is_plain(row.at) {
+    let Some(what) = kind_named(row.what) else {
         return SpeltWake::Bad;
-    }
-    if !is_kind(row.what) {
-        return SpeltWake::Bad;
-    }
-    match number(row.at, LIMIT) {
-        None => SpeltWake::TooLate,
-        Some(at) => SpeltWake::Spelled(Wake {
-            at,
-            vcpu: part_place(sys, parts, row.vcpu),
-            what: kind_of(row.what),
-        }),
+    };
+    match plain_number(row.at, LIMIT) {
+        Plain::No => SpeltWake::Bad,
+        Plain::Past => SpeltWake::TooLate,
+        Plain::Is(at) => match vcpu_named(sys, parts, row.vcpu) {
+            None => SpeltWake::Unknown(at),
+            Some(vcpu) => SpeltWake::Spelled(Wake { at, vcpu, what }),
+        },
     }
 }
 
 /// What is made of a record.
 pub fn spell_wake(sys: &System, parts: &Places, fields: &Row) -> SpeltWake
-    requires { parts.now ≡ part_names sys.now.parts }
+    requires system { IsSystem sys.now }
+    requires parts { parts.now ≡ part_names sys.now.parts }
     ensures { IsSpeltWake sys.now (fields_of fields.now) result }
 {
     match three_fields(fields) {

@@ -6,6 +6,7 @@ ghost use Rattle.script_file.specs.Guests.{SpellsGuests, IsGuestFault, IsFirstOt
 
 use crate::{ScriptFault, read_script};
 use admission_session::{Op, Row};
+use csv_rows::row_of;
 use std::alloc::{AllocError, Global};
 use tree_model::{Parent, Part};
 
@@ -54,7 +55,7 @@ fn first_other(rows: &[Row]) -> Option<u64>
 {
     for (i, row) in rows.iter().enumerate() {
         if !is_guest(row) {
-            return Some(i as u64 + 2);
+            return Some(row_of(i as u64));
         }
     }
     None

@@ -29,5 +29,8 @@ returns-in_err-nodes-clause-back c = text_spells
 pub returns-clause-back : goal.returns-clause-back
 returns-clause-back c = text_spells
 
-pub returns-in-Some-clause-back : goal.returns-in-Some-clause-back
-returns-in-Some-clause-back c = text_spells
+pub returns-in-Ok-clause-back : goal.returns-in-Ok-clause-back
+returns-in-Ok-clause-back c = text_spells
+
+pub returns-in-Err-NoMemory-clause-back : goal.returns-in-Err-NoMemory-clause-back
+returns-in-Err-NoMemory-clause-back c = text_spells

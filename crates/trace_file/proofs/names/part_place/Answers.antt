@@ -10,19 +10,19 @@ use Rattle.trace_file.proofs.names.part_place.Goals as goal
 pub returns-in-Some : goal.returns-in-Some
 returns-in-Some c =
     ap (λ (o : Option ℕ). unwrap_or o (length c.args.sys.now.parts))
-    (c.in-Some.ensures.place ∙ ap (position (bytes_eq c.args.name.now)) c.requires)
+    (c.in-Some.ensures.place ∙ ap (position (bytes_eq c.args.name.now)) c.requires.parts)
 
 pub returns-in-None : goal.returns-in-None
 returns-in-None c =
     ap length c.parts-parts.ensures.parts
     ∙ ap (λ (o : Option ℕ). unwrap_or o (length c.args.sys.now.parts))
-    (c.in-None.ensures.place ∙ ap (position (bytes_eq c.args.name.now)) c.requires)
+    (c.in-None.ensures.place ∙ ap (position (bytes_eq c.args.name.now)) c.requires.parts)
 
 pub returns-then-is_part_at : goal.returns-then-is_part_at
 returns-then-is_part_at c =
     let names = part_names c.args.sys.now.parts in
     let (within, name) = (rw c.parts-parts.ensures.parts at c.if-is_part_at.ensures) refl in
     ap (λ (o : Option ℕ). unwrap_or o (length c.args.sys.now.parts)) (sym
-    (stands_as names c.hint-hint.result c.args.name.now (distinct_back (core_names c.args.sys.now.cores)
+    (stands_as names c.of-hint.result c.args.name.now (distinct_back (core_names c.args.sys.now.cores)
     (part_names c.args.sys.now.parts) c.parts-parts.ensures.system.names)
     (let t = length-map c.args.sys.now.parts (λ (z : PartView). z.name) in omega (arith, t, within)) name))
