@@ -1,5 +1,5 @@
--- The search for the least budget under earliest deadline first: a short window cuts off all budgets that
--- are short there.
+-- The search for the least budget under earliest deadline first: a short window cuts off all
+-- budgets that are short there.
 use Rattle.std.proofs.Common.{◌≡◌, ℕ, ◌+◌, ◌-◌, ◌<◌, ◌≤◌, Bool, List, subst, arith, inl, inr}
 use Rattle.std.proofs.lemmas.Bool.{cases_lt}
 use Rattle.slot_model.specs.declared.sched.Sched.TheVariants.{Edf}
@@ -11,7 +11,8 @@ use Rattle.edf_test.specs.Back.{FitsPast, IsLastShort}
 use Rattle.least_budget.specs.Cuts.{IsLeastAt}
 use Rattle.least_budget.proofs.Between.{Grows, IsBetween}
 
--- nothing below `low` passes, `high` passes, and with `low` no window past `last` and up to h is short
+-- nothing below `low` passes, `high` passes, and with `low` no window past `last` and up to h is
+-- short
 pub record IsCutTo (tasks : List SporadicTask) (bound : ℕ → ℕ → ℕ) (most h low high last : ℕ) : Type 0 where
   pub between : IsBetween Edf tasks bound most low high
   pub fits : FitsPast tasks (bound low) last h
