@@ -1,22 +1,17 @@
-ghost use Rattle.std.specs.Prelude.{◌≡◌, ℕ, ◌+◌, ◌*◌, ◌^◌, ◌<◌, ◌≤◌, length, IfSome, MatchOption};
+ghost use Rattle.std.specs.Prelude.{◌≡◌, ℕ, ◌+◌, ◌-◌, ◌*◌, ◌/◌, ◌^◌, ◌<◌, ◌≤◌, max, length, IfSome, MatchOption};
 ghost use Rattle.slot_model.specs.Task.{sporadic_task, sporadic_tasks};
 ghost use Rattle.slot_model.specs.Bound.{dbf};
-ghost use Rattle.edf_test.specs.Rates.{IsSettledPast, rate_up, asked_rate, asked_ahead, given_rate, given_behind, settled_point};
+ghost use Rattle.edf_test.specs.Lines.{HasLine};
+ghost use Rattle.edf_test.specs.Rates.{IsSettledPast, rate_up, asked_rate, given_rate, given_behind, settled_point};
 
 use crate::amount::amount_of;
+use crate::line::Line;
+use crate::lined::LinedLevel;
 use slot_model::Task;
 use supply_bound::Supply;
 
 /// One slot, in the unit of `Line`.
 const ONE: u128 = 1 << 60;
-
-/// The line `slope * t + offset` above the demand bound, or `slope * t - offset` below a supply's
-/// bound, in 2^60 parts of a slot.
-#[derive(Clone, Copy)]
-struct Line {
-    slope: u128,
-    offset: u128,
-}
 
 /// A window, in slots, past which no window asks for more slots than the supply gives at the least:
 /// where the line above the demand bound meets the line below the supply's bound (the classic bound
@@ -31,7 +26,29 @@ pub fn settled_past<S: Supply>(tasks: &[Task], s: &S) -> Option<u128>
         given_rate (S.amount s.now) (S.cycle_of s.now) ≤ asked_rate T)
         (λ last. last ≡ settled_point T (S.bound s.now) (S.amount s.now) (S.cycle_of s.now)) }
 {
-    let asked = demand_line(tasks)?;
+    crossing(demand_line(tasks)?, s)
+}
+
+/// The same by the line of the level, which need not be found for each supply.
+pub fn settled_by<S: Supply>(lined: &LinedLevel, s: &S) -> Option<u128>
+    ensures { let T = sporadic_tasks lined.now.level.tasks.now in
+        IfSome result (λ last. IsSettledPast T (S.bound s.now) last) }
+{
+    crossing(lined.line?, s)
+}
+
+/// Where this line meets the line below the supply's bound: what is at most the line is no more
+/// than the bound from there on.
+fn crossing<S: Supply>(asked: Line, s: &S) -> Option<u128>
+    ensures past { IfSome result (λ last. (x t : ℕ) → last < t →
+        x * 2 ^ 60 ≤ asked.slope * t + asked.offset → x ≤ S.bound s.now t) }
+    ensures exact { let rate = given_rate (S.amount s.now) (S.cycle_of s.now) in
+        let behind = given_behind (S.bound s.now) (S.amount s.now) (S.cycle_of s.now) in
+        MatchOption result
+        (asked.offset ≤ 2 ^ 122 → rate ≤ asked.slope)
+        (λ last. last
+        ≡ max (S.cycle_of s.now) ((asked.offset + behind) / (rate - asked.slope))) }
+{
     let given = supply_line(s);
     if given.slope <= asked.slope {
         return None;
@@ -42,16 +59,9 @@ pub fn settled_past<S: Supply>(tasks: &[Task], s: &S) -> Option<u128>
     Some(if last < cycle { cycle } else { last })
 }
 
-/// A line that the demand bound never passes: each task asks for its work once a period.
-fn demand_line(tasks: &[Task]) -> Option<Line>
-    ensures above { let T = sporadic_tasks tasks.now in
-        IfSome result (λ line. (t : ℕ) → dbf T t * 2 ^ 60 ≤ line.slope * t + line.offset) }
-    ensures slope { IfSome result (λ line. line.slope ≡ asked_rate (sporadic_tasks tasks.now)) }
-    ensures offset { let T = sporadic_tasks tasks.now in
-        MatchOption result
-        (2 ^ 32 ≤ length tasks.now)
-        (λ line. line.offset ≡ asked_ahead T) }
-    ensures small { IfSome result (λ line. line.offset ≤ length tasks.now * 2 ^ 90) }
+/// The line that the demand bound never passes: each task asks for its work once a period.
+pub fn demand_line(tasks: &[Task]) -> Option<Line>
+    ensures { HasLine tasks.now result }
 {
     let mut slope: u128 = 0;
     let mut offset: u128 = 0;

@@ -4,6 +4,7 @@ pub mod Budgets
 mod Testing
 mod Rate
 mod Between
+mod Cuts
 mod ByTask
 mod CommonHit
 pub mod OneAnswer

@@ -8,13 +8,13 @@ use Rattle.edf_test.proofs.Lines.{IsAbove, above_more, rate-push, ahead-push, ah
 use Rattle.edf_test.proofs.settled.demand_line.Goals as goal
 
 -- 2^32 tasks are needed to pass 128 bits
-pub returns-in_err-slope-clause-offset : goal.returns-in_err-slope-clause-offset
-returns-in_err-slope-clause-offset c =
+pub returns-in_err-slope : goal.returns-in_err-slope
+returns-in_err-slope c =
     none_handed_on _ _ _ c.from_residual.ensures
     (omega (arith, c.in_err-slope.ensures, c.loop-task.invariant.slope_small, c.rate_of-rate.ensures.at_most_one))
 
-pub returns-in_err-offset-clause-offset : goal.returns-in_err-offset-clause-offset
-returns-in_err-offset-clause-offset c =
+pub returns-in_err-offset : goal.returns-in_err-offset
+returns-in_err-offset c =
     none_handed_on _ _ _ c.from_residual-in_err-offset.ensures (omega (
       arith,
       c.in_err-offset.ensures,
