@@ -54,7 +54,6 @@ fn spelled_guests(alloc: Global, bytes: &[u8]) -> Result<Vec<Part>, Ending>
 }
 
 // The system with the guests on their cores. It stops where they are not placed.
-#[tactic(auto, using(crate::proofs::Laws::Place::placing_refused))]
 fn placed(alloc: Global, sys: &System, guests: &[Part]) -> Result<System, Ending>
     requires few { length guests.now < 2 ^ 32 }
     ensures placed { IfOk result (IsPlacement sys.now guests.now) }

@@ -1,6 +1,6 @@
 -- What `session` answers: one thing, its statuses, and what it means.
-use Rattle.std.proofs.Common.{◌≡◌, ℕ, zero, suc, List, [], ◌∷◌, Some, refl, sym, ◌∙◌, ap, subst, inl, inr}
-use Rattle.std.specs.Prelude.{slice_get}
+use Rattle.std.proofs.Common.{◌≡◌, ℕ, zero, suc, List, [], ◌∷◌, length, Some, refl, sym, ◌∙◌, ap, arith, subst, inl, inr}
+use Rattle.std.proofs.lemmas.Option.{slice_get_within}
 use Rattle.csv_rows.specs.Reading.{records_of}
 use Rattle.tree_model.specs.declared.plan.Refusal.{Refusal}
 use Rattle.tree_model.specs.View.{SystemView}
@@ -80,9 +80,7 @@ same_answer a b e = cc
 denials_hold : (sys : SystemView) (rows : List RowView) (answers : List Answer) (last : SystemView) → IsSystem sys
     → AreAnswered sys rows answers last → DenialsHold answers
 denials_hold sys [] answers last is h k edited refusal e =
-    let none : slice_get {A = Answer} [] k ≡ Some (Denied edited refusal)
-    = subst (λ (as_told : List Answer). slice_get as_told k ≡ Some (Denied edited refusal)) h.0 e in
-    absurd (cc)
+    absurd (omega (arith, slice_get_within answers k (Denied edited refusal) e, ap (λ (z : List Answer). length z) h.0))
 denials_hold sys (row ∷ rows) [] last is h k edited refusal e = absurd h
 denials_hold sys (row ∷ rows) (answer ∷ answers) last is h zero edited refusal e =
     denial_holds sys row answer h.0 h.1 edited refusal (same_answer answer (Denied edited refusal) e)
