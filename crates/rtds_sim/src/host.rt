@@ -40,7 +40,7 @@ pub fn budget_of(plan: &Plan, v: u32) -> u64
 }
 
 impl Host {
-    ghost use Rattle.std.specs.Prelude.{◌≡◌, ◌≢◌, ℕ, ◌≤◌, ◌<◌, ◌+◌, ◌-◌, ◌++◌, ◌^◌, true, false, List, Option, Some, None, length, slice_set, if◌then◌else◌, OnOk};
+    ghost use Rattle.std.specs.Prelude.{◌≡◌, ◌≢◌, ℕ, ◌≤◌, ◌<◌, ◌+◌, ◌-◌, ◌^◌, false, List, Option, Some, None, length, slice_set, OnOk};
     ghost use Rattle.slot_model.specs.declared.task.TheConstants.{LIMIT};
     ghost use Rattle.tree_model.specs.System.{part_at};
     ghost use Rattle.tree_model.specs.Tree.{budget_at};

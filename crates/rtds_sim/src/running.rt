@@ -47,7 +47,7 @@ impl Host {
     ghost use Rattle.slot_model.specs.Run.{holds};
     ghost use Rattle.slot_model.specs.declared.task.TheConstants.{LIMIT};
     ghost use Rattle.tree_model.specs.declared.place.Place.TheVariants.{Core};
-    ghost use Rattle.tree_model.specs.System.{part_at, IsSystem};
+    ghost use Rattle.tree_model.specs.System.{part_at};
     ghost use Rattle.tree_model.specs.Tree.{is_child, budget_at};
     ghost use Rattle.tree_model.specs.Plans.{IsPlan};
     ghost use Rattle.release_file.specs.declared.workload.Wake.{Wake as RowView};
