@@ -1,8 +1,13 @@
 -- What `?` hands on of a fault, and what is known of a result that is handed on as it is.
-use Rattle.std.proofs.Common.{◌≡◌, Result, Ok, Err, Option, None, MatchOption, sym, subst}
+use Rattle.std.proofs.Common.{◌≡◌, Result, Ok, Err, Option, None, MatchOption, sym, ap, subst}
 use Rattle.std.specs.Prelude.{IfOk, IfErr, IsErrAnd, OnOk}
 
 module _ {T E : Type 0} where
+  -- the result itself
+  pub err_is : (r : Result T E) (fault : E) → IsErrAnd r (λ y. y ≡ fault) → r ≡ Err fault
+  err_is (Ok x) fault h = absurd h
+  err_is (Err y) fault h = ap Err h
+
   pub handed_on : (r : Result T E) (fault : E) (Said : E → Type 0) → IsErrAnd r (λ y. y ≡ fault) → Said fault
       → IfErr r Said
   handed_on (Ok x) fault Said h said = absurd h

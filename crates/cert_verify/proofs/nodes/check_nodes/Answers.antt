@@ -1,7 +1,7 @@
 use Rattle.std.proofs.Common.{◌≡◌, ℕ, ◌∙◌, subst, inl, inr, arith}
 use Rattle.std.proofs.lemmas.Bool.{cases_lt}
 use Rattle.std.proofs.lemmas.List.{get_or_default}
-use Rattle.std.proofs.lemmas.Result.{err_from_is_err_and}
+use Rattle.slot_model.proofs.HandedOn.{err_is}
 use Rattle.tree_model.specs.CertificateView.{NodeView}
 use Rattle.cert_verify.specs.Proves.{no_node, node_at, NodeProves}
 use Rattle.cert_verify.specs.Flaws.{FirstNode, NodeFails}
@@ -9,7 +9,6 @@ use Rattle.cert_verify.proofs.nodes.check_nodes.Goals as goal
 
 pub returns-in_err-check_node-clause-flaw : goal.returns-in_err-check_node-clause-flaw
 returns-in_err-check_node-clause-flaw c =
-    let p = err_from_is_err_and c.from_residual.result c.from_residual.ensures.1 in
     let here : c.node-item.result ≡ node_at c.args.nodes.now c.loop-node.node-index
     = c.node-item.is
     ∙ get_or_default c.args.nodes.now c.loop-node.node-index c.node-item.result no_node (omega arith) in
@@ -23,7 +22,7 @@ returns-in_err-check_node-clause-flaw c =
           subst (λ (node : NodeView). NodeFails c.args.sys.now c.args.budgets.now c.in_err-check_node.field-0.0 node)
           here c.in_err-check_node.ensures.flaw;
     } in
-    rw (p.1, p.2) first
+    rw (err_is c.from_residual.result _ c.from_residual.ensures.1) first
 
 pub loop-node-preserved : goal.loop-node-preserved
 loop-node-preserved c = λ k l. elim (cases_lt k c.loop-node.node-index) [

@@ -1,7 +1,8 @@
 use Rattle.cert_verify.specs.Flaws.{FirstFlaw}
 use Rattle.tree_model.specs.CertificateView.{NodeView, CertificateView}
 use Rattle.std.proofs.Common.{ℕ, List, ◌∙◌, sym, subst, rules, IfOk, ap, Err}
-use Rattle.std.proofs.lemmas.Result.{IfOk-weaker, IfErr-weaker, err_from_is_err_and}
+use Rattle.std.proofs.lemmas.Result.{IfOk-weaker, IfErr-weaker}
+use Rattle.slot_model.proofs.HandedOn.{err_is}
 use Rattle.cert_verify.specs.Proves.{AreNodes, Proves}
 use Rattle.cert_verify.specs.inner.Steps.{BudgetsFit}
 use Rattle.cert_verify.proofs.Admits.{budgets_fit, written_budgets, proves_admits}
@@ -54,10 +55,9 @@ returns-clause-only c =
 
 pub returns-in_err-check_budgets-clause-only : goal.returns-in_err-check_budgets-clause-only
 returns-in_err-check_budgets-clause-only c =
-    let p = err_from_is_err_and c.from_residual.result c.from_residual.ensures.1 in
     let found : FirstFlaw c.args.sys.now c.args.c.now.nodes c.in_err-check_budgets.field-0.0
     = subst (λ (ns : List NodeView). FirstFlaw c.args.sys.now ns c.in_err-check_budgets.field-0.0)
     (c.as_slice-nodes.ensures.value ∙ ap (λ (v : CertificateView). v.nodes) c.c.view_is)
     c.in_err-check_budgets.ensures.flaw in
-    λ flaw h. rw (p.1, p.2)
+    λ flaw h. rw (err_is c.from_residual.result _ c.from_residual.ensures.1)
     (ap Err (one_flaw c.args.sys.now c.args.c.now.nodes c.in_err-check_budgets.field-0.0 flaw found h))

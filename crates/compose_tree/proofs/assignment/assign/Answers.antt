@@ -1,5 +1,5 @@
 use Rattle.std.proofs.Common.{◌∙◌}
-use Rattle.std.proofs.lemmas.Result.{err_from_is_err_and}
+use Rattle.slot_model.proofs.HandedOn.{err_is}
 use Rattle.tree_model.proofs.InRange.{assigned_is_plan}
 use Rattle.tree_model.proofs.Unique.{one_assignment}
 use Rattle.compose_tree.proofs.Settling.{assigned_back, not_unassigned}
@@ -24,18 +24,14 @@ returns-clause-as_composed c =
 
 pub returns-in_err-assign_parts-clause-complete : goal.returns-in_err-assign_parts-clause-complete
 returns-in_err-assign_parts-clause-complete c =
-    λ budgets assigned.
-    let p
-    = err_from_is_err_and c.from_residual-in_err-assign_parts.result
-    c.from_residual-in_err-assign_parts.ensures.1 in
-    rw (p.1, p.2) (not_unassigned c.args.sys.now c.rooms.ensures.system c.in_err-assign_parts.field-0.0
+    let step = c.from_residual-in_err-assign_parts in
+    λ budgets assigned. rw (err_is step.result _ step.ensures.1)
+    (not_unassigned c.args.sys.now c.rooms.ensures.system c.in_err-assign_parts.field-0.0
     c.in_err-assign_parts.ensures.refusal budgets assigned)
 
 pub returns-in_err-assign_parts-clause-as_composed : goal.returns-in_err-assign_parts-clause-as_composed
 returns-in_err-assign_parts-clause-as_composed c =
-    λ budgets admitted.
-    let p
-    = err_from_is_err_and c.from_residual-in_err-assign_parts.result
-    c.from_residual-in_err-assign_parts.ensures.1 in
-    rw (p.1, p.2) (not_unassigned c.args.sys.now c.rooms.ensures.system c.in_err-assign_parts.field-0.0
+    let step = c.from_residual-in_err-assign_parts in
+    λ budgets admitted. rw (err_is step.result _ step.ensures.1)
+    (not_unassigned c.args.sys.now c.rooms.ensures.system c.in_err-assign_parts.field-0.0
     c.in_err-assign_parts.ensures.refusal budgets admitted.assigned)

@@ -1,6 +1,5 @@
 use Rattle.std.proofs.Common.{◌≡◌, ℕ, List, ◌++◌, length, take, drop, sym, ◌∙◌, subst}
-use Rattle.std.proofs.lemmas.Result.{err_from_is_err_and}
-use Rattle.slot_model.proofs.HandedOn.{handed_on}
+use Rattle.slot_model.proofs.HandedOn.{err_is, handed_on}
 use Rattle.tree_model.specs.View.{SystemView}
 use Rattle.tree_model.specs.Admission.{Assigned, Admitted}
 use Rattle.tree_model.proofs.InRange.{assigned_is_plan}
@@ -41,11 +40,9 @@ returns-clause-tight c = admitted_tight c.args.sys.now c.rooms.ensures.system _ 
 
 pub returns-in_err-settle_parts-clause-complete : goal.returns-in_err-settle_parts-clause-complete
 returns-in_err-settle_parts-clause-complete c =
-    λ budgets admitted.
-    let p
-    = err_from_is_err_and c.from_residual-in_err-settle_parts.result
-    c.from_residual-in_err-settle_parts.ensures.1 in
-    rw (p.1, p.2) (not_refused c.args.sys.now c.rooms.ensures.system c.in_err-settle_parts.field-0.0
+    let step = c.from_residual-in_err-settle_parts in
+    λ budgets admitted. rw (err_is step.result _ step.ensures.1)
+    (not_refused c.args.sys.now c.rooms.ensures.system c.in_err-settle_parts.field-0.0
     c.in_err-settle_parts.ensures.refusal budgets admitted)
 
 pub returns-in_err-settle_parts-clause-holds : goal.returns-in_err-settle_parts-clause-holds
@@ -56,9 +53,9 @@ returns-in_err-settle_parts-clause-holds c =
 
 pub returns-in_err-test_cores-clause-complete : goal.returns-in_err-test_cores-clause-complete
 returns-in_err-test_cores-clause-complete c =
-    λ budgets admitted.
-    let p = err_from_is_err_and c.from_residual-in_err-test_cores.result c.from_residual-in_err-test_cores.ensures.1 in
-    rw (p.1, p.2) (not_refused c.args.sys.now c.rooms.ensures.system c.in_err-test_cores.field-0.0
+    let step = c.from_residual-in_err-test_cores in
+    λ budgets admitted. rw (err_is step.result _ step.ensures.1)
+    (not_refused c.args.sys.now c.rooms.ensures.system c.in_err-test_cores.field-0.0
     c.in_err-test_cores.ensures.refusal budgets admitted)
 
 pub returns-in_err-test_cores-clause-holds : goal.returns-in_err-test_cores-clause-holds

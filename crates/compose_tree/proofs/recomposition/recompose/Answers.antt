@@ -1,5 +1,5 @@
 use Rattle.std.proofs.Common.{ℕ, List, sym, ◌∙◌, subst}
-use Rattle.std.proofs.lemmas.Result.{err_from_is_err_and}
+use Rattle.slot_model.proofs.HandedOn.{err_is}
 use Rattle.tree_model.specs.Admission.{Admitted}
 use Rattle.tree_model.proofs.Unique.{one_admission}
 use Rattle.compose_tree.proofs.Settling.{written_back, not_refused}
@@ -7,9 +7,8 @@ use Rattle.compose_tree.proofs.recomposition.recompose.Goals as goal
 
 pub returns-in_err-settle_up-clause-complete : goal.returns-in_err-settle_up-clause-complete
 returns-in_err-settle_up-clause-complete c =
-    λ budgets admitted.
-    let p = err_from_is_err_and c.from_residual.result c.from_residual.ensures.1 in
-    rw (p.1, p.2) (not_refused c.args.sys.now c.settle_up.ensures.system c.in_err-settle_up.field-0.0
+    λ budgets admitted. rw (err_is c.from_residual.result _ c.from_residual.ensures.1)
+    (not_refused c.args.sys.now c.settle_up.ensures.system c.in_err-settle_up.field-0.0
     c.in_err-settle_up.ensures.refusal budgets admitted)
 
 pub returns-clause-plan : goal.returns-clause-plan

@@ -2,10 +2,11 @@ use Rattle.std.proofs.Common.{ℕ, ◌^◌, ◌<◌, ◌-◌, Bool, List, ap, ar
 use Rattle.slot_model.specs.declared.task.Task.{Task}
 use Rattle.slot_model.specs.Task.{SporadicTask, AreConstrained, room_of, task_at, sporadic_tasks}
 use Rattle.slot_model.specs.Order.{ranks_above}
+use Rattle.slot_model.proofs.HandedOn.{none_handed_on}
 use Rattle.slot_model.proofs.Constrained.{are_constrained}
 use Rattle.fp_request.proofs.Parts.{sporadic_tasks-length}
 use Rattle.fp_test.proofs.Jumps.{bound-le, passed_first, passed_more, passed_hit, passed_late, passed_wide, before_reach}
-use Rattle.fp_test.proofs.Answer.{none_answer, room-is, room_fits}
+use Rattle.fp_test.proofs.Answer.{room-is, room_fits}
 use Rattle.fp_test.proofs.hits.hit_of.Goals as goal
 
 pub returns-in_err-asked : goal.returns-in_err-asked
@@ -16,7 +17,7 @@ returns-in_err-asked g c =
     let small : room_of (task_at T c.args.task.now.i) < 2 ^ 128
     = room_fits c.args.task.now.tasks.now c.args.task.now.i c.index-task-task.result c.args.task.now.i_named in
     let laws = g.met.S.Supply.laws c.args.s.now in
-    none_answer above T (g.S.Supply.bound c.args.s.now) c.args.task.now.i c.from_residual.result c.from_residual.ensures
+    none_handed_on _ _ _ c.from_residual.ensures
     (passed_wide above T fits laws c.args.task.now.i 1 (λ u lu l. omega arith)
     (omega (arith, small, c.in_err-asked.ensures)))
 
@@ -28,8 +29,7 @@ returns-in_err-t g c =
     let small : room_of (task_at T c.args.task.now.i) < 2 ^ 128
     = room_fits c.args.task.now.tasks.now c.args.task.now.i c.index-task-task.result c.args.task.now.i_named in
     let laws = g.met.S.Supply.laws c.args.s.now in
-    none_answer above T (g.S.Supply.bound c.args.s.now) c.args.task.now.i c.from_residual-in_err-t.result
-    c.from_residual-in_err-t.ensures
+    none_handed_on _ _ _ c.from_residual-in_err-t.ensures
     (passed_late above T laws c.args.task.now.i c.loop-t.asked (2 ^ 128) c.loop-t.invariant c.in_err-t.ensures small)
 
 pub returns-then-t-end : goal.returns-then-t-end
@@ -55,8 +55,8 @@ returns-in_err-more g c =
     let small : room_of (task_at T c.args.task.now.i) < 2 ^ 128
     = room_fits c.args.task.now.tasks.now c.args.task.now.i c.index-task-task.result c.args.task.now.i_named in
     let laws = g.met.S.Supply.laws c.args.s.now in
-    none_answer above T (g.S.Supply.bound c.args.s.now) c.args.task.now.i c.from_residual-in_err-more.result
-    c.from_residual-in_err-more.ensures (passed_wide above T fits laws c.args.task.now.i c.in_ok-t.t
+    none_handed_on _ _ _ c.from_residual-in_err-more.ensures
+    (passed_wide above T fits laws c.args.task.now.i c.in_ok-t.t
     (before_reach above T laws c.args.task.now.i c.loop-t.asked c.in_ok-t.t c.loop-t.invariant c.in_ok-t.ensures)
     (omega (arith, small, c.in_err-more.ensures)))
 
