@@ -15,7 +15,6 @@ mod session;
 mod trials;
 
 pub use answer::Answer;
-pub use copies::copy_on;
 pub use edited::copy_system;
 pub use fault::EditFault;
 pub use op::Op;

@@ -9,7 +9,6 @@ mod rank;
 mod ranked;
 mod request_bound;
 
-pub use by_terms::{Above, gather, gather_above, request_by};
 pub use fixed::Fixed;
 pub use rank::higher;
 pub use ranked::{RankedLevel, RankedTask};

@@ -2,7 +2,7 @@ ghost use Rattle.std.specs.Prelude.{◌≡◌, ◌<◌, ◌≤◌, length};
 ghost use Rattle.slot_model.specs.Task.{sporadic_tasks, task_at};
 
 use crate::helpers::{OUT, expect, expect_at, job, late_task, task, two_late_tasks, two_tasks};
-use fp_request::{Fixed, gather, gather_above, higher, request, request_by};
+use fp_request::{Fixed, RankedLevel, higher, request};
 use slot_model::{Job, Order, Sched, Task};
 use window_terms::Term;
 
@@ -55,10 +55,9 @@ fn requests_by_terms(rt: HostRuntime) {
         task(&rt, 200, 200, 20),
     ];
     let mut room = [Term::none(); 3];
-    let count = gather(&tasks, &mut room);
+    let level = RankedLevel::gather(Sched::Rm, &tasks, &mut room);
     let mut terms = [Term::none(); 3];
-    let above = gather_above(Sched::Rm, &tasks, &room[..count], 2, &mut terms);
-    expect(&rt, above.is_some(), true);
+    let last = level.task(2, &mut terms);
     for (t, want) in [
         (0, 29),
         (1, 36),
@@ -68,12 +67,7 @@ fn requests_by_terms(rt: HostRuntime) {
         (71, 52),
         (10_000_000_000, 2_600_000_026),
     ] {
-        expect_at(
-            &rt,
-            t,
-            request_by(Sched::Rm, &tasks, 2, &terms, above, t),
-            Some(want),
-        );
+        expect_at(&rt, t, last.request(t), Some(want));
     }
 }
 

@@ -35,6 +35,23 @@ pub fn synchronous_jobs(
     Ok(jobs)
 }
 
+/// The same of few tasks within 1,000,000 slots.
+pub fn jobs_in_reach(
+    alloc: Global,
+    tasks: &[Task],
+    start: u64,
+    span: u64,
+) -> Result<Vec<Job>, AllocError>
+    requires in_reach { start + span ≤ 1000000 }
+    requires few { length tasks.now ≤ 256 }
+    ensures exact { let T = sporadic_tasks tasks.now in
+        IfOk result (λ jobs. jobs.items ≡ synchronous T start span) }
+    ensures legal { IfOk result (λ jobs. LegalRelease (sporadic_tasks tasks.now) jobs.items) }
+    ensures few { IfOk result (λ jobs. length jobs.items ≤ 256000000) }
+{
+    synchronous_jobs(alloc, tasks, start, span)
+}
+
 /// When the next jobs are released, in slots after the start.
 #[derive(Drop)]
 pub struct Due {

@@ -5,5 +5,5 @@
 mod jobs;
 mod multiples;
 
-pub use jobs::synchronous_jobs;
+pub use jobs::{jobs_in_reach, synchronous_jobs};
 pub use multiples::jobs_at_multiples;

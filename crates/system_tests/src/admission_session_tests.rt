@@ -1,5 +1,5 @@
 use crate::helpers::{MEMORY, add_task, inner, name, task};
-use admission_session::{Answer, EditFault, Op, Row, Session, copy_on, copy_system, is_new_leaf};
+use admission_session::{Answer, EditFault, Op, Row, Session, copy_system, is_new_leaf};
 use compose_tree::compose;
 use slot_model::{Sched, Short};
 use std::alloc::Global;
@@ -115,6 +115,5 @@ fn a_row_is_refused_or_denied(rt: HostRuntime) {
 fn a_leaf_whose_name_is_taken_is_no_new_one(rt: HostRuntime) {
     let session = open(&rt, rt.alloc());
     let part = session.system().parts().first().expect(&rt, "a part");
-    let known = copy_on(rt.alloc(), part, Parent::Core(0)).expect(&rt, MEMORY);
-    assert!(rt; !is_new_leaf(session.system(), &known));
+    assert!(rt; !is_new_leaf(session.system(), part));
 }
