@@ -1,13 +1,12 @@
 ghost use Rattle.std.specs.Prelude.{◌≡◌, ◌≤◌, length, map, IfOk};
-ghost use Rattle.slot_model.specs.Task.{sporadic_tasks};
 ghost use Rattle.release_pattern.specs.Multiples.{at_multiples};
 ghost use Rattle.tree_model.specs.System.{own_tasks};
 ghost use Rattle.bulk_host.specs.Host.{full_jobs};
 
 use release_pattern::jobs_at_multiples;
-use slot_model::{Job, Task};
+use slot_model::Job;
 use std::alloc::{AllocError, Global};
-use tree_model::{Part, System};
+use tree_model::{Part, System, own_tasks};
 
 /// The jobs of each part in `slots` slots: every task releases a job of full work at each multiple
 /// of its period, as it arrives, and the jobs stand by release and then by task. An inner part has
@@ -29,16 +28,6 @@ fn jobs_of_part(alloc: Global, part: &Part, slots: u64) -> Result<Vec<Job>, Allo
     requires slots { slots ≤ 1000000 }
     ensures { IfOk result (λ jobs. jobs.items ≡ at_multiples (own_tasks part.now) slots) }
 {
-    let tasks = tasks_of_part(alloc, part)?;
+    let tasks = own_tasks(alloc, part)?;
     jobs_at_multiples(alloc, &tasks, slots)
-}
-
-fn tasks_of_part(alloc: Global, part: &Part) -> Result<Vec<Task>, AllocError>
-    ensures { IfOk result (λ tasks. sporadic_tasks tasks.items ≡ own_tasks part.now) }
-{
-    let mut tasks = Vec::with_capacity(alloc, part.tasks().len())?;
-    for named in part.tasks() {
-        tasks.push(named.task())?;
-    }
-    Ok(tasks)
 }

@@ -1,5 +1,5 @@
 -- What an admission says of a computed leaf, and what is seen when its defeat is run.
-use Rattle.std.proofs.Common.{◌≡◌, ℕ, ◌+◌, ◌-◌, ◌<◌, ◌≤◌, Bool, true, List, length, Option, Some, None, is_none, arith, refl, sym, ◌∙◌, subst}
+use Rattle.std.proofs.Common.{◌≡◌, ℕ, ◌+◌, ◌-◌, ◌<◌, ◌≤◌, Bool, true, List, length, Option, Some, None, is_none, get_or, arith, refl, sym, ◌∙◌, ap, subst}
 use Rattle.std.proofs.lemmas.Bool.{and_parts}
 use Rattle.slot_model.specs.declared.sched.Sched.{Sched}
 use Rattle.slot_model.specs.declared.job.Job.{Job}
@@ -23,7 +23,7 @@ use Rattle.tree_model.specs.Tree.{budget_at, node_tasks}
 use Rattle.tree_model.specs.declared.place.Place.TheVariants.{Part}
 use Rattle.tree_model.specs.Admission.{Admitted, BudgetStands}
 use Rattle.tree_model.proofs.InRange.{admitted_in_period}
-use Rattle.tree_model.proofs.NodeTasks.{leaf_tasks}
+use Rattle.tree_model.proofs.NodeTasks.{leaf_tasks, part_here}
 use Rattle.miss_witness.specs.Replay.{IsReplay, IsReplayed}
 use Rattle.miss_witness.specs.Defeat.{IsDefeat}
 
@@ -114,6 +114,20 @@ pub record LeafRead (sys : SystemView) (budgets : List ℕ) (q : ℕ) (sched : S
   pub tasks_are : tasks ≡ own_tasks (part_at sys q)
   pub period_is : period ≡ (part_at sys q).period
   pub least_is : least ≡ budget_at budgets q
+
+pub leaf_read : (sys : SystemView) (budgets : List ℕ) (q : ℕ) (parts : List PartView) (part : PartView) (sched : Sched)
+    (tasks : List SporadicTask) (period : ℕ) (read : List ℕ) → parts ≡ sys.parts → q < length sys.parts
+    → part ≡ get_or parts q part → sched ≡ part.sched → tasks ≡ own_tasks part → period ≡ part.period → read ≡ budgets
+    → LeafRead sys budgets q sched tasks period (get_or read q 0)
+leaf_read sys budgets q parts part sched tasks period read same h is s t p b =
+    let here : part ≡ part_at sys q
+    = part_here sys parts q part same (omega (arith, h, ap (λ (ps : List PartView). length ps) same)) is in
+    record {
+      sched_is = s ∙ ap (λ (z : PartView). z.sched) here;
+      tasks_are = t ∙ ap own_tasks here;
+      period_is = p ∙ ap (λ (z : PartView). z.period) here;
+      least_is = ap (λ (bs : List ℕ). get_or bs q 0) b;
+    }
 
 -- its budget is the least of what was read, and 1 or more
 pub read_least : (sys : SystemView) → IsSystem sys → (budgets : List ℕ) → Admitted sys budgets → (q : ℕ)

@@ -15,7 +15,7 @@ use slot_model::{Miss, Sched, Task};
 use span_counts::first_miss;
 use std::alloc::{AllocError, Global};
 use supply_bound::Periodic;
-use tree_model::{MAX_TASKS, Part, Place, Plan, System, tasks_of};
+use tree_model::{MAX_TASKS, Plan, System, own_tasks_in};
 
 /// The longest window that is replayed, in slots.
 const MOST_SLOTS: u64 = 1_000_000;
@@ -66,8 +66,7 @@ fn replay_leaf(
 {
     let part = &sys.parts()[q as usize];
     let budgets = plan.budgets();
-    let count = tasks_of(sys, budgets, Place::Part(q), room).unwrap();
-    let tasks = &room[..count];
+    let tasks = own_tasks_in(part, room);
     let witness = witness(part.sched(), tasks, part.period(), budgets[q as usize]);
     let miss = seen_miss(alloc, part.sched(), tasks, part.period(), &witness)?;
     Ok(Replay {

@@ -1,37 +1,18 @@
--- The leaf as it is read: its tasks in the room, its scheduler and its period, and what was found
+-- The leaf as it is read: its tasks, its scheduler and its period, and what was found
 -- of them is found of the leaf.
-use Rattle.std.proofs.Common.{◌≡◌, ℕ, ◌<◌, true, List, ◌++◌, length, take, drop, get_or, sym, ◌∙◌, ap, subst, arith}
+use Rattle.std.proofs.Common.{◌≡◌, ℕ, ◌<◌, true, List, length, get_or, sym, ap, subst, arith}
 use Rattle.std.specs.Prelude.{IfOk, Result, Ok, Err}
-use Rattle.std.proofs.Math.Seq.{take-append_seam}
 use Rattle.std.proofs.lemmas.List.{length-map}
 use Rattle.slot_model.specs.declared.sched.Sched.{Sched}
 use Rattle.slot_model.specs.declared.task.Task.{Task}
 use Rattle.slot_model.specs.Task.{SporadicTask, sporadic_task, sporadic_tasks}
 use Rattle.slot_model.specs.Bound.{sbf, TestPasses}
-use Rattle.tree_model.specs.declared.place.Place.TheVariants.{Part}
 use Rattle.tree_model.specs.View.{PartView, SystemView}
 use Rattle.tree_model.specs.System.{IsSystem, part_at, own_tasks_at, is_leaf_at}
-use Rattle.tree_model.specs.Tree.{budget_at, node_tasks}
-use Rattle.tree_model.proofs.NodeTasks.{leaf_tasks}
+use Rattle.tree_model.specs.Tree.{budget_at}
 use Rattle.slack.specs.MostWork.{AreMostWorks}
 use Rattle.slack.specs.inner.Steps.{part_with_budget, IsMostBudget, AreMostPassing}
 use Rattle.slack.proofs.Most.{AtLeaf, at_changed, is_most_work, own_length}
-
--- room that is written back as a whole
-pub room_back : (n : ℕ) (written before : List Task) → length written ≡ n
-    → take n (written ++ drop (length written) before) ≡ written
-room_back n written before e =
-    subst (λ (k : ℕ). take k (written ++ drop (length written) before) ≡ written) e
-    (take-append_seam written (drop (length written) before))
-
--- the tasks of the leaf stand at the front of the room
-pub leaf_read : (sys : SystemView) (budgets : List ℕ) (q : ℕ) → is_leaf_at sys q ≡ true → (n count : ℕ)
-    (written read before : List Task) → length written ≡ n → read ≡ take n (written ++ drop (length written) before)
-    → sporadic_tasks (take count written) ≡ node_tasks sys budgets (Part q)
-    → sporadic_tasks (take count read) ≡ own_tasks_at sys q
-leaf_read sys budgets q leaf n count written read before e is tasks =
-    ap (λ (ts : List Task). sporadic_tasks (take count ts)) (is ∙ room_back n written before e)
-    ∙ (tasks ∙ leaf_tasks sys budgets q leaf)
 
 same_test : (s z : Sched) (tasks own : List SporadicTask) (p r budget : ℕ) → s ≡ z → tasks ≡ own → p ≡ r
     → TestPasses z own (sbf r budget) r → TestPasses s tasks (sbf p budget) p

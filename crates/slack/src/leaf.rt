@@ -5,10 +5,9 @@ ghost use Rattle.slack.specs.MostWork.{AreMostWorks};
 
 use crate::budgets::most_budget;
 use crate::works::most_works;
-use slot_model::Task;
 use std::alloc::{AllocError, Global};
 use supply_bound::Periodic;
-use tree_model::{MAX_PARTS, Place, Plan, System, write_tasks};
+use tree_model::{Plan, System, own_tasks};
 
 /// The greatest work of each task of leaf `q`, in slots and in file order, each task by itself:
 /// with each work up to it the system is admitted, and with each greater one that fits before the
@@ -25,11 +24,10 @@ pub fn slacks(alloc: Global, sys: &System, plan: &Plan, q: usize) -> Result<Vec<
 {
     let budget = most_budget(alloc, sys, plan, q)?;
     let part = &sys.parts()[q];
-    let mut room = vec![in alloc; Task::least(); MAX_PARTS]?;
-    let count = write_tasks(sys, plan.budgets(), Place::Part(q as u32), &mut room);
+    let mut tasks = own_tasks(alloc, part)?;
     let supply = Periodic {
         period: part.period(),
         budget,
     };
-    most_works(alloc, part.sched(), &mut room[..count], supply)
+    most_works(alloc, part.sched(), &mut tasks, supply)
 }

@@ -9,7 +9,8 @@ use Rattle.bulk_host.proofs.jobs.jobs_of_part.Goals as goal
 pub jobs_at_multiples-requires : goal.jobs_at_multiples-requires
 jobs_at_multiples-requires c =
     let tasks : List SporadicTask = sporadic_tasks c.deref.result.now in
-    let own : tasks ≡ own_tasks c.args.part.now = ap sporadic_tasks c.deref.ensures.value ∙ c.in_ok-tasks.ensures in
+    let own : tasks ≡ own_tasks c.args.part.now
+    = ap sporadic_tasks c.deref.ensures.value ∙ c.in_ok-tasks.ensures.tasks in
     let few : length tasks ≤ 256
     = omega (
       arith,

@@ -1,14 +1,9 @@
-use Rattle.std.proofs.Common.{◌≡◌, ℕ, List, length, take, get_or, arith, sym, ◌∙◌, ap, subst}
+use Rattle.std.proofs.Common.{◌≡◌, ℕ, List, get_or, arith, sym, ◌∙◌, ap, subst}
 use Rattle.slot_model.specs.declared.sched.Sched.{Sched}
 use Rattle.miss_witness.specs.Replay.{IsReplayed}
-use Rattle.std.proofs.lemmas.Bool.{and_parts}
 use Rattle.slot_model.specs.Task.{SporadicTask, sporadic_tasks}
-use Rattle.tree_model.specs.System.{part_at}
-use Rattle.tree_model.specs.declared.place.Place.TheVariants.{Part}
-use Rattle.tree_model.specs.View.{PartView}
-use Rattle.tree_model.proofs.NodeTasks.{part_here, leaf_tasks, tasks_read}
 use Rattle.tree_model.proofs.InRange.{admitted_in_period}
-use Rattle.miss_witness.proofs.ReplayLeaf.{LeafRead, none_smaller, read_least, read_replay}
+use Rattle.miss_witness.proofs.ReplayLeaf.{LeafRead, leaf_read, none_smaller, read_least, read_replay}
 use Rattle.miss_witness.proofs.replays.replay_leaf.Goals as goal
 use Rattle.miss_witness.proofs.replays.replay_leaf.Goals.{After-period}
 
@@ -21,23 +16,12 @@ witness-witness-requires-clause-some_budget c =
 
 -- what is read of the leaf before its witness is made
 read : (c : After-period)
-    → LeafRead c.args.sys.now c.args.plan.now c.args.q c.sched.result
-    (sporadic_tasks (take c.unwrap-count.result c.tasks_of.new.into)) c.period.result
-    (get_or c.budgets-budgets.result.now c.args.q 0)
+    → LeafRead c.args.sys.now c.args.plan.now c.args.q c.sched.result (sporadic_tasks c.own_tasks_in-tasks.result.now)
+    c.period.result (get_or c.budgets-budgets.result.now c.args.q 0)
 read c =
-    let here : c.index-parts-q.result ≡ part_at c.args.sys.now c.args.q
-    = part_here c.args.sys.now c.parts.result.now c.args.q c.index-parts-q.result c.parts.ensures.parts
-    (omega (arith, c.requires.is_part, ap (λ (ps : List PartView). length ps) c.parts.ensures.parts))
-    c.index-parts-q.is in
-    record {
-      sched_is = c.sched.ensures ∙ ap (λ (p : PartView). p.sched) here;
-      tasks_are =
-          tasks_read c.args.sys.now c.budgets-budgets.result.now (Part c.args.q) c.tasks_of.new.into _
-          c.unwrap-count.result c.unwrap-count.ensures c.tasks_of.ensures.tasks
-          ∙ leaf_tasks c.args.sys.now c.budgets-budgets.result.now c.args.q (and_parts _ _ c.requires.computed).1;
-      period_is = c.period.ensures ∙ ap (λ (p : PartView). p.period) here;
-      least_is = ap (λ (bs : List ℕ). get_or bs c.args.q 0) c.budgets-budgets.ensures;
-    }
+    leaf_read c.args.sys.now c.args.plan.now c.args.q c.parts.result.now c.index-parts-q.result c.sched.result _
+    c.period.result c.budgets-budgets.result.now c.parts.ensures.parts c.requires.is_part c.index-parts-q.is
+    c.sched.ensures c.own_tasks_in-tasks.ensures.tasks c.period.ensures c.budgets-budgets.ensures
 
 pub witness-witness-requires-clause-falls_short : goal.witness-witness-requires-clause-falls_short
 witness-witness-requires-clause-falls_short c =
@@ -47,7 +31,7 @@ witness-witness-requires-clause-falls_short c =
 
 pub returns : goal.returns
 returns c =
-    let tasks : List SporadicTask = sporadic_tasks (take c.unwrap-count.result c.tasks_of.new.into) in
+    let tasks : List SporadicTask = sporadic_tasks c.own_tasks_in-tasks.result.now in
     let sched : c.sched-2.result ≡ c.sched.result = c.sched-2.ensures ∙ sym c.sched.ensures in
     let period : c.period-2.result ≡ c.period.result = c.period-2.ensures ∙ sym c.period.ensures in
     read_replay c.args.sys.now c.args.plan.now c.args.q c.requires.is_part c.requires.computed c.sched.result tasks

@@ -1,7 +1,7 @@
 use Rattle.std.proofs.Common.{◌≡◌, map, take}
 use Rattle.slot_model.specs.Task.{sporadic_tasks}
 use Rattle.tree_model.specs.View.{NamedTask}
-use Rattle.bulk_host.proofs.jobs.tasks_of_part.Given as goal
+use Rattle.tree_model.proofs.node_tasks.own_tasks.Given as goal
 
 abbrev pub invariant-loop-named : goal.invariant-loop-named
 invariant-loop-named l =
