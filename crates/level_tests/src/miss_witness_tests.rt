@@ -3,8 +3,7 @@ ghost use Rattle.slot_model.specs.declared.task.TheConstants.{LIMIT};
 
 use crate::helpers::{MEMORY, assert_jobs, expect, expect_at, task, two_late_tasks, two_tasks};
 use least_budget::{Least, least_budget};
-use miss_witness::{Defeat, witness};
-use release_pattern::jobs_in_reach;
+use miss_witness::{Defeat, witness, witness_jobs};
 use slot_model::{Sched, Task};
 
 fn defeat(budget: u64, span: u128, task: Option<u32>) -> Defeat
@@ -52,13 +51,15 @@ fn defeats_of_the_next_smaller_budget(rt: HostRuntime) {
 
 #[test]
 fn jobs_by_release_and_then_by_place(rt: HostRuntime) {
-    let jobs = jobs_in_reach(rt.alloc(), &two_tasks(&rt), 2, 75).expect(&rt, MEMORY);
+    let jobs = witness_jobs(rt.alloc(), &two_tasks(&rt), &defeat(2, 75, None)).expect(&rt, MEMORY);
     assert_jobs(&rt, &jobs, &[(0, 2, 7, 0), (1, 2, 9, 0), (0, 52, 7, 0)]);
 }
 
 #[test]
 fn the_first_job_has_its_jitter_behind_it(rt: HostRuntime) {
-    let jobs = jobs_in_reach(rt.alloc(), &two_late_tasks(&rt), 2, 96).expect(&rt, MEMORY);
+    let jobs = witness_jobs(rt.alloc(), &two_late_tasks(&rt), &defeat(2, 96, None)).expect(
+        &rt, MEMORY,
+    );
     let wanted = [
         (0, 2, 7, 5),
         (1, 2, 9, 0),

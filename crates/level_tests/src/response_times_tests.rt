@@ -1,8 +1,7 @@
 ghost use Rattle.std.specs.Prelude.{◌<◌, ◌≤◌, length};
 
 use crate::helpers::{MEMORY, assert_jobs, expect_at, periodic, task, two_late_tasks, two_tasks};
-use release_pattern::jobs_in_reach;
-use response_times::{replay, response};
+use response_times::{replay, response, response_jobs};
 use slot_model::{Sched, Task};
 use std::alloc::Global;
 use std::process::Abort;
@@ -34,7 +33,7 @@ fn greatest_responses_of_two_tasks(rt: HostRuntime) {
 
 #[test]
 fn jobs_of_the_worst_case(rt: HostRuntime) {
-    let jobs = jobs_in_reach(rt.alloc(), &two_tasks(&rt), 4, 46).expect(&rt, MEMORY);
+    let jobs = response_jobs(rt.alloc(), &two_tasks(&rt), 4, 46).expect(&rt, MEMORY);
     assert_jobs(&rt, &jobs, &[(0, 4, 7, 0), (1, 4, 9, 0)]);
 }
 

@@ -3,11 +3,13 @@
 #![tactic(auto)]
 
 mod defeat;
+mod jobs;
 mod replay;
 mod replays;
 mod witnesses;
 
 pub use defeat::Defeat;
+pub use jobs::witness_jobs;
 pub use replay::Replay;
 pub use replays::replay_all;
 pub use witnesses::witness;

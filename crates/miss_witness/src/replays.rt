@@ -8,9 +8,8 @@ ghost use Rattle.tree_model.specs.System.{part_at, is_computed_leaf};
 ghost use Rattle.tree_model.specs.Admission.{Admitted};
 ghost use Rattle.miss_witness.specs.Replay.{AreReplays, IsReplay, IsReplayed};
 
-use crate::{Defeat, Replay, witness};
+use crate::{Defeat, Replay, witness, witness_jobs};
 use guest_sched::{guest_by, pattern_windows};
-use release_pattern::jobs_in_reach;
 use slot_model::{Miss, Sched, Task};
 use span_counts::first_miss;
 use std::alloc::{AllocError, Global};
@@ -104,7 +103,7 @@ fn seen_miss(
         budget: defeat.budget,
     };
     let windows = pattern_windows(alloc, &supply, slots)?;
-    let jobs = jobs_in_reach(alloc, tasks, defeat.start, defeat.span as u64)?;
+    let jobs = witness_jobs(alloc, tasks, defeat)?;
     let spans = guest_by(alloc, sched, tasks, &jobs, &windows, slots)?;
     first_miss(alloc, &jobs, tasks, &spans)
 }

@@ -4,7 +4,9 @@
 
 mod greatest;
 mod in_spans;
+mod jobs;
 mod replays;
 
 pub use greatest::response;
+pub use jobs::response_jobs;
 pub use replays::{replay, replay_tasks};

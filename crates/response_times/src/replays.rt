@@ -7,8 +7,8 @@ ghost use Rattle.response_times.specs.Response.{IsGreatestResponse};
 
 use crate::greatest::response;
 use crate::in_spans::first_responses;
+use crate::jobs::response_jobs;
 use guest_sched::{guest_by, pattern_windows};
-use release_pattern::jobs_in_reach;
 use slot_model::{Sched, Task};
 use std::alloc::{AllocError, Global};
 use supply_bound::Supply;
@@ -77,7 +77,7 @@ pub fn replay_tasks<S: Supply>(
         MatchOption (seen_at seen.items i) (span < t) (λ u. (u ≡ t) × (t ≤ span))) }
 {
     let start = s.start();
-    let jobs = jobs_in_reach(alloc, tasks, start, span)?;
+    let jobs = response_jobs(alloc, tasks, start, span)?;
     let windows = pattern_windows(alloc, s, start + span)?;
     let spans = guest_by(alloc, sched, tasks, &jobs, &windows, start + span)?;
     first_responses(alloc, &jobs, &spans, start + span, tasks.len())
