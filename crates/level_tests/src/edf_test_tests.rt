@@ -3,12 +3,15 @@ ghost use Rattle.std.specs.Prelude.{◌^◌, ◌-◌, ◌≤◌};
 use crate::helpers::{
     MEMORY, OUT, expect, expect_at, five_rates, periodic, task, two_late_tasks, two_tasks,
 };
-use edf_demand::horizon;
-use edf_test::{cover, first_short, passes, settled_past};
+use edf_demand::{DemandLevel, horizon};
+use edf_test::{
+    LinedLevel, cover, first_short, first_short_by, last_short_by, passes, settled_past,
+};
 use slot_model::Task;
 use std::alloc::Global;
 use std::process::Abort;
 use supply_bound::{Full, Supply};
+use window_terms::Term;
 
 #[test]
 fn short_points_of_a_periodic_resource(rt: HostRuntime) {
@@ -143,4 +146,25 @@ fn settled_points(rt: HostRuntime) {
     // the rates 0.26 and 0.3 meet where the bound is at most 17 slots late: 0.3 * 17 / 0.04 = 127.5
     expect(&rt, settled_past(&tasks, &third), Some(127));
     expect(&rt, settled_past(&[task(&rt, 50, 50, 15)], &third), None);
+}
+
+#[test]
+fn short_windows_of_a_level(rt: HostRuntime) {
+    let tasks = [task(&rt, 10, 4, 3)];
+    let mut terms = [Term::none()];
+    let lined = LinedLevel::of(&DemandLevel::gather(&tasks, &mut terms));
+    let supply = periodic(&rt, 5, 2);
+    // 3, 6, 9 and 12 slots are asked for in 4, 14, 24 and 34, and come in 12, 18, 27 and 34
+    for (window, first, last) in [
+        (3, None, None),
+        (4, Some(4), Some(4)),
+        (13, Some(4), Some(11)),
+        (17, Some(4), Some(17)),
+        (23, Some(4), Some(17)),
+        (100, Some(4), Some(26)),
+        (u128::MAX, Some(4), Some(26)),
+    ] {
+        expect_at(&rt, window, first_short_by(&lined, &supply, window), first);
+        expect_at(&rt, window, last_short_by(&lined, &supply, window), last);
+    }
 }
