@@ -1,2 +1,3 @@
 mod Edited
 pub mod Laws
+mod Examples

@@ -1,11 +1,13 @@
 -- `session FILE SCRIPT`: what it answers, and what its yes and no mean to who runs the host.
-use Rattle.std.specs.Prelude.{◌≡◌, ℕ, List, [], ◌∷◌, None, ⊤}
+use Rattle.std.specs.Prelude.{◌≡◌, ℕ, List, [], ◌∷◌, slice_get, Some, None, ⊤}
 use Rattle.csv_rows.specs.Reading.{records_of}
+use Rattle.tree_model.specs.declared.plan.Refusal.{Refusal}
 use Rattle.tree_model.specs.View.{SystemView}
 use Rattle.tree_model.specs.Tree.{NoLoss}
 use Rattle.tree_model.specs.Admission.{Admitted}
-use Rattle.compose_tree.specs.Truth.{IsTight}
+use Rattle.compose_tree.specs.Truth.{IsTight, RefusalHolds}
 use Rattle.admission_session.specs.declared.answer.Answer.{Answer}
+use Rattle.admission_session.specs.declared.answer.Answer.TheVariants.{Denied}
 use Rattle.admission_session.specs.RowView.{RowView}
 use Rattle.admission_session.specs.History.{AreAnswered}
 use Rattle.script_file.specs.declared.fault.ScriptFault.{ScriptFault}
@@ -51,14 +53,23 @@ EditsBytes sys bytes = OnAttempt (scripting bytes) (EditsSystem sys)
 abbrev pub Edits : Contents → Status → List ℕ → Type 0
 Edits contents = OnTwoFiles contents EditsBytes
 
--- yes means: each row was answered as the rules of an edit say, and of the system that the rows
--- leave, the budgets that the text tells admit it, no job is lost on any level in any permitted
--- run, whenever each server begins, and every whole budget below a computed leaf budget must miss
+-- each row that is denied is told a first refusal of the system as that row edits it, which is true
+-- of every supply and every release
+abbrev pub DenialsHold : List Answer → Type 0
+DenialsHold answers =
+    (k : ℕ) (edited : SystemView) (refusal : Refusal) →
+    slice_get answers k ≡ Some (Denied edited refusal) → RefusalHolds edited refusal
+
+-- yes means: each row was answered as the rules of an edit say, what a denied row is told holds,
+-- and of the system that the rows leave, the budgets that the text tells admit it, no job is lost
+-- on any level in any permitted run, whenever each server begins, and every whole budget below a
+-- computed leaf budget must miss
 pub record LeavesDeadlines (sys : SystemView) (rows : List RowView) (text : List ℕ)
     : Type 0 where
   pub answers : List Answer
   pub last : SystemView
   pub answered : AreAnswered sys rows answers last
+  pub denials : DenialsHold answers
   pub budgets : List ℕ
   pub told : text ≡ session_text answers last budgets
   pub admitted : Admitted last budgets

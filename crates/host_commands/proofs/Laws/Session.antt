@@ -1,14 +1,21 @@
 -- What `session` answers: one thing, its statuses, and what it means.
-use Rattle.std.proofs.Common.{◌≡◌, ℕ, List, refl, sym, ◌∙◌, ap, subst, inl, inr}
+use Rattle.std.proofs.Common.{◌≡◌, ℕ, zero, suc, List, [], ◌∷◌, length, Some, refl, sym, ◌∙◌, ap, arith, subst, inl, inr}
+use Rattle.std.proofs.lemmas.Option.{slice_get_within}
 use Rattle.csv_rows.specs.Reading.{records_of}
+use Rattle.tree_model.specs.declared.plan.Refusal.{Refusal}
 use Rattle.tree_model.specs.View.{SystemView}
 use Rattle.tree_model.specs.System.{IsSystem}
 use Rattle.tree_model.specs.Admission.{Admitted}
 use Rattle.tree_model.proofs.Unique.{one_admission}
+use Rattle.compose_tree.specs.Truth.{RefusalHolds}
+use Rattle.compose_tree.proofs.Refusals.{refusal_holds}
 use Rattle.compose_tree.proofs.Sound.{admitted_no_loss, admitted_tight}
 use Rattle.admission_session.specs.declared.answer.Answer.{Answer}
+use Rattle.admission_session.specs.declared.answer.Answer.TheVariants.{Denied}
 use Rattle.admission_session.specs.RowView.{RowView}
-use Rattle.admission_session.proofs.History.{SameHistory, history_system, one_history}
+use Rattle.admission_session.specs.Answers.{IsAnswered}
+use Rattle.admission_session.specs.History.{AreAnswered}
+use Rattle.admission_session.proofs.History.{SameHistory, answered_system, history_system, one_history}
 use Rattle.script_file.specs.Script.{script_rows}
 use Rattle.script_file.proofs.OneScript.{one_script, no_script_fault, one_script_fault}
 use Rattle.rt_report.specs.Session.{session_text}
@@ -17,7 +24,7 @@ use Rattle.command_steps.specs.declared.status.Status.TheVariants.{Yes, No, Wide
 use Rattle.command_steps.specs.Answer.{Contents, IsOne}
 use Rattle.command_steps.specs.Budgets.{composing}
 use Rattle.command_steps.specs.CommandSpec.{IsVerdict}
-use Rattle.host_commands.specs.Session.{the_session, scripting, IsSession, EditsSystem, Edits, MeansOfEdits, SessionMeans, IsScript}
+use Rattle.host_commands.specs.Session.{the_session, scripting, IsSession, EditsSystem, Edits, MeansOfEdits, SessionMeans, IsScript, DenialsHold}
 use Rattle.command_steps.specs.Steps.{IsJudged}
 use Rattle.command_steps.proofs.Attempt.{IsDecided, one_attempt, statuses_attempt}
 use Rattle.command_steps.proofs.Budgets.{composing_decided, refused_status, refused_means}
@@ -59,6 +66,27 @@ edits_status P at_yes at_no at_wide sys rows status text h =
     statuses_attempt P (composing sys) (λ budgets. IsSession sys rows) status text (refused_status P at_no at_wide sys)
     (λ budgets session. subst P (sym session.is_yes) at_yes) h
 
+-- what a denied row is told holds
+denial_holds : (sys : SystemView) (row : RowView) (answer : Answer) (now : SystemView) → IsAnswered sys row answer now
+    → (edited : SystemView) (refusal : Refusal) → answer ≡ Denied edited refusal → RefusalHolds edited refusal
+denial_holds sys row answer now h edited refusal e =
+    let denied : IsAnswered sys row (Denied edited refusal) now
+    = subst (λ (a : Answer). IsAnswered sys row a now) e h in
+    refusal_holds edited denied.1.system refusal denied.2
+
+same_answer : (a b : Answer) → Some a ≡ Some b → a ≡ b
+same_answer a b e = cc
+
+denials_hold : (sys : SystemView) (rows : List RowView) (answers : List Answer) (last : SystemView) → IsSystem sys
+    → AreAnswered sys rows answers last → DenialsHold answers
+denials_hold sys [] answers last is h k edited refusal e =
+    absurd (omega (arith, slice_get_within answers k (Denied edited refusal) e, ap (λ (z : List Answer). length z) h.0))
+denials_hold sys (row ∷ rows) [] last is h k edited refusal e = absurd h
+denials_hold sys (row ∷ rows) (answer ∷ answers) last is h zero edited refusal e =
+    denial_holds sys row answer h.0 h.1 edited refusal (same_answer answer (Denied edited refusal) e)
+denials_hold sys (row ∷ rows) (answer ∷ answers) last is h (suc k) edited refusal e =
+    denials_hold h.0 rows answers last (answered_system sys row answer h.0 is h.1) h.2 k edited refusal e
+
 -- what it means
 edits_means : (sys : SystemView) → IsSystem sys → (rows : List RowView) (status : Status) (text : List ℕ)
     → EditsSystem sys rows status text → MeansOfEdits sys rows status text
@@ -69,6 +97,7 @@ edits_means sys is rows status text h = elim h [
         answers = a.said.answers;
         last = a.said.last;
         answered = a.said.answered;
+        denials = denials_hold sys rows a.said.answers a.said.last is a.said.answered;
         budgets = a.said.budgets;
         told = a.said.told;
         admitted = a.said.admitted;
