@@ -5,6 +5,7 @@ mod editing;
 mod guests;
 mod made_host;
 mod place;
+mod refusing;
 mod session;
 
 pub use guests::Guests;

@@ -1,13 +1,12 @@
-ghost use Rattle.std.specs.Prelude.{◌<◌, ◌^◌, List, length, IfOk, IfErr, refl};
+ghost use Rattle.std.specs.Prelude.{◌<◌, ◌^◌, length, IfOk, IfErr, refl};
 ghost use Rattle.csv_rows.specs.Reading.{records_of};
-ghost use Rattle.tree_model.specs.View.{PartView};
-ghost use Rattle.tree_model.specs.Admission.{FirstRefusal};
 ghost use Rattle.script_file.specs.Guests.{SpellsGuests};
 ghost use Rattle.command_steps.specs.Attempt.{IsRefused};
 ghost use Rattle.host_commands.specs.Place.{guesting, placing, IsPlacement, IsSystemText, PlacesBytes, the_place};
 ghost use Rattle.command_steps.specs.Steps.{IfAnswered, IsJudged, EndsJudged};
 
-use command_steps::{Answer, Ending, JudgeTwo, Status, refuse, second_fault};
+use crate::refusing::refuse_system;
+use command_steps::{Answer, Ending, JudgeTwo, Status, second_fault};
 use placement::{PlaceFault, place};
 use rt_report::{FileFault, unplaced_text};
 use script_file::{GuestFault, ScriptFault, read_guests};
@@ -66,7 +65,7 @@ fn placed(alloc: Global, sys: &System, guests: &[Part]) -> Result<System, Ending
         Err(PlaceFault::NoMemory) => Err(Ending::NoMemory),
         Err(PlaceFault::Refused(Refusal::NoMemory)) => Err(Ending::NoMemory),
         Err(PlaceFault::Refused(refusal)) => {
-            Err(Ending::Answered(refuse_placing(alloc, sys, refusal)?))
+            Err(Ending::Answered(refuse_system(alloc, sys, refusal)?))
         }
         Err(PlaceFault::BadGuest(i)) => {
             let row = u64::from(i) + 2;
@@ -77,17 +76,6 @@ fn placed(alloc: Global, sys: &System, guests: &[Part]) -> Result<System, Ending
             text: unplaced_text(alloc, &guests[i as usize])?,
         })),
     }
-}
-
-// The answer where the system is refused as it stands.
-#[tactic(auto, using(command_steps::proofs::Budgets::refusal_told))]
-fn refuse_placing(alloc: Global, sys: &System, refusal: Refusal) -> Result<Answer, AllocError>
-    requires { FirstRefusal sys.now refusal }
-    ensures refused { (guests : List PartView)
-        → IfOk result (λ a. IsRefused (placing sys.now guests) a.status a.text.items) }
-    ensures judged { IfOk result (λ a. IsJudged a.status) }
-{
-    refuse(alloc, sys, refusal)
 }
 
 // The system file of the placed system.

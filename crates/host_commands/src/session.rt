@@ -1,19 +1,18 @@
 ghost use Rattle.std.specs.Prelude.{◌≡◌, IfOk, IfErr, refl};
 ghost use Rattle.csv_rows.specs.Reading.{records_of};
-ghost use Rattle.tree_model.specs.Admission.{FirstRefusal};
 ghost use Rattle.admission_session.specs.Answers.{IsAdmitted};
 ghost use Rattle.script_file.specs.Script.{SpellsScript};
 ghost use Rattle.command_steps.specs.Attempt.{IsRefused};
-ghost use Rattle.command_steps.specs.Budgets.{composing};
 ghost use Rattle.host_commands.specs.Session.{scripting, EditsBytes, the_session};
-ghost use Rattle.command_steps.specs.Steps.{ending_of, IfAnswered, IsJudged, EndsJudged};
+ghost use Rattle.command_steps.specs.Steps.{ending_of, IfAnswered, EndsJudged};
 
 use crate::editing::edit_all;
+use crate::refusing::refuse_system;
 use admission_session::{Row, Session, copy_system};
-use command_steps::{Answer, Ending, JudgeTwo, Status, refuse, second_fault};
+use command_steps::{Answer, Ending, JudgeTwo, Status, second_fault};
 use rt_report::FileFault;
 use script_file::{ScriptFault, read_script};
-use std::alloc::{AllocError, Global};
+use std::alloc::Global;
 use tree_model::{Refusal, System};
 
 /// `session FILE SCRIPT`: the answer to each row of edits of the system, and the plan of the one
@@ -75,14 +74,4 @@ fn spelled_script(alloc: Global, bytes: &[u8]) -> Result<Vec<Row>, Ending>
         Err(ScriptFault::NoMemory) => Err(Ending::NoMemory),
         Err(fault) => Err(second_fault(alloc, FileFault::Script(fault))),
     }
-}
-
-// The answer where the system is refused.
-#[tactic(auto, using(command_steps::proofs::Budgets::refusal_told))]
-fn refuse_system(alloc: Global, sys: &System, refusal: Refusal) -> Result<Answer, AllocError>
-    requires { FirstRefusal sys.now refusal }
-    ensures refused { IfOk result (λ a. IsRefused (composing sys.now) a.status a.text.items) }
-    ensures judged { IfOk result (λ a. IsJudged a.status) }
-{
-    refuse(alloc, sys, refusal)
 }

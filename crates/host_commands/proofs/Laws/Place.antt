@@ -19,6 +19,8 @@ use Rattle.system_file.proofs.OneText.{one_printed_text}
 use Rattle.command_steps.specs.declared.status.Status.{Status}
 use Rattle.command_steps.specs.declared.status.Status.TheVariants.{Yes, No, Wide, BadFile}
 use Rattle.command_steps.specs.Answer.{Contents, IsOne}
+use Rattle.command_steps.specs.Attempt.{IsRefused}
+use Rattle.command_steps.specs.Budgets.{composing}
 use Rattle.host_commands.specs.Place.{the_place, guesting, placing, place_status, place_fault_text, IsPlaceFault, IsSystemText, PlacesGuests, Places, TellsUnplaced, MeansOfPlaces, PlaceMeans, AreGuests, EndsPlacing}
 use Rattle.command_steps.specs.Steps.{IsJudged}
 use Rattle.command_steps.proofs.Attempt.{IsDecided, one_attempt, statuses_attempt}
@@ -38,6 +40,16 @@ placing_decided sys is guests = record {
   one_value = λ a b p q. one_placed sys guests a b p.is q.is;
   never_both = λ a fault p h. never_placed_fails sys is guests a p.before p.is fault h.real h.fails;
   one_refusal = λ a b p q. one_place_fault sys is guests a b p.real q.real p.fails q.fails;
+}
+
+-- where the system is refused, so is every placement on it
+pub placing_refused : (sys : SystemView) (guests : List PartView) (status : Status) (text : List ℕ)
+    → IsRefused (composing sys) status text → IsRefused (placing sys guests) status text
+placing_refused sys guests status text h = record {
+  refusal = Refused h.refusal;
+  refuses = record { real = λ e. cc; fails = h.refuses; refused = tt };
+  status_is = h.status_is;
+  told = h.told;
 }
 
 -- one answer
