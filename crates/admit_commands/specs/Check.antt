@@ -1,5 +1,5 @@
 -- `check FILE CERT`: what it answers, and what its yes means to who was handed the certificate.
-use Rattle.std.specs.Prelude.{◌≡◌, ℕ, List, [], ◌∷◌, None, Ok, Err, IsOk}
+use Rattle.std.specs.Prelude.{◌≡◌, ℕ, List, [], ◌∷◌, Ok, Err, IsOk}
 use Rattle.tree_model.specs.CertificateView.{NodeView}
 use Rattle.tree_model.specs.View.{SystemView}
 use Rattle.cert_reader.specs.declared.fault.CertFault.{CertFault}
@@ -24,7 +24,7 @@ spelling bytes = record {
   Gives = λ nodes. certificate_of bytes ≡ Ok nodes;
   Refuses = λ fault. certificate_of bytes ≡ Err fault;
   status_of = λ fault. BadFile;
-  text_of = λ fault. fault_text None (Cert fault) 2;
+  text_of = λ fault. fault_text (Cert fault) 2;
 }
 
 -- no: the text tells the first flaw

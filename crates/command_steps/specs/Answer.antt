@@ -56,7 +56,7 @@ abbrev pub OnSystem
     → Status → List ℕ → Type 0
 OnSystem (Ok sys) Says status text = Says sys status text
 OnSystem (Err fault) Says status text =
-    (status ≡ BadFile) × (text ≡ fault_text None (System fault) 1)
+    (status ≡ BadFile) × (text ≡ fault_text (System fault) 1)
 
 -- what holds of the system that the first file spells, where it spells one
 abbrev pub IfSystem : Contents → (SystemView → Type 0) → Type 0

@@ -1,5 +1,5 @@
 -- The leaf that a command finds by its name.
-use Rattle.std.specs.Prelude.{◌≡◌, ℕ, List, Ok, None}
+use Rattle.std.specs.Prelude.{◌≡◌, ℕ, List, Ok}
 use Rattle.tree_model.specs.View.{SystemView}
 use Rattle.tree_model.specs.NamedLeaf.{IsLeafNamed}
 use Rattle.system_file.specs.SystemFile.{system_of}
@@ -21,7 +21,7 @@ finding sys name = record {
   Gives = IsLeafNamed sys name;
   Refuses = λ none. HasNoLeaf sys name;
   status_of = λ none. BadFile;
-  text_of = λ none. fault_text None NoSuchLeaf 1;
+  text_of = λ none. fault_text NoSuchLeaf 1;
 }
 
 -- the answer where no leaf has the name, or what is said of the leaf at a place

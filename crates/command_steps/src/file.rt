@@ -1,4 +1,4 @@
-ghost use Rattle.std.specs.Prelude.{◌≡◌, ◌≢◌, ◌≤◌, length, None, Some, Ok, IfOk, IfErr, OnOk};
+ghost use Rattle.std.specs.Prelude.{◌≡◌, ◌≢◌, ◌≤◌, length, Some, Ok, IfOk, IfErr, OnOk};
 ghost use Rattle.outside.specs.Files.{Files, Told, file_named};
 ghost use Rattle.system_file.specs.SystemFile.{system_of};
 ghost use Rattle.rt_report.specs.Fault.{fault_text, IsFault};
@@ -95,21 +95,21 @@ fn spelled_system(alloc: Global, bytes: &[u8]) -> Result<System, Ending>
 
 /// The answer to a fault of the file word `number`, counted from 1.
 pub fn bad_file(alloc: Global, fault: FileFault, number: u32) -> Result<Answer, AllocError>
-    requires { IsFault None fault }
+    requires { IsFault fault }
     ensures status { IfOk result (λ a. a.status ≡ Status.BadFile) }
-    ensures text { IfOk result (λ a. a.text.items ≡ fault_text None fault number) }
+    ensures text { IfOk result (λ a. a.text.items ≡ fault_text fault number) }
 {
     Ok(Answer {
         status: Status::BadFile,
-        text: fault_text(alloc, None, &fault, number)?,
+        text: fault_text(alloc, &fault, number)?,
     })
 }
 
 /// How a command ends whose second file word has a fault.
 pub fn second_fault(alloc: Global, fault: FileFault) -> Ending
-    requires { IsFault None fault }
+    requires { IsFault fault }
     ensures status { IfAnswered result (λ a. a.status ≡ Status.BadFile) }
-    ensures text { IfAnswered result (λ a. a.text.items ≡ fault_text None fault 2) }
+    ensures text { IfAnswered result (λ a. a.text.items ≡ fault_text fault 2) }
     ensures judged { EndsJudged result }
 {
     match bad_file(alloc, fault, 2) {

@@ -1,6 +1,6 @@
 -- `interface FILE PART DEADLINE`: what it answers, and what its yes and no mean to who gives a
 -- guest its budget early in each period.
-use Rattle.std.specs.Prelude.{◌≡◌, ◌⊎◌, ℕ, ◌<◌, ◌≤◌, List, [], ◌∷◌, None, ⊤}
+use Rattle.std.specs.Prelude.{◌≡◌, ◌⊎◌, ℕ, ◌<◌, ◌≤◌, List, [], ◌∷◌, ⊤}
 use Rattle.slot_model.specs.declared.sched.Short.{Short}
 use Rattle.slot_model.specs.Supply.{GivesByDeadline}
 use Rattle.slot_model.specs.Order.{before_of}
@@ -49,7 +49,7 @@ pub record IsInterface (sys : SystemView) (q deadline : ℕ) (status : Status) (
 pub record AtDeadline (sys : SystemView) (deadline q : ℕ) (status : Status) (text : List ℕ)
     : Type 0 where
   pub past : (part_at sys q).period < deadline →
-      (status ≡ BadFile) × (text ≡ fault_text None BadDeadline 1)
+      (status ≡ BadFile) × (text ≡ fault_text BadDeadline 1)
   pub within : deadline ≤ (part_at sys q).period → IsInterface sys q deadline status text
 
 -- the answer to a system, and to a file

@@ -1,5 +1,5 @@
 -- `place FILE GUESTS`: what it answers, and what its yes and no mean to who runs the host.
-use Rattle.std.specs.Prelude.{◌≡◌, ◌≢◌, ℕ, ◌<◌, ◌⊎◌, false, List, [], ◌∷◌, length, take, Ok, None, ⊤}
+use Rattle.std.specs.Prelude.{◌≡◌, ◌≢◌, ℕ, ◌<◌, ◌⊎◌, false, List, [], ◌∷◌, length, take, Ok, ⊤}
 use Rattle.toml.specs.Text.{IsDocumentText}
 use Rattle.csv_rows.specs.Reading.{records_of}
 use Rattle.csv_rows.specs.Rules.{row_of}
@@ -33,8 +33,8 @@ use Rattle.command_steps.specs.TwoFiles.{OnTwoFiles, SpellsSystem, AreReadable}
 
 -- the bytes of the second file spell guests, or have a first fault
 abbrev pub guests_fault_text : GuestFault → List ℕ
-guests_fault_text (NoScript fault) = fault_text None (Script fault) 2
-guests_fault_text (Other row) = fault_text None (BadRow row) 2
+guests_fault_text (NoScript fault) = fault_text (Script fault) 2
+guests_fault_text (Other row) = fault_text (BadRow row) 2
 
 abbrev pub guesting : List ℕ → Attempt (List PartView) GuestFault
 guesting bytes = record {
@@ -65,7 +65,7 @@ place_status NoMemory = NoRoom
 
 abbrev pub place_fault_text : SystemView → List PartView → PlaceFault → List ℕ
 place_fault_text sys guests (Refused refusal) = refusal_text sys refusal
-place_fault_text sys guests (BadGuest i) = fault_text None (BadRow (row_of i)) 2
+place_fault_text sys guests (BadGuest i) = fault_text (BadRow (row_of i)) 2
 place_fault_text sys guests (Unplaced i) = unplaced_text (guest_at guests i).name
 place_fault_text sys guests NoMemory = []
 

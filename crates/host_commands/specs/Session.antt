@@ -1,5 +1,5 @@
 -- `session FILE SCRIPT`: what it answers, and what its yes and no mean to who runs the host.
-use Rattle.std.specs.Prelude.{◌≡◌, ℕ, List, [], ◌∷◌, slice_get, Some, None, ⊤}
+use Rattle.std.specs.Prelude.{◌≡◌, ℕ, List, [], ◌∷◌, slice_get, Some, ⊤}
 use Rattle.csv_rows.specs.Reading.{records_of}
 use Rattle.tree_model.specs.declared.plan.Refusal.{Refusal}
 use Rattle.tree_model.specs.View.{SystemView}
@@ -29,7 +29,7 @@ scripting bytes = record {
   Gives = SpellsScript (records_of bytes);
   Refuses = IsScriptFault (script_rows (records_of bytes));
   status_of = λ fault. BadFile;
-  text_of = λ fault. fault_text None (Script fault) 2;
+  text_of = λ fault. fault_text (Script fault) 2;
 }
 
 -- the text tells the answer to each row, and the plan of the system that they leave

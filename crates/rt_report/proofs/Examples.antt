@@ -16,7 +16,7 @@ use Rattle.system_file.specs.declared.fault.SystemFault.TheVariants.{NotToml, Mi
 use Rattle.release_file.specs.declared.fault.ReleaseFault.TheVariants.{BadHeader as NoReleases, BadRow as ReleaseBadRow, Unknown as ReleaseUnknown, OutOfRange as ReleaseOutOfRange, TooEarly, BadOrder}
 use Rattle.trace_file.specs.declared.fault.TraceFault.TheVariants.{BadHeader as NoTrace, BadRow, Unknown, OutOfRange as LateMoment, TimeFalls, WrongCore, NotStarted, StartedTwice, NotBlocked, NotRunnable, StillRunning, CoreIdle, AfterEnd, NoEnd}
 use Rattle.cert_reader.specs.declared.fault.CertFault.TheVariants.{NotJson, WrongShape, BadNumber, TooMany as TooManyNodes}
-use Rattle.rt_report.specs.declared.fault.FileFault.TheVariants.{System, Release, Trace, Cert, NotRtds, NoSuchLeaf, BadDeadline}
+use Rattle.rt_report.specs.declared.fault.FileFault.TheVariants.{System, Release, Trace, Cert, NoSuchLeaf, BadDeadline}
 use Rattle.miss_witness.specs.declared.replay.Replay.{Replay}
 use Rattle.auditor.specs.declared.finding.Finding.TheVariants.{Yes, Short, Over}
 use Rattle.rt_report.specs.Audit.{audit_text}
@@ -26,7 +26,7 @@ use Rattle.cert_verify.specs.declared.flaw.Flaw.TheVariants.{Nodes, Budget, Cove
 use Rattle.rt_report.specs.Refusal.{refusal_text}
 use Rattle.rt_report.specs.Check.{check_text}
 use Rattle.rt_report.specs.Choose.{best_text, nothing_text}
-use Rattle.rt_report.specs.Fault.{fault_text}
+use Rattle.rt_report.specs.Fault.{fault_text, not_rtds_text}
 use Rattle.rt_report.specs.Interface.{interface_text}
 use Rattle.rt_report.specs.Unread.{absent_text, too_long_text}
 use Rattle.rt_report.specs.Words.{served_name}
@@ -103,70 +103,70 @@ nothing_is_served_past_the_end : served_name tree (Part 0) 2 ≡ []
 nothing_is_served_past_the_end = refl
 
 faults_in_their_words :
-    ((fault_text None (System NotToml) 1 ≡ codes "fault=NotToml file=1\n")
-    × (fault_text None (System (MissingKey Top)) 1 ≡ codes "fault=MissingKey at=top file=1\n")
-    × (fault_text None (System (UnknownKey (at_core 0))) 1 ≡ codes "fault=UnknownKey at=core 1 file=1\n")
-    × (fault_text None (System (Mixed (at_part 1))) 2 ≡ codes "fault=Mixed at=part 2 file=2\n")
-    × (fault_text None (System (OutOfRange (at_task 0 8))) 1 ≡ codes "fault=OutOfRange at=part 1 task 9 file=1\n"))
+    ((fault_text (System NotToml) 1 ≡ codes "fault=NotToml file=1\n")
+    × (fault_text (System (MissingKey Top)) 1 ≡ codes "fault=MissingKey at=top file=1\n")
+    × (fault_text (System (UnknownKey (at_core 0))) 1 ≡ codes "fault=UnknownKey at=core 1 file=1\n")
+    × (fault_text (System (Mixed (at_part 1))) 2 ≡ codes "fault=Mixed at=part 2 file=2\n")
+    × (fault_text (System (OutOfRange (at_task 0 8))) 1 ≡ codes "fault=OutOfRange at=part 1 task 9 file=1\n"))
 unfolding digits
 faults_in_their_words = (refl, refl, refl, refl, refl)
 
 the_other_words_of_faults :
-    ((fault_text None (System (WrongKind Top)) 1 ≡ codes "fault=WrongKind at=top file=1\n")
-    × (fault_text None (System (BadName (at_part 0))) 1 ≡ codes "fault=BadName at=part 1 file=1\n")
-    × (fault_text None (System (NameTaken (at_part 1))) 1 ≡ codes "fault=NameTaken at=part 2 file=1\n")
-    × (fault_text None (System (NoSuchParent (at_part 0))) 1 ≡ codes "fault=NoSuchParent at=part 1 file=1\n")
-    × (fault_text None (System (Empty (at_part 0))) 1 ≡ codes "fault=Empty at=part 1 file=1\n")
-    × (fault_text None (System (TooMany Top)) 1 ≡ codes "fault=TooMany at=top file=1\n"))
+    ((fault_text (System (WrongKind Top)) 1 ≡ codes "fault=WrongKind at=top file=1\n")
+    × (fault_text (System (BadName (at_part 0))) 1 ≡ codes "fault=BadName at=part 1 file=1\n")
+    × (fault_text (System (NameTaken (at_part 1))) 1 ≡ codes "fault=NameTaken at=part 2 file=1\n")
+    × (fault_text (System (NoSuchParent (at_part 0))) 1 ≡ codes "fault=NoSuchParent at=part 1 file=1\n")
+    × (fault_text (System (Empty (at_part 0))) 1 ≡ codes "fault=Empty at=part 1 file=1\n")
+    × (fault_text (System (TooMany Top)) 1 ≡ codes "fault=TooMany at=top file=1\n"))
 unfolding digits
 the_other_words_of_faults = (refl, refl, refl, refl, refl, refl)
 
 faults_of_releases :
-    ((fault_text None (Release NoReleases) 2 ≡ codes "fault=BadHeader row=1 file=2\n")
-    × (fault_text None (Release (ReleaseBadRow 3)) 2 ≡ codes "fault=BadRow row=3 file=2\n")
-    × (fault_text None (Release (ReleaseUnknown 2)) 2 ≡ codes "fault=Unknown row=2 file=2\n")
-    × (fault_text None (Release (ReleaseOutOfRange 12)) 2 ≡ codes "fault=OutOfRange row=12 file=2\n")
-    × (fault_text None (Release (TooEarly 4)) 2 ≡ codes "fault=TooEarly row=4 file=2\n")
-    × (fault_text None (Release (BadOrder 2)) 2 ≡ codes "fault=BadOrder row=2 file=2\n"))
+    ((fault_text (Release NoReleases) 2 ≡ codes "fault=BadHeader row=1 file=2\n")
+    × (fault_text (Release (ReleaseBadRow 3)) 2 ≡ codes "fault=BadRow row=3 file=2\n")
+    × (fault_text (Release (ReleaseUnknown 2)) 2 ≡ codes "fault=Unknown row=2 file=2\n")
+    × (fault_text (Release (ReleaseOutOfRange 12)) 2 ≡ codes "fault=OutOfRange row=12 file=2\n")
+    × (fault_text (Release (TooEarly 4)) 2 ≡ codes "fault=TooEarly row=4 file=2\n")
+    × (fault_text (Release (BadOrder 2)) 2 ≡ codes "fault=BadOrder row=2 file=2\n"))
 unfolding digits
 faults_of_releases = (refl, refl, refl, refl, refl, refl)
 
 faults_of_traces :
-    ((fault_text None (Trace NoTrace) 2 ≡ codes "fault=BadHeader row=1 file=2\n")
-    × (fault_text None (Trace (BadRow 2)) 2 ≡ codes "fault=BadRow row=2 file=2\n")
-    × (fault_text None (Trace (Unknown 5)) 2 ≡ codes "fault=Unknown row=5 file=2\n")
-    × (fault_text None (Trace (LateMoment 2)) 2 ≡ codes "fault=OutOfRange row=2 file=2\n")
-    × (fault_text None (Trace (TimeFalls 3)) 2 ≡ codes "fault=TimeFalls row=3 file=2\n")
-    × (fault_text None (Trace (WrongCore 4)) 2 ≡ codes "fault=WrongCore row=4 file=2\n")
-    × (fault_text None (Trace (NotStarted 2)) 2 ≡ codes "fault=NotStarted row=2 file=2\n"))
+    ((fault_text (Trace NoTrace) 2 ≡ codes "fault=BadHeader row=1 file=2\n")
+    × (fault_text (Trace (BadRow 2)) 2 ≡ codes "fault=BadRow row=2 file=2\n")
+    × (fault_text (Trace (Unknown 5)) 2 ≡ codes "fault=Unknown row=5 file=2\n")
+    × (fault_text (Trace (LateMoment 2)) 2 ≡ codes "fault=OutOfRange row=2 file=2\n")
+    × (fault_text (Trace (TimeFalls 3)) 2 ≡ codes "fault=TimeFalls row=3 file=2\n")
+    × (fault_text (Trace (WrongCore 4)) 2 ≡ codes "fault=WrongCore row=4 file=2\n")
+    × (fault_text (Trace (NotStarted 2)) 2 ≡ codes "fault=NotStarted row=2 file=2\n"))
 unfolding digits
 faults_of_traces = (refl, refl, refl, refl, refl, refl, refl)
 
 more_faults_of_traces :
-    ((fault_text None (Trace (StartedTwice 3)) 2 ≡ codes "fault=StartedTwice row=3 file=2\n")
-    × (fault_text None (Trace (NotBlocked 3)) 2 ≡ codes "fault=NotBlocked row=3 file=2\n")
-    × (fault_text None (Trace (NotRunnable 4)) 2 ≡ codes "fault=NotRunnable row=4 file=2\n")
-    × (fault_text None (Trace (StillRunning 4)) 2 ≡ codes "fault=StillRunning row=4 file=2\n")
-    × (fault_text None (Trace (CoreIdle 2)) 2 ≡ codes "fault=CoreIdle row=2 file=2\n")
-    × (fault_text None (Trace (AfterEnd 6)) 2 ≡ codes "fault=AfterEnd row=6 file=2\n")
-    × (fault_text None (Trace (NoEnd 3)) 2 ≡ codes "fault=NoEnd row=3 file=2\n"))
+    ((fault_text (Trace (StartedTwice 3)) 2 ≡ codes "fault=StartedTwice row=3 file=2\n")
+    × (fault_text (Trace (NotBlocked 3)) 2 ≡ codes "fault=NotBlocked row=3 file=2\n")
+    × (fault_text (Trace (NotRunnable 4)) 2 ≡ codes "fault=NotRunnable row=4 file=2\n")
+    × (fault_text (Trace (StillRunning 4)) 2 ≡ codes "fault=StillRunning row=4 file=2\n")
+    × (fault_text (Trace (CoreIdle 2)) 2 ≡ codes "fault=CoreIdle row=2 file=2\n")
+    × (fault_text (Trace (AfterEnd 6)) 2 ≡ codes "fault=AfterEnd row=6 file=2\n")
+    × (fault_text (Trace (NoEnd 3)) 2 ≡ codes "fault=NoEnd row=3 file=2\n"))
 unfolding digits
 more_faults_of_traces = (refl, refl, refl, refl, refl, refl, refl)
 
 faults_of_certificates :
-    ((fault_text None (Cert NotJson) 2 ≡ codes "fault=NotJson file=2\n")
-    × (fault_text None (Cert WrongShape) 2 ≡ codes "fault=WrongShape file=2\n")
-    × (fault_text None (Cert BadNumber) 2 ≡ codes "fault=BadNumber file=2\n")
-    × (fault_text None (Cert TooManyNodes) 2 ≡ codes "fault=TooMany file=2\n"))
+    ((fault_text (Cert NotJson) 2 ≡ codes "fault=NotJson file=2\n")
+    × (fault_text (Cert WrongShape) 2 ≡ codes "fault=WrongShape file=2\n")
+    × (fault_text (Cert BadNumber) 2 ≡ codes "fault=BadNumber file=2\n")
+    × (fault_text (Cert TooManyNodes) 2 ≡ codes "fault=TooMany file=2\n"))
 unfolding digits
 faults_of_certificates = (refl, refl, refl, refl)
 
-a_core_that_is_not_rtds : fault_text (Some tree) (NotRtds 0) 1 ≡ codes "fault=NotRtds core=cpu0 file=1\n"
+a_core_that_is_not_rtds : not_rtds_text tree 0 ≡ codes "fault=NotRtds core=cpu0 file=1\n"
 unfolding digits
 a_core_that_is_not_rtds = refl
 
-words_that_fit_no_leaf : (fault_text None NoSuchLeaf 1 ≡ codes "fault=NoSuchLeaf file=1\n")
-    × (fault_text None BadDeadline 1 ≡ codes "fault=BadDeadline file=1\n")
+words_that_fit_no_leaf : (fault_text NoSuchLeaf 1 ≡ codes "fault=NoSuchLeaf file=1\n")
+    × (fault_text BadDeadline 1 ≡ codes "fault=BadDeadline file=1\n")
 unfolding digits
 words_that_fit_no_leaf = (refl, refl)
 

@@ -29,7 +29,7 @@ pub use audit::audit_text;
 pub use bulk::bulk_text;
 pub use check::check_text;
 pub use choose::{best_text, nothing_text};
-pub use fault::{FileFault, fault_text};
+pub use fault::{FileFault, fault_text, not_rtds_text};
 pub use interface::interface_text;
 pub use isolations::isolation_text;
 pub use place::unplaced_text;

@@ -1,5 +1,5 @@
 -- `audit FILE TRACE`: what it answers, and what its yes means to who recorded the trace.
-use Rattle.std.specs.Prelude.{◌≡◌, ℕ, List, [], ◌∷◌, None}
+use Rattle.std.specs.Prelude.{◌≡◌, ℕ, List, [], ◌∷◌}
 use Rattle.csv_rows.specs.Reading.{records_of}
 use Rattle.tree_model.specs.View.{SystemView}
 use Rattle.tree_model.specs.Admission.{Assigned}
@@ -27,7 +27,7 @@ tracing sys bytes = record {
   Gives = Spells sys (records_of bytes);
   Refuses = IsFileFault sys (rows_of (records_of bytes));
   status_of = λ fault. BadFile;
-  text_of = λ fault. fault_text None (Trace fault) 2;
+  text_of = λ fault. fault_text (Trace fault) 2;
 }
 
 -- yes where nothing is found

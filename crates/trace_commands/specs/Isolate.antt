@@ -1,5 +1,5 @@
 -- `isolate FILE`: what it answers, and what its yes and no mean to who lets guests block.
-use Rattle.std.specs.Prelude.{◌≡◌, ◌⊎◌, ℕ, Bool, true, false, if◌then◌else◌, List, [], ◌∷◌, length, All, Some, ⊤}
+use Rattle.std.specs.Prelude.{◌≡◌, ◌⊎◌, ℕ, Bool, true, false, if◌then◌else◌, List, [], ◌∷◌, length, All, ⊤}
 use Rattle.tree_model.specs.View.{SystemView}
 use Rattle.tree_model.specs.Admission.{Admitted, Assigned}
 use Rattle.system_file.specs.SystemFile.{system_of}
@@ -10,8 +10,7 @@ use Rattle.isolation.specs.declared.vcpus.PartIsolation.{PartIsolation}
 use Rattle.isolation.specs.Keeping.{KeepsOpenly}
 use Rattle.isolation.specs.InTrace.{KeepsInTrace, IsExposedInTrace}
 use Rattle.isolation.specs.Answers.{own_core, AreIsolations, are_isolated}
-use Rattle.rt_report.specs.declared.fault.FileFault.TheVariants.{NotRtds}
-use Rattle.rt_report.specs.Fault.{fault_text}
+use Rattle.rt_report.specs.Fault.{not_rtds_text}
 use Rattle.rt_report.specs.Isolation.{isolation_text}
 use Rattle.command_steps.specs.declared.status.Status.{Status}
 use Rattle.command_steps.specs.declared.status.Status.TheVariants.{Yes, No, BadFile}
@@ -33,7 +32,7 @@ isolating sys budgets = record {
   Gives = IsolatesAll sys budgets;
   Refuses = IsFirstOther sys;
   status_of = λ c. BadFile;
-  text_of = λ c. fault_text (Some sys) (NotRtds c) 1;
+  text_of = λ c. not_rtds_text sys c;
 }
 
 -- the text tells them, and it is yes where each is isolated however ties are broken

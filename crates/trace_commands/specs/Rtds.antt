@@ -1,6 +1,6 @@
 -- `rtds FILE WORKLOAD SLOTS`: what it answers, and what its yes means to who takes the trace for
 -- what the scheduler does.
-use Rattle.std.specs.Prelude.{◌≡◌, ℕ, ◌<◌, List, [], ◌∷◌, length, Option, Some, None, Ok}
+use Rattle.std.specs.Prelude.{◌≡◌, ℕ, ◌<◌, List, [], ◌∷◌, length, Option, Ok}
 use Rattle.csv_rows.specs.Printing.{text_of}
 use Rattle.csv_rows.specs.Reading.{records_of}
 use Rattle.tree_model.specs.View.{SystemView}
@@ -18,8 +18,8 @@ use Rattle.rtds_sim.specs.Rtds.{RtdsRun}
 use Rattle.rtds_sim.specs.Printed.{IsRtdsTrace}
 use Rattle.rtds_sim.specs.Fault.{AllRtds, IsFirstOther}
 use Rattle.rtds_sim.specs.Giving.{AlwaysRunnable, ServersFit, AlwaysServed, GivesBudgets, NeverOver, NoneOver}
-use Rattle.rt_report.specs.declared.fault.FileFault.TheVariants.{Release, NotRtds}
-use Rattle.rt_report.specs.Fault.{fault_text}
+use Rattle.rt_report.specs.declared.fault.FileFault.TheVariants.{Release}
+use Rattle.rt_report.specs.Fault.{fault_text, not_rtds_text}
 use Rattle.command_steps.specs.declared.status.Status.{Status}
 use Rattle.command_steps.specs.declared.status.Status.TheVariants.{Yes, BadFile}
 use Rattle.command_steps.specs.CommandSpec.{CommandSpec, IsVerdict}
@@ -34,7 +34,7 @@ waking sys bytes = record {
   Gives = SpellsWorkload sys (records_of bytes);
   Refuses = IsWorkloadFault sys (wake_rows (records_of bytes));
   status_of = λ fault. BadFile;
-  text_of = λ fault. fault_text None (Release fault) 2;
+  text_of = λ fault. fault_text (Release fault) 2;
 }
 
 -- over cores that are all full and under earliest deadline first, the events of the run of the
@@ -49,7 +49,7 @@ running sys budgets wakes slots = record {
   Gives = IsTraceOf sys budgets wakes slots;
   Refuses = IsFirstOther sys;
   status_of = λ c. BadFile;
-  text_of = λ c. fault_text (Some sys) (NotRtds c) 1;
+  text_of = λ c. not_rtds_text sys c;
 }
 
 -- the text is that of the events, and is read back as them

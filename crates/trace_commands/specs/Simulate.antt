@@ -1,5 +1,5 @@
 -- `simulate FILE RELEASES PATTERN SLOTS`: what it answers, and what its yes and no mean.
-use Rattle.std.specs.Prelude.{◌≡◌, ℕ, Bool, true, false, List, [], ◌∷◌, Option, None}
+use Rattle.std.specs.Prelude.{◌≡◌, ℕ, Bool, true, false, List, [], ◌∷◌, Option}
 use Rattle.csv_rows.specs.Reading.{records_of}
 use Rattle.slot_model.specs.declared.job.Job.{Job}
 use Rattle.tree_model.specs.View.{SystemView}
@@ -27,7 +27,7 @@ releasing sys bytes = record {
   Gives = SpellsReleases sys (records_of bytes);
   Refuses = IsReleasesFault sys (release_rows (records_of bytes));
   status_of = λ fault. BadFile;
-  text_of = λ fault. fault_text None (Release fault) 2;
+  text_of = λ fault. fault_text (Release fault) 2;
 }
 
 -- the runs of the cores and the parts are the first run of the tree over n slots of the pattern

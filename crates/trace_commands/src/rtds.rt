@@ -1,10 +1,9 @@
-ghost use Rattle.std.specs.Prelude.{◌≡◌, ◌<◌, List, ℕ, Some, IfOk, IfErr, length, refl};
+ghost use Rattle.std.specs.Prelude.{◌≡◌, ◌<◌, List, ℕ, IfOk, IfErr, length, refl};
 ghost use Rattle.csv_rows.specs.Reading.{records_of};
 ghost use Rattle.tree_model.specs.Plans.{IsPlan};
 ghost use Rattle.release_file.specs.Workload.{IsWorkload};
 ghost use Rattle.release_file.specs.WorkloadFile.{SpellsWorkload};
-ghost use Rattle.rt_report.specs.declared.fault.FileFault.TheVariants.{NotRtds};
-ghost use Rattle.rt_report.specs.Fault.{fault_text};
+ghost use Rattle.rt_report.specs.Fault.{not_rtds_text};
 ghost use Rattle.command_steps.specs.Attempt.{IsRefused};
 ghost use Rattle.rtds_sim.specs.Fault.{AllRtds};
 ghost use Rattle.rtds_sim.specs.RunText.{IsRunText};
@@ -14,7 +13,7 @@ ghost use Rattle.command_steps.specs.Steps.{IfAnswered, EndsJudged};
 use crate::slots::Slots;
 use command_steps::{Answer, Ending, JudgeTwo, Status, assigned, second_fault};
 use release_file::{ReleaseFault, Wake, read_workload};
-use rt_report::{FileFault, fault_text};
+use rt_report::{FileFault, not_rtds_text};
 use rtds_sim::{RtdsFault, print_rtds};
 use std::alloc::{AllocError, Global};
 use tree_model::{Plan, System};
@@ -92,11 +91,10 @@ fn run_text(
 pub fn not_rtds(alloc: Global, sys: &System, core: u32) -> Result<Answer, AllocError>
     requires { core < length sys.now.cores }
     ensures status { IfOk result (λ a. a.status ≡ Status.BadFile) }
-    ensures text { IfOk result
-        (λ a. a.text.items ≡ fault_text (Some sys.now) (NotRtds core) 1) }
+    ensures text { IfOk result (λ a. a.text.items ≡ not_rtds_text sys.now core) }
 {
     Ok(Answer {
         status: Status::BadFile,
-        text: fault_text(alloc, Some(sys), &FileFault::NotRtds(core), 1)?,
+        text: not_rtds_text(alloc, sys, core)?,
     })
 }

@@ -1,5 +1,5 @@
 -- What `interface` answers: one thing, its statuses, and what it means.
-use Rattle.std.proofs.Common.{◌≡◌, ℕ, ◌<◌, ◌≤◌, List, None, refl, sym, ◌∙◌, ap, subst, inl, inr, arith}
+use Rattle.std.proofs.Common.{◌≡◌, ℕ, ◌<◌, ◌≤◌, List, refl, sym, ◌∙◌, ap, subst, inl, inr, arith}
 use Rattle.std.proofs.lemmas.Bool.{cases_lt}
 use Rattle.slot_model.specs.Task.{SporadicTask, AreConstrained}
 use Rattle.slot_model.specs.Supply.{GivesByDeadline}
@@ -46,7 +46,7 @@ one_at_deadline sys deadline q some = λ s t x y a b. elim (cases_lt (part_at sy
 
 -- a deadline past the period, and the least budget that is told
 pub told_past : (sys : SystemView) (deadline q : ℕ) (status : Status) (text : List ℕ)
-    → (part_at sys q).period < deadline → status ≡ BadFile → text ≡ fault_text None BadDeadline 1
+    → (part_at sys q).period < deadline → status ≡ BadFile → text ≡ fault_text BadDeadline 1
     → AtDeadline sys deadline q status text
 told_past sys deadline q status text past is told =
     record { past = λ l. (is, told); within = λ m. absurd (omega (arith, past, m)) }
