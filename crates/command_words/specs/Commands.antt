@@ -151,37 +151,25 @@ pub record Form (Command : Type 0) : Type 0 where
 abbrev pub form : List ℕ → List ℕ → (List (List ℕ) → Option Command) → Form Command
 form word shown spells = record { word = word; shown = shown; spells = spells }
 
-abbrev pub forms_from_isolate : List (Form Command)
-forms_from_isolate =
-    form (codes "isolate") (codes " FILE") (of_one isolate)
-    ∷ form (codes "slack") (codes " FILE PART") (of_two slack)
-    ∷ form (codes "tally") (codes " FILE TRACE") (of_two tally)
-    ∷ form (codes "version") [] version_of
-    ∷ []
-
-abbrev pub forms_from_responses : List (Form Command)
-forms_from_responses =
-    form (codes "responses") (codes " FILE") (of_one responses)
-    ∷ form (codes "choose") (codes " FILE PART LOW HIGH") choose_of
-    ∷ form (codes "session") (codes " FILE SCRIPT") (of_two session)
-    ∷ form (codes "place") (codes " FILE GUESTS") (of_two place)
-    ∷ forms_from_isolate
-
-abbrev pub forms_from_rtds : List (Form Command)
-forms_from_rtds =
-    form (codes "rtds") (codes " FILE WORKLOAD SLOTS") rtds_of
-    ∷ form (codes "audit") (codes " FILE TRACE") (of_two audit)
-    ∷ form (codes "bulk") (codes " N") bulk_of
-    ∷ form (codes "interface") (codes " FILE PART DEADLINE") interface_of
-    ∷ forms_from_responses
-
 abbrev pub forms : List (Form Command)
 forms =
     form (codes "admit") (codes " FILE") (of_one admit)
     ∷ form (codes "certify") (codes " FILE") (of_one certify)
     ∷ form (codes "check") (codes " FILE CERT") (of_two check)
     ∷ form (codes "simulate") (codes " FILE RELEASES PATTERN SLOTS") simulate_of
-    ∷ forms_from_rtds
+    ∷ form (codes "rtds") (codes " FILE WORKLOAD SLOTS") rtds_of
+    ∷ form (codes "audit") (codes " FILE TRACE") (of_two audit)
+    ∷ form (codes "bulk") (codes " N") bulk_of
+    ∷ form (codes "interface") (codes " FILE PART DEADLINE") interface_of
+    ∷ form (codes "responses") (codes " FILE") (of_one responses)
+    ∷ form (codes "choose") (codes " FILE PART LOW HIGH") choose_of
+    ∷ form (codes "session") (codes " FILE SCRIPT") (of_two session)
+    ∷ form (codes "place") (codes " FILE GUESTS") (of_two place)
+    ∷ form (codes "isolate") (codes " FILE") (of_one isolate)
+    ∷ form (codes "slack") (codes " FILE PART") (of_two slack)
+    ∷ form (codes "tally") (codes " FILE TRACE") (of_two tally)
+    ∷ form (codes "version") [] version_of
+    ∷ []
 
 -- the command that the words spell: its own word, and then its files and numbers
 abbrev pub spelled_by : List (Form Command) → List ℕ → List (List ℕ) → Option Command

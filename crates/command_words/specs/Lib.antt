@@ -5,3 +5,4 @@ pub mod Version
 pub mod Commands
 pub mod Reading
 pub mod Steps
+pub mod inner

@@ -1,6 +1,7 @@
 ghost use Rattle.std.specs.Prelude.{◌≡◌, ◌≢◌, Some, map, option_map, string_bytes, IfOk, IfErr};
 ghost use Rattle.std.specs.Option.{option_copied};
-ghost use Rattle.command_words.specs.Commands.{choose_of, command_of, command_told, forms, forms_from_isolate, forms_from_responses, forms_from_rtds, interface_of, one_word, rtds_of, simulate_of, spelled_by, two_words, usage_line, version_of};
+ghost use Rattle.command_words.specs.Commands.{choose_of, command_of, command_told, forms, interface_of, one_word, rtds_of, simulate_of, spelled_by, two_words, usage_line, version_of};
+ghost use Rattle.command_words.specs.inner.Forms.{forms_from_isolate, forms_from_responses, forms_from_rtds};
 ghost use Rattle.command_words.specs.Numbers.{guest_number};
 ghost use Rattle.command_words.specs.Reading.{NamesNoFile};
 ghost use Rattle.command_words.specs.Steps.{IsSaidTo, CommandTakes};

@@ -1,0 +1,12 @@
+-- The forms of words from a command on, as the private functions look at them, four by a function.
+use Rattle.std.specs.Prelude.{List, drop}
+use Rattle.command_words.specs.Commands.{Command, Form, forms}
+
+abbrev pub forms_from_rtds : List (Form Command)
+forms_from_rtds = drop 4 forms
+
+abbrev pub forms_from_responses : List (Form Command)
+forms_from_responses = drop 8 forms
+
+abbrev pub forms_from_isolate : List (Form Command)
+forms_from_isolate = drop 12 forms
