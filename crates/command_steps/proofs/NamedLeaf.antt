@@ -1,6 +1,5 @@
 -- The leaf of a name: what is said of it is one, and which statuses it has.
-use Rattle.std.proofs.Common.{ℕ, ◌+◌, ◌<◌, List, arith, refl, subst, inl, inr}
-use Rattle.std.proofs.lemmas.Bool.{cases_eq}
+use Rattle.std.proofs.Common.{ℕ, List, refl, inl, inr}
 use Rattle.tree_model.specs.View.{SystemView}
 use Rattle.tree_model.specs.System.{IsSystem}
 use Rattle.tree_model.specs.NamedLeaf.{IsLeafNamed}
@@ -24,14 +23,6 @@ finding_decided sys is name = record {
 pub one_on_leaf : (sys : SystemView) → IsSystem sys → (name : List ℕ) (Says : ℕ → Status → List ℕ → Type 0)
     → ((q : ℕ) → IsLeafNamed sys name q → IsOne (Says q)) → IsOne (OnLeaf sys name Says)
 one_on_leaf sys is name Says one = one_attempt (finding sys name) Says (finding_decided sys is name) one
-
--- no leaf above a place that was looked at has the name
-pub none_more : (sys : SystemView) (name : List ℕ) (n : ℕ) → ((q : ℕ) → q < n → IsLeafNamed sys name q → ⊥)
-    → (IsLeafNamed sys name n → ⊥) → (q : ℕ) → q < n + 1 → IsLeafNamed sys name q → ⊥
-none_more sys name n none here q l found = elim (cases_eq q n) [
-  | inl same ↦ here (subst (IsLeafNamed sys name) same found)
-  | inr other ↦ none q (omega (arith, l, other)) found
-]
 
 -- what was said of the leaf, and that there is none, is the answer to the system
 pub leaf_said : (sys : SystemView) (name : List ℕ) (Says : ℕ → Status → List ℕ → Type 0) (q : ℕ) (status : Status)

@@ -11,7 +11,7 @@ mod two_files;
 
 pub use answer::{Answer, Ending, ended};
 pub use file::{bad_file, second_fault};
-pub use leaf::{find_leaf, leaf_tasks, part_at};
+pub use leaf::{find_leaf, part_at};
 pub use one_file::{JudgeOne, over_one};
 pub use refusing::{admitted, assigned, refuse};
 pub use status::Status;

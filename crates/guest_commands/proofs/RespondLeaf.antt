@@ -1,5 +1,5 @@
 -- What is answered of the tasks of a leaf, and of the leaves among the first parts.
-use Rattle.std.proofs.Common.{◌≡◌, ◌≢◌, ℕ, ◌+◌, ◌<◌, ◌≤◌, Bool, true, false, cond, ◌-◌, List, [], ◌∷◌, ◌++◌, length, map, Option, Some, None, IfSome, MatchOption, refl, sym, ◌∙◌, ap, arith, subst, inl, inr}
+use Rattle.std.proofs.Common.{◌≡◌, ◌≢◌, ℕ, ◌+◌, ◌<◌, ◌≤◌, Bool, true, false, cond, ◌-◌, List, [], ◌∷◌, ◌++◌, length, map, Option, Some, None, MatchOption, refl, sym, ◌∙◌, ap, arith, subst, inl, inr}
 use Rattle.std.specs.List.{flat_map, range_with_len}
 use Rattle.std.proofs.lemmas.Bool.{and_parts, cases_lt}
 use Rattle.std.proofs.lemmas.Grind.{flat_map-append}
@@ -21,7 +21,7 @@ use Rattle.response_times.proofs.WorstRuns.{shows_least}
 use Rattle.tree_model.specs.declared.place.Place.TheVariants.{Part}
 use Rattle.tree_model.specs.View.{PartView, SystemView}
 use Rattle.tree_model.specs.System.{is_leaf, own_tasks, part_at}
-use Rattle.tree_model.specs.Tree.{budget_at, node_tasks}
+use Rattle.tree_model.specs.Tree.{budget_at}
 use Rattle.tree_model.specs.Admission.{Admitted}
 use Rattle.tree_model.proofs.NodeTasks.{leaf_tasks}
 use Rattle.rt_report.specs.declared.responses.Response.{Response}
@@ -162,12 +162,3 @@ no_more_part sys budgets n rows other h =
     one_more_part sys budgets n rows (subst (λ (ps : List (ℕ × ℕ)). AnswerTasks sys budgets ps rows)
     (sym (append-nil (answered_among sys n))
     ∙ ap (λ (ps : List (ℕ × ℕ)). answered_among sys n ++ ps) (sym none)) h)
-
--- as many tasks as were read
-pub read_count : (sys : SystemView) (budgets : List ℕ) (q : ℕ) (read : Option ℕ) (n : ℕ)
-    → is_fixed_leaf (part_at sys q) ≡ true → read ≡ Some n
-    → IfSome read (λ k. k ≡ length (node_tasks sys budgets (Part q))) → n ≡ length (own_tasks (part_at sys q))
-read_count sys budgets q read n fixed e many =
-    let here : n ≡ length (node_tasks sys budgets (Part q))
-    = subst (λ (r : Option ℕ). IfSome r (λ k. k ≡ length (node_tasks sys budgets (Part q)))) e many in
-    here ∙ ap length (leaf_tasks sys budgets q (has_tasks (part_at sys q) fixed))

@@ -3,11 +3,11 @@ ghost use Rattle.guest_commands.specs.Choose.{choice_status, choice_text, IsChos
 ghost use Rattle.command_steps.specs.Steps.{IsJudged};
 
 use crate::periods::Periods;
-use command_steps::{Answer, Ending, JudgeOne, Status, find_leaf, leaf_tasks, part_at};
+use command_steps::{Answer, Ending, JudgeOne, Status, find_leaf, part_at};
 use period_choice::{Choice, choose};
 use rt_report::{best_text, nothing_text};
 use std::alloc::{AllocError, Global};
-use tree_model::System;
+use tree_model::{System, own_tasks};
 
 /// `choose FILE PART LOW HIGH`: the period of the range at which a leaf needs the least share of
 /// the processor.
@@ -40,7 +40,7 @@ fn of_leaf(alloc: Global, sys: &System, q: u32, periods: Periods) -> Result<Answ
     ensures judged { IfOk result (λ a. IsJudged a.status) }
 {
     let part = part_at(sys, q);
-    let tasks = leaf_tasks(alloc, part)?;
+    let tasks = own_tasks(alloc, part)?;
     let choice = choose(part.sched(), &tasks, periods.low, periods.high);
     told(alloc, sys, q, choice)
 }

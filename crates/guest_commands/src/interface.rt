@@ -3,14 +3,12 @@ ghost use Rattle.guest_commands.specs.Interface.{least_status, least_text, AtDea
 ghost use Rattle.command_steps.specs.Steps.{IsJudged};
 
 use crate::periods::Period;
-use command_steps::{
-    Answer, Ending, JudgeOne, Status, bad_file, find_leaf, leaf_tasks, part_at, refuse,
-};
+use command_steps::{Answer, Ending, JudgeOne, Status, bad_file, find_leaf, part_at, refuse};
 use edp_supply::least_explicit;
 use least_budget::Least;
 use rt_report::{FileFault, interface_text};
 use std::alloc::{AllocError, Global};
-use tree_model::{Place, Refusal, System};
+use tree_model::{Place, Refusal, System, own_tasks};
 
 /// `interface FILE PART DEADLINE`: the least budget with which a leaf passes where it gets it by
 /// the deadline in each of its periods.
@@ -46,7 +44,7 @@ fn of_leaf(alloc: Global, sys: &System, q: u32, deadline: Period) -> Result<Answ
     if deadline.slots > part.period() {
         return bad_file(alloc, FileFault::BadDeadline, 1);
     }
-    let tasks = leaf_tasks(alloc, part)?;
+    let tasks = own_tasks(alloc, part)?;
     let least = least_explicit(part.sched(), &tasks, part.period(), deadline.slots);
     told(alloc, sys, q, deadline.slots, least)
 }

@@ -15,7 +15,7 @@ use rt_report::Response;
 use slot_model::{Sched, Task};
 use std::alloc::{AllocError, Global};
 use supply_bound::{Periodic, Supply};
-use tree_model::{MAX_TASKS, Part, Place, Plan, System, tasks_of};
+use tree_model::{MAX_TASKS, Part, Plan, System, own_tasks_in};
 
 /// The longest run that is replayed, in slots.
 const MOST_SLOTS: u64 = 1_000_000;
@@ -75,16 +75,15 @@ fn respond_leaf(
 {
     let part = &sys.parts()[q as usize];
     let budgets = plan.budgets();
-    let count = tasks_of(sys, budgets, Place::Part(q), room).unwrap();
+    let tasks = own_tasks_in(part, room);
     let supply = Periodic {
         period: part.period(),
         budget: budgets[q as usize],
     };
     let sched = part.sched();
-    let tasks = &room[..count];
     let worst = responses(alloc, sched, tasks, &supply)?;
     let seen = replays(alloc, sched, tasks, &supply, &worst)?;
-    for i in 0..count {
+    for i in 0..tasks.len() {
         rows.push(row_of(tasks, q, i as u32, worst[i], seen[i]))?;
     }
     Ok(())

@@ -1,4 +1,4 @@
-use Rattle.std.proofs.lemmas.Result.{err_from_is_err_and}
+use Rattle.slot_model.proofs.HandedOn.{err_is}
 use Rattle.command_steps.specs.Steps.{ending_of}
 use Rattle.command_steps.proofs.OneFile.{is_system, stop_said, system_said}
 use Rattle.command_steps.proofs.Taking.{end_takes, one_takes}
@@ -10,9 +10,9 @@ judge-requires g c =
 
 pub returns-in_err-sys-clause-answer : goal.returns-in_err-sys-clause-answer
 returns-in_err-sys-clause-answer g c =
-    let p = err_from_is_err_and c.from_residual.result c.from_residual.ensures.1 in
     let spec = g.J.JudgeOne.spec c.args.judge.now c.args.file.now in
-    rw (p.1, p.2) (stop_said spec c.args.file.now (g.J.JudgeOne.says c.args.judge.now)
+    rw (err_is c.from_residual.result _ c.from_residual.ensures.1)
+    (stop_said spec c.args.file.now (g.J.JudgeOne.says c.args.judge.now)
     (g.met.J.JudgeOne.laws c.args.judge.now c.args.file.now) (g.S.Store.files c.args.store.now)
     c.in_err-sys.field-0.0 c.in_err-sys.ensures.refused)
 
@@ -25,9 +25,9 @@ returns-clause-answer g c =
 
 pub returns-in_err-sys-clause-taken : goal.returns-in_err-sys-clause-taken
 returns-in_err-sys-clause-taken g c =
-    let p = err_from_is_err_and c.from_residual.result c.from_residual.ensures.1 in
     let over = g.met.J.JudgeOne.laws c.args.judge.now c.args.file.now in
-    rw (p.1, p.2) (λ all told. one_takes (g.J.JudgeOne.spec c.args.judge.now c.args.file.now) c.args.file.now all
+    rw (err_is c.from_residual.result _ c.from_residual.ensures.1)
+    (λ all told. one_takes (g.J.JudgeOne.spec c.args.judge.now c.args.file.now) c.args.file.now all
     c.in_err-sys.field-0.0 _ _ over.files (c.in_err-sys.ensures.taken all told))
 
 pub returns-clause-taken : goal.returns-clause-taken

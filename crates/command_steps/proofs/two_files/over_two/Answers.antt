@@ -1,5 +1,5 @@
 use Rattle.std.proofs.Common.{List, ℕ, length, ap, arith, subst}
-use Rattle.std.proofs.lemmas.Result.{err_from_is_err_and}
+use Rattle.slot_model.proofs.HandedOn.{err_is}
 use Rattle.command_steps.specs.Steps.{ending_of, IfAnswered}
 use Rattle.command_steps.proofs.OneFile.{is_system}
 use Rattle.command_steps.proofs.TwoFiles.{ends_read, stop_said, two_said}
@@ -14,12 +14,12 @@ judge-requires g c = record {
 
 pub returns-in_err-sys-clause-answer : goal.returns-in_err-sys-clause-answer
 returns-in_err-sys-clause-answer g c =
-    let p = err_from_is_err_and c.from_residual.result c.from_residual.ensures.1 in
     let files = g.S.Store.files c.args.store.now in
     let says = g.J.JudgeTwo.says c.args.judge.now in
     let first = c.args.first.now in
     let second = c.args.second.now in
-    rw (p.1, p.2) (two_said (g.J.JudgeTwo.spec c.args.judge.now first second) first second says
+    rw (err_is c.from_residual.result _ c.from_residual.ensures.1)
+    (two_said (g.J.JudgeTwo.spec c.args.judge.now first second) first second says
     (g.met.J.JudgeTwo.laws c.args.judge.now first second) files c.in_err-sys.field-0.0
     (stop_said files first second says c.in_err-sys.field-0.0 c.in_err-sys.ensures.refused))
 
@@ -39,9 +39,9 @@ returns-clause-answer g c =
 
 pub returns-in_err-sys-clause-taken : goal.returns-in_err-sys-clause-taken
 returns-in_err-sys-clause-taken g c =
-    let p = err_from_is_err_and c.from_residual.result c.from_residual.ensures.1 in
     let over = g.met.J.JudgeTwo.laws c.args.judge.now c.args.first.now c.args.second.now in
-    rw (p.1, p.2) (λ all told. two_take (g.J.JudgeTwo.spec c.args.judge.now c.args.first.now c.args.second.now)
+    rw (err_is c.from_residual.result _ c.from_residual.ensures.1)
+    (λ all told. two_take (g.J.JudgeTwo.spec c.args.judge.now c.args.first.now c.args.second.now)
     c.args.first.now c.args.second.now all c.in_err-sys.field-0.0 _ _ over.files
     (c.in_err-sys.ensures.taken all told))
 

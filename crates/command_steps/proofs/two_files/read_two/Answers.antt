@@ -1,6 +1,5 @@
 use Rattle.std.proofs.Common.{Option, subst, ◌∙◌}
-use Rattle.std.proofs.lemmas.Result.{err_from_is_err_and}
-use Rattle.slot_model.proofs.HandedOn.{handed_on}
+use Rattle.slot_model.proofs.HandedOn.{err_is, handed_on}
 use Rattle.outside.specs.Files.{Files}
 use Rattle.command_steps.specs.Steps.{IfAnswered, StopsAt}
 use Rattle.command_steps.proofs.TwoFiles.{ends_at_first, ends_at_second}
@@ -23,14 +22,14 @@ returns-in_err-bytes-clause-refused g c =
 
 pub returns-in_err-sys-clause-taken : goal.returns-in_err-sys-clause-taken
 returns-in_err-sys-clause-taken g c =
-    let p = err_from_is_err_and c.from_residual.result c.from_residual.ensures.1 in
-    rw (p.1, p.2) (λ files told. ends_first (g.S.Store.files c.args.store.now) files c.args.first.now c.args.second.now
+    rw (err_is c.from_residual.result _ c.from_residual.ensures.1)
+    (λ files told. ends_first (g.S.Store.files c.args.store.now) files c.args.first.now c.args.second.now
     c.in_err-sys.field-0.0 _ _ told c.in_err-sys.ensures.refused (c.in_err-sys.ensures.taken files told))
 
 pub returns-in_err-bytes-clause-taken : goal.returns-in_err-bytes-clause-taken
 returns-in_err-bytes-clause-taken g c =
-    let p = err_from_is_err_and c.from_residual-in_err-bytes.result c.from_residual-in_err-bytes.ensures.1 in
-    rw (p.1, p.2) (λ files told. ends_second (g.S.Store.files c.args.store.now) files c.args.first.now c.args.second.now
+    rw (err_is c.from_residual-in_err-bytes.result _ c.from_residual-in_err-bytes.ensures.1)
+    (λ files told. ends_second (g.S.Store.files c.args.store.now) files c.args.first.now c.args.second.now
     c.in_ok-sys.sys c.in_err-bytes.field-0.0 _ _ _ told c.in_ok-sys.ensures.spelled
     (c.in_ok-sys.ensures.taken files told)
     (c.in_err-bytes.ensures.taken files (c.in_ok-sys.ensures.same_files ∙ told)))

@@ -1,39 +1,24 @@
-use Rattle.std.proofs.Common.{◌≡◌, ℕ, ◌+◌, ◌<◌, ◌++◌, List, length, take, get_or, None, arith, sym, ◌∙◌, ap, subst}
+use Rattle.std.proofs.Common.{◌≡◌, ℕ, ◌+◌, ◌<◌, ◌++◌, List, length, get_or, None, arith, sym, ◌∙◌, ap, subst}
 use Rattle.std.proofs.lemmas.List.{get_or_read}
 use Rattle.slot_model.specs.Task.{SporadicTask, sporadic_tasks}
 use Rattle.fp_request.proofs.Parts.{sporadic_tasks-length}
 use Rattle.tree_model.specs.System.{own_tasks, part_at}
-use Rattle.tree_model.specs.View.{PartView}
-use Rattle.tree_model.specs.declared.place.Place.TheVariants.{Part}
-use Rattle.tree_model.proofs.NodeTasks.{part_here, leaf_tasks, tasks_read}
 use Rattle.rt_report.specs.declared.responses.Response.{Response}
 use Rattle.response_times.specs.Replay.{seen_at}
 use Rattle.guest_commands.specs.Responses.{AnswerTasks, IsReplayOf, IsResponseOf, places_in}
-use Rattle.miss_witness.proofs.ReplayLeaf.{LeafRead}
-use Rattle.guest_commands.proofs.RespondLeaf.{all_tasks, has_tasks, one_more_task, read_passes, read_count, row_is}
+use Rattle.miss_witness.proofs.ReplayLeaf.{LeafRead, leaf_read}
+use Rattle.guest_commands.proofs.RespondLeaf.{all_tasks, one_more_task, read_passes, row_is}
 use Rattle.guest_commands.proofs.responding.respond_leaf.Goals as goal
 use Rattle.guest_commands.proofs.responding.respond_leaf.Goals.{After-sched-sched}
 
 -- what is read of the leaf before its tasks are answered
 read : (c : After-sched-sched)
     → LeafRead c.args.sys.now c.args.plan.now c.args.q c.sched-sched.result
-    (sporadic_tasks (take c.unwrap-count.result c.tasks_of.new.into)) c.period.result
-    (get_or c.budgets-budgets.result.now c.args.q 0)
+    (sporadic_tasks c.own_tasks_in-tasks.result.now) c.period.result (get_or c.budgets-budgets.result.now c.args.q 0)
 read c =
-    let here : c.index-parts-q.result ≡ part_at c.args.sys.now c.args.q
-    = part_here c.args.sys.now c.parts.result.now c.args.q c.index-parts-q.result c.parts.ensures.parts
-    (omega (arith, c.requires.is_part, ap (λ (ps : List PartView). length ps) c.parts.ensures.parts))
-    c.index-parts-q.is in
-    record {
-      sched_is = c.sched-sched.ensures ∙ ap (λ (p : PartView). p.sched) here;
-      tasks_are =
-          tasks_read c.args.sys.now c.budgets-budgets.result.now (Part c.args.q) c.tasks_of.new.into _
-          c.unwrap-count.result c.unwrap-count.ensures c.tasks_of.ensures.tasks
-          ∙ leaf_tasks c.args.sys.now c.budgets-budgets.result.now c.args.q
-          (has_tasks (part_at c.args.sys.now c.args.q) c.requires.fixed);
-      period_is = c.period.ensures ∙ ap (λ (p : PartView). p.period) here;
-      least_is = ap (λ (bs : List ℕ). get_or bs c.args.q 0) c.budgets-budgets.ensures;
-    }
+    leaf_read c.args.sys.now c.args.plan.now c.args.q c.parts.result.now c.index-parts-q.result c.sched-sched.result _
+    c.period.result c.budgets-budgets.result.now c.parts.ensures.parts c.requires.is_part c.index-parts-q.is
+    c.sched-sched.ensures c.own_tasks_in-tasks.ensures.tasks c.period.ensures c.budgets-budgets.ensures
 
 pub responses-requires-clause-passes : goal.responses-requires-clause-passes
 responses-requires-clause-passes c =
@@ -44,20 +29,10 @@ pub loop-i-preserved : goal.loop-i-preserved
 loop-i-preserved c places before =
     let sys = c.args.sys.now in let plan = c.args.plan.now in
     let i = c.loop-i.i in
-    let T = sporadic_tasks (take c.unwrap-count.result c.tasks_of.new.into) in
+    let T = sporadic_tasks c.own_tasks_in-tasks.result.now in
     let supply_period = c.period.result in let budget = get_or c.budgets-budgets.result.now c.args.q 0 in
     let as_read = read (goal.at.loop-i-preserved c).After-sched-sched in
-    let count : c.unwrap-count.result ≡ length (own_tasks (part_at sys c.args.q))
-    = read_count sys c.budgets-budgets.result.now c.args.q _ c.unwrap-count.result c.requires.fixed
-    c.unwrap-count.ensures c.tasks_of.ensures.count in
-    let l : i < length (take c.unwrap-count.result c.tasks_of.new.into)
-    = omega (
-      arith,
-      c.loop-i-test.true,
-      count,
-      sporadic_tasks-length (take c.unwrap-count.result c.tasks_of.new.into),
-      ap (λ (ts : List SporadicTask). length ts) as_read.tasks_are,
-    ) in
+    let l : i < length c.own_tasks_in-tasks.result.now = omega (arith, c.loop-i-test.true) in
     let worst : c.index.result.now ≡ get_or c.in_ok-worst.worst.items i 0
     = get_or_read c.in_ok-worst.worst.items i c.index.result.now (omega (arith, l, c.in_ok-worst.ensures.long))
     c.index.ensures 0 in
@@ -79,9 +54,15 @@ loop-i-preserved c places before =
 
 pub returns : goal.returns
 returns c places before =
-    let count : c.unwrap-count.result ≡ length (own_tasks (part_at c.args.sys.now c.args.q))
-    = read_count c.args.sys.now c.budgets-budgets.result.now c.args.q _ c.unwrap-count.result c.requires.fixed
-    c.unwrap-count.ensures c.tasks_of.ensures.count in
+    let own : length (sporadic_tasks c.own_tasks_in-tasks.result.now)
+    ≡ length (own_tasks (part_at c.args.sys.now c.args.q))
+    = ap (λ (ts : List SporadicTask). length ts) (read (goal.at.returns c).After-sched-sched).tasks_are in
     all_tasks c.args.sys.now c.args.plan.now c.args.q c.loop-i.i places c.loop-i.rows.items
-    (omega (arith, count, c.loop-i.auto.i-end, c.loop-i-test.false)) c.requires.fixed
+    (omega (
+      arith,
+      own,
+      sporadic_tasks-length c.own_tasks_in-tasks.result.now,
+      c.loop-i.auto.i-end,
+      c.loop-i-test.false,
+    )) c.requires.fixed
     (c.loop-i.invariant places before)

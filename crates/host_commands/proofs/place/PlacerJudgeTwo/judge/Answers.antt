@@ -1,5 +1,5 @@
 use Rattle.std.proofs.Common.{ℕ, List, subst, inl, inr}
-use Rattle.std.proofs.lemmas.Result.{err_from_is_err_and}
+use Rattle.slot_model.proofs.HandedOn.{err_is}
 use Rattle.csv_rows.specs.Reading.{records_of}
 use Rattle.tree_model.specs.View.{PartView, SystemView}
 use Rattle.script_file.specs.Guests.{SpellsGuests}
@@ -24,8 +24,8 @@ returns-in_err-placed-clause-answer c =
     let sys = c.args.sys.now in
     let guests = c.in_ok-guests.guests.items in
     let stop = c.in_err-placed.field-0.0 in
-    let p = err_from_is_err_and c.from_residual-in_err-placed.result c.from_residual-in_err-placed.ensures.1 in
     let refused : IfAnswered stop (λ a. IsRefused (placing sys guests) a.status a.text.items)
     = subst (λ (gs : List PartView). IfAnswered stop (λ a. IsRefused (placing sys gs) a.status a.text.items))
     c.deref.ensures.value c.in_err-placed.ensures.refused in
-    rw (p.1, p.2) (spelled_unplaced sys c.args.bytes.now guests c.in_ok-guests.ensures.spelled stop refused)
+    rw (err_is c.from_residual-in_err-placed.result _ c.from_residual-in_err-placed.ensures.1)
+    (spelled_unplaced sys c.args.bytes.now guests c.in_ok-guests.ensures.spelled stop refused)
