@@ -109,7 +109,7 @@ pub record TellsPlaced (sys : SystemView) (guests : List PartView) (text : List 
 
 -- no means: the system is refused as it stands, as `admit` says, or the text tells a guest for
 -- which there is no core: on each core of the host, the system with the guests before it placed and
--- this one there has a first refusal, which is true of every supply and every release
+-- this one there has a first refusal, and what that says holds (`RefusalHolds`)
 pub record IsTrulyRefused (sys : SystemView) : Type 0 where
   pub refusal : Refusal
   pub first : FirstRefusal sys refusal

@@ -53,8 +53,8 @@ EditsBytes sys bytes = OnAttempt (scripting bytes) (EditsSystem sys)
 abbrev pub Edits : Contents → Status → List ℕ → Type 0
 Edits contents = OnTwoFiles contents EditsBytes
 
--- each row that is denied is told a first refusal of the system as that row edits it, which is true
--- of every supply and every release
+-- of each row that is denied, what its refusal says of the system as that row edits it holds
+-- (`RefusalHolds`, which says nothing of a node that is too wide to be judged)
 abbrev pub DenialsHold : List Answer → Type 0
 DenialsHold answers =
     (k : ℕ) (edited : SystemView) (refusal : Refusal) →
