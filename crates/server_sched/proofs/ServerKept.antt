@@ -1,5 +1,5 @@
 -- What is kept of a level is kept of a node with some spans, and is so once a child has run.
-use Rattle.std.proofs.Common.{◌≡◌, ◌≢◌, ◌⊎◌, ℕ, zero, suc, ◌+◌, ◌-◌, ◌<◌, ◌≤◌, List, [], ◌∷◌, ◌++◌, length, replicate, set, Option, Some, None, refl, sym, ◌∙◌, ap, arith, subst, inl, inr, append_assoc, append-nil, length-set, get_or-set_other}
+use Rattle.std.proofs.Common.{◌≡◌, ◌≢◌, ◌⊎◌, ℕ, zero, suc, ◌+◌, ◌-◌, ◌<◌, ◌≤◌, List, [], ◌∷◌, ◌++◌, length, replicate, set, Option, Some, None, refl, sym, ◌∙◌, ap, arith, subst, inl, inr, append_assoc, append-nil, length-set, get_or-set_same, get_or-set_other}
 use Rattle.std.proofs.lemmas.Bool.{cases_eq}
 use Rattle.std.proofs.lemmas.List.{get_or-map, length-map, get_or_append_left, get_or_push, length_push}
 use Rattle.std.proofs.lemmas.List.Concat.{flat_map-append}
@@ -19,7 +19,7 @@ use Rattle.tree_model.specs.View.{SystemView}
 use Rattle.tree_model.specs.Tree.{server_task, server_tasks, is_child}
 use Rattle.span_counts.specs.Counts.{AreCounts}
 use Rattle.tree_spans.specs.NodeView.{NodeView}
-use Rattle.tree_spans.specs.Shares.{AreShares}
+use Rattle.tree_spans.specs.Shares.{AreShares, share_at}
 use Rattle.tree_spans.specs.KeptNodes.{IsKeptOf}
 use Rattle.server_sched.specs.CountedTree.{KeptView, kept_of, IsStillKept}
 use Rattle.tree_spans.specs.Levels.{IsServerLevel}
@@ -174,7 +174,7 @@ server_kept sched T given n kept h =
         counts =
             subst (λ (r : List (Option ℕ)). AreCounts T jobs (slots_of given n) r kept.counts) (sym s.same) h.counts;
       };
-      kept = record { counts = refl; one_each = refl; later = λ m l. refl };
+      kept = record { counts = refl; one_each = refl; later = λ m l. refl; gone = λ m l. absurd (omega (arith, l)) };
     }
 
 -- and so is what is kept of a run of a leaf's jobs
@@ -184,16 +184,22 @@ pub guests_kept : (Is : NodeView → Type 0) (node : NodeView)
 guests_kept Is node h = record {
   node = node;
   is_node = subst Is (sym h.kept) h.is_node;
-  kept = record { counts = refl; one_each = refl; later = λ m l. refl };
+  kept = record { counts = refl; one_each = refl; later = λ m l. refl; gone = λ m l. absurd (omega (arith, l)) };
 }
 
 -- once one child more has run
-pub still_kept : (kept : KeptView) (node : NodeView) (k : ℕ) → IsStillKept kept node k
+pub still_kept : (kept : KeptView) (node : NodeView) (k : ℕ) → IsStillKept kept node k → k < length kept.shares
     → IsStillKept (record kept { shares = set kept.shares k [] }) node (k + 1)
-still_kept kept node k h = record {
+still_kept kept node k h there = record {
   counts = h.counts;
   one_each = length-set kept.shares k [] ∙ h.one_each;
   later =
       λ m l. get_or-set_other kept.shares k m [] [] (λ e. absurd (omega (arith, l, e)))
       ∙ h.later m (omega (arith, l));
+  gone = λ m l. elim (cases_eq m k) [
+    | inl now ↦
+        subst (λ (z : ℕ). share_at (set kept.shares k []) z ≡ []) (sym now)
+        (get_or-set_same kept.shares k [] [] there)
+    | inr ne ↦ get_or-set_other kept.shares k m [] [] (λ e. absurd (omega (arith, ne, e))) ∙ h.gone m (omega (arith, l))
+  ];
 }

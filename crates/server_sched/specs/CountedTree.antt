@@ -1,5 +1,5 @@
 -- The first run of a tree of which the counts alone are kept.
-use Rattle.std.specs.Prelude.{◌≡◌, ℕ, ◌≤◌, Bool, List, length, Option}
+use Rattle.std.specs.Prelude.{◌≡◌, ℕ, ◌<◌, ◌≤◌, Bool, List, [], length, Option}
 use Rattle.slot_model.specs.declared.job.Job.{Job}
 use Rattle.span_counts.specs.declared.counts.Counts.{Counts}
 use Rattle.guest_sched.specs.Spans.{Window}
@@ -17,11 +17,13 @@ pub record KeptView : Type 0 where
 abbrev pub kept_of : NodeView → KeptView
 kept_of node = record { shares = node.shares; counts = node.counts }
 
--- once the first k children of a node have run: its counts, and the windows of the later children
+-- once the first k children of a node have run: its counts, the windows of the later children, and
+-- none of those that have run
 pub record IsStillKept (kept : KeptView) (node : NodeView) (k : ℕ) : Type 0 where
   pub counts : kept.counts ≡ node.counts
   pub one_each : length kept.shares ≡ length node.shares
   pub later : (m : ℕ) → k ≤ m → share_at kept.shares m ≡ share_at node.shares m
+  pub gone : (m : ℕ) → m < k → share_at kept.shares m ≡ []
 
 -- the counts of the one first run of the tree
 pub record AreFirstCounts (sys : SystemView) (budgets : List ℕ) (n : ℕ)

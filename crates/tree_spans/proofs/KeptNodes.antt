@@ -16,10 +16,10 @@ use Rattle.tree_model.specs.Releases.{jobs_at}
 use Rattle.tree_model.proofs.Children.{same_itself}
 use Rattle.tree_model.proofs.Parents.{Below, child_stands}
 use Rattle.tree_spans.specs.NodeView.{NodeView, counts_of}
-use Rattle.tree_spans.specs.TreeSpans.{no_node, node_at, given_at, runs_of, supplies_of, IsServerNode, IsPartNode, IsThere, node_of, parent_of, AreTreeSpans}
+use Rattle.tree_spans.specs.TreeSpans.{no_node, node_at, given_at, runs_of, supplies_of, IsServerNode, IsPartNode, parent_of, AreTreeSpans}
 use Rattle.tree_spans.specs.KeptNodes.{IsKeptOf, IsKeptAt, AreKept, ran_of_core, ran_of_part, IsTreeKept}
 use Rattle.tree_spans.specs.inner.Walking.{AreCoresKept, HasCores, ArePartsKept, IsKeptIn, HasChild}
-use Rattle.tree_spans.proofs.TreeNodes.{PartShare, no_cores, one_core, cores_give, no_part_nodes, one_part, share_of_part, tree_spans}
+use Rattle.tree_spans.proofs.TreeNodes.{IsThere, node_of, PartShare, no_cores, one_core, cores_give, no_part_nodes, one_part, share_of_part, tree_spans}
 
 -- a place is a node's own where its children are that node's
 same_node : (a b : Place) → same_place a b ≡ true → a ≡ b

@@ -23,7 +23,7 @@ use Rattle.tree_spans.specs.NodeView.{NodeView, TreeView, counts_of}
 use Rattle.tree_spans.specs.TreeCounts.{no_counts, counts_at, AreTreeCounts}
 use Rattle.tree_spans.specs.Shares.{AreShare, share_at}
 use Rattle.tree_model.specs.Releases.{jobs_at}
-use Rattle.tree_spans.specs.TreeSpans.{given_at, no_node, node_at, runs_of, supplies_of, IsServerNode, IsPartNode, AreCoreNodes, ArePartNodes, GivesShares, CoresGive, IsThere, node_of, parent_of, AreTreeSpans}
+use Rattle.tree_spans.specs.TreeSpans.{given_at, no_node, node_at, runs_of, supplies_of, IsServerNode, IsPartNode, AreCoreNodes, ArePartNodes, GivesShares, CoresGive, parent_of, AreTreeSpans}
 
 abbrev nothing : NodeView
 nothing = no_node
@@ -108,6 +108,15 @@ one_part sys budgets n jobs cores fits m l nodes h x new =
             (sym (get_or_append_left nodes (x ∷ []) nothing q (omega (arith, h.long)))) (h.each q (omega arith)))
       ];
     }
+
+-- the node at a place, and that it has run
+abbrev pub IsThere : List NodeView → List NodeView → Place → Type 0
+IsThere cores parts (Core c) = c < length cores
+IsThere cores parts (Part r) = r < length parts
+
+abbrev pub node_of : List NodeView → List NodeView → Place → NodeView
+node_of cores parts (Core c) = node_at cores c
+node_of cores parts (Part r) = node_at parts r
 
 -- the parent of a part gives it its share: that of its place among the parent's children
 record Given (sys : SystemView) (budgets : List ℕ) (n : ℕ) (cores parts : List NodeView) (q : ℕ) (node : Place) : Type 0

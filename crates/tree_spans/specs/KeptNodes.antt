@@ -16,7 +16,7 @@ pub record IsKeptOf {K : Type 0} (is_kept_of : K → NodeView → ℕ → Type 0
   pub is_node : Is node
   pub kept : is_kept_of one node 0
 
--- entry i of a list is kept of a node
+-- entry i of a list is kept of a node; since the entry is there, the default of `is` plays no part
 pub record IsKeptAt {K : Type 0} (is_kept_of : K → NodeView → ℕ → Type 0) (kept : List K) (i : ℕ)
     (node : NodeView) (k : ℕ) : Type 0 where
   pub there : i < length kept

@@ -104,15 +104,7 @@ pub record CoresGive (sys : SystemView) (budgets : List ℕ) (n : ℕ)
   pub long : length cores ≡ length sys.cores
   pub each : (c : ℕ) → c < length sys.cores → GivesShares sys budgets n (Core c) (node_at cores c)
 
--- the node at a place, and that it has run; the place of a part's parent
-abbrev pub IsThere : List NodeView → List NodeView → Place → Type 0
-IsThere cores parts (Core c) = c < length cores
-IsThere cores parts (Part r) = r < length parts
-
-abbrev pub node_of : List NodeView → List NodeView → Place → NodeView
-node_of cores parts (Core c) = node_at cores c
-node_of cores parts (Part r) = node_at parts r
-
+-- the place of a part's parent
 abbrev pub parent_of : SystemView → ℕ → Place
 parent_of sys q = place_of (part_at sys q).parent
 

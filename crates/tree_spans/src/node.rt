@@ -1,5 +1,4 @@
-ghost use Rattle.std.specs.Prelude.{◌≡◌, ◌<◌, length, map, IfOk};
-ghost use Rattle.tree_spans.specs.Shares.{share_at};
+ghost use Rattle.std.specs.Prelude.{◌≡◌, IfOk};
 ghost use Rattle.tree_spans.specs.NodeView.{counts_of};
 
 use crate::TreeCounts;
@@ -47,14 +46,6 @@ impl NodeSpans {
         ensures { result ≡ self.now.counts }
     {
         self.counts
-    }
-
-    /// The windows that child `k` gets.
-    pub fn share(&self, k: usize) -> &[Window]
-        requires { k < length self.now.shares }
-        ensures { result.now ≡ share_at self.now.shares k }
-    {
-        &self.shares[k]
     }
 }
 

@@ -7,10 +7,11 @@ use Rattle.tree_model.specs.View.{PartView}
 use Rattle.tree_model.specs.Releases.{jobs_at}
 use Rattle.tree_spans.specs.NodeView.{NodeView}
 use Rattle.tree_spans.specs.Shares.{share_at}
-use Rattle.tree_spans.specs.TreeSpans.{runs_of, parent_of, node_of, IsPartNode}
+use Rattle.tree_spans.specs.TreeSpans.{runs_of, parent_of, IsPartNode}
 use Rattle.tree_spans.specs.KeptNodes.{IsKeptOf}
 use Rattle.tree_spans.specs.inner.Walking.{ArePartsKept, HasChild}
 use Rattle.tree_spans.proofs.Lists.{list_read, job_lists}
+use Rattle.tree_spans.proofs.TreeNodes.{node_of}
 use Rattle.tree_spans.proofs.KeptNodes.{IsTold, PartGiven, child_read, told_read, no_part_kept, part_given, one_part_kept}
 use Rattle.tree_spans.proofs.walk.part_nodes.Goals as goal
 

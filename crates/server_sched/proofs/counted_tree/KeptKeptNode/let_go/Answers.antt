@@ -1,4 +1,4 @@
-use Rattle.std.proofs.Common.{◌≡◌, ◌+◌, [], List, map, set, sym, ◌∙◌, ap, subst, Vec, Global}
+use Rattle.std.proofs.Common.{◌≡◌, ◌+◌, [], List, map, set, sym, ◌∙◌, ap, subst, arith, Vec, Global}
 use Rattle.std.proofs.lemmas.List.{map-set}
 use Rattle.span_counts.specs.declared.counts.Counts.{Counts}
 use Rattle.guest_sched.specs.Spans.{Window}
@@ -23,4 +23,6 @@ returns c = λ node h.
     ≡ with_shares c.args.self.now.counts (set c.args.self.now.shares k [])
     = ap (with_shares inside.counts) shares
     ∙ ap (λ (v : KeptView). with_shares v.counts (set v.shares k [])) c.self.view_is in
-    subst (λ (v : KeptView). IsStillKept v node (k + 1)) (sym left) (still_kept c.args.self.now node k h)
+    let (of, kept, child) = c.requires in
+    subst (λ (v : KeptView). IsStillKept v node (k + 1)) (sym left)
+    (still_kept c.args.self.now node k h (omega (arith, child, kept.one_each)))
