@@ -74,10 +74,9 @@ impl Account {
             WakeKind::Start => Account {
                 started: true,
                 blocked: false,
-                until: end,
-                level: 0,
-                left: budget,
-            },
+                ..self
+            }
+            .renewed(end, budget),
             WakeKind::Wake => Account {
                 blocked: false,
                 ..self
