@@ -119,7 +119,8 @@ returns-then-to-end-clause-holder c =
 pub returns-then-to-end-clause-keeps : goal.returns-then-to-end-clause-keeps
 returns-then-to-end-clause-keeps c =
     keeps_there c.args.sys.now c.args.plan.now c.args.self.now c.use_slots.new.self c.args.core
-    (c.args.to - c.args.from) c.args.vcpus.now c.use_slots.ensures.accounts c.requires.by_end c.requires.is_core c.requires.ready
+    (c.args.to - c.args.from) c.args.vcpus.now c.use_slots.ensures.accounts c.requires.by_end
+    c.requires.is_core c.requires.ready
     c.use_slots.ensures.holders c.use_slots.ensures.time c.use_slots.ensures.taken
 
 pub returns-clause-own : goal.returns-clause-own
@@ -142,6 +143,7 @@ pub returns-clause-keeps : goal.returns-clause-keeps
 returns-clause-keeps c =
     keeps_more c.args.sys.now c.args.core c.args.self.now c.use_slots.new.self c.end_periods.new.self
     (keeps_there c.args.sys.now c.args.plan.now c.args.self.now c.use_slots.new.self c.args.core
-    (c.args.to - c.args.from) c.args.vcpus.now c.use_slots.ensures.accounts c.requires.by_end c.requires.is_core c.requires.ready
+    (c.args.to - c.args.from) c.args.vcpus.now c.use_slots.ensures.accounts c.requires.by_end
+    c.requires.is_core c.requires.ready
     c.use_slots.ensures.holders c.use_slots.ensures.time c.use_slots.ensures.taken)
     c.end_periods.ensures.keeps
