@@ -1,6 +1,6 @@
 -- Accounts and keys that are set.
-use Rattle.std.proofs.Common.{◌≡◌, ◌≢◌, ℕ, ◌+◌, ◌<◌, ◌≤◌, Bool, true, false, cond, ◌&&◌, ◌==◌, nat_lt, List, length, set, Option, None, refl, sym, ◌∙◌, ap, arith, subst, inl, inr, eq-eqb, eqb-true}
-use Rattle.std.proofs.lemmas.Bool.{cases_eq, cases_Bool, both_ways, and_from, and_right, false≢true}
+use Rattle.std.proofs.Common.{◌≡◌, ◌≢◌, ℕ, ◌+◌, ◌<◌, ◌≤◌, Bool, true, false, cond, ◌&&◌, ◌==◌, nat_lt, List, length, set, Option, None, refl, sym, ◌∙◌, ap, arith, subst, inl, inr, eq-eqb}
+use Rattle.std.proofs.lemmas.Bool.{cases_eq, cases_Bool, both_ways, and_from, false≢true}
 use Rattle.std.proofs.lemmas.List.{get_or-set_same, get_or-set_other, length-set}
 use Rattle.slot_model.specs.Run.{holds}
 use Rattle.slot_model.proofs.Runs.{holds-is}
@@ -182,16 +182,6 @@ gone_is a true slots period budget to = go (nat_lt slots a.left)
     go true = refl
     go false = refl
 gone_is a false slots period budget to = refl
-
--- and where its period ends later, just one with the slots that it had
-pub not_ended : (a : Account) (has : Bool) (slots period budget to : ℕ) → to < a.until
-    → used_more a has slots budget ≡ gone_on a has slots period budget to
-not_ended a has slots period budget to l = elim (cases_Bool (to == a.until)) [
-  | inl e ↦ absurd (omega (arith, eqb-true to a.until e, l))
-  | inr e ↦
-      ap (λ (q : Bool). cond q (renewed a (to + period) budget) (used_more a has slots budget))
-      (sym (and_right a.started (to == a.until) e))
-]
 
 -- what ends at a slot is started, so its next period begins there
 pub ended_is : (a : Account) (period budget at : ℕ) → (a.started ≡ false → a.until ≡ PAST_ALL) → a.until ≡ at

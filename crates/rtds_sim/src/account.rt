@@ -1,4 +1,4 @@
-ghost use Rattle.std.specs.Prelude.{◌≡◌, ◌<◌, ◌+◌, ◌^◌, length};
+ghost use Rattle.std.specs.Prelude.{◌≡◌, ◌≤◌, ◌<◌, ◌+◌, ◌^◌, length};
 ghost use Rattle.rtds_sim.specs.inner.Accounts.{no_account, account_at, end_at, renewed, row_taken, using, had_budget, account_eligible, key_of};
 
 use release_file::WakeKind;
@@ -74,9 +74,10 @@ impl Account {
             WakeKind::Start => Account {
                 started: true,
                 blocked: false,
-                ..self
-            }
-            .renewed(end, budget),
+                until: end,
+                level: 0,
+                left: budget,
+            },
             WakeKind::Wake => Account {
                 blocked: false,
                 ..self
@@ -91,7 +92,7 @@ impl Account {
     /// Once it has had some slots, where more are left.
     #[inline(always)]
     pub fn using(self, slots: u64) -> Account
-        requires { slots < self.left }
+        requires { slots ≤ self.left }
         ensures { result ≡ using self slots }
     {
         Account {

@@ -51,7 +51,7 @@ impl Host {
     ghost use Rattle.tree_model.specs.Tree.{is_child, budget_at};
     ghost use Rattle.tree_model.specs.Plans.{IsPlan};
     ghost use Rattle.release_file.specs.declared.workload.Wake.{Wake as RowView};
-    ghost use Rattle.rtds_sim.specs.inner.ByEnd.{AreByEnd, first_end};
+    ghost use Rattle.rtds_sim.specs.inner.ByEnd.{AreByEnd};
     ghost use Rattle.rtds_sim.specs.inner.Members.{AreAll, AreMembers};
     ghost use Rattle.rtds_sim.specs.Printed.{push_some, on_core_at, switch_to};
     ghost use Rattle.rtds_sim.specs.inner.Accounts.{account_at, end_at, holder_at, gone_on, used_more, period_ended, renewed, IsChoice, IsSound, IsReady, NoEndBefore, NoneEnds, NoneAbove};
@@ -132,12 +132,11 @@ impl Host {
         ensures keeps { OnOk result (KeepsOthers sys.now core self.old self.new) }
     {
         sort(vcpus, &self.accounts);
-        let mut end = first_end(vcpus, &self.accounts);
         let mut at = from;
         while at < self.time {
             self.switch(sys, core, at, told)?;
-            let next = self.next_change(sys, core, at, end);
-            end = self.bring(sys, plan, vcpus, core, at, next, end);
+            let next = self.next_change(sys, vcpus, core, at);
+            self.bring(sys, plan, vcpus, core, at, next);
             at = next;
         }
         Ok(())
@@ -172,21 +171,22 @@ impl Host {
         Ok(())
     }
 
-    /// The slot at which something may change on core `core` next: a period ends, the first at slot
-    /// `end`, its VCPU has had its budget once more, or the time of the host has come.
-    fn next_change(&self, sys: &System, core: usize, at: u64, end: u64) -> u64
+    /// The slot at which something may change on core `core` next: a period ends, its VCPU has had
+    /// its budget once more, or the time of the host has come.
+    fn next_change(&self, sys: &System, vcpus: &[u32], core: usize, at: u64) -> u64
         requires ready { IsReady sys.now self.now }
         requires is_core { core < length sys.now.cores }
         requires in_limit { self.now.time ≤ LIMIT }
+        requires by_end { AreByEnd sys.now core self.now.accounts vcpus.now }
         requires in_time { at < self.now.time }
-        requires sooner { at < end }
+        requires ends { NoEndBefore sys.now self.now.accounts core (suc at) }
         ensures in_time { result ≤ self.now.time }
-        ensures in_period { result ≤ end }
+        ensures ends { NoEndBefore sys.now self.now.accounts core result }
         ensures budget { (v : ℕ) → holder_at self.now.holders core ≡ Some v
             → result ≤ at + (account_at self.now.accounts v).left }
         ensures later { at < result }
     {
-        let end = self.time.min(end);
+        let end = self.time.min(first_end(vcpus, &self.accounts));
         match self.holders[core] {
             Some(v) => at + account_of(&self.accounts, v).left.min(end - at),
             None => end,
@@ -194,7 +194,7 @@ impl Host {
     }
 
     /// Brings the accounts of core `core` from slot `from` to a later one, before which nothing
-    /// changes on it, where its first period ends at slot `end`. Gives where the first ends then.
+    /// changes on it.
     fn bring(
         &mut self,
         sys: &System,
@@ -203,8 +203,7 @@ impl Host {
         core: usize,
         from: u64,
         to: u64,
-        end: u64,
-    ) -> u64
+    )
         requires plan { IsPlan sys.now plan.now }
         requires ready { IsReady sys.now self.old }
         requires is_core { core < length sys.now.cores }
@@ -213,9 +212,7 @@ impl Host {
         requires later { from < to }
         requires in_time { to ≤ self.old.time }
         requires few { NoneAbove sys.now self.old.accounts core from }
-        requires end { end ≡ first_end self.old.accounts vcpus.old }
-        requires in_period { to ≤ end }
-        ensures end { result ≡ first_end self.new.accounts vcpus.new }
+        requires ends { NoEndBefore sys.now self.old.accounts core to }
         ensures by_end { AreByEnd sys.now core self.new.accounts vcpus.new }
         ensures ready { IsReady sys.now self.new }
         ensures own { (v : ℕ) → v < length sys.now.parts → is_child sys.now (Core core) v ≡ true
@@ -227,11 +224,7 @@ impl Host {
         ensures keeps { KeepsOthers sys.now core self.old self.new }
     {
         self.use_slots(sys, plan, core, to - from);
-        if to < end {
-            return end;
-        }
         self.end_periods(sys, plan, vcpus, core, to);
-        first_end(vcpus, &self.accounts)
     }
 
     /// Counts some slots, which the VCPU of core `core` had.

@@ -1,12 +1,11 @@
-use Rattle.std.proofs.Common.{◌≡◌, ℕ, ◌-◌, ◌<◌, ◌≤◌, List, length, Option, refl, ◌∙◌, ap, arith}
+use Rattle.std.proofs.Common.{◌≡◌, ℕ, ◌-◌, ◌<◌, ◌≤◌, List, length, Option, refl, ◌∙◌, ap, arith, subst}
 use Rattle.slot_model.specs.Run.{holds}
 use Rattle.tree_model.specs.declared.place.Place.TheVariants.{Core}
 use Rattle.tree_model.specs.System.{part_at}
 use Rattle.tree_model.specs.Tree.{is_child, budget_at}
 use Rattle.rtds_sim.specs.declared.account.Account.{Account}
-use Rattle.rtds_sim.specs.inner.Accounts.{account_at, holder_at, gone_on}
+use Rattle.rtds_sim.specs.inner.Accounts.{account_at, holder_at, gone_on, NoEndBefore}
 use Rattle.rtds_sim.proofs.CoreRuns.{keeps_all, keeps_more, stands_first, stands_last, stands_on, gone_few}
-use Rattle.rtds_sim.proofs.Firsts.{first_least, first_later}
 use Rattle.rtds_sim.proofs.host.Host.run_core.Goals as goal
 
 pub loop-at-init : goal.loop-at-init
@@ -27,19 +26,7 @@ loop-at-init c = record {
   few = c.requires.few;
   ends = c.requires.ends;
   keeps = keeps_all c.args.sys.now c.args.core c.args.self.now;
-  end = c.first_end-end.ensures;
 }
-
-pub next_change-next-requires-clause-sooner : goal.next_change-next-requires-clause-sooner
-next_change-next-requires-clause-sooner c =
-    let so_far = c.loop-at.invariant in
-    omega (
-      arith,
-      so_far.end,
-      first_later (is_child c.args.sys.now (Core c.args.core)) (length c.args.sys.now.parts) c.loop-at.self.accounts
-          c.loop-at.vcpus c.loop-at.at so_far.by_end.all
-          (omega (arith, c.loop-at-test.true, so_far.keeps.time, c.requires.in_limit)) so_far.ends,
-    )
 
 pub loop-at-preserved : goal.loop-at-preserved
 loop-at-preserved c =
@@ -52,8 +39,8 @@ loop-at-preserved c =
     let old = c.loop-at.self in
     let on = c.in_ok-switch.ensures in
     let switched = c.switch.new.self in
-    let new = c.bring-end.new.self in
-    let brought = c.bring-end.ensures in
+    let new = c.bring.new.self in
+    let brought = c.bring.ensures in
     let same : switched.accounts ≡ old.accounts = on.accounts in
     let holder : Option ℕ = holder_at switched.holders core in
     let gone : (v : ℕ) → v < length sys.parts → _
@@ -70,13 +57,7 @@ loop-at-preserved c =
           λ rows n k run u. stands_on sys budgets c.requires.plan rows n core run c.args.from c.args.self.now.time k
           c.args.self.now u at next so_far.since c.next_change-next.ensures.later in_time old c.args.told.now.items
           c.loop-at.told.items (so_far.run rows n k run u) holder on.chosen
-          (λ v l child. omega (
-            arith,
-            c.next_change-next.ensures.in_period,
-            so_far.end,
-            first_least (is_child sys (Core core)) (length sys.parts) old.accounts c.loop-at.vcpus so_far.by_end.all
-                so_far.by_end.order v l child,
-          ))
+          (subst (λ (xs : List Account). NoEndBefore sys xs core next) same c.next_change-next.ensures.ends)
           (λ v e. omega (
             arith,
             c.next_change-next.ensures.budget v e,
@@ -98,7 +79,6 @@ loop-at-preserved c =
       keeps =
           keeps_more sys core c.args.self.now switched new
           (keeps_more sys core c.args.self.now old switched so_far.keeps on.keeps) brought.keeps;
-      end = brought.end;
     }
 
 pub returns-clause-run : goal.returns-clause-run

@@ -1,7 +1,7 @@
-use Rattle.std.proofs.Common.{◌≡◌, ℕ, suc, ◌-◌, ◌≤◌, List, Option}
+use Rattle.std.proofs.Common.{ℕ, suc, ◌-◌, ◌≤◌, List, Option}
 use Rattle.release_file.specs.declared.workload.Wake.{Wake as Row}
 use Rattle.rtds_sim.specs.inner.Accounts.{IsReady, NoEndBefore, NoneAbove}
-use Rattle.rtds_sim.specs.inner.ByEnd.{AreByEnd, first_end}
+use Rattle.rtds_sim.specs.inner.ByEnd.{AreByEnd}
 use Rattle.rtds_sim.specs.inner.Running.{IsUnderway, KeepsOthers}
 use Rattle.rtds_sim.proofs.CoreRuns.{StandsAt}
 use Rattle.rtds_sim.proofs.host.Host.run_core.Given as goal
@@ -20,7 +20,6 @@ invariant-loop-at l = record {
   few : NoneAbove l.sys l.self.accounts l.core l.at;
   ends : NoEndBefore l.sys l.self.accounts l.core (suc l.at);
   keeps : KeepsOthers l.sys l.core l.initial.self l.self;
-  end : l.end ≡ first_end l.self.accounts l.vcpus;
 }
 
 abbrev pub decreases-loop-at : goal.decreases-loop-at
