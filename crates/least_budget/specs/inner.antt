@@ -1,2 +1,0 @@
--- What only private functions promise each other.
-pub mod Cuts
