@@ -1,5 +1,5 @@
 -- The line above the demand bound of tasks.
-use Rattle.std.specs.Prelude.{◌≡◌, ℕ, ◌+◌, ◌*◌, ◌^◌, ◌≤◌, List, Option, length, MatchOption}
+use Rattle.std.specs.Prelude.{◌≡◌, ℕ, ◌+◌, ◌*◌, ◌^◌, ◌≤◌, List, length}
 use Rattle.slot_model.specs.declared.task.Task.{Task}
 use Rattle.slot_model.specs.Task.{sporadic_tasks}
 use Rattle.slot_model.specs.Bound.{dbf}
@@ -12,8 +12,3 @@ pub record IsDemandLine (tasks : List Task) (line : Line) : Type 0 where
   pub slope : line.slope ≡ asked_rate (sporadic_tasks tasks)
   pub offset : line.offset ≡ asked_ahead (sporadic_tasks tasks)
   pub small : line.offset ≤ length tasks * 2 ^ 90
-
--- fewer than 2^32 tasks have one
-abbrev pub HasLine : List Task → Option Line → Type 0
-HasLine tasks line =
-    MatchOption line (2 ^ 32 ≤ length tasks) (λ found. IsDemandLine tasks found)

@@ -3,8 +3,7 @@ ghost use Rattle.slot_model.specs.Task.{sporadic_tasks};
 ghost use Rattle.edf_test.specs.Back.{FitsPast};
 
 use crate::equal::never_meets;
-use crate::lined::LinedLevel;
-use crate::settled::settled_by;
+use crate::lined::{LinedLevel, settled_by};
 use supply_bound::Supply;
 
 /// Up to which window the windows of 1 to `h` slots are to be tested. Where the tasks' rate is

@@ -1,12 +1,11 @@
 ghost use Rattle.std.specs.Prelude.{◌≡◌, ℕ, ◌+◌, ◌-◌, ◌*◌, ◌/◌, ◌^◌, ◌<◌, ◌≤◌, max, length, IfSome, MatchOption};
 ghost use Rattle.slot_model.specs.Task.{sporadic_task, sporadic_tasks};
 ghost use Rattle.slot_model.specs.Bound.{dbf};
-ghost use Rattle.edf_test.specs.Lines.{HasLine};
+ghost use Rattle.edf_test.specs.Lines.{IsDemandLine};
 ghost use Rattle.edf_test.specs.Rates.{IsSettledPast, rate_up, asked_rate, given_rate, given_behind, settled_point};
 
 use crate::amount::amount_of;
 use crate::line::Line;
-use crate::lined::LinedLevel;
 use slot_model::Task;
 use supply_bound::Supply;
 
@@ -29,17 +28,9 @@ pub fn settled_past<S: Supply>(tasks: &[Task], s: &S) -> Option<u128>
     crossing(demand_line(tasks)?, s)
 }
 
-/// The same by the line of the level, which need not be found for each supply.
-pub fn settled_by<S: Supply>(lined: &LinedLevel, s: &S) -> Option<u128>
-    ensures { let T = sporadic_tasks lined.now.level.tasks.now in
-        IfSome result (λ last. IsSettledPast T (S.bound s.now) last) }
-{
-    crossing(lined.line?, s)
-}
-
 /// Where this line meets the line below the supply's bound: what is at most the line is no more
 /// than the bound from there on.
-fn crossing<S: Supply>(asked: Line, s: &S) -> Option<u128>
+pub fn crossing<S: Supply>(asked: Line, s: &S) -> Option<u128>
     ensures past { IfSome result (λ last. (x t : ℕ) → last < t →
         x * 2 ^ 60 ≤ asked.slope * t + asked.offset → x ≤ S.bound s.now t) }
     ensures exact { let rate = given_rate (S.amount s.now) (S.cycle_of s.now) in
@@ -61,7 +52,8 @@ fn crossing<S: Supply>(asked: Line, s: &S) -> Option<u128>
 
 /// The line that the demand bound never passes: each task asks for its work once a period.
 pub fn demand_line(tasks: &[Task]) -> Option<Line>
-    ensures { HasLine tasks.now result }
+    ensures { MatchOption result (2 ^ 32 ≤ length tasks.now)
+        (λ line. IsDemandLine tasks.now line) }
 {
     let mut slope: u128 = 0;
     let mut offset: u128 = 0;

@@ -8,7 +8,7 @@ use Rattle.slot_model.specs.Supply.{BudgetLaws}
 use Rattle.slot_model.specs.Bound.{dbf, DemandFits, IsHorizon}
 use Rattle.edf_demand.proofs.Horizons.{horizon_is_enough, rises_of_laws}
 use Rattle.edf_test.specs.Back.{FitsPast, IsLastShort}
-use Rattle.least_budget.specs.Cuts.{IsLeastAt}
+use Rattle.least_budget.specs.inner.Cuts.{IsLeastAt}
 use Rattle.least_budget.proofs.Between.{Grows, IsBetween}
 
 -- nothing below `low` passes, `high` passes, and with `low` no window past `last` and up to h is

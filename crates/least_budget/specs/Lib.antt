@@ -1,3 +1,3 @@
 pub mod Answers
 pub mod CommonHit
-pub mod Cuts
+pub mod inner

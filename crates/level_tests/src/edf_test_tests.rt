@@ -154,7 +154,7 @@ fn short_windows_of_a_level(rt: HostRuntime) {
     let mut terms = [Term::none()];
     let lined = LinedLevel::of(&DemandLevel::gather(&tasks, &mut terms));
     let supply = periodic(&rt, 5, 2);
-    // 3, 6, 9 and 12 slots are asked for in 4, 14, 24 and 34, and come in 12, 18, 27 and 34
+    // 3, 6, 9 and 12 slots are asked for in 4, 14, 24 and 34, and come in 12, 18, 27 and 33
     for (window, first, last) in [
         (3, None, None),
         (4, Some(4), Some(4)),

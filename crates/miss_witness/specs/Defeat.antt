@@ -40,10 +40,10 @@ abbrev pub IsDefeatSupply : ℕ → Defeat → List Bool → Type 0
 IsDefeatSupply period defeat =
     WorstList (worst_slot period defeat.budget) defeat.start defeat.span
 
--- A defeat defeats its budget and each smaller one: its list of slots, of which there is one, gives
--- each of them in every period, the release of all tasks at its start is legal, and over that list
--- a job of it misses by the end of the window in every permitted run of the guest, of which there
--- is one. So with each of these budgets the guest must miss.
+-- A defeat defeats its budget and each smaller one: its list of slots, which there is, gives each
+-- of them in every period, the release of all tasks at its start is legal, and over that list a job
+-- of it misses by the end of the window in every permitted run of the guest, of which there is at
+-- least one. So with each of these budgets the guest must miss.
 pub record Defeats (sched : Sched) (tasks : List SporadicTask) (period : ℕ) (defeat : Defeat)
     : Type 0 where
   pub some_supply : (slots : List Bool) × IsDefeatSupply period defeat slots
