@@ -3,4 +3,5 @@ pub mod Faults
 pub mod Files
 pub mod Memory
 pub mod Real
+pub mod Taker
 pub mod Written

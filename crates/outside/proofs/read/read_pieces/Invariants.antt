@@ -1,7 +1,7 @@
-use Rattle.std.proofs.Common.{◌≡◌, ◌≤◌, ◌+◌, ◌-◌, vec_len, true}
+use Rattle.std.proofs.Common.{◌≡◌, ◌≤◌, ◌+◌, ◌-◌, true}
 use Rattle.outside.specs.Counts.{raised}
 use Rattle.outside.proofs.ReadSoFar.{HasRead}
-use Rattle.outside.proofs.read.read_all.Given as goal
+use Rattle.outside.proofs.read.read_pieces.Given as goal
 
 abbrev pub invariant-pieces : goal.invariant-pieces
 invariant-pieces g l = record {
@@ -9,12 +9,13 @@ invariant-pieces g l = record {
   files : g.S.Store.files l.store ≡ g.S.Store.files l.fn.store;
   faults : g.S.Store.faults l.store ≡ g.S.Store.faults l.fn.store;
   absences : g.S.Store.absences l.store ≡ g.S.Store.absences l.fn.store;
-  short : vec_len l.bytes ≤ l.limit;
-  taken : raised (g.S.Store.taken l.fn.store) (vec_len l.bytes) ≤ g.S.Store.taken l.store;
-  no_more : g.S.Store.taken l.store ≤ g.S.Store.taken l.fn.store + vec_len l.bytes;
+  short : l.taken ≤ l.limit;
+  taken : raised (g.S.Store.taken l.fn.store) l.taken ≤ g.S.Store.taken l.store;
+  no_more : g.S.Store.taken l.store ≤ g.S.Store.taken l.fn.store + l.taken;
   taken_last : g.S.Store.taken l.fn.store ≤ g.S.Store.taken l.store;
-  told : HasRead (g.S.Store.files l.fn.store) l.name l.bytes.items (g.S.Store.rest l.store);
+  read : HasRead g.T.ByteTaker.has_taken l.fn.taker l.taker (g.S.Store.files l.fn.store) l.name
+      (g.S.Store.rest l.store) l.taken;
 }
 
 abbrev pub decreases-pieces : goal.decreases-pieces
-decreases-pieces g l = l.limit - vec_len l.bytes
+decreases-pieces g l = l.limit - l.taken
