@@ -6,12 +6,13 @@ use Rattle.system_file.specs.declared.fault.SystemFault.{SystemFault}
 use Rattle.system_file.specs.SystemFile.{system_of}
 use Rattle.rt_report.specs.Unread.{too_long_text}
 use Rattle.outside.specs.Files.{Files, Told, file_named}
+use Rattle.outside.specs.Taker.{TookFile}
 use Rattle.command_steps.specs.declared.status.Status.{Status}
 use Rattle.command_steps.specs.declared.status.Status.TheVariants.{BadFile, TooLong}
 use Rattle.command_steps.specs.Answer.{file_limit, Saying, AtContent, OnSystem}
 use Rattle.command_steps.specs.declared.answer.Ending.{Ending}
 use Rattle.command_steps.specs.declared.answer.Ending.TheVariants.{Answered, Unread, NoMemory as NoRoom}
-use Rattle.command_steps.specs.Steps.{Counts, IsQuiet, Explains, ExplainsAnswer, IfAnswered, IsSpelled, StopsAt}
+use Rattle.command_steps.specs.Steps.{Counts, IsQuiet, Explains, ExplainsAnswer, IfAnswered, IsSpelled, StopsAt, TookHeld}
 
 -- a list of more than n entries
 longer_list : (n : ℕ) → (bytes : List ℕ) × (n < length bytes)
@@ -38,6 +39,13 @@ stops_long k None name text Says is told =
     record { content = Some long.0; held = tt; answers = long_content k long.0 text Says is long.1 })
 stops_long k (Some files) name text Says is told =
     long_of_told k files name text Says is (file_named name files) refl told
+
+-- a whole file that was taken
+pub took_held : {A : Type 0} (has_taken : A → A → List ℕ → Type 0) (old new : A) (files : Option Files)
+    (name : List ℕ) (before after : ℕ) → TookFile has_taken old new files name file_limit before after
+    → TookHeld has_taken old new files name
+took_held has_taken old new files name before after file =
+    record { bytes = file.bytes; took = file.took; held = record { held = file.whole; short = file.short } }
 
 -- a system that was spelled, or was not
 pub system_spelled : (files : Option Files) (name bytes : List ℕ) (result : Result SystemView Ending)

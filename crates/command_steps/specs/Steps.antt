@@ -97,6 +97,28 @@ pub record IsHeld (files : Option Files) (name bytes : List ℕ) : Type 0 where
   pub held : Told files name (λ file. file ≡ Some bytes)
   pub short : length bytes ≤ file_limit
 
+-- from one value to another a taker took the bytes of the file of that name, which is short enough
+pub record TookHeld {A : Type 0} (has_taken : A → A → List ℕ → Type 0) (old new : A)
+    (files : Option Files) (name : List ℕ) : Type 0 where
+  pub bytes : List ℕ
+  pub took : has_taken old new bytes
+  pub held : IsHeld files name bytes
+
+-- what began so has taken these bytes of a file that is short enough
+pub record HasTaken {A : Type 0} (Begins : A → Type 0) (has_taken : A → A → List ℕ → Type 0)
+    (bytes : List ℕ) (now : A) : Type 0 where
+  pub start : A
+  pub begun : Begins start
+  pub took : has_taken start now bytes
+  pub short : length bytes ≤ file_limit
+
+-- and they are those of the file of that name
+pub record HasTakenFile {A : Type 0} (Begins : A → Type 0) (has_taken : A → A → List ℕ → Type 0)
+    (files : Option Files) (name : List ℕ) (now : A) : Type 0 where
+  pub bytes : List ℕ
+  pub taken : HasTaken Begins has_taken bytes now
+  pub held : Told files name (λ file. file ≡ Some bytes)
+
 -- the answer over the files of two names, where this is said of the system of the first and of the
 -- bytes of the second
 pub record AnswersTwo (files : Option Files) (first second : List ℕ) (Says : SystemView → Saying)

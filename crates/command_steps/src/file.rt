@@ -1,14 +1,14 @@
-ghost use Rattle.std.specs.Prelude.{◌≡◌, ◌≢◌, ◌≤◌, length, Some, Ok, IfOk, IfErr, OnOk};
+ghost use Rattle.std.specs.Prelude.{◌≡◌, ◌≢◌, ◌≤◌, [], length, Some, Ok, IfOk, IfErr, OnOk};
 ghost use Rattle.outside.specs.Files.{Files, Told, file_named};
 ghost use Rattle.system_file.specs.SystemFile.{system_of};
 ghost use Rattle.rt_report.specs.Fault.{fault_text, IsFault};
 ghost use Rattle.command_steps.specs.Answer.{file_limit, OnSystem};
 ghost use Rattle.command_steps.specs.Reading.{read_of};
-ghost use Rattle.command_steps.specs.Steps.{counts_of, IfAnswered, IsQuiet, Explains, StepTakes, StopsAt, IsSpelled, EndsJudged};
+ghost use Rattle.command_steps.specs.Steps.{counts_of, IfAnswered, IsQuiet, Explains, StepTakes, StopsAt, IsSpelled, EndsJudged, TookHeld};
 
 use crate::Status;
 use crate::answer::{Answer, Ending};
-use outside::{ReadFault, Store, read_all};
+use outside::{ByteTaker, ReadFault, Store, read_pieces};
 use rt_report::{FileFault, absent_text, fault_text, too_long_text};
 use std::alloc::{AllocError, Global};
 use system_file::{SystemFault, read_system};
@@ -17,10 +17,48 @@ use tree_model::System;
 /// The most bytes of a file.
 const MOST_BYTES: usize = 67_108_864;
 
+/// Hands the bytes of the file of that name on to the taker, piece by piece. It is the file word
+/// `number`, counted from 1. It stops where the file is absent or too long.
+#[tactic(auto, using(crate::proofs::Steps::stops_long, crate::proofs::Steps::took_held))]
+pub fn hand_on<S: Store, T: ByteTaker>(
+    alloc: Global,
+    store: &mut S,
+    name: &str,
+    number: u32,
+    taker: &mut T,
+) -> Result<(), Ending>
+    requires { T.has_taken taker.old taker.old [] }
+    ensures took { OnOk result
+        (TookHeld T.has_taken taker.old taker.new (S.files store.old) name.now) }
+    ensures refused { IfErr result (λ stop. IfAnswered stop (λ a.
+        StopsAt number (S.files store.old) name.now (λ _ _ _. ⊥) a.status a.text.items)) }
+    ensures same_files { S.files store.new ≡ S.files store.old }
+    ensures quiet { let counts = counts_of S.faults S.absences S.taken in
+        OnOk result (IsQuiet (counts store.old) (counts store.new)) }
+    ensures explained { let counts = counts_of S.faults S.absences S.taken in
+        IfErr result (λ stop. Explains stop (counts store.old) (counts store.new)) }
+    ensures taken { (files : Files) → S.files store.old ≡ Some files
+        → StepTakes result (read_of (file_named name.now files))
+        (S.taken store.old) (S.taken store.new) }
+{
+    match read_pieces(alloc, store, name, MOST_BYTES, taker) {
+        Ok(()) => Ok(()),
+        Err(ReadFault::Absent) => Err(Ending::Answered(Answer {
+            status: Status::Absent,
+            text: absent_text(alloc, number)?,
+        })),
+        Err(ReadFault::TooLong) => Err(Ending::Answered(Answer {
+            status: Status::TooLong,
+            text: too_long_text(alloc, number)?,
+        })),
+        Err(ReadFault::Failed) => Err(Ending::Unread),
+        Err(ReadFault::NoMemory) => Err(Ending::NoMemory),
+    }
+}
+
 /// The bytes of the file of that name, which is the file word `number`, counted from 1. It stops
 /// where the file is absent or too long.
-#[tactic(auto, using(crate::proofs::Steps::stops_long))]
-pub fn read_file<S: Store>(
+fn read_file<S: Store>(
     alloc: Global,
     store: &mut S,
     name: &str,
@@ -40,19 +78,9 @@ pub fn read_file<S: Store>(
         → StepTakes result (read_of (file_named name.now files))
         (S.taken store.old) (S.taken store.new) }
 {
-    match read_all(alloc, store, name, MOST_BYTES) {
-        Ok(bytes) => Ok(bytes),
-        Err(ReadFault::Absent) => Err(Ending::Answered(Answer {
-            status: Status::Absent,
-            text: absent_text(alloc, number)?,
-        })),
-        Err(ReadFault::TooLong) => Err(Ending::Answered(Answer {
-            status: Status::TooLong,
-            text: too_long_text(alloc, number)?,
-        })),
-        Err(ReadFault::Failed) => Err(Ending::Unread),
-        Err(ReadFault::NoMemory) => Err(Ending::NoMemory),
-    }
+    let mut bytes = Vec::new(alloc);
+    hand_on(alloc, store, name, number, &mut bytes)?;
+    Ok(bytes)
 }
 
 /// The system that the file of that name spells, which is the first file word. It stops where the

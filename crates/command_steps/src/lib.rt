@@ -15,4 +15,4 @@ pub use leaf::{find_leaf, part_at};
 pub use one_file::{JudgeOne, over_one};
 pub use refusing::{admitted, assigned, refuse};
 pub use status::Status;
-pub use two_files::{JudgeTwo, over_two};
+pub use two_files::{JudgePieces, JudgeTwo, over_pieces, over_two};
