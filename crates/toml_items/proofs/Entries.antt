@@ -1,9 +1,11 @@
 -- A new entry at its place among the entries of a table.
-use Rattle.std.proofs.Common.{◌≡◌, ℕ, suc, ◌+◌, ◌-◌, ◌<◌, ◌≤◌, List, ◌∷◌, length, get_or, drop, None, Greater, nat_cmp, ap, arith}
+use Rattle.std.proofs.Common.{◌≡◌, ℕ, suc, ◌+◌, ◌-◌, ◌<◌, ◌≤◌, List, [], ◌∷◌, length, get_or, drop, None, Less, Greater, nat_cmp, refl, ap, arith}
 use Rattle.std.proofs.lemmas.List.{drop_more}
 use Rattle.std.specs.Borrow.{Bor}
 use Rattle.std.specs.List.{insert}
+use Rattle.std.specs.Cmp.{nat_cmp_is}
 use Rattle.std.specs.Cmp.Lexicographic.{slice_cmp}
+use Rattle.toml_parser.specs.Lexical.{first}
 use Rattle.toml.specs.Data.{get_member, member}
 use Rattle.toml_items.specs.declared.item.Item.{Item}
 use Rattle.toml_items.specs.Item.{item_view, entries_view}
@@ -11,6 +13,19 @@ use Rattle.toml_items.specs.Plain.{insert_member}
 
 abbrev pub Entry : Type 0
 Entry = Bor (List ℕ) × Item
+
+-- where the first bytes of two keys differ, they tell the order
+pub less_first : (a b : List ℕ) → first a < first b → slice_cmp nat_cmp a b ≡ Less
+less_first [] [] h = absurd (omega (arith, h))
+less_first [] (y ∷ ys) h = refl
+less_first (x ∷ xs) [] h = absurd (omega (arith, h))
+less_first (x ∷ xs) (y ∷ ys) h = rw (← nat_cmp_is x y Less h) refl
+
+pub greater_first : (a b : List ℕ) → first b < first a → slice_cmp nat_cmp a b ≡ Greater
+greater_first [] [] h = absurd (omega (arith, h))
+greater_first [] (y ∷ ys) h = absurd (omega (arith, h))
+greater_first (x ∷ xs) [] h = refl
+greater_first (x ∷ xs) (y ∷ ys) h = rw (← nat_cmp_is x y Greater h) refl
 
 -- The key is new among the entries, and this is its place there.
 abbrev pub IsPlace : List ℕ → List Entry → ℕ → Type 0

@@ -1,9 +1,10 @@
 -- What stands in a plain line, as the grammar of TOML reads it.
-use Rattle.std.proofs.Common.{◌≡◌, ℕ, suc, ◌+◌, IsUtf8, ◌<◌, Bool, true, false, ◌==◌, List, [], ◌∷◌, length, drop, slice_index, Some, refl, ap, ◌∙◌, inl, inr, arith, append-nil, get_or-drop, drop-drop}
+use Rattle.std.proofs.Common.{◌≡◌, ℕ, suc, ◌+◌, IsUtf8, ◌<◌, Bool, true, false, ◌==◌, List, [], ◌∷◌, length, drop, slice_index, is_some, Some, refl, ap, ◌∙◌, inl, inr, arith, append-nil, get_or-drop, drop-drop}
 use Rattle.std.proofs.lemmas.Bool.{cases_Bool, false≢true}
 use Rattle.std.proofs.lemmas.Bool.Decides.{nat_tests}
+use Rattle.std.specs.Char.{is_ascii_lowercase}
 use Rattle.std.specs.List.{prefix_len}
-use Rattle.toml_parser.specs.Lexical.{first, split_while, skip_ws, is_ws, is_bare, is_word}
+use Rattle.toml_parser.specs.Lexical.{first, split_while, skip_turn, skip_from, skip_blank, skip_ws, is_ws, is_bare, is_word}
 use Rattle.toml_parser.specs.Strings.{Key, key, simple_key, starts_string, is_plain, special, prepend, quoted, one_line}
 use Rattle.toml_parser.specs.Numbers.{unquoted}
 use Rattle.toml_parser.specs.declared.scalar.Scalar.{Scalar}
@@ -18,6 +19,31 @@ use Rattle.toml.proofs.Turns.{keyval_ok, val_atom}
 -- a run of bytes in a text ends where a character does
 pub bare_boundary : (text : List ℕ) → IsUtf8 text → IsCharBoundary text (prefix_len is_bare text)
 bare_boundary text utf8 = IsCharBoundary-ascii_run is_bare text utf8 (λ c e. grind (arith, nat_tests))
+
+-- the bytes of a key, counted from small letters on
+wider_len : (p q : ℕ → Bool) → ((c : ℕ) → q c ≡ true → p c ≡ true) → (cs : List ℕ)
+    → prefix_len p cs ≡ prefix_len q cs + prefix_len p (drop (prefix_len q cs) cs)
+wider_len p q wider [] = refl
+wider_len p q wider (c ∷ cs) =
+    elim (cases_Bool (q c)) [
+      | inl passes ↦
+          let more : 1 + prefix_len q cs ≡ suc (prefix_len q cs) = omega arith in
+          rw (passes, wider c passes, more) (omega (arith, wider_len p q wider cs))
+      | inr fails ↦ rw fails (omega arith)
+    ]
+
+pub small_and_more : (text : List ℕ) → prefix_len is_bare text
+    ≡ prefix_len is_ascii_lowercase text + prefix_len is_bare (drop (prefix_len is_ascii_lowercase text) text)
+small_and_more text = wider_len is_bare is_ascii_lowercase (λ c small. grind (arith, nat_tests)) text
+
+-- a line's end before a byte that is neither blank nor begins a comment
+pub after_line_feed : (text : List ℕ) → first text ≡ 10 → 35 < slice_index text 1
+    → skip_blank text ≡ drop 1 text
+unfolding skip_from
+after_line_feed [] feed more = absurd (omega (arith, feed))
+after_line_feed (c ∷ []) feed more = absurd (omega (arith, more))
+after_line_feed (c ∷ d ∷ ds) feed more =
+    let stop : is_some (skip_turn true false d (first ds)) ≡ false = grind (arith, nat_tests) in rw (feed, stop) refl
 
 pub plain_boundary : (text : List ℕ) → IsCharBoundary text (prefix_len (is_plain 34 false) text)
 plain_boundary text = IsCharBoundary-wide_run (is_plain 34 false) text (λ c e. grind (arith, nat_tests))

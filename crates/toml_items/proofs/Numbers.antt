@@ -1,6 +1,6 @@
 -- Digits at the front of a text, as the number that TOML reads.
-use Rattle.std.proofs.Common.{◌≡◌, ℕ, suc, ◌+◌, ◌*◌, ◌/◌, ◌%◌, ◌^◌, ◌<◌, ◌≤◌, false, ◌==◌, pos, List, [], ◌∷◌, ◌++◌, length, drop, get_or, decimal, Some, refl, sym, ap, ◌∙◌, subst, arith, add-one, append_assoc, drop-cons}
-use Rattle.std.proofs.Math.Nat.{pow-suc, pow-le-pow_right}
+use Rattle.std.proofs.Common.{◌≡◌, ℕ, suc, ◌+◌, ◌*◌, ◌/◌, ◌%◌, ◌^◌, ◌<◌, ◌≤◌, false, ◌==◌, pos, List, [], ◌∷◌, ◌++◌, length, drop, get_or, decimal, Some, refl, sym, ap, ◌∙◌, arith, add-one, append_assoc, drop-cons}
+use Rattle.std.proofs.Math.Nat.{pow-le-pow_right}
 use Rattle.std.proofs.lemmas.Fmt.{decimal_digit, decimal_step}
 use Rattle.toml_parser.specs.declared.scalar.Scalar.TheVariants.{Integer}
 use Rattle.toml_parser.specs.Lexical.{first, is_word}
@@ -34,11 +34,7 @@ digit_more bytes len number digit some small fits within here before =
     ∙ (sym (append_assoc (decimal number) ((48 + digit) ∷ []) (drop (len + 1) bytes))
     ∙ ap (λ (s : List ℕ). s ++ drop (len + 1) bytes) (sym same)))
 
--- the number of so many digits, and with a digit more
-pub more_below : (number digit len : ℕ) → number < 10 ^ len → digit < 10 → 10 * number + digit < 10 ^ (len + 1)
-more_below number digit len below small =
-    subst (λ (k : ℕ). 10 * number + digit < 10 ^ k) (sym (add-one len)) (omega (arith, pow-suc 10 len))
-
+-- a number of so few digits
 pub few_below : (number len : ℕ) → number < 10 ^ len → len ≤ 18 → number < 10 ^ 18
 few_below number len below few = omega (arith, pow-le-pow_right {n = 10} (omega arith) few)
 

@@ -1,5 +1,7 @@
 ghost use Rattle.std.specs.Prelude.{◌≡◌, ◌≤◌, None, true, length, OnOk, IfSome};
 ghost use Rattle.std.specs.List.{insert};
+ghost use Rattle.std.specs.Cmp.Lexicographic.{slice_cmp};
+ghost use Rattle.std.specs.Ordering.{nat_cmp};
 ghost use Rattle.toml.specs.Data.{get_member};
 ghost use Rattle.toml_items.specs.declared.item.Item.{Item as ItemValue};
 ghost use Rattle.toml_items.specs.Item.{item_view, entries_view};
@@ -8,6 +10,7 @@ ghost use Rattle.toml_items.specs.Plain.{insert_member};
 use crate::{Entry, Item};
 use std::alloc::AllocError;
 use std::cmp::Ordering;
+use toml_parser::text::first;
 
 /// The most keys of a table that is read from a plain text: each new key is compared with all.
 const MOST: usize = 64;
@@ -29,11 +32,30 @@ pub(crate) fn put_entry<'t>(
     }
     match place_of(entries, key) {
         Some(place) => {
-            entries.insert(place, (key, item))?;
+            insert_at(entries, place, (key, item))?;
             Ok(true)
         }
         None => Ok(false),
     }
+}
+
+/// Puts an entry at a place, which mostly is behind all others.
+#[inline]
+#[tactic(auto, using(std::proofs::lemmas::List::Edits::insert_end))]
+fn insert_at<'t>(
+    entries: &mut Vec<Entry<'t>>,
+    place: usize,
+    entry: Entry<'t>,
+) -> Result<(), AllocError>
+    requires { place ≤ length entries.old.items }
+    ensures { OnOk result (entries.new.items ≡ insert entries.old.items place entry.entry) }
+{
+    if place == entries.len() {
+        entries.push(entry)?;
+    } else {
+        entries.insert(place, entry)?;
+    }
+    Ok(())
 }
 
 /// The place of a key that is new: in front of the first key that is greater.
@@ -48,11 +70,26 @@ fn place_of(entries: &[Entry<'_>], key: &str) -> Option<usize>
     let mut at = entries.len();
     'entries: while at > 0 {
         at -= 1;
-        match key.cmp(entries[at].0) {
+        match key_order(key, entries[at].0) {
             Ordering::Less => place = at,
             Ordering::Equal => return None,
             Ordering::Greater => {}
         }
     }
     Some(place)
+}
+
+/// Which of two keys comes first in the order of their bytes. Mostly the first bytes tell it.
+#[inline]
+#[tactic(auto, using(crate::proofs::Entries::less_first, crate::proofs::Entries::greater_first))]
+fn key_order(a: &str, b: &str) -> Ordering
+    ensures { result ≡ slice_cmp nat_cmp a.now b.now }
+{
+    if first(a) < first(b) {
+        Ordering::Less
+    } else if first(b) < first(a) {
+        Ordering::Greater
+    } else {
+        a.cmp(b)
+    }
 }

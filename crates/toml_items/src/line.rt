@@ -1,4 +1,5 @@
 ghost use Rattle.std.specs.Prelude.{◌≡◌, ◌+◌, ◌<◌, ◌≤◌, true, false, [], Some, length, IfSome};
+ghost use Rattle.std.specs.Char.{is_ascii_lowercase};
 ghost use Rattle.std.specs.List.{prefix_len};
 ghost use Rattle.toml.specs.Tables.{key_value, array_table};
 ghost use Rattle.toml.specs.Parse.{line, key_equals, scalar_data, val, ends_line};
@@ -11,7 +12,7 @@ use crate::Item;
 use crate::number::whole_number;
 use std::alloc::Global;
 use toml_parser::bytes::{is_bare, is_non_eol, is_word, is_ws};
-use toml_parser::text::{byte_at, first, skip, skip_ws};
+use toml_parser::text::{byte_at, first, skip, skip_blank, skip_ws};
 use toml_parser::{Scalar, unquoted};
 
 /// A line of a bare key and a plain value, and the text behind it.
@@ -84,6 +85,21 @@ fn after_ws(text: &str) -> &str
         skip_ws(rest)
     } else {
         rest
+    }
+}
+
+/// After blank lines and comments. Mostly a line ends here, and what begins the next one stands
+/// behind it.
+#[inline]
+#[tactic(auto, using(crate::proofs::Lines::after_line_feed))]
+pub(crate) fn after_blank(text: &str) -> &str
+    ensures rest { result.now ≡ lexical.skip_blank text.now }
+    ensures within { length result.now ≤ length text.now }
+{
+    if first(text) == b'\n' && byte_at(text, 1) > b'#' {
+        skip(text, 1)
+    } else {
+        skip_blank(text, true)
     }
 }
 
@@ -220,12 +236,30 @@ fn split_bare(text: &str) -> (&str, &str)
     text.split_at(bare_len(text.as_bytes()))
 }
 
+/// How many bytes at the front are of a bare key. Mostly they are small letters.
 #[inline]
 fn bare_len(bytes: &[u8]) -> usize
     ensures len { result ≡ prefix_len lexical.is_bare bytes.now }
     ensures within { result ≤ length bytes.now }
 {
+    let small = small_len(bytes);
+    small + run_len(&bytes[small..])
+}
+
+#[inline]
+fn run_len(bytes: &[u8]) -> usize
+    ensures len { result ≡ prefix_len lexical.is_bare bytes.now }
+    ensures within { result ≤ length bytes.now }
+{
     bytes.iter().take_while(|b| is_bare(**b)).count()
+}
+
+#[inline]
+fn small_len(bytes: &[u8]) -> usize
+    ensures len { result ≡ prefix_len is_ascii_lowercase bytes.now }
+    ensures within { result ≤ length bytes.now }
+{
+    bytes.iter().take_while(|b| b.is_ascii_lowercase()).count()
 }
 
 /// The bytes that stand for themselves in a string, and the text behind them.

@@ -1,5 +1,6 @@
-ghost use Rattle.std.specs.Prelude.{◌≡◌, ◌+◌, ◌-◌, ◌<◌, ◌≤◌, ◌^◌, ◌++◌, true, Some, length, drop, slice_index, decimal, IfSome};
+ghost use Rattle.std.specs.Prelude.{◌≡◌, ◌+◌, ◌-◌, ◌<◌, ◌≤◌, ◌^◌, ◌++◌, ◌==◌, true, false, Some, length, drop, slice_index, decimal, IfSome};
 ghost use Rattle.std.specs.Char.{is_ascii_digit};
+ghost use Rattle.toml_parser.specs.Lexical.{is_word as is_word_byte};
 ghost use Rattle.toml_parser.specs.Numbers.{unquoted};
 ghost use Rattle.toml_parser.specs.declared.scalar.Scalar.TheVariants.{Integer};
 
@@ -21,11 +22,19 @@ pub(crate) fn whole_number(text: &str) -> Option<(i64, &str)>
     }
     let (number, len) = leading_digits(text.as_bytes());
     let rest = skip(text, len);
-    let behind = first(rest);
-    if is_word(behind) || behind == b' ' {
+    if goes_on(first(rest)) {
         return None;
     }
     Some((number as i64, rest))
+}
+
+/// Whether a number may go on with this byte, or behind it. Mostly its line ends there.
+#[inline]
+fn goes_on(byte: u8) -> bool
+    ensures word { result ≡ false → is_word_byte byte ≡ false }
+    ensures space { result ≡ false → (byte == 32) ≡ false }
+{
+    byte != b'\n' && (is_word(byte) || byte == b' ')
 }
 
 /// The number that the digits at the front write, up to so many of them, and how many they are.

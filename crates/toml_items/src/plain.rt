@@ -6,7 +6,7 @@ ghost use Rattle.toml_items.specs.Item.{list_view, entries_view};
 ghost use Rattle.toml_items.specs.Plain.{path_of, IsLine, ReadsTable, ReadsArray, BeginsWith};
 
 use crate::entry::put_entry;
-use crate::line::{Header, header_at, pair_at};
+use crate::line::{Header, after_blank, header_at, pair_at};
 use crate::{Entry, Item};
 use std::alloc::{AllocError, Global};
 use toml_parser::text::{first, skip_blank};
@@ -154,8 +154,8 @@ pub fn element<'t>(
     }
 }
 
-/// The pairs up to a header or the end, and the text from there.
-fn pairs(alloc: Global, text: &str) -> Result<Option<Body<'_>>, AllocError>
+/// The pairs at the front of a table, up to a header or the end, and the text from there.
+pub fn pairs(alloc: Global, text: &str) -> Result<Option<Body<'_>>, AllocError>
     ensures reads { IfOk result (λ found. IfSome found (λ t. (path : List (List ℕ)) →
         ReadsTable path text.now (entries_view t.entries.items) t.rest.now)) }
     ensures within { IfOk result (λ found. IfSome found (λ t.
@@ -164,7 +164,7 @@ fn pairs(alloc: Global, text: &str) -> Result<Option<Body<'_>>, AllocError>
     let mut entries = Vec::new(alloc);
     let mut rest = text;
     'pairs: loop {
-        let start = skip_blank(rest, true);
+        let start = after_blank(rest);
         if start.is_empty() || first(start) == b'[' {
             return Ok(Some(Body {
                 entries,
@@ -183,13 +183,13 @@ fn pairs(alloc: Global, text: &str) -> Result<Option<Body<'_>>, AllocError>
 
 /// The header at the front, if its array stands in the table at this key, or without one in the
 /// top table.
-fn header_in<'t>(key: Option<&'t str>, text: &'t str) -> Option<Header<'t>>
+pub fn header_in<'t>(key: Option<&'t str>, text: &'t str) -> Option<Header<'t>>
     ensures path { IfSome result (λ h. path_of h.parent ≡ path_of key.entry) }
     ensures line { IfSome result (λ h.
         IsLine text.now ((path_of key.entry, h.key.now), array_table) h.rest.now) }
     ensures shorter { IfSome result (λ h. length h.rest.now < length text.now) }
 {
-    let header = header_at(skip_blank(text, true))?;
+    let header = header_at(after_blank(text))?;
     if is_same_path(header.parent, key) {
         Some(header)
     } else {

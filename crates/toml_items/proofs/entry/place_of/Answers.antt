@@ -9,7 +9,7 @@ entries-preserved c =
     let (within, later) = c.entries.invariant in
     let back : c.entries.at - 1 + 1 ≡ c.entries.at = omega (arith, c.entries-test.true) in
     let here : c.entries.at - 1 < length entries = omega (arith, c.entries-test.true, within) in
-    let behind = sym c.cmp.ensures ∙ c.in-Greater.is in (
+    let behind = sym c.key_order.ensures ∙ c.in-Greater.is in (
       omega (arith, within),
       IsPlaceFrom-behind key entries (c.entries.at - 1) c.entries.place c.index-entries-at.result here behind
           (rw back later),

@@ -1,7 +1,8 @@
-use Rattle.std.proofs.Common.{◌≡◌, ℕ, ◌+◌, ◌-◌, ◌*◌, ◌<◌, ◌≤◌, ◌^◌, slice_index, true, sym, ap, ◌∙◌, arith}
+use Rattle.std.proofs.Common.{◌≡◌, ℕ, ◌+◌, ◌-◌, ◌*◌, ◌<◌, ◌≤◌, ◌^◌, slice_index, true, sym, ap, ◌∙◌, arith, add-one}
 use Rattle.std.specs.Char.{is_ascii_digit}
 use Rattle.std.proofs.lemmas.Bool.Decides.{nat_tests}
-use Rattle.toml_items.proofs.Numbers.{digit_first, digit_more, more_below, few_below}
+use Rattle.std.proofs.Math.Nat.{pow-suc}
+use Rattle.toml_items.proofs.Numbers.{digit_first, digit_more, few_below}
 use Rattle.toml_items.proofs.number.leading_digits.Goals as goal
 
 pub loop-len-init : goal.loop-len-init
@@ -49,7 +50,14 @@ loop-len-preserved c =
           digit_more c.args.bytes.now len number digit c.loop-len.invariant.above small fits
           (omega (arith, c.loop-len-test.true, c.min-end.ensures)) here c.loop-len.invariant.front;
       above = omega (arith, c.loop-len.invariant.above);
-      below = more_below number digit len c.loop-len.invariant.below small;
+      below =
+          omega (
+            arith,
+            c.loop-len.invariant.below,
+            small,
+            pow-suc 10 len,
+            ap (λ (k : ℕ). 10 ^ k) (add-one len),
+          );
       some = omega arith;
       few = omega (arith, c.loop-len-test.true, c.min-end.ensures);
       last = ap (λ (k : ℕ). is_ascii_digit (slice_index c.args.bytes.now k)) back ∙ yes;

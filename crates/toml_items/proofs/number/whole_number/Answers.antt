@@ -1,4 +1,4 @@
-use Rattle.std.proofs.Common.{◌≡◌, ◌++◌, ◌<◌, ◌^◌, ◌==◌, false, List, ℕ, decimal, sym, ap, ◌∙◌, arith, ne_eqb}
+use Rattle.std.proofs.Common.{◌≡◌, ◌++◌, ◌<◌, ◌^◌, ◌==◌, false, List, ℕ, decimal, arith}
 use Rattle.std.proofs.lemmas.Int.{to_z_pos}
 use Rattle.std.specs.Int.{w64}
 use Rattle.toml_parser.specs.Lexical.{first, is_word}
@@ -13,8 +13,7 @@ returns-clause-number c =
     let small : number < 2 ^ 63 = omega (arith, c.leading_digits-number.ensures.small) in
     let is : text ≡ decimal number ++ rest
     = rw (c.skip-rest.ensures.rest, ← c.as_bytes.ensures.value) c.leading_digits-number.ensures.number in
-    let word : is_word (first rest) ≡ false
-    = ap is_word (sym c.first-behind.ensures) ∙ (sym c.is_word.ensures ∙ c.if-is_word.false) in
-    let space : (first rest == 32) ≡ false
-    = ap (λ (b : ℕ). b == 32) (sym c.first-behind.ensures) ∙ ne_eqb _ 32 c.if-behind-eq32.false in
+    let stop = c.if-goes_on.false in
+    let word : is_word (first rest) ≡ false = rw c.first.ensures at (c.goes_on.ensures.word stop) in
+    let space : (first rest == 32) ≡ false = rw c.first.ensures at (c.goes_on.ensures.space stop) in
     rw (to_z_pos w64 number small) (unquoted-digits text rest number is small word space)

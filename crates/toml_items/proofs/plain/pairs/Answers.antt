@@ -15,7 +15,7 @@ pairs-init c = record {
 pub returns-then-is_empty-clause-reads : goal.returns-then-is_empty-clause-reads
 returns-then-is_empty-clause-reads c path =
     let l = c.pairs in
-    rw c.skip_blank-start.ensures.rest
+    rw c.after_blank-start.ensures.rest
     (table_of_pairs path c.args.text.now (entries_view l.entries.items) l.rest.now
     l.invariant.reads)
 
@@ -23,8 +23,8 @@ pub pairs-preserved : goal.pairs-preserved
 pairs-preserved c =
     let l = c.pairs in
     let pair = c.in-Some.pair in
-    let line_is = rw c.skip_blank-start.ensures.rest at c.in-Some.ensures.line in
-    let shorter = rw c.skip_blank-start.ensures.rest at c.in-Some.ensures.shorter in
+    let line_is = rw c.after_blank-start.ensures.rest at c.in-Some.ensures.line in
+    let shorter = rw c.after_blank-start.ensures.rest at c.in-Some.ensures.shorter in
     let read : IsLine l.rest.now (([], pair.key.now), key_value (item_view pair.item)) pair.rest.now =
     record { is = line_is; shorter = shorter } in
     let was_new = ap Ok c.if-not-branch.false in
@@ -33,7 +33,7 @@ pairs-preserved c =
       within = omega (
         arith,
         l.invariant.within,
-        c.skip_blank-start.ensures.within,
+        c.after_blank-start.ensures.within,
         c.in-Some.ensures.shorter,
       );
       reads = rw (c.in_ok-put_entry.ensures.put was_new) (one_more_pair c.args.text.now l.rest.now
