@@ -89,6 +89,20 @@ impl Host {
         self.queues.set(sys, v, key);
     }
 
+    /// The account of a row's VCPU after the row.
+    fn account_after(&self, sys: &System, plan: &Plan, row: Wake) -> Account
+        requires plan { IsPlan sys.now plan.now }
+        requires ready { IsReady sys.now self.now }
+        requires is_part { row.vcpu < length sys.now.parts }
+        requires in_limit { row.at ≤ LIMIT }
+        ensures { result ≡ row_taken row.what (row.at + (part_at sys.now row.vcpu).period)
+            (budget_at plan.now row.vcpu) (account_at self.now.accounts row.vcpu) }
+    {
+        let v = row.vcpu;
+        let end = row.at + sys.parts()[v as usize].period();
+        account_of(&self.accounts, v).taking(row.what, end, budget_of(plan, v))
+    }
+
     /// Takes one row.
     fn take(&mut self, sys: &System, plan: &Plan, row: Wake)
         requires plan { IsPlan sys.now plan.now }
@@ -108,11 +122,9 @@ impl Host {
         ensures time { self.new.time ≡ self.old.time }
         ensures holders { self.new.holders ≡ self.old.holders }
     {
-        let v = row.vcpu;
-        let end = row.at + sys.parts()[v as usize].period();
-        let account = account_of(&self.accounts, v).taking(row.what, end, budget_of(plan, v));
+        let account = self.account_after(sys, plan, row);
         self.taken += 1;
-        self.set(sys, v, account);
+        self.set(sys, row.vcpu, account);
     }
 
     /// Takes the rows at the next slot.

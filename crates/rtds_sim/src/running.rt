@@ -280,6 +280,20 @@ impl Host {
         }
     }
 
+    /// The account of VCPU `v` where its next period begins.
+    #[inline(always)]
+    fn next_account(&self, sys: &System, plan: &Plan, v: u32) -> Account
+        requires plan { IsPlan sys.now plan.now }
+        requires ready { IsReady sys.now self.now }
+        requires is_part { v < length sys.now.parts }
+        requires in_limit { end_at self.now.accounts v ≤ LIMIT }
+        ensures { result ≡ renewed (account_at self.now.accounts v)
+            (end_at self.now.accounts v + (part_at sys.now v).period) (budget_at plan.now v) }
+    {
+        let end = end_of(&self.accounts, v) + sys.parts()[v as usize].period();
+        account_of(&self.accounts, v).renewed(end, budget_of(plan, v))
+    }
+
     /// Begins the next period of VCPU `v` where one ends.
     fn renew(&mut self, sys: &System, plan: &Plan, core: usize, v: u32)
         requires plan { IsPlan sys.now plan.now }
@@ -296,8 +310,7 @@ impl Host {
         ensures holders { self.new.holders ≡ self.old.holders }
         ensures taken { self.new.taken ≡ self.old.taken }
     {
-        let end = end_of(&self.accounts, v) + sys.parts()[v as usize].period();
-        let account = account_of(&self.accounts, v).renewed(end, budget_of(plan, v));
+        let account = self.next_account(sys, plan, v);
         self.set_on(sys, core, v, account);
     }
 

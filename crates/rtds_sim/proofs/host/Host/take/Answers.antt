@@ -1,69 +1,39 @@
-use Rattle.std.proofs.Common.{◌≡◌, ◌+◌, ◌<◌, ℕ, List, length, set, sym, ap, arith, subst, ◌∙◌, inl, inr}
+use Rattle.std.proofs.Common.{◌+◌, ◌<◌, ℕ, List, length, set, sym, ap, arith, subst, ◌∙◌, inl, inr}
 use Rattle.std.proofs.lemmas.Bool.{cases_eq}
-use Rattle.tree_model.specs.View.{PartView}
 use Rattle.tree_model.specs.System.{part_at}
 use Rattle.tree_model.specs.Tree.{budget_at}
 use Rattle.rtds_sim.specs.declared.account.Account.{Account}
 use Rattle.rtds_sim.specs.inner.Accounts.{account_at, end_at, row_taken, IsSound}
-use Rattle.rtds_sim.proofs.Membership.{part_here}
-use Rattle.rtds_sim.proofs.Ready.{account_here, account_there, later_taken, sound_taken, taken_is}
+use Rattle.rtds_sim.proofs.Ready.{account_here, account_there, later_taken, sound_taken}
 use Rattle.rtds_sim.proofs.host.Host.take.Goals as goal
 
 pub set-requires-clause-sound : goal.set-requires-clause-sound
 set-requires-clause-sound c =
-    let sys = c.args.sys.now in
     let v : ℕ = c.args.row.vcpu in
-    let old : List Account = c.args.self.now.accounts in
-    let end : ℕ = c.args.row.at + (part_at sys v).period in
-    let budget : ℕ = budget_at c.args.plan.now v in
-    let part : c.index-parts-v.result ≡ part_at sys v
-    = part_here sys c.parts.result.now v c.index-parts-v.result c.parts.ensures.parts c.requires.is_part
-    c.index-parts-v.is in
-    let is : c.taking-account.result ≡ row_taken c.args.row.what end budget (account_at old v)
-    = taken_is c.args.row.what c.taking-account.result c.account_of.result (account_at old v) c.args.row.at
-    c.period.result c.budget_of.result (part_at sys v).period budget c.taking-account.ensures c.account_of.ensures
-    (c.period.ensures ∙ ap (λ (p : PartView). p.period) part) c.budget_of.ensures in
-    subst (IsSound c.args.self.now.time) (sym is)
-    (sound_taken c.args.self.now.time end budget (account_at old v) (c.requires.ready.sound v c.requires.is_part)
-    (c.requires.plan.some_budget v c.requires.is_part) c.args.row.what)
+    subst (IsSound c.args.self.now.time) (sym c.account_after-account.ensures)
+    (sound_taken c.args.self.now.time (c.args.row.at + (part_at c.args.sys.now v).period)
+    (budget_at c.args.plan.now v) (account_at c.args.self.now.accounts v)
+    (c.requires.ready.sound v c.requires.is_part) (c.requires.plan.some_budget v c.requires.is_part)
+    c.args.row.what)
 
 pub returns-clause-accounts : goal.returns-clause-accounts
 returns-clause-accounts c =
-    let sys = c.args.sys.now in
-    let v : ℕ = c.args.row.vcpu in
-    let old : List Account = c.args.self.now.accounts in
-    let end : ℕ = c.args.row.at + (part_at sys v).period in
-    let budget : ℕ = budget_at c.args.plan.now v in
-    let part : c.index-parts-v.result ≡ part_at sys v
-    = part_here sys c.parts.result.now v c.index-parts-v.result c.parts.ensures.parts c.requires.is_part
-    c.index-parts-v.is in
-    let is : c.taking-account.result ≡ row_taken c.args.row.what end budget (account_at old v)
-    = taken_is c.args.row.what c.taking-account.result c.account_of.result (account_at old v) c.args.row.at
-    c.period.result c.budget_of.result (part_at sys v).period budget c.taking-account.ensures c.account_of.ensures
-    (c.period.ensures ∙ ap (λ (p : PartView). p.period) part) c.budget_of.ensures in
-    c.set.ensures.accounts ∙ ap (set old v) is
+    c.set.ensures.accounts ∙ ap (set c.args.self.now.accounts c.args.row.vcpu) c.account_after-account.ensures
 
 pub returns-clause-ends : goal.returns-clause-ends
 returns-clause-ends c core l u lu child =
-    let sys = c.args.sys.now in
     let v : ℕ = c.args.row.vcpu in
     let old : List Account = c.args.self.now.accounts in
-    let end : ℕ = c.args.row.at + (part_at sys v).period in
-    let budget : ℕ = budget_at c.args.plan.now v in
-    let part : c.index-parts-v.result ≡ part_at sys v
-    = part_here sys c.parts.result.now v c.index-parts-v.result c.parts.ensures.parts c.requires.is_part
-    c.index-parts-v.is in
-    let is : c.taking-account.result ≡ row_taken c.args.row.what end budget (account_at old v)
-    = taken_is c.args.row.what c.taking-account.result c.account_of.result (account_at old v) c.args.row.at
-    c.period.result c.budget_of.result (part_at sys v).period budget c.taking-account.ensures c.account_of.ensures
-    (c.period.ensures ∙ ap (λ (p : PartView). p.period) part) c.budget_of.ensures in
     let before : c.args.self.now.time < end_at old u = omega (arith, c.requires.ends core l u lu child) in
     elim (cases_eq u v) [
       | inl e ↦
           let room : v < length old
           = omega (arith, c.requires.is_part, c.requires.ready.room.all_vcpus, c.requires.ready.room.few_parts) in
-          let new : c.args.self.now.time < (row_taken c.args.row.what end budget (account_at old v)).until
-          = later_taken c.args.self.now.time end budget (account_at old v)
+          let new : c.args.self.now.time
+          < (row_taken c.args.row.what (c.args.row.at + (part_at c.args.sys.now v).period) (budget_at c.args.plan.now v)
+          (account_at old v)).until
+          = later_taken c.args.self.now.time (c.args.row.at + (part_at c.args.sys.now v).period)
+          (budget_at c.args.plan.now v) (account_at old v)
           (omega (
             arith,
             c.requires.now,
@@ -77,7 +47,7 @@ returns-clause-ends c core l u lu child =
             c.set.ensures.time,
             ap (λ (a : Account). a.until) (ap (account_at c.set.new.self.accounts) e
                 ∙ (ap (λ (xs : List Account). account_at xs v) c.set.ensures.accounts
-                ∙ (account_here old v c.taking-account.result room ∙ is))),
+                ∙ (account_here old v c.account_after-account.result room ∙ c.account_after-account.ensures))),
           )
       | inr ne ↦
           omega (
@@ -85,6 +55,6 @@ returns-clause-ends c core l u lu child =
             before,
             c.set.ensures.time,
             ap (λ (a : Account). a.until) (ap (λ (xs : List Account). account_at xs u) c.set.ensures.accounts
-                ∙ account_there old v u c.taking-account.result ne),
+                ∙ account_there old v u c.account_after-account.result ne),
           )
     ]
