@@ -1,7 +1,8 @@
 -- What is kept in a run is kept in its trace, and what is short in it is short there.
-use Rattle.std.proofs.Common.{◌≡◌, ℕ, suc, ◌+◌, ◌-◌, ◌*◌, ◌/◌, ◌<◌, ◌≤◌, nat_le, true, false, List, length, Option, Some, refl, sym, ◌∙◌, ap, arith, subst, eq-eqb, le-leb}
+use Rattle.std.proofs.Common.{◌≡◌, ℕ, suc, ◌+◌, ◌*◌, ◌/◌, ◌<◌, ◌≤◌, nat_le, true, false, List, length, Option, Some, refl, sym, ◌∙◌, ap, arith, subst, eq-eqb, le-leb}
 use Rattle.std.proofs.lemmas.Bool.{and_from}
 use Rattle.slot_model.specs.declared.task.TheConstants.{LIMIT}
+use Rattle.tree_model.specs.declared.place.Parent.{Parent}
 use Rattle.tree_model.specs.declared.place.Place.TheVariants.{Core}
 use Rattle.tree_model.specs.View.{SystemView}
 use Rattle.tree_model.specs.System.{part_at, IsSystem}
@@ -16,7 +17,7 @@ use Rattle.release_file.specs.Workload.{start_of, is_blocked_at, IsWorkload}
 use Rattle.rtds_sim.specs.Rtds.{RtdsRun}
 use Rattle.rtds_sim.specs.Printed.{core_of, printed}
 use Rattle.rtds_sim.specs.Giving.{ServersFit}
-use Rattle.rtds_sim.proofs.Entering.{child_core}
+use Rattle.trace_file.proofs.Moments.{child_parent}
 use Rattle.rtds_sim.proofs.Runs.{rtds_run, rtds_run-is}
 use Rattle.rtds_sim.proofs.Traced.{end_is, blocked_is, StartedAt, started_at, trace_starts, begins_is, got_whole}
 use Rattle.isolation.specs.Keeping.{IsAwakeLast, got_in, KeepsBudget, IsBreakable, IsExposed}
@@ -61,7 +62,7 @@ module _ (sys : SystemView) (system : IsSystem sys) (budgets : List ℕ) (plan :
       = keeps rows n (run_at runs c) k workload (is.cores c lc) a in
       let here : got_in sys rows (run_at runs (core_of (part_at sys v).parent)) v k
       ≡ got_in sys rows (run_at runs c) v k
-      = ap (λ (d : ℕ). got_in sys rows (run_at runs d) v k) (child_core sys c v child) in
+      = ap (λ (p : Parent). got_in sys rows (run_at runs (core_of p)) v k) (child_parent sys c v child) in
       omega (
         arith,
         enough,
@@ -103,7 +104,7 @@ module _ (sys : SystemView) (system : IsSystem sys) (budgets : List ℕ) (plan :
       ) in
       let here : got_in sys rows (run_at runs (core_of (part_at sys v).parent)) v k
       ≡ got_in sys rows (run_at runs c) v k
-      = ap (λ (d : ℕ). got_in sys rows (run_at runs d) v k) (child_core sys c v a.starts.on_core) in
+      = ap (λ (p : Parent). got_in sys rows (run_at runs (core_of p)) v k) (child_parent sys c v a.starts.on_core) in
       record {
         period = record {
           is_part = a.starts.is_part;

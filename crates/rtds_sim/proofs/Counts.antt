@@ -1,6 +1,6 @@
 -- Slots between two moments: counts of those that pass, of several tests together, and of the VCPUs
 -- of a run.
-use Rattle.std.proofs.Common.{◌≡◌, ◌⊎◌, ℕ, zero, suc, min, ◌+◌, ◌-◌, ◌<◌, ◌≤◌, Bool, true, false, cond, ◌&&◌, List, Option, Some, None, refl, ◌∙◌, ap, arith, subst, inl, inr, le-leb}
+use Rattle.std.proofs.Common.{◌≡◌, ◌⊎◌, ℕ, zero, suc, min, ◌+◌, ◌-◌, ◌<◌, ◌≤◌, Bool, true, false, cond, ◌&&◌, List, Option, Some, None, ◌∙◌, ap, arith, subst, inl, inr, le-leb}
 use Rattle.std.proofs.lemmas.Bool.{cases_eq, cases_lt, cases_Bool, cond-true, cond-false}
 use Rattle.slot_model.specs.Slots.{sum_below}
 use Rattle.slot_model.specs.Run.{held, holds}
@@ -44,23 +44,19 @@ between_zero p a (suc c) h = elim (cases_lt c a) [
       )
 ]
 
-one_at_most : (p q : Bool) → (p ≡ true → q ≡ true) → cond {A = ℕ} p 1 0 ≤ cond {A = ℕ} q 1 0
-one_at_most true q h = omega (arith, cond-true {A = ℕ} q 1 0 (h refl))
-one_at_most false q h = omega arith
-
 pub between_le : (p q : ℕ → Bool) (a c : ℕ) → ((x : ℕ) → a ≤ x → x < c → p x ≡ true → q x ≡ true)
     → count_between p a c ≤ count_between q a c
 between_le p q a zero h = omega (arith, between_none p a 0 (omega arith))
 between_le p q a (suc c) h = elim (cases_lt c a) [
   | inl l ↦ omega (arith, between_none p a (suc c) (omega arith))
   | inr l ↦
-      omega (
-        arith,
-        between_suc p a c l,
-        between_suc q a c l,
-        between_le p q a c (λ x i j. h x i (omega arith)),
-        one_at_most (p c) (q c) (h c l (omega arith)),
-      )
+      let before : count_between p a c ≤ count_between q a c = between_le p q a c (λ x i j. h x i (omega arith)) in
+      let one : cond {A = ℕ} (p c) 1 0 ≤ cond {A = ℕ} (q c) 1 0
+      = elim (cases_Bool (p c)) [
+        | inl b ↦ omega (arith, cond_at_most_one (p c), cond-true {A = ℕ} (q c) 1 0 (h c l (omega arith) b))
+        | inr b ↦ omega (arith, cond-false {A = ℕ} (p c) 1 0 b)
+      ] in
+      omega (arith, before, one, between_suc p a c l, between_suc q a c l)
 ]
 
 -- slots that pass p only while fewer than B passed q from r on, and q too

@@ -1,32 +1,21 @@
 -- What the accounts say at a slot whose rows are taken: who is eligible, and who goes first.
-use Rattle.std.proofs.Common.{◌≡◌, ◌==◌, ℕ, suc, ◌*◌, ◌/◌, ◌<◌, ◌≤◌, nat_lt, Bool, true, not, ◌&&◌, ◌||◌, List, length, Option, sym, ◌∙◌, ap, arith, inl, inr, eqb-true, eq-eqb, ltb-true, lt-ltb, le-ltb}
+use Rattle.std.proofs.Common.{◌≡◌, ◌==◌, ℕ, suc, ◌*◌, ◌/◌, ◌<◌, ◌≤◌, nat_lt, Bool, true, not, ◌&&◌, ◌||◌, List, length, Option, sym, ◌∙◌, ap, arith, inl, inr, eq-eqb, ltb-true, lt-ltb, le-ltb}
 use Rattle.std.proofs.Math.Nat.{div-eq_of_lt}
 use Rattle.std.specs.Prelude.{is_some}
 use Rattle.std.proofs.lemmas.Bool.{cases_Bool, cases_lt, both_ways, and_parts, ne_eqb}
-use Rattle.tree_model.specs.declared.place.Parent.{Parent}
-use Rattle.tree_model.specs.declared.place.Parent.TheVariants.{Core as on_core, Part as on_part}
 use Rattle.tree_model.specs.declared.place.Place.TheVariants.{Core}
 use Rattle.tree_model.specs.View.{SystemView}
 use Rattle.tree_model.specs.System.{part_at}
-use Rattle.tree_model.specs.Tree.{is_child, place_of, same_place, budget_at}
+use Rattle.tree_model.specs.Tree.{is_child, budget_at}
 use Rattle.tree_model.specs.Plans.{IsPlan}
 use Rattle.rtds_sim.specs.declared.account.Account.{Account}
 use Rattle.release_file.specs.declared.workload.Wake.{Wake as Row}
 use Rattle.release_file.specs.Workload.{row_at, last_row, is_by, is_of, starts, blocks, started_after, blocked_after, is_started_at, is_blocked_at}
 use Rattle.rtds_sim.specs.Rtds.{used, level_at, deadline_at, can_run, is_eligible, goes_before, RtdsEntry}
 use Rattle.rtds_queues.specs.Keys.{goes_first}
-use Rattle.rtds_sim.specs.Printed.{core_of}
 use Rattle.rtds_sim.specs.inner.Running.{AreOn}
 use Rattle.rtds_sim.specs.inner.Accounts.{account_at, end_at, account_eligible, ranked, ranks_before, IsChoice, IsInPeriod, IsAccount, AreBefore}
 use Rattle.csv_rows.proofs.Last.{last_by_moment}
-
--- a part on core c
-pub child_core : (sys : SystemView) (c v : ℕ) → is_child sys (Core c) v ≡ true → core_of (part_at sys v).parent ≡ c
-child_core sys c v h = go (part_at sys v).parent h
-  where
-    go : (p : Parent) → same_place (place_of p) (Core c) ≡ true → core_of p ≡ c
-    go (on_core d) e = eqb-true d c e
-    go (on_part q) e = cc
 
 -- the last row among those at or before x is the last of the first k, where those are the rows at
 -- or before x

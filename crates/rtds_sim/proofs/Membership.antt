@@ -1,11 +1,8 @@
--- The VCPUs of each core, and the part that stands at a place.
-use Rattle.std.proofs.Common.{◌≡◌, ◌∙◌, ◌<◌, ℕ, zero, suc, Bool, true, cond, List, length, slice_index_or, get_or, sym, ap, arith, subst, inl, inr}
+-- The VCPUs of each core.
+use Rattle.std.proofs.Common.{◌≡◌, ◌∙◌, ◌<◌, ℕ, zero, suc, Bool, true, cond, length, get_or, sym, ap, arith, subst, inl, inr}
 use Rattle.std.proofs.lemmas.Bool.{cases_lt, cases_Bool}
-use Rattle.std.proofs.lemmas.List.{get_or_default}
 use Rattle.slot_model.specs.Slots.{count_below, places_where}
 use Rattle.slot_model.proofs.Places.{length-push_if, push_if-kept, push_if-last, length-places_where}
-use Rattle.tree_model.specs.View.{PartView, SystemView}
-use Rattle.tree_model.specs.System.{part_at}
 
 -- a number that passes, and how many below it do
 pub record IsPlace (passes : ℕ → Bool) (n i v : ℕ) : Type 0 where
@@ -43,9 +40,3 @@ is_place passes (suc n) i d l = elim (cases_lt i (length (places_where passes n)
         ))
   ]
 ]
-
--- the part that was looked at
-pub part_here : (sys : SystemView) (parts : List PartView) (v : ℕ) (p : PartView) → parts ≡ sys.parts
-    → v < length sys.parts → p ≡ slice_index_or parts v p → p ≡ part_at sys v
-part_here sys parts v p e l is =
-    is ∙ (ap (λ (ps : List PartView). slice_index_or ps v p) e ∙ get_or_default sys.parts v _ _ l)

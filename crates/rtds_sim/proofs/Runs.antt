@@ -30,10 +30,6 @@ module _ (sys : SystemView) (budgets : List ℕ) (rows : List Wake) where
       (λ y. cond (leb (period_from sys rows v x) y && holds (held other y) v) 1 0) x
       (λ y l. ap (λ (o : Option ℕ). cond {A = ℕ} (leb (period_from sys rows v x) y && holds o v) 1 0) (h y l))
 
-  agree_back : (run other : List (Option ℕ)) (x : ℕ) → Agree run other x → Agree other run x
-  unfolding Agree
-  agree_back run other x h y l = sym (h y l)
-
   eligible_agree : (c : ℕ) (run other : List (Option ℕ)) (v x : ℕ) → Agree run other x
       → is_eligible sys budgets rows c run v x ≡ is_eligible sys budgets rows c other v x
   eligible_agree c run other v x h =

@@ -13,7 +13,7 @@ use Rattle.release_file.specs.declared.workload.Wake.{Wake as Row}
 use Rattle.release_file.specs.Workload.{row_at, starts, is_of, is_start, blocks, IsWorkload}
 use Rattle.rtds_sim.specs.Printed.{core_of, holder_before}
 use Rattle.rtds_sim.specs.inner.Running.{RowsFrom, AreOn}
-use Rattle.rtds_sim.proofs.Entering.{child_core}
+use Rattle.trace_file.proofs.Moments.{child_parent}
 use Rattle.rtds_sim.specs.inner.Accounts.{no_account, account_at, holder_at, AreAccounts, AreBefore, HasRoom, IsAccount, run_of_part}
 use Rattle.csv_rows.proofs.Last.{last_below-zero, some_found}
 use Rattle.release_file.proofs.Rows.{ordered}
@@ -95,7 +95,8 @@ module _ (sys : SystemView) (system : IsSystem sys) (budgets : List ℕ) (rows :
   on_no_core v none c l = elim (cases_Bool (is_child sys (Core c) v)) [
     | inr b ↦ b
     | inl b ↦
-        absurd (both_ways _ none (subst (λ (z : ℕ). is_child sys (Core z) v ≡ true) (sym (child_core sys c v b)) b))
+        absurd (both_ways _ none (subst (λ (z : ℕ). is_child sys (Core z) v ≡ true)
+        (sym (ap core_of (child_parent sys c v b))) b))
   ]
 
   pub standing_next : (host : Host) → host.time ≡ to → host.taken ≡ k → HasRoom sys host

@@ -11,13 +11,13 @@ use Rattle.release_file.specs.declared.workload.Wake.{Wake as Row}
 use Rattle.release_file.specs.Workload.{row_at}
 use Rattle.rtds_sim.specs.Rtds.{RtdsRun}
 use Rattle.trace_file.specs.Taker.{Took}
-use Rattle.rtds_sim.specs.Printed.{moment_of_slot, printed_below, gathered, row_event_at, stop_at, switch_at, switch_to, on_core_at, holder_left, on_at, printed}
+use Rattle.rtds_sim.specs.Printed.{core_of, moment_of_slot, printed_below, gathered, row_event_at, stop_at, switch_at, switch_to, on_core_at, holder_left, on_at, printed}
 use Rattle.rtds_sim.specs.inner.Accounts.{account_at, end_at, stop_of, AreBefore, IsAccount}
 use Rattle.rtds_sim.specs.inner.Running.{RowsFrom, HasRun}
 use Rattle.rtds_sim.specs.inner.Lists.{list_at}
 use Rattle.rtds_sim.specs.inner.Telling.{told_by, AreAtSlots}
 use Rattle.rtds_sim.proofs.Runs.{rtds_run, rtds_run-is}
-use Rattle.rtds_sim.proofs.Entering.{child_core}
+use Rattle.trace_file.proofs.Moments.{child_parent}
 use Rattle.rtds_sim.proofs.Gathered.{took_nothing, took_same, took_more}
 use Rattle.rtds_sim.proofs.Visits.{printed_below-zero, gives_up_at, none_blocks, left_is, stops_are}
 use Rattle.rtds_sim.proofs.Telling.{printed_on}
@@ -184,7 +184,7 @@ loop-host-preserved g c =
           (subst (λ (y : ℕ). IsAccount sys budgets rows (run_at runs d) v y k (account_at took_host.accounts v))
           (sym time)
           (subst (λ (e : ℕ). IsAccount sys budgets rows (run_at runs e) v x k (account_at took_host.accounts v))
-          (child_core sys d v child) (visit.are.each v lv)));
+          (ap core_of (child_parent sys d v child)) (visit.are.each v lv)));
       holder_is =
           c.in_ok-stop_blocked.ensures.left d l
           ∙ (left_is sys budgets rows runs took_host visit.taken visit.are visit.room visit.holders_are d l
