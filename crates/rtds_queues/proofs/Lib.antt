@@ -1,6 +1,4 @@
 pub mod Order
-pub mod Keys
-pub mod Tables
 pub mod FirstOf
 pub mod Listing
 pub mod Walking

@@ -6,6 +6,10 @@ use Rattle.rtds_queues.specs.Keys.{goes_first}
 pub first_itself : (l d p : ℕ) → goes_first l d p l d p ≡ false
 first_itself l d p = grind (arith, nat_tests)
 
+pub first_onward : (l d p l' d' p' m e q : ℕ) → goes_first l d p l' d' p' ≡ true → goes_first l' d' p' m e q ≡ true
+    → goes_first l d p m e q ≡ true
+first_onward l d p l' d' p' m e q h g = grind (arith, nat_tests)
+
 -- of two VCPUs one goes before the other
 pub first_total : (l d p l' d' p' : ℕ) → p ≢ p' → goes_first l d p l' d' p' ≡ false → goes_first l' d' p' l d p ≡ true
 first_total l d p l' d' p' ne h = grind (arith, nat_tests)

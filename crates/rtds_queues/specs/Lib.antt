@@ -1,3 +1,3 @@
 pub mod Keys
-pub mod KeyTable
+pub mod Accounts
 pub mod Queues

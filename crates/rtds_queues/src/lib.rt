@@ -1,11 +1,9 @@
-//! The order in which the VCPUs of a core go under RTDS, and of each core the queue of those that
-//! are eligible.
+//! What is kept of a VCPU, the order in which the VCPUs of a core go under RTDS, and of each core
+//! the queue of those that are eligible.
 #![tactic(auto)]
 
-mod key;
-mod key_table;
+mod account;
 mod queues;
 
-pub use key::Key;
-pub use key_table::KeyTable;
+pub use account::{Account, PAST_ALL};
 pub use queues::Queues;

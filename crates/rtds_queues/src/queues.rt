@@ -1,45 +1,53 @@
-use crate::key::{Key, goes_ahead};
-use crate::key_table::KeyTable;
+ghost use Rattle.std.specs.Prelude.{◌≡◌, ◌<◌, length};
+ghost use Rattle.tree_model.specs.System.{part_at};
+ghost use Rattle.rtds_queues.specs.Accounts.{account_eligible, is_ahead};
+
+use crate::account::Account;
 use tree_model::{MAX_CORES, MAX_PARTS, Parent, System};
 
-/// What each VCPU goes by, where it is eligible, and of each core the VCPUs that are, in the order
-/// in which they go: the first one, and behind each the next. Where none is left stands the number
-/// of parts.
+/// Of each core the VCPUs that are eligible, in the order in which they go by their accounts: the
+/// first one, and behind each the next. Where none is left stands the number of parts.
 #[derive(Drop)]
 pub struct Queues {
-    pub keys: KeyTable,
     first: [u32; MAX_CORES],
     next: [u32; MAX_PARTS],
+    /// Of each VCPU whether it stands in the queue of its core.
+    inside: [bool; MAX_PARTS],
 }
 
 impl Queues {
-    ghost use Rattle.std.specs.Prelude.{◌≡◌, ℕ, ◌<◌, ◌&&◌, true, Some, None, length, slice_set};
+    ghost use Rattle.std.specs.Prelude.{◌≡◌, ℕ, ◌<◌, ◌&&◌, true, false, List, length, slice_set};
     ghost use Rattle.tree_model.specs.declared.place.Place.TheVariants.{Core};
+    ghost use Rattle.tree_model.specs.System.{part_at};
     ghost use Rattle.tree_model.specs.Tree.{is_child};
-    ghost use Rattle.rtds_queues.specs.Keys.{goes_ahead, key_at, is_queued, IsFirstQueued};
-    ghost use Rattle.rtds_queues.specs.Queues.{IsLastOf, is_ahead, AreQueues};
+    ghost use Rattle.rtds_queues.specs.declared.account.Account.{Account as AccountView};
+    ghost use Rattle.rtds_queues.specs.Accounts.{account_at, account_eligible, is_ahead};
+    ghost use Rattle.rtds_queues.specs.Queues.{IsLastOf, stands_in, is_queued, AreQueues, IsFirstQueued};
 
     /// Where no VCPU is eligible.
     pub fn new(sys: &System) -> Queues
-        ensures are { AreQueues sys.now result }
-        ensures keys { (v : ℕ) → key_at result.keys v ≡ None }
+        ensures are { (accounts : List AccountView) → length accounts ≡ 512
+            → AreQueues sys.now accounts result }
+        ensures none { (v : ℕ) → stands_in result v ≡ false }
     {
         prove!(sys.parts().len() <= MAX_PARTS);
         prove!(sys.cores().len() <= MAX_CORES);
         let none = sys.parts().len() as u32;
         Queues {
-            keys: KeyTable::new(),
             first: [none; MAX_CORES],
             next: [none; MAX_PARTS],
+            inside: [false; MAX_PARTS],
         }
     }
 
     /// The VCPU of core `core` that goes first, if one of them is eligible.
+    #[inline(always)]
     pub fn first_of(&self, sys: &System, core: usize) -> Option<u32>
-        requires are { AreQueues sys.now self.now }
         requires is_core { core < length sys.now.cores }
-        ensures { IsFirstQueued sys.now self.now.keys core result }
+        ensures { (accounts : List AccountView) → AreQueues sys.now accounts self.now
+            → IsFirstQueued sys.now accounts self.now core result }
     {
+        prove!(sys.cores().len() <= MAX_CORES);
         let v = self.first[core];
         if (v as usize) < sys.parts().len() {
             Some(v)
@@ -48,54 +56,67 @@ impl Queues {
         }
     }
 
-    /// Sets what VCPU `v` goes by.
-    pub fn set(&mut self, sys: &System, v: u32, key: Option<Key>)
-        requires are { AreQueues sys.now self.old }
+    /// Sets the account of VCPU `v`.
+    pub fn set(&mut self, sys: &System, accounts: &mut [Account], v: u32, account: Account)
+        requires are { AreQueues sys.now accounts.old self.old }
         requires is_part { v < length sys.now.parts }
-        ensures are { AreQueues sys.now self.new }
-        ensures keys { self.new.keys ≡ slice_set self.old.keys v key }
+        ensures are { AreQueues sys.now accounts.new self.new }
+        ensures accounts { accounts.new ≡ slice_set accounts.old v account }
+        ensures inside { self.new.inside ≡ slice_set self.old.inside v
+            (account_eligible account (part_at sys.now v).extra) }
     {
         prove!(sys.parts().len() <= MAX_PARTS);
-        match (sys.parts()[v as usize].parent(), key) {
-            (Parent::Core(core), key) => self.set_on(sys, core, v, key),
-            (Parent::Part(_), Some(key)) => self.keys.put(v, key),
-            (Parent::Part(_), None) => self.keys.clear(v),
+        match sys.parts()[v as usize].parent() {
+            Parent::Core(core) => self.set_on(sys, accounts, core, v, account),
+            Parent::Part(_) => {
+                accounts[v as usize] = account;
+                self.inside[v as usize] = is_eligible(sys, v, account);
+            }
         }
     }
 
-    /// Sets what VCPU `v` of core `core` goes by.
+    /// Sets the account of VCPU `v` of core `core`.
     #[inline(always)]
-    pub fn set_on(&mut self, sys: &System, core: u32, v: u32, key: Option<Key>)
-        requires are { AreQueues sys.now self.old }
+    pub fn set_on(
+        &mut self,
+        sys: &System,
+        accounts: &mut [Account],
+        core: u32,
+        v: u32,
+        account: Account,
+    )
+        requires are { AreQueues sys.now accounts.old self.old }
         requires is_core { core < length sys.now.cores }
         requires is_part { v < length sys.now.parts }
         requires on_core { is_child sys.now (Core core) v ≡ true }
-        ensures are { AreQueues sys.now self.new }
-        ensures keys { self.new.keys ≡ slice_set self.old.keys v key }
+        ensures are { AreQueues sys.now accounts.new self.new }
+        ensures accounts { accounts.new ≡ slice_set accounts.old v account }
+        ensures inside { self.new.inside ≡ slice_set self.old.inside v
+            (account_eligible account (part_at sys.now v).extra) }
     {
-        self.leave(sys, core, v);
-        if let Some(key) = key {
-            self.enter(sys, core, v, key);
+        self.take_out(sys, accounts, core, v, account);
+        if is_eligible(sys, v, account) {
+            self.enter(sys, accounts, core, v);
         }
     }
 
-    /// The last eligible VCPU of core `core` that goes before VCPU `v` where that goes by `key`, if
-    /// there is one.
+    /// The last VCPU in the queue of core `core` that goes before VCPU `v` of the core, if there is
+    /// one.
     #[inline(always)]
-    fn last_ahead(&self, sys: &System, core: u32, v: u32, key: Key) -> Option<u32>
-        requires are { AreQueues sys.now self.now }
+    fn last_ahead(&self, sys: &System, accounts: &[Account], core: u32, v: u32) -> Option<u32>
+        requires are { AreQueues sys.now accounts.now self.now }
         requires is_core { core < length sys.now.cores }
+        requires is_part { v < length sys.now.parts }
         ensures { IsLastOf
-            (λ u. is_queued sys.now self.now.keys core u
-            && goes_ahead (key_at self.now.keys u) u (Some key) v)
-            (is_ahead self.now.keys) (length sys.now.parts) result }
+            (λ u. is_queued sys.now self.now core u && is_ahead accounts.now u v)
+            (is_ahead accounts.now) (length sys.now.parts) result }
     {
         prove!(sys.parts().len() <= MAX_PARTS);
         let end = sys.parts().len() as u32;
         let mut last = None;
         let mut at = self.first[core as usize];
         while at < end {
-            if !self.is_before(at, v, key) {
+            if !is_before(accounts, at, v) {
                 return last;
             }
             last = Some(at);
@@ -104,48 +125,19 @@ impl Queues {
         last
     }
 
-    /// The same for VCPU `v` of the core, which goes by `key`.
+    /// Lets VCPU `v` of core `core`, which stands out of its queue, stand in it.
     #[inline(always)]
-    fn ahead_of(&self, sys: &System, core: u32, v: u32, key: Key) -> Option<u32>
-        requires are { AreQueues sys.now self.now }
-        requires is_core { core < length sys.now.cores }
-        requires its { key_at self.now.keys v ≡ Some key }
-        ensures { IsLastOf
-            (λ u. is_queued sys.now self.now.keys core u
-            && goes_ahead (key_at self.now.keys u) u (Some key) v)
-            (is_ahead self.now.keys) (length sys.now.parts) result }
-    {
-        if self.first[core as usize] == v {
-            return None;
-        }
-        self.last_ahead(sys, core, v, key)
-    }
-
-    /// Whether VCPU `u` goes before VCPU `v` where that goes by `key`.
-    #[inline(always)]
-    fn is_before(&self, u: u32, v: u32, key: Key) -> bool
-        requires is_part { u < length self.now.keys }
-        ensures { result ≡ goes_ahead (key_at self.now.keys u) u (Some key) v }
-    {
-        match self.keys.get(u) {
-            None => false,
-            Some(its) => goes_ahead(its, u, key, v),
-        }
-    }
-
-    /// Lets VCPU `v` of core `core`, which goes by none, go by `key`.
-    #[inline(always)]
-    fn enter(&mut self, sys: &System, core: u32, v: u32, key: Key)
-        requires are { AreQueues sys.now self.old }
+    fn enter(&mut self, sys: &System, accounts: &[Account], core: u32, v: u32)
+        requires are { AreQueues sys.now accounts.now self.old }
         requires is_core { core < length sys.now.cores }
         requires is_part { v < length sys.now.parts }
         requires on_core { is_child sys.now (Core core) v ≡ true }
-        requires out { key_at self.old.keys v ≡ None }
-        ensures are { AreQueues sys.now self.new }
-        ensures keys { self.new.keys ≡ slice_set self.old.keys v (Some key) }
+        requires out { stands_in self.old v ≡ false }
+        ensures are { AreQueues sys.now accounts.now self.new }
+        ensures inside { self.new.inside ≡ slice_set self.old.inside v true }
     {
-        let ahead = self.last_ahead(sys, core, v, key);
-        self.keys.put(v, key);
+        let ahead = self.last_ahead(sys, accounts, core, v);
+        self.inside[v as usize] = true;
         match ahead {
             None => {
                 self.next[v as usize] = self.first[core as usize];
@@ -158,23 +150,64 @@ impl Queues {
         }
     }
 
-    /// Lets VCPU `v` of core `core` go by no key.
+    /// Lets VCPU `v` of core `core` stand out of its queue, and sets its account.
     #[inline(always)]
-    fn leave(&mut self, sys: &System, core: u32, v: u32)
-        requires are { AreQueues sys.now self.old }
+    fn take_out(
+        &mut self,
+        sys: &System,
+        accounts: &mut [Account],
+        core: u32,
+        v: u32,
+        account: Account,
+    )
+        requires are { AreQueues sys.now accounts.old self.old }
         requires is_core { core < length sys.now.cores }
         requires is_part { v < length sys.now.parts }
         requires on_core { is_child sys.now (Core core) v ≡ true }
-        ensures are { AreQueues sys.now self.new }
-        ensures keys { self.new.keys ≡ slice_set self.old.keys v None }
+        ensures are { AreQueues sys.now accounts.new self.new }
+        ensures accounts { accounts.new ≡ slice_set accounts.old v account }
+        ensures inside { self.new.inside ≡ slice_set self.old.inside v false }
     {
-        if let Some(key) = self.keys.get(v) {
-            let ahead = self.ahead_of(sys, core, v, key);
-            self.keys.clear(v);
+        self.leave(sys, accounts, core, v);
+        accounts[v as usize] = account;
+    }
+
+    /// Lets VCPU `v` of core `core` stand out of its queue.
+    #[inline(always)]
+    fn leave(&mut self, sys: &System, accounts: &[Account], core: u32, v: u32)
+        requires are { AreQueues sys.now accounts.now self.old }
+        requires is_core { core < length sys.now.cores }
+        requires is_part { v < length sys.now.parts }
+        requires on_core { is_child sys.now (Core core) v ≡ true }
+        ensures are { AreQueues sys.now accounts.now self.new }
+        ensures inside { self.new.inside ≡ slice_set self.old.inside v false }
+    {
+        if self.inside[v as usize] {
+            let ahead = self.last_ahead(sys, accounts, core, v);
+            self.inside[v as usize] = false;
             match ahead {
                 None => self.first[core as usize] = self.next[v as usize],
                 Some(u) => self.next[u as usize] = self.next[v as usize],
             }
         }
     }
+}
+
+/// Whether VCPU `u` goes before VCPU `v`.
+#[inline(always)]
+fn is_before(accounts: &[Account], u: u32, v: u32) -> bool
+    requires first { u < length accounts.now }
+    requires second { v < length accounts.now }
+    ensures { result ≡ is_ahead accounts.now u v }
+{
+    accounts[u as usize].goes_ahead(u, &accounts[v as usize], v)
+}
+
+/// Whether VCPU `v` is eligible where it has this account.
+#[inline(always)]
+fn is_eligible(sys: &System, v: u32, account: Account) -> bool
+    requires { v < length sys.now.parts }
+    ensures { result ≡ account_eligible account (part_at sys.now v).extra }
+{
+    account.is_eligible(sys.parts()[v as usize].extra())
 }

@@ -8,9 +8,10 @@ use Rattle.tree_model.specs.Tree.{is_child, budget_at}
 use Rattle.tree_model.specs.Plans.{IsPlan}
 use Rattle.trace_file.specs.declared.event.Event.{Event}
 use Rattle.release_file.specs.declared.workload.Wake.{Wake as Row}
-use Rattle.rtds_sim.specs.declared.account.Account.{Account}
+use Rattle.rtds_queues.specs.declared.account.Account.{Account}
 use Rattle.rtds_sim.specs.declared.host.Host.{Host}
-use Rattle.rtds_sim.specs.inner.Accounts.{account_at, holder_at, renewed, using, had_budget, gone_on, IsChoice, IsAccount, NoEndBefore, AreBefore}
+use Rattle.rtds_queues.specs.Accounts.{account_at, renewed, using, had_budget}
+use Rattle.rtds_sim.specs.inner.Accounts.{holder_at, gone_on, IsChoice, IsAccount, NoEndBefore, AreBefore}
 use Rattle.rtds_sim.specs.Printed.{push_some, holder_before, holder_left, on_core_at, switch_to, switch_on}
 use Rattle.rtds_sim.specs.inner.Running.{AreOn, IsUnderway, HasRun, KeepsOthers}
 use Rattle.rtds_sim.specs.inner.Telling.{told_on}

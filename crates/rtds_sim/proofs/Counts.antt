@@ -1,6 +1,6 @@
 -- Slots between two moments: counts of those that pass, of several tests together, and of the VCPUs
 -- of a run.
-use Rattle.std.proofs.Common.{◌≡◌, ◌⊎◌, ℕ, zero, suc, min, ◌+◌, ◌-◌, ◌<◌, ◌≤◌, Bool, true, false, cond, ◌&&◌, List, Option, Some, None, refl, ◌∙◌, ap, arith, subst, inl, inr, le-leb}
+use Rattle.std.proofs.Common.{◌≡◌, ◌⊎◌, ℕ, zero, suc, min, ◌+◌, ◌-◌, ◌<◌, ◌≤◌, Bool, true, false, cond, ◌&&◌, List, Option, Some, None, ◌∙◌, ap, arith, subst, inl, inr, le-leb}
 use Rattle.std.proofs.lemmas.Bool.{cases_eq, cases_lt, cases_Bool, cond-true, cond-false}
 use Rattle.slot_model.specs.Slots.{sum_below}
 use Rattle.slot_model.specs.Run.{held, holds}

@@ -8,13 +8,14 @@ use Rattle.tree_model.specs.View.{SystemView}
 use Rattle.tree_model.specs.System.{part_at}
 use Rattle.tree_model.specs.Tree.{is_child, budget_at}
 use Rattle.tree_model.specs.Plans.{IsPlan}
-use Rattle.rtds_sim.specs.declared.account.Account.{Account}
+use Rattle.rtds_queues.specs.declared.account.Account.{Account}
 use Rattle.release_file.specs.declared.workload.Wake.{Wake as Row}
 use Rattle.release_file.specs.Workload.{row_at, last_row, is_by, is_of, starts, blocks, started_after, blocked_after, is_started_at, is_blocked_at}
 use Rattle.rtds_sim.specs.Rtds.{used, level_at, deadline_at, can_run, is_eligible, goes_before, RtdsEntry}
 use Rattle.rtds_queues.specs.Keys.{goes_first}
 use Rattle.rtds_sim.specs.inner.Running.{AreOn}
-use Rattle.rtds_sim.specs.inner.Accounts.{account_at, end_at, account_eligible, ranked, ranks_before, IsChoice, IsInPeriod, IsAccount, AreBefore}
+use Rattle.rtds_queues.specs.Accounts.{account_at, end_at, account_eligible, is_ahead}
+use Rattle.rtds_sim.specs.inner.Accounts.{ranked, IsChoice, IsInPeriod, IsAccount, AreBefore}
 use Rattle.csv_rows.proofs.Last.{last_by_moment}
 
 -- the last row among those at or before x is the last of the first k, where those are the rows at
@@ -103,7 +104,7 @@ module _ (sys : SystemView) (budgets : List ℕ) (rows : List Row) (c : ℕ) (ru
       (h.level_is, h.until_is)
 
   before_is : (u v : ℕ) → u < length sys.parts → v < length sys.parts → ranked sys accounts c u ≡ true
-      → ranked sys accounts c v ≡ true → ranks_before accounts u v ≡ goes_before sys budgets rows run x u v
+      → ranked sys accounts c v ≡ true → is_ahead accounts u v ≡ goes_before sys budgets rows run x u v
   before_is u v lu lv eu ev =
       let a = rank_numbers u lu eu in
       let b = rank_numbers v lv ev in

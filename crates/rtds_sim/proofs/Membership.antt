@@ -1,5 +1,5 @@
 -- The VCPUs of each core.
-use Rattle.std.proofs.Common.{◌≡◌, ◌∙◌, ◌<◌, ℕ, zero, suc, Bool, true, cond, List, length, get_or, sym, ap, arith, subst, inl, inr}
+use Rattle.std.proofs.Common.{◌≡◌, ◌∙◌, ◌<◌, ℕ, zero, suc, Bool, true, cond, length, get_or, sym, ap, arith, subst, inl, inr}
 use Rattle.std.proofs.lemmas.Bool.{cases_lt, cases_Bool}
 use Rattle.slot_model.specs.Slots.{count_below, places_where}
 use Rattle.slot_model.proofs.Places.{length-push_if, push_if-kept, push_if-last, length-places_where}

@@ -1,5 +1,5 @@
--- Accounts and keys that are set.
-use Rattle.std.proofs.Common.{◌≡◌, ◌≢◌, ℕ, ◌+◌, ◌<◌, ◌≤◌, Bool, true, false, cond, ◌&&◌, ◌==◌, nat_lt, List, length, set, Option, None, refl, sym, ◌∙◌, ap, arith, subst, inl, inr, eq-eqb}
+-- Accounts that are set.
+use Rattle.std.proofs.Common.{◌≡◌, ◌≢◌, ℕ, ◌+◌, ◌<◌, ◌≤◌, Bool, true, false, cond, ◌&&◌, ◌==◌, nat_lt, List, length, set, get_or, Option, refl, sym, ◌∙◌, ap, arith, subst, inl, inr, eq-eqb}
 use Rattle.std.proofs.lemmas.Bool.{cases_eq, cases_Bool, both_ways, and_from, false≢true}
 use Rattle.std.proofs.lemmas.List.{get_or-set_same, get_or-set_other, length-set}
 use Rattle.slot_model.specs.Run.{holds}
@@ -11,15 +11,15 @@ use Rattle.tree_model.specs.System.{part_at}
 use Rattle.release_file.specs.declared.workload.WakeKind.{WakeKind}
 use Rattle.release_file.specs.declared.workload.WakeKind.TheVariants.{Start, Wake, Block}
 use Rattle.tree_model.specs.Tree.{is_child, budget_at}
-use Rattle.rtds_sim.specs.declared.account.Account.{Account}
-use Rattle.rtds_sim.specs.declared.account.TheConstants.{PAST_ALL}
-use Rattle.rtds_queues.specs.declared.key.Key.{Key}
+use Rattle.rtds_queues.specs.declared.account.Account.{Account}
+use Rattle.rtds_queues.specs.declared.account.TheConstants.{PAST_ALL}
 use Rattle.rtds_sim.specs.declared.host.Host.{Host}
 use Rattle.rtds_queues.specs.declared.queues.Queues.{Queues}
-use Rattle.rtds_queues.specs.Keys.{key_at}
-use Rattle.rtds_queues.specs.Queues.{AreQueues}
+use Rattle.rtds_queues.specs.Queues.{stands_in, AreQueues}
+use Rattle.rtds_queues.proofs.Queueing.{queues_same}
 use Rattle.rtds_sim.proofs.Steady.{until_more}
-use Rattle.rtds_sim.specs.inner.Accounts.{no_account, account_at, end_at, holder_at, key_of, row_taken, renewed, using, had_budget, gone_on, used_more, period_ended, IsSound, IsReady}
+use Rattle.rtds_queues.specs.Accounts.{no_account, account_at, end_at, renewed, using, had_budget, account_eligible}
+use Rattle.rtds_sim.specs.inner.Accounts.{holder_at, row_taken, gone_on, used_more, period_ended, IsSound, IsReady}
 
 -- one account is set
 pub account_here : (accounts : List Account) (v : ℕ) (a : Account) → v < length accounts
@@ -38,23 +38,16 @@ at_set P accounts v u a l new old = elim (cases_eq u v) [
   | inr ne ↦ subst P (sym (account_there accounts v u a ne)) old
 ]
 
-pub key_here : (keys : List (Option Key)) (v : ℕ) (k : Option Key) → v < length keys → key_at (set keys v k) v ≡ k
-key_here keys v k l = get_or-set_same keys v k None l
-
-pub key_there : (keys : List (Option Key)) (v u : ℕ) (k : Option Key) → u ≢ v → key_at (set keys v k) u ≡ key_at keys u
-key_there keys v u k ne = get_or-set_other keys v u k None ne
-
--- an account is set, with its key
+-- an account is set, whose VCPU stands in its queue where it is eligible
 pub ready_set : (sys : SystemView) (host : Host) (v : ℕ) (a : Account) (queues : Queues) → v < length sys.parts
-    → IsReady sys host → IsSound host.time a → AreQueues sys queues
-    → key_at queues.keys v ≡ key_of a (part_at sys v).extra
-    → ((u : ℕ) → u ≢ v → key_at queues.keys u ≡ key_at host.queues.keys u)
+    → IsReady sys host → IsSound host.time a → AreQueues sys (set host.accounts v a) queues
+    → stands_in queues v ≡ account_eligible a (part_at sys v).extra
+    → ((u : ℕ) → u ≢ v → stands_in queues u ≡ stands_in host.queues u)
     → IsReady sys (record host { accounts = set host.accounts v a; queues = queues })
-ready_set sys host v a queues l h sound listed key_is other_keys =
+ready_set sys host v a queues l h sound listed its others =
     record {
       room = record {
         all_vcpus = length-set host.accounts v a ∙ h.room.all_vcpus;
-        all_keys = listed.all_keys;
         all_cores = h.room.all_cores;
         few_parts = h.room.few_parts;
         few_cores = h.room.few_cores;
@@ -62,16 +55,18 @@ ready_set sys host v a queues l h sound listed key_is other_keys =
       };
       listed = listed;
       sound = λ u lu. at_set (IsSound host.time) host.accounts v u a room (λ e. sound) (h.sound u lu);
-      keys = λ u lu. elim (cases_eq u v) [
+      eligible = λ u lu. elim (cases_eq u v) [
         | inl e ↦
-            subst (λ (z : ℕ). key_at queues.keys z
-            ≡ key_of (account_at (set host.accounts v a) z) (part_at sys z).extra)
+            subst (λ (z : ℕ). stands_in queues z
+            ≡ account_eligible (account_at (set host.accounts v a) z) (part_at sys z).extra)
             (sym e)
-            (key_is ∙ sym (ap (λ (z : Account). key_of z (part_at sys v).extra) (account_here host.accounts v a room)))
+            (its ∙ sym (ap (λ (z : Account). account_eligible z (part_at sys v).extra)
+            (account_here host.accounts v a room)))
         | inr ne ↦
-            other_keys u ne
-            ∙ (h.keys u lu
-            ∙ sym (ap (λ (z : Account). key_of z (part_at sys u).extra) (account_there host.accounts v u a ne)))
+            others u ne
+            ∙ (h.eligible u lu
+            ∙ sym (ap (λ (z : Account). account_eligible z (part_at sys u).extra)
+            (account_there host.accounts v u a ne)))
       ];
       on_core = h.on_core;
     }
@@ -79,20 +74,22 @@ ready_set sys host v a queues l h sound listed key_is other_keys =
     room : v < length host.accounts
     room = omega (arith, l, h.room.all_vcpus, h.room.few_parts)
 
--- and where the keys are those with its own set
-pub ready_keyed : (sys : SystemView) (host : Host) (v : ℕ) (a : Account) (queues : Queues) → v < length sys.parts
-    → IsReady sys host → IsSound host.time a → AreQueues sys queues
-    → queues.keys ≡ set host.queues.keys v (key_of a (part_at sys v).extra)
-    → IsReady sys (record host { accounts = set host.accounts v a; queues = queues })
-ready_keyed sys host v a queues l h sound listed keys =
-    ready_set sys host v a queues l h sound listed
-    (ap (λ (ks : List (Option Key)). key_at ks v) keys
-    ∙ key_here host.queues.keys v (key_of a (part_at sys v).extra)
-    (omega (arith, l, h.room.all_keys, h.room.few_parts)))
-    (λ u ne. ap (λ (ks : List (Option Key)). key_at ks u) keys
-    ∙ key_there host.queues.keys v u (key_of a (part_at sys v).extra) ne)
+pub ready_queued : (sys : SystemView) (host : Host) (v : ℕ) (a : Account) (accounts : List Account) (queues : Queues)
+    → v < length sys.parts → IsReady sys host → IsSound host.time a → AreQueues sys accounts queues
+    → accounts ≡ set host.accounts v a
+    → queues.inside ≡ set host.queues.inside v (account_eligible a (part_at sys v).extra)
+    → IsReady sys (record host { accounts = accounts; queues = queues })
+ready_queued sys host v a accounts queues l h sound listed is inside =
+    subst (λ (xs : List Account). IsReady sys (record host { accounts = xs; queues = queues })) (sym is)
+    (ready_set sys host v a queues l h sound
+    (subst (λ (xs : List Account). AreQueues sys xs queues) is listed)
+    (ap (λ (bs : List Bool). get_or bs v false) inside
+    ∙ get_or-set_same host.queues.inside v (account_eligible a (part_at sys v).extra) false
+    (omega (arith, l, h.listed.all_inside, h.room.few_parts)))
+    (λ u ne. ap (λ (bs : List Bool). get_or bs u false) inside
+    ∙ get_or-set_other host.queues.inside v u (account_eligible a (part_at sys v).extra) false ne))
 
--- fewer of its slots are left, which its key does not tell
+-- fewer of its slots are left, by which it does not go
 pub ready_few : (sys : SystemView) (host : Host) (v slots : ℕ) → v < length sys.parts → IsReady sys host
     → slots < (account_at host.accounts v).left
     → IsReady sys (record host {
@@ -103,11 +100,23 @@ pub ready_few : (sys : SystemView) (host : Host) (v slots : ℕ) → v < length 
 ready_few sys host v slots l h fewer =
     let a : Account = account_at host.accounts v in
     let its : IsSound host.time a = h.sound v l in
+    let new : List Account = set host.accounts v (using a slots) in
+    let room : v < length host.accounts = omega (arith, l, h.room.all_vcpus, h.room.few_parts) in
+    let level : (u : ℕ) → (account_at new u).level ≡ (account_at host.accounts u).level
+    = λ u. at_set (λ z. z.level ≡ (account_at host.accounts u).level) host.accounts v u (using a slots) room
+    (λ e. ap (λ (z : ℕ). (account_at host.accounts z).level) (sym e)) refl in
+    let until : (u : ℕ) → end_at new u ≡ end_at host.accounts u
+    = λ u. at_set (λ z. z.until ≡ end_at host.accounts u) host.accounts v u (using a slots) room
+    (λ e. ap (end_at host.accounts) (sym e)) refl in
     ready_set sys host v (using a slots) host.queues l h (record {
       few = its.few;
       some_left = omega (arith, fewer);
       idle = its.idle;
-    }) h.listed (h.keys v l) (λ u ne. refl)
+    })
+    (queues_same sys host.accounts new host.queues h.listed
+    (length-set host.accounts v (using a slots) ∙ h.room.all_vcpus)
+    (λ c u w x y. rw (level u, level w, until u, until w) refl))
+    (h.eligible v l) (λ u ne. refl)
 
 -- what has no core uses no slots
 pub not_used : (a : Account) (has : Bool) (slots budget : ℕ) → has ≡ false → used_more a has slots budget ≡ a
@@ -208,7 +217,6 @@ pub ready_later : (sys : SystemView) (host : Host) (to : ℕ) → host.time ≤ 
 ready_later sys host to l h = record {
   room = record {
     all_vcpus = h.room.all_vcpus;
-    all_keys = h.room.all_keys;
     all_cores = h.room.all_cores;
     few_parts = h.room.few_parts;
     few_cores = h.room.few_cores;
@@ -218,6 +226,6 @@ ready_later sys host to l h = record {
   sound = λ v lv.
       let its : IsSound host.time (account_at host.accounts v) = h.sound v lv in
       record { few = omega (arith, l, its.few); some_left = its.some_left; idle = its.idle };
-  keys = h.keys;
+  eligible = h.eligible;
   on_core = h.on_core;
 }

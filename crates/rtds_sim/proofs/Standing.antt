@@ -7,14 +7,15 @@ use Rattle.tree_model.specs.declared.place.Place.TheVariants.{Core}
 use Rattle.tree_model.specs.View.{SystemView}
 use Rattle.tree_model.specs.System.{part_at, IsSystem}
 use Rattle.tree_model.specs.Tree.{is_child, run_at}
-use Rattle.rtds_sim.specs.declared.account.Account.{Account}
+use Rattle.rtds_queues.specs.declared.account.Account.{Account}
 use Rattle.rtds_sim.specs.declared.host.Host.{Host}
 use Rattle.release_file.specs.declared.workload.Wake.{Wake as Row}
 use Rattle.release_file.specs.Workload.{row_at, starts, is_of, is_start, blocks, IsWorkload}
 use Rattle.rtds_sim.specs.Printed.{core_of, holder_before}
 use Rattle.rtds_sim.specs.inner.Running.{RowsFrom, AreOn}
 use Rattle.trace_file.proofs.Moments.{child_parent}
-use Rattle.rtds_sim.specs.inner.Accounts.{no_account, account_at, holder_at, AreAccounts, AreBefore, HasRoom, IsAccount, run_of_part}
+use Rattle.rtds_queues.specs.Accounts.{no_account, account_at}
+use Rattle.rtds_sim.specs.inner.Accounts.{holder_at, AreAccounts, AreBefore, HasRoom, IsAccount, run_of_part}
 use Rattle.csv_rows.proofs.Last.{last_below-zero, some_found}
 use Rattle.release_file.proofs.Rows.{ordered}
 use Rattle.trace_file.specs.Rules.{is_vcpu}

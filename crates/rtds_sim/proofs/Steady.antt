@@ -13,14 +13,15 @@ use Rattle.tree_model.specs.System.{part_at, IsSystem, Stands}
 use Rattle.tree_model.specs.Tree.{is_child, budget_at}
 use Rattle.trace_file.specs.Periods.{begins, count_between}
 use Rattle.trace_file.proofs.Counting.{between_alike}
-use Rattle.rtds_sim.specs.declared.account.Account.{Account}
+use Rattle.rtds_queues.specs.declared.account.Account.{Account}
 use Rattle.release_file.specs.declared.workload.Wake.{Wake as Row}
 use Rattle.tree_model.specs.Plans.{IsPlan}
 use Rattle.release_file.specs.Workload.{is_started_at, is_blocked_at, start_of}
 use Rattle.rtds_sim.specs.Rtds.{period_number, period_from, used, level_at, deadline_at, can_run, is_eligible, goes_before, RtdsEntry, CoreRun}
 use Rattle.rtds_queues.specs.Keys.{goes_first}
 use Rattle.rtds_sim.specs.Printed.{core_of}
-use Rattle.rtds_sim.specs.inner.Accounts.{account_at, renewed, using, had_budget, used_more, gone_on, left_of, IsInPeriod, IsAccount, AreBefore, NoEndBefore}
+use Rattle.rtds_queues.specs.Accounts.{account_at, renewed, using, had_budget}
+use Rattle.rtds_sim.specs.inner.Accounts.{used_more, gone_on, left_of, IsInPeriod, IsAccount, AreBefore, NoEndBefore}
 use Rattle.rtds_sim.specs.inner.Running.{RowsFrom, AreOn}
 use Rattle.rtds_sim.proofs.Runs.{entry_unique}
 use Rattle.rtds_sim.proofs.Taking.{none_between, all_left}

@@ -11,14 +11,15 @@ use Rattle.tree_model.specs.System.{part_at}
 use Rattle.tree_model.specs.Tree.{budget_at}
 use Rattle.tree_model.specs.Plans.{IsPlan}
 use Rattle.trace_file.specs.Periods.{begins, count_between}
-use Rattle.rtds_sim.specs.declared.account.Account.{Account}
+use Rattle.rtds_queues.specs.declared.account.Account.{Account}
 use Rattle.release_file.specs.declared.workload.Wake.{Wake as Row}
 use Rattle.release_file.specs.declared.workload.WakeKind.{WakeKind}
 use Rattle.release_file.specs.declared.workload.WakeKind.TheVariants.{Start, Wake, Block}
 use Rattle.release_file.specs.Workload.{row_at, last_row, is_of, is_start, starts, is_block, blocks, slot_of, start_of, may_follow, IsWorkload}
 use Rattle.rtds_sim.specs.Rtds.{period_number, period_from, used}
 use Rattle.rtds_sim.specs.Printed.{event_of, row_event_at}
-use Rattle.rtds_sim.specs.inner.Accounts.{account_at, no_account, left_of, row_taken, IsInPeriod, IsAccount, AreAccounts, run_of_part}
+use Rattle.rtds_queues.specs.Accounts.{account_at, no_account}
+use Rattle.rtds_sim.specs.inner.Accounts.{left_of, row_taken, IsInPeriod, IsAccount, AreAccounts, run_of_part}
 use Rattle.csv_rows.proofs.Last.{last_below-no, last_below-yes, last_is, some_row}
 
 -- the event of a row at a slot

@@ -1,11 +1,11 @@
 ghost use Rattle.std.specs.Prelude.{◌≡◌, ◌<◌, length};
 ghost use Rattle.tree_model.specs.Tree.{budget_at};
 
-use crate::account::{Account, account_of};
+use crate::account::{account_of, taking};
 use crate::moment::moment_of_slot;
 use crate::rows::row_at;
 use release_file::Wake;
-use rtds_queues::Queues;
+use rtds_queues::{Account, Queues};
 use slot_model::LIMIT;
 use std::alloc::AllocError;
 use trace_file::{Event, EventTaker, What};
@@ -25,7 +25,7 @@ pub struct Host {
     pub taken: usize,
     /// Of each VCPU when its period ends and what it had in it.
     pub accounts: [Account; MAX_PARTS],
-    /// What each VCPU goes by, and those of each core that are eligible.
+    /// Those of each core that are eligible, in the order in which they go.
     pub queues: Queues,
     /// For each core the VCPU that has it.
     pub holders: [Option<u32>; MAX_CORES],
@@ -50,7 +50,8 @@ impl Host {
     ghost use Rattle.trace_file.specs.declared.event.What.TheVariants.{Stop};
     ghost use Rattle.rtds_sim.specs.Printed.{gathered, on_at};
     ghost use Rattle.tree_model.specs.System.{IsSystem};
-    ghost use Rattle.rtds_sim.specs.inner.Accounts.{no_account, account_at, holder_at, row_taken, left_at, gives_up, stop_of, AreAccounts, IsSound, IsReady, NoneEnds};
+    ghost use Rattle.rtds_queues.specs.Accounts.{no_account, account_at};
+    ghost use Rattle.rtds_sim.specs.inner.Accounts.{holder_at, row_taken, left_at, gives_up, stop_of, AreAccounts, IsSound, IsReady, NoneEnds};
 
     /// Before the first slot.
     pub fn new(sys: &System) -> Host
@@ -73,7 +74,7 @@ impl Host {
         }
     }
 
-    /// Sets the account of VCPU `v`, and what it goes by.
+    /// Sets the account of VCPU `v`.
     fn set(&mut self, sys: &System, v: u32, account: Account)
         requires ready { IsReady sys.now self.old }
         requires is_part { v < length sys.now.parts }
@@ -84,9 +85,7 @@ impl Host {
         ensures time { self.new.time ≡ self.old.time }
         ensures holders { self.new.holders ≡ self.old.holders }
     {
-        let key = account.key(sys.parts()[v as usize].extra());
-        self.accounts[v as usize] = account;
-        self.queues.set(sys, v, key);
+        self.queues.set(sys, &mut self.accounts, v, account);
     }
 
     /// The account of a row's VCPU after the row.
@@ -100,7 +99,12 @@ impl Host {
     {
         let v = row.vcpu;
         let end = row.at + sys.parts()[v as usize].period();
-        account_of(&self.accounts, v).taking(row.what, end, budget_of(plan, v))
+        taking(
+            account_of(&self.accounts, v),
+            row.what,
+            end,
+            budget_of(plan, v),
+        )
     }
 
     /// Takes one row.

@@ -2,12 +2,13 @@ ghost use Rattle.std.specs.Prelude.{◌≡◌, ◌≤◌, ◌<◌};
 ghost use Rattle.slot_model.specs.declared.task.TheConstants.{LIMIT};
 ghost use Rattle.rtds_sim.specs.Printed.{on_core_at, switch_to};
 
-use crate::account::{Account, account_of, end_of};
+use crate::account::{account_of, end_of};
 use crate::by_end::{first_end, settle, sort};
 use crate::host::{Host, budget_of};
 use crate::members::Members;
 use crate::moment::moment_of_slot;
 use crate::switches::Switches;
+use rtds_queues::Account;
 use slot_model::LIMIT;
 use std::alloc::AllocError;
 use trace_file::{Event, What};
@@ -54,7 +55,8 @@ impl Host {
     ghost use Rattle.rtds_sim.specs.inner.ByEnd.{AreByEnd};
     ghost use Rattle.rtds_sim.specs.inner.Members.{AreAll, AreMembers};
     ghost use Rattle.rtds_sim.specs.Printed.{push_some, on_core_at, switch_to};
-    ghost use Rattle.rtds_sim.specs.inner.Accounts.{account_at, end_at, holder_at, gone_on, used_more, period_ended, renewed, IsChoice, IsSound, IsReady, NoEndBefore, NoneEnds, NoneAbove};
+    ghost use Rattle.rtds_queues.specs.Accounts.{account_at, end_at, renewed};
+    ghost use Rattle.rtds_sim.specs.inner.Accounts.{holder_at, gone_on, used_more, period_ended, IsChoice, IsSound, IsReady, NoEndBefore, NoneEnds, NoneAbove};
     ghost use Rattle.rtds_sim.specs.inner.Running.{IsUnderway, HasRun, KeepsOthers};
     ghost use Rattle.rtds_sim.specs.inner.Lists.{list_at};
 
@@ -314,7 +316,7 @@ impl Host {
         self.set_on(sys, core, v, account);
     }
 
-    /// Sets the account of VCPU `v` of core `core`, and what it goes by.
+    /// Sets the account of VCPU `v` of core `core`.
     #[inline(always)]
     fn set_on(&mut self, sys: &System, core: usize, v: u32, account: Account)
         requires ready { IsReady sys.now self.old }
@@ -329,8 +331,7 @@ impl Host {
         ensures taken { self.new.taken ≡ self.old.taken }
     {
         prove!(sys.cores().len() <= MAX_CORES);
-        let key = account.key(sys.parts()[v as usize].extra());
-        self.accounts[v as usize] = account;
-        self.queues.set_on(sys, core as u32, v, key);
+        self.queues
+            .set_on(sys, &mut self.accounts, core as u32, v, account);
     }
 }

@@ -1,40 +1,25 @@
 -- What is kept of VCPUs and cores between two events.
-use Rattle.std.specs.Prelude.{◌≡◌, ℕ, suc, ◌+◌, ◌-◌, ◌%◌, ◌<◌, ◌≤◌, ◌==◌, Bool, true, false, not, ◌&&◌, ◌||◌, nat_lt, if◌then◌else◌, List, length, slice_index_or, Option, Some, None}
+use Rattle.std.specs.Prelude.{◌≡◌, ℕ, suc, ◌+◌, ◌-◌, ◌%◌, ◌<◌, ◌≤◌, ◌==◌, Bool, true, false, ◌&&◌, nat_lt, if◌then◌else◌, List, length, slice_index_or, Option, Some, None}
 use Rattle.tree_model.specs.declared.place.Place.TheVariants.{Core}
 use Rattle.tree_model.specs.View.{SystemView}
 use Rattle.tree_model.specs.System.{part_at}
 use Rattle.tree_model.specs.Tree.{is_child, budget_at, run_at}
 use Rattle.trace_file.specs.declared.event.Event.{Event}
 use Rattle.trace_file.specs.declared.event.What.TheVariants.{Stop}
-use Rattle.rtds_sim.specs.declared.account.Account.{Account}
-use Rattle.rtds_sim.specs.declared.account.TheConstants.{PAST_ALL}
-use Rattle.rtds_queues.specs.declared.key.Key.{Key}
+use Rattle.rtds_queues.specs.declared.account.Account.{Account}
+use Rattle.rtds_queues.specs.declared.account.TheConstants.{PAST_ALL}
 use Rattle.rtds_sim.specs.declared.host.Host.{Host}
 use Rattle.release_file.specs.declared.workload.Wake.{Wake as Row}
 use Rattle.release_file.specs.declared.workload.WakeKind.{WakeKind}
 use Rattle.release_file.specs.declared.workload.WakeKind.TheVariants.{Start, Wake, Block}
 use Rattle.release_file.specs.Workload.{row_at, started_after, blocked_after}
 use Rattle.rtds_sim.specs.Rtds.{used, level_at, deadline_at}
-use Rattle.rtds_queues.specs.Keys.{key_at, goes_first}
-use Rattle.rtds_queues.specs.Queues.{AreQueues}
+use Rattle.rtds_queues.specs.Accounts.{account_at, end_at, renewed, using, had_budget, account_eligible, is_ahead}
+use Rattle.rtds_queues.specs.Queues.{stands_in, AreQueues}
 use Rattle.rtds_sim.specs.Printed.{core_of, on_at}
-
-abbrev pub no_account : Account
-no_account = record { started = false; blocked = false; until = PAST_ALL; level = 0; left = 1 }
-
-abbrev pub account_at : List Account → ℕ → Account
-account_at accounts v = slice_index_or accounts v no_account
-
--- the slot at which the period of VCPU v ends
-abbrev pub end_at : List Account → ℕ → ℕ
-end_at accounts v = (account_at accounts v).until
 
 abbrev pub holder_at : List (Option ℕ) → ℕ → Option ℕ
 holder_at holders c = slice_index_or holders c None
-
--- an account where a period begins that ends at slot `end`
-abbrev pub renewed : Account → ℕ → ℕ → Account
-renewed account end budget = record account { until = end; level = 0; left = budget }
 
 -- an account after a row of its VCPU, at which a period would begin that ends at slot `end`
 abbrev pub row_taken : WakeKind → ℕ → ℕ → Account → Account
@@ -42,13 +27,6 @@ row_taken Start end budget account =
     renewed (record account { started = true; blocked = false }) end budget
 row_taken Wake end budget account = record account { blocked = false }
 row_taken Block end budget account = record account { blocked = true }
-
--- an account whose VCPU has had some slots, and one whose VCPU has had its budget once more
-abbrev pub using : Account → ℕ → Account
-using account slots = record account { left = account.left - slots }
-
-abbrev pub had_budget : Account → ℕ → Account
-had_budget account budget = record account { level = suc account.level; left = budget }
 
 -- an account some slots later, which its VCPU had or not, and in which it had its budget once more
 -- at most
@@ -76,28 +54,10 @@ gone_on account has_core slots period budget to =
 abbrev pub left_of : ℕ → ℕ → ℕ
 left_of slots budget = budget - slots % budget
 
--- whether it is started and not blocked, and has budget left or extra time
-abbrev pub account_eligible : Account → Bool → Bool
-account_eligible account extra =
-    (account.started && not account.blocked) && ((account.level == 0) || extra)
-
--- what a VCPU goes by, where it is eligible
-abbrev pub key_of : Account → Bool → Option Key
-key_of account extra =
-    if account_eligible account extra
-    then Some (record { level = account.level; deadline = account.until })
-    else None
-
 -- whether VCPU v is one of core c and eligible
 abbrev pub ranked : SystemView → List Account → ℕ → ℕ → Bool
 ranked sys accounts c v =
     is_child sys (Core c) v && account_eligible (account_at accounts v) (part_at sys v).extra
-
--- the order of two VCPUs
-abbrev pub ranks_before : List Account → ℕ → ℕ → Bool
-ranks_before accounts u v =
-    goes_first (account_at accounts u).level (end_at accounts u) u
-    (account_at accounts v).level (end_at accounts v) v
 
 -- the eligible VCPU of core c before which no other one goes, if there is one
 pub record IsChoice (sys : SystemView) (accounts : List Account) (c : ℕ) (o : Option ℕ) :
@@ -106,7 +66,7 @@ pub record IsChoice (sys : SystemView) (accounts : List Account) (c : ℕ) (o : 
   pub within : (v : ℕ) → o ≡ Some v → v < length sys.parts
   pub named : (v : ℕ) → o ≡ Some v → ranked sys accounts c v ≡ true
   pub first : (u v : ℕ) → o ≡ Some v → u < length sys.parts →
-      ranked sys accounts c u ≡ true → ranks_before accounts u v ≡ false
+      ranked sys accounts c u ≡ true → is_ahead accounts u v ≡ false
 
 -- whether a VCPU, if one is meant, is blocked
 abbrev pub gives_up : List Account → Option ℕ → Bool
@@ -160,7 +120,6 @@ pub record AreBefore (rows : List Row) (k x : ℕ) : Type 0 where
 -- there is room for each VCPU and each core, and what has a core is a part
 pub record HasRoom (sys : SystemView) (host : Host) : Type 0 where
   pub all_vcpus : length host.accounts ≡ 512
-  pub all_keys : length host.queues.keys ≡ 512
   pub all_cores : length host.holders ≡ 64
   pub few_parts : length sys.parts ≤ 512
   pub few_cores : length sys.cores ≤ 64
@@ -174,14 +133,14 @@ pub record IsSound (time : ℕ) (account : Account) : Type 0 where
   pub some_left : 1 ≤ account.left
   pub idle : account.started ≡ false → account.until ≡ PAST_ALL
 
--- the accounts are sound, the keys are theirs, and the VCPUs with a key are queued; what has a core
+-- the accounts are sound, and the VCPUs that are eligible by them are queued; what has a core
 -- stands on it
 pub record IsReady (sys : SystemView) (host : Host) : Type 0 where
   pub room : HasRoom sys host
-  pub listed : AreQueues sys host.queues
+  pub listed : AreQueues sys host.accounts host.queues
   pub sound : (v : ℕ) → v < length sys.parts → IsSound host.time (account_at host.accounts v)
-  pub keys : (v : ℕ) → v < length sys.parts →
-      key_at host.queues.keys v ≡ key_of (account_at host.accounts v) (part_at sys v).extra
+  pub eligible : (v : ℕ) → v < length sys.parts →
+      stands_in host.queues v ≡ account_eligible (account_at host.accounts v) (part_at sys v).extra
   pub on_core : (c v : ℕ) → c < length sys.cores → holder_at host.holders c ≡ Some v →
       is_child sys (Core c) v ≡ true
 

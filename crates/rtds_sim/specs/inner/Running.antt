@@ -6,9 +6,10 @@ use Rattle.tree_model.specs.Tree.{is_child}
 use Rattle.trace_file.specs.declared.event.Event.{Event}
 use Rattle.release_file.specs.declared.workload.Wake.{Wake as Row}
 use Rattle.release_file.specs.Workload.{row_at}
-use Rattle.rtds_sim.specs.declared.account.Account.{Account}
+use Rattle.rtds_queues.specs.declared.account.Account.{Account}
 use Rattle.rtds_sim.specs.declared.host.Host.{Host}
-use Rattle.rtds_sim.specs.inner.Accounts.{account_at, holder_at, IsAccount, AreBefore}
+use Rattle.rtds_queues.specs.Accounts.{account_at}
+use Rattle.rtds_sim.specs.inner.Accounts.{holder_at, IsAccount, AreBefore}
 use Rattle.rtds_sim.specs.Printed.{holder_before, holder_left, switch_on}
 use Rattle.rtds_sim.specs.Rtds.{CoreRun}
 use Rattle.rtds_sim.specs.inner.Telling.{told_on}

@@ -5,14 +5,15 @@ use Rattle.tree_model.specs.Tree.{run_at}
 use Rattle.trace_file.specs.declared.event.Event.{Event}
 use Rattle.trace_file.specs.declared.event.What.{What}
 use Rattle.trace_file.specs.declared.event.What.TheVariants.{End}
-use Rattle.rtds_sim.specs.declared.account.Account.{Account}
+use Rattle.rtds_queues.specs.declared.account.Account.{Account}
 use Rattle.rtds_sim.specs.declared.host.Host.{Host}
 use Rattle.release_file.specs.declared.workload.Wake.{Wake as Row}
 use Rattle.release_file.specs.Workload.{row_at}
 use Rattle.rtds_sim.specs.Rtds.{RtdsRun}
 use Rattle.trace_file.specs.Taker.{Took}
 use Rattle.rtds_sim.specs.Printed.{core_of, moment_of_slot, printed_below, gathered, row_event_at, stop_at, switch_at, switch_to, on_core_at, holder_left, on_at, printed}
-use Rattle.rtds_sim.specs.inner.Accounts.{account_at, end_at, stop_of, AreBefore, IsAccount}
+use Rattle.rtds_queues.specs.Accounts.{account_at, end_at}
+use Rattle.rtds_sim.specs.inner.Accounts.{stop_of, AreBefore, IsAccount}
 use Rattle.rtds_sim.specs.inner.Running.{RowsFrom, HasRun}
 use Rattle.rtds_sim.specs.inner.Lists.{list_at}
 use Rattle.rtds_sim.specs.inner.Telling.{told_by, AreAtSlots}

@@ -1,15 +1,15 @@
-use Rattle.std.proofs.Common.{Some, refl}
+use Rattle.std.proofs.Common.{true, refl}
 use Rattle.rtds_queues.proofs.Queueing.{enters_front, enters_behind}
 use Rattle.rtds_queues.proofs.queues.Queues.enter.Goals as goal
 
 pub returns-in-None-clause-are : goal.returns-in-None-clause-are
 returns-in-None-clause-are c =
-    rw c.put.ensures (enters_front c.args.sys.now c.args.self.now c.requires.are c.args.v c.requires.is_part
-    (Some c.args.key) c.args.core c.requires.is_core c.requires.on_core c.requires.out refl
-    c.last_ahead-ahead.result c.last_ahead-ahead.ensures c.in-None.is)
+    enters_front c.args.sys.now c.args.accounts.now c.args.self.now c.requires.are c.args.v c.requires.is_part true
+    c.args.core c.requires.is_core c.requires.on_core c.last_ahead-ahead.result c.last_ahead-ahead.ensures c.in-None.is
+    c.requires.out refl
 
 pub returns-in-Some-clause-are : goal.returns-in-Some-clause-are
 returns-in-Some-clause-are c =
-    rw c.put.ensures (enters_behind c.args.sys.now c.args.self.now c.requires.are c.args.v c.requires.is_part
-    (Some c.args.key) c.args.core c.requires.is_core c.requires.on_core c.requires.out refl
-    c.last_ahead-ahead.result c.last_ahead-ahead.ensures c.in-Some.u c.in-Some.is)
+    enters_behind c.args.sys.now c.args.accounts.now c.args.self.now c.requires.are c.args.v c.requires.is_part true
+    c.args.core c.requires.is_core c.requires.on_core c.last_ahead-ahead.result c.last_ahead-ahead.ensures c.in-Some.u
+    c.in-Some.is c.requires.out refl

@@ -3,7 +3,7 @@ use Rattle.tree_model.specs.View.{PartView}
 use Rattle.tree_model.specs.System.{part_at}
 use Rattle.tree_model.specs.Tree.{budget_at}
 use Rattle.tree_model.proofs.NodeTasks.{part_here}
-use Rattle.rtds_sim.specs.inner.Accounts.{account_at}
+use Rattle.rtds_queues.specs.Accounts.{account_at}
 use Rattle.rtds_sim.proofs.Ready.{taken_is}
 use Rattle.rtds_sim.proofs.host.Host.account_after.Goals as goal
 

@@ -2,8 +2,9 @@ use Rattle.std.proofs.Common.{ℕ, ◌-◌, ◌<◌, Bool, List, Option, length,
 use Rattle.slot_model.specs.Run.{holds}
 use Rattle.tree_model.specs.System.{part_at}
 use Rattle.tree_model.specs.Tree.{budget_at}
-use Rattle.rtds_sim.specs.declared.account.Account.{Account}
-use Rattle.rtds_sim.specs.inner.Accounts.{account_at, holder_at, period_ended}
+use Rattle.rtds_queues.specs.declared.account.Account.{Account}
+use Rattle.rtds_queues.specs.Accounts.{account_at}
+use Rattle.rtds_sim.specs.inner.Accounts.{holder_at, period_ended}
 use Rattle.rtds_sim.proofs.CoreRuns.{keeps_by, keeps_more}
 use Rattle.rtds_sim.proofs.Firsts.{order_same}
 use Rattle.rtds_sim.proofs.Ready.{ends_same, gone_is, not_held, not_used}

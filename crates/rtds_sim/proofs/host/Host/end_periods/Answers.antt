@@ -5,8 +5,9 @@ use Rattle.std.proofs.lemmas.Bool.Decides.{nat_tests}
 use Rattle.tree_model.specs.declared.place.Place.TheVariants.{Core}
 use Rattle.tree_model.specs.System.{part_at}
 use Rattle.tree_model.specs.Tree.{is_child, budget_at}
-use Rattle.rtds_sim.specs.declared.account.Account.{Account}
-use Rattle.rtds_sim.specs.inner.Accounts.{account_at, end_at, holder_at, renewed, period_ended}
+use Rattle.rtds_queues.specs.declared.account.Account.{Account}
+use Rattle.rtds_queues.specs.Accounts.{account_at, end_at, renewed}
+use Rattle.rtds_sim.specs.inner.Accounts.{holder_at, period_ended}
 use Rattle.rtds_queues.specs.Queues.{place_at}
 use Rattle.rtds_sim.proofs.CoreRuns.{keeps_by, keeps_more}
 use Rattle.rtds_sim.proofs.Firsts.{first_at, some_first, first_least, first_past, order_behind}

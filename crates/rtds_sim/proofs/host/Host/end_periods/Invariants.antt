@@ -4,7 +4,8 @@ use Rattle.slot_model.specs.Slots.{count_below}
 use Rattle.tree_model.specs.declared.place.Place.TheVariants.{Core}
 use Rattle.tree_model.specs.System.{part_at}
 use Rattle.tree_model.specs.Tree.{is_child, budget_at}
-use Rattle.rtds_sim.specs.inner.Accounts.{account_at, end_at, period_ended, IsReady, NoEndBefore}
+use Rattle.rtds_queues.specs.Accounts.{account_at, end_at}
+use Rattle.rtds_sim.specs.inner.Accounts.{period_ended, IsReady, NoEndBefore}
 use Rattle.rtds_sim.specs.inner.ByEnd.{AreByEnd}
 use Rattle.rtds_sim.specs.inner.Running.{KeepsOthers}
 use Rattle.rtds_sim.proofs.host.Host.end_periods.Given as goal

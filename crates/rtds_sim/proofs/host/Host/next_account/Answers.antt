@@ -3,8 +3,8 @@ use Rattle.tree_model.specs.View.{PartView}
 use Rattle.tree_model.specs.System.{part_at}
 use Rattle.tree_model.specs.Tree.{budget_at}
 use Rattle.tree_model.proofs.NodeTasks.{part_here}
-use Rattle.rtds_sim.specs.declared.account.Account.{Account}
-use Rattle.rtds_sim.specs.inner.Accounts.{account_at, end_at}
+use Rattle.rtds_queues.specs.declared.account.Account.{Account}
+use Rattle.rtds_queues.specs.Accounts.{account_at, end_at}
 use Rattle.rtds_sim.proofs.Ready.{renewed_is}
 use Rattle.rtds_sim.proofs.host.Host.next_account.Goals as goal
 

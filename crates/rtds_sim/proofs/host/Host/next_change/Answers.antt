@@ -1,7 +1,7 @@
 use Rattle.std.proofs.Common.{ℕ, ◌<◌, length, ap, arith}
 use Rattle.tree_model.specs.declared.place.Place.TheVariants.{Core}
 use Rattle.tree_model.specs.Tree.{is_child}
-use Rattle.rtds_sim.specs.declared.account.Account.{Account}
+use Rattle.rtds_queues.specs.declared.account.Account.{Account}
 use Rattle.rtds_sim.proofs.Firsts.{first_least, first_later}
 use Rattle.rtds_sim.proofs.host.Host.next_change.Goals as goal
 

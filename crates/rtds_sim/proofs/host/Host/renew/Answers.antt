@@ -1,8 +1,9 @@
 use Rattle.std.proofs.Common.{◌+◌, ℕ, List, set, sym, ap, subst, ◌∙◌}
 use Rattle.tree_model.specs.System.{part_at}
 use Rattle.tree_model.specs.Tree.{budget_at}
-use Rattle.rtds_sim.specs.declared.account.Account.{Account}
-use Rattle.rtds_sim.specs.inner.Accounts.{account_at, end_at, IsSound}
+use Rattle.rtds_queues.specs.declared.account.Account.{Account}
+use Rattle.rtds_queues.specs.Accounts.{account_at, end_at}
+use Rattle.rtds_sim.specs.inner.Accounts.{IsSound}
 use Rattle.rtds_sim.proofs.Ready.{sound_renewed}
 use Rattle.rtds_sim.proofs.host.Host.renew.Goals as goal
 

@@ -3,8 +3,9 @@ use Rattle.slot_model.specs.Run.{holds}
 use Rattle.tree_model.specs.declared.place.Place.TheVariants.{Core}
 use Rattle.tree_model.specs.System.{part_at}
 use Rattle.tree_model.specs.Tree.{is_child, budget_at}
-use Rattle.rtds_sim.specs.declared.account.Account.{Account}
-use Rattle.rtds_sim.specs.inner.Accounts.{account_at, holder_at, gone_on, NoEndBefore}
+use Rattle.rtds_queues.specs.declared.account.Account.{Account}
+use Rattle.rtds_queues.specs.Accounts.{account_at}
+use Rattle.rtds_sim.specs.inner.Accounts.{holder_at, gone_on, NoEndBefore}
 use Rattle.rtds_sim.proofs.CoreRuns.{keeps_all, keeps_more, stands_first, stands_last, stands_on, gone_few}
 use Rattle.rtds_sim.proofs.host.Host.run_core.Goals as goal
 

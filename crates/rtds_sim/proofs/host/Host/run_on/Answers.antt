@@ -6,9 +6,10 @@ use Rattle.tree_model.specs.declared.pinned_core.Core.{Core as CoreView}
 use Rattle.tree_model.specs.declared.place.Place.TheVariants.{Core}
 use Rattle.tree_model.specs.Tree.{is_child}
 use Rattle.trace_file.specs.declared.event.Event.{Event}
-use Rattle.rtds_sim.specs.declared.account.Account.{Account}
+use Rattle.rtds_queues.specs.declared.account.Account.{Account}
 use Rattle.rtds_sim.specs.declared.host.Host.{Host}
-use Rattle.rtds_sim.specs.inner.Accounts.{account_at, NoEndBefore}
+use Rattle.rtds_queues.specs.Accounts.{account_at}
+use Rattle.rtds_sim.specs.inner.Accounts.{NoEndBefore}
 use Rattle.rtds_sim.specs.inner.Members.{AreAll}
 use Rattle.rtds_sim.specs.inner.Running.{IsUnderway, HasRun}
 use Rattle.rtds_sim.specs.inner.Lists.{list_at}

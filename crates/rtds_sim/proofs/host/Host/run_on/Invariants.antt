@@ -2,7 +2,8 @@ use Rattle.std.proofs.Common.{◌≡◌, ℕ, suc, ◌≤◌, ◌<◌, false, Li
 use Rattle.tree_model.specs.declared.place.Place.TheVariants.{Core}
 use Rattle.tree_model.specs.Tree.{is_child}
 use Rattle.release_file.specs.declared.workload.Wake.{Wake as Row}
-use Rattle.rtds_sim.specs.inner.Accounts.{account_at, holder_at, IsReady, NoEndBefore}
+use Rattle.rtds_queues.specs.Accounts.{account_at}
+use Rattle.rtds_sim.specs.inner.Accounts.{holder_at, IsReady, NoEndBefore}
 use Rattle.rtds_sim.specs.inner.Members.{AreMembers}
 use Rattle.rtds_sim.specs.inner.Running.{IsUnderway, HasRun}
 use Rattle.rtds_sim.specs.inner.Lists.{list_at}

@@ -14,7 +14,7 @@ returns-in_ok-push-clause-chosen c =
     subst (IsChoice c.args.sys.now old.accounts c.args.core)
     (sym (set_here old.holders c.args.core c.first_of-next.result room))
     (first_choice c.args.sys.now old c.requires.ready c.args.core c.first_of-next.result
-    c.first_of-next.ensures)
+    (c.first_of-next.ensures old.accounts c.requires.ready.listed))
 
 pub returns-in_default-clause-chosen : goal.returns-in_default-clause-chosen
 returns-in_default-clause-chosen c =
@@ -24,7 +24,7 @@ returns-in_default-clause-chosen c =
     (sym c.switch_event.ensures ∙ c.in_default.is) in
     subst (IsChoice c.args.sys.now old.accounts c.args.core) (sym keeps)
     (first_choice c.args.sys.now old c.requires.ready c.args.core c.first_of-next.result
-    c.first_of-next.ensures)
+    (c.first_of-next.ensures old.accounts c.requires.ready.listed))
 
 pub returns-in_ok-push-clause-keeps : goal.returns-in_ok-push-clause-keeps
 returns-in_ok-push-clause-keeps c = record {

@@ -1,9 +1,10 @@
-use Rattle.std.proofs.Common.{◌≡◌, ◌+◌, ◌<◌, ℕ, List, length, set, sym, ap, arith, subst, ◌∙◌, inl, inr}
+use Rattle.std.proofs.Common.{◌+◌, ◌<◌, ℕ, List, length, set, sym, ap, arith, subst, ◌∙◌, inl, inr}
 use Rattle.std.proofs.lemmas.Bool.{cases_eq}
 use Rattle.tree_model.specs.System.{part_at}
 use Rattle.tree_model.specs.Tree.{budget_at}
-use Rattle.rtds_sim.specs.declared.account.Account.{Account}
-use Rattle.rtds_sim.specs.inner.Accounts.{account_at, end_at, row_taken, IsSound}
+use Rattle.rtds_queues.specs.declared.account.Account.{Account}
+use Rattle.rtds_queues.specs.Accounts.{account_at, end_at}
+use Rattle.rtds_sim.specs.inner.Accounts.{row_taken, IsSound}
 use Rattle.rtds_sim.proofs.Ready.{account_here, account_there, later_taken, sound_taken}
 use Rattle.rtds_sim.proofs.host.Host.take.Goals as goal
 

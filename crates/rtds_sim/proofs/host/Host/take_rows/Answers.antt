@@ -4,7 +4,8 @@ use Rattle.tree_model.specs.System.{part_at}
 use Rattle.tree_model.specs.Tree.{budget_at}
 use Rattle.release_file.specs.declared.workload.Wake.{Wake}
 use Rattle.release_file.specs.Workload.{row_at}
-use Rattle.rtds_sim.specs.inner.Accounts.{account_at, row_taken, AreAccounts}
+use Rattle.rtds_queues.specs.Accounts.{account_at}
+use Rattle.rtds_sim.specs.inner.Accounts.{row_taken, AreAccounts}
 use Rattle.rtds_sim.proofs.Taking.{own_taken, accounts_more}
 use Rattle.rtds_sim.proofs.host.Host.take_rows.Goals as goal
 

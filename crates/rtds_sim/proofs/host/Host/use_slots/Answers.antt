@@ -1,7 +1,8 @@
 use Rattle.std.proofs.Common.{◌≡◌, ◌<◌, ℕ, length, set, sym, ◌∙◌, ap, arith, subst}
 use Rattle.tree_model.specs.Tree.{budget_at}
-use Rattle.rtds_sim.specs.declared.account.Account.{Account}
-use Rattle.rtds_sim.specs.inner.Accounts.{account_at, using, had_budget, IsReady, IsSound}
+use Rattle.rtds_queues.specs.declared.account.Account.{Account}
+use Rattle.rtds_queues.specs.Accounts.{account_at, using, had_budget}
+use Rattle.rtds_sim.specs.inner.Accounts.{IsReady, IsSound}
 use Rattle.rtds_sim.proofs.Ready.{ready_few, sound_had}
 use Rattle.rtds_sim.proofs.host.Host.use_slots.Goals as goal
 

@@ -1,0 +1,40 @@
+-- What is kept of a VCPU between two events.
+use Rattle.std.specs.Prelude.{ℕ, suc, ◌-◌, ◌==◌, Bool, false, not, ◌&&◌, ◌||◌, List, slice_index_or}
+use Rattle.rtds_queues.specs.declared.account.Account.{Account}
+use Rattle.rtds_queues.specs.declared.account.TheConstants.{PAST_ALL}
+use Rattle.rtds_queues.specs.Keys.{goes_first}
+
+abbrev pub no_account : Account
+no_account = record { started = false; blocked = false; until = PAST_ALL; level = 0; left = 1 }
+
+abbrev pub account_at : List Account → ℕ → Account
+account_at accounts v = slice_index_or accounts v no_account
+
+-- the slot at which the period of VCPU v ends
+abbrev pub end_at : List Account → ℕ → ℕ
+end_at accounts v = (account_at accounts v).until
+
+-- an account where a period begins that ends at slot `end`
+abbrev pub renewed : Account → ℕ → ℕ → Account
+renewed account end budget = record account { until = end; level = 0; left = budget }
+
+-- an account whose VCPU has had some slots, and one whose VCPU has had its budget once more
+abbrev pub using : Account → ℕ → Account
+using account slots = record account { left = account.left - slots }
+
+abbrev pub had_budget : Account → ℕ → Account
+had_budget account budget = record account { level = suc account.level; left = budget }
+
+-- whether it is started and not blocked, and has budget left or extra time
+abbrev pub account_eligible : Account → Bool → Bool
+account_eligible account extra =
+    (account.started && not account.blocked) && ((account.level == 0) || extra)
+
+-- whether VCPU u of an account goes before VCPU v of another
+abbrev pub goes_ahead : Account → ℕ → Account → ℕ → Bool
+goes_ahead account u other v =
+    goes_first account.level account.until u other.level other.until v
+
+-- whether one VCPU goes before another, by their accounts
+abbrev pub is_ahead : List Account → ℕ → ℕ → Bool
+is_ahead accounts u v = goes_ahead (account_at accounts u) u (account_at accounts v) v

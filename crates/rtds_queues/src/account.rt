@@ -1,0 +1,92 @@
+ghost use Rattle.std.specs.Prelude.{◌≡◌, ◌≤◌, ◌<◌, ◌+◌, ◌^◌};
+ghost use Rattle.rtds_queues.specs.Accounts.{no_account, renewed, using, had_budget, account_eligible, goes_ahead};
+
+use slot_model::LIMIT;
+
+/// Past the last slot of each run.
+pub const PAST_ALL: u64 = LIMIT + 1;
+
+/// What is kept of a VCPU between two events.
+#[derive(Clone, Copy, Debug, PartialEq, Eq)]
+pub struct Account {
+    pub started: bool,
+    pub blocked: bool,
+    /// The slot at which its period ends, and one past all where it is not started.
+    pub until: u64,
+    /// How often it has had its budget in its period.
+    pub level: u64,
+    /// The slots until it has had its budget once more.
+    pub left: u64,
+}
+
+impl Account {
+    /// Before its start.
+    pub fn new() -> Account
+        ensures { result ≡ no_account }
+    {
+        Account {
+            started: false,
+            blocked: false,
+            until: PAST_ALL,
+            level: 0,
+            left: 1,
+        }
+    }
+
+    /// Where a period of it begins that ends at slot `end`.
+    #[inline(always)]
+    pub fn renewed(self, end: u64, budget: u64) -> Account
+        ensures { result ≡ renewed self end budget }
+    {
+        Account {
+            until: end,
+            level: 0,
+            left: budget,
+            ..self
+        }
+    }
+
+    /// Once it has had some slots, where more are left.
+    #[inline(always)]
+    pub fn using(self, slots: u64) -> Account
+        requires { slots ≤ self.left }
+        ensures { result ≡ using self slots }
+    {
+        Account {
+            left: self.left - slots,
+            ..self
+        }
+    }
+
+    /// Once it has had its budget once more.
+    #[inline(always)]
+    pub fn had_budget(self, budget: u64) -> Account
+        requires { self.level + 1 < 2 ^ 64 }
+        ensures { result ≡ had_budget self budget }
+    {
+        Account {
+            level: self.level + 1,
+            left: budget,
+            ..self
+        }
+    }
+
+    /// Whether it is started and not blocked, and has budget left or extra time.
+    #[inline(always)]
+    pub fn is_eligible(&self, extra: bool) -> bool
+        ensures { result ≡ account_eligible self.now extra }
+    {
+        self.started && !self.blocked && (self.level == 0 || extra)
+    }
+
+    /// Whether VCPU `u`, which has this account, goes before VCPU `v`, which has the other one: by
+    /// the least level, then by the least deadline, then as the first in the file.
+    #[inline(always)]
+    pub fn goes_ahead(&self, u: u32, other: &Account, v: u32) -> bool
+        ensures { result ≡ goes_ahead self.now u other.now v }
+    {
+        self.level < other.level
+            || self.level == other.level
+                && (self.until < other.until || self.until == other.until && u < v)
+    }
+}
