@@ -1,20 +1,18 @@
 -- Elements that are read one after the other, each put behind those before it.
 use Rattle.std.proofs.Common.{◌≡◌, ℕ, ◌+◌, ◌≤◌, List, [], ◌∷◌, ◌++◌, map, length, length-append, refl, sym, ap, ◌∙◌, append_assoc, arith}
 use Rattle.std.proofs.lemmas.List.{append-nil, map-append}
-use Rattle.toml.specs.Data.{Data, table, Items, no_items, item, Members, push_item}
+use Rattle.toml.specs.Data.{Data, table, Items, no_items, item, push_item}
 use Rattle.toml.specs.Tables.{array_table}
-use Rattle.toml_items.specs.Plain.{IsLine, ReadsTable}
+use Rattle.toml_items.specs.Plain.{IsLine}
 use Rattle.toml_items.proofs.Going.{ReadsElements, no_elements, one_more_element, last_element}
-use Rattle.tree_model.specs.declared.pinned_core.Core.{Core as CoreView}
 use Rattle.tree_model.specs.View.{PartView}
 use Rattle.tree_model.proofs.Lists.{length_map, none_both, none_left, none_right}
 use Rattle.system_file.specs.declared.format.Format.{Format}
-use Rattle.system_file.specs.declared.fault.Spot.TheVariants.{Core}
 use Rattle.system_file.specs.declared.fault.SystemFault.{SystemFault}
-use Rattle.system_file.specs.Document.{elements_of, spelled_core, spelled_part}
-use Rattle.system_file.specs.Faults.{in_order, table_faults, core_keys, core_key_faults, core_faults, part_faults}
+use Rattle.system_file.specs.Document.{elements_of, spelled_part}
+use Rattle.system_file.specs.Faults.{in_order, part_faults}
 use Rattle.system_file.specs.inner.Reading.{HaveNames, Known}
-use Rattle.system_file.specs.inner.Plain.{ReadsCores, ReadsParts}
+use Rattle.system_file.specs.inner.Plain.{ReadsElement, ReadsList, ReadsPart, ReadsParts}
 
 elements_pushed : (items : Items) (d : Data)
     → elements_of (push_item items d) ≡ elements_of items ++ d ∷ []
@@ -38,17 +36,19 @@ spelled_with_last spelled ds d xs x are is =
     ap (λ ys. ys ++ x ∷ []) are ∙ ap (λ y. map spelled ds ++ y ∷ []) is
     ∙ sym (map-append spelled ds (d ∷ []))
 
--- The cores of the elements of an array before a header of it.
-pub record CoresSoFar (path : List (List ℕ)) (key text : List ℕ) (cores : List CoreView)
-    (names : List (List ℕ)) (here : List ℕ) : Type 0 where
+-- What the elements of an array before a header of it spell.
+pub record SoFar {A : Type 0} (at_element : List Data → Data → List SystemFault) (spells : Data → A)
+    (path : List (List ℕ)) (key text : List ℕ) (found : List A) (names : List (List ℕ)) (here : List ℕ)
+    : Type 0 where
   pub items : Items
   pub reads : ReadsElements path key text items here
-  pub none : in_order core_faults [] (elements_of items) ≡ []
-  pub spelled : cores ≡ map spelled_core (elements_of items)
+  pub none : in_order at_element [] (elements_of items) ≡ []
+  pub spelled : found ≡ map spells (elements_of items)
   pub named : HaveNames (elements_of items) names
 
-pub no_cores : (path : List (List ℕ)) (key text : List ℕ) → CoresSoFar path key text [] [] text
-no_cores path key text = record {
+pub none_so_far : {A : Type 0} (at_element : List Data → Data → List SystemFault) (spells : Data → A)
+    (path : List (List ℕ)) (key text : List ℕ) → SoFar at_element spells path key text [] [] text
+none_so_far at_element spells path key text = record {
   items = no_items;
   reads = no_elements path key text;
   none = refl;
@@ -56,51 +56,48 @@ no_cores path key text = record {
   named = refl;
 }
 
-module _ (path : List (List ℕ)) (key text : List ℕ) (cores : List CoreView)
-    (names : List (List ℕ)) (here : List ℕ) (so_far : CoresSoFar path key text cores names here)
-    (ms : Members) (rest : List ℕ) (reads : ReadsTable (path ++ key ∷ []) here ms rest)
-    (place : ℕ) (core : CoreView) (names_now : List (List ℕ))
-    (ok : (earlier : List Data) → HaveNames earlier names →
-    (table_faults (Core place) core_keys (core_key_faults (Core place) earlier (table ms)) (table ms) ≡ [])
-    × (core ≡ spelled_core (table ms)) × HaveNames (earlier ++ table ms ∷ []) names_now)
-    (placed : place ≡ length cores) where
-  all_cores : elements_of (push_item so_far.items (table ms)) ≡ elements_of so_far.items ++ table ms ∷ []
-  all_cores = elements_pushed so_far.items (table ms)
+module _ {A : Type 0} {at_element : List Data → Data → List SystemFault} {spells : Data → A}
+    {path : List (List ℕ)} {key text here rest : List ℕ} {found : List A} {names : List (List ℕ)} {place : ℕ} {x : A}
+    {names_now : List (List ℕ)} (so_far : SoFar at_element spells path key text found names here)
+    (one : ReadsElement at_element spells (path ++ key ∷ []) here place names x names_now rest)
+    (placed : place ≡ length found) where
+  all_there : elements_of (push_item so_far.items (table one.members))
+      ≡ elements_of so_far.items ++ table one.members ∷ []
+  all_there = elements_pushed so_far.items (table one.members)
 
-  none_there : in_order core_faults [] (elements_of so_far.items ++ table ms ∷ []) ≡ []
-  none_there =
-      let many : length (elements_of so_far.items) ≡ place
-      = sym (ap length so_far.spelled ∙ length_map spelled_core (elements_of so_far.items)) ∙ sym placed in
-      none_with_last core_faults [] (elements_of so_far.items) (table ms) so_far.none
-      (ap (λ n. table_faults (Core n) core_keys
-      (core_key_faults (Core n) (elements_of so_far.items) (table ms)) (table ms)) many
-      ∙ (ok (elements_of so_far.items) so_far.named).0)
+  said : (at_element (elements_of so_far.items) (table one.members) ≡ []) × (x ≡ spells (table one.members))
+      × HaveNames (elements_of so_far.items ++ table one.members ∷ []) names_now
+  said =
+      one.ok (elements_of so_far.items)
+      (sym (ap length so_far.spelled ∙ length_map spells (elements_of so_far.items)) ∙ sym placed) so_far.named
 
-  spelled_there : cores ++ core ∷ [] ≡ map spelled_core (elements_of so_far.items ++ table ms ∷ [])
-  spelled_there =
-      spelled_with_last spelled_core (elements_of so_far.items) (table ms) cores core so_far.spelled
-      (ok (elements_of so_far.items) so_far.named).1
+  none_there : in_order at_element [] (elements_of so_far.items ++ table one.members ∷ []) ≡ []
+  none_there = none_with_last at_element [] (elements_of so_far.items) (table one.members) so_far.none said.0
 
-  pub one_more_core : (behind : List ℕ) → IsLine rest ((path, key), array_table) behind
-      → CoresSoFar path key text (cores ++ core ∷ []) names_now behind
-  one_more_core behind again = record {
-    items = push_item so_far.items (table ms);
-    reads = one_more_element path key text here rest behind so_far.items ms so_far.reads reads again;
-    none = rw all_cores none_there;
-    spelled = rw all_cores spelled_there;
-    named = rw all_cores (ok (elements_of so_far.items) so_far.named).2;
+  spelled_there : found ++ x ∷ [] ≡ map spells (elements_of so_far.items ++ table one.members ∷ [])
+  spelled_there = spelled_with_last spells (elements_of so_far.items) (table one.members) found x so_far.spelled said.1
+
+  pub one_more : (behind : List ℕ) → IsLine rest ((path, key), array_table) behind
+      → SoFar at_element spells path key text (found ++ x ∷ []) names_now behind
+  one_more behind again = record {
+    items = push_item so_far.items (table one.members);
+    reads =
+        one_more_element path key text here rest behind so_far.items one.members so_far.reads one.reads again;
+    none = rw all_there none_there;
+    spelled = rw all_there spelled_there;
+    named = rw all_there said.2;
   }
 
-  pub last_core : length cores + 1 ≤ 64
-      → ReadsCores path key text (cores ++ core ∷ []) names_now rest
-  last_core few = record {
-    items = push_item so_far.items (table ms);
-    reads = last_element path key text here rest so_far.items ms so_far.reads reads;
-    none = rw all_cores none_there;
-    spelled = rw all_cores spelled_there;
-    named = rw all_cores (ok (elements_of so_far.items) so_far.named).2;
-    some = omega (arith, length-append cores (core ∷ []));
-    few = omega (arith, length-append cores (core ∷ []));
+  pub with_last : (most : ℕ) → length found + 1 ≤ most
+      → ReadsList at_element spells path key text most (found ++ x ∷ []) names_now rest
+  with_last most few = record {
+    items = push_item so_far.items (table one.members);
+    reads = last_element path key text here rest so_far.items one.members so_far.reads one.reads;
+    none = rw all_there none_there;
+    spelled = rw all_there spelled_there;
+    named = rw all_there said.2;
+    some = omega (arith, length-append found (x ∷ []));
+    few = omega (arith, length-append found (x ∷ []));
   }
 
 -- The parts of the elements of an array before a header of it, whatever elements follow, behind
@@ -133,62 +130,58 @@ no_parts path key text format count first many = record {
   };
 }
 
-module _ (path : List (List ℕ)) (key text : List ℕ) (format : Format) (count : ℕ)
-    (first : List (List ℕ)) (parts : List PartView) (names : List (List ℕ)) (here : List ℕ)
+module _ {path : List (List ℕ)} {key text here rest : List ℕ} {format : Format} {count : ℕ}
+    {first names names_now : List (List ℕ)} {parts now : List PartView} {part : PartView}
     (so_far : PartsSoFar path key text format count first parts names here)
-    (ms : Members) (rest : List ℕ) (reads : ReadsTable (path ++ key ∷ []) here ms rest)
-    (now : List PartView) (same : now ≡ parts) (part : PartView) (names_now : List (List ℕ))
-    (one_more : length names_now ≡ length names + 1)
-    (ok : (cores before later : List Data) → Known cores before (table ms ∷ later) count names now →
-    (part_faults format cores before (table ms) ≡ [])
-    × (part ≡ spelled_part cores (before ++ table ms ∷ later) (table ms))
-    × HaveNames (cores ++ (before ++ table ms ∷ [])) names_now) where
-  all_parts : elements_of (push_item so_far.items (table ms)) ≡ elements_of so_far.items ++ table ms ∷ []
-  all_parts = elements_pushed so_far.items (table ms)
+    (one : ReadsPart (path ++ key ∷ []) here format count names now part names_now rest)
+    (same : now ≡ parts) (named_one : length names_now ≡ length names + 1) where
+  all_parts : elements_of (push_item so_far.items (table one.members))
+      ≡ elements_of so_far.items ++ table one.members ∷ []
+  all_parts = elements_pushed so_far.items (table one.members)
 
-  many_there : length (elements_of so_far.items ++ table ms ∷ []) ≡ length (parts ++ part ∷ [])
+  many_there : length (elements_of so_far.items ++ table one.members ∷ []) ≡ length (parts ++ part ∷ [])
   many_there =
       omega (
         arith,
         so_far.many,
-        length-append (elements_of so_far.items) (table ms ∷ []),
+        length-append (elements_of so_far.items) (table one.members ∷ []),
         length-append parts (part ∷ []),
       )
 
   counted_there : length names_now ≡ count + length (parts ++ part ∷ [])
-  counted_there = omega (arith, so_far.counted, one_more, length-append parts (part ∷ []))
+  counted_there = omega (arith, so_far.counted, named_one, length-append parts (part ∷ []))
 
   known_here : (cores later : List Data) → length cores ≡ count → HaveNames cores first
-      → Known cores (elements_of so_far.items) (table ms ∷ later) count names now
-  known_here cores later counted have = rw same (so_far.known cores (table ms ∷ later) counted have)
+      → Known cores (elements_of so_far.items) (table one.members ∷ later) count names now
+  known_here cores later counted have = rw same (so_far.known cores (table one.members ∷ later) counted have)
 
   no_fault_there : (cores : List Data) → length cores ≡ count → HaveNames cores first
-      → in_order (part_faults format cores) [] (elements_of so_far.items ++ table ms ∷ []) ≡ []
+      → in_order (part_faults format cores) [] (elements_of so_far.items ++ table one.members ∷ []) ≡ []
   no_fault_there cores counted have =
-      none_with_last (part_faults format cores) [] (elements_of so_far.items) (table ms)
+      none_with_last (part_faults format cores) [] (elements_of so_far.items) (table one.members)
       (so_far.none cores counted have)
-      (ok cores (elements_of so_far.items) [] (known_here cores [] counted have)).0
+      (one.ok cores (elements_of so_far.items) [] (known_here cores [] counted have)).0
 
   known_there : (cores later : List Data) → length cores ≡ count → HaveNames cores first
-      → Known cores (elements_of so_far.items ++ table ms ∷ []) later count names_now (parts ++ part ∷ [])
+      → Known cores (elements_of so_far.items ++ table one.members ∷ []) later count names_now (parts ++ part ∷ [])
   known_there cores later counted have =
       let before = elements_of so_far.items in
-      let said = ok cores before later (known_here cores later counted have) in
+      let said = one.ok cores before later (known_here cores later counted have) in
       record {
         counted = counted;
         named = said.2;
         spelled =
-            spelled_with_last (spelled_part cores (before ++ table ms ∷ later)) before (table ms) parts part
-            (so_far.known cores (table ms ∷ later) counted have).spelled said.1
-            ∙ ap (λ all. map (spelled_part cores all) (before ++ table ms ∷ []))
-            (sym (append_assoc before (table ms ∷ []) later));
+            spelled_with_last (spelled_part cores (before ++ table one.members ∷ later)) before (table one.members)
+            parts part (so_far.known cores (table one.members ∷ later) counted have).spelled said.1
+            ∙ ap (λ all. map (spelled_part cores all) (before ++ table one.members ∷ []))
+            (sym (append_assoc before (table one.members ∷ []) later));
       }
 
   pub one_more_part : (behind : List ℕ) → IsLine rest ((path, key), array_table) behind
       → PartsSoFar path key text format count first (parts ++ part ∷ []) names_now behind
   one_more_part behind again = record {
-    items = push_item so_far.items (table ms);
-    reads = one_more_element path key text here rest behind so_far.items ms so_far.reads reads again;
+    items = push_item so_far.items (table one.members);
+    reads = one_more_element path key text here rest behind so_far.items one.members so_far.reads one.reads again;
     many = rw all_parts many_there;
     counted = counted_there;
     none = λ cores counted have. rw all_parts (no_fault_there cores counted have);
@@ -198,12 +191,12 @@ module _ (path : List (List ℕ)) (key text : List ℕ) (format : Format) (count
   pub last_part : length parts + 1 ≤ 512
       → ReadsParts path key text format count first (parts ++ part ∷ []) rest
   last_part few = record {
-    items = push_item so_far.items (table ms);
-    reads = last_element path key text here rest so_far.items ms so_far.reads reads;
+    items = push_item so_far.items (table one.members);
+    reads = last_element path key text here rest so_far.items one.members so_far.reads one.reads;
     few = rw all_parts (omega (arith, many_there, length-append parts (part ∷ [])));
     none = λ cores counted have. rw all_parts (no_fault_there cores counted have);
     spelled = λ cores counted have.
-        let all = elements_of so_far.items ++ table ms ∷ [] in
+        let all = elements_of so_far.items ++ table one.members ∷ [] in
         rw all_parts ((known_there cores [] counted have).spelled
         ∙ ap (λ ds. map (spelled_part cores ds) all) (append-nil all));
   }

@@ -26,3 +26,4 @@ pub mod PrintedPut
 pub mod OneText
 pub mod AtEnd
 pub mod OneWalk
+pub mod WithTasks

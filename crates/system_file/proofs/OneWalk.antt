@@ -22,7 +22,7 @@ use Rattle.system_file.proofs.Fits.{keys_fit, array_fits}
 use Rattle.system_file.proofs.Laws.{cores_fit}
 
 -- a listed key that is put leaves a table's keys listed
-put_listed : (listed : List (List ℕ)) (k : List ℕ) (d : Data) (ms : Members)
+pub put_listed : (listed : List (List ℕ)) (k : List ℕ) (d : Data) (ms : Members)
     → list_any (bytes_eq k) listed ≡ true → has_only listed ms ≡ true
     → has_only listed (insert_member k d ms) ≡ true
 put_listed listed k d no_members here all = ap (λ b. b && true) here

@@ -3,6 +3,7 @@
 //! a system.
 #![tactic(auto)]
 
+mod at_front;
 mod cores;
 mod fault;
 mod format;

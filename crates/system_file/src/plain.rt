@@ -4,15 +4,14 @@ ghost use Rattle.toml_items.specs.Plain.{path_of};
 ghost use Rattle.system_file.specs.SystemFile.{system_of_document};
 ghost use Rattle.system_file.specs.inner.Plain.{BeginsWithFormat, BeginsArray, ReadsCores, ReadsParts, SpellsNodes};
 
-use crate::cores::read_core;
+use crate::at_front::{core_at, part_at};
 use crate::format::Format;
 use crate::keys::{check_keys, format_at};
 use crate::names::Names;
-use crate::parts::read_part;
 use crate::whole::{Nodes, whole_system};
 use crate::{Spot, SystemFault};
 use std::alloc::Global;
-use toml_items::{Header, Item, array_at, element, header_again, is_end, top_pairs};
+use toml_items::{Header, array_at, header_again, is_end, top_pairs};
 use tree_model::{Core, Part, System};
 
 /// The system of a plain text of a format, cores and then parts, which are made while it is read.
@@ -103,18 +102,14 @@ fn cores_from<'t>(
     let mut cores = Vec::new(alloc);
     let mut rest = header.rest;
     'elements: while cores.len() < 64 {
-        let Some(found) = element(alloc, header, rest)? else {
-            return Err(SystemFault::NotToml);
-        };
-        let value = Item::Table(found.entries);
-        let core = read_core(alloc, &value, Spot::Core(cores.len() as u32), names)?;
-        cores.push(core)?;
-        match header_again(header, found.rest) {
+        let there = core_at(alloc, header, rest, cores.len(), names)?;
+        cores.push(there.core)?;
+        match header_again(header, there.rest) {
             Some(after) => rest = after,
             None => {
                 return Ok(Cores {
                     cores,
-                    rest: found.rest,
+                    rest: there.rest,
                 });
             }
         }
@@ -137,6 +132,7 @@ fn parts_from<'t>(
     cores: usize,
     names: &mut Names<'t>,
 ) -> Result<Parts<'t>, SystemFault>
+    requires top { path_of header.parent ≡ [] }
     requires few_cores { cores ≤ 64 }
     requires names { length names.old ≡ cores }
     ensures { IfOk result (λ read. ReadsParts (path_of header.entry.parent) header.entry.key.now
@@ -146,18 +142,16 @@ fn parts_from<'t>(
     let mut tasks = Names::new(alloc);
     let mut rest = header.rest;
     'elements: while parts.len() < 512 {
-        let Some(found) = element(alloc, header, rest)? else {
-            return Err(SystemFault::NotToml);
-        };
-        let value = Item::Table(found.entries);
-        let part = read_part(alloc, &value, format, cores, &parts, names, &mut tasks)?;
-        parts.push(part)?;
-        match header_again(header, found.rest) {
+        let there = part_at(
+            alloc, header, rest, format, cores, &parts, names, &mut tasks,
+        )?;
+        parts.push(there.part)?;
+        match header_again(header, there.rest) {
             Some(after) => rest = after,
             None => {
                 return Ok(Parts {
                     parts,
-                    rest: found.rest,
+                    rest: there.rest,
                 });
             }
         }

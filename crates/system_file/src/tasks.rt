@@ -35,7 +35,7 @@ fn numbers_at(table: &[Entry<'_>], spot: Spot) -> Result<Task, SystemFault>
 }
 
 /// A task, whose name is put behind the names of the tasks before it.
-fn read_task<'t>(
+pub fn read_task<'t>(
     alloc: Global,
     value: &Item<'t>,
     format: Format,
