@@ -1,18 +1,24 @@
 -- A leaf that is put on one core after another: its budget is the same on each, and with it every
 -- node but that core is settled.
-use Rattle.std.proofs.Common.{◌≡◌, ℕ, ◌<◌, true, Some, List, [], ◌∷◌, ◌++◌, length, length-set, ◌+◌, set, arith, refl, sym, ◌∙◌, ap, subst, inl, inr}
+use Rattle.std.proofs.Common.{◌≡◌, ℕ, ◌*◌, ◌/◌, ◌^◌, ◌<◌, ◌≤◌, true, Some, List, [], ◌∷◌, ◌++◌, length, length-set, ◌+◌, get_or, set, arith, refl, sym, ◌∙◌, ap, subst, inl, inr}
 use Rattle.std.proofs.Math.Seq.{set-append_seam}
 use Rattle.std.proofs.lemmas.Bool.{cases_lt}
 use Rattle.std.proofs.lemmas.List.{set-set}
+use Rattle.std.proofs.lemmas.List.Sums.{sum_by_push}
 use Rattle.slot_model.specs.Bound.{sbf}
+use Rattle.slot_model.specs.Task.{SporadicTask, plain_task}
 use Rattle.tree_model.specs.declared.place.Parent.TheVariants.{Core as on_core}
 use Rattle.tree_model.specs.declared.place.Place.{Place}
 use Rattle.tree_model.specs.declared.place.Place.TheVariants.{Core, Part}
 use Rattle.tree_model.specs.declared.plan.Refusal.{Refusal}
 use Rattle.tree_model.specs.View.{PartView, SystemView}
 use Rattle.tree_model.specs.System.{IsSystem, part_at, is_leaf, is_leaf_at}
-use Rattle.tree_model.specs.Tree.{place_of, node_tasks}
+use Rattle.tree_model.specs.Tree.{place_of, same_place, is_child, budget_at, server_task, child_tasks, server_tasks, node_tasks}
 use Rattle.tree_model.specs.Admission.{largest_budget, Admitted}
+use Rattle.tree_model.specs.Plans.{IsPlan}
+use Rattle.tree_model.proofs.Children.{same_itself}
+use Rattle.tree_model.proofs.InRange.{assigned_is_plan}
+use Rattle.tree_model.proofs.NodeTasks.{child_tasks_yes, part_here}
 use Rattle.compose_tree.specs.Steps.{NodeRefuses, RefusesAt}
 use Rattle.compose_tree.specs.Kept.{IsKept, IsSettledNode}
 use Rattle.compose_tree.proofs.Settling.{before_part, node_refuses}
@@ -20,8 +26,9 @@ use Rattle.compose_tree.proofs.Ways.{assigned_later, pass_later, kept_up}
 use Rattle.admission_session.specs.Leaves.{on_parent, with_guest, with_changed, moved_to}
 use Rattle.admission_session.specs.Edits.{IsNewLeaf}
 use Rattle.admission_session.specs.Answers.{HasRefusal, IsRefusedOnAll, IsPutOn}
-use Rattle.admission_session.proofs.Nodes.{same_leaf, settled_with}
-use Rattle.admission_session.proofs.KeptByEdits.{changed_here}
+use Rattle.admission_session.specs.inner.Shares.{share, shares}
+use Rattle.admission_session.proofs.Nodes.{same_below, same_leaf, settled_with}
+use Rattle.admission_session.proofs.KeptByEdits.{changed_at, changed_here, same_child}
 use Rattle.admission_session.proofs.EditedSystems.{added_here}
 use Rattle.admission_session.proofs.RowSystems.{new_leaf_is, add_keeps}
 
@@ -160,3 +167,62 @@ pub put_nowhere : (was now : SystemView) (guest : PartView) (n : ℕ) → now �
 put_nowhere was now guest n e l refused =
     λ d h. subst HasRefusal (trial_at was now guest n d e l)
     (refused d (subst (λ (s : SystemView). d < length s.cores) (sym e) h))
+
+-- a system on whose cores the last part is tried
+pub trial_plan : (sys : SystemView) (q : ℕ) (b : List ℕ) → 1 ≤ length sys.cores → moved_to sys q 0 ≡ sys
+    → ((c : ℕ) → c < length sys.cores → IsSystem (moved_to sys q c))
+    → ((c : ℕ) → c < length sys.cores → IsKept (moved_to sys q c) b (Core c)) → IsPlan sys b
+trial_plan sys q b some e is keeps =
+    let first : 0 < length sys.cores = omega (arith, some) in
+    subst (λ (s : SystemView). IsPlan s b) e
+    (assigned_is_plan (moved_to sys q 0) (is 0 first) b
+    (assigned_later (moved_to sys q 0) (is 0 first) b (Core 0) (keeps 0 first)))
+
+tried_here : (sys : SystemView) (parts : List PartView) (q : ℕ) (part : PartView) → parts ≡ sys.parts
+    → length sys.parts ≡ q + 1 → part ≡ get_or parts q part → part ≡ part_at sys q
+tried_here sys parts q part same last is =
+    part_here sys parts q part same (omega (arith, last, ap (λ (ps : List PartView). length ps) same)) is
+
+pub tried_budget : (sys : SystemView) (parts : List PartView) (q : ℕ) (part : PartView) (b : List ℕ)
+    → parts ≡ sys.parts → length sys.parts ≡ q + 1 → part ≡ get_or parts q part → IsPlan sys b
+    → budget_at b q ≤ part.period
+tried_budget sys parts q part b same last is plan =
+    subst (λ (p : PartView). budget_at b q ≤ p.period) (sym (tried_here sys parts q part same last is))
+    (plan.in_period q (omega (arith, last)))
+
+pub tried_share : (sys : SystemView) (parts : List PartView) (q : ℕ) (part : PartView) (b : List ℕ) (own : ℕ)
+    → parts ≡ sys.parts → length sys.parts ≡ q + 1 → part ≡ get_or parts q part
+    → own ≡ budget_at b q * 2 ^ 32 / part.period → own ≡ share (server_task sys b q)
+tried_share sys parts q part b own same last is e =
+    e ∙ ap (λ (p : PartView). budget_at b q * 2 ^ 32 / p.period) (tried_here sys parts q part same last is)
+
+-- the servers on the core on which it is put: those that are there, and its own
+pub servers_with : (sys : SystemView) (q c : ℕ) (b : List ℕ) → length sys.parts ≡ q + 1
+    → server_tasks (moved_to sys q c) b (Core c) ≡ child_tasks sys b (Core c) q ++ server_task sys b q ∷ []
+servers_with sys q c b last =
+    let h : q < length sys.parts = omega (arith, last) in
+    let now : SystemView = moved_to sys q c in
+    let here : part_at now q ≡ on_parent (part_at sys q) (on_core c) = moved_part sys q c h in
+    let is : is_child now (Core c) q ≡ true
+    = ap (λ (p : PartView). same_place (place_of p.parent) (Core c)) here ∙ same_itself (Core c) in
+    let long : length now.parts ≡ q + 1
+    = length-set sys.parts q (on_parent (part_at sys q) (on_core c)) ∙ last in
+    ap (child_tasks now b (Core c)) long
+    ∙ (child_tasks_yes now b (Core c) q is
+    ∙ (ap (λ (ts : List SporadicTask). ts ++ server_task now b q ∷ [])
+    (sym (same_below sys now b b (Core c) (Core c) q (λ i l. same_child sys now b b (Core c) i i
+    (changed_at sys q (on_parent (part_at sys q) (on_core c)) i (λ e. omega arith)) (λ child. refl))))
+    ∙ ap (λ (p : PartView). child_tasks sys b (Core c) q ++ plain_task p.period p.period (budget_at b q) ∷ []) here))
+
+pub asked_with : (sys now : SystemView) (q c : ℕ) (b : List ℕ) (asked own : ℕ) → length sys.parts ≡ q + 1
+    → now ≡ moved_to sys q c → asked ≡ shares (child_tasks sys b (Core c) q) → own ≡ share (server_task sys b q)
+    → asked + own ≡ shares (server_tasks now b (Core c))
+asked_with sys now q c b asked own last e a o =
+    omega (
+      arith,
+      a,
+      o,
+      sum_by_push share (child_tasks sys b (Core c) q) (server_task sys b q),
+      ap shares (servers_with sys q c b last),
+      ap (λ (s : SystemView). shares (server_tasks s b (Core c))) e,
+    )

@@ -1,8 +1,9 @@
 -- A system that is edited in place, and the same once the edit is undone.
 use Rattle.std.proofs.Common.{◌≡◌, ℕ, ◌-◌, ◌<◌, ◌≤◌, true, length, length-set, arith, sym, ◌∙◌, ap, subst}
+use Rattle.tree_model.specs.declared.place.Parent.TheVariants.{Core as on_core}
 use Rattle.tree_model.specs.View.{PartView, SystemView}
 use Rattle.tree_model.specs.System.{IsSystem, part_at, is_leaf_at}
-use Rattle.admission_session.specs.Leaves.{with_leaf, with_changed, fallen_part, without_leaf, without_last, with_leaf_back}
+use Rattle.admission_session.specs.Leaves.{on_parent, with_leaf, with_guest, with_changed, fallen_part, without_leaf, without_last, with_leaf_back}
 use Rattle.admission_session.proofs.KeptByEdits.{changed_here, removed_length}
 use Rattle.admission_session.proofs.Undone.{last_off, last_is, some_part, changed_back, leaf_back}
 
@@ -23,6 +24,15 @@ pub off_leaf : (was now : SystemView) (leaf back : PartView) → now ≡ with_le
     → back ≡ part_at now (length now.parts - 1) → back ≡ leaf
 off_leaf was now leaf back e f =
     f ∙ (ap (λ (s : SystemView). part_at s (length s.parts - 1)) e ∙ last_is was leaf)
+
+-- a guest that no core took
+pub guest_off_system : (was put now : SystemView) (guest : PartView) → IsSystem was → put ≡ with_guest was guest 0
+    → now ≡ put → IsSystem (without_last now)
+guest_off_system was put now guest is e same = off_system was now (on_parent guest (on_core 0)) is (same ∙ e)
+
+pub guest_off : (was put now after : SystemView) (guest : PartView) → put ≡ with_guest was guest 0 → now ≡ put
+    → after ≡ without_last now → after ≡ was
+guest_off was put now after guest e same f = off_is was now after (on_parent guest (on_core 0)) (same ∙ e) f
 
 -- a leaf was changed
 pub back_inside : (was now : SystemView) (q : ℕ) (leaf : PartView) → q < length was.parts

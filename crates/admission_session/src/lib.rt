@@ -9,9 +9,11 @@ mod fault;
 mod find;
 mod in_place;
 mod op;
+mod plans;
 mod row;
 mod rules;
 mod session;
+mod shares;
 mod trials;
 
 pub use answer::Answer;

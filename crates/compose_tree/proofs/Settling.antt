@@ -1,7 +1,9 @@
 -- One step of a composition: a part settled after all later ones, a core tested after all parts.
-use Rattle.std.proofs.Common.{◌≡◌, ℕ, suc, ◌<◌, ◌≤◌, List, length, set, take, drop, ◌++◌, Option, None, sym, ◌∙◌, arith, subst, inl, inr, length-set, get_or-set_other, get_or-set_same}
+use Rattle.std.proofs.Common.{◌≡◌, ℕ, suc, ◌<◌, ◌≤◌, List, length, get_or, set, take, drop, ◌++◌, Option, None, Result, Ok, Err, IfOk, sym, ◌∙◌, ap, arith, subst, inl, inr, length-set, get_or-set_other, get_or-set_same}
+use Rattle.std.specs.Prelude.{IfErr, MatchResult}
 use Rattle.std.proofs.Math.Seq.{take-append_seam}
 use Rattle.std.proofs.lemmas.Bool.{cases_eq}
+use Rattle.std.proofs.lemmas.List.{set-set, set-get_or}
 use Rattle.slot_model.specs.Task.{SporadicTask}
 use Rattle.slot_model.specs.Bound.{sbf, IsSmall, TestPasses, TestFails}
 use Rattle.tree_model.specs.declared.place.Place.{Place}
@@ -13,7 +15,7 @@ use Rattle.tree_model.specs.System.{IsSystem, part_at}
 use Rattle.tree_model.specs.Tree.{IsNode, budget_at, node_tasks, node_sched, node_cycle, given_budget}
 use Rattle.tree_model.specs.Admission.{NodePasses, IsGivenOrLeast, BudgetStands, AssignedFrom, Assigned, Admitted, VisitedBefore, visited_from, SettledBefore, refusing_bound, FirstRefusal, FirstUnassigned}
 use Rattle.tree_model.proofs.Parents.{part_tasks_same}
-use Rattle.tree_model.proofs.Unique.{never_both, never_assigned}
+use Rattle.tree_model.proofs.Unique.{never_both, never_assigned, one_admission}
 use Rattle.compose_tree.specs.Steps.{NodeRefuses, PartsPassFrom, CoresPassTo}
 
 -- what stands and passes does so under budgets that are the same where it matters
@@ -177,6 +179,21 @@ not_refused sys is r refused budgets admitted = absurd (never_both sys is budget
 pub not_unassigned : (sys : SystemView) → IsSystem sys → (r : Refusal) → FirstUnassigned sys r → (budgets : List ℕ)
     → Assigned sys budgets → r ≡ NoMemory
 not_unassigned sys is r refused budgets assigned = absurd (never_assigned sys is budgets r assigned refused)
+
+-- what is settled admits the one plan, and where budgets admit the system it is settled
+pub admits_or_refuses : {A : Type 0} (sys : SystemView) → IsSystem sys → (result : Result A Refusal)
+    (settled budgets : List ℕ)
+    → IfOk result (λ done. Admitted sys settled) → IfErr result (λ r. FirstRefusal sys r) → Admitted sys budgets
+    → MatchResult result (λ done. settled ≡ budgets) (λ r. ⊥)
+admits_or_refuses sys is (Ok done) settled budgets admits refuses h = one_admission sys is settled budgets admits h
+admits_or_refuses sys is (Err r) settled budgets admits refuses h = never_both sys is budgets r h refuses
+
+-- a budget that was written is put back
+pub put_back : (budgets now : List ℕ) (q budget was d : ℕ) → now ≡ set budgets q budget → was ≡ get_or budgets q d
+    → set now q was ≡ budgets
+put_back budgets now q budget was d e w =
+    ap (λ (bs : List ℕ). set bs q was) e
+    ∙ (set-set budgets q budget was ∙ (ap (λ (b : ℕ). set budgets q b) w ∙ set-get_or budgets q d))
 
 -- budgets that are written back as a whole
 pub written_back : (n : ℕ) (written before : List ℕ) → length written ≡ n

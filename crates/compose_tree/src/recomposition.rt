@@ -7,34 +7,33 @@ ghost use Rattle.compose_tree.specs.Kept.{under, IsKept, IsSettledNode};
 
 use crate::budgets::{settle_part, test_core};
 use slot_model::Task;
-use std::alloc::Global;
+use std::mem;
 use tree_model::{MAX_PARTS, Place, Plan, Refusal, System};
 
-/// What `compose` answers of a system that was edited at one node after it was admitted. `budgets`
-/// are those that it had, in slots; they settle every node but `start` and those above it, which
-/// alone are tested.
+/// What `compose` answers of a system that was edited at one node after it was admitted. `plan` is
+/// the one that it had; its budgets settle every node but `start` and those above it, which alone
+/// are tested. Where the system is refused, the plan is as before. `room` is for the tasks of one
+/// node.
 pub fn recompose(
-    alloc: Global,
     sys: &System,
-    budgets: Vec<u64>,
+    plan: &mut Plan,
     start: Place,
-) -> Result<Plan, Refusal>
-    requires kept { IsKept sys.now budgets.items start }
-    ensures plan { IfOk result (λ plan. Admitted sys.now plan) }
-    ensures refusal { IfErr result (λ r. r ≢ Refusal.NoMemory → FirstRefusal sys.now r) }
+    room: &mut [Task],
+) -> Result<(), Refusal>
+    requires kept { IsKept sys.now plan.old start }
+    requires room { MAX_PARTS ≤ length room.old }
+    ensures plan { IfOk result (λ _. Admitted sys.now plan.new) }
+    ensures refusal { IfErr result (λ r. FirstRefusal sys.now r) }
+    ensures unchanged { IfErr result (λ _. plan.new ≡ plan.old) }
     // where budgets admit the system, they are the plan
     ensures complete { (budgets : List ℕ) → Admitted sys.now budgets →
-        MatchResult result (λ plan. plan ≡ budgets) (λ r. r ≡ Refusal.NoMemory) }
+        MatchResult result (λ _. plan.new ≡ budgets) (λ _. ⊥) }
 {
-    let Ok(mut room) = vec![in alloc; Task::least(); MAX_PARTS] else {
-        return Err(Refusal::NoMemory);
-    };
-    let mut budgets = budgets;
-    settle_up(sys, &mut budgets, start, &mut room)?;
-    Ok(Plan { budgets })
+    settle_up(sys, &mut plan.budgets, start, room)
 }
 
-/// Writes the budgets of the parts from `start` up, and tests the core on which they stand.
+/// Writes the budgets of the parts from `start` up, and tests the core on which they stand. Where
+/// one of these nodes refuses, the budgets are put back.
 fn settle_up(
     sys: &System,
     budgets: &mut [u64],
@@ -46,16 +45,20 @@ fn settle_up(
     ensures system { IsSystem sys.now }
     ensures admitted { IfOk result (λ _. Admitted sys.now budgets.new) }
     ensures refusal { IfErr result (λ r. FirstRefusal sys.now r) }
+    ensures unchanged { IfErr result (λ _. budgets.new ≡ budgets.old) }
 {
     let parts = sys.parts();
-    let mut node = start;
-    'up: loop {
-        match node {
-            Place::Core(c) => return retest_core(sys, budgets, c, room),
-            Place::Part(q) => {
-                budgets[q as usize] = resettle_part(sys, budgets, q, room)?;
-                node = parts[q as usize].parent().place();
+    match start {
+        Place::Core(c) => retest_core(sys, budgets, c, room),
+        Place::Part(q) => {
+            let budget = resettle_part(sys, budgets, q, room)?;
+            let was = mem::replace(&mut budgets[q as usize], budget);
+            let next = parts[q as usize].parent().place();
+            if let Err(refusal) = settle_up(sys, budgets, next, room) {
+                budgets[q as usize] = was;
+                return Err(refusal);
             }
+            Ok(())
         }
     }
 }

@@ -1,4 +1,5 @@
 ghost use Rattle.std.specs.Prelude.{◌≡◌, ◌↔◌, ◌<◌, ◌≤◌, None, true, length, IfOk, IsTrue};
+ghost use Rattle.tree_model.specs.declared.system.TheConstants.{MAX_PARTS};
 ghost use Rattle.tree_model.specs.System.{part_at, is_leaf_at};
 ghost use Rattle.tree_model.specs.Admission.{Admitted};
 ghost use Rattle.compose_tree.specs.Kept.{IsKept};
@@ -7,8 +8,9 @@ ghost use Rattle.slack.specs.inner.Steps.{with_budget, IsMostBudget};
 
 use admission_session::copy_system;
 use compose_tree::recompose;
+use slot_model::Task;
 use std::alloc::{AllocError, Global};
-use tree_model::{Place, Plan, Refusal, System};
+use tree_model::{MAX_PARTS, Place, Plan, System};
 
 /// The greatest budget of leaf `q` with which the nodes above it pass, in slots: the given one, or
 /// by halving between that of the plan and the period.
@@ -36,10 +38,12 @@ fn most_open(alloc: Global, sys: &System, plan: &Plan, q: usize) -> Result<u64, 
     let mut low = plan.budgets()[q];
     let start = Place::Part(q as u32);
     let mut trial = copy_system(alloc, sys)?;
+    let mut tasks = vec![in alloc; Task::least(); MAX_PARTS]?;
+    let room = tasks.as_mut_slice();
     while low < high {
         let middle = high - (high - low) / 2;
         trial = with_budget(trial, q, middle);
-        if is_admitted(alloc, &trial, plan, start)? {
+        if is_admitted(alloc, &trial, plan, start, room)? {
             low = middle;
         } else {
             high = middle - 1;
@@ -60,16 +64,24 @@ fn with_budget(sys: System, q: usize, budget: u64) -> System
     System { cores, parts }
 }
 
-/// Whether a system is admitted that differs at `start` from one that the plan admits.
-fn is_admitted(alloc: Global, sys: &System, plan: &Plan, start: Place) -> Result<bool, AllocError>
-    requires { IsKept sys.now plan.now start }
+/// Whether a system is admitted that differs at `start` from one that the plan admits. `room` is
+/// for the tasks of one node.
+fn is_admitted(
+    alloc: Global,
+    sys: &System,
+    plan: &Plan,
+    start: Place,
+    room: &mut [Task],
+) -> Result<bool, AllocError>
+    requires kept { IsKept sys.now plan.now start }
+    requires room { MAX_PARTS ≤ length room.old }
     ensures { IfOk result (λ yes. IsTrue yes ↔ IsAdmitted sys.now) }
 {
-    let budgets = Vec::from_slice(alloc, plan.budgets())?;
-    match recompose(alloc, sys, budgets, start) {
-        Ok(_) => Ok(true),
-        Err(Refusal::NoMemory) => Err(AllocError),
-        Err(Refusal::Overfull(_, _)) => Ok(false),
-        Err(Refusal::Wide(_)) => Ok(false),
+    let mut trial = Plan {
+        budgets: Vec::from_slice(alloc, plan.budgets())?,
+    };
+    match recompose(sys, &mut trial, start, room) {
+        Ok(()) => Ok(true),
+        Err(_) => Ok(false),
     }
 }

@@ -1,15 +1,12 @@
-use Rattle.std.proofs.Common.{refl, ◌∙◌}
+use Rattle.std.proofs.Common.{refl}
 use Rattle.admission_session.proofs.RowSystems.{change_keeps}
 use Rattle.admission_session.proofs.TakenBack.{back_system, back_is}
 use Rattle.admission_session.proofs.trials.try_change.Goals as goal
 
-pub recompose-requires : goal.recompose-requires
-recompose-requires c = record {
-  kept =
-      change_keeps c.args.sys.now c.replace_leaf-was.new.sys c.args.q c.args.leaf c.args.plan.now c.in-Ok.budgets.items
-      c.replace_leaf-was.ensures.changed (c.in-Ok.ensures.items ∙ c.budgets.ensures) c.requires.is_part
-      c.requires.parent c.requires.admitted;
-}
+pub recompose-requires-clause-kept : goal.recompose-requires-clause-kept
+recompose-requires-clause-kept c =
+    change_keeps c.args.sys.now c.replace_leaf-was.new.sys c.args.q c.args.leaf c.args.plan.now c.args.plan.now
+    c.replace_leaf-was.ensures.changed refl c.requires.is_part c.requires.parent c.requires.admitted
 
 pub replace_leaf-requires-clause-system : goal.replace_leaf-requires-clause-system
 replace_leaf-requires-clause-system c =
@@ -21,5 +18,5 @@ returns-in-Err-clause-unchanged c = (
   back_is c.args.sys.now c.replace_leaf-was.new.sys c.replace_leaf.new.sys c.args.q c.args.leaf
       c.replace_leaf-was.result c.replace_leaf-was.ensures.changed c.replace_leaf-was.ensures.was
       c.replace_leaf.ensures.changed,
-  refl,
+  c.in-Err.ensures.unchanged,
 )

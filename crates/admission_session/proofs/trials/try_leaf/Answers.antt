@@ -1,19 +1,18 @@
-use Rattle.std.proofs.Common.{rules, ◌≡◌, List, length, refl, ap}
+use Rattle.std.proofs.Common.{rules, ◌≡◌, List, [], ◌∷◌, ◌++◌, length, ◌∙◌, ap}
 use Rattle.tree_model.specs.View.{PartView}
 use Rattle.admission_session.specs.Leaves.{with_leaf}
 use Rattle.admission_session.proofs.RowSystems.{add_keeps}
+use Rattle.admission_session.proofs.OneBudget.{budget_off}
 use Rattle.admission_session.proofs.TakenBack.{off_system, off_is}
 use Rattle.admission_session.proofs.trials.try_leaf.Goals as goal
 
-pub recompose-requires : goal.recompose-requires
-recompose-requires c =
+pub recompose-requires-clause-kept : goal.recompose-requires-clause-kept
+recompose-requires-clause-kept c =
     let put : c.push_leaf.new.sys ≡ with_leaf c.args.sys.now c.args.leaf = search rules in
-    record {
-      kept =
-          add_keeps c.args.sys.now c.push_leaf.new.sys c.args.leaf c.args.plan.now c.in-Ok.budgets.items 1
-          (length c.parts.result.now) put c.in-Ok.ensures (ap (λ (ps : List PartView). length ps) c.parts.ensures.parts)
-          c.requires.admitted;
-    }
+    let more : c.one_budget_more.new.plan ≡ c.args.plan.now ++ 1 ∷ [] = search rules in
+    add_keeps c.args.sys.now c.push_leaf.new.sys c.args.leaf c.args.plan.now c.one_budget_more.new.plan 1
+    (length c.parts.result.now) put more (ap (λ (ps : List PartView). length ps) c.parts.ensures.parts)
+    c.requires.admitted
 
 pub pop_leaf-requires-clause-system : goal.pop_leaf-requires-clause-system
 pop_leaf-requires-clause-system c =
@@ -23,4 +22,8 @@ pop_leaf-requires-clause-system c =
 pub returns-in-Err-recompose-clause-unchanged : goal.returns-in-Err-recompose-clause-unchanged
 returns-in-Err-recompose-clause-unchanged c =
     let put : c.push_leaf.new.sys ≡ with_leaf c.args.sys.now c.args.leaf = search rules in
-    (off_is c.args.sys.now c.push_leaf.new.sys c.pop_leaf.new.sys c.args.leaf put c.pop_leaf.ensures.taken, refl)
+    let more : c.one_budget_more.new.plan ≡ c.args.plan.now ++ 1 ∷ [] = search rules in (
+      off_is c.args.sys.now c.push_leaf.new.sys c.pop_leaf.new.sys c.args.leaf put c.pop_leaf.ensures.taken,
+      budget_off c.args.plan.now c.recompose.new.plan c.one_budget_less-in-Err-recompose.new.plan 1
+          (c.in-Err-recompose.ensures.unchanged ∙ more) c.one_budget_less-in-Err-recompose.ensures,
+    )

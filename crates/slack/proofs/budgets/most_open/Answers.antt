@@ -27,8 +27,8 @@ loop-low-init c =
           c.requires.admitted)),
     )
 
-pub is_admitted-requires : goal.is_admitted-requires
-is_admitted-requires c =
+pub is_admitted-requires-clause-kept : goal.is_admitted-requires-clause-kept
+is_admitted-requires-clause-kept c =
     let middle = c.loop-low.high - (c.loop-low.high - c.loop-low.low) / 2 in
     subst (λ (s : SystemView). IsKept s c.args.plan.now (Part c.args.q))
     (sym (c.with_budget-trial.ensures ∙ c.loop-low.invariant.0.same middle))

@@ -1,0 +1,3 @@
+-- What only private functions promise each other.
+pub mod Open
+pub mod Shares
