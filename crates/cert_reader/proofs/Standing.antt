@@ -1,6 +1,6 @@
 -- Pieces of text that stand one behind another, and lists of them.
 use Rattle.std.proofs.Common.{◌≡◌, ℕ, suc, ◌+◌, ◌-◌, ◌*◌, ◌/◌, ◌%◌, ◌^◌, ◌<◌, ◌≤◌, List, [], ◌∷◌, ◌++◌, length, drop, get_or, refl, sym, ap, ◌∙◌, subst, arith, inl, inr, append_assoc, append-nil}
-use Rattle.std.proofs.Math.Nat.{pow-suc, pow-le-pow_right}
+use Rattle.std.proofs.Math.Nat.{pow-le-pow_right}
 use Rattle.std.specs.Prelude.{decimal, codes, Ok}
 use Rattle.std.proofs.lemmas.Bool.{cases_lt}
 use Rattle.std.proofs.lemmas.Fmt.{decimal_step_wide}
@@ -51,10 +51,7 @@ digit_more bytes at to number digit some small fits before here =
     subst (λ (text : List ℕ). Stands bytes at (to + 1) text) (sym same)
     (stands_then bytes at to (to + 1) (decimal number) ((48 + digit) ∷ []) before here)
 
--- the number of so many digits, and with a digit more
-pub more_below : (number digit k : ℕ) → number < 10 ^ k → digit < 10 → 10 * number + digit < 10 ^ suc k
-more_below number digit k below small = omega (arith, pow-suc 10 k)
-
+-- a number of so many digits with a digit more
 pub more_fits : (number digit k : ℕ) → number < 10 ^ k → digit < 10 → k ≤ 18 → 10 * number + digit < 2 ^ 64
 more_fits number digit k below small few = omega (arith, pow-le-pow_right {n = 10} (omega arith) few)
 

@@ -1,7 +1,8 @@
 use Rattle.std.proofs.Common.{◌≡◌, ℕ, suc, ◌+◌, ◌-◌, ◌*◌, ◌≤◌, ◌<◌, ◌^◌, List, arith, sym, subst}
+use Rattle.std.proofs.Math.Nat.{pow-suc}
 use Rattle.std.proofs.lemmas.Fmt.{decimal_digit}
 use Rattle.cert_reader.specs.Text.{Stands}
-use Rattle.cert_reader.proofs.Standing.{digit_more, more_below, more_fits}
+use Rattle.cert_reader.proofs.Standing.{digit_more, more_fits}
 use Rattle.cert_reader.proofs.numerals.short_digits.Goals as goal
 
 pub loop-to-init : goal.loop-to-init
@@ -52,5 +53,5 @@ loop-to-preserved c =
       ahead = omega (arith, c.loop-to.invariant.ahead);
       below =
           subst (λ (j : ℕ). 10 * number + c.in-Some.digit < 10 ^ j) next
-          (more_below number c.in-Some.digit k c.loop-to.invariant.below c.in-Some.ensures.digit);
+          (omega (arith, c.loop-to.invariant.below, c.in-Some.ensures.digit, pow-suc 10 k));
     }
