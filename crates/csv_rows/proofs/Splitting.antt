@@ -97,7 +97,7 @@ some_at text from i low high e = omega (arith, e, length-take (i - from) (drop f
 abbrev pub left_of : List ℕ → ℕ → List ℕ
 left_of text i = take (length text - i) (drop i text)
 
-left_is : (text : List ℕ) (i : ℕ) → drop i text ≡ left_of text i
+pub left_is : (text : List ℕ) (i : ℕ) → drop i text ≡ left_of text i
 left_is text i = sym (take_all (length text - i) (drop i text) (omega (arith, length-drop i text)))
 
 module _ (text : List ℕ) (fields : List (List ℕ)) (from i : ℕ) where

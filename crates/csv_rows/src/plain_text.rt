@@ -8,20 +8,30 @@ ghost use Rattle.csv_rows.specs.Row.{texts_of};
 use memchr::memchr2;
 use std::alloc::AllocError;
 
+/// The first byte of a byte order mark.
+pub const MARK: u8 = 0xEF;
+
 /// Whether a text has no quote, no carriage return and no mark at its front. Then each comma ends
 /// a field, and each line feed a record.
 pub fn is_plain_text(text: &[u8]) -> bool
     ensures plain { IsTrue result → IsPlainText text.now }
     ensures no_mark { IsTrue result → strip_bom text.now ≡ text.now }
 {
-    memchr2(b'"', b'\r', text).is_none() && !may_have_mark(text)
+    has_no_quote(text) && !may_have_mark(text)
+}
+
+/// Whether a text has no quote and no carriage return.
+pub fn has_no_quote(text: &[u8]) -> bool
+    ensures { IsTrue result → IsPlainText text.now }
+{
+    memchr2(b'"', b'\r', text).is_none()
 }
 
 /// Whether a text may begin with a byte order mark.
 fn may_have_mark(text: &[u8]) -> bool
     ensures { result ≡ false → strip_bom text.now ≡ text.now }
 {
-    !text.is_empty() && text[0] == 0xEF
+    !text.is_empty() && text[0] == MARK
 }
 
 /// Whether a record has a byte before place `i`: so many fields, or one that begins at `from`.
