@@ -1,24 +1,24 @@
 -- The watches behind the events so far, whatever comes behind these.
-use Rattle.std.proofs.Common.{◌≡◌, ◌⊎◌, inl, ℕ, ◌+◌, List, [], ◌∷◌, ◌++◌, length, sym, subst, arith}
+use Rattle.std.proofs.Common.{◌≡◌, ℕ, ◌+◌, List, [], ◌∷◌, ◌++◌, length, sym, ◌∙◌, subst, arith}
 use Rattle.std.proofs.lemmas.List.{append_assoc, append-nil, length-append}
 use Rattle.std.proofs.Math.Seq.{get_or-append_seam}
-use Rattle.std.specs.Prelude.{Result, Ok, Err, IfErr}
+use Rattle.std.specs.Prelude.{Result, Ok, Err, OnOk}
 use Rattle.tree_model.specs.View.{SystemView}
 use Rattle.trace_file.specs.declared.event.Event.{Event}
 use Rattle.trace_file.specs.declared.event.What.TheVariants.{End}
-use Rattle.trace_file.specs.declared.fault.TraceFault.{TraceFault}
-use Rattle.trace_file.specs.declared.fault.TraceFault.TheVariants.{NoMemory}
 use Rattle.trace_file.specs.declared.rows.Rows.{Rows}
 use Rattle.trace_file.specs.Rows.{IsAfter}
 use Rattle.trace_file.specs.Rules.{RowsKeep}
+use Rattle.trace_file.specs.Fed.{IsFedTrace}
+use Rattle.trace_file.specs.Given.{HasWatched}
+use Rattle.trace_file.specs.declared.trace_taker.Watched.{Watched}
+use Rattle.csv_rows.specs.Reading.{records_of}
+use Rattle.auditor.specs.declared.pieces.Audit.{Audit}
+use Rattle.auditor.specs.declared.pieces.Watcher.{Watcher}
 use Rattle.trace_file.proofs.Prefix.{after_same}
 use Rattle.auditor.specs.declared.watches.Watches.{Watches}
-use Rattle.auditor.specs.inner.Watches.{AreWatched, AwaitsEvent}
-
-abbrev pub Behind : SystemView → List ℕ → List Event → Watches → Type 0
-Behind sys budgets events s =
-    (more : List Event) → RowsKeep sys (events ++ more) (length (events ++ more))
-    → AreWatched sys budgets (events ++ more) (length events) s
+use Rattle.auditor.specs.inner.Watches.{AreWatched, AwaitsEvent, HaveWatched}
+use Rattle.auditor.specs.Pieces.{Behind, HasAudited, HasSeen}
 
 pub awaits_more : (sys : SystemView) (budgets : List ℕ) (events : List Event) (e : Event) (more : List Event)
     (rows : Rows) (s : Watches) → RowsKeep sys (events ++ e ∷ more) (length (events ++ e ∷ more))
@@ -53,8 +53,34 @@ behind_all sys budgets events s behind keep =
     subst (λ (z : List Event). AreWatched sys budgets z (length events) s) (append-nil events)
     (behind [] (subst (λ (z : List Event). RowsKeep sys z (length z)) (sym (append-nil events)) keep))
 
--- where nothing fails but memory
-pub memory_or : {T : Type 0} (r : Result T TraceFault) (P : TraceFault → Type 0) → IfErr r (λ fault. fault ≡ NoMemory)
-    → IfErr r (λ fault. (fault ≡ NoMemory) ⊎ P fault)
-memory_or (Ok t) P memory = tt
-memory_or (Err fault) P memory = inl memory
+-- behind a piece more
+pub audited_on : {T E : Type 0} (r : Result T E) (sys : SystemView) (budgets text more : List ℕ) (old new : Audit)
+    → new.sys.now ≡ old.sys.now → (h : HasAudited sys budgets text old)
+    → OnOk r (IsFedTrace HasSeen sys h.start more new.feed) → OnOk r (HasAudited sys budgets more new)
+audited_on (Ok x) sys budgets text more old new same h fed = record {
+  sys_is = same ∙ h.sys_is;
+  system = h.system;
+  start = h.start;
+  plan_is = h.plan_is;
+  fed = fed;
+}
+audited_on (Err y) sys budgets text more old new same h fed = tt
+
+-- all of a text is watched
+pub watched_all : (sys : SystemView) (budgets text : List ℕ) (a : Audit) (w : Watched Watcher)
+    → (h : HasAudited sys budgets text a) → HasWatched HasSeen sys h.start (records_of text) w
+    → HaveWatched a.sys.now budgets text w.rows w.watcher.watches
+watched_all sys budgets text a w h watched =
+    subst (λ (z : SystemView). HaveWatched z budgets text w.rows w.watcher.watches) (sym h.sys_is) (record {
+      events = watched.events;
+      spelled = watched.spelled;
+      at_end = record {
+        kept = watched.kept;
+        after = watched.after;
+        watched =
+            subst
+            (λ (b : List ℕ). AreWatched sys b watched.events (length watched.events) w.watcher.watches)
+            (watched.seen.same ∙ h.plan_is)
+            (behind_all sys w.watcher.plan watched.events w.watcher.watches watched.seen.behind watched.kept.rows);
+      };
+    })

@@ -12,7 +12,7 @@ use crate::period_words::{period_of, range_of};
 use crate::slot_words::{pattern_of, slot_count};
 use crate::version::version;
 use admit_commands::{Admit, Certify, Check};
-use command_steps::{Answer, Ending, Status, ended, over_one, over_two};
+use command_steps::{Answer, Ending, Status, ended, over_one, over_pieces, over_two};
 use guest_commands::{Choose, Interface, Period, Periods, Responses, Slack};
 use host_commands::{Editor, Guests, Placer, bulk};
 use outside::Store;
@@ -176,7 +176,9 @@ pub fn answer<S: Store>(alloc: Global, command: Option<Command<'_>>, store: &mut
         Some(Command::Rtds(file, workload, slots)) => {
             ended(over_two(alloc, store, file, workload, &Rtds { slots }))
         }
-        Some(Command::Audit(file, trace)) => ended(over_two(alloc, store, file, trace, &Audit)),
+        Some(Command::Audit(file, trace)) => {
+            ended(over_pieces(alloc, store, file, trace, &Audit, &mut None))
+        }
         Some(Command::Simulate(file, releases, pattern, slots)) => {
             let judge = Simulate { pattern, slots };
             ended(over_two(alloc, store, file, releases, &judge))
@@ -195,7 +197,9 @@ pub fn answer<S: Store>(alloc: Global, command: Option<Command<'_>>, store: &mut
         Some(Command::Place(file, guests)) => ended(over_two(alloc, store, file, guests, &Placer)),
         Some(Command::Isolate(file)) => ended(over_one(alloc, store, file, &Isolate)),
         Some(Command::Slack(file, part)) => ended(over_one(alloc, store, file, &Slack { part })),
-        Some(Command::Tally(file, trace)) => ended(over_two(alloc, store, file, trace, &Tally)),
+        Some(Command::Tally(file, trace)) => {
+            ended(over_pieces(alloc, store, file, trace, &Tally, &mut None))
+        }
         Some(Command::Version) => ended(version(alloc)),
         None => ended(usage(alloc)),
     }

@@ -3,3 +3,4 @@ pub mod Tally
 pub mod Simulate
 pub mod Rtds
 pub mod Isolate
+pub mod inner

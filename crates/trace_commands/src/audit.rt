@@ -1,15 +1,17 @@
-ghost use Rattle.std.specs.Prelude.{◌≡◌, IfOk, IfErr, refl};
-ghost use Rattle.tree_model.specs.Plans.{IsPlan};
+ghost use Rattle.std.specs.Prelude.{◌≡◌, ℕ, List, IfOk, IfErr, refl};
+ghost use Rattle.tree_model.specs.View.{SystemView};
+ghost use Rattle.auditor.specs.Pieces.{HasAudited};
 ghost use Rattle.auditor.specs.Finding.{IsFindingOf};
 ghost use Rattle.command_steps.specs.Attempt.{IsRefused};
-ghost use Rattle.trace_commands.specs.Audit.{tracing, finding_status, IsTrace, AuditsBytes, the_audit};
-ghost use Rattle.command_steps.specs.Steps.{IfAnswered, EndsJudged};
+ghost use Rattle.command_steps.specs.Steps.{ending_of, IfAnswered, EndsJudged};
+ghost use Rattle.trace_commands.specs.Audit.{tracing, finding_status, AuditsBytes, the_audit};
+ghost use Rattle.trace_commands.specs.inner.Walk.{IsAuditUnder};
 
-use auditor::{Finding, audit_bytes};
-use command_steps::{Answer, Ending, JudgeTwo, Status, assigned, second_fault};
-use rt_report::{FileFault, audit_text};
+use crate::walk::{TraceWalk, ended_at};
+use auditor::{Audit as TraceAudit, Finding};
+use command_steps::{Answer, Ending, JudgePieces, Status};
+use rt_report::audit_text;
 use std::alloc::Global;
-use trace_file::{TraceFault, check_bytes};
 use tree_model::{Plan, System};
 
 /// `audit FILE TRACE`: whether the trace gives each VCPU its budget in every period throughout
@@ -17,7 +19,9 @@ use tree_model::{Plan, System};
 #[derive(Clone, Copy)]
 pub struct Audit;
 
-impl JudgeTwo for Audit {
+impl<'s> JudgePieces<'s> for Audit {
+    type Taker = TraceWalk<'s>;
+
     ghost says = { λ _. AuditsBytes };
 
     ghost spec = { λ _. the_audit };
@@ -27,52 +31,52 @@ impl JudgeTwo for Audit {
       answers = λ contents status text said. said;
     } };
 
-    // The trace is read to its end or its first fault also where no budgets are assigned: a fault
-    // of it goes before their refusal.
-    fn judge(&self, alloc: Global, sys: &System, bytes: &[u8]) -> Result<Answer, Ending> {
-        match assigned(alloc, sys) {
-            Ok(plan) => {
-                let finding = found(alloc, sys, &plan, bytes)?;
-                Ok(Answer {
-                    status: status_of(finding),
-                    text: audit_text(alloc, sys, &plan, &finding)?,
-                })
-            }
-            Err(refused) => {
-                checked(alloc, sys, bytes)?;
-                Err(refused)
-            }
-        }
+    ghost begins = { λ _ sys walk. walk.sys.now ≡ sys };
+
+    fn begin(&self, alloc: Global, sys: &'s System) -> Result<TraceWalk<'s>, Ending> {
+        TraceWalk::new(alloc, sys)
+    }
+
+    fn end(&self, alloc: Global, sys: &System, walk: TraceWalk<'s>) -> Result<Answer, Ending> {
+        let (plan, audit) = walk.audited(alloc)?;
+        answer_of(alloc, sys, &plan, audit)
     }
 }
 
-// What is found of the trace that the bytes of the second file word spell. It stops where they are
-// refused.
-fn found(alloc: Global, sys: &System, plan: &Plan, bytes: &[u8]) -> Result<Finding, Ending>
-    requires { IsPlan sys.now plan.now }
-    ensures found { IfOk result (IsFindingOf sys.now plan.now bytes.now) }
-    ensures refused { IfErr result (λ stop. IfAnswered stop (λ a.
-        IsRefused (tracing sys.now bytes.now) a.status a.text.items)) }
+/// The answer to a trace that was audited under the budgets.
+fn answer_of(
+    alloc: Global,
+    sys: &System,
+    plan: &Plan,
+    audit: TraceAudit<'_>,
+) -> Result<Answer, Ending>
+    requires { (bytes : List ℕ) × IsAuditUnder sys.now bytes plan.now audit }
+    ensures answer { (bytes : List ℕ) → IsAuditUnder sys.now bytes plan.now audit.entry
+        → IfAnswered (ending_of result)
+        (λ a. AuditsBytes sys.now bytes a.status a.text.items) }
+    ensures judged { EndsJudged (ending_of result) }
+{
+    let finding = found(alloc, audit)?;
+    Ok(Answer {
+        status: status_of(finding),
+        text: audit_text(alloc, sys, plan, &finding)?,
+    })
+}
+
+/// What is found of the trace. It stops where that is refused.
+fn found(alloc: Global, audit: TraceAudit<'_>) -> Result<Finding, Ending>
+    requires { (sys : SystemView) × (budgets : List ℕ) × (bytes : List ℕ)
+        × HasAudited sys budgets bytes audit }
+    ensures found { (sys : SystemView) (budgets bytes : List ℕ)
+        → HasAudited sys budgets bytes audit.entry → IfOk result (IsFindingOf sys budgets bytes) }
+    ensures refused { (sys : SystemView) (budgets bytes : List ℕ)
+        → HasAudited sys budgets bytes audit.entry → IfErr result (λ stop. IfAnswered stop (λ a.
+        IsRefused (tracing sys bytes) a.status a.text.items)) }
     ensures judged { IfErr result (λ stop. EndsJudged stop) }
 {
-    match audit_bytes(alloc, sys, plan, bytes) {
+    match audit.finish() {
         Ok(finding) => Ok(finding),
-        Err(TraceFault::NoMemory) => Err(Ending::NoMemory),
-        Err(fault) => Err(second_fault(alloc, FileFault::Trace(fault))),
-    }
-}
-
-// That the bytes of the second file word spell a trace. It stops where they are refused.
-pub fn checked(alloc: Global, sys: &System, bytes: &[u8]) -> Result<(), Ending>
-    ensures spelled { IfOk result (λ done. IsTrace sys.now bytes.now) }
-    ensures refused { IfErr result (λ stop. IfAnswered stop (λ a.
-        IsRefused (tracing sys.now bytes.now) a.status a.text.items)) }
-    ensures judged { IfErr result (λ stop. EndsJudged stop) }
-{
-    match check_bytes(alloc, sys, bytes) {
-        Ok(()) => Ok(()),
-        Err(TraceFault::NoMemory) => Err(Ending::NoMemory),
-        Err(fault) => Err(second_fault(alloc, FileFault::Trace(fault))),
+        Err(fault) => Err(ended_at(alloc, fault)),
     }
 }
 

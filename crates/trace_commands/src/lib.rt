@@ -7,6 +7,7 @@ mod rtds;
 mod simulate;
 mod slots;
 mod tally;
+mod walk;
 
 pub use audit::Audit;
 pub use isolate::Isolate;

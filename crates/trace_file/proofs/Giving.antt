@@ -1,28 +1,26 @@
--- One event more from a reader of events.
-use Rattle.std.proofs.Common.{◌≡◌, ◌⊎◌, ◌+◌, ℕ, Bool, true, false, List, [], ◌∷◌, ◌++◌, length, Option, Some, None, sym, ◌∙◌, ap, subst, arith, inl, inr}
-use Rattle.std.proofs.lemmas.List.{append_assoc, length-map}
-use Rattle.std.proofs.lemmas.Option.{none-some}
+-- One record more of a trace.
+use Rattle.std.proofs.Common.{◌≡◌, ◌+◌, ℕ, true, false, List, [], ◌∷◌, ◌++◌, length, Some, None, refl, sym, ◌∙◌, ap, subst, arith, inl, inr}
+use Rattle.std.proofs.lemmas.List.{append_assoc, append-nil, length-map}
 use Rattle.std.proofs.Math.Seq.{get_or-append_seam}
-use Rattle.std.specs.Prelude.{Result, Ok, Err, IfOk, IfErr, MatchOption}
-use Rattle.csv_rows.specs.Reading.{HasRead, records_of}
 use Rattle.csv_rows.specs.Rules.{RowsKeep}
-use Rattle.csv_rows.specs.declared.records.Records.{Records}
-use Rattle.csv_rows.proofs.Advancing.{has_front}
 use Rattle.csv_rows.proofs.Keeping.{keep_more, first_there, length_more}
 use Rattle.tree_model.specs.View.{SystemView}
 use Rattle.trace_file.specs.declared.event.Event.{Event}
 use Rattle.trace_file.specs.declared.event.What.TheVariants.{End}
-use Rattle.trace_file.specs.declared.event_reader.EventReader.{EventReader}
 use Rattle.trace_file.specs.declared.fault.TraceFault.{TraceFault}
-use Rattle.trace_file.specs.declared.fault.TraceFault.TheVariants.{AfterEnd, NoEnd, NoMemory}
+use Rattle.trace_file.specs.declared.fault.TraceFault.TheVariants.{NoEnd}
+use Rattle.trace_file.specs.declared.row_reader.RowReader.{RowReader}
 use Rattle.trace_file.specs.declared.rows.Rows.{Rows}
-use Rattle.trace_file.specs.Events.{has_ended}
+use Rattle.trace_file.specs.declared.trace_taker.Stage.TheVariants.{Rows as at_rows}
+use Rattle.trace_file.specs.declared.trace_taker.TraceTaker.{TraceTaker}
+use Rattle.trace_file.specs.declared.unit.Unit.{Unit as UnitOfTime}
+use Rattle.trace_file.specs.Events.{event_at, has_ended}
 use Rattle.trace_file.specs.File.{is_row, event_of, events_of, row_rules, rows_of, IsFileFault}
-use Rattle.trace_file.specs.Given.{HasAll, HasGiven, HasNext, HasRow}
+use Rattle.trace_file.specs.Given.{HasRows, HasTaken, HasWatched, IsAt, IsBeforeEvent, IsBehindRows, Sees}
 use Rattle.trace_file.specs.Rows.{IsAfter, IsNext}
-use Rattle.trace_file.specs.Rules.{row_of, fault_if, event_fault, row_fault, is_known, RowsKeep as EventsKeep}
+use Rattle.trace_file.specs.Rules.{row_of, event_fault, row_fault, is_known, RowsKeep as EventsKeep}
 use Rattle.trace_file.proofs.After.{row_keeps}
-use Rattle.trace_file.proofs.Prefix.{after_same, ended_same}
+use Rattle.trace_file.proofs.Prefix.{after_same}
 use Rattle.trace_file.proofs.Taking.{events_more, rules_of_event, events_keep, behind_header, file_fault}
 
 -- an event behind others is the next one
@@ -34,218 +32,175 @@ next_pushed events e row s after is = record {
   after = after_same events (e ∷ []) (length events) s (omega arith) after;
 }
 
-pub pushed_keeps : (sys : SystemView) (events : List Event) (e : Event) → has_ended events (length events) ≡ false
-    → event_fault sys (events ++ e ∷ []) (length events) ≡ None
-    → row_fault sys (events ++ e ∷ []) (length events) ≡ None
-pushed_keeps sys events e goes keeps =
-    ap (λ (z : Bool). fault_if z (AfterEnd (row_of (length events)))
-    (event_fault sys (events ++ e ∷ []) (length events)))
-    (ended_same events (e ∷ []) (length events) (omega arith) ∙ goes) ∙ keeps
+next_at : (events : List Event) (e : Event) (n row : ℕ) (s : Rows) → n ≡ length events → IsAfter events n s
+    → row ≡ row_of n → IsNext (events ++ e ∷ []) n e row s
+next_at events e n row s is after number =
+    subst (λ (z : ℕ). IsNext (events ++ e ∷ []) z e row s) (sym is)
+    (next_pushed events e row s (subst (λ (z : ℕ). IsAfter events z s) is after) (number ∙ ap row_of is))
 
--- the events so far
-given_long : (sys : SystemView) (text : List ℕ) (events : List Event) (r : EventReader)
-    → (h : HasGiven sys text events r) → length events ≡ length h.rows
-given_long sys text events r h =
-    ap (λ (z : List Event). length z) h.events_are ∙ length-map h.rows (event_of sys r.unit)
+-- the event of the next row, and the rules that the row is judged by
+module _ (unit : UnitOfTime) (rows : List (List (List ℕ))) (row : List (List ℕ)) (r : RowReader) (e : Event)
+    (behind : IsBehindRows unit rows r) where
+  pub judged_next : IsNext (events_of r.sys.now unit rows ++ e ∷ []) (length rows) e r.row r.rows
+  judged_next =
+      next_at (events_of r.sys.now unit rows) e (length rows) r.row r.rows
+      (sym (length-map rows (event_of r.sys.now unit))) behind.after behind.row
 
-pub given_keep : (sys : SystemView) (text : List ℕ) (events : List Event) (r : EventReader) → HasGiven sys text events r
-    → EventsKeep sys events (length events)
-given_keep sys text events r h =
-    subst (λ (z : List Event). EventsKeep sys z (length z)) (sym h.events_are) (events_keep sys r.unit h.rows h.keep)
+  pub judged_rules : has_ended (events_of r.sys.now unit rows) (length rows) ≡ false → is_row row ≡ true
+      → e ≡ event_of r.sys.now unit row
+      → row_rules r.sys.now unit rows row
+      ≡ event_fault r.sys.now (events_of r.sys.now unit rows ++ e ∷ []) (length rows)
+  judged_rules goes fits is =
+      rules_of_event r.sys.now unit rows row (events_of r.sys.now unit rows) e refl is goes fits
 
--- the reader behind the next row
-abbrev pub next_of : (sys : SystemView) (text : List ℕ) (events : List Event) (row : List (List ℕ)) (r : EventReader)
-    (records : Records) → (h : HasGiven sys text events r) → HasRead text (h.header ∷ (h.rows ++ row ∷ [])) records
-    → HasRow sys text events row (record r { records = records })
-next_of sys text events row r records h has = record {
-  sys_is = h.sys_is;
-  system = h.system;
-  names = h.names;
-  header = h.header;
-  rows = h.rows;
-  unit = h.unit;
-  has_read = has;
-  keep = h.keep;
-  events_are = h.events_are;
-  behind = record { row = h.behind.row; after = h.behind.after };
-}
-
-next_long : (sys : SystemView) (text : List ℕ) (events : List Event) (row : List (List ℕ)) (r : EventReader)
-    → (h : HasRow sys text events row r) → length events ≡ length h.rows
-next_long sys text events row r h =
-    ap (λ (z : List Event). length z) h.events_are ∙ length-map h.rows (event_of sys r.unit)
-
--- the events of its rows, over the reader's own system
-own_events : (sys : SystemView) (text : List ℕ) (events : List Event) (row : List (List ℕ)) (r : EventReader)
-    → (h : HasRow sys text events row r) → events ≡ events_of r.sys.now r.unit h.rows
-own_events sys text events row r h = h.events_are ∙ ap (λ (z : SystemView). events_of z r.unit h.rows) (sym h.sys_is)
-
-pub next_after : (sys : SystemView) (text : List ℕ) (events : List Event) (row : List (List ℕ)) (r : EventReader)
-    → HasRow sys text events row r → IsAfter events (length events) r.rows
-next_after sys text events row r h =
-    rw (own_events sys text events row r h, sym (own_long sys text events row r h)) h.behind.after
+-- an event that keeps the rules behind others
+module _ (sys : SystemView) (events : List Event) (e : Event) (rows : Rows) (before : IsBeforeEvent sys events e rows)
   where
-    own_long : (sys : SystemView) (text : List ℕ) (events : List Event) (row : List (List ℕ)) (r : EventReader)
-        → (h : HasRow sys text events row r) → length h.rows ≡ length (events_of r.sys.now r.unit h.rows)
-    own_long sys text events row r h = sym (length-map h.rows (event_of r.sys.now r.unit))
+    pub event_there : e ≡ event_at (events ++ e ∷ []) (length events)
+    event_there = sym (get_or-append_seam events e [] (record { at = 0; core = 0; what = End }))
 
-pub next_row : (sys : SystemView) (text : List ℕ) (events : List Event) (row : List (List ℕ)) (r : EventReader)
-    → HasRow sys text events row r → r.row ≡ row_of (length events)
-next_row sys text events row r h = omega (arith, h.behind.row, next_long sys text events row r h)
+    pub event_keeps : row_fault sys (events ++ e ∷ []) (length events) ≡ None
+    event_keeps = before.keep (length events) (omega (arith, length_more events e))
 
--- no end came before it
-pub next_open : (sys : SystemView) (text : List ℕ) (events : List Event) (row : List (List ℕ)) (r : EventReader)
-    → (h : HasRow sys text events row r) → has_ended (events_of r.sys.now r.unit h.rows) (length h.rows) ≡ false
-    → has_ended events (length events) ≡ false
-next_open sys text events row r h goes =
-    ap (has_ended events) (next_long sys text events row r h)
-    ∙ (ap (λ (z : List Event). has_ended z (length h.rows)) (own_events sys text events row r h) ∙ goes)
+    pub event_known : is_known sys e.core e.what ≡ true
+    event_known =
+        subst (λ (z : Event). is_known sys z.core z.what ≡ true) (sym event_there)
+        (row_keeps sys (events ++ e ∷ []) (length events) event_keeps).known
 
--- the rules of the row are those of its event
-pub next_rules : (sys : SystemView) (text : List ℕ) (events : List Event) (row : List (List ℕ)) (e : Event)
-    (r : EventReader) → (h : HasRow sys text events row r) → is_row row ≡ true → e ≡ event_of r.sys.now r.unit row
-    → has_ended events (length events) ≡ false
-    → row_rules sys r.unit h.rows row ≡ event_fault r.sys.now (events ++ e ∷ []) (length events)
-next_rules sys text events row e r h fits is goes =
-    let long = next_long sys text events row r h in
-    rules_of_event sys r.unit h.rows row events e h.events_are
-    (is ∙ ap (λ (z : SystemView). event_of z r.unit row) h.sys_is) (ap (has_ended events) (sym long) ∙ goes) fits
-    ∙ (ap (event_fault sys (events ++ e ∷ [])) (sym long)
-    ∙ ap (λ (z : SystemView). event_fault z (events ++ e ∷ []) (length events)) (sym h.sys_is))
+    pub event_behind : IsAfter (events ++ e ∷ []) (length events) rows
+    event_behind = after_same events (e ∷ []) (length events) rows (omega arith) before.after
 
--- a row that breaks a rule is the first
-pub row_breaks : (sys : SystemView) (text : List ℕ) (events : List Event) (row : List (List ℕ)) (r : EventReader)
-    (fault : TraceFault) → (h : HasRow sys text events row r) → row_rules sys r.unit h.rows row ≡ Some fault
-    → IsFileFault sys (rows_of (records_of text)) fault
-row_breaks sys text events row r fault h breaks =
-    let (more, front) = has_front text (h.header ∷ (h.rows ++ row ∷ [])) r.records h.has_read in
-    file_fault sys (records_of text) (h.rows ++ row ∷ more) r.unit fault
-    (behind_header (records_of text) h.header (h.rows ++ row ∷ more) r.unit
-    (front ∙ ap (λ (z : List (List (List ℕ))). h.header ∷ z) (append_assoc h.rows (row ∷ []) more)) h.unit)
-    (inl (first_there (row_rules sys r.unit) h.rows row more fault h.keep breaks))
+module _ {W : Type 0} (has_seen : Sees W) (start now : W) (records : List (List (List ℕ))) (row : List (List ℕ))
+    (r : RowReader) where
+  module _ (unit : UnitOfTime) (h : HasRows has_seen start now records unit r) where
+    -- a row that breaks a rule is the first
+    pub row_breaks : (fault : TraceFault) → row_rules r.sys.now unit h.rows row ≡ Some fault
+        → (more : List (List (List ℕ))) → IsFileFault r.sys.now (rows_of ((records ++ row ∷ []) ++ more)) fault
+    row_breaks fault breaks more =
+        file_fault r.sys.now ((records ++ row ∷ []) ++ more) (h.rows ++ row ∷ more) unit fault
+        (behind_header ((records ++ row ∷ []) ++ more) h.header (h.rows ++ row ∷ more) unit
+        (append_assoc records (row ∷ []) more ∙ ap (λ (z : List (List (List ℕ))). z ++ row ∷ more) h.are) h.told)
+        (inl (first_there (row_rules r.sys.now unit) h.rows row more fault h.keep breaks))
 
--- the row of an event that keeps the rules keeps them, and the events are those of the rows so far
-next_rows : (sys : SystemView) (text : List ℕ) (events : List Event) (e : Event) (r : EventReader)
-    → (next : HasNext sys text events e r)
-    → RowsKeep (row_rules sys r.unit) (next.has_row.rows ++ next.row ∷ []) (length (next.has_row.rows ++ next.row ∷ []))
-next_rows sys text events e r next =
-    let h = next.has_row in
-    keep_more (row_rules sys r.unit) h.rows next.row h.keep
-    (next_rules sys text events next.row e r h next.fits next.event_is next.is_open ∙ next.keeps)
+    module _ (e : Event) (none : row_rules r.sys.now unit h.rows row ≡ None) (is : e ≡ event_of r.sys.now unit row)
+      where
+        -- a row that keeps them
+        now_keep : RowsKeep (row_rules r.sys.now unit) (h.rows ++ row ∷ []) (length (h.rows ++ row ∷ []))
+        now_keep = keep_more (row_rules r.sys.now unit) h.rows row h.keep none
 
-next_events : (sys : SystemView) (text : List ℕ) (events : List Event) (e : Event) (r : EventReader)
-    → (next : HasNext sys text events e r)
-    → events ++ e ∷ [] ≡ events_of sys r.unit (next.has_row.rows ++ next.row ∷ [])
-next_events sys text events e r next =
-    let h = next.has_row in
-    let event : e ≡ event_of sys r.unit next.row
-    = next.event_is ∙ ap (λ (z : SystemView). event_of z r.unit next.row) h.sys_is in
-    ap (λ (z : List Event). z ++ e ∷ []) h.events_are
-    ∙ (ap (λ (z : Event). events_of sys r.unit h.rows ++ z ∷ []) event
-    ∙ sym (events_more sys r.unit h.rows next.row))
+        now_events : events_of r.sys.now unit h.rows ++ e ∷ [] ≡ events_of r.sys.now unit (h.rows ++ row ∷ [])
+        now_events =
+            ap (λ (z : Event). events_of r.sys.now unit h.rows ++ z ∷ []) is
+            ∙ sym (events_more r.sys.now unit h.rows row)
 
--- the events up to the next one keep the rules
-pub next_keep : (sys : SystemView) (text : List ℕ) (events : List Event) (e : Event) (r : EventReader)
-    → HasNext sys text events e r → EventsKeep sys (events ++ e ∷ []) (length (events ++ e ∷ []))
-next_keep sys text events e r next =
-    let h = next.has_row in
-    subst (λ (z : List Event). EventsKeep sys z (length z)) (sym (next_events sys text events e r next))
-    (events_keep sys r.unit (h.rows ++ next.row ∷ []) (next_rows sys text events e r next))
+        long : length h.rows ≡ length (events_of r.sys.now unit h.rows)
+        long = sym (length-map h.rows (event_of r.sys.now unit))
 
--- the next one keeps them
-pub next_row_keeps : (sys : SystemView) (text : List ℕ) (events : List Event) (e : Event) (r : EventReader)
-    → HasNext sys text events e r → row_fault r.sys.now (events ++ e ∷ []) (length events) ≡ None
-next_row_keeps sys text events e r next = pushed_keeps r.sys.now events e next.is_open next.keeps
+        pub row_before : IsBeforeEvent r.sys.now (events_of r.sys.now unit h.rows) e r.rows
+        row_before = record {
+          keep =
+              subst (λ (z : List Event). EventsKeep r.sys.now z (length z)) (sym now_events)
+              (events_keep r.sys.now unit (h.rows ++ row ∷ []) now_keep);
+          after =
+              subst (λ (n : ℕ). IsAfter (events_of r.sys.now unit h.rows) n r.rows) long h.behind.after;
+        }
 
-pub next_known : (sys : SystemView) (text : List ℕ) (events : List Event) (e : Event) (r : EventReader)
-    → HasNext sys text events e r → is_known r.sys.now e.core e.what ≡ true
-next_known sys text events e r next =
-    subst (λ (z : Event). is_known r.sys.now z.core z.what ≡ true)
-    (get_or-append_seam events e [] (record { at = 0; core = 0; what = End }))
-    (row_keeps r.sys.now (events ++ e ∷ []) (length events) (next_row_keeps sys text events e r next)).known
+        pub row_more : (next : W) (rows : Rows) (number : ℕ)
+            → has_seen r.sys.now start next (events_of r.sys.now unit h.rows ++ e ∷ [])
+            → IsAfter (events_of r.sys.now unit h.rows ++ e ∷ []) (length (events_of r.sys.now unit h.rows) + 1) rows
+            → number ≡ r.row + 1
+            → HasRows has_seen start next (records ++ row ∷ []) unit (record r { rows = rows; row = number })
+        row_more next rows number seen after is_row = record {
+          header = h.header;
+          rows = h.rows ++ row ∷ [];
+          are = ap (λ (z : List (List (List ℕ))). z ++ row ∷ []) h.are;
+          told = h.told;
+          keep = now_keep;
+          behind = record {
+            row = omega (arith, is_row, h.behind.row, length_more h.rows row);
+            after =
+                subst (λ (n : ℕ). IsAfter (events_of r.sys.now unit (h.rows ++ row ∷ [])) n rows)
+                (omega (arith, long, length_more h.rows row))
+                (subst (λ (z : List Event). IsAfter z (length (events_of r.sys.now unit h.rows) + 1) rows) now_events
+                after);
+          };
+          seen = subst (λ (z : List Event). has_seen r.sys.now start next z) now_events seen;
+        }
 
--- behind the next one
-pub given_more : (sys : SystemView) (text : List ℕ) (events : List Event) (e : Event) (r : EventReader) (rows : Rows)
-    (row : ℕ) → (next : HasNext sys text events e r) → IsAfter (events ++ e ∷ []) (length events + 1) rows
-    → row ≡ r.row + 1 → HasGiven sys text (events ++ e ∷ []) (record r { rows = rows; row = row })
-given_more sys text events e r rows row next after number =
-    let h = next.has_row in
-    let more : List (List (List ℕ)) = h.rows ++ next.row ∷ [] in
-    let here = next_events sys text events e r next in
-    let long = next_long sys text events next.row r h in
-    let count : length events + 1 ≡ length more = omega (arith, long, length_more h.rows next.row) in
-    record {
-      sys_is = h.sys_is;
-      system = h.system;
-      names = h.names;
-      header = h.header;
-      rows = more;
-      unit = h.unit;
-      has_read = h.has_read;
-      keep = next_rows sys text events e r next;
-      events_are = here;
-      behind = record {
-        row = omega (arith, number, h.behind.row, length_more h.rows next.row);
-        after = subst (λ (n : ℕ). IsAfter (events_of r.sys.now r.unit more) n rows) count
-            (subst (λ (xs : List Event). IsAfter xs (length events + 1) rows)
-            (here ∙ ap (λ (z : SystemView). events_of z r.unit more) (sym h.sys_is)) after);
-      };
-    }
+module _ {W : Type 0} (has_seen : Sees W) (start now : W) (records : List (List (List ℕ))) (r : RowReader) where
+  -- the first fault, where no record comes behind it
+  pub still_broken : (fault : TraceFault)
+      → ((more : List (List (List ℕ))) → IsFileFault r.sys.now (rows_of (records ++ more)) fault)
+      → IsFileFault r.sys.now (rows_of records) fault
+  still_broken fault h =
+      subst (λ (z : List (List (List ℕ))). IsFileFault r.sys.now (rows_of z) fault) (append-nil records) (h [])
 
--- the rows have ended
-given_after : (sys : SystemView) (text : List ℕ) (events : List Event) (r : EventReader)
-    → (h : HasGiven sys text events r) → IsAfter events (length h.rows) r.rows
-given_after sys text events r h =
-    subst (λ (xs : List Event). IsAfter xs (length h.rows) r.rows)
-    (ap (λ (z : SystemView). events_of z r.unit h.rows) h.sys_is ∙ sym h.events_are) h.behind.after
+  module _ (unit : UnitOfTime) (h : HasRows has_seen start now records unit r) where
+    -- the end has come, or it has not
+    pub rows_ended : has_ended (events_of r.sys.now unit h.rows) (length h.rows) ≡ true
+        → HasWatched has_seen r.sys.now start records (record { rows = r.rows; watcher = now })
+    rows_ended ended =
+        let long : length h.rows ≡ length (events_of r.sys.now unit h.rows) =
+        sym (length-map h.rows (event_of r.sys.now unit)) in
+        record {
+          events = events_of r.sys.now unit h.rows;
+          spelled = record {
+            unit = unit;
+            rows = h.rows;
+            header = behind_header records h.header h.rows unit h.are h.told;
+            keep = h.keep;
+            ended = ended;
+            events_are = refl;
+          };
+          kept = record {
+            rows = events_keep r.sys.now unit h.rows h.keep;
+            ended = ap (has_ended (events_of r.sys.now unit h.rows)) (sym long) ∙ ended;
+          };
+          after = subst (λ (n : ℕ). IsAfter (events_of r.sys.now unit h.rows) n r.rows) long h.behind.after;
+          seen = h.seen;
+        }
 
-spelt_all : (sys : SystemView) (text : List ℕ) (events : List Event) (r : EventReader) (records : Records)
-    → (h : HasGiven sys text events r) → records_of text ≡ h.header ∷ h.rows → has_ended events (length h.rows) ≡ true
-    → HasAll sys text events (record r { records = records })
-spelt_all sys text events r records h all ended = record {
-  spelled = record {
-    unit = r.unit;
-    rows = h.rows;
-    header = behind_header (records_of text) h.header h.rows r.unit all h.unit;
-    keep = h.keep;
-    ended = ended;
-    events_are = h.events_are;
-  };
-  kept =
-      record
-      { rows = given_keep sys text events r h; ended = ap (has_ended events) (given_long sys text events r h) ∙ ended };
-  after =
-      subst (λ (n : ℕ). IsAfter events n r.rows) (sym (given_long sys text events r h))
-      (given_after sys text events r h);
-}
+    pub rows_open : has_ended (events_of r.sys.now unit h.rows) (length h.rows) ≡ false
+        → IsFileFault r.sys.now (rows_of records) (NoEnd r.row)
+    rows_open goes =
+        file_fault r.sys.now records h.rows unit (NoEnd r.row)
+        (behind_header records h.header h.rows unit h.are h.told)
+        (inr (record { keep = h.keep; no_end = goes; fault_is = ap (λ (n : ℕ). NoEnd n) h.behind.row }))
 
-no_end : (sys : SystemView) (text : List ℕ) (events : List Event) (r : EventReader) (fault : TraceFault)
-    → (h : HasGiven sys text events r) → records_of text ≡ h.header ∷ h.rows → fault ≡ NoEnd r.row
-    → has_ended events (length h.rows) ≡ false → IsFileFault sys (rows_of (records_of text)) fault
-no_end sys text events r fault h all is open_ =
-    file_fault sys (records_of text) h.rows r.unit fault
-    (behind_header (records_of text) h.header h.rows r.unit all h.unit)
-    (inr (record {
-      keep = h.keep;
-      no_end = ap (λ (z : List Event). has_ended z (length h.rows)) (sym h.events_are) ∙ open_;
-      fault_is = is ∙ ap (λ (n : ℕ). NoEnd n) h.behind.row;
-    }))
+-- where rows come, and what the event of the next one says of it
+abbrev pub SaysOf : UnitOfTime → List (List ℕ) → RowReader → Event → Type 0
+SaysOf unit row r e =
+    (rows : List (List (List ℕ))) → IsBehindRows unit rows r
+    → (row_rules r.sys.now unit rows row ≡ None) × (e ≡ event_of r.sys.now unit row)
 
-pub ends_well : (o : Result (Option Event) TraceFault) (More : Event → Type 0) (sys : SystemView) (text : List ℕ)
-    (events : List Event) (r : EventReader) (records : Records) → (h : HasGiven sys text events r)
-    → records_of text ≡ h.header ∷ h.rows → IfOk o (λ next. next ≡ None)
-    → ((xs : List Event) (n : ℕ) → IsAfter xs n r.rows → IfOk o (λ next. has_ended xs n ≡ true))
-    → IfOk o (λ next. MatchOption next (HasAll sys text events (record r { records = records })) More)
-ends_well (Err f) More sys text events r records h all none ended = tt
-ends_well (Ok None) More sys text events r records h all none ended =
-    spelt_all sys text events r records h all (ended events (length h.rows) (given_after sys text events r h))
-ends_well (Ok (Some e)) More sys text events r records h all none ended = absurd (none-some e (sym none))
+module _ {W : Type 0} (has_seen : Sees W) (sys : SystemView) (start : W) (records : List (List (List ℕ)))
+    (t : TraceTaker W) (unit : UnitOfTime) (h : HasTaken has_seen sys start records t) (at : t.stage ≡ at_rows unit)
+  where
+    pub rows_taken : HasRows has_seen start t.watcher records unit t.reader
+    rows_taken = subst (IsAt has_seen start t.watcher records t.reader) at h.at
 
-pub ends_badly : (o : Result (Option Event) TraceFault) (sys : SystemView) (text : List ℕ) (events : List Event)
-    (r : EventReader) → (h : HasGiven sys text events r) → records_of text ≡ h.header ∷ h.rows
-    → IfErr o (λ fault. fault ≡ NoEnd r.row)
-    → ((xs : List Event) (n : ℕ) → IsAfter xs n r.rows → IfErr o (λ fault. has_ended xs n ≡ false))
-    → IfErr o (λ fault. (fault ≡ NoMemory) ⊎ IsFileFault sys (rows_of (records_of text)) fault)
-ends_badly (Ok next) sys text events r h all is open_ = tt
-ends_badly (Err f) sys text events r h all is open_ =
-    inr (no_end sys text events r f h all is (open_ events (length h.rows) (given_after sys text events r h)))
+    module _ (row : List (List ℕ)) (e : Event) (says : SaysOf unit row t.reader e) where
+      pub taken_before
+          : IsBeforeEvent t.reader.sys.now (events_of t.reader.sys.now unit rows_taken.rows) e t.reader.rows
+      taken_before =
+          let said = says rows_taken.rows rows_taken.behind in
+          row_before has_seen start t.watcher records row t.reader unit rows_taken e said.0 said.1
+
+      pub taken_more : (next : W) (rows : Rows) (number : ℕ)
+          → has_seen t.reader.sys.now start next (events_of t.reader.sys.now unit rows_taken.rows ++ e ∷ [])
+          → IsAfter (events_of t.reader.sys.now unit rows_taken.rows ++ e ∷ [])
+          (length (events_of t.reader.sys.now unit rows_taken.rows) + 1) rows → number ≡ t.reader.row + 1
+          → HasTaken has_seen sys start (records ++ row ∷ [])
+          (record t { reader = record t.reader { rows = rows; row = number }; watcher = next })
+      taken_more next rows number seen after is =
+          let said = says rows_taken.rows rows_taken.behind in
+          record {
+            sys_is = h.sys_is;
+            system = h.system;
+            names = h.names;
+            at =
+                subst (IsAt has_seen start next (records ++ row ∷ []) (record t.reader { rows = rows; row = number }))
+                (sym at)
+                (row_more has_seen start t.watcher records row t.reader unit rows_taken e said.0 said.1 next rows number
+                seen after is);
+          }

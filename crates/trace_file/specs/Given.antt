@@ -1,66 +1,86 @@
 -- What is kept of the events that were read.
-use Rattle.std.specs.Prelude.{◌≡◌, ℕ, ◌∷◌, [], ◌++◌, ◌+◌, ◌<◌, ◌^◌, true, false, List, length, Some, None}
-use Rattle.csv_rows.specs.Reading.{HasRead, records_of}
+use Rattle.std.specs.Prelude.{◌≡◌, ℕ, ◌∷◌, [], ◌++◌, ◌+◌, List, length, Some}
 use Rattle.csv_rows.specs.Rules.{RowsKeep}
 use Rattle.tree_model.specs.View.{SystemView}
 use Rattle.tree_model.specs.System.{IsSystem}
 use Rattle.trace_file.specs.declared.event.Event.{Event}
-use Rattle.trace_file.specs.declared.event_reader.EventReader.{EventReader}
-use Rattle.trace_file.specs.Events.{has_ended}
-use Rattle.trace_file.specs.File.{Spells, event_of, events_of, is_row, row_rules, unit_of}
+use Rattle.trace_file.specs.declared.row_reader.RowReader.{RowReader}
+use Rattle.trace_file.specs.declared.rows.Rows.{Rows}
+use Rattle.trace_file.specs.declared.trace_taker.Stage.{Stage}
+use Rattle.trace_file.specs.declared.trace_taker.Stage.TheVariants as stage
+use Rattle.trace_file.specs.declared.trace_taker.TraceTaker.{TraceTaker}
+use Rattle.trace_file.specs.declared.trace_taker.Watched.{Watched}
+use Rattle.trace_file.specs.declared.unit.Unit.{Unit as UnitOfTime}
+use Rattle.trace_file.specs.File.{IsFileFault, Spells, events_of, row_rules, rows_of, unit_of}
 use Rattle.trace_file.specs.Named.{AreNames}
 use Rattle.trace_file.specs.Rows.{IsAfter}
-use Rattle.trace_file.specs.Rules.{Kept, event_fault}
+use Rattle.trace_file.specs.Rules.{Kept, RowsKeep as EventsKeep}
+
+-- this is the next event behind these, all of which keep the rules, and the rows are as those
+-- before it left them
+pub record IsBeforeEvent (sys : SystemView) (events : List Event) (event : Event) (rows : Rows)
+    : Type 0 where
+  pub keep : EventsKeep sys (events ++ event ∷ []) (length (events ++ event ∷ []))
+  pub after : IsAfter events (length events) rows
+
+-- it was made over a system, and stands before the first row
+pub record IsFresh (sys : SystemView) (r : RowReader) : Type 0 where
+  pub sys_is : r.sys.now ≡ sys
+  pub system : IsSystem sys
+  pub names : AreNames r.sys.now r.names
+  pub row : r.row ≡ 2
+  pub after : IsAfter [] 0 r.rows
 
 -- it stands behind these rows
-pub record IsBehindRows (rows : List (List (List ℕ))) (r : EventReader) : Type 0 where
+pub record IsBehindRows (unit : UnitOfTime) (rows : List (List (List ℕ))) (r : RowReader)
+    : Type 0 where
   pub row : r.row ≡ length rows + 2
-  pub after : IsAfter (events_of r.sys.now r.unit rows) (length rows) r.rows
+  pub after : IsAfter (events_of r.sys.now unit rows) (length rows) r.rows
 
--- it was made over a system and a text, and has given these events: those of the first rows, which
--- keep the rules
-pub record HasGiven (sys : SystemView) (text : List ℕ) (events : List Event) (r : EventReader)
-    : Type 0 where
-  pub sys_is : r.sys.now ≡ sys
-  pub system : IsSystem sys
-  pub names : AreNames r.sys.now r.names
+-- a watcher goes from one value to another over the events of a system
+abbrev pub Sees : Type 0 → Type 1
+Sees W = SystemView → W → W → List Event → Type 0
+
+-- no record was taken
+pub record HasNone {W : Type 0} (has_seen : Sees W) (start now : W)
+    (records : List (List (List ℕ))) (r : RowReader) : Type 0 where
+  pub none : records ≡ []
+  pub row : r.row ≡ 2
+  pub after : IsAfter [] 0 r.rows
+  pub seen : has_seen r.sys.now start now []
+
+-- the header was taken, and rows that keep the rules, whose events were seen
+pub record HasRows {W : Type 0} (has_seen : Sees W) (start now : W)
+    (records : List (List (List ℕ))) (unit : UnitOfTime) (r : RowReader) : Type 0 where
   pub header : List (List ℕ)
   pub rows : List (List (List ℕ))
-  pub unit : unit_of header ≡ Some r.unit
-  pub has_read : HasRead text (header ∷ rows) r.records
-  pub keep : RowsKeep (row_rules sys r.unit) rows (length rows)
-  pub events_are : events ≡ events_of sys r.unit rows
-  pub behind : IsBehindRows rows r
+  pub are : records ≡ header ∷ rows
+  pub told : unit_of header ≡ Some unit
+  pub keep : RowsKeep (row_rules r.sys.now unit) rows (length rows)
+  pub behind : IsBehindRows unit rows r
+  pub seen : has_seen r.sys.now start now (events_of r.sys.now unit rows)
 
--- behind these it has read one row more, of which it has given no event
-pub record HasRow (sys : SystemView) (text : List ℕ) (events : List Event) (row : List (List ℕ))
-    (r : EventReader) : Type 0 where
-  pub sys_is : r.sys.now ≡ sys
-  pub system : IsSystem sys
-  pub names : AreNames r.sys.now r.names
-  pub header : List (List ℕ)
-  pub rows : List (List (List ℕ))
-  pub unit : unit_of header ≡ Some r.unit
-  pub has_read : HasRead text (header ∷ (rows ++ row ∷ [])) r.records
-  pub keep : RowsKeep (row_rules sys r.unit) rows (length rows)
-  pub events_are : events ≡ events_of sys r.unit rows
-  pub behind : IsBehindRows rows r
+-- what is known of the records that were taken: the first fault is that of any text that goes on
+abbrev pub IsAt : {W : Type 0} → Sees W → W → W → List (List (List ℕ)) → RowReader → Stage
+    → Type 0
+IsAt has_seen start now records r stage.Header = HasNone has_seen start now records r
+IsAt has_seen start now records r (stage.Rows unit) = HasRows has_seen start now records unit r
+IsAt has_seen start now records r (stage.Broken fault) =
+    (more : List (List (List ℕ))) → IsFileFault r.sys.now (rows_of (records ++ more)) fault
 
--- it has given these events and then this one, which keeps the rules and behind which it is still
--- to go on
-pub record HasNext (sys : SystemView) (text : List ℕ) (events : List Event) (event : Event)
-    (r : EventReader) : Type 0 where
-  pub row : List (List ℕ)
-  pub has_row : HasRow sys text events row r
-  pub fits : is_row row ≡ true
-  pub event_is : event ≡ event_of r.sys.now r.unit row
-  pub is_open : has_ended events (length events) ≡ false
-  pub keeps : event_fault r.sys.now (events ++ event ∷ []) (length events) ≡ None
-  pub room : r.row + 1 < 2 ^ 64
+-- these records of a trace over a system were taken
+pub record HasTaken {W : Type 0} (has_seen : Sees W) (sys : SystemView) (start : W)
+    (records : List (List (List ℕ))) (t : TraceTaker W) : Type 0 where
+  pub sys_is : t.reader.sys.now ≡ sys
+  pub system : IsSystem t.reader.sys.now
+  pub names : AreNames t.reader.sys.now t.reader.names
+  pub at : IsAt has_seen start t.watcher records t.reader t.stage
 
--- the text spells the events that it has given, which keep the rules, and it stands behind them
-pub record HasAll (sys : SystemView) (text : List ℕ) (events : List Event) (r : EventReader)
-    : Type 0 where
-  pub spelled : Spells sys (records_of text) events
+-- the records spell events that keep the rules, and these were seen
+pub record HasWatched {W : Type 0} (has_seen : Sees W) (sys : SystemView) (start : W)
+    (records : List (List (List ℕ))) (w : Watched W) : Type 0 where
+  pub events : List Event
+  pub spelled : Spells sys records events
   pub kept : Kept sys events
-  pub after : IsAfter events (length events) r.rows
+  pub after : IsAfter events (length events) w.rows
+  pub seen : has_seen sys start w.watcher events

@@ -1,0 +1,22 @@
+use Rattle.std.proofs.Common.{[], ◌∷◌, ◌++◌, length}
+use Rattle.auditor.proofs.Streaming.{awaits_more, behind_next}
+use Rattle.auditor.proofs.pieces.WatcherEventWatcher.see.Goals as goal
+
+pub take-requires-clause-awaits : goal.take-requires-clause-awaits
+take-requires-clause-awaits c =
+    let (start, events, seen, before) = c.requires in (
+      events ++ c.args.event ∷ [],
+      length events,
+      awaits_more c.args.sys.now c.args.self.now.plan events c.args.event [] c.args.rows.now c.args.self.now.watches
+          before.keep before.after seen.behind,
+    )
+
+pub returns : goal.returns
+returns c start events seen before = record {
+  same = seen.same;
+  system = seen.system;
+  plan = seen.plan;
+  behind =
+      behind_next c.args.sys.now c.args.self.now.plan events c.args.event c.args.rows.now c.args.self.now.watches
+      c.take.new.self before.after seen.behind c.take.ensures;
+}

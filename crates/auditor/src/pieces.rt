@@ -1,0 +1,171 @@
+ghost use Rattle.std.specs.Prelude.{◌≡◌, ◌⊎◌, IfOk, IfErr};
+ghost use Rattle.csv_rows.specs.Reading.{records_of};
+ghost use Rattle.tree_model.specs.Plans.{IsPlan};
+ghost use Rattle.trace_file.specs.declared.fault.TraceFault.TheVariants.{NoMemory};
+ghost use Rattle.trace_file.specs.File.{IsFileFault, rows_of};
+ghost use Rattle.auditor.specs.Finding.{IsFindingOf};
+ghost use Rattle.auditor.specs.Tally.{IsTalliedOf};
+ghost use Rattle.auditor.specs.Pieces.{HasAudited};
+
+use crate::Finding;
+use crate::verdict::{Tallied, both_of, finding};
+use crate::watches::Watches;
+use std::alloc::{AllocError, Global};
+use trace_file::{Event, EventWatcher, Rows, TraceFault, TraceFeed};
+use tree_model::{Plan, System};
+
+/// What the VCPUs did up to some event, beside the budgets on which they may count.
+#[derive(Drop)]
+struct Watcher {
+    plan: Plan,
+    watches: Watches,
+}
+
+impl EventWatcher for Watcher {
+    ghost use Rattle.auditor.specs.Pieces.{HasSeen};
+
+    ghost has_seen = { λ sys start now events. HasSeen sys start now events };
+
+    #[inline(always)]
+    fn see(&mut self, sys: &System, rows: &Rows, event: Event) -> Result<(), AllocError> {
+        self.watches.take(sys, &self.plan, rows, event);
+        Ok(())
+    }
+}
+
+/// Audits the text of a trace piece by piece, in pieces of any lengths. No event is kept, and of
+/// the text no more than `csv_rows::RecordFeed` keeps.
+#[derive(Drop)]
+pub struct Audit<'s> {
+    sys: &'s System,
+    feed: TraceFeed<'s, Watcher>,
+}
+
+impl<'s> Audit<'s> {
+    ghost use Rattle.std.specs.Prelude.{◌≡◌, ◌⊎◌, ◌++◌, [], ℕ, List, OnOk, IfOk, IfErr};
+    ghost use Rattle.csv_rows.specs.Reading.{records_of};
+    ghost use Rattle.tree_model.specs.View.{SystemView};
+    ghost use Rattle.tree_model.specs.Plans.{IsPlan};
+    ghost use Rattle.trace_file.specs.declared.fault.TraceFault.TheVariants.{NoMemory};
+    ghost use Rattle.trace_file.specs.File.{IsFileFault, rows_of};
+    ghost use Rattle.auditor.specs.Finding.{IsFindingOf};
+    ghost use Rattle.auditor.specs.Tally.{IsTalliedOf};
+    ghost use Rattle.auditor.specs.Pieces.{HasAudited};
+
+    /// Before the first byte. The budgets of the plan are copied.
+    pub fn new(alloc: Global, sys: &'s System, plan: &Plan) -> Result<Audit<'s>, AllocError>
+        requires { IsPlan sys.now plan.now }
+        ensures { IfOk result (HasAudited sys.now plan.now []) }
+    {
+        let plan = Plan {
+            budgets: Vec::from_slice(alloc, plan.budgets())?,
+        };
+        let watcher = Watcher {
+            plan,
+            watches: Watches::new(sys),
+        };
+        Ok(Audit {
+            sys,
+            feed: TraceFeed::new(alloc, sys, watcher)?,
+        })
+    }
+
+    /// Takes the next bytes of the text.
+    pub fn take(&mut self, piece: &[u8]) -> Result<(), AllocError>
+        requires { (sys : SystemView) × (budgets text : List ℕ)
+            × HasAudited sys budgets text self.old }
+        ensures { (sys : SystemView) (budgets text : List ℕ) → HasAudited sys budgets text self.old
+            → OnOk result (HasAudited sys budgets (text ++ piece.now) self.new) }
+    {
+        self.feed.take(piece)
+    }
+
+    /// What `audit_bytes` answers of the whole text.
+    pub fn finish(self) -> Result<Finding, TraceFault>
+        requires { (sys : SystemView) × (budgets text : List ℕ) × HasAudited sys budgets text self }
+        ensures found { (sys : SystemView) (budgets text : List ℕ)
+            → HasAudited sys budgets text self.entry
+            → IfOk result (IsFindingOf sys budgets text) }
+        ensures fault { (sys : SystemView) (budgets text : List ℕ)
+            → HasAudited sys budgets text self.entry
+            → IfErr result (λ fault. (fault ≡ NoMemory)
+            ⊎ IsFileFault sys (rows_of (records_of text)) fault) }
+    {
+        let sys = self.sys;
+        match self.feed.finish() {
+            Ok(w) => Ok(finding(sys, &w.rows, &w.watcher.watches)),
+            Err(fault) => Err(fault),
+        }
+    }
+
+    /// What `tally_bytes` answers of the whole text.
+    pub fn finish_tallied(self, alloc: Global) -> Result<Tallied, TraceFault>
+        requires { (sys : SystemView) × (budgets text : List ℕ) × HasAudited sys budgets text self }
+        ensures tallied { (sys : SystemView) (budgets text : List ℕ)
+            → HasAudited sys budgets text self.entry
+            → IfOk result (λ t. IsTalliedOf sys budgets text t.finding t.vcpus.items) }
+        ensures fault { (sys : SystemView) (budgets text : List ℕ)
+            → HasAudited sys budgets text self.entry
+            → IfErr result (λ fault. (fault ≡ NoMemory)
+            ⊎ IsFileFault sys (rows_of (records_of text)) fault) }
+    {
+        let sys = self.sys;
+        match self.feed.finish() {
+            Ok(w) => both_of(alloc, sys, &w.rows, &w.watcher.watches),
+            Err(fault) => Err(fault),
+        }
+    }
+}
+
+/// The audit of bytes that are all there.
+fn audited<'s>(
+    alloc: Global,
+    sys: &'s System,
+    plan: &Plan,
+    bytes: &[u8],
+) -> Result<Audit<'s>, AllocError>
+    requires { IsPlan sys.now plan.now }
+    ensures { IfOk result (HasAudited sys.now plan.now bytes.now) }
+{
+    let mut audit = Audit::new(alloc, sys, plan)?;
+    audit.take(bytes)?;
+    Ok(audit)
+}
+
+/// What `audit` answers of the events of the text of a trace, none of which is kept, or the first
+/// rule that the text breaks, with its row.
+pub fn audit_bytes(
+    alloc: Global,
+    sys: &System,
+    plan: &Plan,
+    bytes: &[u8],
+) -> Result<Finding, TraceFault>
+    requires { IsPlan sys.now plan.now }
+    ensures found { IfOk result (IsFindingOf sys.now plan.now bytes.now) }
+    ensures fault { IfErr result (λ fault. (fault ≡ NoMemory)
+        ⊎ IsFileFault sys.now (rows_of (records_of bytes.now)) fault) }
+{
+    match audited(alloc, sys, plan, bytes) {
+        Ok(audit) => audit.finish(),
+        Err(_) => Err(TraceFault::NoMemory),
+    }
+}
+
+/// What `audit_bytes` answers, with the tallies of the VCPUs. The same walk makes both.
+pub fn tally_bytes(
+    alloc: Global,
+    sys: &System,
+    plan: &Plan,
+    bytes: &[u8],
+) -> Result<Tallied, TraceFault>
+    requires { IsPlan sys.now plan.now }
+    ensures tallied { IfOk result (λ t.
+        IsTalliedOf sys.now plan.now bytes.now t.finding t.vcpus.items) }
+    ensures fault { IfErr result (λ fault. (fault ≡ NoMemory)
+        ⊎ IsFileFault sys.now (rows_of (records_of bytes.now)) fault) }
+{
+    match audited(alloc, sys, plan, bytes) {
+        Ok(audit) => audit.finish_tallied(alloc),
+        Err(_) => Err(TraceFault::NoMemory),
+    }
+}

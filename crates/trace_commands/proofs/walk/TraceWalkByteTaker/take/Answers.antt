@@ -1,0 +1,8 @@
+use Rattle.std.proofs.Common.{refl}
+use Rattle.trace_commands.proofs.Walked.{took_more}
+use Rattle.trace_commands.proofs.walk.TraceWalkByteTaker.take.Goals as goal
+
+pub returns : goal.returns
+returns c =
+    took_more c.take.result c.args.self.now (record { sys = c.args.self.now.sys; walker = c.take.new.self })
+    c.args.piece.now refl c.take.ensures

@@ -1,0 +1,42 @@
+-- A trace that is taken piece by piece.
+use Rattle.std.specs.Prelude.{◌≡◌, ℕ, List}
+use Rattle.tree_model.specs.View.{SystemView}
+use Rattle.tree_model.specs.Admission.{Assigned}
+use Rattle.tree_model.specs.Plans.{IsPlan}
+use Rattle.trace_file.specs.Fed.{HasChecked}
+use Rattle.auditor.specs.Pieces.{HasAudited}
+use Rattle.auditor.specs.declared.pieces.Audit.{Audit}
+use Rattle.command_steps.specs.declared.status.Status.{Status}
+use Rattle.command_steps.specs.declared.answer.Ending.{Ending}
+use Rattle.command_steps.specs.Attempt.{IsRefused, OnAttempt}
+use Rattle.command_steps.specs.Budgets.{assigning}
+use Rattle.command_steps.specs.Steps.{IfAnswered, EndsJudged}
+use Rattle.trace_commands.specs.declared.walk.TraceWalk.{TraceWalk}
+use Rattle.trace_commands.specs.declared.walk.Walker.{Walker}
+use Rattle.trace_commands.specs.declared.walk.Walker.TheVariants.{Audits, Checks}
+use Rattle.trace_commands.specs.Audit.{tracing}
+
+-- these budgets are assigned to the system, and under them these bytes were audited
+pub record IsAuditUnder (sys : SystemView) (bytes budgets : List ℕ) (audit : Audit) : Type 0 where
+  pub assigned : Assigned sys budgets
+  pub plan : IsPlan sys budgets
+  pub audited : HasAudited sys budgets bytes audit
+
+-- the refusal of the budgets, which waits
+pub record IsWaiting (sys : SystemView) (stop : Ending) : Type 0 where
+  pub refused : IfAnswered stop (λ a. IsRefused (assigning sys) a.status a.text.items)
+  pub judged : EndsJudged stop
+
+-- what walks over the trace of the system has taken these bytes
+abbrev pub HasWalked : SystemView → List ℕ → Walker → Type 0
+HasWalked sys bytes (Audits budgets audit) = IsAuditUnder sys bytes budgets audit
+HasWalked sys bytes (Checks check refused) = HasChecked sys bytes check × IsWaiting sys refused
+
+-- from one value to another a walk over the same system's trace took these bytes
+pub record HasTakenTrace (start now : TraceWalk) (bytes : List ℕ) : Type 0 where
+  pub same : now.sys.now ≡ start.sys.now
+  pub walked : HasWalked now.sys.now bytes now.walker
+
+-- the answer to bytes that are refused, or that spell a trace of a system whose budgets are refused
+abbrev pub IsUnaudited : SystemView → List ℕ → Status → List ℕ → Type 0
+IsUnaudited sys bytes = OnAttempt (tracing sys bytes) (λ events. IsRefused (assigning sys))

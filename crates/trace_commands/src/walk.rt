@@ -1,0 +1,136 @@
+ghost use Rattle.std.specs.Prelude.{◌≡◌, ◌⊎◌, ℕ, List, [], ◌++◌, IfOk, IfErr, OnOk};
+ghost use Rattle.csv_rows.specs.Reading.{records_of};
+ghost use Rattle.tree_model.specs.View.{SystemView};
+ghost use Rattle.trace_file.specs.declared.fault.TraceFault.TheVariants.{NoMemory as TraceNoMemory};
+ghost use Rattle.trace_file.specs.Fed.{HasChecked};
+ghost use Rattle.trace_file.specs.File.{IsFileFault, rows_of};
+ghost use Rattle.command_steps.specs.declared.answer.Ending.TheVariants.{NoMemory};
+ghost use Rattle.command_steps.specs.Attempt.{IsRefused};
+ghost use Rattle.command_steps.specs.Steps.{IfAnswered, EndsJudged};
+ghost use Rattle.trace_commands.specs.Audit.{tracing, IsTrace};
+ghost use Rattle.trace_commands.specs.inner.Walk.{HasWalked, HasTakenTrace, IsAuditUnder, IsUnaudited};
+
+use command_steps::{Ending, assigned, second_fault};
+use outside::ByteTaker;
+use auditor::Audit;
+use rt_report::FileFault;
+use std::alloc::{AllocError, Global};
+use trace_file::{TraceCheck, TraceFault};
+use tree_model::{Plan, System};
+
+/// What walks over a trace: an audit under the budgets that are assigned, or, where a part has
+/// none, a look at the rows alone, while the refusal waits.
+#[derive(Drop)]
+pub enum Walker<'s> {
+    Audits(Plan, Audit<'s>),
+    Checks(TraceCheck<'s>, Ending),
+}
+
+impl<'s> Walker<'s> {
+    /// Before the first byte.
+    fn new(alloc: Global, sys: &'s System) -> Result<Walker<'s>, Ending>
+        ensures fresh { IfOk result (HasWalked sys.now []) }
+        ensures refused { IfErr result (λ stop. stop ≡ NoMemory) }
+    {
+        match assigned(alloc, sys) {
+            Ok(plan) => {
+                let audit = Audit::new(alloc, sys, &plan)?;
+                Ok(Walker::Audits(plan, audit))
+            }
+            Err(Ending::NoMemory) => Err(Ending::NoMemory),
+            Err(refused) => {
+                let check = TraceCheck::new(alloc, sys)?;
+                Ok(Walker::Checks(check, refused))
+            }
+        }
+    }
+
+    /// Goes on over the next bytes.
+    fn take(&mut self, piece: &[u8]) -> Result<(), AllocError>
+        requires { (sys : SystemView) × (bytes : List ℕ) × HasWalked sys bytes self.old }
+        ensures { (sys : SystemView) (bytes : List ℕ) → HasWalked sys bytes self.old
+            → OnOk result (HasWalked sys (bytes ++ piece.now) self.new) }
+    {
+        match self {
+            Walker::Audits(_, audit) => audit.take(piece),
+            Walker::Checks(check, _) => check.take(piece),
+        }
+    }
+}
+
+/// A trace that is taken piece by piece.
+#[derive(Drop)]
+pub struct TraceWalk<'s> {
+    sys: &'s System,
+    walker: Walker<'s>,
+}
+
+impl<'s> TraceWalk<'s> {
+    /// Before the first byte.
+    pub fn new(alloc: Global, sys: &'s System) -> Result<TraceWalk<'s>, Ending>
+        ensures begun { IfOk result (λ walk. walk.sys.now ≡ sys.now) }
+        ensures fresh { IfOk result (λ walk. HasTakenTrace walk walk []) }
+        ensures refused { IfErr result (λ stop. stop ≡ NoMemory) }
+    {
+        let walker = Walker::new(alloc, sys)?;
+        Ok(TraceWalk { sys, walker })
+    }
+
+    /// The budgets and the audit of all bytes. It stops where the trace has a fault, and then where
+    /// a part has no budget.
+    pub fn audited(self, alloc: Global) -> Result<(Plan, Audit<'s>), Ending>
+        requires { (sys : SystemView) × (bytes : List ℕ) × HasWalked sys bytes self.walker }
+        ensures audited { (sys : SystemView) (bytes : List ℕ)
+            → HasWalked sys bytes self.entry.walker
+            → IfOk result (λ a. IsAuditUnder sys bytes a.0 a.1) }
+        ensures refused { (sys : SystemView) (bytes : List ℕ)
+            → HasWalked sys bytes self.entry.walker → IfErr result (λ stop.
+            IfAnswered stop (λ a. IsUnaudited sys bytes a.status a.text.items)) }
+        ensures judged { IfErr result (λ stop. EndsJudged stop) }
+    {
+        match self.walker {
+            Walker::Audits(plan, audit) => Ok((plan, audit)),
+            Walker::Checks(check, refused) => {
+                checked(alloc, check)?;
+                Err(refused)
+            }
+        }
+    }
+}
+
+impl<'s> ByteTaker for TraceWalk<'s> {
+    ghost has_taken = { HasTakenTrace };
+
+    fn take(&mut self, piece: &[u8]) -> Result<(), AllocError> {
+        self.walker.take(piece)
+    }
+}
+
+/// That the bytes spell a trace. It stops where they are refused.
+fn checked(alloc: Global, check: TraceCheck<'_>) -> Result<(), Ending>
+    requires { (sys : SystemView) × (bytes : List ℕ) × HasChecked sys bytes check }
+    ensures spelled { (sys : SystemView) (bytes : List ℕ) → HasChecked sys bytes check.entry
+        → IfOk result (λ done. IsTrace sys bytes) }
+    ensures refused { (sys : SystemView) (bytes : List ℕ) → HasChecked sys bytes check.entry
+        → IfErr result (λ stop. IfAnswered stop (λ a.
+        IsRefused (tracing sys bytes) a.status a.text.items)) }
+    ensures judged { IfErr result (λ stop. EndsJudged stop) }
+{
+    match check.finish() {
+        Ok(()) => Ok(()),
+        Err(fault) => Err(ended_at(alloc, fault)),
+    }
+}
+
+/// How a command ends at a fault of the trace.
+pub fn ended_at(alloc: Global, fault: TraceFault) -> Ending
+    ensures refused { (sys : SystemView) (bytes : List ℕ)
+        → (fault ≡ TraceNoMemory) ⊎ IsFileFault sys (rows_of (records_of bytes)) fault
+        → IfAnswered result (λ a. IsRefused (tracing sys bytes) a.status a.text.items) }
+    ensures judged { EndsJudged result }
+{
+    match fault {
+        TraceFault::NoMemory => Ending::NoMemory,
+        fault => second_fault(alloc, FileFault::Trace(fault)),
+    }
+}
