@@ -2,6 +2,7 @@ ghost use Rattle.std.specs.Prelude.{◌≡◌, ◌≤◌, ◌<◌, ◌+◌, [], 
 ghost use Rattle.toml.specs.Data.{get_member};
 ghost use Rattle.toml_items.specs.Item.{entries_view};
 ghost use Rattle.toml_items.specs.Plain.{path_of};
+ghost use Rattle.system_file.specs.declared.fault.Spot.TheVariants.{Task};
 ghost use Rattle.system_file.specs.Document.{spelled_core, spelled_task};
 ghost use Rattle.system_file.specs.Faults.{core_faults, task_faults};
 ghost use Rattle.system_file.specs.inner.Plain.{ReadsElement, ReadsList, ReadsPart, ReadsServer};
@@ -11,10 +12,10 @@ use crate::format::Format;
 use crate::keys::find;
 use crate::names::Names;
 use crate::parts::read_part;
-use crate::tasks::read_task;
+use crate::tasks::task_of;
 use crate::{Spot, SystemFault};
 use std::alloc::Global;
-use toml_items::{Entry, Header, Item, element, header_again, header_in, pairs};
+use toml_items::{Entry, Header, Item, element, header_again, header_in, pairs, pairs_into};
 use tree_model::{Core, Named, Part};
 
 /// A core, and the text behind it.
@@ -55,30 +56,24 @@ struct TaskThere<'t> {
     rest: &'t str,
 }
 
-/// The task at the front of a text, behind a header of its array.
+/// The task at the front of a text, whose pairs take the place of other entries.
 fn task_at<'t>(
     alloc: Global,
-    header: Header<'t>,
     text: &'t str,
+    entries: &mut Vec<Entry<'t>>,
     format: Format,
-    part: u32,
-    place: usize,
+    spot: Spot,
     names: &mut Names<'t>,
 ) -> Result<TaskThere<'t>, SystemFault>
-    requires { place ≤ 256 }
-    ensures { IfOk result (λ there. ReadsElement (task_faults format part) spelled_task
-        (path_of header.entry.parent ++ header.entry.key.now ∷ []) text.now place names.old
-        there.task names.new there.rest.now) }
+    ensures { IfOk result (λ there. (path : List (List ℕ)) (part place : ℕ) →
+        spot ≡ Task part place → ReadsElement (task_faults format part) spelled_task path
+        text.now place names.old there.task names.new there.rest.now) }
 {
-    let Some(found) = element(alloc, header, text)? else {
+    let Some(rest) = pairs_into(alloc, entries, text)? else {
         return Err(SystemFault::NotToml);
     };
-    let value = Item::Table(found.entries);
-    let task = read_task(alloc, &value, format, Spot::Task(part, place as u32), names)?;
-    Ok(TaskThere {
-        task,
-        rest: found.rest,
-    })
+    let task = task_of(alloc, entries, format, spot, names)?;
+    Ok(TaskThere { task, rest })
 }
 
 /// Tasks, and the text behind them.
@@ -102,9 +97,11 @@ fn tasks_from<'t>(
 {
     names.clear();
     let mut tasks = Vec::new(alloc);
+    let mut entries = Vec::new(alloc);
     let mut rest = header.rest;
     'elements: while tasks.len() < 256 {
-        let there = task_at(alloc, header, rest, format, part, tasks.len(), names)?;
+        let spot = Spot::Task(part, tasks.len() as u32);
+        let there = task_at(alloc, rest, &mut entries, format, spot, names)?;
         tasks.push(there.task)?;
         match header_again(header, there.rest) {
             Some(after) => rest = after,

@@ -35,7 +35,7 @@ fn numbers_at(table: &[Entry<'_>], spot: Spot) -> Result<Task, SystemFault>
 }
 
 /// A task, whose name is put behind the names of the tasks before it.
-pub fn read_task<'t>(
+fn read_task<'t>(
     alloc: Global,
     value: &Item<'t>,
     format: Format,
@@ -53,6 +53,28 @@ pub fn read_task<'t>(
         first_of found ≡ Some fault) }
 {
     let table = table_of(value, spot)?;
+    task_of(alloc, table, format, spot, names)
+}
+
+/// The task of a table, whose name is put behind the names of the tasks before it.
+pub fn task_of<'t>(
+    alloc: Global,
+    table: &[Entry<'t>],
+    format: Format,
+    spot: Spot,
+    names: &mut Names<'t>,
+) -> Result<Named, SystemFault>
+    ensures ok { IfOk result (λ named. (earlier : List Data) → HaveNames earlier names.old →
+        let d = toml_table (entries_view table.now) in
+        (table_faults spot (keys format) (task_key_faults spot earlier d) d ≡ [])
+        × (named ≡ spelled_task d)
+        × HaveNames (earlier ++ d ∷ []) names.new) }
+    ensures fault { IfErr result (λ fault. fault ≢ NoMemory →
+        (earlier : List Data) → HaveNames earlier names.old →
+        let d = toml_table (entries_view table.now) in
+        let found = table_faults spot (keys format) (task_key_faults spot earlier d) d in
+        first_of found ≡ Some fault) }
+{
     check_keys(table, task_keys(format), spot)?;
     let name = name_at(alloc, table, names, spot)?;
     let task = numbers_at(table, spot)?;

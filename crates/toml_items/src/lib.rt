@@ -13,5 +13,7 @@ mod table;
 pub use document::{Document, DocumentFault, read_document};
 pub use item::{Entry, Item};
 pub use line::Header;
-pub use plain::{Body, array_at, element, header_again, header_in, is_end, pairs, top_pairs};
+pub use plain::{
+    Body, array_at, element, header_again, header_in, is_end, pairs, pairs_into, top_pairs,
+};
 pub use table::table_entries;

@@ -162,19 +162,34 @@ pub fn pairs(alloc: Global, text: &str) -> Result<Option<Body<'_>>, AllocError>
         length t.rest.now ≤ length text.now)) }
 {
     let mut entries = Vec::new(alloc);
+    match pairs_into(alloc, &mut entries, text)? {
+        Some(rest) => Ok(Some(Body { entries, rest })),
+        None => Ok(None),
+    }
+}
+
+/// The text behind these pairs, which take the place of other entries.
+pub fn pairs_into<'t>(
+    alloc: Global,
+    entries: &mut Vec<Entry<'t>>,
+    text: &'t str,
+) -> Result<Option<&'t str>, AllocError>
+    ensures reads { IfOk result (λ found. IfSome found (λ rest. (path : List (List ℕ)) →
+        ReadsTable path text.now (entries_view entries.new.items) rest.now)) }
+    ensures within { IfOk result (λ found. IfSome found (λ rest.
+        length rest.now ≤ length text.now)) }
+{
+    entries.clear();
     let mut rest = text;
     'pairs: loop {
         let start = after_blank(rest);
         if start.is_empty() || first(start) == b'[' {
-            return Ok(Some(Body {
-                entries,
-                rest: start,
-            }));
+            return Ok(Some(start));
         }
         let Some(pair) = pair_at(alloc, start) else {
             return Ok(None);
         };
-        if !put_entry(&mut entries, pair.key, pair.item)? {
+        if !put_entry(entries, pair.key, pair.item)? {
             return Ok(None);
         }
         rest = pair.rest;

@@ -1,13 +1,11 @@
 use Rattle.toml_items.specs.Item.{entries_view}
-use Rattle.toml_items.proofs.Items.{item_view-Table}
 use Rattle.system_file.proofs.at_front.task_at.Goals as goal
 
 pub returns : goal.returns
-returns c =
-    let found = c.in-Some.found in
-    let ok = rw (item_view-Table found.entries) at c.in_ok-task.ensures.ok in
+returns c path part place here =
+    let ok = rw (c.deref.ensures.value, here) at c.in_ok-task.ensures.ok in
     record {
-      members = entries_view found.entries.items;
-      reads = rw c.in-Some.is at c.in_ok-found.ensures.reads;
+      members = entries_view c.pairs_into.new.entries.items;
+      reads = (rw c.in-Some.is at c.in_ok-rest.ensures.reads) path;
       ok = λ earlier many have. rw many (ok earlier have);
     }

@@ -1,4 +1,4 @@
-use Rattle.std.proofs.Common.{arith, rules}
+use Rattle.std.proofs.Common.{arith, refl, rules}
 use Rattle.toml_items.specs.Plain.{path_of}
 use Rattle.system_file.specs.Document.{spelled_task}
 use Rattle.system_file.specs.Faults.{task_faults}
@@ -17,11 +17,11 @@ pub elements-preserved : goal.elements-preserved
 elements-preserved c = record {
   is_text = search rules;
   so_far = rw c.in_ok-push.ensures.items
-      (one_more c.elements.invariant.so_far c.in_ok-there.ensures (omega arith) c.in-Some.after.now
+      (one_more c.elements.invariant.so_far (c.in_ok-there.ensures _ _ _ refl) (omega arith) c.in-Some.after.now
       c.in-Some.ensures.line);
 }
 
 pub returns-in-None : goal.returns-in-None
 returns-in-None c =
     rw c.in_ok-push.ensures.items
-    (with_last c.elements.invariant.so_far c.in_ok-there.ensures (omega arith) 256 (omega arith))
+    (with_last c.elements.invariant.so_far (c.in_ok-there.ensures _ _ _ refl) (omega arith) 256 (omega arith))

@@ -3,7 +3,7 @@ use denote.Text.{Utf8}
 use denote.Shadow.{shadow}
 use Rattle.toml_items.specs.Item.{entries_view}
 use Rattle.toml_items.proofs.Going.{ReadsPairs}
-use Rattle.toml_items.proofs.plain.pairs.Given as goal
+use Rattle.toml_items.proofs.plain.pairs_into.Given as goal
 
 abbrev pub invariant-pairs : goal.invariant-pairs
 invariant-pairs l = record {

@@ -3,13 +3,13 @@ use Rattle.toml.specs.Tables.{key_value}
 use Rattle.toml_items.specs.Item.{item_view, entries_view}
 use Rattle.toml_items.specs.Plain.{IsLine}
 use Rattle.toml_items.proofs.Going.{no_pairs, one_more_pair, table_of_pairs}
-use Rattle.toml_items.proofs.plain.pairs.Goals as goal
+use Rattle.toml_items.proofs.plain.pairs_into.Goals as goal
 
 pub pairs-init : goal.pairs-init
 pairs-init c = record {
   is_text = search rules;
   within = le_refl _;
-  reads = rw c.new-entries.ensures.items (no_pairs c.args.text.now);
+  reads = rw c.clear.ensures.items (no_pairs c.args.text.now);
 }
 
 pub returns-then-is_empty-clause-reads : goal.returns-then-is_empty-clause-reads
