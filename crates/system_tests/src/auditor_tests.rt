@@ -1,10 +1,11 @@
+ghost use Rattle.std.specs.Prelude.{◌≤◌, length};
 ghost use Rattle.tree_model.specs.Plans.{IsPlan};
 
-use crate::helpers::{planned, system_of};
-use auditor::{Finding, Tally, audit, audit_bytes, tally_bytes};
-use std::alloc::Global;
+use crate::helpers::{MEMORY, planned, system_of};
+use auditor::{Audit, Finding, Tally, audit, audit_bytes, tally_bytes};
+use std::alloc::{AllocError, Global};
 use std::process::Abort;
-use trace_file::{TraceFault, read_trace};
+use trace_file::{TraceCheck, TraceFault, check_bytes, read_trace};
 use tree_model::{Plan, System};
 
 /// A, with extra time, and B, without, on one full core, 3 and 4 slots in every 10.
@@ -77,6 +78,40 @@ fn a_text_is_audited_as_its_events(rt: HostRuntime) {
             found_of_events(rt.alloc(), &sys, &plan, text) == told,
             "{text}"
         );
+    }
+}
+
+/// What is found of a text that is taken in two pieces, and whether it is a trace.
+fn in_two(
+    alloc: Global,
+    sys: &System,
+    plan: &Plan,
+    text: &[u8],
+    at: usize,
+) -> Result<(Result<Finding, TraceFault>, Result<(), TraceFault>), AllocError>
+    requires plan { IsPlan sys.now plan.now }
+    requires within { at ≤ length text.now }
+{
+    let mut audit = Audit::new(alloc, sys, plan)?;
+    audit.take(&text[..at])?;
+    audit.take(&text[at..])?;
+    let mut check = TraceCheck::new(alloc, sys)?;
+    check.take(&text[..at])?;
+    check.take(&text[at..])?;
+    Ok((audit.finish(), check.finish()))
+}
+
+#[test]
+fn a_text_is_audited_in_any_pieces(rt: HostRuntime) {
+    let sys = system_of(&rt, rt.alloc(), HOST);
+    let plan = planned(&rt, rt.alloc(), &sys);
+    for (text, found) in &CASES {
+        let text = text.as_bytes();
+        let checked = check_bytes(rt.alloc(), &sys, text);
+        for at in 0..=text.len() {
+            let told = in_two(rt.alloc(), &sys, &plan, text, at).expect(&rt, MEMORY);
+            assert!(rt; told == (*found, checked), "{at}");
+        }
     }
 }
 

@@ -1,7 +1,10 @@
+ghost use Rattle.std.specs.Prelude.{◌≤◌, length};
 ghost use Rattle.csv_rows.specs.Reading.{IsOpen};
 
 use crate::helpers::MEMORY;
-use csv_rows::{Plain, Records, RowWriter, is_plain, number, plain_number};
+use csv_rows::{
+    Plain, RecordFeed, RecordTaker, Records, Row, RowWriter, is_plain, number, plain_number,
+};
 use std::alloc::{AllocError, Global};
 use std::process::Abort;
 
@@ -67,6 +70,60 @@ const PLAIN: &str = "\n\nat,what\n\n7,\n,\n8,x";
 fn a_plain_text_is_split(rt: HostRuntime) {
     let read = &[("at", "what"), ("7", ""), ("", ""), ("8", "x")];
     are_pairs(&rt, rt.alloc(), PLAIN, read);
+}
+
+/// Writes what it takes, a bar behind each field and a slash behind each record.
+#[derive(Drop)]
+struct Written {
+    text: Vec<u8>,
+}
+
+impl RecordTaker for Written {
+    ghost has_taken = { λ start now records. Unit {0} };
+
+    fn take(&mut self, row: &Row) -> Result<(), AllocError> {
+        for i in 0..row.len() {
+            self.text.extend_from_slice(row.get(i).unwrap_or(&[]))?;
+            self.text.push(b'|')?;
+        }
+        self.text.push(b'/')?;
+        Ok(())
+    }
+}
+
+/// What is written of a text that is taken in three pieces.
+fn in_three(alloc: Global, text: &[u8], from: usize, to: usize) -> Result<Written, AllocError>
+    requires ordered { from ≤ to }
+    requires within { to ≤ length text.now }
+{
+    let written = Written {
+        text: Vec::new(alloc),
+    };
+    let mut feed = RecordFeed::new(alloc, written);
+    feed.take(&text[..from])?;
+    feed.take(&text[from..to])?;
+    feed.take(&text[to..])?;
+    feed.finish()
+}
+
+/// With a mark that is no front of the text, and a quote in its last record.
+const MARKED: &str = "a,b\n\u{FEFF}c,d\r\ne,\"f\n\"";
+
+#[test]
+fn a_text_is_taken_in_any_pieces(rt: HostRuntime) {
+    for (text, wanted) in [
+        (PLAIN, "at|what|/7||/||/8|x|/"),
+        (QUOTED, "a\"b|c|/x,\"y\"\r\n|pq|/|z|/"),
+        (MARKED, "a|b|/\u{FEFF}c|d|/e|f\n|/"),
+    ] {
+        let text = text.as_bytes();
+        for to in 0..=text.len() {
+            for from in 0..=to {
+                let written = in_three(rt.alloc(), text, from, to).expect(&rt, MEMORY);
+                assert!(rt; written.text.as_slice() == wanted.as_bytes(), "{from} {to}");
+            }
+        }
+    }
 }
 
 #[test]
