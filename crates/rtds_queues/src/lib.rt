@@ -6,4 +6,4 @@ mod account;
 mod queues;
 
 pub use account::{Account, PAST_ALL};
-pub use queues::Queues;
+pub use queues::{Queues, put_numbers};

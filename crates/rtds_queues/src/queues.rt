@@ -1,6 +1,6 @@
-ghost use Rattle.std.specs.Prelude.{◌≡◌, ◌<◌, length};
+ghost use Rattle.std.specs.Prelude.{◌≡◌, ◌<◌, length, slice_set};
 ghost use Rattle.tree_model.specs.System.{part_at};
-ghost use Rattle.rtds_queues.specs.Accounts.{account_eligible, is_ahead};
+ghost use Rattle.rtds_queues.specs.Accounts.{account_at, account_eligible, is_ahead};
 
 use crate::account::Account;
 use tree_model::{MAX_CORES, MAX_PARTS, Parent, System};
@@ -67,7 +67,10 @@ impl Queues {
     {
         prove!(sys.parts().len() <= MAX_PARTS);
         match sys.parts()[v as usize].parent() {
-            Parent::Core(core) => self.set_on(sys, accounts, core, v, account),
+            Parent::Core(core) => {
+                self.take_out(sys, accounts, core, v, account);
+                self.stand(sys, accounts, core, v);
+            }
             Parent::Part(_) => {
                 accounts[v as usize] = account;
                 self.inside[v as usize] = is_eligible(sys, v, account);
@@ -75,7 +78,7 @@ impl Queues {
         }
     }
 
-    /// Sets the account of VCPU `v` of core `core`.
+    /// Sets the account of VCPU `v` of core `core`, which is started and blocked as before.
     #[inline(always)]
     pub fn set_on(
         &mut self,
@@ -89,13 +92,32 @@ impl Queues {
         requires is_core { core < length sys.now.cores }
         requires is_part { v < length sys.now.parts }
         requires on_core { is_child sys.now (Core core) v ≡ true }
+        requires started { account.started ≡ (account_at accounts.old v).started }
+        requires blocked { account.blocked ≡ (account_at accounts.old v).blocked }
         ensures are { AreQueues sys.now accounts.new self.new }
         ensures accounts { accounts.new ≡ slice_set accounts.old v account }
         ensures inside { self.new.inside ≡ slice_set self.old.inside v
             (account_eligible account (part_at sys.now v).extra) }
     {
-        self.take_out(sys, accounts, core, v, account);
-        if is_eligible(sys, v, account) {
+        self.leave(sys, accounts, core, v);
+        put_numbers(accounts, v, account);
+        self.stand(sys, accounts, core, v);
+    }
+
+    /// Lets VCPU `v` of core `core`, which stands out of its queue, stand in it where it is
+    /// eligible.
+    #[inline(always)]
+    fn stand(&mut self, sys: &System, accounts: &[Account], core: u32, v: u32)
+        requires are { AreQueues sys.now accounts.now self.old }
+        requires is_core { core < length sys.now.cores }
+        requires is_part { v < length sys.now.parts }
+        requires on_core { is_child sys.now (Core core) v ≡ true }
+        requires out { stands_in self.old v ≡ false }
+        ensures are { AreQueues sys.now accounts.now self.new }
+        ensures inside { self.new.inside ≡ slice_set self.old.inside v
+            (account_eligible (account_at accounts.now v) (part_at sys.now v).extra) }
+    {
+        if is_eligible(sys, v, accounts[v as usize]) {
             self.enter(sys, accounts, core, v);
         }
     }
@@ -123,6 +145,22 @@ impl Queues {
             at = self.next[at as usize];
         }
         last
+    }
+
+    /// The same for one that mostly stands first.
+    #[inline(always)]
+    fn ahead_of(&self, sys: &System, accounts: &[Account], core: u32, v: u32) -> Option<u32>
+        requires are { AreQueues sys.now accounts.now self.now }
+        requires is_core { core < length sys.now.cores }
+        requires is_part { v < length sys.now.parts }
+        ensures { IsLastOf
+            (λ u. is_queued sys.now self.now core u && is_ahead accounts.now u v)
+            (is_ahead accounts.now) (length sys.now.parts) result }
+    {
+        if self.first[core as usize] == v {
+            return None;
+        }
+        self.last_ahead(sys, accounts, core, v)
     }
 
     /// Lets VCPU `v` of core `core`, which stands out of its queue, stand in it.
@@ -183,7 +221,7 @@ impl Queues {
         ensures inside { self.new.inside ≡ slice_set self.old.inside v false }
     {
         if self.inside[v as usize] {
-            let ahead = self.last_ahead(sys, accounts, core, v);
+            let ahead = self.ahead_of(sys, accounts, core, v);
             self.inside[v as usize] = false;
             match ahead {
                 None => self.first[core as usize] = self.next[v as usize],
@@ -191,6 +229,20 @@ impl Queues {
             }
         }
     }
+}
+
+/// Sets the account of VCPU `v`, which is started and blocked as before: the numbers alone.
+#[inline(always)]
+pub fn put_numbers(accounts: &mut [Account], v: u32, account: Account)
+    requires is_part { v < length accounts.old }
+    requires started { account.started ≡ (account_at accounts.old v).started }
+    requires blocked { account.blocked ≡ (account_at accounts.old v).blocked }
+    ensures { accounts.new ≡ slice_set accounts.old v account }
+{
+    let its = &mut accounts[v as usize];
+    its.until = account.until;
+    its.level = account.level;
+    its.left = account.left;
 }
 
 /// Whether VCPU `u` goes before VCPU `v`.

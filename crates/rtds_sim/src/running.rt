@@ -8,7 +8,7 @@ use crate::host::{Host, budget_of};
 use crate::members::Members;
 use crate::moment::moment_of_slot;
 use crate::switches::Switches;
-use rtds_queues::Account;
+use rtds_queues::{Account, put_numbers};
 use slot_model::LIMIT;
 use std::alloc::AllocError;
 use trace_file::{Event, What};
@@ -249,7 +249,7 @@ impl Host {
         if let Some(v) = self.holders[core] {
             let account = account_of(&self.accounts, v);
             if slots < account.left {
-                self.accounts[v as usize] = account.using(slots);
+                put_numbers(&mut self.accounts, v, account.using(slots));
             } else {
                 let account = account.had_budget(budget_of(plan, v));
                 self.set_on(sys, core, v, account);
@@ -316,13 +316,15 @@ impl Host {
         self.set_on(sys, core, v, account);
     }
 
-    /// Sets the account of VCPU `v` of core `core`.
+    /// Sets the account of VCPU `v` of core `core`, which is started and blocked as before.
     #[inline(always)]
     fn set_on(&mut self, sys: &System, core: usize, v: u32, account: Account)
         requires ready { IsReady sys.now self.old }
         requires is_core { core < length sys.now.cores }
         requires is_part { v < length sys.now.parts }
         requires on_core { is_child sys.now (Core core) v ≡ true }
+        requires started { account.started ≡ (account_at self.old.accounts v).started }
+        requires blocked { account.blocked ≡ (account_at self.old.accounts v).blocked }
         requires sound { IsSound self.old.time account }
         ensures ready { IsReady sys.now self.new }
         ensures accounts { self.new.accounts ≡ slice_set self.old.accounts v account }

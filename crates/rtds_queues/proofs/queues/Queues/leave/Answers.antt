@@ -5,11 +5,11 @@ use Rattle.rtds_queues.proofs.queues.Queues.leave.Goals as goal
 pub returns-in-None-clause-are : goal.returns-in-None-clause-are
 returns-in-None-clause-are c =
     leaves_front c.args.sys.now c.args.accounts.now c.args.self.now c.requires.are c.args.v c.requires.is_part false
-    c.args.core c.requires.is_core c.requires.on_core c.last_ahead-ahead.result c.last_ahead-ahead.ensures c.in-None.is
+    c.args.core c.requires.is_core c.requires.on_core c.ahead_of-ahead.result c.ahead_of-ahead.ensures c.in-None.is
     c.if-self-v.true refl
 
 pub returns-in-Some-clause-are : goal.returns-in-Some-clause-are
 returns-in-Some-clause-are c =
     leaves_behind c.args.sys.now c.args.accounts.now c.args.self.now c.requires.are c.args.v c.requires.is_part false
-    c.args.core c.requires.is_core c.requires.on_core c.last_ahead-ahead.result c.last_ahead-ahead.ensures c.in-Some.u
+    c.args.core c.requires.is_core c.requires.on_core c.ahead_of-ahead.result c.ahead_of-ahead.ensures c.in-Some.u
     c.in-Some.is c.if-self-v.true refl

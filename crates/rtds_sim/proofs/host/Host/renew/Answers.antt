@@ -19,3 +19,9 @@ set_on-requires-clause-sound c =
 pub returns-clause-accounts : goal.returns-clause-accounts
 returns-clause-accounts c =
     c.set_on.ensures.accounts ∙ ap (set c.args.self.now.accounts c.args.v) c.next_account-account.ensures
+
+pub set_on-requires-clause-started : goal.set_on-requires-clause-started
+set_on-requires-clause-started c = ap (λ (a : Account). a.started) c.next_account-account.ensures
+
+pub set_on-requires-clause-blocked : goal.set_on-requires-clause-blocked
+set_on-requires-clause-blocked c = ap (λ (a : Account). a.blocked) c.next_account-account.ensures
