@@ -1,7 +1,7 @@
 ghost use Rattle.std.specs.Prelude.{refl};
 ghost use Rattle.admit_commands.specs.Admit.{AdmitsSystem, the_admit};
 
-use command_steps::{Answer, Ending, JudgeOne, Status, admitted};
+use command_steps::{Answer, Ending, JudgeOne, Status, admitted_edges};
 use miss_witness::replay_all;
 use rt_report::admit_text;
 use std::alloc::Global;
@@ -20,11 +20,11 @@ impl JudgeOne for Admit {
     ghost laws = { λ s file. record { files = refl; answers = λ contents status text said. said } };
 
     fn judge(&self, alloc: Global, sys: &System) -> Result<Answer, Ending> {
-        let plan = admitted(alloc, sys)?;
-        let replays = replay_all(alloc, sys, &plan)?;
+        let composed = admitted_edges(alloc, sys)?;
+        let replays = replay_all(alloc, sys, &composed)?;
         Ok(Answer {
             status: Status::Yes,
-            text: admit_text(alloc, sys, &plan, &replays)?,
+            text: admit_text(alloc, sys, &composed.plan, &replays)?,
         })
     }
 }

@@ -13,6 +13,6 @@ pub use answer::{Answer, Ending, ended};
 pub use file::{bad_file, second_fault};
 pub use leaf::{find_leaf, part_at};
 pub use one_file::{JudgeOne, over_one};
-pub use refusing::{admitted, assigned, refuse};
+pub use refusing::{admitted, admitted_edges, assigned, refuse};
 pub use status::Status;
 pub use two_files::{JudgePieces, JudgeTwo, over_pieces, over_two};

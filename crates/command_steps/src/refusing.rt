@@ -1,6 +1,7 @@
 ghost use Rattle.std.specs.Prelude.{◌≡◌, IfOk, IfErr};
 ghost use Rattle.tree_model.specs.Admission.{Admitted, Assigned};
 ghost use Rattle.tree_model.specs.Plans.{IsPlan};
+ghost use Rattle.compose_tree.specs.Shorts.{AreShorts};
 ghost use Rattle.rt_report.specs.Refusal.{refusal_text, IsRefusalOf};
 ghost use Rattle.command_steps.specs.Attempt.{IsRefused};
 ghost use Rattle.command_steps.specs.Budgets.{assigning, composing, refusal_status};
@@ -8,7 +9,7 @@ ghost use Rattle.command_steps.specs.Steps.{IfAnswered, IsJudged, EndsJudged};
 
 use crate::Status;
 use crate::answer::{Answer, Ending};
-use compose_tree::{assign, compose};
+use compose_tree::{Composed, assign, compose, compose_edges};
 use rt_report::refusal_text;
 use std::alloc::{AllocError, Global};
 use tree_model::{Plan, Refusal, System};
@@ -59,6 +60,24 @@ pub fn admitted(alloc: Global, sys: &System) -> Result<Plan, Ending>
 {
     match compose(alloc, sys) {
         Ok(plan) => Ok(plan),
+        Err(Refusal::NoMemory) => Err(Ending::NoMemory),
+        Err(refusal) => Err(Ending::Answered(refuse(alloc, sys, refusal)?)),
+    }
+}
+
+/// The same, with what is short first of each leaf whose budget is computed with one slot less.
+#[tactic(auto, using(crate::proofs::Budgets::refusal_told))]
+pub fn admitted_edges(alloc: Global, sys: &System) -> Result<Composed, Ending>
+    ensures admitted { IfOk result (λ composed. Admitted sys.now composed.plan) }
+    ensures plan { IfOk result (λ composed. IsPlan sys.now composed.plan) }
+    ensures shorts { IfOk result
+        (λ composed. AreShorts sys.now composed.plan composed.shorts.items) }
+    ensures refused { IfErr result (λ stop. IfAnswered stop (λ a.
+        IsRefused (composing sys.now) a.status a.text.items)) }
+    ensures judged { IfErr result (λ stop. EndsJudged stop) }
+{
+    match compose_edges(alloc, sys) {
+        Ok(composed) => Ok(composed),
         Err(Refusal::NoMemory) => Err(Ending::NoMemory),
         Err(refusal) => Err(Ending::Answered(refuse(alloc, sys, refusal)?)),
     }

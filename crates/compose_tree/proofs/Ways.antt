@@ -1,6 +1,6 @@
 -- Where every node but one and that on which it stands is settled, all that is visited before it
 -- is. Once it is settled too, every node is but that on which it stands and the one under that.
-use Rattle.std.proofs.Common.{◌≡◌, ◌≢◌, ℕ, suc, ◌<◌, ◌≤◌, true, Result, Ok, Err, IfOk, List, length, set, arith, refl, sym, ◌∙◌, ap, subst, inl, inr, length-set, get_or-set_other}
+use Rattle.std.proofs.Common.{◌≡◌, ◌≢◌, ℕ, suc, ◌<◌, ◌≤◌, true, List, length, set, arith, refl, sym, ◌∙◌, ap, subst, inl, inr, length-set, get_or-set_other}
 use Rattle.std.proofs.lemmas.Bool.{cases_Bool, cases_eq, eqb-true, false≢true}
 use Rattle.tree_model.specs.declared.place.Parent.{Parent}
 use Rattle.tree_model.specs.declared.place.Parent.TheVariants.{Core as on_core, Part as on_part}
@@ -70,12 +70,11 @@ pub pass_later : (sys : SystemView) → IsSystem sys → (kept : List ℕ) (node
 pass_later sys is kept node keeps = λ r g h. (settled_later sys is kept node keeps r g h).passes
 
 -- a part whose budget is written after all later ones is settled
-pub settles : {E : Type 0} (sys : SystemView) (kept : List ℕ) (q : ℕ) → q < length sys.parts → (result : Result ℕ E)
-    → IfOk result (λ b. AssignedFrom sys (set kept q b) q) → IfOk result (λ b. PartsPassFrom sys (set kept q b) q)
-    → IfOk result (λ b. IsSettledNode sys (set kept q b) (Part q))
-settles sys kept q h (Ok b) assigned pass =
+pub settles : (sys : SystemView) (kept : List ℕ) (q : ℕ) → q < length sys.parts → (budget : ℕ)
+    → AssignedFrom sys (set kept q budget) q → PartsPassFrom sys (set kept q budget) q
+    → IsSettledNode sys (set kept q budget) (Part q)
+settles sys kept q h budget assigned pass =
     record { stands = assigned.stands q (omega arith) h; passes = pass q (omega arith) h }
-settles sys kept q h (Err e) assigned pass = tt
 
 -- and then so is every node but that on which it stands, and the one under that
 pub kept_up : (sys : SystemView) → IsSystem sys → (kept : List ℕ) (q : ℕ) → IsKept sys kept (Part q) → (budget : ℕ)

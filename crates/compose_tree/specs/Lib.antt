@@ -1,3 +1,4 @@
 pub mod Truth
 pub mod Steps
 pub mod Kept
+pub mod Shorts

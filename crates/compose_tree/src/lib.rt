@@ -7,5 +7,5 @@ mod nodes;
 mod recomposition;
 
 pub use assignment::assign;
-pub use budgets::compose;
+pub use budgets::{Composed, compose, compose_edges};
 pub use recomposition::{recompose, resettle_part, retest_core};

@@ -6,6 +6,7 @@ ghost use Rattle.compose_tree.specs.Steps.{RefusesAt};
 ghost use Rattle.compose_tree.specs.Kept.{under, IsKept, IsSettledNode};
 
 use crate::budgets::{settle_part, test_core};
+use crate::nodes::Asked;
 use slot_model::Task;
 use std::mem;
 use tree_model::{MAX_PARTS, Place, Plan, Refusal, System};
@@ -81,7 +82,10 @@ pub fn resettle_part(
 {
     // the parts of a system keep its rules
     let _parts = sys.parts();
-    settle_part(sys, budgets, q, room)
+    match settle_part(sys, budgets, q, room, Asked::Least) {
+        Ok(settled) => Ok(settled.budget),
+        Err(refusal) => Err(refusal),
+    }
 }
 
 /// Tests core `c`, where these budgets settle every other node.

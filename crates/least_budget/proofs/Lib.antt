@@ -2,6 +2,7 @@ pub mod Level
 pub mod Decide
 pub mod Budgets
 mod Testing
+mod Gathered
 mod Rate
 mod Between
 mod Cuts

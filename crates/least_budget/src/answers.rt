@@ -22,3 +22,11 @@ pub enum Least {
     /// The horizon passes 2^128 - 2 slots.
     Wide,
 }
+
+/// The least budget, and what is short first with one slot less: None where no budget passes, or
+/// the least one is 0.
+#[derive(Clone, Copy, Debug, PartialEq, Eq)]
+pub struct Edge {
+    pub least: Least,
+    pub below: Option<Short>,
+}

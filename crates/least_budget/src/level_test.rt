@@ -1,12 +1,13 @@
-ghost use Rattle.std.specs.Prelude.{◌≢◌, ◌^◌, ◌<◌, length};
+ghost use Rattle.std.specs.Prelude.{◌^◌, ◌<◌, ◌≤◌, length};
 ghost use Rattle.slot_model.specs.Task.{sporadic_tasks};
 ghost use Rattle.slot_model.specs.Order.{before_of};
 ghost use Rattle.least_budget.specs.Answers.{IsTested, Foretells};
 
 use crate::Tested;
+use crate::gathered_level::Level;
 use crate::lowest::{has_hit_within, hit_of_lowest};
-use edf_demand::{DemandLevel, horizon};
-use edf_test::first_short_of;
+use edf_demand::horizon;
+use edf_test::{LinedLevel, first_short_by};
 use fp_request::RankedLevel;
 use slot_model::{Sched, Short, Task};
 use supply_bound::Supply;
@@ -21,98 +22,46 @@ pub fn test<S: Supply>(sched: Sched, tasks: &[Task], s: &S) -> Tested
     ensures foretells { let T = sporadic_tasks tasks.now in
         Foretells (S.conforms s.now) (before_of sched T) T result }
 {
-    match sched {
-        Sched::Edf => test_windows(tasks, s),
-        _ => test_tasks(sched, tasks, s),
-    }
-}
-
-fn test_windows<S: Supply>(tasks: &[Task], s: &S) -> Tested
-    ensures { let T = sporadic_tasks tasks.now in
-        IsTested Sched.Edf T (S.bound s.now) (S.cycle_of s.now) result }
-{
     if tasks.len() <= FEW {
-        test_by_windows(&DemandLevel::gather(tasks, &mut [Term::none(); FEW]), s)
+        test_in::<FEW, S>(sched, tasks, s)
     } else {
-        test_many_windows(tasks, s)
+        test_in::<KEPT, S>(sched, tasks, s)
     }
 }
 
-/// The same apart, since a function pays at its entry for all the room that it may need.
+/// The same in room for so many terms. It stands apart, since a function pays at its entry for all
+/// the room that it may need.
 #[inline(never)]
-fn test_many_windows<S: Supply>(tasks: &[Task], s: &S) -> Tested
-    ensures { let T = sporadic_tasks tasks.now in
-        IsTested Sched.Edf T (S.bound s.now) (S.cycle_of s.now) result }
+fn test_in<const ROOM: usize, S: Supply>(sched: Sched, tasks: &[Task], s: &S) -> Tested
+    requires few { length tasks.now < 2 ^ 32 }
+    requires room { ROOM ≤ 512 }
+    ensures exact { IsTested sched (sporadic_tasks tasks.now) (S.bound s.now)
+        (S.cycle_of s.now) result }
+    ensures foretells { let T = sporadic_tasks tasks.now in
+        Foretells (S.conforms s.now) (before_of sched T) T result }
 {
-    test_by_windows(&DemandLevel::gather(tasks, &mut [Term::none(); KEPT]), s)
+    let mut room = [Term::none(); ROOM];
+    let level = Level::gather(sched, tasks, &mut room);
+    level.test::<ROOM, S>(s)
 }
 
-/// The same of a level.
-fn test_by_windows<S: Supply>(level: &DemandLevel, s: &S) -> Tested
-    ensures { let T = sporadic_tasks level.now.tasks.now in
+/// The test of a level under earliest deadline first.
+pub fn test_by_windows<S: Supply>(lined: &LinedLevel, s: &S) -> Tested
+    ensures { let T = sporadic_tasks lined.now.level.tasks.now in
         IsTested Sched.Edf T (S.bound s.now) (S.cycle_of s.now) result }
 {
-    let Some(h) = horizon(level.tasks, s.cycle()) else {
+    let Some(h) = horizon(lined.level.tasks, s.cycle()) else {
         return Tested::Wide;
     };
-    match first_short_of(level, s, h) {
+    match first_short_by(lined, s, h) {
         Some(t) => Tested::Short(Short::At(t)),
         None => Tested::Passes,
     }
 }
 
-/// The same under a fixed rank, which needs no horizon.
-fn test_tasks<S: Supply>(sched: Sched, tasks: &[Task], s: &S) -> Tested
-    requires fixed { sched ≢ Sched.Edf }
-    requires few { length tasks.now < 2 ^ 32 }
-    ensures { IsTested sched (sporadic_tasks tasks.now) (S.bound s.now) (S.cycle_of s.now) result }
-{
-    if tasks.len() <= FEW {
-        test_tasks_by(
-            &mut [Term::none(); FEW],
-            &mut [Term::none(); FEW],
-            sched,
-            tasks,
-            s,
-        )
-    } else {
-        test_many_tasks(sched, tasks, s)
-    }
-}
-
-/// The same apart, since a function pays at its entry for all the room that it may need.
-#[inline(never)]
-fn test_many_tasks<S: Supply>(sched: Sched, tasks: &[Task], s: &S) -> Tested
-    requires fixed { sched ≢ Sched.Edf }
-    requires few { length tasks.now < 2 ^ 32 }
-    ensures { IsTested sched (sporadic_tasks tasks.now) (S.bound s.now) (S.cycle_of s.now) result }
-{
-    test_tasks_by(
-        &mut [Term::none(); KEPT],
-        &mut [Term::none(); KEPT],
-        sched,
-        tasks,
-        s,
-    )
-}
-
-/// The same, where there is this room for the terms of all tasks, and of those above one.
-fn test_tasks_by<S: Supply>(
-    all: &mut [Term],
-    above: &mut [Term],
-    sched: Sched,
-    tasks: &[Task],
-    s: &S,
-) -> Tested
-    requires fixed { sched ≢ Sched.Edf }
-    requires few { length tasks.now < 2 ^ 32 }
-    ensures { IsTested sched (sporadic_tasks tasks.now) (S.bound s.now) (S.cycle_of s.now) result }
-{
-    test_tasks_in(&RankedLevel::gather(sched, tasks, all), above, s)
-}
-
-/// The same of a level. `above` is for the terms of the tasks above one.
-fn test_tasks_in<S: Supply>(level: &RankedLevel, above: &mut [Term], s: &S) -> Tested
+/// The test of a level under a fixed rank, which needs no horizon. `above` is for the terms of the
+/// tasks above one.
+pub fn test_by_rank<S: Supply>(level: &RankedLevel, above: &mut [Term], s: &S) -> Tested
     requires { length level.now.tasks.now < 2 ^ 32 }
     ensures { let T = sporadic_tasks level.now.tasks.now in
         IsTested level.now.sched T (S.bound s.now) (S.cycle_of s.now) result }

@@ -4,7 +4,7 @@ ghost use Rattle.slot_model.specs.declared.task.TheConstants.{LIMIT};
 use crate::helpers::{
     expect, expect_at, five_long_tasks, five_rates, periodic, task, two_late_tasks, two_tasks,
 };
-use least_budget::{Least, Tested, least_budget, test};
+use least_budget::{Edge, Least, Tested, budget_edge, least_budget, test};
 use slot_model::{Sched, Short, Task};
 use std::process::Abort;
 use supply_bound::Full;
@@ -35,6 +35,30 @@ fn budgets_of_small_levels(rt: HostRuntime) {
         expect_budget(&rt, sched, &whole, 5, 5);
         expect_budget(&rt, sched, &long, 1_000_000_000, 1_000_000_000);
     }
+}
+
+#[test]
+fn what_is_short_one_slot_below_the_least_budget(rt: HostRuntime) {
+    let two = two_tasks(&rt);
+    for (sched, budget, short) in [
+        (Sched::Edf, 3, Short::At(75)),
+        (Sched::Rm, 4, Short::Task(1)),
+        (Sched::Dm, 4, Short::Task(1)),
+        (Sched::Listed, 4, Short::Task(1)),
+    ] {
+        let wanted = Edge {
+            least: Least::Budget(budget),
+            below: Some(short),
+        };
+        expect_at(&rt, sched, budget_edge(sched, &two, 10), wanted);
+    }
+    let none: [Task; 0] = [];
+    let nothing = Edge {
+        least: Least::Budget(0),
+        below: None,
+    };
+    expect(&rt, budget_edge(Sched::Edf, &none, 10), nothing);
+    expect(&rt, budget_edge(Sched::Rm, &none, 10), nothing);
 }
 
 #[test]

@@ -1,5 +1,5 @@
 -- What defeats the next smaller budget of a computed leaf does so, and defeats every smaller one.
-use Rattle.std.proofs.Common.{◌≡◌, ℕ, ◌+◌, ◌<◌, ◌≤◌, Bool, List, length, Option, Some, None, refl, sym, ◌∙◌, arith, subst}
+use Rattle.std.proofs.Common.{◌≡◌, ℕ, ◌+◌, ◌<◌, ◌≤◌, Bool, List, length, Option, Some, None, refl, sym, arith, subst}
 use Rattle.std.specs.Prelude.{slice_index}
 use Rattle.slot_model.specs.declared.sched.Sched.{Sched}
 use Rattle.slot_model.specs.declared.sched.Sched.TheVariants.{Edf, Rm, Dm, Listed}
@@ -7,10 +7,10 @@ use Rattle.slot_model.specs.declared.sched.Short.{Short}
 use Rattle.slot_model.specs.declared.sched.Short.TheVariants.{At, Task}
 use Rattle.slot_model.specs.Task.{SporadicTask, AreConstrained}
 use Rattle.slot_model.specs.Supply.{GivesBudget, worst_slot}
-use Rattle.slot_model.specs.Order.{before_of, ranks_above}
+use Rattle.slot_model.specs.Order.{before_of}
 use Rattle.slot_model.specs.Release.{synchronous}
 use Rattle.slot_model.specs.Bound.{sbf, IsShortfall, shows_by}
-use Rattle.slot_model.specs.Miss.{MissesFromStart, MustMiss, WorstList}
+use Rattle.slot_model.specs.Miss.{MissesFromStart, WorstList}
 use Rattle.slot_model.proofs.Synchronous.{legal_synchronous}
 use Rattle.slot_model.proofs.WorstLists.{worst_list, worst_list-is}
 use Rattle.least_budget.proofs.Budgets.{gives_less}
@@ -22,7 +22,7 @@ use Rattle.tree_model.proofs.InRange.{admitted_in_period}
 use Rattle.tree_model.proofs.Parents.{leaf_constrained}
 use Rattle.miss_witness.specs.declared.defeat.Defeat.{Defeat}
 use Rattle.miss_witness.specs.declared.replay.Replay.{Replay}
-use Rattle.miss_witness.specs.Defeat.{IsShortTaskWindow, IsShortWindow, IsDefeat, IsDefeatSupply, Defeats}
+use Rattle.miss_witness.specs.Defeat.{IsShortWindow, IsDefeat, IsDefeatSupply, Defeats}
 use Rattle.miss_witness.specs.Replay.{IsReplay, AreReplays, AllDefeat}
 use Rattle.miss_witness.proofs.Defeats.{budget_defeated}
 

@@ -1,15 +1,15 @@
 -- What an admission says of a computed leaf, and what is seen when its defeat is run.
-use Rattle.std.proofs.Common.{◌≡◌, ℕ, ◌+◌, ◌-◌, ◌<◌, ◌≤◌, Bool, true, List, length, Option, Some, None, is_none, get_or, arith, refl, sym, ◌∙◌, ap, subst}
-use Rattle.std.proofs.lemmas.Bool.{and_parts}
+use Rattle.std.proofs.Common.{◌≡◌, ℕ, zero, suc, ◌+◌, ◌-◌, ◌<◌, ◌≤◌, Bool, true, List, length, Option, Some, None, get_or, arith, refl, sym, ◌∙◌, ap, subst}
 use Rattle.slot_model.specs.declared.sched.Sched.{Sched}
 use Rattle.slot_model.specs.declared.job.Job.{Job}
+use Rattle.slot_model.specs.declared.sched.Short.{Short}
 use Rattle.slot_model.specs.declared.miss.Miss.{Miss}
 use Rattle.slot_model.specs.Task.{SporadicTask}
 use Rattle.slot_model.specs.Supply.{Follows, worst_slot}
 use Rattle.slot_model.specs.Order.{before_of}
 use Rattle.slot_model.specs.Release.{synchronous}
 use Rattle.slot_model.specs.Run.{guest, FirstRun}
-use Rattle.slot_model.specs.Bound.{sbf, IsLeastBudget, IsSmall, Passes}
+use Rattle.slot_model.specs.Bound.{sbf, IsShortfall}
 use Rattle.slot_model.specs.Miss.{HoldsReleased, IsFirstMiss, MissesFromStart, WorstList}
 use Rattle.slot_model.proofs.MissedJobs.{permitted_holds_released}
 use Rattle.slot_model.proofs.FirstRuns.{first_permitted}
@@ -18,34 +18,12 @@ use Rattle.guest_sched.specs.Spans.{Window, run_of, slots_of}
 use Rattle.guest_sched.proofs.Given.{slots-long}
 use Rattle.miss_witness.specs.declared.defeat.Defeat.{Defeat}
 use Rattle.tree_model.specs.View.{PartView, SystemView}
-use Rattle.tree_model.specs.System.{is_computed_leaf, IsSystem, own_tasks, part_at}
-use Rattle.tree_model.specs.Tree.{budget_at, node_tasks}
-use Rattle.tree_model.specs.declared.place.Place.TheVariants.{Part}
-use Rattle.tree_model.specs.Admission.{Admitted, BudgetStands}
-use Rattle.tree_model.proofs.InRange.{admitted_in_period}
-use Rattle.tree_model.proofs.NodeTasks.{leaf_tasks, part_here}
+use Rattle.tree_model.specs.System.{is_computed_leaf, own_tasks, part_at}
+use Rattle.tree_model.specs.Tree.{budget_at}
+use Rattle.tree_model.proofs.NodeTasks.{part_here}
+use Rattle.compose_tree.specs.Shorts.{IsShortOf}
 use Rattle.miss_witness.specs.Replay.{IsReplay, IsReplayed}
 use Rattle.miss_witness.specs.Defeat.{IsDefeat}
-
--- a computed leaf has the least budget of its own tasks
-abbrev pub LeastOf : PartView → ℕ → Type 0
-LeastOf part budget =
-    IsSmall part.sched (own_tasks part) part.period × IsLeastBudget part.sched (own_tasks part) part.period budget
-
-pub leaf_least : (sys : SystemView) (budgets : List ℕ) → Admitted sys budgets → (q : ℕ) → q < length sys.parts
-    → is_computed_leaf (part_at sys q) ≡ true → LeastOf (part_at sys q) (budget_at budgets q)
-leaf_least sys budgets h q l computed =
-    let kinds = and_parts _ _ computed in
-    subst (λ (tasks : List SporadicTask). IsSmall (part_at sys q).sched tasks (part_at sys q).period
-    × IsLeastBudget (part_at sys q).sched tasks (part_at sys q).period (budget_at budgets q))
-    (leaf_tasks sys budgets q kinds.1) (go (part_at sys q).budget kinds.0 (h.assigned.stands q (omega arith) l))
-  where
-    go : (given : Option ℕ) → is_none given ≡ true → BudgetStands sys budgets q given
-        → IsSmall (part_at sys q).sched (node_tasks sys budgets (Part q)) (part_at sys q).period
-        × IsLeastBudget (part_at sys q).sched (node_tasks sys budgets (Part q)) (part_at sys q).period
-        (budget_at budgets q)
-    go None e stands = stands
-    go (Some given) e stands = absurd (cc)
 
 -- the first run of the defeat's jobs over its worst pattern
 pub record RunsDefeat (sched : Sched) (tasks : List SporadicTask) (period : ℕ) (defeat : Defeat) (jobs : List Job)
@@ -129,20 +107,25 @@ leaf_read sys budgets q parts part sched tasks period read same h is s t p b =
       least_is = ap (λ (bs : List ℕ). get_or bs q 0) b;
     }
 
--- its budget is the least of what was read, and 1 or more
-pub read_least : (sys : SystemView) → IsSystem sys → (budgets : List ℕ) → Admitted sys budgets → (q : ℕ)
-    → q < length sys.parts → is_computed_leaf (part_at sys q) ≡ true
-    → (sched : Sched) (tasks : List SporadicTask) (period least : ℕ) → LeafRead sys budgets q sched tasks period least
-    → IsSmall sched tasks period × IsLeastBudget sched tasks period least × (1 ≤ least)
-read_least sys is budgets h q l computed sched tasks period least read =
-    let known = leaf_least sys budgets h q l computed in
-    rw (read.sched_is, read.tasks_are, read.period_is, read.least_is)
-    (known.0, known.1, (admitted_in_period sys is budgets h q l).0)
+-- its budget is 1 or more, and this is short first with one slot less
+pub some_short : (leaf : PartView) (budget : ℕ) → 1 ≤ budget → IsShortOf leaf budget None → ⊥
+some_short leaf zero some h = absurd (omega (arith, some))
+some_short leaf (suc budget) some h = h
 
-pub none_smaller : (sched : Sched) (tasks : List SporadicTask) (period least : ℕ)
-    → IsSmall sched tasks period × IsLeastBudget sched tasks period least × (1 ≤ least)
-    → Passes sched tasks (sbf period (least - 1)) → ⊥
-none_smaller sched tasks period least h = h.1.least (least - 1) (omega (arith, h.2))
+short_one_below : (leaf : PartView) (budget : ℕ) (short : Short) → 1 ≤ budget → IsShortOf leaf budget (Some short)
+    → IsShortfall leaf.sched (own_tasks leaf) (sbf leaf.period (budget - 1)) short
+short_one_below leaf zero short some h = absurd (omega (arith, some))
+short_one_below leaf (suc budget) short some h =
+    let e : suc budget - 1 ≡ budget = omega arith in
+    rw e h
+
+pub read_short : (sys : SystemView) (budgets : List ℕ) (q : ℕ) → 1 ≤ budget_at budgets q
+    → (sched : Sched) (tasks : List SporadicTask) (period least : ℕ) → LeafRead sys budgets q sched tasks period least
+    → (short : Short) → IsShortOf (part_at sys q) (budget_at budgets q) (Some short)
+    → IsShortfall sched tasks (sbf period (least - 1)) short
+read_short sys budgets q some sched tasks period least read short h =
+    rw (read.sched_is, read.tasks_are, read.period_is, read.least_is)
+    (short_one_below (part_at sys q) (budget_at budgets q) short some h)
 
 -- so what was found is its replay
 pub read_replay : (sys : SystemView) (budgets : List ℕ) (q : ℕ) → q < length sys.parts

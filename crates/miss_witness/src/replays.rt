@@ -5,12 +5,16 @@ ghost use Rattle.slot_model.specs.Supply.{worst_slot};
 ghost use Rattle.slot_model.specs.Order.{before_of};
 ghost use Rattle.slot_model.specs.Miss.{MissesFromStart, WorstList};
 ghost use Rattle.tree_model.specs.System.{part_at, is_computed_leaf};
+ghost use Rattle.tree_model.specs.Tree.{budget_at};
 ghost use Rattle.tree_model.specs.Admission.{Admitted};
+ghost use Rattle.compose_tree.specs.Shorts.{AreShorts, IsShortOf};
 ghost use Rattle.miss_witness.specs.Replay.{AreReplays, IsReplay, IsReplayed};
 
-use crate::{Defeat, Replay, witness, witness_jobs};
+use crate::witnesses::defeat_by;
+use crate::{Defeat, Replay, witness_jobs};
+use compose_tree::Composed;
 use guest_sched::{guest_by, pattern_windows};
-use slot_model::{Miss, Sched, Task};
+use slot_model::{Miss, Sched, Short, Task};
 use span_counts::first_miss;
 use std::alloc::{AllocError, Global};
 use supply_bound::Periodic;
@@ -20,13 +24,19 @@ use tree_model::{MAX_TASKS, Plan, System, own_tasks_in};
 const MOST_SLOTS: u64 = 1_000_000;
 
 /// The replays of all computed leaves, in file order: what defeats the next smaller budget of each,
-/// and what is seen when that is run. It fails only where memory runs out.
-pub fn replay_all(alloc: Global, sys: &System, plan: &Plan) -> Result<Vec<Replay>, AllocError>
-    requires { Admitted sys.now plan.now }
-    ensures { IfOk result (λ replays. AreReplays sys.now plan.now replays.items) }
+/// and what is seen when that is run. What is short with that budget was asked when the budgets
+/// were composed. It fails only where memory runs out.
+pub fn replay_all(
+    alloc: Global,
+    sys: &System,
+    composed: &Composed,
+) -> Result<Vec<Replay>, AllocError>
+    requires admitted { Admitted sys.now composed.now.plan }
+    requires shorts { AreShorts sys.now composed.now.plan composed.now.shorts.items }
+    ensures { IfOk result (λ replays. AreReplays sys.now composed.now.plan replays.items) }
 {
     let mut room = vec![in alloc; Task::least(); MAX_TASKS]?;
-    replay_leaves(alloc, sys, plan, &mut room)
+    replay_leaves(alloc, sys, &composed.plan, &composed.shorts, &mut room)
 }
 
 /// The same, where the tasks of each leaf are written to `room`.
@@ -34,39 +44,48 @@ fn replay_leaves(
     alloc: Global,
     sys: &System,
     plan: &Plan,
+    shorts: &[Option<Short>],
     room: &mut [Task],
 ) -> Result<Vec<Replay>, AllocError>
     requires admitted { Admitted sys.now plan.now }
+    requires shorts { AreShorts sys.now plan.now shorts.now }
     requires room { 256 ≤ length room.old }
     ensures { IfOk result (λ replays. AreReplays sys.now plan.now replays.items) }
 {
     let mut replays = Vec::new(alloc);
     for (q, part) in sys.parts().iter().enumerate() {
         if part.is_computed_leaf() {
-            replays.push(replay_leaf(alloc, sys, plan, q as u32, room)?)?;
+            replays.push(replay_leaf(alloc, sys, plan, q as u32, shorts[q], room)?)?;
         }
     }
     Ok(replays)
 }
 
-/// The replay of the computed leaf at place `q`, whose tasks are written to `room`.
+/// The replay of the computed leaf at place `q`, of which this is short first with one slot less.
+/// Its tasks are written to `room`.
 fn replay_leaf(
     alloc: Global,
     sys: &System,
     plan: &Plan,
     q: u32,
+    short: Option<Short>,
     room: &mut [Task],
 ) -> Result<Replay, AllocError>
     requires admitted { Admitted sys.now plan.now }
     requires is_part { q < length sys.now.parts }
     requires computed { is_computed_leaf (part_at sys.now q) ≡ true }
+    requires short { IsShortOf (part_at sys.now q) (budget_at plan.now q) short }
     requires room { 256 ≤ length room.old }
     ensures { IfOk result (λ replay. IsReplay sys.now plan.now q replay) }
 {
     let part = &sys.parts()[q as usize];
     let budgets = plan.budgets();
+    let Some(short) = short else {
+        unreachable!();
+    };
     let tasks = own_tasks_in(part, room);
-    let witness = witness(part.sched(), tasks, part.period(), budgets[q as usize]);
+    let least = budgets[q as usize];
+    let witness = defeat_by(part.sched(), tasks, part.period(), least, short);
     let miss = seen_miss(alloc, part.sched(), tasks, part.period(), &witness)?;
     Ok(Replay {
         part: q,

@@ -113,24 +113,24 @@ past_last tasks p q x due h l m =
 -- the groups so far
 pub record MomentTo (tasks : List SporadicTask) (start x g next : ℕ) (before jobs : List Job) (due groups : List ℕ) :
     Type 0 where
-  pub jobs_so_far : jobs ≡ releases_at tasks start x (min (16 * g) (length tasks)) before
-  pub each : AreDue tasks (16 * g) x due
+  pub jobs_so_far : jobs ≡ releases_at tasks start x (min (8 * g) (length tasks)) before
+  pub each : AreDue tasks (8 * g) x due
   pub firsts : AreFirsts due groups g x
   pub after : x < next
   pub least : (h : ℕ) → h < g → next ≤ get_or groups h 0
 
 pub moment_group : (tasks : List SporadicTask) (start x g next more first : ℕ) (before jobs added : List Job)
-    (due new groups : List ℕ) → g < length groups → 16 * g ≤ length tasks
+    (due new groups : List ℕ) → g < length groups → 8 * g ≤ length tasks
     → MomentTo tasks start x g next before jobs due groups
-    → added ≡ releases_at tasks start x (min (16 * g + 16) (length tasks)) before → AreDue tasks (16 * g + 16) x new
-    → ((i : ℕ) → (i < 16 * g) ⊎ (16 * g + 16 ≤ i) → get_or new i 0 ≡ get_or due i 0)
-    → x < first → ((i : ℕ) → 16 * g ≤ i → i < 16 * g + 16 → i < length tasks → first ≤ get_or new i 0)
+    → added ≡ releases_at tasks start x (min (8 * g + 8) (length tasks)) before → AreDue tasks (8 * g + 8) x new
+    → ((i : ℕ) → (i < 8 * g) ⊎ (8 * g + 8 ≤ i) → get_or new i 0 ≡ get_or due i 0)
+    → x < first → ((i : ℕ) → 8 * g ≤ i → i < 8 * g + 8 → i < length tasks → first ≤ get_or new i 0)
     → more ≡ min next (get_or (set groups g first) g 0)
     → MomentTo tasks start x (g + 1) more before added new (set groups g first)
 moment_group tasks start x g next more first before jobs added due new groups l in_tasks h add each same after least_due
     least =
     let here : get_or (set groups g first) g 0 ≡ first = get_or-set_same groups g first 0 l in
-    let next_group : 16 * g + 16 ≡ 16 * (g + 1) = omega arith in
+    let next_group : 8 * g + 8 ≡ 8 * (g + 1) = omega arith in
     record {
       jobs_so_far = add ∙ ap (λ (z : ℕ). releases_at tasks start x (min z (length tasks)) before) next_group;
       each = subst (λ (z : ℕ). AreDue tasks z x new) next_group each;
@@ -174,25 +174,25 @@ moment_group tasks start x g next more first before jobs added due new groups l 
       ];
     }
   where
-    apart : (k i : ℕ) → k ≢ g → 16 * k ≤ i → i < 16 * k + 16 → (i < 16 * g) ⊎ (16 * g + 16 ≤ i)
+    apart : (k i : ℕ) → k ≢ g → 8 * k ≤ i → i < 8 * k + 8 → (i < 8 * g) ⊎ (8 * g + 8 ≤ i)
     apart k i ne b c = elim (cases_lt k g) [ inl m ↦ inl (omega arith) | inr m ↦ inr (omega (arith, ne)) ]
 
 pub moment_waits : (tasks : List SporadicTask) (start x g next more : ℕ) (before jobs : List Job) (due groups : List ℕ)
-    → g < length groups → 16 * g ≤ length tasks → MomentTo tasks start x g next before jobs due groups
+    → g < length groups → 8 * g ≤ length tasks → MomentTo tasks start x g next before jobs due groups
     → get_or groups g 0 ≢ x
     → more ≡ min next (get_or groups g 0) → MomentTo tasks start x (g + 1) more before jobs due groups
 moment_waits tasks start x g next more before jobs due groups l in_tasks h ne least =
     let past : x < get_or groups g 0 = omega (arith, h.firsts.to_come g (omega arith) l, ne) in
-    let k : ℕ = min (16 * (g + 1)) (length tasks) - 16 * g in
-    let end : 16 * g + k ≡ min (16 * (g + 1)) (length tasks) = omega arith in
-    let begin : min (16 * g) (length tasks) ≡ 16 * g = omega arith in
+    let k : ℕ = min (8 * (g + 1)) (length tasks) - 8 * g in
+    let end : 8 * g + k ≡ min (8 * (g + 1)) (length tasks) = omega arith in
+    let begin : min (8 * g) (length tasks) ≡ 8 * g = omega arith in
     record {
       jobs_so_far = h.jobs_so_far ∙ ap (λ (z : ℕ). releases_at tasks start x z before) begin
-          ∙ sym (some_wait tasks start x (16 * g) k before (λ j a b. waits tasks (16 * g) x j due h.each a (omega arith)
+          ∙ sym (some_wait tasks start x (8 * g) k before (λ j a b. waits tasks (8 * g) x j due h.each a (omega arith)
           (omega (arith, past, h.firsts.first g j l a (omega arith) (omega (arith, h.each.one_each))))))
           ∙ ap (λ (z : ℕ). releases_at tasks start x z before) end;
       each =
-          waiting_pass tasks (16 * g) (16 * (g + 1)) x due h.each (omega arith)
+          waiting_pass tasks (8 * g) (8 * (g + 1)) x due h.each (omega arith)
           (λ i a b c. omega (arith, past, h.firsts.first g i l a (omega arith) (omega (arith, h.each.one_each))));
       firsts = record {
         past =
@@ -215,24 +215,24 @@ moment_waits tasks start x g next more before jobs due groups l in_tasks h ne le
 
 -- the group of a task, and when it releases next
 in_group : (tasks : List SporadicTask) (start x g next : ℕ) (before jobs : List Job) (due groups : List ℕ)
-    → MomentTo tasks start x g next before jobs due groups → g ≡ length groups → length tasks < 16 * length groups
+    → MomentTo tasks start x g next before jobs due groups → g ≡ length groups → length tasks < 8 * length groups
     → (i : ℕ) → i < length tasks → next ≤ get_or due i 0
 in_group tasks start x g next before jobs due groups h e all i l =
     omega (
       arith,
-      h.least (i / 16) (omega arith),
-      h.firsts.first (i / 16) i (omega arith) (omega arith) (omega arith) (omega (arith, h.each.one_each)),
+      h.least (i / 8) (omega arith),
+      h.firsts.first (i / 8) i (omega arith) (omega arith) (omega arith) (omega (arith, h.each.one_each)),
     )
 
 pub none_before_next : (tasks : List SporadicTask) (start x g next : ℕ) (before jobs : List Job) (due groups : List ℕ)
-    → MomentTo tasks start x g next before jobs due groups → g ≡ length groups → length tasks < 16 * length groups
+    → MomentTo tasks start x g next before jobs due groups → g ≡ length groups → length tasks < 8 * length groups
     → NoneRelease tasks (x + 1) next
 none_before_next tasks start x g next before jobs due groups h e all i y l a b =
     (h.each.past i (omega arith) l).none y a
     (omega (arith, in_group tasks start x g next before jobs due groups h e all i l))
 
 pub due_next : (tasks : List SporadicTask) (start x g next : ℕ) (before jobs : List Job) (due groups : List ℕ)
-    → MomentTo tasks start x g next before jobs due groups → g ≡ length groups → length tasks < 16 * length groups
+    → MomentTo tasks start x g next before jobs due groups → g ≡ length groups → length tasks < 8 * length groups
     → AreDue tasks 0 next due
 due_next tasks start x g next before jobs due groups h e all = record {
   one_each = h.each.one_each;

@@ -27,12 +27,12 @@ pub record AreDue (tasks : List SporadicTask) (p x : ℕ) (due : List ℕ) : Typ
 pub record AreFirsts (due groups : List ℕ) (g x : ℕ) : Type 0 where
   pub past : (h : ℕ) → h < g → h < length groups → x < slice_index groups h
   pub to_come : (h : ℕ) → g ≤ h → h < length groups → x ≤ slice_index groups h
-  pub first : (h i : ℕ) → h < length groups → 16 * h ≤ i → i < 16 * h + 16 → i < length due →
+  pub first : (h i : ℕ) → h < length groups → 8 * h ≤ i → i < 8 * h + 8 → i < length due →
       slice_index groups h ≤ slice_index due i
 
 -- between two moments at which tasks release
 pub record IsDue (tasks : List SporadicTask) (x : ℕ) (due : Due) : Type 0 where
   pub each : AreDue tasks 0 x due.tasks.items
   pub firsts : AreFirsts due.tasks.items due.groups.items 0 x
-  pub all : length tasks < 16 * length due.groups.items
-  pub no_more : 16 * length due.groups.items ≤ length tasks + 16
+  pub all : length tasks < 8 * length due.groups.items
+  pub no_more : 8 * length due.groups.items ≤ length tasks + 8

@@ -8,7 +8,7 @@ use slot_model::{Job, Task};
 use std::alloc::{AllocError, Global};
 
 /// So many tasks that stand side by side make a group, whose next release is known.
-const GROUP: usize = 16;
+const GROUP: usize = 8;
 
 /// The synchronous release: every task releases at `start`, with its whole jitter behind it, and
 /// then as its jobs arrive, once a period, within `span` slots, always with full work. The jobs
@@ -112,20 +112,20 @@ impl Due {
     ) -> Result<u64, AllocError>
         requires few { length tasks.now < 2 ^ 32 }
         requires in_time { start + after < 2 ^ 64 - 1 }
-        requires in_tasks { 16 * group ≤ length tasks.now }
-        requires due { AreDue (sporadic_tasks tasks.now) (16 * group) after self.old.tasks.items }
+        requires in_tasks { 8 * group ≤ length tasks.now }
+        requires due { AreDue (sporadic_tasks tasks.now) (8 * group) after self.old.tasks.items }
         ensures jobs { let T = sporadic_tasks tasks.now in
             (earlier : List AnyJob) →
-            jobs.old.items ≡ releases_at T start after (16 * group) earlier →
+            jobs.old.items ≡ releases_at T start after (8 * group) earlier →
             OnOk result (jobs.new.items ≡ releases_at T start after
-            (min (16 * group + 16) (length T)) earlier) }
+            (min (8 * group + 8) (length T)) earlier) }
         ensures due { let T = sporadic_tasks tasks.now in
-            OnOk result (AreDue T (16 * group + 16) after self.new.tasks.items) }
-        ensures same { OnOk result ((i : ℕ) → (i < 16 * group) ⊎ (16 * group + 16 ≤ i) →
+            OnOk result (AreDue T (8 * group + 8) after self.new.tasks.items) }
+        ensures same { OnOk result ((i : ℕ) → (i < 8 * group) ⊎ (8 * group + 8 ≤ i) →
             slice_index self.new.tasks.items i ≡ slice_index self.old.tasks.items i) }
         ensures groups { self.new.groups ≡ self.old.groups }
         ensures later { IfOk result (λ next. after < next) }
-        ensures first { IfOk result (λ next. (i : ℕ) → 16 * group ≤ i → i < 16 * group + 16 →
+        ensures first { IfOk result (λ next. (i : ℕ) → 8 * group ≤ i → i < 8 * group + 8 →
             i < length tasks.now → next ≤ slice_index self.new.tasks.items i) }
     {
         let from = GROUP * group;

@@ -1,64 +1,40 @@
-use Rattle.std.proofs.Common.{◌≡◌, ℕ, List, ◌++◌, length, take, drop, sym, ◌∙◌, subst}
-use Rattle.slot_model.proofs.HandedOn.{err_is, handed_on}
+use Rattle.std.proofs.Common.{◌≡◌, ◌≢◌, refl}
+use Rattle.tree_model.specs.declared.plan.Refusal.{Refusal}
+use Rattle.tree_model.specs.declared.plan.Refusal.TheVariants.{Overfull, Wide, NoMemory}
 use Rattle.tree_model.specs.View.{SystemView}
-use Rattle.tree_model.specs.Admission.{Assigned, Admitted}
-use Rattle.tree_model.proofs.InRange.{assigned_is_plan}
+use Rattle.tree_model.specs.Admission.{FirstRefusal}
 use Rattle.tree_model.proofs.Unique.{one_admission}
-use Rattle.compose_tree.specs.Steps.{PartsPassFrom, CoresPassTo}
+use Rattle.compose_tree.specs.Truth.{RefusalHolds}
 use Rattle.compose_tree.proofs.Sound.{admitted_no_loss, admitted_tight}
 use Rattle.compose_tree.proofs.Refusals.{refusal_holds}
-use Rattle.compose_tree.proofs.Settling.{written_back, assigned_back, settled_admits, not_refused}
+use Rattle.compose_tree.proofs.Settling.{not_refused}
 use Rattle.compose_tree.proofs.budgets.compose.Goals as goal
 
-admits : (sys : SystemView) (n : ℕ) (written before read : List ℕ) → length written ≡ n → Assigned sys written
-    → PartsPassFrom sys written 0 → read ≡ take n (written ++ drop (length written) before)
-    → CoresPassTo sys read (length sys.cores) → Admitted sys (take n (written ++ drop (length written) before))
-admits sys n written before read e assigned parts is cores =
-    settled_admits sys (take n (written ++ drop (length written) before))
-    (assigned_back sys n written before e assigned)
-    (subst (λ (bs : List ℕ). PartsPassFrom sys bs 0) (sym (written_back n written before e)) parts)
-    (subst (λ (bs : List ℕ). CoresPassTo sys bs (length sys.cores)) is cores)
+-- a refusal but for want of memory is the first
+known : (sys : SystemView) (P : Refusal → Type 0) → P NoMemory → ((r : Refusal) → FirstRefusal sys r → P r)
+    → (r : Refusal) → (r ≢ NoMemory → FirstRefusal sys r) → P r
+known sys P wanting first (Overfull node short) h = first (Overfull node short) (h (λ e. absurd (cc)))
+known sys P wanting first (Wide node) h = first (Wide node) (h (λ e. absurd (cc)))
+known sys P wanting first NoMemory h = wanting
 
-pub returns-clause-plan : goal.returns-clause-plan
-returns-clause-plan c =
-    admits c.args.sys.now c.in_ok-budgets.budgets.len c.settle_parts.new.budgets c.in_ok-budgets.budgets.items
-    c.deref.result.now (c.settle_parts.auto.budgets ∙ c.deref_mut.ensures.len) c.in_ok-settle_parts.ensures.assigned
-    c.in_ok-settle_parts.ensures.pass c.deref.ensures.value c.in_ok-test_cores.ensures.pass
+pub returns-in-Ok-clause-complete : goal.returns-in-Ok-clause-complete
+returns-in-Ok-clause-complete c =
+    λ budgets admitted. one_admission c.args.sys.now c.compose_by.ensures.system _ budgets c.in-Ok.ensures.plan
+    admitted
 
-pub returns-clause-complete : goal.returns-clause-complete
-returns-clause-complete c =
-    λ budgets admitted. one_admission c.args.sys.now c.rooms.ensures.system _ budgets (returns-clause-plan c) admitted
+pub returns-in-Ok-clause-no_loss : goal.returns-in-Ok-clause-no_loss
+returns-in-Ok-clause-no_loss c =
+    admitted_no_loss c.args.sys.now c.compose_by.ensures.system _ c.in-Ok.ensures.plan
 
-pub returns-clause-in_period : goal.returns-clause-in_period
-returns-clause-in_period c = assigned_is_plan c.args.sys.now c.rooms.ensures.system _ (returns-clause-plan c).assigned
+pub returns-in-Ok-clause-tight : goal.returns-in-Ok-clause-tight
+returns-in-Ok-clause-tight c = admitted_tight c.args.sys.now c.compose_by.ensures.system _ c.in-Ok.ensures.plan
 
-pub returns-clause-no_loss : goal.returns-clause-no_loss
-returns-clause-no_loss c = admitted_no_loss c.args.sys.now c.rooms.ensures.system _ (returns-clause-plan c)
+pub returns-in-Err-clause-complete : goal.returns-in-Err-clause-complete
+returns-in-Err-clause-complete c =
+    λ budgets admitted. known c.args.sys.now (λ (r : Refusal). r ≡ NoMemory) refl (λ r first. not_refused
+    c.args.sys.now c.compose_by.ensures.system r first budgets admitted) c.in-Err.refusal c.in-Err.ensures.refusal
 
-pub returns-clause-tight : goal.returns-clause-tight
-returns-clause-tight c = admitted_tight c.args.sys.now c.rooms.ensures.system _ (returns-clause-plan c)
-
-pub returns-in_err-settle_parts-clause-complete : goal.returns-in_err-settle_parts-clause-complete
-returns-in_err-settle_parts-clause-complete c =
-    let step = c.from_residual-in_err-settle_parts in
-    λ budgets admitted. rw (err_is step.result _ step.ensures.1)
-    (not_refused c.args.sys.now c.rooms.ensures.system c.in_err-settle_parts.field-0.0
-    c.in_err-settle_parts.ensures.refusal budgets admitted)
-
-pub returns-in_err-settle_parts-clause-holds : goal.returns-in_err-settle_parts-clause-holds
-returns-in_err-settle_parts-clause-holds c =
-    let step = c.from_residual-in_err-settle_parts in
-    handed_on step.result _ _ step.ensures.1 (refusal_holds c.args.sys.now c.rooms.ensures.system
-    c.in_err-settle_parts.field-0.0 c.in_err-settle_parts.ensures.refusal)
-
-pub returns-in_err-test_cores-clause-complete : goal.returns-in_err-test_cores-clause-complete
-returns-in_err-test_cores-clause-complete c =
-    let step = c.from_residual-in_err-test_cores in
-    λ budgets admitted. rw (err_is step.result _ step.ensures.1)
-    (not_refused c.args.sys.now c.rooms.ensures.system c.in_err-test_cores.field-0.0
-    c.in_err-test_cores.ensures.refusal budgets admitted)
-
-pub returns-in_err-test_cores-clause-holds : goal.returns-in_err-test_cores-clause-holds
-returns-in_err-test_cores-clause-holds c =
-    handed_on c.from_residual-in_err-test_cores.result _ _ c.from_residual-in_err-test_cores.ensures.1 (refusal_holds
-    c.args.sys.now c.rooms.ensures.system c.in_err-test_cores.field-0.0 c.in_err-test_cores.ensures.refusal)
+pub returns-in-Err-clause-holds : goal.returns-in-Err-clause-holds
+returns-in-Err-clause-holds c =
+    known c.args.sys.now (RefusalHolds c.args.sys.now) tt (λ r first. refusal_holds c.args.sys.now
+    c.compose_by.ensures.system r first) c.in-Err.refusal c.in-Err.ensures.refusal

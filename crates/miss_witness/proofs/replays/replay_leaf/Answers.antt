@@ -1,18 +1,23 @@
-use Rattle.std.proofs.Common.{◌≡◌, ℕ, List, get_or, arith, sym, ◌∙◌, ap, subst}
+use Rattle.std.proofs.Common.{◌≡◌, ℕ, List, Option, get_or, arith, sym, ◌∙◌, ap, subst}
 use Rattle.slot_model.specs.declared.sched.Sched.{Sched}
+use Rattle.slot_model.specs.declared.sched.Short.{Short}
+use Rattle.tree_model.specs.System.{part_at}
+use Rattle.tree_model.specs.Tree.{budget_at}
+use Rattle.compose_tree.specs.Shorts.{IsShortOf}
 use Rattle.miss_witness.specs.Replay.{IsReplayed}
 use Rattle.slot_model.specs.Task.{SporadicTask, sporadic_tasks}
 use Rattle.tree_model.proofs.InRange.{admitted_in_period}
-use Rattle.miss_witness.proofs.ReplayLeaf.{LeafRead, leaf_read, none_smaller, read_least, read_replay}
+use Rattle.miss_witness.proofs.ReplayLeaf.{LeafRead, leaf_read, read_replay, read_short, some_short}
 use Rattle.miss_witness.proofs.replays.replay_leaf.Goals as goal
 use Rattle.miss_witness.proofs.replays.replay_leaf.Goals.{After-period}
 
-pub witness-witness-requires-clause-some_budget : goal.witness-witness-requires-clause-some_budget
-witness-witness-requires-clause-some_budget c =
-    let some
-    = (admitted_in_period c.args.sys.now c.parts.ensures.system c.args.plan.now c.requires.admitted c.args.q
-    c.requires.is_part).0 in
-    omega (arith, some, ap (λ (bs : List ℕ). get_or bs c.args.q 0) c.budgets-budgets.ensures)
+pub unreachable-requires : goal.unreachable-requires
+unreachable-requires c =
+    some_short (part_at c.args.sys.now c.args.q) (budget_at c.args.plan.now c.args.q)
+    (admitted_in_period c.args.sys.now c.parts.ensures.system c.args.plan.now c.requires.admitted c.args.q
+    c.requires.is_part).0
+    (subst (λ (o : Option Short). IsShortOf (part_at c.args.sys.now c.args.q)
+    (budget_at c.args.plan.now c.args.q) o) c.in_default.is c.requires.short)
 
 -- what is read of the leaf before its witness is made
 read : (c : After-period)
@@ -23,11 +28,21 @@ read c =
     c.period.result c.budgets-budgets.result.now c.parts.ensures.parts c.requires.is_part c.index-parts-q.is
     c.sched.ensures c.own_tasks_in-tasks.ensures.tasks c.period.ensures c.budgets-budgets.ensures
 
-pub witness-witness-requires-clause-falls_short : goal.witness-witness-requires-clause-falls_short
-witness-witness-requires-clause-falls_short c =
-    none_smaller c.sched.result _ c.period.result _ (read_least c.args.sys.now c.parts.ensures.system c.args.plan.now
-    c.requires.admitted c.args.q c.requires.is_part c.requires.computed c.sched.result _ c.period.result _
-    (read (goal.at.witness-witness-requires-clause-falls_short c).After-period))
+pub defeat_by-witness-requires-clause-some_budget : goal.defeat_by-witness-requires-clause-some_budget
+defeat_by-witness-requires-clause-some_budget c =
+    let some
+    = (admitted_in_period c.args.sys.now c.parts.ensures.system c.args.plan.now c.requires.admitted c.args.q
+    c.requires.is_part).0 in
+    omega (arith, some, ap (λ (bs : List ℕ). get_or bs c.args.q 0) c.budgets-budgets.ensures)
+
+pub defeat_by-witness-requires-clause-short : goal.defeat_by-witness-requires-clause-short
+defeat_by-witness-requires-clause-short c =
+    read_short c.args.sys.now c.args.plan.now c.args.q
+    (admitted_in_period c.args.sys.now c.parts.ensures.system c.args.plan.now c.requires.admitted c.args.q
+    c.requires.is_part).0 c.sched.result _ c.period.result _
+    (read (goal.at.defeat_by-witness-requires-clause-short c).After-period) c.in-Some.short
+    (subst (λ (o : Option Short). IsShortOf (part_at c.args.sys.now c.args.q)
+    (budget_at c.args.plan.now c.args.q) o) c.in-Some.is c.requires.short)
 
 pub returns : goal.returns
 returns c =
@@ -36,8 +51,8 @@ returns c =
     let period : c.period-2.result ≡ c.period.result = c.period-2.ensures ∙ sym c.period.ensures in
     read_replay c.args.sys.now c.args.plan.now c.args.q c.requires.is_part c.requires.computed c.sched.result tasks
     c.period.result _
-    (read (goal.at.returns c).After-period) c.witness-witness.result c.in_ok-miss.miss
-    c.witness-witness.ensures.defeat
-    (subst (λ (z : Sched). IsReplayed z tasks c.period.result c.witness-witness.result c.in_ok-miss.miss) sched
-    (subst (λ (z : ℕ). IsReplayed c.sched-2.result tasks z c.witness-witness.result c.in_ok-miss.miss) period
+    (read (goal.at.returns c).After-period) c.defeat_by-witness.result c.in_ok-miss.miss
+    c.defeat_by-witness.ensures.defeat
+    (subst (λ (z : Sched). IsReplayed z tasks c.period.result c.defeat_by-witness.result c.in_ok-miss.miss) sched
+    (subst (λ (z : ℕ). IsReplayed c.sched-2.result tasks z c.defeat_by-witness.result c.in_ok-miss.miss) period
     c.in_ok-miss.ensures))

@@ -16,7 +16,7 @@ loop-place-preserved c =
     let h = c.loop-place.invariant.so_far in
     let inside : p < length T
     = omega (arith, length-map c.args.tasks.now sporadic_task, c.loop-place-test.true, c.min.ensures) in
-    let from = 16 * c.args.group in
+    let from = 8 * c.args.group in
     let here : get_or old p 0 ≡ c.index.result.now
     = sym (get_or_read old p c.index.result.now (omega (arith, inside, h.each.one_each)) c.index.ensures 0) in
     let Least : Due → Type 0 = λ (s : Due). c.min-next.result ≡ min c.loop-place.next (get_or s.tasks.items p 0) in
@@ -76,7 +76,7 @@ returns-clause-jobs c =
 
 pub returns-clause-due : goal.returns-clause-due
 returns-clause-due c =
-    past_last (sporadic_tasks c.args.tasks.now) c.loop-place.place (16 * c.args.group + 16) c.args.after
+    past_last (sporadic_tasks c.args.tasks.now) c.loop-place.place (8 * c.args.group + 8) c.args.after
     c.loop-place.self.tasks.items c.loop-place.invariant.so_far.each (omega
     (arith, length-map c.args.tasks.now sporadic_task, c.loop-place-test.false, c.min.ensures, c.requires.in_tasks))
     (omega (arith, c.loop-place-test.false, c.min.ensures))

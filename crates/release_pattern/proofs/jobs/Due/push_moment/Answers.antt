@@ -32,7 +32,7 @@ loop-group-preserved c =
     let h = c.loop-group.invariant.so_far in
     let inside : g < length old
     = omega (arith, c.loop-group-test.true, c.loop-group.invariant.as_many, c.len-group-end.ensures) in
-    let in_tasks : 16 * g ≤ length T = omega (arith, inside, c.loop-group.invariant.as_many, c.requires.due.no_more) in
+    let in_tasks : 8 * g ≤ length T = omega (arith, inside, c.loop-group.invariant.as_many, c.requires.due.no_more) in
     let here : get_or old g 0 ≡ c.index.result.now
     = sym (get_or_read old g c.index.result.now inside c.index.ensures 0) in
     let Least : Due → Type 0 = λ (s : Due). c.min-next.result ≡ min c.loop-group.next (get_or s.groups.items g 0) in

@@ -2,7 +2,7 @@ use Rattle.std.proofs.Common.{ℕ, ◌<◌}
 use Rattle.slot_model.specs.Task.{sporadic_tasks}
 use Rattle.slot_model.specs.Order.{ranks_above}
 use Rattle.slot_model.specs.Bound.{IsHit}
-use Rattle.least_budget.proofs.level_test.test_tasks_in.Given as goal
+use Rattle.least_budget.proofs.level_test.test_by_rank.Given as goal
 
 abbrev pub invariant-loop-i : goal.invariant-loop-i
 invariant-loop-i g l =

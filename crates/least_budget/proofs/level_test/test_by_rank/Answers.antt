@@ -5,7 +5,7 @@ use Rattle.slot_model.specs.Order.{ranks_above}
 use Rattle.fp_request.proofs.Parts.{sporadic_tasks-length}
 use Rattle.least_budget.specs.Answers.{HasHit}
 use Rattle.least_budget.proofs.Testing.{fixed_passes, first_without_hit}
-use Rattle.least_budget.proofs.level_test.test_tasks_in.Goals as goal
+use Rattle.least_budget.proofs.level_test.test_by_rank.Goals as goal
 
 pub returns-then-not-has_hit_within : goal.returns-then-not-has_hit_within
 returns-then-not-has_hit_within g c =
