@@ -11,6 +11,7 @@ use Rattle.server_sched.specs.SlotCounts.{AreCoreCounts}
 use Rattle.tree_spans.proofs.Lists.{list_read, servers_in_reach, slot_lists}
 use Rattle.server_sched.proofs.SlotCounted.{one_core_counted}
 use Rattle.server_sched.proofs.slot_counts.core_counts.Goals as goal
+use Rattle.server_sched.proofs.slot_counts.core_counts.Goals.{After-deref}
 
 pub loop-c-init : goal.loop-c-init
 loop-c-init c =
@@ -23,19 +24,25 @@ loop-c-init c =
           };
     }
 
+-- the core is one of the system's
+inside : (c : After-deref) → c.loop-c.c < length c.args.sys.now.cores
+inside c = omega (arith, c.loop-c-test.true, ap (λ (cs : List PinnedCore). length cs) c.cores-c-end.ensures.cores)
+
+-- and these are its slots
+own : (c : After-deref) → c.deref.result.now ≡ get_or (slot_lists c.args.given.now) c.loop-c.c []
+own c =
+    list_read c.args.given.now c.loop-c.c (length c.args.sys.now.cores) c.index-given-c.result c.deref.result.now
+    (length-map c.args.given.now (λ (s : Vec Bool Global). s.items) ∙ c.requires.one_each) (inside c) c.index-given-c.is
+    c.deref.ensures.value
+
 pub server_counts-requires-clause-holds : goal.server_counts-requires-clause-holds
 server_counts-requires-clause-holds c =
     let sys = c.args.sys.now in let budgets = c.args.budgets.now in let n = c.args.slots in let k = c.loop-c.c in
-    let l : k < length sys.cores
-    = omega (arith, c.loop-c-test.true, ap (λ (cs : List PinnedCore). length cs) c.cores-c-end.ensures.cores) in
-    let own : c.deref.result.now ≡ get_or (slot_lists c.args.given.now) k []
-    = list_read c.args.given.now k (length sys.cores) c.index-given-c.result c.deref.result.now
-    (length-map c.args.given.now (λ (s : Vec Bool Global). s.items) ∙ c.requires.one_each) l c.index-given-c.is
-    c.deref.ensures.value in
+    let at = (goal.at.server_counts-requires-clause-holds c).After-deref in
     let jobs : List Job = server_jobs sys budgets (Core k) n in
-    subst (λ (slots : List Bool). RunHolds jobs slots c.node_run-core_run.result.now) (sym own)
+    subst (λ (slots : List Bool). RunHolds jobs slots c.node_run-core_run.result.now) (sym (own at))
     (subst (λ (run : List (Option ℕ)). RunHolds jobs (get_or (slot_lists c.args.given.now) k []) run)
-    (sym c.node_run-core_run.ensures) (c.requires.holds k l))
+    (sym c.node_run-core_run.ensures) (c.requires.holds k (inside at)))
 
 pub server_counts-requires-clause-few : goal.server_counts-requires-clause-few
 server_counts-requires-clause-few c =
@@ -45,16 +52,11 @@ server_counts-requires-clause-few c =
 pub loop-c-preserved : goal.loop-c-preserved
 loop-c-preserved c =
     let sys = c.args.sys.now in let budgets = c.args.budgets.now in let n = c.args.slots in let k = c.loop-c.c in
-    let l : k < length sys.cores
-    = omega (arith, c.loop-c-test.true, ap (λ (cs : List PinnedCore). length cs) c.cores-c-end.ensures.cores) in
-    let own : c.deref.result.now ≡ get_or (slot_lists c.args.given.now) k []
-    = list_read c.args.given.now k (length sys.cores) c.index-given-c.result c.deref.result.now
-    (length-map c.args.given.now (λ (s : Vec Bool Global). s.items) ∙ c.requires.one_each) l c.index-given-c.is
-    c.deref.ensures.value in
+    let at = (goal.at.loop-c-preserved c).After-deref in
     let tasks = server_tasks sys budgets (Core k) in let jobs : List Job = server_jobs sys budgets (Core k) n in
     let new : Counts = c.in_ok-server_counts.field-0 in
     let counted : AreCounts tasks jobs (get_or (slot_lists c.args.given.now) k []) (run_at c.args.run.now.cores k) new
-    = subst (λ (slots : List Bool). AreCounts tasks jobs slots (run_at c.args.run.now.cores k) new) own
+    = subst (λ (slots : List Bool). AreCounts tasks jobs slots (run_at c.args.run.now.cores k) new) (own at)
     (subst (λ (run : List (Option ℕ)). AreCounts tasks jobs c.deref.result.now run new) c.node_run-core_run.ensures
     c.in_ok-server_counts.ensures) in
     record {
