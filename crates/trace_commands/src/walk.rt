@@ -10,9 +10,9 @@ ghost use Rattle.command_steps.specs.Steps.{IfAnswered, EndsJudged};
 ghost use Rattle.trace_commands.specs.Audit.{tracing, IsTrace};
 ghost use Rattle.trace_commands.specs.inner.Walk.{HasWalked, HasTakenTrace, IsAuditUnder, IsUnaudited};
 
+use auditor::Audit;
 use command_steps::{Ending, assigned, second_fault};
 use outside::ByteTaker;
-use auditor::Audit;
 use rt_report::FileFault;
 use std::alloc::{AllocError, Global};
 use trace_file::{TraceCheck, TraceFault};
