@@ -109,6 +109,16 @@ fn in_three(alloc: Global, text: &[u8], from: usize, to: usize) -> Result<Writte
 /// With a mark that is no front of the text, and a quote in its last record.
 const MARKED: &str = "a,b\n\u{FEFF}c,d\r\ne,\"f\n\"";
 
+/// Whether this is written of a text, wherever it is cut.
+fn is_written(rt: &impl Abort, alloc: Global, text: &[u8], wanted: &str) {
+    for to in 0..text.len() {
+        for from in 0..to {
+            let written = in_three(alloc, text, from, to).expect(rt, MEMORY);
+            assert!(rt; written.text.as_slice() == wanted.as_bytes(), "{from} {to}");
+        }
+    }
+}
+
 #[test]
 fn a_text_is_taken_in_any_pieces(rt: HostRuntime) {
     for (text, wanted) in [
@@ -116,13 +126,7 @@ fn a_text_is_taken_in_any_pieces(rt: HostRuntime) {
         (QUOTED, "a\"b|c|/x,\"y\"\r\n|pq|/|z|/"),
         (MARKED, "a|b|/\u{FEFF}c|d|/e|f\n|/"),
     ] {
-        let text = text.as_bytes();
-        for to in 0..=text.len() {
-            for from in 0..=to {
-                let written = in_three(rt.alloc(), text, from, to).expect(&rt, MEMORY);
-                assert!(rt; written.text.as_slice() == wanted.as_bytes(), "{from} {to}");
-            }
-        }
+        is_written(&rt, rt.alloc(), text.as_bytes(), wanted);
     }
 }
 
