@@ -25,6 +25,7 @@ use Rattle.rtds_sim.proofs.Telling.{printed_on}
 use Rattle.rtds_sim.proofs.Standing.{Visit, standing_start, standing_next, visit_rows}
 use Rattle.release_file.proofs.Rows.{ordered}
 use Rattle.rtds_sim.proofs.simulate.tell_run.Goals as goal
+use Rattle.rtds_sim.proofs.simulate.tell_run.Goals.{After-take_rows, After-next_row-next}
 
 pub loop-host-init : goal.loop-host-init
 loop-host-init g c =
@@ -51,27 +52,56 @@ loop-host-init g c =
       empty = c.in_ok-switches.ensures.empty;
     }
 
+-- the run of the workload
+abbrev runs_of : (g : _) → After-take_rows g → List (List (Option ℕ))
+runs_of g c = rtds_run c.args.sys.now c.args.plan.now c.args.wakes.now c.args.slots
+
+-- the rows at the slot are taken, and the cores are as before
+visited : (g : _) (c : After-take_rows g)
+    → Visit c.args.sys.now c.args.plan.now c.args.wakes.now (runs_of g c) c.take_rows.new.self
+visited g c =
+    let took = c.take_rows.ensures in
+    visit_rows c.args.sys.now c.args.plan.now c.args.wakes.now c.requires.workload (runs_of g c) c.loop-host.host
+    c.take_rows.new.self c.loop-host.invariant.stands took.time took.holders took.ready.room took.in_rows took.later
+    took.now took.no_more took.accounts
+
+in_slots : (g : _) (c : After-take_rows g) → c.take_rows.new.self.time < c.args.slots
+in_slots g c = omega (arith, c.take_rows.ensures.time, c.loop-host-test.true)
+
+-- the slot up to which the cores run is a later one
+next_later : (g : _) (c : After-next_row-next g) → c.take_rows.new.self.time < c.next_row-next.result
+next_later g c =
+    let at = (goal.at.After-next_row-next g c).After-take_rows in
+    let left = c.stop_blocked.ensures in
+    let taken : AreBefore c.args.wakes.now c.take_rows.new.self.taken (suc c.take_rows.new.self.time)
+    = (visited g at).taken in
+    let within : c.take_rows.new.self.time < c.args.slots = in_slots g at in
+    omega (
+      arith,
+      left.time,
+      c.next_row-next.ensures.later (omega (arith, left.time, within)) (λ m. omega (
+        arith,
+        left.time,
+        left.taken,
+        taken.to_come c.stop_blocked.new.self.taken (omega (arith, left.taken)) m,
+      )),
+    )
+
 -- where no row was taken, no VCPU that has a core is blocked
 pub stop_blocked-requires-clause-awake : goal.stop_blocked-requires-clause-awake
 stop_blocked-requires-clause-awake g c same d l =
-    let sys = c.args.sys.now in
-    let budgets = c.args.plan.now in
-    let rows = c.args.wakes.now in
-    let runs = rtds_run sys budgets rows c.args.slots in
-    let is : RtdsRun sys budgets rows c.args.slots runs = rtds_run-is sys budgets rows c.args.slots in
-    let took = c.take_rows.ensures in
-    let host = c.take_rows.new.self in
-    let visit : Visit sys budgets rows runs host
-    = visit_rows sys budgets rows c.requires.workload runs c.loop-host.host host
-    c.loop-host.invariant.stands took.time took.holders took.ready.room took.in_rows took.later took.now
-    took.no_more took.accounts in
-    let within : host.time < c.args.slots = omega (arith, took.time, c.loop-host-test.true) in
-    let before : AreBefore rows host.taken host.time
-    = subst (λ (k : ℕ). AreBefore rows k host.time) same
-    (subst (AreBefore rows c.loop-host.host.taken) (sym took.time) c.loop-host.invariant.stands.before) in
-    gives_up_at sys budgets rows runs host visit.taken visit.are visit.room visit.holders_are d l
-    ∙ none_blocks sys budgets rows c.args.slots d (run_at runs d) (is.cores d l) host.time host.taken before visit.taken
-    within
+    let at = (goal.at.stop_blocked-requires-clause-awake g c).After-take_rows in
+    let run = rtds_run-is c.args.sys.now c.args.plan.now c.args.wakes.now c.args.slots in
+    let host : Host = c.take_rows.new.self in
+    let visit = visited g at in
+    let before : AreBefore c.args.wakes.now host.taken host.time
+    = subst (λ (k : ℕ). AreBefore c.args.wakes.now k host.time) same
+    (subst (AreBefore c.args.wakes.now c.loop-host.host.taken) (sym c.take_rows.ensures.time)
+    c.loop-host.invariant.stands.before) in
+    gives_up_at c.args.sys.now c.args.plan.now c.args.wakes.now (runs_of g at) host visit.taken visit.are visit.room
+    visit.holders_are d l
+    ∙ none_blocks c.args.sys.now c.args.plan.now c.args.wakes.now c.args.slots d (run_at (runs_of g at) d)
+    (run.cores d l) host.time host.taken before visit.taken (in_slots g at)
 
 -- a switch stands at its slot
 at_slots : (rows : List Row) (runs : List (List (Option ℕ))) → AreAtSlots (switch_at rows runs)
@@ -90,51 +120,24 @@ run_on-requires-clause-ends g c d l v lv child =
       c.stop_blocked.ensures.time,
     )
 
--- the slot up to which the cores run is a later one
-next_later : (rows : List Row) (host other : Host) (slots next : ℕ) → AreBefore rows host.taken (suc host.time)
-    → other.time ≡ host.time → other.taken ≡ host.taken → host.time < slots
-    → (other.time < slots → (other.taken < length rows → other.time < (row_at rows other.taken).at) → other.time < next)
-    → host.time < next
-next_later rows host other slots next taken t k l later =
-    omega
-    (arith, t, later (omega (arith, t, l)) (λ m. omega (arith, t, k, taken.to_come other.taken (omega (arith, k)) m)))
-
 pub run_on-requires-clause-later : goal.run_on-requires-clause-later
 run_on-requires-clause-later g c =
-    let sys = c.args.sys.now in
-    let budgets = c.args.plan.now in
-    let rows = c.args.wakes.now in
-    let runs = rtds_run sys budgets rows c.args.slots in
-    let took = c.take_rows.ensures in
-    let visit : Visit sys budgets rows runs c.take_rows.new.self
-    = visit_rows sys budgets rows c.requires.workload runs c.loop-host.host c.take_rows.new.self
-    c.loop-host.invariant.stands took.time took.holders took.ready.room took.in_rows took.later took.now
-    took.no_more took.accounts in
-    omega (
-      arith,
-      c.stop_blocked.ensures.time,
-      next_later rows c.take_rows.new.self c.stop_blocked.new.self c.args.slots c.next_row-next.result visit.taken
-          c.stop_blocked.ensures.time c.stop_blocked.ensures.taken
-          (omega (arith, took.time, c.loop-host-test.true)) c.next_row-next.ensures.later,
-    )
+    let later : c.take_rows.new.self.time < c.next_row-next.result
+    = next_later g (goal.at.run_on-requires-clause-later g c).After-next_row-next in
+    omega (arith, later, c.stop_blocked.ensures.time)
 
 pub loop-host-smaller : goal.loop-host-smaller
 loop-host-smaller g c =
-    let sys = c.args.sys.now in
-    let budgets = c.args.plan.now in
-    let rows = c.args.wakes.now in
-    let runs = rtds_run sys budgets rows c.args.slots in
-    let took = c.take_rows.ensures in
-    let visit : Visit sys budgets rows runs c.take_rows.new.self
-    = visit_rows sys budgets rows c.requires.workload runs c.loop-host.host c.take_rows.new.self
-    c.loop-host.invariant.stands took.time took.holders took.ready.room took.in_rows took.later took.now
-    took.no_more took.accounts in
     let later : c.take_rows.new.self.time < c.next_row-next.result
-    = next_later rows c.take_rows.new.self c.stop_blocked.new.self c.args.slots c.next_row-next.result visit.taken
-    c.stop_blocked.ensures.time c.stop_blocked.ensures.taken (omega (arith, took.time, c.loop-host-test.true))
-    c.next_row-next.ensures.later in
-    omega
-    (arith, later, took.time, c.in_ok-run_on.ensures.time, c.next_row-next.ensures.in_slots, c.loop-host-test.true)
+    = next_later g (goal.at.loop-host-smaller g c).After-next_row-next in
+    omega (
+      arith,
+      later,
+      c.take_rows.ensures.time,
+      c.in_ok-run_on.ensures.time,
+      c.next_row-next.ensures.in_slots,
+      c.loop-host-test.true,
+    )
 
 pub loop-host-preserved : goal.loop-host-preserved
 loop-host-preserved g c =
@@ -142,11 +145,9 @@ loop-host-preserved g c =
     let budgets = c.args.plan.now in
     let rows = c.args.wakes.now in
     let runs = rtds_run sys budgets rows c.args.slots in
+    let at = goal.at.loop-host-preserved g c in
     let took = c.take_rows.ensures in
-    let visit : Visit sys budgets rows runs c.take_rows.new.self
-    = visit_rows sys budgets rows c.requires.workload runs c.loop-host.host c.take_rows.new.self
-    c.loop-host.invariant.stands took.time took.holders took.ready.room took.in_rows took.later took.now
-    took.no_more took.accounts in
+    let visit : Visit sys budgets rows runs c.take_rows.new.self = visited g at.After-take_rows in
     let is : RtdsRun sys budgets rows c.args.slots runs = rtds_run-is sys budgets rows c.args.slots in
     let took_host : Host = c.take_rows.new.self in
     let left : Host = c.stop_blocked.new.self in
@@ -156,9 +157,7 @@ loop-host-preserved g c =
     let cores : ℕ = length sys.cores in
     let time : left.time ≡ x = c.stop_blocked.ensures.time in
     let taken : left.taken ≡ k = c.stop_blocked.ensures.taken in
-    let later : x < to
-    = next_later rows took_host left c.args.slots to visit.taken time taken
-    (omega (arith, took.time, c.loop-host-test.true)) c.next_row-next.ensures.later in
+    let later : x < to = next_later g at.After-next_row-next in
     let rows_later : RowsFrom rows k to
     = λ i a b. omega (
       arith,
@@ -255,20 +254,17 @@ loop-host-preserved g c =
 
 pub returns-clause-trace : goal.returns-clause-trace
 returns-clause-trace g c =
-    let sys = c.args.sys.now in
-    let budgets = c.args.plan.now in
-    let rows = c.args.wakes.now in
-    let runs = rtds_run sys budgets rows c.args.slots in
+    let run : List (List (Option ℕ)) = rtds_run c.args.sys.now c.args.plan.now c.args.wakes.now c.args.slots in
     let end : c.loop-host.host.time ≡ c.args.slots
     = omega (arith, c.loop-host.invariant.in_slots, c.loop-host-test.false) in
-    let below : List Event = printed_below sys rows runs c.args.slots in
+    let below : List Event = printed_below c.args.sys.now c.args.wakes.now run c.args.slots in
     let ended : Took g.T.EventTaker.has_taken c.loop-host.events c.take.new.self (on_at 0 c.args.slots End ∷ [])
     = subst (λ (m : ℕ). Took g.T.EventTaker.has_taken c.loop-host.events c.take.new.self
     (record { at = m; core = 0; what = End } ∷ [])) c.moment_of_slot.ensures c.in_ok-take.ensures in (
-      printed sys rows runs c.args.slots,
-      (runs, rtds_run-is sys c.args.plan.now rows c.args.slots, refl),
+      printed c.args.sys.now c.args.wakes.now run c.args.slots,
+      (run, rtds_run-is c.args.sys.now c.args.plan.now c.args.wakes.now c.args.slots, refl),
       took_more g.T.EventTaker.has_taken c.args.events.now c.loop-host.events c.take.new.self below
           (on_at 0 c.args.slots End ∷ [])
           (subst (λ (y : ℕ). Took g.T.EventTaker.has_taken c.args.events.now c.loop-host.events
-          (printed_below sys rows runs y)) end c.loop-host.invariant.told) ended,
+          (printed_below c.args.sys.now c.args.wakes.now run y)) end c.loop-host.invariant.told) ended,
     )
