@@ -6,20 +6,22 @@ use Rattle.guest_sched.specs.Spans.{run_of, AreSpans}
 use Rattle.guest_sched.proofs.Given.{slots-long}
 use Rattle.miss_witness.proofs.ReplayLeaf.{RunsDefeat, run_holds_released, run_is_replay, runs_over}
 use Rattle.miss_witness.proofs.replays.seen_miss.Goals as goal
+use Rattle.miss_witness.proofs.replays.seen_miss.Goals.{After-deref-4}
+
+-- what ran before the first miss is sought
+ran : (c : After-deref-4)
+    → RunsDefeat c.args.sched (sporadic_tasks c.args.tasks.now) c.args.period c.args.defeat.now c.deref-3.result.now
+    (run_of c.deref-4.result.now)
+ran c =
+    runs_over c.args.sched (sporadic_tasks c.args.tasks.now) c.args.period c.args.defeat.now c.in-Some.slots
+    c.in-Some.ensures.0 c.in_ok-jobs.jobs.items c.deref.result.now c.deref-3.result.now c.in_ok-windows.windows.items
+    c.deref-2.result.now c.in_ok-spans.spans.items c.deref-4.result.now
+    c.in_ok-jobs.ensures.exact c.deref.ensures.value c.deref-3.ensures.value c.deref-2.ensures.value
+    c.deref-4.ensures.value c.in_ok-windows.ensures.follows c.in_ok-spans.ensures.first
 
 pub first_miss-requires-clause-released : goal.first_miss-requires-clause-released
 first_miss-requires-clause-released c =
-    let T = sporadic_tasks c.args.tasks.now in
-    let runs : RunsDefeat c.args.sched T c.args.period c.args.defeat.now c.deref-3.result.now
-    (run_of c.deref-4.result.now)
-    =
-    runs_over c.args.sched T c.args.period c.args.defeat.now c.in-Some.slots c.in-Some.ensures.0 c.in_ok-jobs.jobs.items
-    c.deref.result.now c.deref-3.result.now c.in_ok-windows.windows.items c.deref-2.result.now
-    c.in_ok-spans.spans.items c.deref-4.result.now
-    c.in_ok-jobs.ensures.exact c.deref.ensures.value c.deref-3.ensures.value c.deref-2.ensures.value
-    c.deref-4.ensures.value c.in_ok-windows.ensures.follows c.in_ok-spans.ensures.first in
-    run_holds_released c.args.sched T c.args.period c.args.defeat.now c.deref-3.result.now (run_of c.deref-4.result.now)
-    runs
+    run_holds_released _ _ _ _ _ _ (ran (goal.at.first_miss-requires-clause-released c).After-deref-4)
 
 pub first_miss-requires-clause-spans : goal.first_miss-requires-clause-spans
 first_miss-requires-clause-spans c =
@@ -30,15 +32,7 @@ first_miss-requires-clause-spans c =
 
 pub returns : goal.returns
 returns c =
-    let T = sporadic_tasks c.args.tasks.now in
-    let runs : RunsDefeat c.args.sched T c.args.period c.args.defeat.now c.deref-3.result.now
-    (run_of c.deref-4.result.now)
-    =
-    runs_over c.args.sched T c.args.period c.args.defeat.now c.in-Some.slots c.in-Some.ensures.0 c.in_ok-jobs.jobs.items
-    c.deref.result.now c.deref-3.result.now c.in_ok-windows.windows.items c.deref-2.result.now
-    c.in_ok-spans.spans.items c.deref-4.result.now
-    c.in_ok-jobs.ensures.exact c.deref.ensures.value c.deref-3.ensures.value c.deref-2.ensures.value
-    c.deref-4.ensures.value c.in_ok-windows.ensures.follows c.in_ok-spans.ensures.first in
-    IfOk-weaker c.first_miss.result _ _ (λ miss first. run_is_replay c.args.sched T c.args.period c.args.defeat.now
-    (omega (arith, c.in-Some.ensures.0, c.in-Some.ensures.1)) c.requires.misses c.deref-3.result.now
-    (run_of c.deref-4.result.now) runs miss first) c.first_miss.ensures
+    let at = (goal.at.returns c).After-deref-4 in
+    IfOk-weaker c.first_miss.result _ _ (λ miss first. run_is_replay c.args.sched (sporadic_tasks c.args.tasks.now)
+    c.args.period c.args.defeat.now (omega (arith, c.in-Some.ensures.0, c.in-Some.ensures.1)) c.requires.misses
+    c.deref-3.result.now (run_of c.deref-4.result.now) (ran at) miss first) c.first_miss.ensures
