@@ -3,13 +3,16 @@ use Rattle.std.proofs.Common.{◌≡◌, ℕ, ◌++◌, List, Result, Ok, Err, r
 use Rattle.std.specs.Prelude.{OnOk}
 use Rattle.outside.specs.Taker.{Took}
 use Rattle.tree_model.specs.View.{SystemView}
+use Rattle.trace_file.specs.declared.check.TraceCheck.{TraceCheck}
 use Rattle.trace_file.specs.declared.event.Event.{Event}
+use Rattle.trace_file.specs.Fed.{HasChecked}
 use Rattle.auditor.specs.declared.finding.Finding.{Finding}
 use Rattle.auditor.specs.declared.finding.Finding.TheVariants.{Yes as Kept, Short, Over}
 use Rattle.auditor.specs.Finding.{IsFinding, IsFindingOf}
 use Rattle.auditor.specs.Tally.{IsTalliedOf}
 use Rattle.vcpu_watch.specs.declared.tally.Tally.{Tally}
 use Rattle.auditor.specs.declared.pieces.Audit.{Audit}
+use Rattle.auditor.specs.Pieces.{HasAudited}
 use Rattle.rt_report.specs.Audit.{audit_text, IsFindingOf as IsToldOf}
 use Rattle.rt_report.specs.Tally.{tally_text}
 use Rattle.command_steps.specs.declared.status.Status.{Status}
@@ -19,6 +22,8 @@ use Rattle.command_steps.specs.Attempt.{IsRefused, OnAttempt}
 use Rattle.command_steps.specs.Budgets.{OnAssigned}
 use Rattle.command_steps.specs.Steps.{IfAnswered, HasTaken}
 use Rattle.trace_commands.specs.declared.walk.TraceWalk.{TraceWalk}
+use Rattle.trace_commands.specs.declared.walk.Walker.{Walker}
+use Rattle.trace_commands.specs.declared.walk.Walker.TheVariants.{Audits, Checks}
 use Rattle.trace_commands.specs.Audit.{tracing, finding_status, AuditsBytes, IsTrace}
 use Rattle.trace_commands.specs.Tally.{TalliesBytes}
 use Rattle.trace_commands.specs.inner.Walk.{HasWalked, HasTakenTrace, IsAuditUnder, IsWaiting, IsUnaudited}
@@ -39,6 +44,34 @@ took_more (Ok done) old new piece same more = λ start bytes h. record {
       subst (λ (s : SystemView). HasWalked s (bytes ++ piece) new.walker) (sym same) (more old.sys.now bytes h.walked);
 }
 took_more (Err fault) old new piece same more = tt
+
+-- what holds where a call goes well still holds with what follows from it
+still : {Done Fault P Q : Type 0} (result : Result Done Fault) → (P → Q) → OnOk result P → OnOk result Q
+still (Ok done) more holds = more holds
+still (Err fault) more holds = tt
+
+-- an audit that goes on, and a check that does while the refusal waits
+pub audits_on : {Fault : Type 0} (result : Result (Unit {0}) Fault) (sys : SystemView) (bytes piece budgets : List ℕ)
+    (old new : Audit) (walker : Walker) → walker ≡ Audits budgets old → HasWalked sys bytes walker
+    → ((s : SystemView) (b t : List ℕ) → HasAudited s b t old → OnOk result (HasAudited s b (t ++ piece) new))
+    → OnOk result (HasWalked sys (bytes ++ piece) (Audits budgets new))
+audits_on result sys bytes piece budgets old new walker is h take =
+    let under : IsAuditUnder sys bytes budgets old = subst (HasWalked sys bytes) is h in
+    still result (λ audited. record { assigned = under.assigned; plan = under.plan; audited = audited })
+    (take sys budgets bytes under.audited)
+
+pub checking : (sys : SystemView) (bytes : List ℕ) (check : TraceCheck) (refused : Ending) (walker : Walker)
+    → walker ≡ Checks check refused → HasWalked sys bytes walker → HasChecked sys bytes check × IsWaiting sys refused
+checking sys bytes check refused walker is h = subst (HasWalked sys bytes) is h
+
+pub checks_on : {Fault : Type 0} (result : Result (Unit {0}) Fault) (sys : SystemView) (bytes piece : List ℕ)
+    (old new : TraceCheck) (refused : Ending) (walker : Walker) → walker ≡ Checks old refused
+    → HasWalked sys bytes walker
+    → ((s : SystemView) (t : List ℕ) → HasChecked s t old → OnOk result (HasChecked s (t ++ piece) new))
+    → OnOk result (HasWalked sys (bytes ++ piece) (Checks new refused))
+checks_on result sys bytes piece old new refused walker is h take =
+    let taken = checking sys bytes old refused walker is h in
+    still result (λ checked. (checked, taken.1)) (take sys bytes taken.0)
 
 -- what is found of a trace is told of a part of the system
 pub told_of_part : (sys : SystemView) (budgets : List ℕ) (events : List Event) (finding : Finding)
