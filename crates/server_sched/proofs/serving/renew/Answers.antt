@@ -1,15 +1,16 @@
-use Rattle.std.proofs.Common.{◌≡◌, ℕ, ◌+◌, ◌<◌, ◌≤◌, List, length, set, arith, ap, sym, ◌∙◌, subst, inl, inr, get_or-set_other}
+use Rattle.std.proofs.Common.{◌≡◌, ℕ, ◌+◌, ◌<◌, ◌≤◌, List, Option, length, set, arith, ap, sym, ◌∙◌, subst, inl, inr, get_or-set_other}
 use Rattle.std.proofs.lemmas.Bool.{cases_eq}
 use Rattle.std.proofs.lemmas.List.{length-map}
 use Rattle.slot_model.specs.Task.{SporadicTask, sporadic_task, sporadic_tasks, task_at}
 use Rattle.slot_model.specs.Release.{synchronous}
 use Rattle.slot_model.proofs.Constrained.{are_constrained}
 use Rattle.slot_model.proofs.LegalJobs.{task_at-read}
+use Rattle.server_sched.specs.declared.serving.Come.{Come}
 use Rattle.server_sched.specs.declared.serving.Server.{Server}
 use Rattle.server_sched.specs.Serving.{server_at, no_server, IsKeyed, AtMoment}
 use Rattle.server_sched.proofs.Renewing.{one_renewed, one_waiting, all_renewed}
 use Rattle.server_sched.proofs.serving.renew.Goals as goal
-use Rattle.server_sched.proofs.serving.renew.Goals.{then-servers-i, else-servers-i}
+use Rattle.server_sched.proofs.serving.renew.Goals.{After-min, then-servers-i, else-servers-i}
 
 -- no server releases before the least next release of the first so many
 least_more : (servers : List Server) (i old new : ℕ) → ((k : ℕ) → k < i → old ≤ (server_at servers k).next) → new ≤ old
@@ -21,8 +22,41 @@ least_more servers i old new h a b k l =
       | inr ne ↦ omega (arith, a, h k (omega arith))
     ]
 
+-- what is released by now, whether or not server i is due
+released_now : (c : After-min) (n : ℕ) (run : List (Option ℕ)) (released : ℕ) (servers : List Server)
+    → c.if-servers-i.come.released ≡ released → c.if-servers-i.servers ≡ servers
+    → c.if-servers-i.come.next ≡ c.loop-i.come.next → c.loop-i.i < length (sporadic_tasks c.args.tasks.now)
+    → c.args.moment < c.loop-i.come.next
+    → AtMoment c.args.sched (sporadic_tasks c.args.tasks.now) (synchronous (sporadic_tasks c.args.tasks.now) 0 n) run
+    c.args.moment (c.loop-i.i + 1) released servers
+    → (AtMoment c.args.sched (sporadic_tasks c.args.tasks.now) (synchronous (sporadic_tasks c.args.tasks.now) 0 n) run
+    c.args.moment (c.loop-i.i + 1) c.if-servers-i.come.released c.if-servers-i.servers)
+    × (c.args.moment < c.min.result)
+released_now c n run released servers of_released of_servers of_next l later more =
+    let T = sporadic_tasks c.args.tasks.now in
+    let i = c.loop-i.i in
+    let now : AtMoment c.args.sched T (synchronous T 0 n) run c.args.moment (i + 1) c.if-servers-i.come.released
+    c.if-servers-i.servers
+    =
+    subst (λ (s : List Server). AtMoment c.args.sched T (synchronous T 0 n) run c.args.moment (i + 1)
+    c.if-servers-i.come.released s) (sym of_servers)
+    (subst (λ (r : ℕ). AtMoment c.args.sched T (synchronous T 0 n) run c.args.moment (i + 1) r servers)
+    (sym of_released) more) in (
+      now,
+      omega (arith, c.min.ensures, later, of_next, (now.past i (omega arith) l).from),
+    )
+
+-- no server so far releases before the next moment
+least_now : (c : After-min) → c.if-servers-i.come.next ≡ c.loop-i.come.next
+    → ((k : ℕ) → k < c.loop-i.i → c.loop-i.come.next ≤ (server_at c.if-servers-i.servers k).next)
+    → (k : ℕ) → k < c.loop-i.i + 1 → c.min.result ≤ (server_at c.if-servers-i.servers k).next
+least_now c of_next so_far =
+    least_more c.if-servers-i.servers c.loop-i.i c.loop-i.come.next c.min.result so_far
+    (omega (arith, c.min.ensures, of_next)) (omega (arith, c.min.ensures))
+
 pub loop-i-preserved : goal.loop-i-preserved
 loop-i-preserved c =
+    let at = (goal.at.loop-i-preserved c).After-min in
     let T = sporadic_tasks c.args.tasks.now in
     let x = c.args.moment in
     let i = c.loop-i.i in
@@ -55,26 +89,17 @@ loop-i-preserved c =
                   w.index-tasks-i.result.in_limit,
                 )) (omega (arith, w.if-servers-i.true))
                 (made.left ∙ ap (λ (t : SporadicTask). t.work) (sym read)) period made.place keyed before.0 in
-                let now : AtMoment c.args.sched T (synchronous T 0 n) run x (i + 1) c.if-servers-i.come.released
-                c.if-servers-i.servers
-                =
-                subst (λ (s : List Server). AtMoment c.args.sched T (synchronous T 0 n) run x (i + 1)
-                c.if-servers-i.come.released s) (sym w.servers-is)
-                (subst (λ (r : ℕ). AtMoment c.args.sched T (synchronous T 0 n) run x (i + 1) r (set servers i new))
-                (sym (ap (λ v. v.released) w.come-is)) more) in (
-                  now,
-                  omega
-                      (arith, c.min.ensures, before.1, ap (λ v. v.next) w.come-is, (now.past i (omega arith) l).from),
-                );
-            least = λ k a. least_more c.if-servers-i.servers i c.loop-i.come.next c.min.result
-                (λ q b. omega (
+                released_now at n run (c.loop-i.come.released + 1) (set servers i new)
+                (ap (λ (v : Come). v.released) w.come-is) w.servers-is (ap (λ (v : Come). v.next) w.come-is) l before.1
+                more;
+            least =
+                least_now at (ap (λ (v : Come). v.next) w.come-is) (λ q b. omega (
                   arith,
                   old.least q b,
                   ap (λ (s : List Server). (server_at s q).next) w.servers-is,
                   ap (λ (s : Server). s.next) (get_or-set_other servers i q new no_server (λ e. omega arith)),
-                ))
-                (omega (arith, c.min.ensures, ap (λ v. v.next) w.come-is)) (omega (arith, c.min.ensures)) k a;
-            few = omega (arith, old.few, ap (λ v. v.released) w.come-is);
+                ));
+            few = omega (arith, old.few, ap (λ (v : Come). v.released) w.come-is);
             long = omega (arith, old.long, c.loop-i.auto.servers, c.if-servers-i.auto.servers);
           }
       | else-servers-i w ↦
@@ -85,21 +110,12 @@ loop-i-preserved c =
                 =
                 one_waiting c.args.sched T n run x i c.loop-i.come.released servers l (λ e. w.if-servers-i.false e)
                 before.0 in
-                let now : AtMoment c.args.sched T (synchronous T 0 n) run x (i + 1) c.if-servers-i.come.released
-                c.if-servers-i.servers
-                =
-                subst (λ (s : List Server). AtMoment c.args.sched T (synchronous T 0 n) run x (i + 1)
-                c.if-servers-i.come.released s) (sym w.servers-is)
-                (subst (λ (r : ℕ). AtMoment c.args.sched T (synchronous T 0 n) run x (i + 1) r servers)
-                (sym (ap (λ v. v.released) w.come-is)) more) in (
-                  now,
-                  omega
-                      (arith, c.min.ensures, before.1, ap (λ v. v.next) w.come-is, (now.past i (omega arith) l).from),
-                );
-            least = λ k a. least_more c.if-servers-i.servers i c.loop-i.come.next c.min.result
-                (λ q b. omega (arith, old.least q b, ap (λ (s : List Server). (server_at s q).next) w.servers-is))
-                (omega (arith, c.min.ensures, ap (λ v. v.next) w.come-is)) (omega (arith, c.min.ensures)) k a;
-            few = omega (arith, old.few, ap (λ v. v.released) w.come-is);
+                released_now at n run c.loop-i.come.released servers (ap (λ (v : Come). v.released) w.come-is)
+                w.servers-is (ap (λ (v : Come). v.next) w.come-is) l before.1 more;
+            least =
+                least_now at (ap (λ (v : Come). v.next) w.come-is)
+                (λ q b. omega (arith, old.least q b, ap (λ (s : List Server). (server_at s q).next) w.servers-is));
+            few = omega (arith, old.few, ap (λ (v : Come). v.released) w.come-is);
             long = omega (arith, old.long, c.loop-i.auto.servers, c.if-servers-i.auto.servers);
           }
     ]
