@@ -1,4 +1,4 @@
-use Rattle.std.proofs.Common.{ℕ, List, Vec, Global, map, sym, ◌∙◌, ap, arith, add-one}
+use Rattle.std.proofs.Common.{◌≡◌, ℕ, List, Vec, Global, get_or, map, sym, ◌∙◌, ap, arith, add-one}
 use Rattle.std.proofs.lemmas.List.{length-map}
 use Rattle.slot_model.specs.declared.job.Job.{Job}
 use Rattle.slot_model.specs.Slots.{sum_below}
@@ -8,8 +8,9 @@ use Rattle.span_counts.specs.Pending.{pairs_pending}
 use Rattle.tree_model.specs.Releases.{jobs_at}
 use Rattle.tree_spans.specs.NodeView.{NodeView}
 use Rattle.tree_spans.specs.TreeSpans.{node_at}
-use Rattle.bulk_run.proofs.Counting.{found, run_found, pending_found}
+use Rattle.bulk_run.proofs.Counting.{AreFound, found, run_found, pending_found}
 use Rattle.bulk_run.proofs.counts.pending_of.Goals as goal
+use Rattle.bulk_run.proofs.counts.pending_of.Goals.{After-deref}
 
 abbrev pending_at : List (Vec Job Global) → List NodeView → ℕ → ℕ
 pending_at jobs nodes q =
@@ -19,19 +20,33 @@ pub loop-place-init : goal.loop-place-init
 loop-place-init c =
     record { counted = sym (sum_below-zero (pending_at c.args.jobs.now c.args.nodes.now)); few = omega arith }
 
+-- what is read of the guest at a place
+here : (c : After-deref) (node : NodeView) → node ≡ get_or c.args.nodes.now c.loop-place.place node
+    → AreFound (map (λ (list : Vec Job Global). list.items) c.args.jobs.now) c.args.nodes.now c.loop-place.place
+    c.deref.result.now node.spans
+here c node is =
+    found c.args.jobs.now c.args.nodes.now c.loop-place.place c.index-jobs-place.result node c.deref.result.now
+    (omega (arith, c.loop-place-test.true))
+    (omega (
+      arith,
+      c.loop-place-test.true,
+      length-map c.args.jobs.now (λ (list : Vec Job Global). list.items),
+      c.requires.runs.one_each,
+    )) c.index-jobs-place.is c.deref.ensures.value is
+
 pub pending_in-requires : goal.pending_in-requires
 pending_in-requires c =
-    let long = length-map c.args.jobs.now (λ (list : Vec Job Global). list.items) in
-    let here
-    = found c.args.jobs.now c.args.nodes.now c.loop-place.place c.index-jobs-place.result c.index-nodes-place.result
-    c.deref.result.now (omega (arith, c.loop-place-test.true))
-    (omega (arith, c.loop-place-test.true, long, c.requires.runs.one_each)) c.index-jobs-place.is
-    c.deref.ensures.value c.index-nodes-place.is in
+    let at = (goal.at.pending_in-requires c).After-deref in
     record {
       run =
           run_found (map (λ (list : Vec Job Global). list.items) c.args.jobs.now) c.args.nodes.now c.loop-place.place
-          c.deref.result.now c.index-nodes-place.result.spans here c.requires.runs
-          (omega (arith, c.loop-place-test.true, long));
+          c.deref.result.now c.index-nodes-place.result.spans
+          (here at c.index-nodes-place.result c.index-nodes-place.is) c.requires.runs
+          (omega (
+            arith,
+            c.loop-place-test.true,
+            length-map c.args.jobs.now (λ (list : Vec Job Global). list.items),
+          ));
     }
 
 pub overflow_add-pending : goal.overflow_add-pending
@@ -44,16 +59,12 @@ overflow_add-pending c =
 
 pub loop-place-preserved : goal.loop-place-preserved
 loop-place-preserved c =
-    let long = length-map c.args.jobs.now (λ (list : Vec Job Global). list.items) in
-    let here
-    = found c.args.jobs.now c.args.nodes.now c.loop-place.place c.index-jobs-place.result c.index-nodes-place.result
-    c.deref.result.now (omega (arith, c.loop-place-test.true))
-    (omega (arith, c.loop-place-test.true, long, c.requires.runs.one_each)) c.index-jobs-place.is
-    c.deref.ensures.value c.index-nodes-place.is in
+    let at = (goal.at.loop-place-preserved c).After-deref in
     let one
     = c.in_ok-pending.ensures.number
     ∙ pending_found (map (λ (list : Vec Job Global). list.items) c.args.jobs.now) c.args.nodes.now
-    c.loop-place.place c.deref.result.now c.index-nodes-place.result.spans here in
+    c.loop-place.place c.deref.result.now c.index-nodes-place.result.spans
+    (here at c.index-nodes-place.result c.index-nodes-place.is) in
     record {
       counted =
           omega (

@@ -1,8 +1,10 @@
 use Rattle.std.proofs.Common.{◌≡◌, ◌≢◌, ℕ, ◌+◌, ◌-◌, ◌<◌, ◌≤◌, Bool, List, [], Option, Some, None, length, get_or, refl, sym, ◌∙◌, ap, arith, subst, inl, inr, IfSome}
+use Rattle.std.specs.Prelude.{All}
 use Rattle.std.proofs.lemmas.Bool.{cases_eq}
 use Rattle.std.proofs.lemmas.List.{get_or_default, length-map}
 use Rattle.std.proofs.lemmas.Option.{same_Some}
 use Rattle.slot_model.specs.declared.job.Job.{Job}
+use Rattle.slot_model.specs.declared.task.Task.{Task}
 use Rattle.slot_model.specs.Task.{SporadicTask, default_job, task_at, sporadic_task, sporadic_tasks}
 use Rattle.slot_model.specs.Release.{LegalRelease}
 use Rattle.slot_model.specs.Run.{FirstRunTo}
@@ -47,14 +49,17 @@ in_jitter_each tasks jobs h d k l =
     subst (λ (a : Job). a.early ≤ (task_at tasks a.task).jitter) (get_or_default jobs k default_job d l)
     (h.in_jitter k l)
 
+named_each : (tasks : List Task) (jobs : List Job) → LegalRelease (sporadic_tasks tasks) jobs
+    → All (λ (a : Job). a.task < length tasks) jobs
+named_each tasks jobs h = λ k d l. omega (
+  arith,
+  h.named k l,
+  ap (λ (a : Job). a.task) (get_or_default jobs k d default_job l),
+  length-map tasks sporadic_task,
+)
+
 pub catch_up-requires-clause-named : goal.catch_up-requires-clause-named
-catch_up-requires-clause-named g c =
-    λ k d l. omega (
-      arith,
-      c.requires.legal.named k l,
-      ap (λ (a : Job). a.task) (get_or_default c.args.jobs.now k d default_job l),
-      length-map c.args.tasks.now sporadic_task,
-    )
+catch_up-requires-clause-named g c = named_each c.args.tasks.now c.args.jobs.now c.requires.legal
 
 pub catch_up-requires-clause-in_jitter : goal.catch_up-requires-clause-in_jitter
 catch_up-requires-clause-in_jitter g c =
@@ -65,13 +70,7 @@ serve-span-requires-clause-in_jitter g c =
     λ k d l. in_jitter_each (sporadic_tasks c.args.tasks.now) c.args.jobs.now c.requires.legal d k l
 
 pub serve-span-requires-clause-named : goal.serve-span-requires-clause-named
-serve-span-requires-clause-named g c =
-    λ k d l. omega (
-      arith,
-      c.requires.legal.named k l,
-      ap (λ (a : Job). a.task) (get_or_default c.args.jobs.now k d default_job l),
-      length-map c.args.tasks.now sporadic_task,
-    )
+serve-span-requires-clause-named g c = named_each c.args.tasks.now c.args.jobs.now c.requires.legal
 
 where_some : (o : Option ℕ) (P : ℕ → Type 0) → IfSome o P → (p : ℕ) → o ≡ Some p → P p
 where_some None P h p e = absurd (none_some None p refl e)
