@@ -1,22 +1,18 @@
 -- How many bytes the words take of told files, and how words end that name none.
-use Rattle.std.proofs.Common.{◌≡◌, ◌≢◌, ◌⊎◌, ℕ, ◌+◌, ◌≤◌, List, Option, Some, None, refl, sym, ◌∙◌, subst, inl, inr, arith}
-use Rattle.std.specs.Prelude.{map, option_map}
+use Rattle.std.proofs.Common.{◌≡◌, ◌≢◌, ◌⊎◌, ℕ, ◌+◌, ◌≤◌, List, Option, Some, None, refl, ◌∙◌, subst, inl, inr}
+use Rattle.std.specs.Prelude.{option_map}
 use Rattle.outside.specs.Counts.{RoseBy}
-use Rattle.outside.specs.Files.{Files, file_named}
+use Rattle.outside.specs.Files.{Files}
 use Rattle.command_steps.specs.declared.status.Status.{Status}
 use Rattle.command_steps.specs.declared.status.Status.TheVariants.{Yes, No, Usage, BadFile, Wide, Absent, TooLong, ReadFault, WriteFault, NoMemory}
 use Rattle.command_steps.specs.declared.answer.Answer.{Answer}
-use Rattle.command_steps.specs.declared.answer.Ending.{Ending}
 use Rattle.command_steps.specs.declared.answer.Ending.TheVariants.{Answered, Unread}
 use Rattle.command_words.specs.Commands.{Command, command_told}
 use Rattle.rt_top.specs.Report.{IsAnswer}
-use Rattle.command_steps.specs.Reading.{read_in}
 use Rattle.command_words.specs.Reading.{bytes_to_read, NamesNoFile}
 use Rattle.rt_top.specs.Reading.{Takes, EndsWithoutFile}
 use Rattle.command_words.specs.declared.commands.Command.{Command as Parsed}
-use Rattle.command_steps.specs.Steps.{EndTakes}
 use Rattle.command_words.specs.Steps.{CommandTakes}
-use Rattle.command_steps.proofs.Taking.{end_takes}
 use Rattle.command_words.proofs.Laws.{AreLawful}
 
 status_takes : (status : Status) (bytes before after : ℕ) → RoseBy bytes before after → Takes status bytes before after
