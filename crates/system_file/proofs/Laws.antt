@@ -60,7 +60,7 @@ unfolding system_of
 read_is_spelled bytes read h = from_document bytes read (document_of bytes) refl h
 
 -- a task in its range
-task_fits : (format : Format) (q : ℕ) (earlier : List Data) (d : Data) (w : IsWrittenTask format d)
+pub task_fits : (format : Format) (q : ℕ) (earlier : List Data) (d : Data) (w : IsWrittenTask format d)
     → list_any (is_named w.name.name) earlier ≡ false
     → IsConstrained (spelled_task d).task × ((spelled_task d).task.period ≤ LIMIT) → task_faults format q earlier d ≡ []
 task_fits format q earlier d w new fits =

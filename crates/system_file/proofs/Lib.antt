@@ -26,4 +26,5 @@ pub mod PrintedPut
 pub mod OneText
 pub mod AtEnd
 pub mod OneWalk
+pub mod ToldLines
 pub mod WithTasks

@@ -1,3 +1,4 @@
 -- What only private functions promise each other.
 pub mod Reading
 pub mod Plain
+pub mod Told

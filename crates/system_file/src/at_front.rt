@@ -10,9 +10,10 @@ ghost use Rattle.system_file.specs.inner.Plain.{ReadsElement, ReadsList, ReadsPa
 use crate::cores::read_core;
 use crate::format::Format;
 use crate::keys::find;
-use crate::names::Names;
+use crate::names::{Names, new_name};
 use crate::parts::read_part;
 use crate::tasks::task_of;
+use crate::told::told_task;
 use crate::{Spot, SystemFault};
 use std::alloc::Global;
 use toml_items::{Entry, Header, Item, element, header_again, header_in, pairs, pairs_into};
@@ -56,8 +57,35 @@ struct TaskThere<'t> {
     rest: &'t str,
 }
 
-/// The task at the front of a text, whose pairs take the place of other entries.
+/// The task at the front of a text. Where its lines are not plain ones of known keys, its pairs take
+/// the place of other entries.
 fn task_at<'t>(
+    alloc: Global,
+    text: &'t str,
+    entries: &mut Vec<Entry<'t>>,
+    format: Format,
+    spot: Spot,
+    names: &mut Names<'t>,
+) -> Result<TaskThere<'t>, SystemFault>
+    ensures { IfOk result (λ there. (path : List (List ℕ)) (part place : ℕ) →
+        spot ≡ Task part place → ReadsElement (task_faults format part) spelled_task path
+        text.now place names.old there.task names.new there.rest.now) }
+{
+    let Some(told) = told_task(format, text) else {
+        return task_of_pairs(alloc, text, entries, format, spot, names);
+    };
+    let name = new_name(alloc, told.name, names, spot)?;
+    Ok(TaskThere {
+        task: Named {
+            name,
+            task: told.task,
+        },
+        rest: told.rest,
+    })
+}
+
+/// The task of the pairs at the front of a text, which take the place of other entries.
+fn task_of_pairs<'t>(
     alloc: Global,
     text: &'t str,
     entries: &mut Vec<Entry<'t>>,

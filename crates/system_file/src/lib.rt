@@ -14,6 +14,7 @@ mod plain;
 mod print;
 mod read;
 mod tasks;
+mod told;
 mod whole;
 
 pub use fault::{Spot, SystemFault};

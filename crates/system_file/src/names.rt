@@ -81,7 +81,7 @@ impl<'t> Names<'t> {
 }
 
 /// The name that a text spells, put behind the names where it is none of them.
-fn new_name<'t>(
+pub fn new_name<'t>(
     alloc: Global,
     text: &'t str,
     names: &mut Names<'t>,

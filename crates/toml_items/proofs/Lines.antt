@@ -1,14 +1,14 @@
 -- What stands in a plain line, as the grammar of TOML reads it.
-use Rattle.std.proofs.Common.{◌≡◌, ℕ, suc, ◌+◌, IsUtf8, ◌<◌, Bool, true, false, ◌==◌, List, [], ◌∷◌, length, drop, slice_index, is_some, Some, refl, ap, ◌∙◌, inl, inr, arith, append-nil, get_or-drop, drop-drop}
-use Rattle.std.proofs.lemmas.Bool.{cases_Bool, false≢true}
+use Rattle.std.proofs.Common.{◌≡◌, ℕ, suc, ◌+◌, IsUtf8, ◌<◌, Bool, true, false, ◌==◌, List, [], ◌∷◌, ◌++◌, codes, length, drop, slice_index, is_some, Some, refl, ap, ◌∙◌, inl, inr, arith, append-nil, get_or-drop, drop-drop}
+use Rattle.std.proofs.lemmas.Bool.{cases_Bool, false≢true, and_parts}
 use Rattle.std.proofs.lemmas.Bool.Decides.{nat_tests}
 use Rattle.std.specs.Char.{is_ascii_lowercase}
-use Rattle.std.specs.List.{prefix_len}
+use Rattle.std.specs.List.{prefix_len, list_all}
 use Rattle.toml_parser.specs.Lexical.{first, split_while, skip_turn, skip_from, skip_blank, skip_ws, is_ws, is_bare, is_word}
 use Rattle.toml_parser.specs.Strings.{Key, key, simple_key, starts_string, is_plain, special, prepend, quoted, one_line}
 use Rattle.toml_parser.specs.Numbers.{unquoted}
 use Rattle.toml_parser.specs.declared.scalar.Scalar.{Scalar}
-use Rattle.toml_parser.proofs.LexicalLemmas.{skip_ws_none, IsCharBoundary-ascii_run, IsCharBoundary-wide_run}
+use Rattle.toml_parser.proofs.LexicalLemmas.{skip_ws_none, skip_ws_space, split_while-run, IsCharBoundary-ascii_run, IsCharBoundary-wide_run}
 use Rattle.toml_parser.proofs.StringsLemmas.{after_special, body_run, key_after_turn}
 use Rattle.toml.specs.Data.{Data, string}
 use Rattle.toml.specs.Tables.{key_value, array_table}
@@ -94,6 +94,22 @@ key_equals-one text k rest read found =
     let equals : (first (skip_ws rest) == 61) ≡ true = rw found refl in
     rw (key-one text k rest read stop, equals)
 
+-- a key and an equals sign with a space on each side
+bare_front : (k rest : List ℕ) → 0 < length k → list_all is_bare k ≡ true → is_bare (first (k ++ rest)) ≡ true
+bare_front [] rest some all = absurd (omega (arith, some))
+bare_front (c ∷ k) rest some all = (and_parts (is_bare c) (list_all is_bare k) all).0
+
+key_equals-spaced : (k value : List ℕ) → 0 < length k → list_all is_bare k ≡ true
+    → is_ws (first value) ≡ false → key_equals (k ++ (codes " = " ++ value)) ≡ Some (([], k), value)
+key_equals-spaced k value some all stop =
+    let behind : List ℕ = codes " = " ++ value in
+    let at_equals : skip_ws behind ≡ codes "= " ++ value =
+    skip_ws_space (codes "= " ++ value) ∙ skip_ws_none (codes "= " ++ value) refl in
+    let at_value : skip_ws (codes " " ++ value) ≡ value = skip_ws_space value ∙ skip_ws_none value stop in
+    let read : simple_key (k ++ behind) ≡ Some (k, behind) =
+    simple_key-bare (k ++ behind) (bare_front k behind some all) ∙ ap Some (split_while-run is_bare k behind all refl) in
+    key_equals-one (k ++ behind) k behind read (rw at_equals refl) ∙ rw (at_equals, at_value) refl
+
 -- a string of plain bytes
 some_plain : (p : ℕ → Bool) (text content end : List ℕ) → (content, end) ≡ split_while p text → 0 < length content
     → p (first text) ≡ true
@@ -151,6 +167,15 @@ unfolding line expression
 line-pair text k at_value d rest bare read value ends =
     let other : (first text == 91) ≡ false = grind (arith, nat_tests) in
     rw (other, keyval_ok (val 80) text at_value rest ([], k) d read value, ends)
+
+pub line-spaced : (text k value : List ℕ) (d : Data) (rest : List ℕ) → text ≡ k ++ (codes " = " ++ value)
+    → 0 < length k → list_all is_bare k ≡ true → is_ws (first value) ≡ false
+    → val 80 value ≡ Some (d, rest) → ends_line (skip_ws rest) ≡ true
+    → line text ≡ Some ((([], k), key_value d), rest)
+line-spaced text k value d rest is some all stop read ends =
+    ap line is
+    ∙ line-pair (k ++ (codes " = " ++ value)) k value d rest (bare_front k (codes " = " ++ value) some all)
+    (key_equals-spaced k value some all stop) read ends
 
 pub line-array : (text : List ℕ) (k : Key) (rest : List ℕ) → first text ≡ 91 → slice_index text 1 ≡ 91
     → is_bare (first (drop 2 text)) ≡ true → key (drop 2 text) ≡ Some (k, rest) → first rest ≡ 93

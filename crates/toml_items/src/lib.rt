@@ -5,6 +5,7 @@
 mod document;
 mod entry;
 mod item;
+mod keyed;
 mod line;
 mod number;
 mod plain;
@@ -12,7 +13,8 @@ mod table;
 
 pub use document::{Document, DocumentFault, read_document};
 pub use item::{Entry, Item};
-pub use line::Header;
+pub use keyed::{NumberLine, TextLine, number_line, text_line};
+pub use line::{Header, after_blank};
 pub use plain::{
     Body, array_at, element, header_again, header_in, is_end, pairs, pairs_into, top_pairs,
 };

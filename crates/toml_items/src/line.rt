@@ -92,7 +92,7 @@ fn after_ws(text: &str) -> &str
 /// behind it.
 #[inline]
 #[tactic(auto, using(crate::proofs::Lines::after_line_feed))]
-pub(crate) fn after_blank(text: &str) -> &str
+pub fn after_blank(text: &str) -> &str
     ensures rest { result.now ≡ lexical.skip_blank text.now }
     ensures within { length result.now ≤ length text.now }
 {
@@ -105,7 +105,7 @@ pub(crate) fn after_blank(text: &str) -> &str
 
 /// Whether the line ends behind spaces and tabs.
 #[inline]
-fn ends_here(text: &str) -> bool
+pub(crate) fn ends_here(text: &str) -> bool
     ensures { result ≡ ends_line (lexical.skip_ws text.now) }
 {
     let rest = after_ws(text);
@@ -180,7 +180,7 @@ fn word_at(alloc: Global, text: &str) -> Option<(Item<'_>, &str)>
     ensures shorter { IfSome result (λ p. length p.1.now < length text.now) }
 {
     if let Some((number, rest)) = whole_number(text) {
-        return Some((Item::Number(number), rest));
+        return Some((Item::Number(number as i64), rest));
     }
     match unquoted(alloc, text) {
         Ok((scalar, rest)) => Some((scalar_item(scalar)?, rest)),
@@ -202,7 +202,7 @@ fn scalar_item<'t>(scalar: Scalar) -> Option<Item<'t>>
 
 /// The content of a string at its quote, where it is not empty and stands for itself, and the
 /// text behind it.
-fn plain_text(text: &str) -> Option<(&str, &str)>
+pub(crate) fn plain_text(text: &str) -> Option<(&str, &str)>
     requires quote { lexical.first text.now ≡ lexical.quote }
     ensures value { IfSome result (λ p. strings.quoted text.now ≡ Some (p.0.now, p.1.now)) }
     ensures shorter { IfSome result (λ p. length p.1.now < length text.now) }

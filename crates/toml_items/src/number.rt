@@ -1,4 +1,4 @@
-ghost use Rattle.std.specs.Prelude.{◌≡◌, ◌+◌, ◌-◌, ◌<◌, ◌≤◌, ◌^◌, ◌++◌, ◌==◌, true, false, Some, length, drop, slice_index, decimal, IfSome};
+ghost use Rattle.std.specs.Prelude.{◌≡◌, ◌+◌, ◌-◌, ◌<◌, ◌≤◌, ◌^◌, ◌++◌, ◌==◌, pos, true, false, Some, length, drop, slice_index, decimal, IfSome};
 ghost use Rattle.std.specs.Char.{is_ascii_digit};
 ghost use Rattle.toml_parser.specs.Lexical.{is_word as is_word_byte};
 ghost use Rattle.toml_parser.specs.Numbers.{unquoted};
@@ -12,8 +12,10 @@ const MOST_DIGITS: usize = 18;
 
 /// The plain digits at the front as a number above 0, and the text behind them. None also where
 /// the number may go on: behind a space too, since digits behind one space are of the same word.
-pub(crate) fn whole_number(text: &str) -> Option<(i64, &str)>
-    ensures number { IfSome result (λ p. unquoted text.now ≡ Some (Integer p.0, p.1.now)) }
+pub(crate) fn whole_number(text: &str) -> Option<(u64, &str)>
+    ensures number { IfSome result (λ p. unquoted text.now ≡ Some (Integer (pos p.0), p.1.now)) }
+    ensures small { IfSome result (λ p. p.0 < 10 ^ 18) }
+    ensures word { IfSome result (λ _. is_word_byte (slice_index text.now 0) ≡ true) }
     ensures shorter { IfSome result (λ p. length p.1.now < length text.now) }
 {
     let byte = first(text);
@@ -25,7 +27,7 @@ pub(crate) fn whole_number(text: &str) -> Option<(i64, &str)>
     if goes_on(first(rest)) {
         return None;
     }
-    Some((number as i64, rest))
+    Some((number, rest))
 }
 
 /// Whether a number may go on with this byte, or behind it. Mostly its line ends there.

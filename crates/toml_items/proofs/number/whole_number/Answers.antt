@@ -1,6 +1,4 @@
 use Rattle.std.proofs.Common.{◌≡◌, ◌++◌, ◌<◌, ◌^◌, ◌==◌, false, List, ℕ, decimal, arith}
-use Rattle.std.proofs.lemmas.Int.{to_z_pos}
-use Rattle.std.specs.Int.{w64}
 use Rattle.toml_parser.specs.Lexical.{first, is_word}
 use Rattle.toml_items.proofs.Numbers.{unquoted-digits}
 use Rattle.toml_items.proofs.number.whole_number.Goals as goal
@@ -16,4 +14,4 @@ returns-clause-number c =
     let stop = c.if-goes_on.false in
     let word : is_word (first rest) ≡ false = rw c.first.ensures at (c.goes_on.ensures.word stop) in
     let space : (first rest == 32) ≡ false = rw c.first.ensures at (c.goes_on.ensures.space stop) in
-    rw (to_z_pos w64 number small) (unquoted-digits text rest number is small word space)
+    unquoted-digits text rest number is small word space
