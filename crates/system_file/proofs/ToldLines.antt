@@ -204,7 +204,8 @@ task_is_told {told = told} name task lines named period_is work_is deadline_is j
 
 -- The task that is told under a name that is new.
 pub told_element : {format : Format} {path : List (List ℕ)} {text rest : List ℕ} {name : List ℕ}
-    {task : SporadicTask} (part place : ℕ) (spot : Spot) (names : List (List ℕ)) (told : TellsTask format path text name task rest)
+    {task : SporadicTask} (part place : ℕ) (spot : Spot) (names : List (List ℕ))
+    (told : TellsTask format path text name task rest)
     → name_faults spot (list_any (bytes_eq name) names) name ≡ [] → IsConstrained task → task.period ≤ LIMIT
     → ReadsElement (task_faults format part) spelled_task path text place names (record { name = name; task = task })
     (names ++ name ∷ []) rest

@@ -57,8 +57,8 @@ struct TaskThere<'t> {
     rest: &'t str,
 }
 
-/// The task at the front of a text. Where its lines are not plain ones of known keys, its pairs take
-/// the place of other entries.
+/// The task at the front of a text. Where its lines are not plain ones of known keys, its pairs
+/// take the place of other entries.
 fn task_at<'t>(
     alloc: Global,
     text: &'t str,

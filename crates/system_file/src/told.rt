@@ -1,8 +1,7 @@
 //! The lines of a task by its known keys, with no items between the text and the numbers.
 ghost use Rattle.std.specs.Prelude.{◌≡◌, ◌<◌, List, ℕ, true, codes, length, unwrap_or, IfSome};
-ghost use Rattle.std.specs.List.{list_all};
 ghost use Rattle.slot_model.specs.Task.{sporadic_task};
-ghost use Rattle.toml_parser.specs.Lexical.{is_bare};
+ghost use Rattle.toml_items.specs.Plain.{is_bare_key};
 ghost use Rattle.system_file.specs.inner.Told.{of_number, of_text, TellsFirst, TellsMore, TellsLines, TellsTask};
 
 use crate::format::Format;
@@ -107,10 +106,9 @@ fn take_line<'t>(format: Format, told: &mut Told<'t>, text: &'t str) -> Option<&
 }
 
 /// The text behind the line of this key, whose number is the first that is told.
-#[inline]
+#[inline(always)]
 fn take_number<'t>(told: &mut Option<u64>, key: &str, text: &'t str) -> Option<&'t str>
-    requires some { 0 < length key.now }
-    requires bare { list_all is_bare key.now ≡ true }
+    requires { is_bare_key key.now ≡ true }
     ensures line { IfSome result (λ rest.
         TellsFirst of_number key.now told.old told.new text.now rest.now) }
     ensures shorter { IfSome result (λ rest. length rest.now < length text.now) }

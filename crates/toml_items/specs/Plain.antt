@@ -1,9 +1,10 @@
 -- What a reader of plain lines keeps to, in the words in which TOML reads a document.
-use Rattle.std.specs.Prelude.{◌≡◌, ℕ, ◌<◌, ◌==◌, false, List, [], ◌∷◌, ◌++◌, length, Option, Some, None, option_map}
+use Rattle.std.specs.Prelude.{◌≡◌, ℕ, ◌<◌, ◌==◌, Bool, ◌&&◌, false, List, [], ◌∷◌, ◌++◌, codes, length, Option, Some, None, option_map}
 use Rattle.std.specs.Borrow.{Bor}
+use Rattle.std.specs.List.{list_all}
 use Rattle.std.specs.Ordering.{nat_cmp, match_ordering}
 use Rattle.std.specs.Cmp.Lexicographic.{slice_cmp}
-use Rattle.toml_parser.specs.Lexical.{first, skip_blank}
+use Rattle.toml_parser.specs.Lexical.{first, is_bare, skip_blank}
 use Rattle.toml.specs.Data.{Data, table, Items, no_items, Members, no_members, member, push_item}
 use Rattle.toml.specs.Tables.{Nodes, no_nodes, insert, open_array, close, Edit, along_header, array_table, Expression, Document}
 use Rattle.toml.specs.Parse.{line, lines}
@@ -19,6 +20,23 @@ insert_member k d (member l e ms) =
 abbrev pub path_of : Option (Bor (List ℕ)) → List (List ℕ)
 path_of None = []
 path_of (Some k) = k.now ∷ []
+
+-- a key that stands without quotes, and the key of a header behind that of its table
+abbrev pub is_bare_key : List ℕ → Bool
+is_bare_key [] = false
+is_bare_key key = list_all is_bare key
+
+abbrev pub are_bare_keys : Option (Bor (List ℕ)) → List ℕ → Bool
+are_bare_keys None key = is_bare_key key
+are_bare_keys (Some parent) key = is_bare_key parent.now && is_bare_key key
+
+abbrev pub dotted : Option (Bor (List ℕ)) → List ℕ → List ℕ
+dotted None key = key
+dotted (Some parent) key = parent.now ++ 46 ∷ key
+
+-- the header of an element of an array at such keys
+abbrev pub spelling : Option (Bor (List ℕ)) → List ℕ → List ℕ
+spelling parent key = codes "[[" ++ (dotted parent key ++ codes "]]")
 
 -- The text begins with this line, behind blank ones, and goes on with the rest.
 pub record IsLine (text : List ℕ) (found : Expression) (rest : List ℕ) : Type 0 where

@@ -1,10 +1,9 @@
 //! The lines of known keys, for who makes no items of them.
 ghost use Rattle.std.specs.Prelude.{◌≡◌, ◌++◌, ◌<◌, [], pos, true, codes, Some, length, IfSome};
-ghost use Rattle.std.specs.List.{list_all};
 ghost use Rattle.toml.specs.Data.{string, integer};
 ghost use Rattle.toml.specs.Tables.{key_value};
 ghost use Rattle.toml.specs.Parse.{line};
-ghost use Rattle.toml_parser.specs.Lexical.{is_bare};
+ghost use Rattle.toml_items.specs.Plain.{is_bare_key};
 
 use crate::line::{ends_here, plain_text};
 use crate::number::whole_number;
@@ -26,10 +25,9 @@ pub struct TextLine<'t> {
 
 /// The number above 0 that the line at the front of a text gives this bare key, if the line is
 /// spelled as it mostly is: one space on each side of the equals sign, and digits alone.
-#[inline]
+#[inline(always)]
 pub fn number_line<'t>(text: &'t str, key: &str) -> Option<NumberLine<'t>>
-    requires some { 0 < length key.now }
-    requires bare { list_all is_bare key.now ≡ true }
+    requires { is_bare_key key.now ≡ true }
     ensures line { IfSome result (λ l.
         line text.now ≡ Some ((([], key.now), key_value (integer (pos l.number))), l.rest.now)) }
     ensures shorter { IfSome result (λ l. length l.rest.now < length text.now) }
@@ -46,8 +44,7 @@ pub fn number_line<'t>(text: &'t str, key: &str) -> Option<NumberLine<'t>>
 /// is spelled as it mostly is: one space on each side of the equals sign.
 #[inline]
 pub fn text_line<'t>(text: &'t str, key: &str) -> Option<TextLine<'t>>
-    requires some { 0 < length key.now }
-    requires bare { list_all is_bare key.now ≡ true }
+    requires { is_bare_key key.now ≡ true }
     ensures line { IfSome result (λ l.
         line text.now ≡ Some ((([], key.now), key_value (string l.content.now)), l.rest.now)) }
     ensures shorter { IfSome result (λ l. length l.rest.now < length text.now) }
@@ -64,7 +61,7 @@ pub fn text_line<'t>(text: &'t str, key: &str) -> Option<TextLine<'t>>
 }
 
 /// What stands behind a key and an equals sign with a space on each side.
-#[inline]
+#[inline(always)]
 fn value_of<'t>(text: &'t str, key: &str) -> Option<&'t str>
     ensures { IfSome result (λ value. text.now ≡ key.now ++ (codes " = " ++ value.now)) }
 {

@@ -4,6 +4,7 @@
 
 mod document;
 mod entry;
+mod header;
 mod item;
 mod keyed;
 mod line;
@@ -12,9 +13,10 @@ mod plain;
 mod table;
 
 pub use document::{Document, DocumentFault, read_document};
+pub use header::Header;
 pub use item::{Entry, Item};
 pub use keyed::{NumberLine, TextLine, number_line, text_line};
-pub use line::{Header, after_blank};
+pub use line::after_blank;
 pub use plain::{
     Body, array_at, element, header_again, header_in, is_end, pairs, pairs_into, top_pairs,
 };

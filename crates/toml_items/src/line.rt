@@ -1,4 +1,4 @@
-ghost use Rattle.std.specs.Prelude.{◌≡◌, ◌+◌, ◌<◌, ◌≤◌, true, false, [], Some, length, IfSome};
+ghost use Rattle.std.specs.Prelude.{◌≡◌, ◌+◌, ◌++◌, ◌<◌, ◌≤◌, true, false, [], Some, length, IfSome};
 ghost use Rattle.std.specs.Char.{is_ascii_lowercase};
 ghost use Rattle.std.specs.List.{prefix_len};
 ghost use Rattle.toml.specs.Tables.{key_value, array_table};
@@ -6,10 +6,10 @@ ghost use Rattle.toml.specs.Parse.{line, key_equals, scalar_data, val, ends_line
 ghost use Rattle.toml_parser.specs.Lexical as lexical;
 ghost use Rattle.toml_parser.specs.Strings as strings;
 ghost use Rattle.toml_items.specs.Item.{item_view};
-ghost use Rattle.toml_items.specs.Plain.{path_of};
+ghost use Rattle.toml_items.specs.Plain.{path_of, is_bare_key, are_bare_keys, dotted, spelling};
 
-use crate::Item;
 use crate::number::whole_number;
+use crate::{Header, Item};
 use std::alloc::Global;
 use toml_parser::bytes::{is_bare, is_non_eol, is_word, is_ws};
 use toml_parser::text::{byte_at, first, skip, skip_blank, skip_ws};
@@ -23,14 +23,12 @@ pub struct Pair<'t> {
     pub rest: &'t str,
 }
 
-/// The keys in the header of an element of an array of tables, and the text behind these keys, or
-/// behind the header where that was read to its end.
+/// The keys of a header, and the text behind them.
 #[derive(Clone, Copy, Drop)]
-pub struct Header<'t> {
-    /// The key of the table in which the array stands, where it is not the top one.
-    pub parent: Option<&'t str>,
-    pub key: &'t str,
-    pub rest: &'t str,
+struct Keys<'t> {
+    parent: Option<&'t str>,
+    key: &'t str,
+    rest: &'t str,
 }
 
 /// The pair at the front of a text, if a plain one stands there.
@@ -53,6 +51,24 @@ pub(crate) fn header_at(text: &str) -> Option<Header<'_>>
         line text.now ≡ Some (((path_of h.parent, h.key.now), array_table), h.rest.now)) }
     ensures shorter { IfSome result (λ h. length h.rest.now < length text.now) }
 {
+    let keys = header_keys(text)?;
+    if !ends_here(keys.rest) {
+        return None;
+    }
+    Some(Header {
+        parent: keys.parent,
+        key: keys.key,
+        spelled: text.get(..text.len() - keys.rest.len())?,
+        rest: keys.rest,
+    })
+}
+
+/// The keys between the brackets of a header, and the text behind these.
+fn header_keys(text: &str) -> Option<Keys<'_>>
+    ensures keys { IfSome result (λ h. are_bare_keys h.parent h.key.now ≡ true) }
+    ensures text { IfSome result (λ h. text.now ≡ spelling h.parent h.key.now ++ h.rest.now) }
+    ensures shorter { IfSome result (λ h. length h.rest.now < length text.now) }
+{
     if first(text) != b'[' || byte_at(text, 1) != b'[' {
         return None;
     }
@@ -60,14 +76,10 @@ pub(crate) fn header_at(text: &str) -> Option<Header<'_>>
     if first(keys.rest) != b']' || byte_at(keys.rest, 1) != b']' {
         return None;
     }
-    let rest = skip(keys.rest, 2);
-    if !ends_here(rest) {
-        return None;
-    }
-    Some(Header {
+    Some(Keys {
         parent: keys.parent,
         key: keys.key,
-        rest,
+        rest: skip(keys.rest, 2),
     })
 }
 
@@ -113,15 +125,14 @@ pub(crate) fn ends_here(text: &str) -> bool
 }
 
 /// One or two bare keys, with a dot between them, and the text from the bracket that follows.
-fn keys_at(text: &str) -> Option<Header<'_>>
-    ensures keys { IfSome result (λ h.
-        strings.key text.now ≡ Some ((path_of h.parent, h.key.now), h.rest.now)) }
-    ensures bare { IfSome result (λ _. lexical.is_bare (lexical.first text.now) ≡ true) }
+fn keys_at(text: &str) -> Option<Keys<'_>>
+    ensures keys { IfSome result (λ h. are_bare_keys h.parent h.key.now ≡ true) }
+    ensures text { IfSome result (λ h. text.now ≡ dotted h.parent h.key.now ++ h.rest.now) }
     ensures within { IfSome result (λ h. length h.rest.now ≤ length text.now) }
 {
     let (key, rest) = bare_key(text)?;
     match first(rest) {
-        b']' => Some(Header {
+        b']' => Some(Keys {
             parent: None,
             key,
             rest,
@@ -131,7 +142,7 @@ fn keys_at(text: &str) -> Option<Header<'_>>
             if first(end) != b']' {
                 return None;
             }
-            Some(Header {
+            Some(Keys {
                 parent: Some(key),
                 key: last,
                 rest: end,
@@ -218,6 +229,8 @@ pub(crate) fn plain_text(text: &str) -> Option<(&str, &str)>
 #[inline]
 fn bare_key(text: &str) -> Option<(&str, &str)>
     ensures key { IfSome result (λ p. strings.simple_key text.now ≡ Some (p.0.now, p.1.now)) }
+    ensures run { IfSome result (λ p. (is_bare_key p.0.now ≡ true)
+        × (text.now ≡ p.0.now ++ p.1.now)) }
     ensures bare { IfSome result (λ _. lexical.is_bare (lexical.first text.now) ≡ true) }
     ensures within { IfSome result (λ p. length p.1.now ≤ length text.now) }
 {

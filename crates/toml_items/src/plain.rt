@@ -6,8 +6,8 @@ ghost use Rattle.toml_items.specs.Item.{list_view, entries_view};
 ghost use Rattle.toml_items.specs.Plain.{path_of, IsLine, ReadsTable, ReadsArray, BeginsWith};
 
 use crate::entry::put_entry;
-use crate::line::{Header, after_blank, header_at, pair_at};
-use crate::{Entry, Item};
+use crate::line::{after_blank, ends_here, header_at, pair_at};
+use crate::{Entry, Header, Item};
 use std::alloc::{AllocError, Global};
 use toml_parser::text::{first, skip_blank};
 
@@ -218,12 +218,8 @@ pub fn header_again<'t>(header: Header<'t>, text: &'t str) -> Option<&'t str>
         ((path_of header.entry.parent, header.entry.key.now), array_table) rest.now) }
     ensures shorter { IfSome result (λ rest. length rest.now < length text.now) }
 {
-    let again = header_in(header.parent, text)?;
-    if again.key == header.key {
-        Some(again.rest)
-    } else {
-        None
-    }
+    let rest = after_blank(text).strip_prefix(header.spelled)?;
+    if ends_here(rest) { Some(rest) } else { None }
 }
 
 /// Whether both are the top table, or at the same key.

@@ -10,5 +10,5 @@ returns-clause-line c =
     let number = c.in_ok-number.ensures in
     let ends = sym c.ends_here.ensures ∙ c.if-not-ends_here.false in
     let stop : is_ws (first value) ≡ false = grind (arith, nat_tests, number.word) in
-    line-spaced c.args.text.now c.args.key.now value _ _ c.in_ok-value.ensures c.requires.some c.requires.bare stop
+    line-spaced c.args.text.now c.args.key.now value _ _ c.in_ok-value.ensures c.requires stop
     (val-word value _ _ number.word number.number) ends

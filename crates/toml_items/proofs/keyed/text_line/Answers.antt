@@ -9,5 +9,5 @@ returns-clause-line c =
     let quote = sym c.first.ensures ∙ c.if-first-ne34.false in
     let ends = sym c.ends_here.ensures ∙ c.if-not-ends_here.false in
     let stop : is_ws (first value) ≡ false = rw quote refl in
-    line-spaced c.args.text.now c.args.key.now value _ _ c.in_ok-value.ensures c.requires.some c.requires.bare stop
+    line-spaced c.args.text.now c.args.key.now value _ _ c.in_ok-value.ensures c.requires stop
     (val-text value _ _ quote c.in_ok-content.ensures.value) ends

@@ -1,14 +1,21 @@
-use Rattle.std.proofs.Common.{sym, ◌∙◌}
-use Rattle.toml_items.proofs.Lines.{line-array}
+use Rattle.std.proofs.Common.{◌≡◌, ◌-◌, List, ℕ, take, length, refl, sym, ◌∙◌, arith}
+use Rattle.toml_items.specs.Plain.{spelling}
+use Rattle.toml_items.proofs.Lines.{front_of, spelled_line}
 use Rattle.toml_items.proofs.line.header_at.Goals as goal
+
+pub invariant_of-result : goal.invariant_of-result
+invariant_of-result c =
+    let keys = c.in_ok-keys.keys in
+    let text = c.args.text.now in
+    let spelled : List ℕ = c.in_ok-get.field-0.now in
+    let taken : spelled ≡ take (length text - length keys.rest.now) text = grind (arith, c.in_ok-get.ensures.cases.0) in
+    record {
+      bare = c.in_ok-keys.ensures.keys;
+      spells = taken ∙ front_of text (spelling keys.parent keys.key.now) keys.rest.now c.in_ok-keys.ensures.text;
+    }
 
 pub returns-clause-line : goal.returns-clause-line
 returns-clause-line c =
-    let keys = c.in_ok-keys.ensures in
-    let ends = sym c.ends_here.ensures ∙ c.if-not-ends_here.false in
-    rw c.skip-rest.ensures.rest
-    (line-array c.args.text.now _ _ (sym c.first.ensures ∙ c.if-first-ne91.false)
-    (sym c.byte_at.ensures ∙ c.if-byte_at-ne91.false)
-    (rw c.skip.ensures.rest at keys.bare) (rw c.skip.ensures.rest at keys.keys)
-    (sym c.first-2.ensures ∙ c.if-first-ne93.false) (sym c.byte_at-else-first-ne93.ensures ∙ c.if-byte_at-ne93.false)
-    (rw c.skip-rest.ensures.rest at ends))
+    let keys = c.in_ok-keys.keys in
+    spelled_line keys.parent keys.key.now c.args.text.now _ keys.rest.now c.in_ok-keys.ensures.keys refl
+    c.in_ok-keys.ensures.text (sym c.ends_here.ensures ∙ c.if-not-ends_here.false)
