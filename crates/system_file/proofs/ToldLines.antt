@@ -1,19 +1,19 @@
 -- One line of a known key after the other.
-use Rattle.std.proofs.Common.{◌≡◌, ℕ, pos, true, false, List, [], ◌∷◌, ◌++◌, ◌≤◌, codes, Option, Some, None, option_map, unwrap_or, Bor, refl, sym, ap, subst, ◌∙◌}
+use Rattle.std.proofs.Common.{◌≡◌, ℕ, true, false, List, [], ◌∷◌, ◌++◌, ◌≤◌, codes, Option, Some, None, option_map, unwrap_or, Bor, refl, sym, ap, subst, ◌∙◌}
 use Rattle.std.specs.List.{list_any}
 use Rattle.std.specs.Prelude.{bytes_eq}
 use Rattle.slot_model.specs.Name.{is_name}
 use Rattle.slot_model.specs.Task.{SporadicTask, IsConstrained}
 use Rattle.slot_model.specs.declared.task.TheConstants.{LIMIT}
 use Rattle.toml.specs.Data.{Data, Members, no_members, get_member, same_key, table}
-use Rattle.toml_items.specs.Plain.{insert_member, ReadsTable}
+use Rattle.toml_items.specs.Plain.{insert_member}
 use Rattle.toml_items.proofs.Members.{get_member-insert, get_member-insert_other}
 use Rattle.system_file.specs.declared.format.Format.{Format}
 use Rattle.system_file.specs.declared.format.Format.TheVariants.{One, Two}
 use Rattle.system_file.specs.declared.told.Told.{Told}
-use Rattle.system_file.specs.Document.{number_of, given_number, text_of, is_named, deadline_of, spelled_task}
+use Rattle.system_file.specs.Document.{number_of, given_number, spelled_task}
 use Rattle.system_file.specs.declared.fault.Spot.{Spot}
-use Rattle.system_file.specs.Faults.{has_only, name_faults, task_faults, task_keys}
+use Rattle.system_file.specs.Faults.{name_faults, task_faults, task_keys}
 use Rattle.system_file.specs.Written.{IsWhole, IsWrittenTask, There, MayBe}
 use Rattle.system_file.specs.inner.Plain.{ReadsElement}
 use Rattle.system_file.specs.inner.Told.{of_number, of_text, Tells, TellsFirst, TellsLines, TellsMore, TellsTask}

@@ -1,4 +1,4 @@
-use Rattle.std.proofs.Common.{◌≡◌, ◌<◌, ◌^◌, ℕ, to_z, of_z, pos, rules, arith}
+use Rattle.std.proofs.Common.{◌<◌, ◌^◌, ℕ, pos, arith}
 use Rattle.std.proofs.lemmas.Int.{to_z_pos}
 use Rattle.std.specs.Int.{w64}
 use Rattle.toml_items.proofs.Items.{item_view-Number}
