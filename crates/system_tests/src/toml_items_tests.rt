@@ -3,7 +3,7 @@ use std::process::Abort;
 use toml::Table;
 use toml_items::{
     Body, Document, DocumentFault, Entry, Header, Item, array_at, element, header_again, is_end,
-    read_document, table_entries, top_pairs,
+    number_line, read_document, table_entries, text_line, top_pairs,
 };
 
 const PLAIN: &str = "# a host
@@ -230,4 +230,23 @@ fn a_table_gives_its_items(rt: HostRuntime) {
     let entries = table_entries(rt.alloc(), &table).expect(&rt, "out of memory");
     let inner = table_at(&entries, "c", 4).expect(&rt, "a table");
     assert!(rt; count_at(&entries, "c") == 5 && number_at(inner, "d") == Some(7));
+}
+
+#[test]
+fn a_line_of_a_known_key_is_read(rt: HostRuntime) {
+    let number = number_line("period = 20\nwork = 3", "period").expect(&rt, "a number");
+    assert!(rt; number.number == 20 && number.rest == "\nwork = 3");
+    let name = text_line("name = \"t0\"\n", "name").expect(&rt, "a text");
+    assert!(rt; name.content == "t0" && name.rest == "\n");
+    for text in &[
+        "period = 0",
+        "period = 2 3",
+        "period=2",
+        "periods = 2",
+        "deadline = 2",
+        "period = '2'",
+    ] {
+        assert!(rt; number_line(text, "period").is_none(), "{text}");
+    }
+    assert!(rt; text_line("name = \"\\u0061\"", "name").is_none());
 }
