@@ -1,7 +1,7 @@
 ghost use Rattle.std.specs.Prelude.{◌≡◌, ℕ, ◌≤◌, ◌<◌, ◌&&◌, List, Option, length, IfOk, IfErr, OnOk, MatchOption};
 ghost use Rattle.csv_rows.specs.Printing.{text_of};
 ghost use Rattle.csv_rows.specs.Reading.{records_of};
-ghost use Rattle.tree_model.specs.System.{IsSystem};
+ghost use Rattle.tree_model.specs.System.{IsSystem, is_edf};
 ghost use Rattle.tree_model.specs.Tree.{run_at};
 ghost use Rattle.trace_file.specs.declared.event.Event.{Event as EventView};
 ghost use Rattle.trace_printer.specs.Printing.{printed_rows};
@@ -11,7 +11,7 @@ ghost use Rattle.trace_file.specs.File.{Spells};
 ghost use Rattle.trace_file.specs.Periods.{Satisfied};
 ghost use Rattle.tree_model.specs.Plans.{IsPlan};
 ghost use Rattle.release_file.specs.Workload.{IsWorkload};
-ghost use Rattle.rtds_sim.specs.Rtds.{is_full, is_edf, RtdsRun};
+ghost use Rattle.rtds_sim.specs.Rtds.{is_full, RtdsRun};
 ghost use Rattle.rtds_sim.specs.Printed.{printed, IsRtdsTrace};
 ghost use Rattle.rtds_sim.specs.RunText.{IsRunText};
 ghost use Rattle.rtds_sim.specs.Fault.{AllRtds, IsFirstOther, IsRtdsFault};
