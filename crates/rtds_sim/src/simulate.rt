@@ -19,7 +19,6 @@ ghost use Rattle.rtds_sim.specs.Giving.{AlwaysRunnable, ServersFit, AlwaysServed
 
 use crate::RtdsFault;
 use crate::host::Host;
-use crate::members::Members;
 use crate::moment::moment_of_slot;
 use crate::rows::print_rows;
 use crate::switches::Switches;
@@ -202,8 +201,7 @@ fn tell_run<T: EventTaker>(
         × Took T.has_taken events.old events.new told) }
     ensures system { IsSystem sys.now }
 {
-    let mut host = Host::new(sys);
-    let mut members = Members::new(alloc, sys)?;
+    let mut host = Host::new(alloc, sys)?;
     let mut switches = Switches::new(alloc, sys)?;
     while host.time < slots {
         let first = host.taken;
@@ -211,7 +209,7 @@ fn tell_run<T: EventTaker>(
         host.stop_blocked(sys, first, events)?;
         print_rows(sys, wakes, first, host.taken, events)?;
         let next = host.next_row(wakes, slots);
-        host.run_on(sys, plan, &mut members, next, &mut switches)?;
+        host.run_on(sys, plan, next, &mut switches)?;
         switches.tell(events)?;
     }
     events.take(Event {
