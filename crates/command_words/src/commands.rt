@@ -5,7 +5,8 @@ ghost use Rattle.command_words.specs.inner.Forms.{forms_from_isolate, forms_from
 ghost use Rattle.command_words.specs.Numbers.{guest_number};
 ghost use Rattle.command_words.specs.Reading.{NamesNoFile};
 ghost use Rattle.command_words.specs.Steps.{IsSaidTo, CommandTakes};
-ghost use Rattle.command_steps.specs.Steps.{counts_of, IfAnswered, Explains};
+ghost use Rattle.outside.specs.Counts.{counts_of};
+ghost use Rattle.command_steps.specs.Steps.{IfAnswered, Explains};
 
 use crate::numbers::number_from_one;
 use crate::period_words::{period_of, range_of};
