@@ -19,7 +19,7 @@ use host_commands::{Editor, Guests, Placer, bulk};
 use outside::Store;
 use server_sched::Pattern;
 use std::alloc::Global;
-use trace_commands::{Audit, Isolate, Rtds, Simulate, Slots, Tally};
+use trace_commands::{Isolate, Rtds, Simulate, Slots, TraceCommand};
 
 /// The most guests of `bulk N`.
 const MOST_GUESTS: u64 = 256;
@@ -178,7 +178,8 @@ pub fn answer<S: Store>(alloc: Global, command: Option<Command<'_>>, store: &mut
             ended(over_two(alloc, store, file, workload, &Rtds { slots }))
         }
         Some(Command::Audit(file, trace)) => {
-            ended(over_pieces(alloc, store, file, trace, &Audit, &mut None))
+            let judge = TraceCommand::Audit;
+            ended(over_pieces(alloc, store, file, trace, &judge, &mut None))
         }
         Some(Command::Simulate(file, releases, pattern, slots)) => {
             let judge = Simulate { pattern, slots };
@@ -199,7 +200,8 @@ pub fn answer<S: Store>(alloc: Global, command: Option<Command<'_>>, store: &mut
         Some(Command::Isolate(file)) => ended(over_one(alloc, store, file, &Isolate)),
         Some(Command::Slack(file, part)) => ended(over_one(alloc, store, file, &Slack { part })),
         Some(Command::Tally(file, trace)) => {
-            ended(over_pieces(alloc, store, file, trace, &Tally, &mut None))
+            let judge = TraceCommand::Tally;
+            ended(over_pieces(alloc, store, file, trace, &judge, &mut None))
         }
         Some(Command::Version) => ended(version(alloc)),
         None => ended(usage(alloc)),
