@@ -1,13 +1,11 @@
 use Rattle.slot_model.proofs.HandedOn.{err_is}
-use Rattle.trace_commands.specs.Audit.{IsAudited}
-use Rattle.trace_commands.proofs.Walked.{walked, unaudited}
-use Rattle.trace_commands.proofs.audit.AuditJudgePieces.end.Goals as goal
+use Rattle.trace_commands.proofs.Walked.{walked, refused_said}
+use Rattle.trace_commands.proofs.audit.TraceCommandJudgePieces.end.Goals as goal
 
 pub returns-in_err-plan-clause-answer : goal.returns-in_err-plan-clause-answer
 returns-in_err-plan-clause-answer c = λ bytes taken.
     rw (err_is c.from_residual.result _ c.from_residual.ensures.1)
-    (unaudited c.args.sys.now bytes (λ events budgets. IsAudited c.args.sys.now budgets events)
-    c.in_err-plan.field-0.0
+    (refused_said c.args.sys.now bytes c.args.self.now c.in_err-plan.field-0.0
     (c.in_err-plan.ensures.refused c.args.sys.now bytes (walked c.args.sys.now bytes c.args.walk taken)))
 
 pub answer_of-requires : goal.answer_of-requires
