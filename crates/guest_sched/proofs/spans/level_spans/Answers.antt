@@ -12,7 +12,7 @@ use Rattle.slot_model.proofs.FirstRuns.{none_some}
 use Rattle.guest_sched.specs.declared.ready.Ready.{Ready}
 use Rattle.guest_sched.specs.declared.spans.Span.{Span}
 use Rattle.guest_sched.specs.inner.Keep.{level_of}
-use Rattle.guest_sched.specs.inner.Ready.{HaveCome, AreToCome, HasKeys, IsBest}
+use Rattle.guest_sched.specs.inner.Ready.{HaveCome, AreToCome, HasKeys}
 use Rattle.guest_sched.proofs.Best.{keys_kept}
 use Rattle.guest_sched.specs.Spans.{Window, slots_of, run_of, window_at, AreWindows, AreSpans}
 use Rattle.guest_sched.proofs.Given.{AreOver, slots-long, slot_at, none_given, all_given}
@@ -35,7 +35,6 @@ loop-at-init g c =
       spans =
           subst (λ (z : List Span). AreSpans z ready.time) (sym c.in_ok-spans.ensures.items)
           (subst (AreSpans []) (sym made.time) no_spans);
-      best = λ j e. absurd (none_some ready.best j made.best e);
       keys = made.keys;
       in_list = omega arith;
       over = λ i l. absurd (omega arith);
@@ -58,13 +57,6 @@ named_each tasks jobs h = λ k d l. omega (
   length-map tasks sporadic_task,
 )
 
-pub catch_up-requires-clause-named : goal.catch_up-requires-clause-named
-catch_up-requires-clause-named g c = named_each c.args.tasks.now c.args.jobs.now c.requires.legal
-
-pub catch_up-requires-clause-in_jitter : goal.catch_up-requires-clause-in_jitter
-catch_up-requires-clause-in_jitter g c =
-    λ k d l. in_jitter_each (sporadic_tasks c.args.tasks.now) c.args.jobs.now c.requires.legal d k l
-
 pub serve-span-requires-clause-in_jitter : goal.serve-span-requires-clause-in_jitter
 serve-span-requires-clause-in_jitter g c =
     λ k d l. in_jitter_each (sporadic_tasks c.args.tasks.now) c.args.jobs.now c.requires.legal d k l
@@ -76,12 +68,7 @@ where_some : (o : Option ℕ) (P : ℕ → Type 0) → IfSome o P → (p : ℕ) 
 where_some None P h p e = absurd (none_some None p refl e)
 where_some (Some q) P h p e = subst P (same_Some q p e) h
 
--- the best of the ready jobs where only the time goes by
-best_later : (before : Job → Job → Bool) (jobs : List Job) (old new : Ready) → new ≡ record old { time = new.time }
-    → IsBest before jobs old.ready.items old.best → IsBest before jobs new.ready.items new.best
-best_later before jobs old new same h = subst (λ (s : Ready). IsBest before jobs s.ready.items s.best) (sym same) h
-
--- and the keys
+-- the keys where only the time goes by
 keys_later : (before : Job → Job → Bool) (jobs : List Job) (old new : Ready) → new ≡ record old { time = new.time }
     → HasKeys before jobs old → HasKeys before jobs new
 keys_later before jobs old new same h = subst (λ (s : Ready). HasKeys before jobs s) (sym same) h
@@ -116,16 +103,6 @@ window_passed windows n at next from now h l over m u ends stays = elim (cases_e
     λ k. omega (arith, u, ne, stays ne, ap (λ (z : ℕ). (window_at windows z).until) (stays ne)),
   )
 ]
-
-pub catch_up-requires-clause-best : goal.catch_up-requires-clause-best
-catch_up-requires-clause-best g c =
-    best_later (g.O.Order.goes c.args.order.now (sporadic_tasks c.args.tasks.now)) c.args.jobs.now c.loop-at.ready
-    c.pass_until.new.ready c.in_ok-pass_until.ensures.rest c.loop-at.invariant.best
-
-pub catch_up-requires-clause-keys : goal.catch_up-requires-clause-keys
-catch_up-requires-clause-keys g c =
-    keys_later (g.O.Order.goes c.args.order.now (sporadic_tasks c.args.tasks.now)) c.args.jobs.now c.loop-at.ready
-    c.pass_until.new.ready c.in_ok-pass_until.ensures.rest c.loop-at.invariant.keys
 
 pub serve-span-requires-clause-keys : goal.serve-span-requires-clause-keys
 serve-span-requires-clause-keys g c =
@@ -204,7 +181,6 @@ loop-at-preserved g c =
     record {
       kept = kept;
       spans = subst (AreSpans c.add_span.new.spans.items) (sym served.time) c.in_ok-add_span.ensures.spans;
-      best = served.best;
       keys = keys_kept before c.args.jobs.now came after served.keys came_keys;
       in_list = next.0;
       over = next.1;
