@@ -3,9 +3,8 @@ use Rattle.std.proofs.lemmas.List.{get_or_read}
 use Rattle.std.specs.List.{remove}
 use Rattle.slot_model.specs.declared.key.Key.{Key}
 use Rattle.guest_sched.specs.declared.releases.Release.{Release}
-use Rattle.guest_sched.specs.declared.ready.Ready.{Ready}
 use Rattle.guest_sched.specs.inner.Places.{StandsIn, RemovesPlace}
-use Rattle.guest_sched.specs.inner.Ready.{IsState, IsReady}
+use Rattle.guest_sched.specs.inner.Ready.{IsState}
 use Rattle.guest_sched.proofs.InOrder.{remove_removes}
 use Rattle.guest_sched.proofs.State.{ready_in, one_stays, one_done}
 use Rattle.guest_sched.proofs.ready.Ready.give.Goals as goal
