@@ -184,8 +184,8 @@ pub record Serves (before : Job → Job → Bool) (jobs : List Job) (came : Read
     pub released : after.released ≡ came.released
     pub ends : after.ends.items ≡ came.ends.items
 
-pub served_stands : (before : Job → Job → Bool) (jobs : List Job) (ready : List ℕ) (slot : Bool) (entry : Option ℕ) (p : ℕ)
-    → IsServed before jobs ready slot entry → entry ≡ Some p → StandsIn ready p
+pub served_stands : (before : Job → Job → Bool) (jobs : List Job) (ready : List ℕ) (slot : Bool) (entry : Option ℕ)
+    (p : ℕ) → IsServed before jobs ready slot entry → entry ≡ Some p → StandsIn ready p
 served_stands before jobs ready false entry p v e = absurd (none_some entry p v e)
 served_stands before jobs ready true None p v e = absurd (none_some None p refl e)
 served_stands before jobs ready true (Some j) p v e = subst (StandsIn ready) (same_Some j p e) v.stands

@@ -9,6 +9,9 @@ pub trait Follow {
     /// It has followed this run.
     ghost follows: { Self → List (Option ℕ) → Type 0 };
 
+    /// Numbers of it that stay as they are while it follows.
+    ghost numbers: { Self → List ℕ };
+
     /// It takes the spans of this job.
     ghost takes: { Self → ℕ → Type 0 };
 
@@ -20,5 +23,6 @@ pub trait Follow {
             follows self.old run }
         ensures followed { OnOk result ((run : List (Option ℕ)) → length run ≡ span.from →
             follows self.old run → follows self.new (run ++ entries_of span)) }
-        ensures taken { OnOk result ((j : ℕ) → takes self.old j → takes self.new j) };
+        ensures taken { OnOk result ((j : ℕ) → takes self.old j → takes self.new j) }
+        ensures same { OnOk result (numbers self.new ≡ numbers self.old) };
 }

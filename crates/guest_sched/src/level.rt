@@ -1,4 +1,4 @@
-ghost use Rattle.std.specs.Prelude.{ℕ, ◌^◌, ◌<◌, List, [], Option, length, IfOk, OnOk};
+ghost use Rattle.std.specs.Prelude.{◌≡◌, ℕ, ◌^◌, ◌<◌, List, [], Option, length, IfOk, OnOk};
 ghost use Rattle.slot_model.specs.Task.{sporadic_tasks};
 ghost use Rattle.slot_model.specs.Release.{LegalRelease};
 ghost use Rattle.slot_model.specs.Order.{before_of};
@@ -75,9 +75,10 @@ pub fn follow_guest<F: Follow>(
     requires windows { AreWindows given.now slots }
     requires takes { (j : ℕ) → j < length jobs.now → F.takes follower.old j }
     requires begins { F.follows follower.old [] }
-    ensures { let T = sporadic_tasks tasks.now in let before = before_of sched T in
+    ensures followed { let T = sporadic_tasks tasks.now in let before = before_of sched T in
         OnOk result ((run : List (Option ℕ)) × FirstRun guest before T jobs.now
         (slots_of given.now slots) run × F.follows follower.new run) }
+    ensures same { OnOk result (F.numbers follower.new ≡ F.numbers follower.old) }
 {
     let keep = Keep::UntilDone;
     match Fixed::new(sched) {

@@ -6,16 +6,16 @@ use Rattle.slot_model.specs.declared.sched.Sched.{Sched}
 use Rattle.guest_sched.specs.Spans.{slots_of}
 use Rattle.guest_sched.proofs.level.follow_guest.Goals as goal
 
-pub returns-in-Some : goal.returns-in-Some
-returns-in-Some g c =
+pub returns-in-Some-clause-followed : goal.returns-in-Some-clause-followed
+returns-in-Some-clause-followed g c =
     subst (λ (s : Sched). OnOk c.follow_level.result ((run : List (Option ℕ)) × FirstRun guest
     (before_of s (sporadic_tasks c.args.tasks.now)) (sporadic_tasks c.args.tasks.now) c.args.jobs.now
     (slots_of c.args.given.now c.args.slots) run × g.F.Follow.follows c.follow_level.new.follower run))
-    c.in-Some.ensures.0 c.follow_level.ensures
+    c.in-Some.ensures.0 c.follow_level.ensures.followed
 
-pub returns-in-None : goal.returns-in-None
-returns-in-None g c =
+pub returns-in-None-clause-followed : goal.returns-in-None-clause-followed
+returns-in-None-clause-followed g c =
     subst (λ (s : Sched). OnOk c.follow_level-in-None.result ((run : List (Option ℕ)) × FirstRun guest
     (before_of s (sporadic_tasks c.args.tasks.now)) (sporadic_tasks c.args.tasks.now) c.args.jobs.now
     (slots_of c.args.given.now c.args.slots) run × g.F.Follow.follows c.follow_level-in-None.new.follower run))
-    (sym c.in-None.ensures) c.follow_level-in-None.ensures
+    (sym c.in-None.ensures) c.follow_level-in-None.ensures.followed

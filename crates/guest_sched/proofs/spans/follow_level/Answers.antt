@@ -10,7 +10,6 @@ use Rattle.slot_model.specs.Release.{LegalRelease}
 use Rattle.slot_model.specs.Run.{Level, FirstRunTo}
 use Rattle.slot_model.proofs.FirstRuns.{none_some}
 use Rattle.guest_sched.specs.declared.ready.Ready.{Ready}
-use Rattle.guest_sched.specs.declared.spans.Span.{Span}
 use Rattle.guest_sched.specs.inner.Keep.{level_of}
 use Rattle.guest_sched.specs.inner.Ready.{IsReady, HaveCome, AreToCome, HasKeys}
 use Rattle.guest_sched.proofs.Best.{keys_kept}
@@ -35,6 +34,7 @@ loop-at-init g c =
       come = kept.come;
       long = kept.long;
       takes = c.requires.takes;
+      same = refl;
       keys = made.keys;
       in_list = omega arith;
       over = λ i l. absurd (omega arith);
@@ -242,6 +242,7 @@ loop-at-preserved g c =
       come = kept.come;
       long = kept.long;
       takes = λ j l. c.in_ok-add.ensures.taken j (passed.takes j (i.takes j l));
+      same = c.in_ok-add.ensures.same ∙ passed.same ∙ i.same;
       keys = keys_kept before c.args.jobs.now came after served.keys came_keys;
       in_list = next.0;
       over = next.1;
@@ -249,8 +250,8 @@ loop-at-preserved g c =
       in_slots = omega (arith, served.in_time, served.time, some);
     }
 
-pub returns : goal.returns
-returns g c =
+pub returns-clause-followed : goal.returns-clause-followed
+returns-clause-followed g c =
     let before = g.O.Order.goes c.args.order.now (sporadic_tasks c.args.tasks.now) in
     let windows = c.args.given.now in
     let slots = slots_of windows c.args.slots in
