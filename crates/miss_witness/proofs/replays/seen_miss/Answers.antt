@@ -1,4 +1,4 @@
-use Rattle.std.proofs.Common.{◌≡◌, arith}
+use Rattle.std.proofs.Common.{arith}
 use Rattle.std.proofs.lemmas.Result.{IfOk-weaker}
 use Rattle.slot_model.specs.Task.{sporadic_tasks}
 use Rattle.miss_witness.proofs.ReplayLeaf.{run_is_replay, runs_over}
