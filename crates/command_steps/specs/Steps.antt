@@ -1,6 +1,6 @@
 -- What the private steps of a command promise each other.
 use Rattle.std.specs.Prelude.{◌≡◌, ℕ, ◌+◌, ◌≤◌, List, [], ◌∷◌, length, map, Option, Some, Result, Ok, Err, ⊤}
-use Rattle.outside.specs.Counts.{Rose, RoseBy, RoseBeyond}
+use Rattle.outside.specs.Counts.{Counts, IsQuiet, Rose, RoseBy, RoseBeyond}
 use Rattle.outside.specs.Files.{Files, Told, file_named}
 use Rattle.tree_model.specs.View.{SystemView}
 use Rattle.system_file.specs.SystemFile.{system_of}
@@ -12,7 +12,7 @@ use Rattle.command_steps.specs.declared.answer.Ending.TheVariants.{Answered, Unr
 use Rattle.command_steps.specs.CommandSpec.{CommandSpec}
 use Rattle.command_steps.specs.Answer.{Contents, Saying, AreContentsOf, AtContent, AtFile, OnSystem, file_limit}
 use Rattle.command_steps.specs.TwoFiles.{OnTwoFiles}
-use Rattle.command_steps.specs.Reading.{read_in}
+use Rattle.command_steps.specs.Reading.{read_in, read_of}
 
 -- over what the files of the command hold, this status and this text are the answer
 pub record IsSaid (spec : CommandSpec) (files : Option Files) (status : Status) (text : List ℕ)
@@ -32,22 +32,6 @@ abbrev pub ending_of : Result Answer Ending → Ending
 ending_of (Ok answer) = Answered answer
 ending_of (Err ending) = ending
 
--- a store's counts
-pub record Counts : Type 0 where
-  pub faults : ℕ
-  pub absences : ℕ
-  pub taken : ℕ
-
-abbrev pub counts_of : {A : Type 0} (faults absences taken : A → ℕ) → A → Counts
-counts_of faults absences taken store =
-    record { faults = faults store; absences = absences store; taken = taken store }
-
--- no call failed, and no name was not there
-pub record IsQuiet (before after : Counts) : Type 0 where
-  pub faults : after.faults ≡ before.faults
-  pub absences : after.absences ≡ before.absences
-  pub taken : before.taken ≤ after.taken
-
 -- how the counts explain an answer
 abbrev pub ExplainsAnswer : Status → Counts → Counts → Type 0
 ExplainsAnswer Absent before after = Rose before.absences after.absences
@@ -61,6 +45,11 @@ Explains (Answered answer) before after = ExplainsAnswer answer.status before af
 Explains Unread before after = Rose before.faults after.faults
 Explains NoRoom before after = ⊤
 
+-- how they explain a step that gave its value, or ended the command
+abbrev pub ExplainsStep : {Value : Type 0} → Result Value Ending → Counts → Counts → Type 0
+ExplainsStep (Ok value) before after = IsQuiet before after
+ExplainsStep (Err stop) before after = Explains stop before after
+
 -- what a command that ends so took of the store: so many bytes, and no more where it has no answer
 abbrev pub EndTakes : Ending → ℕ → ℕ → ℕ → Type 0
 EndTakes (Answered answer) bytes before after = RoseBy bytes before after
@@ -71,6 +60,13 @@ EndTakes NoRoom bytes before after = after ≤ before + bytes
 abbrev pub StepTakes : {Value : Type 0} → Result Value Ending → ℕ → ℕ → ℕ → Type 0
 StepTakes (Ok value) bytes before after = RoseBy bytes before after
 StepTakes (Err stop) bytes before after = EndTakes stop bytes before after
+
+-- where the files are told, what a step over the file of that name took
+abbrev pub FileTakes : {Value : Type 0} → Result Value Ending → Option Files → List ℕ → ℕ → ℕ
+    → Type 0
+FileTakes result files name before after =
+    (all : Files) → files ≡ Some all
+    → StepTakes result (read_of (file_named name all)) before after
 
 -- where the files are told, what a command over them took
 abbrev pub SpecTakes : CommandSpec → Option Files → Ending → ℕ → ℕ → Type 0

@@ -1,10 +1,9 @@
-ghost use Rattle.std.specs.Prelude.{◌≡◌, ◌≢◌, ◌≤◌, [], length, Some, Ok, IfOk, IfErr, OnOk};
-ghost use Rattle.outside.specs.Files.{Files, Told, file_named};
+ghost use Rattle.std.specs.Prelude.{◌≡◌, ◌≢◌, [], Ok, IfOk, IfErr, OnOk};
+ghost use Rattle.outside.specs.Counts.{counts_of};
 ghost use Rattle.system_file.specs.SystemFile.{system_of};
 ghost use Rattle.rt_report.specs.Fault.{fault_text, IsFault};
-ghost use Rattle.command_steps.specs.Answer.{file_limit, OnSystem};
-ghost use Rattle.command_steps.specs.Reading.{read_of};
-ghost use Rattle.command_steps.specs.Steps.{counts_of, IfAnswered, IsQuiet, Explains, StepTakes, StopsAt, IsSpelled, EndsJudged, TookHeld};
+ghost use Rattle.command_steps.specs.Answer.{OnSystem};
+ghost use Rattle.command_steps.specs.Steps.{ExplainsStep, FileTakes, IfAnswered, StopsAt, IsSpelled, EndsJudged, TookHeld};
 
 use crate::Status;
 use crate::answer::{Answer, Ending};
@@ -19,7 +18,7 @@ const MOST_BYTES: usize = 67_108_864;
 
 /// Hands the bytes of the file of that name on to the taker, piece by piece. It is the file word
 /// `number`, counted from 1. It stops where the file is absent or too long.
-#[tactic(auto, using(crate::proofs::Steps::stops_long, crate::proofs::Steps::took_held))]
+#[tactic(auto, using(crate::proofs::Steps::took_held))]
 pub fn hand_on<S: Store, T: ByteTaker>(
     alloc: Global,
     store: &mut S,
@@ -33,12 +32,9 @@ pub fn hand_on<S: Store, T: ByteTaker>(
     ensures refused { IfErr result (λ stop. IfAnswered stop (λ a.
         StopsAt number (S.files store.old) name.now (λ _ _ _. ⊥) a.status a.text.items)) }
     ensures same_files { S.files store.new ≡ S.files store.old }
-    ensures quiet { let counts = counts_of S.faults S.absences S.taken in
-        OnOk result (IsQuiet (counts store.old) (counts store.new)) }
     ensures explained { let counts = counts_of S.faults S.absences S.taken in
-        IfErr result (λ stop. Explains stop (counts store.old) (counts store.new)) }
-    ensures taken { (files : Files) → S.files store.old ≡ Some files
-        → StepTakes result (read_of (file_named name.now files))
+        ExplainsStep result (counts store.old) (counts store.new) }
+    ensures taken { FileTakes result (S.files store.old) name.now
         (S.taken store.old) (S.taken store.new) }
 {
     match read_pieces(alloc, store, name, MOST_BYTES, taker) {
@@ -56,33 +52,6 @@ pub fn hand_on<S: Store, T: ByteTaker>(
     }
 }
 
-/// The bytes of the file of that name, which is the file word `number`, counted from 1. It stops
-/// where the file is absent or too long.
-fn read_file<S: Store>(
-    alloc: Global,
-    store: &mut S,
-    name: &str,
-    number: u32,
-) -> Result<Vec<u8>, Ending>
-    ensures bytes { IfOk result
-        (λ bytes. Told (S.files store.old) name.now (λ file. file ≡ Some bytes.items)) }
-    ensures short { IfOk result (λ bytes. length bytes.items ≤ file_limit) }
-    ensures refused { IfErr result (λ stop. IfAnswered stop (λ a.
-        StopsAt number (S.files store.old) name.now (λ _ _ _. ⊥) a.status a.text.items)) }
-    ensures same_files { S.files store.new ≡ S.files store.old }
-    ensures quiet { let counts = counts_of S.faults S.absences S.taken in
-        OnOk result (IsQuiet (counts store.old) (counts store.new)) }
-    ensures explained { let counts = counts_of S.faults S.absences S.taken in
-        IfErr result (λ stop. Explains stop (counts store.old) (counts store.new)) }
-    ensures taken { (files : Files) → S.files store.old ≡ Some files
-        → StepTakes result (read_of (file_named name.now files))
-        (S.taken store.old) (S.taken store.new) }
-{
-    let mut bytes = Vec::new(alloc);
-    hand_on(alloc, store, name, number, &mut bytes)?;
-    Ok(bytes)
-}
-
 /// The system that the file of that name spells, which is the first file word. It stops where the
 /// file is absent, too long or refused.
 pub fn read_system_file<S: Store>(
@@ -95,15 +64,13 @@ pub fn read_system_file<S: Store>(
         StopsAt 1 (S.files store.old) name.now
         (λ bytes. OnSystem (system_of bytes) (λ _ _ _. ⊥)) a.status a.text.items)) }
     ensures same_files { S.files store.new ≡ S.files store.old }
-    ensures quiet { let counts = counts_of S.faults S.absences S.taken in
-        OnOk result (IsQuiet (counts store.old) (counts store.new)) }
     ensures explained { let counts = counts_of S.faults S.absences S.taken in
-        IfErr result (λ stop. Explains stop (counts store.old) (counts store.new)) }
-    ensures taken { (files : Files) → S.files store.old ≡ Some files
-        → StepTakes result (read_of (file_named name.now files))
+        ExplainsStep result (counts store.old) (counts store.new) }
+    ensures taken { FileTakes result (S.files store.old) name.now
         (S.taken store.old) (S.taken store.new) }
 {
-    let bytes = read_file(alloc, store, name, 1)?;
+    let mut bytes = Vec::new(alloc);
+    hand_on(alloc, store, name, 1, &mut bytes)?;
     spelled_system(alloc, &bytes)
 }
 

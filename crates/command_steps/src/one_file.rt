@@ -1,9 +1,10 @@
 ghost use Rattle.std.specs.Prelude.{List, ℕ};
+ghost use Rattle.outside.specs.Counts.{counts_of};
 ghost use Rattle.tree_model.specs.View.{SystemView};
 ghost use Rattle.tree_model.specs.System.{IsSystem};
 ghost use Rattle.command_steps.specs.declared.status.Status.{Status};
 ghost use Rattle.command_steps.specs.CommandSpec.{CommandSpec};
-ghost use Rattle.command_steps.specs.Steps.{counts_of, ending_of, IfAnswered, Explains, SpecTakes, IsSaid, IsOverOne, EndsJudged};
+ghost use Rattle.command_steps.specs.Steps.{ending_of, IfAnswered, Explains, SpecTakes, IsSaid, IsOverOne, EndsJudged};
 
 use crate::answer::{Answer, Ending};
 use crate::file::read_system_file;

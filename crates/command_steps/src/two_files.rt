@@ -1,12 +1,13 @@
-ghost use Rattle.std.specs.Prelude.{◌≡◌, ◌≤◌, List, [], ◌∷◌, ℕ, length, Some, IfOk, IfErr, OnOk};
+ghost use Rattle.std.specs.Prelude.{◌≡◌, ◌≤◌, List, [], ◌∷◌, ℕ, length, Some, IfOk, IfErr};
+ghost use Rattle.outside.specs.Counts.{counts_of};
 ghost use Rattle.outside.specs.Files.{Files, file_named};
 ghost use Rattle.tree_model.specs.View.{SystemView};
 ghost use Rattle.tree_model.specs.System.{IsSystem};
 ghost use Rattle.command_steps.specs.declared.answer.Ending.TheVariants.{NoMemory};
 ghost use Rattle.command_steps.specs.Answer.{Saying, file_limit};
 ghost use Rattle.command_steps.specs.CommandSpec.{CommandSpec};
-ghost use Rattle.command_steps.specs.Reading.{read_in, read_of};
-ghost use Rattle.command_steps.specs.Steps.{counts_of, ending_of, IfAnswered, IsQuiet, Explains, StepTakes, SpecTakes, IsSaid, IsSpelled, HasTaken, HasTakenFile, StopsAt, AnswersTwo, IsOverTwo, EndsJudged};
+ghost use Rattle.command_steps.specs.Reading.{read_in};
+ghost use Rattle.command_steps.specs.Steps.{ending_of, IfAnswered, Explains, ExplainsStep, StepTakes, FileTakes, SpecTakes, IsSaid, IsSpelled, HasTaken, HasTakenFile, StopsAt, AnswersTwo, IsOverTwo, EndsJudged};
 
 use crate::answer::{Answer, Ending};
 use crate::file::{hand_on, read_system_file};
@@ -92,10 +93,8 @@ fn take_two<'s, S: Store, J: JudgePieces<'s>>(
     ensures refused { IfErr result (λ stop. IfAnswered stop (λ a.
         AnswersTwo (S.files store.old) first.now second.now (λ _ _ _ _. ⊥)
         a.status a.text.items)) }
-    ensures quiet { let counts = counts_of S.faults S.absences S.taken in
-        OnOk result (IsQuiet (counts store.old) (counts store.new)) }
     ensures explained { let counts = counts_of S.faults S.absences S.taken in
-        IfErr result (λ stop. Explains stop (counts store.old) (counts store.new)) }
+        ExplainsStep result (counts store.old) (counts store.new) }
     ensures taken { (files : Files) → S.files store.old ≡ Some files
         → StepTakes result
         (read_in (file_named first.now files ∷ file_named second.now files ∷ []))
@@ -120,12 +119,9 @@ fn take_second<'s, S: Store, J: JudgePieces<'s>>(
         J.Taker.has_taken (S.files store.old) second.now) }
     ensures refused { IfErr result (λ stop. IfAnswered stop (λ a.
         StopsAt 2 (S.files store.old) second.now (λ _ _ _. ⊥) a.status a.text.items)) }
-    ensures quiet { let counts = counts_of S.faults S.absences S.taken in
-        OnOk result (IsQuiet (counts store.old) (counts store.new)) }
     ensures explained { let counts = counts_of S.faults S.absences S.taken in
-        IfErr result (λ stop. Explains stop (counts store.old) (counts store.new)) }
-    ensures taken { (files : Files) → S.files store.old ≡ Some files
-        → StepTakes result (read_of (file_named second.now files))
+        ExplainsStep result (counts store.old) (counts store.new) }
+    ensures taken { FileTakes result (S.files store.old) second.now
         (S.taken store.old) (S.taken store.new) }
 {
     let mut taker = judge.begin(alloc, sys)?;

@@ -5,7 +5,8 @@ ghost use Rattle.command_words.specs.inner.Forms.{forms_from_isolate, forms_from
 ghost use Rattle.command_words.specs.Numbers.{guest_number};
 ghost use Rattle.command_words.specs.Reading.{NamesNoFile};
 ghost use Rattle.command_words.specs.Steps.{IsSaidTo, CommandTakes};
-ghost use Rattle.command_steps.specs.Steps.{counts_of, IfAnswered, Explains};
+ghost use Rattle.outside.specs.Counts.{counts_of};
+ghost use Rattle.command_steps.specs.Steps.{IfAnswered, Explains};
 
 use crate::numbers::number_from_one;
 use crate::period_words::{period_of, range_of};
@@ -18,7 +19,7 @@ use host_commands::{Editor, Guests, Placer, bulk};
 use outside::Store;
 use server_sched::Pattern;
 use std::alloc::Global;
-use trace_commands::{Audit, Isolate, Rtds, Simulate, Slots, Tally};
+use trace_commands::{Isolate, Rtds, Simulate, Slots, TraceCommand};
 
 /// The most guests of `bulk N`.
 const MOST_GUESTS: u64 = 256;
@@ -177,7 +178,8 @@ pub fn answer<S: Store>(alloc: Global, command: Option<Command<'_>>, store: &mut
             ended(over_two(alloc, store, file, workload, &Rtds { slots }))
         }
         Some(Command::Audit(file, trace)) => {
-            ended(over_pieces(alloc, store, file, trace, &Audit, &mut None))
+            let judge = TraceCommand::Audit;
+            ended(over_pieces(alloc, store, file, trace, &judge, &mut None))
         }
         Some(Command::Simulate(file, releases, pattern, slots)) => {
             let judge = Simulate { pattern, slots };
@@ -198,7 +200,8 @@ pub fn answer<S: Store>(alloc: Global, command: Option<Command<'_>>, store: &mut
         Some(Command::Isolate(file)) => ended(over_one(alloc, store, file, &Isolate)),
         Some(Command::Slack(file, part)) => ended(over_one(alloc, store, file, &Slack { part })),
         Some(Command::Tally(file, trace)) => {
-            ended(over_pieces(alloc, store, file, trace, &Tally, &mut None))
+            let judge = TraceCommand::Tally;
+            ended(over_pieces(alloc, store, file, trace, &judge, &mut None))
         }
         Some(Command::Version) => ended(version(alloc)),
         None => ended(usage(alloc)),

@@ -1,7 +1,8 @@
 ghost use Rattle.std.specs.Prelude.{Option};
+ghost use Rattle.outside.specs.Counts.{Counts};
 ghost use Rattle.outside.specs.Files.{Files};
 ghost use Rattle.command_words.specs.Version.{the_version};
-ghost use Rattle.command_steps.specs.Steps.{Counts, ending_of, IfAnswered, Explains, IsSaid, EndsJudged};
+ghost use Rattle.command_steps.specs.Steps.{ending_of, IfAnswered, Explains, IsSaid, EndsJudged};
 
 use command_steps::{Answer, Ending, Status};
 use rt_report::version_text;

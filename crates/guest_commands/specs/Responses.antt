@@ -7,9 +7,8 @@ use Rattle.slot_model.specs.Supply.{GivesBudget, worst_slot}
 use Rattle.slot_model.specs.Order.{before_of}
 use Rattle.response_times.specs.Response.{IsGreatestResponse}
 use Rattle.response_times.specs.Replay.{ShowsResponse}
-use Rattle.rtds_sim.specs.Rtds.{is_edf}
 use Rattle.tree_model.specs.View.{PartView, SystemView}
-use Rattle.tree_model.specs.System.{is_leaf, own_tasks, part_at}
+use Rattle.tree_model.specs.System.{is_edf, is_leaf, own_tasks, part_at}
 use Rattle.tree_model.specs.Tree.{budget_at, NoLoss}
 use Rattle.tree_model.specs.Admission.{Admitted}
 use Rattle.system_file.specs.SystemFile.{system_of}

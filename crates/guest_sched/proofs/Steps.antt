@@ -12,10 +12,9 @@ use Rattle.guest_sched.specs.declared.releases.Release.{Release}
 use Rattle.guest_sched.specs.declared.ready.Ready.{Ready}
 use Rattle.guest_sched.specs.declared.spans.Span.{Span}
 use Rattle.guest_sched.specs.inner.Releases.{release_at, AreReleases}
-use Rattle.guest_sched.specs.inner.Choice.{job_of, IsBeaten, IsUnbeaten, IsFirstUnbeaten}
 use Rattle.guest_sched.specs.inner.Keep.{AreEnds}
-use Rattle.guest_sched.specs.inner.Places.{StandsIn, IsAscending}
-use Rattle.guest_sched.specs.inner.Ready.{HasCome, IsReady, HaveCome, AreToCome, IsServed, IsSteady, left_after}
+use Rattle.guest_sched.specs.inner.Places.{StandsIn}
+use Rattle.guest_sched.specs.inner.Ready.{HasCome, IsReady, HaveCome, AreToCome, GoesFirst, IsServed, IsSteady, left_after}
 use Rattle.guest_sched.specs.Spans.{Window, slots_of, entries_of}
 use Rattle.guest_sched.proofs.State.{ready_in}
 use Rattle.guest_sched.proofs.Steady.{Steady, no_entry, span_run, gap_run, service_span}
@@ -24,12 +23,11 @@ use Rattle.guest_sched.proofs.Steady.{Steady, no_entry, span_run, gap_run, servi
 abbrev pub IsLeft : List Job → List (Option ℕ) → ℕ → List ℕ → Type 0
 IsLeft jobs run x left = (j : ℕ) → j < length jobs → get_or left j 0 + service run j x ≡ (job_at jobs j).work
 
--- the ready jobs are those that are pending at x, in the order of their list
+-- the ready jobs are those that are pending at x
 pub record AreReady (level : Level) (tasks : List SporadicTask) (jobs : List Job) (run : List (Option ℕ)) (x : ℕ)
     (ready : List ℕ) : Type 0 where
   pub pending : (j : ℕ) → StandsIn ready j → Pending level tasks jobs run j x
   pub all : (j : ℕ) → Pending level tasks jobs run j x → StandsIn ready j
-  pub ascending : IsAscending ready
 
 ready_are : (level : Level) (tasks : List SporadicTask) (jobs : List Job) (state : Ready) (run : List (Option ℕ))
     → AreReleases jobs state.releases.items → IsReady state → HaveCome state state.time → AreToCome state state.time
@@ -59,46 +57,21 @@ ready_are level tasks jobs state run by h come later lacks ends soon early = rec
       ])
       (omega (arith, lacks j p.is_job, p.unfinished))
       ((ends.each j p.is_job).closes state.time early p.still_open);
-  ascending = h.ascending;
 }
-
-unbeaten_may : (level : Level) (before : Job → Job → Bool) (tasks : List SporadicTask) (jobs : List Job)
-    (run : List (Option ℕ)) (x : ℕ) (ready : List ℕ) → AreReady level tasks jobs run x ready → (i : ℕ)
-    → i < length ready → IsUnbeaten before jobs ready (job_of jobs ready i)
-    → MayHold level before tasks jobs run x (get_or ready i 0)
-unbeaten_may level before tasks jobs run x ready are i l none = record {
-  pending = are.pending (get_or ready i 0) (i, l, refl);
-  best =
-      λ k p w. let s : StandsIn ready k
-      = are.all k p in both_ways _ (none s.0 s.1)
-      (ap (λ (z : ℕ). before (job_at jobs z) (job_of jobs ready i)) s.2 ∙ w);
-}
-
-beaten_not : (level : Level) (before : Job → Job → Bool) (tasks : List SporadicTask) (jobs : List Job)
-    (run : List (Option ℕ)) (x : ℕ) (ready : List ℕ) → AreReady level tasks jobs run x ready → (k : ℕ)
-    → IsBeaten before jobs ready (job_at jobs k) → MayHold level before tasks jobs run x k → ⊥
-beaten_not level before tasks jobs run x ready are k b m =
-    m.best (get_or ready b.0 0) (are.pending (get_or ready b.0 0) (b.0, b.1, refl)) b.2
 
 first_may : (level : Level) (before : Job → Job → Bool) (tasks : List SporadicTask) (jobs : List Job)
-    (run : List (Option ℕ)) (x : ℕ) (ready : List ℕ) → AreReady level tasks jobs run x ready → (i : ℕ)
-    → IsFirstUnbeaten before jobs ready (Some i) → (k : ℕ) → k < get_or ready i 0
-    → MayHold level before tasks jobs run x k → ⊥
-first_may level before tasks jobs run x ready are i f k l m =
-    let s : StandsIn ready k = are.all k m.pending in
-    elim (cases_lt s.0 i) [
-      | inl h ↦
-          beaten_not level before tasks jobs run x ready are k (
-          let b : IsBeaten before jobs ready (job_of jobs ready s.0) = f.2 s.0 h in
-          subst (λ (z : ℕ). IsBeaten before jobs ready (job_at jobs z)) s.2 b) m
-      | inr h ↦
-          elim (cases_eq i s.0) [
-            | inl e ↦
-                omega (arith, l, s.2, ap (λ (z : ℕ). get_or ready z 0) e)
-            | inr ne ↦
-                omega (arith, l, s.2, are.ascending i s.0 (omega arith) s.1)
-          ]
-    ]
+    (run : List (Option ℕ)) (x : ℕ) (ready : List ℕ) → AreReady level tasks jobs run x ready → (j : ℕ)
+    → GoesFirst before jobs ready j → MayHold level before tasks jobs run x j
+first_may level before tasks jobs run x ready are j f =
+    record { pending = are.pending j f.stands; best = λ k p w. both_ways _ (f.unbeaten k (are.all k p)) w }
+
+none_sooner : (level : Level) (before : Job → Job → Bool) (tasks : List SporadicTask) (jobs : List Job)
+    (run : List (Option ℕ)) (x : ℕ) (ready : List ℕ) → AreReady level tasks jobs run x ready → (j : ℕ)
+    → GoesFirst before jobs ready j → (k : ℕ) → k < j → MayHold level before tasks jobs run x k → ⊥
+none_sooner level before tasks jobs run x ready are j f k l m =
+    let b : (r : ℕ) × StandsIn ready r × (before (job_at jobs r) (job_at jobs k) ≡ true)
+    = f.first k (are.all k m.pending) l in
+    m.best b.0 (are.pending b.0 b.1) b.2
 
 -- the entry of the run at the start of a span
 served_entry : (level : Level) (before : Job → Job → Bool) (tasks : List SporadicTask) (jobs : List Job)
@@ -117,10 +90,10 @@ served_entry level before tasks jobs run x ready are true (Some p) h = record {
   no_slot = λ e. absurd (true≢false e);
   idle = λ e q. absurd (none_some (Some p) p q refl);
   held =
-      λ j e. subst (MayHold level before tasks jobs run x) (h.1 ∙ same_Some p j e)
-      (unbeaten_may level before tasks jobs run x ready are h.0 h.2.0 h.2.1);
+      λ j e. subst (MayHold level before tasks jobs run x) (same_Some p j e)
+      (first_may level before tasks jobs run x ready are p h);
   first =
-      λ j k e l. first_may level before tasks jobs run x ready are h.0 h.2 k (omega (arith, l, h.1, same_Some p j e));
+      λ j k e l. none_sooner level before tasks jobs run x ready are p h k (omega (arith, l, same_Some p j e));
 }
 
 -- what the jobs lack after a span
@@ -211,11 +184,11 @@ pub record Serves (before : Job → Job → Bool) (jobs : List Job) (came : Read
     pub released : after.released ≡ came.released
     pub ends : after.ends.items ≡ came.ends.items
 
-served_stands : (before : Job → Job → Bool) (jobs : List Job) (ready : List ℕ) (slot : Bool) (entry : Option ℕ) (p : ℕ)
-    → IsServed before jobs ready slot entry → entry ≡ Some p → StandsIn ready p
+pub served_stands : (before : Job → Job → Bool) (jobs : List Job) (ready : List ℕ) (slot : Bool) (entry : Option ℕ)
+    (p : ℕ) → IsServed before jobs ready slot entry → entry ≡ Some p → StandsIn ready p
 served_stands before jobs ready false entry p v e = absurd (none_some entry p v e)
 served_stands before jobs ready true None p v e = absurd (none_some None p refl e)
-served_stands before jobs ready true (Some j) p v e = (v.0, v.2.0, v.1 ∙ same_Some j p e)
+served_stands before jobs ready true (Some j) p v e = subst (StandsIn ready) (same_Some j p e) v.stands
 
 -- the slots from one moment up to another are given
 abbrev pub AreGiven : List Bool → ℕ → ℕ → Type 0
@@ -300,7 +273,8 @@ kept_more level before tasks jobs windows n run more state came after span k now
     let left : IsLeft jobs (run ++ replicate (span.until - came.time) span.job) (came.time + (span.until - came.time))
     (left_after came.left.items span.job (span.until - came.time))
     = left_more jobs run came.time (span.until - came.time) came.left.items span.job so_far.long lacks (λ p q. (
-      ready_in came.releases.items came.released came.left.items came.ends.items came.ready.items came.soonest came.time
+      ready_in came.releases.items came.released came.keys.all.items came.left.items came.ends.items came.ready.items
+          came.soonest came.time
           now.is_state p (served_stands before jobs came.ready.items true span.job p v.served q),
       v.enough p q,
     )) in

@@ -1,18 +1,16 @@
-ghost use Rattle.std.specs.Prelude.{◌≡◌, ℕ, ◌+◌, ◌-◌, ◌<◌, ◌≤◌, ◌^◌, ◌↔◌, false, true, length, map, slice_index, All, IsTrue, IfOk, IfSome, OnOk, MatchOption, Some, None};
+ghost use Rattle.std.specs.Prelude.{◌≡◌, ℕ, ◌+◌, ◌-◌, ◌<◌, ◌≤◌, ◌^◌, ◌↔◌, true, length, map, slice_index, All, IsTrue, IfOk, IfSome, OnOk, MatchOption, Some, None};
 ghost use Rattle.slot_model.specs.Task.{sporadic_tasks, task_at};
 ghost use Rattle.guest_sched.specs.inner.Releases.{release_at, AreReleases};
 ghost use Rattle.guest_sched.specs.inner.Keep.{level_of, AreEnds};
-ghost use Rattle.guest_sched.specs.inner.Keys.{AreKeys};
-ghost use Rattle.guest_sched.specs.inner.Places.{StandsIn};
-ghost use Rattle.guest_sched.specs.inner.Ready.{IsReady, HaveCome, AreToCome, HasKeys, IsServed, IsBest, StaysBest, StaysFirst, AllEndAfter, IsSteady, left_after};
+ghost use Rattle.guest_sched.specs.inner.Keys.{AreByKey};
+ghost use Rattle.guest_sched.specs.inner.Ready.{IsReady, HaveCome, AreToCome, HasKeys, GoesFirst, IsServed, AllEndAfter, IsSteady, left_after};
 
 use crate::choice::first_unbeaten;
 use crate::keep::{Keep, end_moment};
-use crate::keys::{first_by_key, keys_of, stays_by_key};
-use crate::places::{insert_place, remove_place};
+use crate::keys::Keys;
 use crate::releases::{Release, releases};
 use crate::spans::Span;
-use slot_model::{Job, Key, Order, Task};
+use slot_model::{Job, Order, Task};
 use std::alloc::{AllocError, Global};
 
 /// The jobs of a level between two events.
@@ -28,14 +26,12 @@ pub struct Ready {
     left: Vec<u64>,
     /// The moment from which each job is kept no more.
     ends: Vec<u64>,
-    /// The key of each job, where the order gives keys.
-    keys: Option<Vec<Key>>,
-    /// The places of the jobs that have come, lack slots and are kept, ascending.
+    /// The keys of the jobs.
+    keys: Keys,
+    /// The places of the jobs that have come, lack slots and are kept, by their keys.
     ready: Vec<u32>,
     /// No ready job ends before this moment.
     soonest: u64,
-    /// The ready job that goes first, where it is known.
-    best: Option<u32>,
 }
 
 impl Ready {
@@ -61,7 +57,6 @@ impl Ready {
             IfOk result (λ r. AreEnds (level_of keep) T jobs.now r.ends.items) }
         ensures keys { let before = O.goes order.now (sporadic_tasks tasks.now) in
             IfOk result (λ r. HasKeys before jobs.now r) }
-        ensures best { IfOk result (λ r. r.best ≡ None) }
     {
         Ok(Ready {
             time: 0,
@@ -69,10 +64,9 @@ impl Ready {
             released: 0,
             left: jobs.iter().map(|job| job.work).collect(alloc)?,
             ends: ends(alloc, keep, tasks, jobs)?,
-            keys: keys_of(alloc, order, tasks, jobs)?,
+            keys: Keys::new(alloc, order, tasks, jobs)?,
             ready: Vec::with_capacity(alloc, jobs.len())?,
             soonest: u64::MAX,
-            best: None,
         })
     }
 
@@ -83,37 +77,22 @@ impl Ready {
     }
 
     /// Lets the jobs come that are released by now, and gives those up that end by then.
-    pub fn catch_up<O: Order>(
-        &mut self,
-        order: &O,
-        tasks: &[Task],
-        jobs: &[Job],
-    ) -> Result<(), AllocError>
+    pub fn catch_up(&mut self) -> Result<(), AllocError>
         requires state { IsReady self.old }
         requires come { HaveCome self.old self.old.time }
-        requires all_jobs { length self.old.left.items ≡ length jobs.now }
-        requires named { All (λ a. a.task < length tasks.now) jobs.now }
-        requires in_jitter { let T = sporadic_tasks tasks.now in
-            All (λ a. a.early ≤ (task_at T a.task).jitter) jobs.now }
-        requires keys { let before = O.goes order.now (sporadic_tasks tasks.now) in
-            HasKeys before jobs.now self.old }
-        requires best { let before = O.goes order.now (sporadic_tasks tasks.now) in
-            IsBest before jobs.now self.old.ready.items self.old.best }
         requires in_time { self.old.time < 2 ^ 64 - 1 }
         ensures state { OnOk result (IsReady self.new) }
         ensures come { OnOk result (HaveCome self.new self.old.time) }
         ensures to_come { OnOk result (AreToCome self.new self.old.time) }
         ensures none_over { OnOk result (self.new.time < self.new.soonest) }
         ensures time { self.new.time ≡ self.old.time }
-        ensures best { let before = O.goes order.now (sporadic_tasks tasks.now) in
-            OnOk result (IsBest before jobs.now self.new.ready.items self.new.best) }
         ensures releases { self.new.releases ≡ self.old.releases }
         ensures left { self.new.left ≡ self.old.left }
         ensures ends { self.new.ends ≡ self.old.ends }
         ensures keys { self.new.keys ≡ self.old.keys }
     {
         while self.is_next_due() {
-            self.admit_next(order, tasks, jobs)?;
+            self.admit_next()?;
         }
         self.give_up();
         Ok(())
@@ -126,41 +105,22 @@ impl Ready {
         self.released < self.releases.len() && self.releases[self.released].release <= self.time
     }
 
-    fn admit_next<O: Order>(
-        &mut self,
-        order: &O,
-        tasks: &[Task],
-        jobs: &[Job],
-    ) -> Result<(), AllocError>
+    fn admit_next(&mut self) -> Result<(), AllocError>
         requires state { IsReady self.old }
         requires some { self.old.released < length self.old.releases.items }
-        requires all_jobs { length self.old.left.items ≡ length jobs.now }
-        requires named { All (λ a. a.task < length tasks.now) jobs.now }
-        requires in_jitter { let T = sporadic_tasks tasks.now in
-            All (λ a. a.early ≤ (task_at T a.task).jitter) jobs.now }
-        requires keys { let before = O.goes order.now (sporadic_tasks tasks.now) in
-            HasKeys before jobs.now self.old }
-        requires best { let before = O.goes order.now (sporadic_tasks tasks.now) in
-            IsBest before jobs.now self.old.ready.items self.old.best }
         ensures state { OnOk result (IsReady self.new) }
         ensures time { self.new.time ≡ self.old.time }
         ensures one_more { OnOk result (self.new.released ≡ self.old.released + 1) }
-        ensures best { let before = O.goes order.now (sporadic_tasks tasks.now) in
-            OnOk result (IsBest before jobs.now self.new.ready.items self.new.best) }
         ensures releases { self.new.releases ≡ self.old.releases }
         ensures left { self.new.left ≡ self.old.left }
         ensures ends { self.new.ends ≡ self.old.ends }
         ensures keys { self.new.keys ≡ self.old.keys }
     {
         let place = self.releases[self.released].place;
-        insert_place(&mut self.ready, place)?;
+        let at = self.keys.count_before(&self.ready, place);
+        self.ready.insert(at, place)?;
         self.released += 1;
         self.soonest = self.soonest.min(self.ends[place as usize]);
-        if let Some(best) = self.best {
-            if !stays_first(order, tasks, jobs, &self.keys, best, place) {
-                self.best = None;
-            }
-        }
         Ok(())
     }
 
@@ -171,7 +131,6 @@ impl Ready {
         ensures state { IsReady self.new }
         ensures none_over { self.new.time < self.new.soonest }
         ensures time { self.new.time ≡ self.old.time }
-        ensures best { StaysBest self.old self.new }
         ensures releases { self.new.releases ≡ self.old.releases }
         ensures released { self.new.released ≡ self.old.released }
         ensures left { self.new.left ≡ self.old.left }
@@ -181,9 +140,8 @@ impl Ready {
         if self.time < self.soonest {
             return;
         }
-        self.best = None;
-        while let Some(place) = find_ended(&self.ends, &self.ready, self.time) {
-            remove_place(&mut self.ready, place);
+        while let Some(at) = find_ended(&self.ends, &self.ready, self.time) {
+            self.ready.remove(at);
         }
         self.soonest = soonest_end(&self.ends, &self.ready);
     }
@@ -200,8 +158,6 @@ impl Ready {
             All (λ a. a.early ≤ (task_at T a.task).jitter) jobs.now }
         requires keys { let before = O.goes order.now (sporadic_tasks tasks.now) in
             HasKeys before jobs.now self.old }
-        requires best { let before = O.goes order.now (sporadic_tasks tasks.now) in
-            IsBest before jobs.now self.old.ready.items self.old.best }
         requires some { self.old.time < until }
         ensures from { result.from ≡ self.old.time }
         ensures some { self.old.time < result.until }
@@ -215,8 +171,6 @@ impl Ready {
         ensures left { self.new.left.items ≡ left_after self.old.left.items result.job
             (result.until - self.old.time) }
         ensures state { IsReady self.new }
-        ensures best { let before = O.goes order.now (sporadic_tasks tasks.now) in
-            IsBest before jobs.now self.new.ready.items self.new.best }
         ensures releases { self.new.releases ≡ self.old.releases }
         ensures released { self.new.released ≡ self.old.released }
         ensures ends { self.new.ends ≡ self.old.ends }
@@ -225,7 +179,7 @@ impl Ready {
         let until = self.steady_until(until);
         match self.choose(order, tasks, jobs) {
             None => self.pass(until),
-            Some(place) => self.give(place, until),
+            Some(at) => self.give(at, until),
         }
     }
 
@@ -261,61 +215,60 @@ impl Ready {
         }
     }
 
-    /// The first of the ready jobs that no ready job goes before.
-    fn choose<O: Order>(&mut self, order: &O, tasks: &[Task], jobs: &[Job]) -> Option<u32>
-        requires in_jobs { All (λ p. p < length jobs.now) self.old.ready.items }
+    /// Where the first of the ready jobs stands that no ready job goes before.
+    fn choose<O: Order>(&self, order: &O, tasks: &[Task], jobs: &[Job]) -> Option<usize>
+        requires in_jobs { All (λ p. p < length jobs.now) self.now.ready.items }
         requires named { All (λ a. a.task < length tasks.now) jobs.now }
         requires in_jitter { let T = sporadic_tasks tasks.now in
             All (λ a. a.early ≤ (task_at T a.task).jitter) jobs.now }
         requires keys { let before = O.goes order.now (sporadic_tasks tasks.now) in
-            HasKeys before jobs.now self.old }
-        requires best { let before = O.goes order.now (sporadic_tasks tasks.now) in
-            IsBest before jobs.now self.old.ready.items self.old.best }
-        ensures served { let before = O.goes order.now (sporadic_tasks tasks.now) in
-            IsServed before jobs.now self.old.ready.items true result }
-        ensures best { let before = O.goes order.now (sporadic_tasks tasks.now) in
-            IsBest before jobs.now self.new.ready.items self.new.best }
-        ensures rest { self.new ≡ record self.old { best = self.new.best } }
+            HasKeys before jobs.now self.now }
+        requires by_key { AreByKey self.now.keys.all.items self.now.ready.items }
+        ensures { let before = O.goes order.now (sporadic_tasks tasks.now) in
+            let ready = self.now.ready.items in
+            MatchOption result (length ready ≡ 0) (λ i. (i < length ready) ×
+            GoesFirst before jobs.now ready (slice_index ready i)) }
     {
-        if self.best.is_some() {
-            return self.best;
+        if !self.keys.are_told {
+            return first_unbeaten(order, tasks, jobs, &self.ready);
         }
-        self.best = first_place(order, tasks, jobs, &self.keys, &self.ready);
-        self.best
+        if self.ready.is_empty() { None } else { Some(0) }
     }
 
-    /// Gives the slots up to `until` to a ready job, as far as it lacks them.
-    fn give(&mut self, place: u32, until: u64) -> Span
+    /// Gives the slots up to `until` to the ready job at `at`, as far as it lacks them.
+    fn give(&mut self, at: usize, until: u64) -> Span
         requires state { IsReady self.old }
-        requires stands { StandsIn self.old.ready.items place }
+        requires is_ready { at < length self.old.ready.items }
         requires some { self.old.time < until }
         ensures from { result.from ≡ self.old.time }
         ensures some { self.old.time < result.until }
         ensures time { self.new.time ≡ result.until }
         ensures in_time { result.until ≤ until }
-        ensures job { result.job ≡ Some place }
-        ensures enough { result.until - self.old.time ≤ slice_index self.old.left.items place }
-        ensures left { self.new.left.items ≡ left_after self.old.left.items (Some place)
+        ensures job { result.job ≡ Some (slice_index self.old.ready.items at) }
+        ensures enough { let place = slice_index self.old.ready.items at in
+            result.until - self.old.time ≤ slice_index self.old.left.items place }
+        ensures left { let place = slice_index self.old.ready.items at in
+            self.new.left.items ≡ left_after self.old.left.items (Some place)
             (result.until - self.old.time) }
         ensures state { IsReady self.new }
-        ensures best { StaysBest self.old self.new }
         ensures releases { self.new.releases ≡ self.old.releases }
         ensures released { self.new.released ≡ self.old.released }
         ensures ends { self.new.ends ≡ self.old.ends }
         ensures keys { self.new.keys ≡ self.old.keys }
     {
+        let place = self.ready[at];
         let from = self.time;
         let lacks = self.left[place as usize];
         let slots = lacks.min(until - from);
-        self.time += slots;
+        let end = from + slots;
+        self.time = end;
         self.left[place as usize] = lacks - slots;
         if slots == lacks {
-            remove_place(&mut self.ready, place);
-            self.best = None;
+            self.ready.remove(at);
         }
         Span {
             from,
-            until: self.time,
+            until: end,
             job: Some(place),
         }
     }
@@ -336,42 +289,15 @@ fn ends(alloc: Global, keep: Keep, tasks: &[Task], jobs: &[Job]) -> Result<Vec<u
     Ok(ends)
 }
 
-/// Whether the job at `best`, which went first, still does where the job at `place` has come.
-fn stays_first<O: Order>(
-    order: &O,
-    tasks: &[Task],
-    jobs: &[Job],
-    keys: &Option<Vec<Key>>,
-    best: u32,
-    place: u32,
-) -> bool
-    requires best_in { best < length jobs.now }
-    requires place_in { place < length jobs.now }
-    requires named { All (λ a. a.task < length tasks.now) jobs.now }
-    requires in_jitter { let T = sporadic_tasks tasks.now in
-        All (λ a. a.early ≤ (task_at T a.task).jitter) jobs.now }
-    requires keys { let before = O.goes order.now (sporadic_tasks tasks.now) in
-        IfSome keys.now (λ k. AreKeys before jobs.now k.items) }
-    ensures { let before = O.goes order.now (sporadic_tasks tasks.now) in
-        IsTrue result → StaysFirst before jobs.now best place }
-{
-    if let Some(keys) = keys {
-        return stays_by_key(keys, best, place);
-    }
-    let old = &jobs[best as usize];
-    let new = &jobs[place as usize];
-    !order.before(tasks, new, old) && (best < place || order.before(tasks, old, new))
-}
-
-/// The place of a ready job that ends by `now`.
-fn find_ended(ends: &[u64], ready: &[u32], now: u64) -> Option<u32>
+/// Where a ready job stands that ends by `now`.
+fn find_ended(ends: &[u64], ready: &[u32], now: u64) -> Option<usize>
     requires { All (λ p. p < length ends.now) ready.now }
-    ensures { MatchOption result (AllEndAfter ends.now ready.now now) (λ p. StandsIn ready.now p ×
-        (slice_index ends.now p ≤ now)) }
+    ensures { MatchOption result (AllEndAfter ends.now ready.now now) (λ i. (i < length ready.now) ×
+        (slice_index ends.now (slice_index ready.now i) ≤ now)) }
 {
-    for place in ready {
-        if ends[*place as usize] <= now {
-            return Some(*place);
+    for at in 0..ready.len() {
+        if ends[ready[at] as usize] <= now {
+            return Some(at);
         }
     }
     None
@@ -389,28 +315,4 @@ fn soonest_end(ends: &[u64], ready: &[u32]) -> u64
         soonest = soonest.min(ends[*place as usize]);
     }
     soonest
-}
-
-/// The place of the first of the ready jobs that no ready job goes before.
-fn first_place<O: Order>(
-    order: &O,
-    tasks: &[Task],
-    jobs: &[Job],
-    keys: &Option<Vec<Key>>,
-    ready: &[u32],
-) -> Option<u32>
-    requires in_jobs { All (λ p. p < length jobs.now) ready.now }
-    requires named { All (λ a. a.task < length tasks.now) jobs.now }
-    requires in_jitter { let T = sporadic_tasks tasks.now in
-        All (λ a. a.early ≤ (task_at T a.task).jitter) jobs.now }
-    requires keys { let before = O.goes order.now (sporadic_tasks tasks.now) in
-        IfSome keys.now (λ k. AreKeys before jobs.now k.items) }
-    ensures { let before = O.goes order.now (sporadic_tasks tasks.now) in
-        IsServed before jobs.now ready.now true result }
-{
-    if let Some(keys) = keys {
-        return first_by_key(keys, ready);
-    }
-    let at = first_unbeaten(order, tasks, jobs, ready)?;
-    Some(ready[at])
 }

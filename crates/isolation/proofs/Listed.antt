@@ -5,7 +5,7 @@ use Rattle.std.proofs.lemmas.List.{length-map, get_or-map}
 use Rattle.slot_model.specs.Slots.{places_where}
 use Rattle.tree_model.specs.View.{SystemView}
 use Rattle.trace_file.specs.Rules.{is_vcpu}
-use Rattle.rtds_sim.proofs.Membership.{is_place}
+use Rattle.rtds_queues.proofs.Membership.{is_place}
 use Rattle.isolation.specs.declared.vcpus.PartIsolation.{PartIsolation}
 use Rattle.isolation.specs.Answers.{vcpus_of, AreIsolations}
 

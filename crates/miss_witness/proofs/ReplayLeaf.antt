@@ -1,5 +1,5 @@
 -- What an admission says of a computed leaf, and what is seen when its defeat is run.
-use Rattle.std.proofs.Common.{◌≡◌, ℕ, zero, suc, ◌+◌, ◌-◌, ◌<◌, ◌≤◌, Bool, true, List, length, Option, Some, None, get_or, arith, refl, sym, ◌∙◌, ap, subst}
+use Rattle.std.proofs.Common.{◌≡◌, ℕ, zero, suc, ◌+◌, ◌-◌, ◌<◌, ◌≤◌, Bool, true, List, length, Option, Some, None, get_or, arith, refl, ◌∙◌, ap, subst}
 use Rattle.slot_model.specs.declared.sched.Sched.{Sched}
 use Rattle.slot_model.specs.declared.job.Job.{Job}
 use Rattle.slot_model.specs.declared.sched.Short.{Short}
@@ -10,11 +10,9 @@ use Rattle.slot_model.specs.Order.{before_of}
 use Rattle.slot_model.specs.Release.{synchronous}
 use Rattle.slot_model.specs.Run.{guest, FirstRun}
 use Rattle.slot_model.specs.Bound.{sbf, IsShortfall}
-use Rattle.slot_model.specs.Miss.{HoldsReleased, IsFirstMiss, MissesFromStart, WorstList}
-use Rattle.slot_model.proofs.MissedJobs.{permitted_holds_released}
+use Rattle.slot_model.specs.Miss.{IsFirstMiss, MissesFromStart, WorstList}
 use Rattle.slot_model.proofs.FirstRuns.{first_permitted}
-use Rattle.guest_sched.specs.declared.spans.Span.{Span}
-use Rattle.guest_sched.specs.Spans.{Window, run_of, slots_of}
+use Rattle.guest_sched.specs.Spans.{Window, slots_of}
 use Rattle.guest_sched.proofs.Given.{slots-long}
 use Rattle.miss_witness.specs.declared.defeat.Defeat.{Defeat}
 use Rattle.tree_model.specs.View.{PartView, SystemView}
@@ -33,31 +31,20 @@ pub record RunsDefeat (sched : Sched) (tasks : List SporadicTask) (period : ℕ)
   pub worst : WorstList (worst_slot period defeat.budget) defeat.start defeat.span slots
   pub first : FirstRun guest (before_of sched tasks) tasks jobs slots run
 
--- as the code makes it: the windows of the pattern, and the spans of the run over them
+-- as the code makes it: the jobs, and the windows of the pattern
 pub runs_over : (sched : Sched) (tasks : List SporadicTask) (period : ℕ) (defeat : Defeat) (end : ℕ)
-    → end ≡ defeat.start + defeat.span
-    → (made jobs read : List Job) (drawn windows : List Window) (told spans : List Span)
-    → made ≡ synchronous tasks defeat.start defeat.span → jobs ≡ made → read ≡ made → windows ≡ drawn → spans ≡ told
+    → end ≡ defeat.start + defeat.span → (made jobs : List Job) (drawn windows : List Window) (run : List (Option ℕ))
+    → made ≡ synchronous tasks defeat.start defeat.span → jobs ≡ made → windows ≡ drawn
     → Follows (worst_slot period defeat.budget) (slots_of drawn end)
-    → FirstRun guest (before_of sched tasks) tasks jobs (slots_of windows end) (run_of told)
-    → RunsDefeat sched tasks period defeat read (run_of spans)
-runs_over sched tasks period defeat end e made jobs read drawn windows told spans exact j r w s follows first = record {
-  jobs_are = r ∙ exact;
+    → FirstRun guest (before_of sched tasks) tasks jobs (slots_of windows end) run
+    → RunsDefeat sched tasks period defeat jobs run
+runs_over sched tasks period defeat end e made jobs drawn windows run exact j w follows first = record {
+  jobs_are = j ∙ exact;
   slots = slots_of drawn end;
   worst = record { follows = follows; long = slots-long drawn end ∙ e };
   first =
-      subst (λ (z : List Job). FirstRun guest (before_of sched tasks) tasks z (slots_of drawn end) (run_of spans))
-      (j ∙ sym r)
-      (subst (λ (z : List Window). FirstRun guest (before_of sched tasks) tasks jobs (slots_of z end) (run_of spans)) w
-      (subst (λ (z : List Span). FirstRun guest (before_of sched tasks) tasks jobs (slots_of windows end) (run_of z))
-      (sym s) first));
+      subst (λ (z : List Window). FirstRun guest (before_of sched tasks) tasks jobs (slots_of z end) run) w first;
 }
-
-pub run_holds_released : (sched : Sched) (tasks : List SporadicTask) (period : ℕ) (defeat : Defeat) (jobs : List Job)
-    (run : List (Option ℕ)) → RunsDefeat sched tasks period defeat jobs run → HoldsReleased jobs run
-run_holds_released sched tasks period defeat jobs run h =
-    permitted_holds_released guest (before_of sched tasks) tasks jobs h.slots run
-    (first_permitted guest (before_of sched tasks) tasks jobs h.slots run h.first)
 
 -- its first miss is there
 pub run_is_replay : (sched : Sched) (tasks : List SporadicTask) (period : ℕ) (defeat : Defeat)

@@ -13,9 +13,9 @@ ghost use Rattle.miss_witness.specs.Replay.{AreReplays, IsReplay, IsReplayed};
 use crate::witnesses::defeat_by;
 use crate::{Defeat, Replay, witness_jobs};
 use compose_tree::Composed;
-use guest_sched::{guest_by, pattern_windows};
+use guest_sched::pattern_windows;
 use slot_model::{Miss, Sched, Short, Task};
-use span_counts::first_miss;
+use span_counts::first_miss_by;
 use std::alloc::{AllocError, Global};
 use supply_bound::Periodic;
 use tree_model::{MAX_TASKS, Plan, System, own_tasks_in};
@@ -123,8 +123,7 @@ fn seen_miss(
     };
     let windows = pattern_windows(alloc, &supply, slots)?;
     let jobs = witness_jobs(alloc, tasks, defeat)?;
-    let spans = guest_by(alloc, sched, tasks, &jobs, &windows, slots)?;
-    first_miss(alloc, &jobs, tasks, &spans)
+    first_miss_by(alloc, sched, tasks, &jobs, &windows, slots)
 }
 
 /// Where the window of a defeat ends, and None exactly where that is past 1,000,000 slots.

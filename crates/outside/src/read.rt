@@ -1,6 +1,6 @@
-ghost use Rattle.std.specs.Prelude.{◌≡◌, ◌≤◌, ◌<◌, ◌+◌, [], length, vec_len, Some, None, IfOk, IsSomeAnd, OnOk, IsErrOf};
-ghost use Rattle.outside.specs.Counts.{Rose, RoseBy, RoseBeyond};
-ghost use Rattle.outside.specs.Files.{Told, size_of};
+ghost use Rattle.std.specs.Prelude.{◌≡◌, ◌≤◌, [], vec_len, IfOk, OnOk, IsErrOf};
+ghost use Rattle.outside.specs.Counts.{counts_of, IsQuiet, Rose};
+ghost use Rattle.outside.specs.Reading.{IsAbsent, IsTooLong, IsWhole, ReadsWithin};
 ghost use Rattle.outside.specs.Taker.{TookFile};
 
 use crate::{ByteTaker, Store, StoreFault};
@@ -65,41 +65,24 @@ pub fn read_pieces<S: Store, T: ByteTaker>(
 ) -> Result<(), ReadFault>
     requires limit { limit ≤ 67108864 }
     requires fresh { T.has_taken taker.old taker.old [] }
-    ensures took { OnOk result (TookFile T.has_taken taker.old taker.new (S.files store.old)
-        name.now limit (S.taken store.old) (S.taken store.new)) }
-    ensures absent { IsErrOf result ReadFault.Absent
-        → Rose (S.absences store.old) (S.absences store.new) }
-    ensures not_there { IsErrOf result ReadFault.Absent
-        → Told (S.files store.old) name.now (λ file. file ≡ None) }
+    ensures took { let counts = counts_of S.faults S.absences S.taken in
+        OnOk result (TookFile T.has_taken taker.old taker.new (S.files store.old) name.now limit
+        (counts store.old) (counts store.new)) }
+    ensures quiet { let counts = counts_of S.faults S.absences S.taken in
+        OnOk result (IsQuiet (counts store.old) (counts store.new)) }
+    ensures absent { let counts = counts_of S.faults S.absences S.taken in
+        IsErrOf result ReadFault.Absent
+        → IsAbsent (S.files store.old) name.now (counts store.old) (counts store.new) }
     ensures failed { IsErrOf result ReadFault.Failed
         → Rose (S.faults store.old) (S.faults store.new) }
-    ensures too_long { IsErrOf result ReadFault.TooLong
-        → RoseBeyond limit (S.taken store.old) (S.taken store.new) }
-    // where the files are told, the file is there and is longer than the limit
-    ensures longer { IsErrOf result ReadFault.TooLong
-        → Told (S.files store.old) name.now
-        (λ file. IsSomeAnd file (λ bytes. limit < length bytes)) }
-    ensures ok_faults { OnOk result (S.faults store.new ≡ S.faults store.old) }
-    ensures ok_absences { OnOk result (S.absences store.new ≡ S.absences store.old) }
-    ensures long_faults { IsErrOf result ReadFault.TooLong
-        → S.faults store.new ≡ S.faults store.old }
-    ensures long_absences { IsErrOf result ReadFault.TooLong
-        → S.absences store.new ≡ S.absences store.old }
-    ensures memory_faults { IsErrOf result ReadFault.NoMemory
-        → S.faults store.new ≡ S.faults store.old }
-    ensures memory_absences { IsErrOf result ReadFault.NoMemory
-        → S.absences store.new ≡ S.absences store.old }
+    ensures too_long { let counts = counts_of S.faults S.absences S.taken in
+        IsErrOf result ReadFault.TooLong
+        → IsTooLong (S.files store.old) name.now limit (counts store.old) (counts store.new) }
+    ensures memory { let counts = counts_of S.faults S.absences S.taken in
+        IsErrOf result ReadFault.NoMemory → IsQuiet (counts store.old) (counts store.new) }
     ensures files { S.files store.new ≡ S.files store.old }
-    ensures absent_taken { IsErrOf result ReadFault.Absent
-        → S.taken store.new ≡ S.taken store.old }
-    // where the files are told, no more is read than the file has
-    ensures within { Told (S.files store.old) name.now
-        (λ file. S.taken store.new ≤ S.taken store.old + size_of file) }
-    // not a byte past the first behind the limit is read
-    ensures no_more { S.taken store.new ≤ S.taken store.old + limit + 1 }
-    ensures taken_last { S.taken store.old ≤ S.taken store.new }
-    ensures faults_last { S.faults store.old ≤ S.faults store.new }
-    ensures absences_last { S.absences store.old ≤ S.absences store.new }
+    ensures within { let counts = counts_of S.faults S.absences S.taken in
+        ReadsWithin (S.files store.old) name.now limit (counts store.old) (counts store.new) }
 {
     store.open_file(name)?;
     let mut buffer = piece_buffer(alloc)?;
@@ -130,45 +113,24 @@ pub fn read_all<S: Store>(
     limit: usize,
 ) -> Result<Vec<u8>, ReadFault>
     requires { limit ≤ 67108864 }
-    ensures short { IfOk result (λ bytes. vec_len bytes ≤ limit) }
-    // where the files are told, the bytes are those of the file
-    ensures whole { IfOk result
-        (λ bytes. Told (S.files store.old) name.now (λ file. file ≡ Some bytes.items)) }
-    ensures absent { IsErrOf result ReadFault.Absent
-        → Rose (S.absences store.old) (S.absences store.new) }
-    ensures not_there { IsErrOf result ReadFault.Absent
-        → Told (S.files store.old) name.now (λ file. file ≡ None) }
+    ensures whole { let counts = counts_of S.faults S.absences S.taken in
+        IfOk result (λ bytes. IsWhole (S.files store.old) name.now limit
+        (counts store.old) (counts store.new) bytes.items) }
+    ensures quiet { let counts = counts_of S.faults S.absences S.taken in
+        OnOk result (IsQuiet (counts store.old) (counts store.new)) }
+    ensures absent { let counts = counts_of S.faults S.absences S.taken in
+        IsErrOf result ReadFault.Absent
+        → IsAbsent (S.files store.old) name.now (counts store.old) (counts store.new) }
     ensures failed { IsErrOf result ReadFault.Failed
         → Rose (S.faults store.old) (S.faults store.new) }
-    ensures too_long { IsErrOf result ReadFault.TooLong
-        → RoseBeyond limit (S.taken store.old) (S.taken store.new) }
-    // where the files are told, the file is there and is longer than the limit
-    ensures longer { IsErrOf result ReadFault.TooLong
-        → Told (S.files store.old) name.now
-        (λ file. IsSomeAnd file (λ bytes. limit < length bytes)) }
-    ensures ok_faults { OnOk result (S.faults store.new ≡ S.faults store.old) }
-    ensures ok_absences { OnOk result (S.absences store.new ≡ S.absences store.old) }
-    ensures long_faults { IsErrOf result ReadFault.TooLong
-        → S.faults store.new ≡ S.faults store.old }
-    ensures long_absences { IsErrOf result ReadFault.TooLong
-        → S.absences store.new ≡ S.absences store.old }
-    ensures memory_faults { IsErrOf result ReadFault.NoMemory
-        → S.faults store.new ≡ S.faults store.old }
-    ensures memory_absences { IsErrOf result ReadFault.NoMemory
-        → S.absences store.new ≡ S.absences store.old }
+    ensures too_long { let counts = counts_of S.faults S.absences S.taken in
+        IsErrOf result ReadFault.TooLong
+        → IsTooLong (S.files store.old) name.now limit (counts store.old) (counts store.new) }
+    ensures memory { let counts = counts_of S.faults S.absences S.taken in
+        IsErrOf result ReadFault.NoMemory → IsQuiet (counts store.old) (counts store.new) }
     ensures files { S.files store.new ≡ S.files store.old }
-    ensures taken { IfOk result
-        (λ bytes. RoseBy (vec_len bytes) (S.taken store.old) (S.taken store.new)) }
-    ensures absent_taken { IsErrOf result ReadFault.Absent
-        → S.taken store.new ≡ S.taken store.old }
-    // where the files are told, no more is read than the file has
-    ensures within { Told (S.files store.old) name.now
-        (λ file. S.taken store.new ≤ S.taken store.old + size_of file) }
-    // not a byte past the first behind the limit is read
-    ensures no_more { S.taken store.new ≤ S.taken store.old + limit + 1 }
-    ensures taken_last { S.taken store.old ≤ S.taken store.new }
-    ensures faults_last { S.faults store.old ≤ S.faults store.new }
-    ensures absences_last { S.absences store.old ≤ S.absences store.new }
+    ensures within { let counts = counts_of S.faults S.absences S.taken in
+        ReadsWithin (S.files store.old) name.now limit (counts store.old) (counts store.new) }
 {
     let mut bytes = Vec::new(alloc);
     read_pieces(alloc, store, name, limit, &mut bytes)?;

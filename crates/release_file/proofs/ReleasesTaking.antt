@@ -122,12 +122,21 @@ passed : {F : Type 0} (broken : Bool) (fault : F) (later : Option F) → broken 
 passed broken fault later e = ap (λ (z : Bool). fault_if z fault later) e
 
 -- a row that names a part, at a slot that is in order
+pub record IsInOrder (s a : ReleaseRows) (rows : List (List (List ℕ))) (row : List (List ℕ)) (f : ReleaseFields)
+    (at part n : ℕ) (leaf : LeafRows) : Type 0 where
+  pub taken : HasTakenReleases s a rows
+  pub number_is : n ≡ row_of (length rows)
+  pub fields : all_fields a.version row ≡ fields_in f
+  pub plain : is_release_row (fields_in f) ≡ true
+  pub at_is : at ≡ number f.at.now
+  pub in_limit : at ≤ LIMIT
+  pub in_order : a.slot ≤ at
+  pub found : Some part ≡ position (bytes_eq f.part.now) a.parts
+  pub inside : part < length a.leaves.items
+  pub leaf_is : leaf ≡ get_or a.leaves.items part leaf
+
 module _ (s a : ReleaseRows) (rows : List (List (List ℕ))) (row : List (List ℕ)) (f : ReleaseFields) (at part n : ℕ)
-    (leaf : LeafRows) (h : HasTakenReleases s a rows) (number_is : n ≡ row_of (length rows))
-    (fields : all_fields a.version row ≡ fields_in f) (plain : is_release_row (fields_in f) ≡ true)
-    (at_is : at ≡ number f.at.now) (in_limit : at ≤ LIMIT) (in_order : a.slot ≤ at)
-    (found : Some part ≡ position (bytes_eq f.part.now) a.parts) (inside : part < length a.leaves.items)
-    (leaf_is : leaf ≡ get_or a.leaves.items part leaf) where
+    (leaf : LeafRows) (is : IsInOrder s a rows row f at part n leaf) where
   abbrev R : List Release
   R = releases_of s.sys.now s.version rows
 
@@ -136,16 +145,16 @@ module _ (s a : ReleaseRows) (rows : List (List (List ℕ))) (row : List (List �
 
   here : IsLeafOf a.sys.now (releases_of s.sys.now s.version rows) part leaf
   here =
-      subst (IsLeafOf a.sys.now (releases_of s.sys.now s.version rows) part) (sym leaf_is)
-      (h.leaves part leaf (omega (arith, inside, h.one_each)))
+      subst (IsLeafOf a.sys.now (releases_of s.sys.now s.version rows) part) (sym is.leaf_is)
+      (is.taken.leaves part leaf (omega (arith, is.inside, is.taken.one_each)))
 
   same_fields : all_fields s.version row ≡ fields_in f
-  same_fields = ap (λ (v : Version). all_fields v row) (sym h.version) ∙ fields
+  same_fields = ap (λ (v : Version). all_fields v row) (sym is.taken.version) ∙ is.fields
 
   told : release_of s.sys.now (all_fields s.version row) ≡ record { part = part; job = job_in leaf.part.now f at }
   told =
-      ap (release_of s.sys.now) same_fields ∙ (ap (λ z. release_of z.now (fields_in f)) (sym h.sys)
-      ∙ (spelt_is a.sys.now f part at (found ∙ ap (position (bytes_eq f.part.now)) h.parts) at_is
+      ap (release_of s.sys.now) same_fields ∙ (ap (λ z. release_of z.now (fields_in f)) (sym is.taken.sys)
+      ∙ (spelt_is a.sys.now f part at (is.found ∙ ap (position (bytes_eq f.part.now)) is.taken.parts) is.at_is
       ∙ ap (λ (p : PartView). record { part = part; job = job_in p f at }) (sym here.part_is)))
 
   -- the rules of the row are those of its part
@@ -154,20 +163,20 @@ module _ (s a : ReleaseRows) (rows : List (List (List ℕ))) (row : List (List �
   rules_of_part =
       ap (λ (z : List (List ℕ)). fault_if (not (is_release_row z)) (BadRow (row_of (length rows)))
       (release_fault s.sys.now R (release_of s.sys.now (all_fields s.version row)))) same_fields
-      ∙ (passed (not (is_release_row (fields_in f))) (BadRow (row_of (length rows))) _ (ap not plain)
+      ∙ (passed (not (is_release_row (fields_in f))) (BadRow (row_of (length rows))) _ (ap not is.plain)
       ∙ (ap (λ (x : Release). release_fault s.sys.now (releases_of s.sys.now s.version rows) x) told
-      ∙ (passed (nat_lt LIMIT at) (OutOfRange (row_of (length R))) _ (le-ltb LIMIT at in_limit)
+      ∙ (passed (nat_lt LIMIT at) (OutOfRange (row_of (length R))) _ (le-ltb LIMIT at is.in_limit)
       ∙ (passed (nat_lt at (last_slot R)) (BadOrder (row_of (length R))) _
-      (le-ltb at (last_slot R) (omega (arith, in_order, h.slot)))
+      (le-ltb at (last_slot R) (omega (arith, is.in_order, is.taken.slot)))
       ∙ (ap (λ z. part_fault (part_at z.now part) (jobs_of part R) (job_in leaf.part.now f at) (row_of (length R)))
-      (sym h.sys)
+      (sym is.taken.sys)
       ∙ (ap (λ (p : PartView). part_fault p (jobs_of part R) (job_in leaf.part.now f at) (row_of (length R)))
       (sym here.part_is)
       ∙ (ap (λ (js : List Job). part_fault leaf.part.now js (job_in leaf.part.now f at) (row_of (length R)))
       (sym here.jobs_are)
       ∙ ap (part_fault leaf.part.now leaf.jobs.items (job_in leaf.part.now f at))
       (ap row_of (length-map rows (λ (x : List (List ℕ)). release_of s.sys.now (all_fields s.version x)))
-      ∙ sym number_is))))))))
+      ∙ sym is.number_is))))))))
 
   -- what taking it gives
   pub took_release : (b : ReleaseRows) (next : LeafRows)
@@ -179,14 +188,14 @@ module _ (s a : ReleaseRows) (rows : List (List (List ℕ))) (row : List (List �
   took_release b next part_same next_leaf jobs keeps sys version parts slot leaves = (
     rules_of_part ∙ keeps,
     record {
-      system = rw (sys) h.system;
-      sys = sys ∙ h.sys;
-      version = version ∙ h.version;
-      parts = parts ∙ (h.parts ∙ ap (λ z. part_names z.now.parts) (sym sys));
+      system = rw (sys) is.taken.system;
+      sys = sys ∙ is.taken.sys;
+      version = version ∙ is.taken.version;
+      parts = parts ∙ (is.taken.parts ∙ ap (λ z. part_names z.now.parts) (sym sys));
       slot = slot ∙ sym (ap last_slot more ∙ slot_more R r);
       one_each =
           ap (λ (z : List LeafRows). length z) leaves
-          ∙ (length-set a.leaves.items part next ∙ (h.one_each ∙ ap (λ z. length z.now.parts) (sym sys)));
+          ∙ (length-set a.leaves.items part next ∙ (is.taken.one_each ∙ ap (λ z. length z.now.parts) (sym sys)));
       leaves =
           λ q d l. subst (λ (z : List Release). IsLeafOf b.sys.now z q (get_or b.leaves.items q d)) (sym more)
           (subst (λ (z : List LeafRows). IsLeafOf b.sys.now (R ++ r ∷ []) q (get_or z q d)) (sym leaves)
@@ -208,7 +217,7 @@ module _ (s a : ReleaseRows) (rows : List (List (List ℕ))) (row : List (List �
       each q d l = elim (cases_eq q part) [
         | inl e ↦
             subst (IsLeafOf a.sys.now (R ++ r ∷ []) q) (sym (ap (λ (z : ℕ). get_or (set a.leaves.items part next) z d) e
-            ∙ get_or-set_same a.leaves.items part next d inside)) (record {
+            ∙ get_or-set_same a.leaves.items part next d is.inside)) (record {
               leaf_is = next_leaf;
               part_is = ap (λ z. z.now) part_same ∙ (here.part_is ∙ ap (part_at a.sys.now) (sym e));
               jobs_are =
@@ -220,7 +229,7 @@ module _ (s a : ReleaseRows) (rows : List (List (List ℕ))) (row : List (List �
                   ∙ ap (λ (z : Bool). cond z (job_in leaf.part.now f at ∷ []) []) (eq-eqb part q (sym e)))));
             })
         | inr ne ↦
-            let old = h.leaves q d l in
+            let old = is.taken.leaves q d l in
             subst (IsLeafOf a.sys.now (R ++ r ∷ []) q)
             (sym (get_or-set_other a.leaves.items part q next d ne)) (record {
               leaf_is = old.leaf_is;

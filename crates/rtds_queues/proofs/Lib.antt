@@ -3,4 +3,12 @@ pub mod FirstOf
 pub mod Listing
 pub mod Walking
 pub mod Queueing
+pub mod Membership
+pub mod Sinking
+pub mod Firsts
+pub mod Lists
+pub mod Setting
+pub mod Beginning
+pub mod Choices
 mod KeyExamples
+mod EndExamples

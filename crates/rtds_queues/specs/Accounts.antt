@@ -1,5 +1,5 @@
 -- What is kept of a VCPU between two events.
-use Rattle.std.specs.Prelude.{ℕ, suc, ◌-◌, ◌==◌, Bool, false, not, ◌&&◌, ◌||◌, List, slice_index_or}
+use Rattle.std.specs.Prelude.{ℕ, suc, ◌+◌, ◌-◌, ◌==◌, Bool, false, not, ◌&&◌, ◌||◌, nat_lt, if◌then◌else◌, List, slice_index_or}
 use Rattle.rtds_queues.specs.declared.account.Account.{Account}
 use Rattle.rtds_queues.specs.declared.account.TheConstants.{PAST_ALL}
 use Rattle.rtds_queues.specs.Keys.{goes_first}
@@ -24,6 +24,16 @@ using account slots = record account { left = account.left - slots }
 
 abbrev pub had_budget : Account → ℕ → Account
 had_budget account budget = record account { level = suc account.level; left = budget }
+
+-- either of them, by how many slots were left
+abbrev pub had_slots : Account → ℕ → ℕ → Account
+had_slots account slots budget =
+    if nat_lt slots account.left then using account slots else had_budget account budget
+
+-- an account at a slot, where its next period begins if the one before ends there
+abbrev pub begun : Account → ℕ → ℕ → ℕ → Account
+begun account period budget at =
+    if at == account.until then renewed account (at + period) budget else account
 
 -- whether it is started and not blocked, and has budget left or extra time
 abbrev pub account_eligible : Account → Bool → Bool

@@ -1,3 +1,6 @@
 pub mod Keys
 pub mod Accounts
 pub mod Queues
+pub mod Lists
+pub mod ByEnd
+pub mod Vcpus

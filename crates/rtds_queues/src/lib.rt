@@ -1,9 +1,11 @@
-//! What is kept of a VCPU, the order in which the VCPUs of a core go under RTDS, and of each core
-//! the queue of those that are eligible.
+//! What is kept of the VCPUs of a system under RTDS, and of each core the order in which those that
+//! are eligible go, and that in which the periods of all end.
 #![tactic(auto)]
 
 mod account;
+mod by_end;
 mod queues;
+mod vcpus;
 
 pub use account::{Account, PAST_ALL};
-pub use queues::{Queues, put_numbers};
+pub use vcpus::Vcpus;

@@ -1,5 +1,5 @@
 -- A core that runs by itself, from change to change.
-use Rattle.std.proofs.Common.{◌≡◌, ◌==◌, ℕ, zero, suc, ◌+◌, ◌-◌, ◌<◌, ◌≤◌, nat_lt, Bool, true, false, cond, ◌&&◌, List, ◌++◌, append-nil, length, Option, Some, None, refl, sym, ◌∙◌, ap, arith, subst}
+use Rattle.std.proofs.Common.{◌≡◌, ◌==◌, ℕ, zero, suc, ◌+◌, ◌-◌, ◌<◌, ◌≤◌, nat_lt, Bool, true, false, cond, List, ◌++◌, append-nil, length, Option, Some, None, refl, sym, ◌∙◌, ap, arith, subst}
 use Rattle.slot_model.specs.Run.{held, holds}
 use Rattle.tree_model.specs.declared.place.Place.TheVariants.{Core}
 use Rattle.tree_model.specs.View.{SystemView}
@@ -11,7 +11,8 @@ use Rattle.release_file.specs.declared.workload.Wake.{Wake as Row}
 use Rattle.rtds_queues.specs.declared.account.Account.{Account}
 use Rattle.rtds_sim.specs.declared.host.Host.{Host}
 use Rattle.rtds_queues.specs.Accounts.{account_at, renewed, using, had_budget}
-use Rattle.rtds_sim.specs.inner.Accounts.{holder_at, gone_on, IsChoice, IsAccount, NoEndBefore, AreBefore}
+use Rattle.rtds_sim.specs.inner.Accounts.{holder_at, gone_on, IsAccount, AreBefore}
+use Rattle.rtds_queues.specs.Vcpus.{IsChoice, NoEndBefore}
 use Rattle.rtds_sim.specs.Printed.{push_some, holder_before, holder_left, on_core_at, switch_to, switch_on}
 use Rattle.rtds_sim.specs.inner.Running.{AreOn, IsUnderway, HasRun, KeepsOthers}
 use Rattle.rtds_sim.specs.inner.Telling.{told_on}
@@ -26,14 +27,15 @@ use Rattle.rtds_sim.proofs.Visits.{left_before, switch_quiet}
 pub record StandsAt (sys : SystemView) (budgets : List ℕ) (rows : List Row) (c : ℕ) (run : List (Option ℕ))
     (x to k t : ℕ)
     (host : Host) (before told : List Event) : Type 0 where
-  pub are : AreOn sys budgets rows c run t k host.accounts
+  pub are : AreOn sys budgets rows c run t k host.vcpus.accounts
   pub left_is : t < to → holder_at host.holders c ≡ holder_left rows run t
   pub before_is : x < t → holder_at host.holders c ≡ holder_before run t
   pub told_is : told ≡ before ++ told_on (λ y. switch_on rows run y c) x (t - x)
 
 -- at first
 pub stands_first : (sys : SystemView) (budgets : List ℕ) (rows : List Row) (n c : ℕ) (run : List (Option ℕ))
-    (x to k : ℕ) (host now : Host) (before : List Event) → now.accounts ≡ host.accounts → now.holders ≡ host.holders
+    (x to k : ℕ) (host now : Host) (before : List Event) → now.vcpus.accounts ≡ host.vcpus.accounts
+    → now.holders ≡ host.holders
     → IsUnderway sys budgets rows n c run x to k host → StandsAt sys budgets rows c run x to k x now before before
 stands_first sys budgets rows n c run x to k host now before a h u = record {
   are = subst (AreOn sys budgets rows c run x k) (sym a) u.are;
@@ -60,8 +62,8 @@ module _ (sys : SystemView) (budgets : List ℕ) (plan : IsPlan sys budgets) (ro
     (run : List (Option ℕ)) (x to k : ℕ) (first : Host) (underway : IsUnderway sys budgets rows n c run x to k first)
     (t u : ℕ) (l : x ≤ t) (m : t < u) (in_time : u ≤ to) (old : Host) (before told : List Event)
     (at : StandsAt sys budgets rows c run x to k t old before told) (holder : Option ℕ)
-    (chosen : IsChoice sys old.accounts c holder) (bound : NoEndBefore sys old.accounts c u)
-    (in_budget : (v : ℕ) → holder ≡ Some v → u ≤ t + (account_at old.accounts v).left)
+    (chosen : IsChoice sys old.vcpus.accounts c holder) (bound : NoEndBefore sys old.vcpus.accounts c u)
+    (in_budget : (v : ℕ) → holder ≡ Some v → u ≤ t + (account_at old.vcpus.accounts v).left)
   where
     taken : AreBefore rows k (suc t)
     taken = taken_by rows k x to t underway.taken underway.rows_later l (omega (arith, m, in_time))
@@ -69,10 +71,10 @@ module _ (sys : SystemView) (budgets : List ℕ) (plan : IsPlan sys budgets) (ro
     chosen_is : holder ≡ held run t
     chosen_is =
         entry_unique sys budgets rows c run t holder (held run t)
-        (choice_entry sys budgets rows c run t k taken plan old.accounts at.are holder chosen)
+        (choice_entry sys budgets rows c run t k taken plan old.vcpus.accounts at.are holder chosen)
         (underway.is_run.each t (omega (arith, m, in_time, underway.fits)))
 
-    next : IsNext sys budgets rows c run t k old.accounts holder u
+    next : IsNext sys budgets rows c run t k old.vcpus.accounts holder u
     next = record {
       taken = taken;
       are = at.are;
@@ -85,7 +87,7 @@ module _ (sys : SystemView) (budgets : List ℕ) (plan : IsPlan sys budgets) (ro
 
     same : (z : ℕ) → t ≤ z → z < u → held run z ≡ held run t
     same =
-        alike sys budgets plan rows n c run underway.is_run t k old.accounts holder u next
+        alike sys budgets plan rows n c run underway.is_run t k old.vcpus.accounts holder u next
         (omega (arith, in_time, underway.fits))
 
     before_same : (y : ℕ) → t < y → y ≤ u → holder_before run y ≡ held run t
@@ -100,8 +102,9 @@ module _ (sys : SystemView) (budgets : List ℕ) (plan : IsPlan sys budgets) (ro
 
     pub stands_on : (now : Host) (telling : List Event)
         → ((v : ℕ) → v < length sys.parts → is_child sys (Core c) v ≡ true
-        → account_at now.accounts v
-        ≡ gone_on (account_at old.accounts v) (holds holder v) (u - t) (part_at sys v).period (budget_at budgets v) u)
+        → account_at now.vcpus.accounts v
+        ≡ gone_on (account_at old.vcpus.accounts v) (holds holder v) (u - t) (part_at sys v).period
+        (budget_at budgets v) u)
         → holder_at now.holders c ≡ holder
         → telling ≡ push_some told (on_core_at c t (switch_to (holder_at old.holders c) holder))
         → StandsAt sys budgets rows c run x to k u now before telling
@@ -110,8 +113,8 @@ module _ (sys : SystemView) (budgets : List ℕ) (plan : IsPlan sys budgets) (ro
         = kept ∙ (chosen_is ∙ sym (before_same u m (omega arith))) in
         record {
           are =
-              gone_accounts sys budgets plan rows n c run underway.is_run t k old.accounts holder u next
-              (omega (arith, in_time, underway.fits)) now.accounts gone;
+              gone_accounts sys budgets plan rows n c run underway.is_run t k old.vcpus.accounts holder u next
+              (omega (arith, in_time, underway.fits)) now.vcpus.accounts gone;
           left_is =
               λ more. held_is
               ∙ sym (left_before sys budgets rows n c run underway.is_run x k to underway.fits underway.taken
@@ -127,7 +130,7 @@ module _ (sys : SystemView) (budgets : List ℕ) (plan : IsPlan sys budgets) (ro
 pub gone_few : (a : Account) (has : Bool) (x to period budget : ℕ) → a.level ≤ x → x < to
     → (gone_on a has (to - x) period budget to).level ≤ to
 gone_few a has x to period budget few l =
-    go (a.started && (to == a.until)) has (nat_lt (to - x) a.left)
+    go (to == a.until) has (nat_lt (to - x) a.left)
   where
     go : (ended has less : Bool) → (cond ended (renewed a (to + period) budget)
         (cond has (cond less (using a (to - x)) (had_budget a budget)) a)).level ≤ to
@@ -140,7 +143,7 @@ gone_few a has x to period budget few l =
 pub underway_same : (sys : SystemView) (budgets : List ℕ) (rows : List Row) (n c : ℕ) (run : List (Option ℕ))
     (x to k : ℕ) (host other : Host)
     → ((v : ℕ) → v < length sys.parts → is_child sys (Core c) v ≡ true
-    → account_at other.accounts v ≡ account_at host.accounts v)
+    → account_at other.vcpus.accounts v ≡ account_at host.vcpus.accounts v)
     → holder_at other.holders c ≡ holder_at host.holders c → IsUnderway sys budgets rows n c run x to k host
     → IsUnderway sys budgets rows n c run x to k other
 underway_same sys budgets rows n c run x to k host other same holder u = record {
@@ -155,7 +158,7 @@ underway_same sys budgets rows n c run x to k host other same holder u = record 
 pub has_run_same : (sys : SystemView) (budgets : List ℕ) (rows : List Row) (c : ℕ) (run : List (Option ℕ)) (x to k : ℕ)
     (host other : Host) (before told others : List Event)
     → ((v : ℕ) → v < length sys.parts → is_child sys (Core c) v ≡ true
-    → account_at other.accounts v ≡ account_at host.accounts v)
+    → account_at other.vcpus.accounts v ≡ account_at host.vcpus.accounts v)
     → holder_at other.holders c ≡ holder_at host.holders c → others ≡ told
     → HasRun sys budgets rows c run x to k host before told → HasRun sys budgets rows c run x to k other before others
 has_run_same sys budgets rows c run x to k host other before told others same holder e h = record {
@@ -186,7 +189,7 @@ keeps_more sys c first mid last a b = record {
 -- where only accounts change, and of those of others none
 pub keeps_by : (sys : SystemView) (c : ℕ) (old new : Host)
     → ((v : ℕ) → v < length sys.parts → is_child sys (Core c) v ≡ false
-    → account_at new.accounts v ≡ account_at old.accounts v)
+    → account_at new.vcpus.accounts v ≡ account_at old.vcpus.accounts v)
     → new.holders ≡ old.holders → new.time ≡ old.time → new.taken ≡ old.taken → KeepsOthers sys c old new
 keeps_by sys c old new accounts holders time taken =
     record {

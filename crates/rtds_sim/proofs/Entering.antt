@@ -15,7 +15,8 @@ use Rattle.rtds_sim.specs.Rtds.{used, level_at, deadline_at, can_run, is_eligibl
 use Rattle.rtds_queues.specs.Keys.{goes_first}
 use Rattle.rtds_sim.specs.inner.Running.{AreOn}
 use Rattle.rtds_queues.specs.Accounts.{account_at, end_at, account_eligible, is_ahead}
-use Rattle.rtds_sim.specs.inner.Accounts.{ranked, IsChoice, IsInPeriod, IsAccount, AreBefore}
+use Rattle.rtds_sim.specs.inner.Accounts.{IsInPeriod, IsAccount, AreBefore}
+use Rattle.rtds_queues.specs.Vcpus.{ranked, IsChoice}
 use Rattle.csv_rows.proofs.Last.{last_by_moment}
 
 -- the last row among those at or before x is the last of the first k, where those are the rows at

@@ -25,20 +25,20 @@ use Rattle.rtds_sim.proofs.Steady.{core_in}
 pub record Standing (sys : SystemView) (budgets : List ℕ) (rows : List Row) (runs : List (List (Option ℕ)))
     (host : Host) : Type 0 where
   pub before : AreBefore rows host.taken host.time
-  pub are : AreAccounts sys budgets rows runs host.time host.taken host.accounts
+  pub are : AreAccounts sys budgets rows runs host.time host.taken host.vcpus.accounts
   pub holders_are : (c : ℕ) → c < length sys.cores → holder_at host.holders c ≡ holder_before (run_at runs c) host.time
   pub room : HasRoom sys host
 
 -- at the start
 pub standing_start : (sys : SystemView) (budgets : List ℕ) (rows : List Row) (runs : List (List (Option ℕ)))
     (host : Host) → host.time ≡ 0
-    → host.taken ≡ 0 → HasRoom sys host → ((v : ℕ) → account_at host.accounts v ≡ no_account)
+    → host.taken ≡ 0 → HasRoom sys host → ((v : ℕ) → account_at host.vcpus.accounts v ≡ no_account)
     → ((c : ℕ) → holder_at host.holders c ≡ None) → Standing sys budgets rows runs host
 standing_start sys budgets rows runs host t k room accounts holders = record {
   before = record { in_rows = omega arith; past = λ i l. absurd (omega arith); to_come = λ i a b. omega arith };
   are =
-      subst (λ (x : ℕ). AreAccounts sys budgets rows runs x host.taken host.accounts) (sym t)
-      (subst (λ (k : ℕ). AreAccounts sys budgets rows runs 0 k host.accounts) (sym k) (record {
+      subst (λ (x : ℕ). AreAccounts sys budgets rows runs x host.taken host.vcpus.accounts) (sym t)
+      (subst (λ (k : ℕ). AreAccounts sys budgets rows runs 0 k host.vcpus.accounts) (sym k) (record {
         all_vcpus = room.all_vcpus;
         each =
             λ v l. subst (λ (a : Account). IsAccount sys budgets rows (run_of_part sys runs v) v 0 0 a)
@@ -101,10 +101,10 @@ module _ (sys : SystemView) (system : IsSystem sys) (budgets : List ℕ) (rows :
   ]
 
   pub standing_next : (host : Host) → host.time ≡ to → host.taken ≡ k → HasRoom sys host
-      → ((c : ℕ) → c < length sys.cores → AreOn sys budgets rows c (run_at runs c) to k host.accounts)
+      → ((c : ℕ) → c < length sys.cores → AreOn sys budgets rows c (run_at runs c) to k host.vcpus.accounts)
       → ((c : ℕ) → c < length sys.cores → holder_at host.holders c ≡ holder_before (run_at runs c) to)
       → ((v : ℕ) → v < length sys.parts → ((c : ℕ) → c < length sys.cores → is_child sys (Core c) v ≡ false)
-      → account_at host.accounts v ≡ account_at accounts v)
+      → account_at host.vcpus.accounts v ≡ account_at accounts v)
       → Standing sys budgets rows runs host
   standing_next host t h room own holders others = record {
     before =
@@ -114,8 +114,8 @@ module _ (sys : SystemView) (system : IsSystem sys) (budgets : List ℕ) (rows :
           to_come = λ i a b. omega (arith, rows_later i (omega (arith, a, h)) b, t);
         };
     are =
-        subst (λ (y : ℕ). AreAccounts sys budgets rows runs y host.taken host.accounts) (sym t)
-        (subst (λ (j : ℕ). AreAccounts sys budgets rows runs to j host.accounts) (sym h) (record {
+        subst (λ (y : ℕ). AreAccounts sys budgets rows runs y host.taken host.vcpus.accounts) (sym t)
+        (subst (λ (j : ℕ). AreAccounts sys budgets rows runs to j host.vcpus.accounts) (sym h) (record {
           all_vcpus = room.all_vcpus;
           each = λ v l.
               let d : ℕ = core_of (part_at sys v).parent in
@@ -143,7 +143,7 @@ module _ (sys : SystemView) (system : IsSystem sys) (budgets : List ℕ) (rows :
 pub record Visit (sys : SystemView) (budgets : List ℕ) (rows : List Row) (runs : List (List (Option ℕ)))
     (host : Host) : Type 0 where
   pub taken : AreBefore rows host.taken (suc host.time)
-  pub are : AreAccounts sys budgets rows runs host.time host.taken host.accounts
+  pub are : AreAccounts sys budgets rows runs host.time host.taken host.vcpus.accounts
   pub holders_are : (c : ℕ) → c < length sys.cores → holder_at host.holders c ≡ holder_before (run_at runs c) host.time
   pub room : HasRoom sys host
 
@@ -154,15 +154,15 @@ pub visit_rows : (sys : SystemView) (budgets : List ℕ) (rows : List Row) → I
     → ((i : ℕ) → old.taken ≤ i → i < host.taken → (row_at rows i).at ≡ old.time)
     → (host.taken < length rows → (row_at rows host.taken).at ≢ old.time)
     → ((runs : List (List (Option ℕ))) → IsWorkload sys rows
-    → AreAccounts sys budgets rows runs old.time old.taken old.accounts
-    → AreAccounts sys budgets rows runs old.time host.taken host.accounts)
+    → AreAccounts sys budgets rows runs old.time old.taken old.vcpus.accounts
+    → AreAccounts sys budgets rows runs old.time host.taken host.vcpus.accounts)
     → Visit sys budgets rows runs host
 visit_rows sys budgets rows w runs old host s t hs room in_rows later now no_more accounts = record {
   taken =
       subst (λ (x : ℕ). AreBefore rows host.taken (suc x)) (sym t)
       (taken_rows sys rows w old.time old.taken host.taken s.before later in_rows now no_more);
   are =
-      subst (λ (x : ℕ). AreAccounts sys budgets rows runs x host.taken host.accounts) (sym t)
+      subst (λ (x : ℕ). AreAccounts sys budgets rows runs x host.taken host.vcpus.accounts) (sym t)
       (accounts runs w s.are);
   holders_are =
       λ c l. ap (λ (xs : List (Option ℕ)). holder_at xs c) hs

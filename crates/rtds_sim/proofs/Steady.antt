@@ -2,7 +2,7 @@
 use Rattle.std.proofs.Common.{◌≡◌, ℕ, zero, suc, ◌+◌, ◌*◌, ◌-◌, ◌/◌, ◌%◌, ◌<◌, ◌≤◌, ◌==◌, nat_lt, Bool, true, false, not, cond, ◌&&◌, ◌||◌, List, length, Option, Some, refl, sym, ◌∙◌, ap, arith, subst, inl, inr, eqb-true, eq-eqb, ltb-true, lt-ltb, le-ltb}
 use Rattle.std.proofs.lemmas.Nat.{div-mul-add}
 use Rattle.std.proofs.Math.Nat.{div-eq_of_lt, zero-div}
-use Rattle.std.proofs.lemmas.Bool.{cases_eq, cases_lt, cases_Bool, both_ways, and_parts, and_from, cond-true, cond-false}
+use Rattle.std.proofs.lemmas.Bool.{cases_eq, cases_lt, cases_Bool, both_ways, and_parts, cond-true, cond-false}
 use Rattle.slot_model.specs.Run.{held, holds}
 use Rattle.slot_model.proofs.Runs.{holds-is}
 use Rattle.tree_model.specs.declared.place.Parent.{Parent}
@@ -21,7 +21,8 @@ use Rattle.rtds_sim.specs.Rtds.{period_number, period_from, used, level_at, dead
 use Rattle.rtds_queues.specs.Keys.{goes_first}
 use Rattle.rtds_sim.specs.Printed.{core_of}
 use Rattle.rtds_queues.specs.Accounts.{account_at, renewed, using, had_budget}
-use Rattle.rtds_sim.specs.inner.Accounts.{used_more, gone_on, left_of, IsInPeriod, IsAccount, AreBefore, NoEndBefore}
+use Rattle.rtds_sim.specs.inner.Accounts.{used_more, gone_on, left_of, IsInPeriod, IsAccount, AreBefore}
+use Rattle.rtds_queues.specs.Vcpus.{NoEndBefore}
 use Rattle.rtds_sim.specs.inner.Running.{RowsFrom, AreOn}
 use Rattle.rtds_sim.proofs.Runs.{entry_unique}
 use Rattle.rtds_sim.proofs.Taking.{none_between, all_left}
@@ -420,17 +421,23 @@ module _ (sys : SystemView) (budgets : List ℕ) (plan : IsPlan sys budgets) (ro
   gone_account v l r same a has is_has most h in_period =
       let period : ℕ = (part_at sys v).period in
       let b : ℕ = budget_at budgets v in
-      elim (cases_Bool (a.started && (to == a.until))) [
+      elim (cases_Bool (to == a.until)) [
         | inl e ↦
-            let p = and_parts a.started (to == a.until) e in
             subst (λ (z : Account). IsAccount sys budgets rows r v to k z)
             (sym (ap (λ (q : Bool). cond q (renewed a (to + period) b) (used_more a has (to - x) b)) e))
-            (ended_account v l r a h p.0 (eqb-true to a.until p.1))
+            (elim (cases_Bool a.started) [
+              | inl on ↦ ended_account v l r a h on (eqb-true to a.until e)
+              | inr off ↦ record {
+                started = h.started;
+                blocked = h.blocked;
+                in_period = λ on. absurd (both_ways a.started off on);
+              }
+            ])
         | inr e ↦
             subst (λ (z : Account). IsAccount sys budgets rows r v to k z)
             (sym (ap (λ (q : Bool). cond q (renewed a (to + period) b) (used_more a has (to - x) b)) e))
             (going_account v l r same a has is_has most h (λ on. elim (cases_eq to a.until) [
-              | inl q ↦ absurd (both_ways _ e (and_from a.started (to == a.until) on (eq-eqb to a.until q)))
+              | inl q ↦ absurd (both_ways _ e (eq-eqb to a.until q))
               | inr ne ↦ omega (arith, in_period, ne)
             ]))
       ]

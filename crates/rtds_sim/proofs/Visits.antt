@@ -100,19 +100,20 @@ rows_none sys rows x k to taken later y a b =
 -- what is told of the cores that stop
 module _ (sys : SystemView) (budgets : List ℕ) (rows : List Row) (runs : List (List (Option ℕ)))
     (host : Host) (taken : AreBefore rows host.taken (suc host.time))
-    (are : AreAccounts sys budgets rows runs host.time host.taken host.accounts) (room : HasRoom sys host)
+    (are : AreAccounts sys budgets rows runs host.time host.taken host.vcpus.accounts) (room : HasRoom sys host)
     (holders_are : (c : ℕ) → c < length sys.cores → holder_at host.holders c ≡ holder_before (run_at runs c) host.time)
   where
     abbrev x : ℕ
     x = host.time
 
     gives_up_is : (o : Option ℕ) → ((v : ℕ) → o ≡ Some v → v < length sys.parts)
-        → gives_up host.accounts o ≡ is_blocked_one rows x o
+        → gives_up host.vcpus.accounts o ≡ is_blocked_one rows x o
     gives_up_is None h = refl
     gives_up_is (Some v) h = (are.each v (h v refl)).blocked ∙ sym (blocked_by rows v x host.taken taken)
 
     pub gives_up_at : (c : ℕ) → c < length sys.cores
-        → gives_up host.accounts (holder_at host.holders c) ≡ is_blocked_one rows x (holder_before (run_at runs c) x)
+        → gives_up host.vcpus.accounts (holder_at host.holders c)
+        ≡ is_blocked_one rows x (holder_before (run_at runs c) x)
     gives_up_at c lc =
         gives_up_is (holder_at host.holders c) (λ v e. room.parts c v lc e)
         ∙ ap (is_blocked_one rows x) (holders_are c lc)
@@ -123,7 +124,7 @@ module _ (sys : SystemView) (budgets : List ℕ) (rows : List Row) (runs : List 
         (λ c lc. ap (λ (q : Bool). cond q (Some (on_at c x Stop)) None) (gives_up_at c lc))
 
     pub left_is : (c : ℕ) → c < length sys.cores
-        → left_at host.accounts host.holders c ≡ holder_left rows (run_at runs c) x
+        → left_at host.vcpus.accounts host.holders c ≡ holder_left rows (run_at runs c) x
     left_is c lc =
         ap (λ (q : Bool). cond q None (holder_at host.holders c)) (gives_up_at c lc)
         ∙ ap (λ (o : Option ℕ). cond (is_blocked_one rows x (holder_before (run_at runs c) x)) None o)

@@ -1,12 +1,10 @@
 -- The run of deferrable servers with extra time, under earliest deadline first on each core by
 -- itself.
 use Rattle.std.specs.Prelude.{◌≡◌, ℕ, suc, ◌-◌, ◌/◌, ◌<◌, Bool, true, false, not, ◌&&◌, ◌||◌, nat_lt, List, length, Option, Some, None}
-use Rattle.slot_model.specs.declared.sched.Sched.{Sched}
-use Rattle.slot_model.specs.declared.sched.Sched.TheVariants.{Edf}
 use Rattle.slot_model.specs.Run.{held, holds}
 use Rattle.tree_model.specs.declared.place.Place.TheVariants.{Core}
 use Rattle.tree_model.specs.View.{SystemView}
-use Rattle.tree_model.specs.System.{core_at, part_at}
+use Rattle.tree_model.specs.System.{core_at, is_edf, part_at}
 use Rattle.tree_model.specs.Tree.{is_child, budget_at, run_at}
 use Rattle.trace_file.specs.Periods.{begins, count_between}
 use Rattle.release_file.specs.declared.workload.Wake.{Wake}
@@ -17,10 +15,6 @@ use Rattle.release_file.specs.Workload.{is_started_at, is_blocked_at, start_of}
 abbrev pub is_full : Option (ℕ × ℕ) → Bool
 is_full None = true
 is_full (Some supply) = false
-
-abbrev pub is_edf : Sched → Bool
-is_edf Edf = true
-is_edf _ = false
 
 -- RTDS works on full cores under earliest deadline first
 abbrev pub is_rtds : SystemView → ℕ → Bool

@@ -1,15 +1,15 @@
 ghost use Rattle.std.specs.Prelude.{◌≡◌, ◌<◌, length};
 ghost use Rattle.tree_model.specs.Tree.{budget_at};
 
-use crate::account::{account_of, taking};
+use crate::account::taking;
 use crate::moment::moment_of_slot;
 use crate::rows::row_at;
 use release_file::Wake;
-use rtds_queues::{Account, Queues};
+use rtds_queues::{Account, Vcpus};
 use slot_model::LIMIT;
-use std::alloc::AllocError;
+use std::alloc::{AllocError, Global};
 use trace_file::{Event, EventTaker, What};
-use tree_model::{MAX_CORES, MAX_PARTS, Plan, System};
+use tree_model::{MAX_CORES, Plan, System};
 
 /// How many slots the cores are run by themselves at most: the switches at so many are kept.
 const STRETCH: u64 = 4_096;
@@ -24,9 +24,7 @@ pub struct Host {
     /// How many rows of the workload have been taken.
     pub taken: usize,
     /// Of each VCPU when its period ends and what it had in it.
-    pub accounts: [Account; MAX_PARTS],
-    /// Those of each core that are eligible, in the order in which they go.
-    pub queues: Queues,
+    pub vcpus: Vcpus,
     /// For each core the VCPU that has it.
     pub holders: [Option<u32>; MAX_CORES],
 }
@@ -40,7 +38,7 @@ pub fn budget_of(plan: &Plan, v: u32) -> u64
 }
 
 impl Host {
-    ghost use Rattle.std.specs.Prelude.{◌≡◌, ◌≢◌, ℕ, ◌≤◌, ◌<◌, ◌+◌, ◌-◌, ◌^◌, false, List, Option, Some, None, length, slice_set, OnOk};
+    ghost use Rattle.std.specs.Prelude.{◌≡◌, ◌≢◌, ℕ, ◌≤◌, ◌<◌, ◌+◌, ◌-◌, ◌^◌, false, List, Option, Some, None, length, slice_set, IfOk, OnOk};
     ghost use Rattle.slot_model.specs.declared.task.TheConstants.{LIMIT};
     ghost use Rattle.tree_model.specs.System.{part_at};
     ghost use Rattle.tree_model.specs.Tree.{budget_at};
@@ -51,41 +49,27 @@ impl Host {
     ghost use Rattle.rtds_sim.specs.Printed.{gathered, on_at};
     ghost use Rattle.tree_model.specs.System.{IsSystem};
     ghost use Rattle.rtds_queues.specs.Accounts.{no_account, account_at};
-    ghost use Rattle.rtds_sim.specs.inner.Accounts.{holder_at, row_taken, left_at, gives_up, stop_of, AreAccounts, IsSound, IsReady, NoneEnds};
+    ghost use Rattle.rtds_sim.specs.inner.Accounts.{holder_at, row_taken, left_at, gives_up, stop_of, AreAccounts, IsReady, NoneEnds};
 
     /// Before the first slot.
-    pub fn new(sys: &System) -> Host
+    pub fn new(alloc: Global, sys: &System) -> Result<Host, AllocError>
         ensures system { IsSystem sys.now }
-        ensures time { result.time ≡ 0 }
-        ensures taken { result.taken ≡ 0 }
-        ensures ready { IsReady sys.now result }
-        ensures ends { NoneEnds sys.now result }
-        ensures accounts { (v : ℕ) → account_at result.accounts v ≡ no_account }
-        ensures holders { (c : ℕ) → holder_at result.holders c ≡ None }
+        ensures time { IfOk result (λ host. host.time ≡ 0) }
+        ensures taken { IfOk result (λ host. host.taken ≡ 0) }
+        ensures ready { IfOk result (IsReady sys.now) }
+        ensures ends { IfOk result (NoneEnds sys.now) }
+        ensures accounts { IfOk result
+            (λ host. (v : ℕ) → account_at host.vcpus.accounts v ≡ no_account) }
+        ensures holders { IfOk result (λ host. (c : ℕ) → holder_at host.holders c ≡ None) }
     {
-        prove!(sys.parts().len() <= MAX_PARTS);
         prove!(sys.cores().len() <= MAX_CORES);
-        Host {
+        let vcpus = Vcpus::new(alloc, sys)?;
+        Ok(Host {
             time: 0,
             taken: 0,
-            accounts: [Account::new(); MAX_PARTS],
-            queues: Queues::new(sys),
+            vcpus,
             holders: [None; MAX_CORES],
-        }
-    }
-
-    /// Sets the account of VCPU `v`.
-    fn set(&mut self, sys: &System, v: u32, account: Account)
-        requires ready { IsReady sys.now self.old }
-        requires is_part { v < length sys.now.parts }
-        requires sound { IsSound self.old.time account }
-        ensures ready { IsReady sys.now self.new }
-        ensures accounts { self.new.accounts ≡ slice_set self.old.accounts v account }
-        ensures taken { self.new.taken ≡ self.old.taken }
-        ensures time { self.new.time ≡ self.old.time }
-        ensures holders { self.new.holders ≡ self.old.holders }
-    {
-        self.queues.set(sys, &mut self.accounts, v, account);
+        })
     }
 
     /// The account of a row's VCPU after the row.
@@ -95,16 +79,11 @@ impl Host {
         requires is_part { row.vcpu < length sys.now.parts }
         requires in_limit { row.at ≤ LIMIT }
         ensures { result ≡ row_taken row.what (row.at + (part_at sys.now row.vcpu).period)
-            (budget_at plan.now row.vcpu) (account_at self.now.accounts row.vcpu) }
+            (budget_at plan.now row.vcpu) (account_at self.now.vcpus.accounts row.vcpu) }
     {
         let v = row.vcpu;
         let end = row.at + sys.parts()[v as usize].period();
-        taking(
-            account_of(&self.accounts, v),
-            row.what,
-            end,
-            budget_of(plan, v),
-        )
+        taking(self.vcpus.account(v), row.what, end, budget_of(plan, v))
     }
 
     /// Takes one row.
@@ -118,17 +97,17 @@ impl Host {
         requires in_limit { self.old.time ≤ LIMIT }
         ensures ready { IsReady sys.now self.new }
         ensures ends { NoneEnds sys.now self.new }
-        ensures accounts { self.new.accounts
-            ≡ slice_set self.old.accounts row.vcpu
+        ensures accounts { self.new.vcpus.accounts
+            ≡ slice_set self.old.vcpus.accounts row.vcpu
             (row_taken row.what (row.at + (part_at sys.now row.vcpu).period)
-            (budget_at plan.now row.vcpu) (account_at self.old.accounts row.vcpu)) }
+            (budget_at plan.now row.vcpu) (account_at self.old.vcpus.accounts row.vcpu)) }
         ensures taken { self.new.taken ≡ self.old.taken + 1 }
         ensures time { self.new.time ≡ self.old.time }
         ensures holders { self.new.holders ≡ self.old.holders }
     {
         let account = self.account_after(sys, plan, row);
         self.taken += 1;
-        self.set(sys, row.vcpu, account);
+        self.vcpus.set(sys, row.vcpu, account);
     }
 
     /// Takes the rows at the next slot.
@@ -150,9 +129,9 @@ impl Host {
             → (row_at rows.now self.new.taken).at ≢ self.old.time }
         ensures accounts { (runs : List (List (Option ℕ))) → IsWorkload sys.now rows.now
             → AreAccounts sys.now plan.now rows.now runs self.old.time self.old.taken
-            self.old.accounts
+            self.old.vcpus.accounts
             → AreAccounts sys.now plan.now rows.now runs self.old.time self.new.taken
-            self.new.accounts }
+            self.new.vcpus.accounts }
         ensures time { self.new.time ≡ self.old.time }
         ensures holders { self.new.holders ≡ self.old.holders }
     {
@@ -165,11 +144,11 @@ impl Host {
     fn gives_up(&self, core: usize) -> bool
         requires is_core { core < length self.now.holders }
         requires is_part { (v : ℕ) → holder_at self.now.holders core ≡ Some v
-            → v < length self.now.accounts }
-        ensures { result ≡ gives_up self.now.accounts (holder_at self.now.holders core) }
+            → v < length self.now.vcpus.accounts }
+        ensures { result ≡ gives_up self.now.vcpus.accounts (holder_at self.now.holders core) }
     {
         match self.holders[core] {
-            Some(v) => account_of(&self.accounts, v).blocked,
+            Some(v) => self.vcpus.account(v).blocked,
             None => false,
         }
     }
@@ -197,14 +176,14 @@ impl Host {
         requires ready { IsReady sys.now self.old }
         requires in_limit { self.old.time ≤ LIMIT }
         requires awake { before ≡ self.old.taken → (c : ℕ) → c < length sys.now.cores
-            → gives_up self.old.accounts (holder_at self.old.holders c) ≡ false }
+            → gives_up self.old.vcpus.accounts (holder_at self.old.holders c) ≡ false }
         ensures events { OnOk result (Took T.has_taken events.old events.new
             (gathered (stop_of self.old) (length sys.now.cores))) }
         ensures left { OnOk result
             ((c : ℕ) → c < length sys.now.cores →
-            holder_at self.new.holders c ≡ left_at self.old.accounts self.old.holders c) }
+            holder_at self.new.holders c ≡ left_at self.old.vcpus.accounts self.old.holders c) }
         ensures ready { OnOk result (IsReady sys.now self.new) }
-        ensures accounts { self.new.accounts ≡ self.old.accounts }
+        ensures accounts { self.new.vcpus.accounts ≡ self.old.vcpus.accounts }
         ensures taken { self.new.taken ≡ self.old.taken }
         ensures time { self.new.time ≡ self.old.time }
     {

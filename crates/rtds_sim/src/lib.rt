@@ -3,10 +3,8 @@
 #![tactic(auto)]
 
 mod account;
-mod by_end;
 mod fault;
 mod host;
-mod members;
 mod moment;
 mod rows;
 mod running;

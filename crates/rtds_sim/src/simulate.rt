@@ -1,7 +1,7 @@
 ghost use Rattle.std.specs.Prelude.{◌≡◌, ℕ, ◌≤◌, ◌<◌, ◌&&◌, List, Option, length, IfOk, IfErr, OnOk, MatchOption};
 ghost use Rattle.csv_rows.specs.Printing.{text_of};
 ghost use Rattle.csv_rows.specs.Reading.{records_of};
-ghost use Rattle.tree_model.specs.System.{IsSystem};
+ghost use Rattle.tree_model.specs.System.{IsSystem, is_edf};
 ghost use Rattle.tree_model.specs.Tree.{run_at};
 ghost use Rattle.trace_file.specs.declared.event.Event.{Event as EventView};
 ghost use Rattle.trace_printer.specs.Printing.{printed_rows};
@@ -11,7 +11,7 @@ ghost use Rattle.trace_file.specs.File.{Spells};
 ghost use Rattle.trace_file.specs.Periods.{Satisfied};
 ghost use Rattle.tree_model.specs.Plans.{IsPlan};
 ghost use Rattle.release_file.specs.Workload.{IsWorkload};
-ghost use Rattle.rtds_sim.specs.Rtds.{is_full, is_edf, RtdsRun};
+ghost use Rattle.rtds_sim.specs.Rtds.{is_full, RtdsRun};
 ghost use Rattle.rtds_sim.specs.Printed.{printed, IsRtdsTrace};
 ghost use Rattle.rtds_sim.specs.RunText.{IsRunText};
 ghost use Rattle.rtds_sim.specs.Fault.{AllRtds, IsFirstOther, IsRtdsFault};
@@ -19,7 +19,6 @@ ghost use Rattle.rtds_sim.specs.Giving.{AlwaysRunnable, ServersFit, AlwaysServed
 
 use crate::RtdsFault;
 use crate::host::Host;
-use crate::members::Members;
 use crate::moment::moment_of_slot;
 use crate::rows::print_rows;
 use crate::switches::Switches;
@@ -202,8 +201,7 @@ fn tell_run<T: EventTaker>(
         × Took T.has_taken events.old events.new told) }
     ensures system { IsSystem sys.now }
 {
-    let mut host = Host::new(sys);
-    let mut members = Members::new(alloc, sys)?;
+    let mut host = Host::new(alloc, sys)?;
     let mut switches = Switches::new(alloc, sys)?;
     while host.time < slots {
         let first = host.taken;
@@ -211,7 +209,7 @@ fn tell_run<T: EventTaker>(
         host.stop_blocked(sys, first, events)?;
         print_rows(sys, wakes, first, host.taken, events)?;
         let next = host.next_row(wakes, slots);
-        host.run_on(sys, plan, &mut members, next, &mut switches)?;
+        host.run_on(sys, plan, next, &mut switches)?;
         switches.tell(events)?;
     }
     events.take(Event {

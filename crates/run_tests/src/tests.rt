@@ -1,3 +1,4 @@
+mod bad_traces;
 mod failing;
 mod slot_by_slot;
 mod texts;

@@ -11,7 +11,7 @@ use Rattle.slot_model.proofs.Counts.{count_same, count_stretch}
 use Rattle.slot_model.proofs.Runs.{count_below-le}
 use Rattle.guest_sched.specs.Spans.{Window, is_given, slots_of, window_at, AreWindows}
 use Rattle.guest_sched.proofs.Given.{apart, none_given, all_given, slot_at}
-use Rattle.span_counts.specs.Counts.{AreServices}
+use Rattle.span_counts.specs.Counts.{AreServices, ServedTo}
 use Rattle.guest_sched.proofs.SpanByOne.{Holds}
 
 pub count_to : (p : ℕ → Bool) (v : Bool) (a b : ℕ) → a ≤ b → ((x : ℕ) → a ≤ x → x < b → p x ≡ v)
@@ -82,20 +82,14 @@ all_windows windows n i given h l e =
     ∙ slot_at windows n x m) in
     omega (arith, rest, same)
 
--- the services so far: those of the first spans
-pub record ServedTo (tasks : List SporadicTask) (jobs : List Job) (run : List (Option ℕ)) (m : ℕ) (got : List ℕ) : Type
-    0 where
-  pub long : length got ≡ length jobs
-  pub each : (j : ℕ) → j < length jobs → get_or got j 0 ≡ service run j (min (deadline_of tasks (job_at jobs j)) m)
-
-pub none_served : (tasks : List SporadicTask) (jobs : List Job) (run : List (Option ℕ)) (got : List ℕ)
-    → got ≡ replicate (length jobs) 0 → ServedTo tasks jobs run 0 got
-none_served tasks jobs run got e = subst (λ (g : List ℕ). ServedTo tasks jobs run 0 g) (sym e) (record {
-  long = length-replicate (length jobs) 0;
+pub none_served : (due : ℕ → ℕ) (n : ℕ) (run : List (Option ℕ)) (got : List ℕ)
+    → got ≡ replicate n 0 → ServedTo due n run 0 got
+none_served due n run got e = subst (λ (g : List ℕ). ServedTo due n run 0 g) (sym e) (record {
+  long = length-replicate n 0;
   each =
-      λ j l. get_or-replicate (length jobs) j 0 0 l
+      λ j l. get_or-replicate n j 0 0 l
       ∙ (sym (sum_below-zero (λ y. cond (holds (held run y) j) 1 0))
-      ∙ ap (service run j) (let q : 0 ≡ min (deadline_of tasks (job_at jobs j)) 0 = omega arith in q));
+      ∙ ap (service run j) (let q : 0 ≡ min (due j) 0 = omega arith in q));
 })
 
 -- one span more: its job gets its slots before the deadline moment, and no other job gets any
@@ -105,32 +99,32 @@ span_service run m u d j o l is =
     count_to (λ y. holds (held run y) j) (holds o j) (min d m) (min d u) (omega arith)
     (λ x a b. ap (λ (v : Option ℕ). holds v j) (is x (omega arith) (omega arith)))
 
-pub idle_served : (tasks : List SporadicTask) (jobs : List Job) (run : List (Option ℕ)) (m u : ℕ) (got : List ℕ)
-    → ServedTo tasks jobs run m got → m ≤ u → Holds run m u None → ServedTo tasks jobs run u got
-idle_served tasks jobs run m u got h l is =
+pub idle_served : (due : ℕ → ℕ) (n : ℕ) (run : List (Option ℕ)) (m u : ℕ) (got : List ℕ)
+    → ServedTo due n run m got → m ≤ u → Holds run m u None → ServedTo due n run u got
+idle_served due n run m u got h l is =
     record {
       long = h.long;
-      each = λ j lj. omega (arith, h.each j lj, span_service run m u (deadline_of tasks (job_at jobs j)) j None l is);
+      each = λ j lj. omega (arith, h.each j lj, span_service run m u (due j) j None l is);
     }
 
-pub job_served : (tasks : List SporadicTask) (jobs : List Job) (run : List (Option ℕ)) (m u i more : ℕ) (got : List ℕ)
-    → ServedTo tasks jobs run m got → m ≤ u → Holds run m u (Some i) → i < length jobs
-    → more + min (deadline_of tasks (job_at jobs i)) m ≡ min (deadline_of tasks (job_at jobs i)) u
-    → ServedTo tasks jobs run u (set got i (get_or got i 0 + more))
-job_served tasks jobs run m u i more got h l is li e = record {
+pub job_served : (due : ℕ → ℕ) (n : ℕ) (run : List (Option ℕ)) (m u i more : ℕ) (got : List ℕ)
+    → ServedTo due n run m got → m ≤ u → Holds run m u (Some i) → i < n
+    → more + min (due i) m ≡ min (due i) u
+    → ServedTo due n run u (set got i (get_or got i 0 + more))
+job_served due n run m u i more got h l is li e = record {
   long = length-set got i (get_or got i 0 + more) ∙ h.long;
   each = λ j lj. elim (cases_eq j i) [
     | inl q ↦
         subst (λ (z : ℕ). get_or (set got i (get_or got i 0 + more)) z 0
-        ≡ service run z (min (deadline_of tasks (job_at jobs z)) u)) (sym q)
+        ≡ service run z (min (due z) u)) (sym q)
         (get_or-set_same got i (get_or got i 0 + more) 0 (omega (arith, h.long))
         ∙ omega (
           arith,
           h.each i li,
           e,
-          span_service run m u (deadline_of tasks (job_at jobs i)) i (Some i) l is,
+          span_service run m u (due i) i (Some i) l is,
           cond-true {A = ℕ} (eqb i i)
-              (min (deadline_of tasks (job_at jobs i)) u - min (deadline_of tasks (job_at jobs i)) m) 0
+              (min (due i) u - min (due i) m) 0
               (eq-eqb i i refl),
         ))
     | inr ne ↦
@@ -138,20 +132,27 @@ job_served tasks jobs run m u i more got h l is li e = record {
         ∙ omega (
           arith,
           h.each j lj,
-          span_service run m u (deadline_of tasks (job_at jobs j)) j (Some i) l is,
+          span_service run m u (due j) j (Some i) l is,
           cond-false {A = ℕ} (eqb i j)
-              (min (deadline_of tasks (job_at jobs j)) u - min (deadline_of tasks (job_at jobs j)) m) 0
+              (min (due j) u - min (due j) m) 0
               (ne_eqb i j (λ z. ne (sym z))),
         )
   ];
 }
 
 -- no service is longer than the run so far, and one span more adds no more than its slots
-pub served_fits : (tasks : List SporadicTask) (jobs : List Job) (run : List (Option ℕ)) (m i : ℕ) (got : List ℕ)
-    → ServedTo tasks jobs run m got → i < length jobs → get_or got i 0 ≤ min (deadline_of tasks (job_at jobs i)) m
-served_fits tasks jobs run m i got h l =
-    omega (arith, h.each i l, count_below-le (λ y. holds (held run y) i) (min (deadline_of tasks (job_at jobs i)) m))
+pub served_fits : (due : ℕ → ℕ) (n : ℕ) (run : List (Option ℕ)) (m i : ℕ) (got : List ℕ)
+    → ServedTo due n run m got → i < n → get_or got i 0 ≤ min (due i) m
+served_fits due n run m i got h l =
+    omega (arith, h.each i l, count_below-le (λ y. holds (held run y) i) (min (due i) m))
+
+-- when each job is due
+abbrev pub due_of : List SporadicTask → List Job → ℕ → ℕ
+due_of tasks jobs j = deadline_of tasks (job_at jobs j)
+
+abbrev pub JobsServed : List SporadicTask → List Job → List (Option ℕ) → ℕ → List ℕ → Type 0
+JobsServed tasks jobs run m got = ServedTo (due_of tasks jobs) (length jobs) run m got
 
 pub all_served : (tasks : List SporadicTask) (jobs : List Job) (run : List (Option ℕ)) (got : List ℕ)
-    → ServedTo tasks jobs run (length run) got → AreServices tasks jobs run got
+    → JobsServed tasks jobs run (length run) got → AreServices tasks jobs run got
 all_served tasks jobs run got h = record { long = h.long; each = h.each }

@@ -1,4 +1,4 @@
-ghost use Rattle.std.specs.Prelude.{◌≡◌, ◌↔◌, ℕ, ◌+◌, ◌-◌, ◌^◌, ◌≤◌, ◌<◌, min, true, false, length, IfOk, MatchOption};
+ghost use Rattle.std.specs.Prelude.{◌≡◌, ◌↔◌, ℕ, ◌+◌, ◌-◌, ◌^◌, ◌≤◌, ◌<◌, min, true, false, List, Option, length, IfOk, MatchOption};
 ghost use Rattle.slot_model.specs.Slots.{count_below, slots_between};
 ghost use Rattle.slot_model.specs.Task.{sporadic_tasks};
 ghost use Rattle.slot_model.specs.Miss.{AreInJitter, AreNamed, HoldsReleased, IsFirstMiss, NoneMissed, is_missed, miss_of};
@@ -40,7 +40,7 @@ pub fn count_level(
         (run_of spans.now) counts) }
 {
     let got = services(alloc, tasks, jobs, spans)?;
-    let missed = find_missed(tasks, jobs, spans, &got);
+    let missed = find_missed(tasks, jobs, slots, &got);
     Ok(Counts {
         given: slots_given(given),
         released: jobs_before(jobs, slots),
@@ -67,7 +67,7 @@ pub fn misses(
         IfOk result (λ n. (n ≡ 0) ↔ NoneMissed T jobs.now (run_of spans.now)) }
 {
     let got = services(alloc, tasks, jobs, spans)?;
-    Ok(find_missed(tasks, jobs, spans, &got).count)
+    Ok(find_missed(tasks, jobs, end_of_run(spans), &got).count)
 }
 
 /// The missed job with the earliest deadline moment in a run of spans, and of several the first in
@@ -86,7 +86,7 @@ pub fn first_miss(
         IfOk result (λ miss. IsFirstMiss T jobs.now (run_of spans.now) miss) }
 {
     let got = services(alloc, tasks, jobs, spans)?;
-    Ok(find_missed(tasks, jobs, spans, &got).first)
+    Ok(find_missed(tasks, jobs, end_of_run(spans), &got).first)
 }
 
 /// The number of slots of windows.
@@ -142,7 +142,7 @@ fn services(
 }
 
 /// The slots of a span before a moment.
-fn slots_before(span: &Span, moment: u128) -> u64
+pub(crate) fn slots_before(span: &Span, moment: u128) -> u64
     requires { span.now.from ≤ span.now.until }
     ensures slots { result + min moment span.now.from ≡ min moment span.now.until }
     ensures fits { span.now.until < 2 ^ 64 }
@@ -158,29 +158,32 @@ fn slots_before(span: &Span, moment: u128) -> u64
 
 /// The jobs that miss in a run: how many they are, and the first of them.
 #[derive(Clone, Copy)]
-struct Missed {
-    count: u64,
-    first: Option<Miss>,
+pub(crate) struct Missed {
+    pub count: u64,
+    pub first: Option<Miss>,
 }
 
 /// A job misses where its deadline moment is within the run, and it got fewer slots than its work
 /// before it. The first has the earliest deadline moment, and of several is the first in the list.
-fn find_missed(tasks: &[Task], jobs: &[Job], spans: &[Span], got: &[u64]) -> Missed
+/// The run ends at `end`.
+pub(crate) fn find_missed(tasks: &[Task], jobs: &[Job], end: u64, got: &[u64]) -> Missed
     requires named { AreNamed (sporadic_tasks tasks.now) jobs.now }
     requires in_jitter { AreInJitter (sporadic_tasks tasks.now) jobs.now }
-    requires spans { AreSpans spans.now (length (run_of spans.now)) }
-    requires got { AreServices (sporadic_tasks tasks.now) jobs.now (run_of spans.now) got.now }
+    requires long { length got.now ≡ length jobs.now }
     ensures count { let T = sporadic_tasks tasks.now in
-        result.count ≡ count_below (is_missed T jobs.now (run_of spans.now)) (length jobs.now) }
+        (run : List (Option ℕ)) → length run ≡ end → AreServices T jobs.now run got.now →
+        result.count ≡ count_below (is_missed T jobs.now run) (length jobs.now) }
     ensures none { let T = sporadic_tasks tasks.now in
-        (result.count ≡ 0) ↔ NoneMissed T jobs.now (run_of spans.now) }
+        (run : List (Option ℕ)) → length run ≡ end → AreServices T jobs.now run got.now →
+        (result.count ≡ 0) ↔ NoneMissed T jobs.now run }
     ensures first { let T = sporadic_tasks tasks.now in
-        IsFirstMiss T jobs.now (run_of spans.now) result.first }
+        (run : List (Option ℕ)) → length run ≡ end → AreServices T jobs.now run got.now →
+        IsFirstMiss T jobs.now run result.first }
 {
     let mut count = 0;
     let mut first = None;
     for place in 0..jobs.len() {
-        if let Some(miss) = find_miss(tasks, jobs, spans, got, place) {
+        if let Some(miss) = find_miss(tasks, jobs, end, got, place) {
             count += 1;
             first = Some(earlier_miss(first, miss));
         }
@@ -189,19 +192,13 @@ fn find_missed(tasks: &[Task], jobs: &[Job], spans: &[Span], got: &[u64]) -> Mis
 }
 
 // None exactly where the job at `place` does not miss.
-fn find_miss(
-    tasks: &[Task],
-    jobs: &[Job],
-    spans: &[Span],
-    got: &[u64],
-    place: usize,
-) -> Option<Miss>
+fn find_miss(tasks: &[Task], jobs: &[Job], end: u64, got: &[u64], place: usize) -> Option<Miss>
     requires named { AreNamed (sporadic_tasks tasks.now) jobs.now }
     requires in_jitter { AreInJitter (sporadic_tasks tasks.now) jobs.now }
-    requires spans { AreSpans spans.now (length (run_of spans.now)) }
-    requires got { AreServices (sporadic_tasks tasks.now) jobs.now (run_of spans.now) got.now }
+    requires long { length got.now ≡ length jobs.now }
     requires is_job { place < length jobs.now }
-    ensures { let T = sporadic_tasks tasks.now in let run = run_of spans.now in
+    ensures { let T = sporadic_tasks tasks.now in
+        (run : List (Option ℕ)) → length run ≡ end → AreServices T jobs.now run got.now →
         MatchOption result (is_missed T jobs.now run place ≡ false) (λ miss.
         (is_missed T jobs.now run place ≡ true) × (miss ≡ miss_of T jobs.now run place)) }
 {
@@ -211,7 +208,7 @@ fn find_miss(
         return None;
     }
     let moment = deadline_moment(tasks, &job);
-    if moment > end_of_run(spans) as u128 {
+    if moment > end as u128 {
         return None;
     }
     Some(Miss {

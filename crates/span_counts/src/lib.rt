@@ -4,6 +4,8 @@
 
 mod counts;
 mod pending;
+mod services;
 
 pub use counts::{Counts, count_level, first_miss, misses, slots_given};
 pub use pending::{Wait, count_pending, waits_of};
+pub use services::{Services, first_miss_by};

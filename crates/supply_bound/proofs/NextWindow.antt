@@ -120,7 +120,8 @@ pub record NextBudget (period budget deadline from begin : ℕ) : Type 0 where
 pub next_budget : (period budget deadline from begin : ℕ) → 1 ≤ budget → budget ≤ deadline → deadline ≤ period
     → budget ≤ from → (from < period → begin ≡ period)
     → (period ≤ from → from % period < deadline → begin ≡ (from / period) * period)
-    → (deadline ≤ from % period → begin ≡ (from / period + 1) * period) → NextBudget period budget deadline from begin
+    → (period ≤ from → deadline ≤ from % period → begin ≡ (from / period + 1) * period)
+    → NextBudget period budget deadline from begin
 next_budget period budget deadline from begin s m n past first same next = elim (cases_lt from period) [
   | inl early ↦ record {
     k = 0;
@@ -141,11 +142,11 @@ next_budget period budget deadline from begin s m n past first same next = elim 
         }
         | inr over ↦ record {
           k = from / period;
-          begins = omega (arith, next over);
-          not_over = omega (arith, next over, whole);
+          begins = omega (arith, next late over);
+          not_over = omega (arith, next late over, whole);
           none = λ x a b. behind_it period budget deadline (from / period - 1) x m n
               (omega (arith, whole, ap (λ (z : ℕ). z * period) is))
-              (omega (arith, next over, ap (λ (z : ℕ). z * period) is));
+              (omega (arith, next late over, ap (λ (z : ℕ). z * period) is));
         }
       ]
       )
@@ -153,6 +154,40 @@ next_budget period budget deadline from begin s m n past first same next = elim 
   where
     some_whole : period ≤ from → 1 ≤ from / period
     some_whole l = le-div 1 from period (omega arith) (omega arith)
+
+-- such a period, of whose begin m is told at the most
+pub record ToldBudget (period budget deadline from m told : ℕ) : Type 0 where
+  pub begin : ℕ
+  pub next : NextBudget period budget deadline from begin
+  pub is_told : told ≡ min begin m
+
+pub told_budget : (period budget deadline from m told : ℕ) → 1 ≤ budget → budget ≤ deadline → deadline ≤ period
+    → budget ≤ from → from ≤ m → period ≤ m → (from < period → told ≡ period)
+    → (period ≤ from → from % period < deadline → told ≡ (from / period) * period)
+    → (period ≤ from → deadline ≤ from % period → told ≡ min ((from / period + 1) * period) m)
+    → ToldBudget period budget deadline from m told
+told_budget period budget deadline from m told s k n past within fits first same next = elim (cases_lt from period) [
+  | inl early ↦ record {
+    begin = told;
+    next = next_budget period budget deadline from told s k n past first same (λ late. absurd (omega arith));
+    is_told = omega (arith, first early);
+  }
+  | inr late ↦
+      let whole : (from / period) * period + from % period ≡ from = omega arith in
+      elim (cases_lt (from % period) deadline) [
+        | inl before ↦ record {
+          begin = told;
+          next = next_budget period budget deadline from told s k n past first same (λ l over. absurd (omega arith));
+          is_told = omega (arith, same late before, whole);
+        }
+        | inr over ↦ record {
+          begin = (from / period + 1) * period;
+          next = next_budget period budget deadline from ((from / period + 1) * period) s k n past
+              (λ early. absurd (omega arith)) (λ l before. absurd (omega arith)) (λ l o. refl);
+          is_told = next late over;
+        }
+      ]
+]
 
 -- no slot up to its budget
 none_to : (period budget deadline from begin : ℕ) → budget ≤ deadline → deadline ≤ period

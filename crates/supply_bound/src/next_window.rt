@@ -1,4 +1,4 @@
-ghost use Rattle.std.specs.Prelude.{◌≡◌, ◌+◌, ◌*◌, ◌/◌, ◌%◌, ◌<◌, ◌≤◌, true};
+ghost use Rattle.std.specs.Prelude.{◌≡◌, ◌+◌, ◌-◌, ◌*◌, ◌^◌, ◌/◌, ◌%◌, ◌<◌, ◌≤◌, min, true};
 ghost use Rattle.slot_model.specs.Supply.{worst_slot_by};
 ghost use Rattle.supply_bound.specs.NextWindow.{IsNextWindow};
 
@@ -59,28 +59,27 @@ fn later_window(period: u64, budget: u64, deadline: u64, from: u64, below: u64) 
     ensures { IsNextWindow (worst_slot_by period budget deadline) from below result }
 {
     let begin = next_begin(period, deadline, from);
-    let first = (begin + (deadline - budget) as u128).max(from as u128);
-    if first >= below as u128 {
+    let first = begin.saturating_add(deadline - budget).max(from);
+    if first >= below {
         return None;
     }
-    let until = (begin + deadline as u128).min(below as u128);
-    Some(Window {
-        from: first as u64,
-        until: until as u64,
-    })
+    let until = begin.saturating_add(deadline).min(below);
+    Some(Window { from: first, until })
 }
 
-/// The begin of the first period but the very first whose deadline is past `from`.
-fn next_begin(period: u64, deadline: u64, from: u64) -> u128
+/// The begin of the first period but the very first whose deadline is past `from`, as far as 64
+/// bits tell it.
+fn next_begin(period: u64, deadline: u64, from: u64) -> u64
     requires { 1 ≤ period }
     ensures first { from < period → result ≡ period }
     ensures same { period ≤ from → from % period < deadline → result ≡ (from / period) * period }
-    ensures next { deadline ≤ from % period → result ≡ (from / period + 1) * period }
+    ensures next { period ≤ from → deadline ≤ from % period →
+        result ≡ min ((from / period + 1) * period) (2 ^ 64 - 1) }
 {
     let place = from % period;
-    let begin = (from - place) as u128;
+    let begin = from - place;
     if from < period || deadline <= place {
-        begin + period as u128
+        begin.saturating_add(period)
     } else {
         begin
     }

@@ -16,7 +16,7 @@ use Rattle.rt_report.specs.Fault.{fault_text}
 use Rattle.command_steps.specs.declared.status.Status.{Status}
 use Rattle.command_steps.specs.declared.status.Status.TheVariants.{Yes, No, BadFile}
 use Rattle.command_steps.specs.CommandSpec.{CommandSpec, IsVerdict}
-use Rattle.command_steps.specs.Answer.{Contents}
+use Rattle.command_steps.specs.Answer.{Contents, Saying}
 use Rattle.command_steps.specs.Attempt.{Attempt, OnAttempt}
 use Rattle.command_steps.specs.Budgets.{OnAssigned}
 use Rattle.command_steps.specs.TwoFiles.{OnTwoFiles, SpellsSystem, AreReadable}
@@ -44,10 +44,16 @@ pub record IsAudited (sys : SystemView) (budgets : List ℕ) (events : List Even
   pub status_is : status ≡ finding_status finding
   pub told : text ≡ audit_text sys budgets finding
 
+-- the answer to a system and the bytes of a trace, where this is said of the budgets that are
+-- assigned and of the events
+abbrev pub OnTrace : (SystemView → List ℕ → List Event → Status → List ℕ → Type 0)
+    → SystemView → Saying
+OnTrace Says sys bytes =
+    OnAttempt (tracing sys bytes) (λ events. OnAssigned sys (λ budgets. Says sys budgets events))
+
 -- the answer to a system and the bytes of a trace, and to two files
-abbrev pub AuditsBytes : SystemView → List ℕ → Status → List ℕ → Type 0
-AuditsBytes sys bytes = OnAttempt (tracing sys bytes) (λ events.
-    OnAssigned sys (λ budgets. IsAudited sys budgets events))
+abbrev pub AuditsBytes : SystemView → Saying
+AuditsBytes = OnTrace IsAudited
 
 abbrev pub Audits : Contents → Status → List ℕ → Type 0
 Audits contents = OnTwoFiles contents AuditsBytes

@@ -14,11 +14,9 @@ use Rattle.rt_report.specs.Tally.{tally_lines, tally_text}
 use Rattle.command_steps.specs.declared.status.Status.{Status}
 use Rattle.command_steps.specs.declared.status.Status.TheVariants.{Yes}
 use Rattle.command_steps.specs.CommandSpec.{CommandSpec, IsVerdict}
-use Rattle.command_steps.specs.Answer.{Contents}
-use Rattle.command_steps.specs.Attempt.{OnAttempt}
-use Rattle.command_steps.specs.Budgets.{OnAssigned}
+use Rattle.command_steps.specs.Answer.{Contents, Saying}
 use Rattle.command_steps.specs.TwoFiles.{OnTwoFiles}
-use Rattle.trace_commands.specs.Audit.{tracing, finding_status, IsAuditOf, TellsSatisfied, CanAudit}
+use Rattle.trace_commands.specs.Audit.{OnTrace, finding_status, IsAuditOf, TellsSatisfied, CanAudit}
 
 -- the text tells the finding of an audit, and what is counted of each VCPU
 pub record IsToldTally (sys : SystemView) (budgets : List ℕ) (events : List Event)
@@ -31,9 +29,8 @@ pub record IsToldTally (sys : SystemView) (budgets : List ℕ) (events : List Ev
   pub told : text ≡ tally_text sys budgets finding tallies
 
 -- the answer to a system and the bytes of a trace, and to two files
-abbrev pub TalliesBytes : SystemView → List ℕ → Status → List ℕ → Type 0
-TalliesBytes sys bytes = OnAttempt (tracing sys bytes) (λ events.
-    OnAssigned sys (λ budgets. IsToldTally sys budgets events))
+abbrev pub TalliesBytes : SystemView → Saying
+TalliesBytes = OnTrace IsToldTally
 
 abbrev pub Tallies : Contents → Status → List ℕ → Type 0
 Tallies contents = OnTwoFiles contents TalliesBytes

@@ -6,12 +6,10 @@ mod isolate;
 mod rtds;
 mod simulate;
 mod slots;
-mod tally;
 mod walk;
 
-pub use audit::Audit;
+pub use audit::TraceCommand;
 pub use isolate::Isolate;
 pub use rtds::Rtds;
 pub use simulate::Simulate;
 pub use slots::Slots;
-pub use tally::Tally;

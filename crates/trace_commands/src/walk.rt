@@ -1,13 +1,12 @@
-ghost use Rattle.std.specs.Prelude.{◌≡◌, ◌⊎◌, ℕ, List, [], ◌++◌, IfOk, IfErr, OnOk};
+ghost use Rattle.std.specs.Prelude.{◌≡◌, ◌⊎◌, ℕ, List, [], ◌++◌, Ok, IfOk, IfErr, OnOk};
 ghost use Rattle.csv_rows.specs.Reading.{records_of};
 ghost use Rattle.tree_model.specs.View.{SystemView};
 ghost use Rattle.trace_file.specs.declared.fault.TraceFault.TheVariants.{NoMemory as TraceNoMemory};
-ghost use Rattle.trace_file.specs.Fed.{HasChecked};
 ghost use Rattle.trace_file.specs.File.{IsFileFault, rows_of};
 ghost use Rattle.command_steps.specs.declared.answer.Ending.TheVariants.{NoMemory};
 ghost use Rattle.command_steps.specs.Attempt.{IsRefused};
 ghost use Rattle.command_steps.specs.Steps.{IfAnswered, EndsJudged};
-ghost use Rattle.trace_commands.specs.Audit.{tracing, IsTrace};
+ghost use Rattle.trace_commands.specs.Audit.{tracing};
 ghost use Rattle.trace_commands.specs.inner.Walk.{HasWalked, HasTakenTrace, IsAuditUnder, IsUnaudited};
 
 use auditor::Audit;
@@ -91,7 +90,7 @@ impl<'s> TraceWalk<'s> {
         match self.walker {
             Walker::Audits(plan, audit) => Ok((plan, audit)),
             Walker::Checks(check, refused) => {
-                checked(alloc, check)?;
+                finished(alloc, check.finish())?;
                 Err(refused)
             }
         }
@@ -106,31 +105,19 @@ impl<'s> ByteTaker for TraceWalk<'s> {
     }
 }
 
-/// That the bytes spell a trace. It stops where they are refused.
-fn checked(alloc: Global, check: TraceCheck<'_>) -> Result<(), Ending>
-    requires { (sys : SystemView) × (bytes : List ℕ) × HasChecked sys bytes check }
-    ensures spelled { (sys : SystemView) (bytes : List ℕ) → HasChecked sys bytes check.entry
-        → IfOk result (λ done. IsTrace sys bytes) }
-    ensures refused { (sys : SystemView) (bytes : List ℕ) → HasChecked sys bytes check.entry
+/// What is made of all bytes of a trace. It stops where they are refused.
+pub fn finished<T>(alloc: Global, made: Result<T, TraceFault>) -> Result<T, Ending>
+    ensures value { IfOk result (λ value. made ≡ Ok value) }
+    ensures refused { (sys : SystemView) (bytes : List ℕ)
+        → IfErr made (λ fault. (fault ≡ TraceNoMemory)
+        ⊎ IsFileFault sys (rows_of (records_of bytes)) fault)
         → IfErr result (λ stop. IfAnswered stop (λ a.
         IsRefused (tracing sys bytes) a.status a.text.items)) }
     ensures judged { IfErr result (λ stop. EndsJudged stop) }
 {
-    match check.finish() {
-        Ok(()) => Ok(()),
-        Err(fault) => Err(ended_at(alloc, fault)),
-    }
-}
-
-/// How a command ends at a fault of the trace.
-pub fn ended_at(alloc: Global, fault: TraceFault) -> Ending
-    ensures refused { (sys : SystemView) (bytes : List ℕ)
-        → (fault ≡ TraceNoMemory) ⊎ IsFileFault sys (rows_of (records_of bytes)) fault
-        → IfAnswered result (λ a. IsRefused (tracing sys bytes) a.status a.text.items) }
-    ensures judged { EndsJudged result }
-{
-    match fault {
-        TraceFault::NoMemory => Ending::NoMemory,
-        fault => second_fault(alloc, FileFault::Trace(fault)),
+    match made {
+        Ok(value) => Ok(value),
+        Err(TraceFault::NoMemory) => Err(Ending::NoMemory),
+        Err(fault) => Err(second_fault(alloc, FileFault::Trace(fault))),
     }
 }

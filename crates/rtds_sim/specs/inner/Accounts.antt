@@ -1,5 +1,5 @@
 -- What is kept of VCPUs and cores between two events.
-use Rattle.std.specs.Prelude.{◌≡◌, ℕ, suc, ◌+◌, ◌-◌, ◌%◌, ◌<◌, ◌≤◌, ◌==◌, Bool, true, false, ◌&&◌, nat_lt, if◌then◌else◌, List, length, slice_index_or, Option, Some, None}
+use Rattle.std.specs.Prelude.{◌≡◌, ℕ, suc, ◌+◌, ◌-◌, ◌%◌, ◌<◌, ◌≤◌, ◌==◌, Bool, true, false, if◌then◌else◌, List, length, slice_index_or, Option, Some, None}
 use Rattle.tree_model.specs.declared.place.Place.TheVariants.{Core}
 use Rattle.tree_model.specs.View.{SystemView}
 use Rattle.tree_model.specs.System.{part_at}
@@ -14,8 +14,8 @@ use Rattle.release_file.specs.declared.workload.WakeKind.{WakeKind}
 use Rattle.release_file.specs.declared.workload.WakeKind.TheVariants.{Start, Wake, Block}
 use Rattle.release_file.specs.Workload.{row_at, started_after, blocked_after}
 use Rattle.rtds_sim.specs.Rtds.{used, level_at, deadline_at}
-use Rattle.rtds_queues.specs.Accounts.{account_at, end_at, renewed, using, had_budget, account_eligible, is_ahead}
-use Rattle.rtds_queues.specs.Queues.{stands_in, AreQueues}
+use Rattle.rtds_queues.specs.Accounts.{account_at, renewed, had_slots}
+use Rattle.rtds_queues.specs.Vcpus.{AreVcpus, NoEndBefore}
 use Rattle.rtds_sim.specs.Printed.{core_of, on_at}
 
 abbrev pub holder_at : List (Option ℕ) → ℕ → Option ℕ
@@ -32,41 +32,18 @@ row_taken Block end budget account = record account { blocked = true }
 -- at most
 abbrev pub used_more : Account → Bool → ℕ → ℕ → Account
 used_more account has_core slots budget =
-    if has_core
-    then (if nat_lt slots account.left then using account slots else had_budget account budget)
-    else account
-
--- an account where its period may end at a slot
-abbrev pub period_ended : Account → ℕ → ℕ → ℕ → Account
-period_ended account period budget to =
-    if account.started && (to == account.until)
-    then renewed account (to + period) budget
-    else account
+    if has_core then had_slots account slots budget else account
 
 -- an account some slots later, at `to`, before which its period does not end
 abbrev pub gone_on : Account → Bool → ℕ → ℕ → ℕ → ℕ → Account
 gone_on account has_core slots period budget to =
-    if account.started && (to == account.until)
+    if to == account.until
     then renewed account (to + period) budget
     else used_more account has_core slots budget
 
 -- the slots until a VCPU that had some has had its budget once more
 abbrev pub left_of : ℕ → ℕ → ℕ
 left_of slots budget = budget - slots % budget
-
--- whether VCPU v is one of core c and eligible
-abbrev pub ranked : SystemView → List Account → ℕ → ℕ → Bool
-ranked sys accounts c v =
-    is_child sys (Core c) v && account_eligible (account_at accounts v) (part_at sys v).extra
-
--- the eligible VCPU of core c before which no other one goes, if there is one
-pub record IsChoice (sys : SystemView) (accounts : List Account) (c : ℕ) (o : Option ℕ) :
-    Type 0 where
-  pub idle : o ≡ None → (v : ℕ) → v < length sys.parts → ranked sys accounts c v ≡ false
-  pub within : (v : ℕ) → o ≡ Some v → v < length sys.parts
-  pub named : (v : ℕ) → o ≡ Some v → ranked sys accounts c v ≡ true
-  pub first : (u v : ℕ) → o ≡ Some v → u < length sys.parts →
-      ranked sys accounts c u ≡ true → is_ahead accounts u v ≡ false
 
 -- whether a VCPU, if one is meant, is blocked
 abbrev pub gives_up : List Account → Option ℕ → Bool
@@ -81,7 +58,7 @@ left_at accounts holders c =
 -- what is told of core c when blocked VCPUs give their cores up
 abbrev pub stop_of : Host → ℕ → Option Event
 stop_of host c =
-    if gives_up host.accounts (holder_at host.holders c) then Some (on_at c host.time Stop)
+    if gives_up host.vcpus.accounts (holder_at host.holders c) then Some (on_at c host.time Stop)
     else None
 
 -- the account of VCPU v at slot x, after the first k rows: whether it is started and blocked, and
@@ -119,7 +96,7 @@ pub record AreBefore (rows : List Row) (k x : ℕ) : Type 0 where
 
 -- there is room for each VCPU and each core, and what has a core is a part
 pub record HasRoom (sys : SystemView) (host : Host) : Type 0 where
-  pub all_vcpus : length host.accounts ≡ 512
+  pub all_vcpus : length host.vcpus.accounts ≡ 512
   pub all_cores : length host.holders ≡ 64
   pub few_parts : length sys.parts ≤ 512
   pub few_cores : length sys.cores ≤ 64
@@ -133,26 +110,19 @@ pub record IsSound (time : ℕ) (account : Account) : Type 0 where
   pub some_left : 1 ≤ account.left
   pub idle : account.started ≡ false → account.until ≡ PAST_ALL
 
--- the accounts are sound, and the VCPUs that are eligible by them are queued; what has a core
--- stands on it
+-- the VCPUs stand in their orders, and their accounts are sound; what has a core stands on it
 pub record IsReady (sys : SystemView) (host : Host) : Type 0 where
   pub room : HasRoom sys host
-  pub listed : AreQueues sys host.accounts host.queues
-  pub sound : (v : ℕ) → v < length sys.parts → IsSound host.time (account_at host.accounts v)
-  pub eligible : (v : ℕ) → v < length sys.parts →
-      stands_in host.queues v ≡ account_eligible (account_at host.accounts v) (part_at sys v).extra
+  pub vcpus : AreVcpus sys host.vcpus
+  pub sound : (v : ℕ) → v < length sys.parts →
+      IsSound host.time (account_at host.vcpus.accounts v)
   pub on_core : (c v : ℕ) → c < length sys.cores → holder_at host.holders c ≡ Some v →
       is_child sys (Core c) v ≡ true
 
--- no period of a VCPU of core c ends before slot `to`
-abbrev pub NoEndBefore : SystemView → List Account → ℕ → ℕ → Type 0
-NoEndBefore sys accounts c to = (v : ℕ) → v < length sys.parts → is_child sys (Core c) v ≡ true →
-    to ≤ end_at accounts v
-
--- nor any of a core by the next slot
+-- no period of a VCPU of any core ends by the next slot
 abbrev pub NoneEnds : SystemView → Host → Type 0
 NoneEnds sys host = (c : ℕ) → c < length sys.cores →
-    NoEndBefore sys host.accounts c (suc host.time)
+    NoEndBefore sys host.vcpus.accounts c (suc host.time)
 
 -- no VCPU of core c is above level x
 abbrev pub NoneAbove : SystemView → List Account → ℕ → ℕ → Type 0

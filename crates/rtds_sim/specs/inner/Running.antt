@@ -32,20 +32,20 @@ pub record IsUnderway (sys : SystemView) (budgets : List ℕ) (rows : List Row) 
   pub fits : to ≤ n
   pub taken : AreBefore rows k (suc x)
   pub rows_later : RowsFrom rows k to
-  pub are : AreOn sys budgets rows c run x k host.accounts
+  pub are : AreOn sys budgets rows c run x k host.vcpus.accounts
   pub holder_is : holder_at host.holders c ≡ holder_left rows run x
 
 -- and at slot `to`, once it has told its switches at the slots from x on
 pub record HasRun (sys : SystemView) (budgets : List ℕ) (rows : List Row) (c : ℕ)
     (run : List (Option ℕ)) (x to k : ℕ) (host : Host) (before told : List Event) : Type 0 where
-  pub are : AreOn sys budgets rows c run to k host.accounts
+  pub are : AreOn sys budgets rows c run to k host.vcpus.accounts
   pub holder_is : holder_at host.holders c ≡ holder_before run to
   pub told_is : told ≡ before ++ told_on (λ y. switch_on rows run y c) x (to - x)
 
 -- what is not of core c is as it was
 pub record KeepsOthers (sys : SystemView) (c : ℕ) (old new : Host) : Type 0 where
   pub accounts : (v : ℕ) → v < length sys.parts → is_child sys (Core c) v ≡ false →
-      account_at new.accounts v ≡ account_at old.accounts v
+      account_at new.vcpus.accounts v ≡ account_at old.vcpus.accounts v
   pub holders : (d : ℕ) → d ≢ c → holder_at new.holders d ≡ holder_at old.holders d
   pub time : new.time ≡ old.time
   pub taken : new.taken ≡ old.taken

@@ -2,7 +2,7 @@
 ghost use Rattle.std.specs.Prelude.{◌≤◌};
 
 use super::texts::*;
-use outside::{MemorySink, MemoryStore};
+use outside::{MemorySink, MemoryStore, Store};
 use rt_top::{Status, run};
 use slot_model::Name;
 use std::alloc::Global;
@@ -10,7 +10,7 @@ use std::process::Abort;
 use std::test::Fail;
 
 // A store of these texts under the names `first` and `second`.
-fn store_of(
+pub fn store_of(
     alloc: Global,
     texts: &[&str],
     bite: usize,
@@ -28,10 +28,10 @@ fn store_of(
 
 // The status of these words and what was written, at most `bite` bytes a write, where the writes of
 // `fails` fail.
-fn answered(
+pub fn answered<S: Store>(
     alloc: Global,
     words: &[&str],
-    store: MemoryStore,
+    store: &mut S,
     bite: usize,
     fails: Vec<u64>,
 ) -> Result<(Status, Vec<u8>), Fail>
@@ -41,14 +41,13 @@ fn answered(
     for word in words {
         owned.push(String::from_str(alloc, word)?)?;
     }
-    let mut store = store;
     let mut out = MemorySink::new(alloc, 4096, bite, fails)?;
-    let status = run(alloc, &owned, &mut store, &mut out);
+    let status = run(alloc, &owned, store, &mut out);
     Ok((status, out.written().to_vec(alloc)?))
 }
 
 // How often the store is called: each file is opened, read, and read to its end.
-fn calls_over(texts: &[&str], bite: usize) -> u64
+pub fn calls_over(texts: &[&str], bite: usize) -> u64
     requires { 1 ≤ bite }
 {
     let mut calls = 0u64;
@@ -71,8 +70,8 @@ fn each_call_fails(
 {
     let calls = calls_over(texts, bite);
     for k in 0..calls.saturating_add(1) {
-        let store = store_of(alloc, texts, bite, vec![in alloc; k]?)?;
-        let (status, written) = answered(alloc, words, store, 4096, Vec::new(alloc))?;
+        let mut store = store_of(alloc, texts, bite, vec![in alloc; k]?)?;
+        let (status, written) = answered(alloc, words, &mut store, 4096, Vec::new(alloc))?;
         let (want, text) = if k < calls {
             (Status::ReadFault, "")
         } else {
@@ -101,8 +100,8 @@ fn each_write_fails(
 {
     let writes = answer.len().div_ceil(bite) as u64;
     for k in 0..writes.saturating_add(1) {
-        let store = store_of(alloc, texts, bite, Vec::new(alloc))?;
-        let (status, written) = answered(alloc, words, store, bite, vec![in alloc; k]?)?;
+        let mut store = store_of(alloc, texts, bite, Vec::new(alloc))?;
+        let (status, written) = answered(alloc, words, &mut store, bite, vec![in alloc; k]?)?;
         let want = if k < writes {
             Status::WriteFault
         } else {

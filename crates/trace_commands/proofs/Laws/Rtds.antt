@@ -7,7 +7,7 @@ use Rattle.slot_model.specs.declared.sched.Sched.TheVariants.{Edf, Rm, Dm, Liste
 use Rattle.slot_model.specs.Bound.{Passes}
 use Rattle.tree_model.specs.declared.place.Place.TheVariants.{Core}
 use Rattle.tree_model.specs.View.{SystemView}
-use Rattle.tree_model.specs.System.{IsSystem, core_at}
+use Rattle.tree_model.specs.System.{IsSystem, core_at, is_edf}
 use Rattle.tree_model.specs.Tree.{core_bound, server_tasks}
 use Rattle.tree_model.specs.Plans.{IsPlan}
 use Rattle.tree_model.specs.Admission.{Admitted}
@@ -19,7 +19,7 @@ use Rattle.release_file.specs.WorkloadFile.{wake_rows}
 use Rattle.release_file.proofs.OneWorkload.{one_workload, no_workload_fault, one_workload_fault}
 use Rattle.release_file.proofs.SpeltWorkload.{spelt_workload}
 use Rattle.system_file.specs.SystemFile.{system_of}
-use Rattle.rtds_sim.specs.Rtds.{is_full, is_edf, is_rtds}
+use Rattle.rtds_sim.specs.Rtds.{is_full, is_rtds}
 use Rattle.rtds_sim.specs.Fault.{AllRtds, IsFirstOther}
 use Rattle.rtds_sim.specs.Giving.{AlwaysServed, ServersFit}
 use Rattle.rtds_sim.proofs.RunTraces.{each_gives, each_never_over, trace_of, trace_none_over, trace_satisfied}

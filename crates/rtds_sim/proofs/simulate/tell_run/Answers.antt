@@ -15,7 +15,7 @@ use Rattle.rtds_sim.specs.Printed.{core_of, moment_of_slot, printed_below, gathe
 use Rattle.rtds_queues.specs.Accounts.{account_at, end_at}
 use Rattle.rtds_sim.specs.inner.Accounts.{stop_of, AreBefore, IsAccount}
 use Rattle.rtds_sim.specs.inner.Running.{RowsFrom, HasRun}
-use Rattle.rtds_sim.specs.inner.Lists.{list_at}
+use Rattle.rtds_queues.specs.Lists.{list_at}
 use Rattle.rtds_sim.specs.inner.Telling.{told_by, AreAtSlots}
 use Rattle.rtds_sim.proofs.Runs.{rtds_run, rtds_run-is}
 use Rattle.trace_file.proofs.Moments.{child_parent}
@@ -29,23 +29,23 @@ use Rattle.rtds_sim.proofs.simulate.tell_run.Goals.{After-take_rows, After-next_
 
 pub loop-host-init : goal.loop-host-init
 loop-host-init g c =
-    let made = c.new-host.ensures in
+    let made = c.in_ok-host.ensures in
     record {
       stands =
           standing_start c.args.sys.now c.args.plan.now c.args.wakes.now
-          (rtds_run c.args.sys.now c.args.plan.now c.args.wakes.now c.args.slots) c.new-host.result made.time made.taken
+          (rtds_run c.args.sys.now c.args.plan.now c.args.wakes.now c.args.slots) c.in_ok-host.host made.time
+          made.taken
           made.ready.room made.accounts made.holders;
       told =
           took_same g.T.EventTaker.has_taken c.args.events.now c.args.events.now []
           (printed_below c.args.sys.now c.args.wakes.now
-          (rtds_run c.args.sys.now c.args.plan.now c.args.wakes.now c.args.slots) c.new-host.result.time)
+          (rtds_run c.args.sys.now c.args.plan.now c.args.wakes.now c.args.slots) c.in_ok-host.host.time)
           (sym (ap (printed_below c.args.sys.now c.args.wakes.now
           (rtds_run c.args.sys.now c.args.plan.now c.args.wakes.now c.args.slots)) made.time
           ∙ printed_below-zero c.args.sys.now c.args.wakes.now
           (rtds_run c.args.sys.now c.args.plan.now c.args.wakes.now c.args.slots)))
           (took_nothing g.T.EventTaker.has_taken c.args.events.now);
       ready = made.ready;
-      members = c.in_ok-members.ensures;
       ends = made.ends;
       in_slots = omega (arith, made.time);
       one_each = c.in_ok-switches.ensures.one_each;
@@ -181,9 +181,9 @@ loop-host-preserved g c =
           λ v lv child. subst
           (λ (xs : List Account). IsAccount sys budgets rows (run_at runs d) v left.time k (account_at xs v))
           (sym c.stop_blocked.ensures.accounts)
-          (subst (λ (y : ℕ). IsAccount sys budgets rows (run_at runs d) v y k (account_at took_host.accounts v))
+          (subst (λ (y : ℕ). IsAccount sys budgets rows (run_at runs d) v y k (account_at took_host.vcpus.accounts v))
           (sym time)
-          (subst (λ (e : ℕ). IsAccount sys budgets rows (run_at runs e) v x k (account_at took_host.accounts v))
+          (subst (λ (e : ℕ). IsAccount sys budgets rows (run_at runs e) v x k (account_at took_host.vcpus.accounts v))
           (ap core_of (child_parent sys d v child)) (visit.are.each v lv)));
       holder_is =
           c.in_ok-stop_blocked.ensures.left d l
@@ -227,7 +227,7 @@ loop-host-preserved g c =
     told_first switches_told in
     record {
       stands =
-          standing_next sys c.new-host.ensures.system budgets rows c.requires.workload runs x k took_host.accounts
+          standing_next sys c.new.ensures.system budgets rows c.requires.workload runs x k took_host.vcpus.accounts
           visit.are
           visit.taken to later rows_later c.run_on.new.self
           c.in_ok-run_on.ensures.time (c.in_ok-run_on.ensures.taken ∙ taken) c.in_ok-run_on.ensures.ready.room
@@ -245,7 +245,6 @@ loop-host-preserved g c =
           (subst (λ (y : ℕ). Took has_taken c.args.events.now c.loop-host.events (printed_below sys rows runs y))
           (sym took.time) c.loop-host.invariant.told) told_all));
       ready = c.in_ok-run_on.ensures.ready;
-      members = c.in_ok-run_on.ensures.members;
       ends = c.in_ok-run_on.ensures.ends;
       in_slots = omega (arith, c.in_ok-run_on.ensures.time, c.next_row-next.ensures.in_slots);
       one_each = c.in_ok-tell.ensures.one_each ∙ each_told;

@@ -3,13 +3,14 @@ use Rattle.std.proofs.lemmas.List.{get_or_read, length-map}
 use Rattle.slot_model.specs.Task.{job_at, deadline_of, sporadic_task, sporadic_tasks}
 use Rattle.guest_sched.specs.Spans.{run_of, end_of, span_at}
 use Rattle.guest_sched.proofs.SpanByOne.{SpanHere, span_here, span_job}
-use Rattle.span_counts.proofs.Counting.{ServedTo, none_served, idle_served, job_served, served_fits, all_served}
+use Rattle.span_counts.proofs.Counting.{due_of, JobsServed, none_served, idle_served, job_served, served_fits, all_served}
 use Rattle.span_counts.proofs.counts.services.Goals as goal
 use Rattle.span_counts.proofs.counts.services.Goals.{in-Some, in_default}
 
 pub loop-span-init : goal.loop-span-init
 loop-span-init c =
-    none_served (sporadic_tasks c.args.tasks.now) c.args.jobs.now (run_of c.args.spans.now) c.in_ok-got.got.items
+    none_served (due_of (sporadic_tasks c.args.tasks.now) c.args.jobs.now) (length c.args.jobs.now)
+    (run_of c.args.spans.now) c.in_ok-got.got.items
     (c.in_ok-got.ensures.items_if_clones_equal (λ y h. h))
 
 pub bounds-jobs-place : goal.bounds-jobs-place
@@ -43,7 +44,8 @@ overflow_add-before c =
     = get_or_read c.loop-span.got.items c.in-Some.job c.index-before.result.now
     (omega (arith, c.loop-span.invariant.long)) c.index-before.ensures 0 in
     let low
-    = served_fits T jobs (run_of spans) (end_of spans i) c.in-Some.job c.loop-span.got.items c.loop-span.invariant
+    = served_fits (due_of T jobs) (length jobs) (run_of spans) (end_of spans i) c.in-Some.job c.loop-span.got.items
+    c.loop-span.invariant
     is_job in
     record {
       fits =
@@ -71,9 +73,9 @@ loop-span-preserved c =
     let run = run_of spans in
     let T = sporadic_tasks c.args.tasks.now in
     let here : SpanHere spans i = span_here spans (length run) i c.requires.spans c.loop-span-test.true in
-    let before : ServedTo T jobs run (span_at spans i).from c.loop-span.got.items
-    = subst (λ (m : ℕ). ServedTo T jobs run m c.loop-span.got.items) (sym here.from) c.loop-span.invariant in
-    subst (λ (m : ℕ). ServedTo T jobs run m c.match-span.got.items) here.until
+    let before : JobsServed T jobs run (span_at spans i).from c.loop-span.got.items
+    = subst (λ (m : ℕ). JobsServed T jobs run m c.loop-span.got.items) (sym here.from) c.loop-span.invariant in
+    subst (λ (m : ℕ). JobsServed T jobs run m c.match-span.got.items) here.until
     (elim c.match-span.branch [
       | in-Some w ↦
           let j = w.in-Some.job in
@@ -86,15 +88,17 @@ loop-span-preserved c =
           ≡ min (deadline_of T (job_at jobs j)) (span_at spans i).until
           = omega (arith, w.slots_before.ensures.slots, w.deadline_moment-due.ensures) in
           let done
-          = job_served T jobs run (span_at spans i).from (span_at spans i).until j w.slots_before.result
+          = job_served (due_of T jobs) (length jobs) run (span_at spans i).from (span_at spans i).until j
+          w.slots_before.result
           c.loop-span.got.items before (omega (arith, here.some)) (λ x a b. here.holds x a b ∙ w.in-Some.is)
           is_job more in
-          subst (λ (v : Vec ℕ Global). ServedTo T jobs run (span_at spans i).until v.items) (sym w.got-is)
-          (subst (λ (z : ℕ). ServedTo T jobs run (span_at spans i).until
+          subst (λ (v : Vec ℕ Global). JobsServed T jobs run (span_at spans i).until v.items) (sym w.got-is)
+          (subst (λ (z : ℕ). JobsServed T jobs run (span_at spans i).until
           (set c.loop-span.got.items j (z + w.slots_before.result))) (sym read) done)
       | in_default w ↦
-          subst (λ (v : Vec ℕ Global). ServedTo T jobs run (span_at spans i).until v.items) (sym w.got-is)
-          (idle_served T jobs run (span_at spans i).from (span_at spans i).until c.loop-span.got.items before
+          subst (λ (v : Vec ℕ Global). JobsServed T jobs run (span_at spans i).until v.items) (sym w.got-is)
+          (idle_served (due_of T jobs) (length jobs) run (span_at spans i).from (span_at spans i).until
+          c.loop-span.got.items before
           (omega (arith, here.some)) (λ x a b. here.holds x a b ∙ w.in_default.is))
     ])
 
@@ -104,7 +108,7 @@ returns c =
     let n : end_of spans c.loop-span.span-index ≡ length (run_of spans)
     = ap (end_of spans) (omega (arith, c.loop-span-test.false)) ∙ c.requires.spans.whole in
     all_served (sporadic_tasks c.args.tasks.now) c.args.jobs.now (run_of spans) c.loop-span.got.items
-    (subst (λ (m : ℕ). ServedTo (sporadic_tasks c.args.tasks.now) c.args.jobs.now (run_of spans) m
+    (subst (λ (m : ℕ). JobsServed (sporadic_tasks c.args.tasks.now) c.args.jobs.now (run_of spans) m
     c.loop-span.got.items) n c.loop-span.invariant)
 
 pub deadline_moment-due-requires-clause-in_jitter : goal.deadline_moment-due-requires-clause-in_jitter

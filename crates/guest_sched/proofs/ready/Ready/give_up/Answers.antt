@@ -1,40 +1,51 @@
-use Rattle.std.proofs.Common.{ℕ, ◌≤◌, List, length, get_or, arith, ap, subst}
+use Rattle.std.proofs.Common.{ℕ, ◌<◌, ◌≤◌, List, length, get_or, arith, ap, subst, sym}
+use Rattle.guest_sched.specs.inner.Places.{RemovesPlace}
+use Rattle.guest_sched.proofs.InOrder.{remove_removes}
 use Rattle.guest_sched.proofs.State.{all_in_jobs, one_ends}
 use Rattle.guest_sched.proofs.ready.Ready.give_up.Goals as goal
 
 pub find_ended-requires : goal.find_ended-requires
 find_ended-requires c k d l =
-    let s = c.loop-place.self in
+    let s = c.loop-at.self in
     omega (
       arith,
-      c.loop-place.invariant.state.same_jobs,
-      all_in_jobs s.releases.items s.released s.left.items s.ends.items s.ready.items s.soonest s.time
-          c.deref-in-loop-place.result.now c.loop-place.invariant.state c.deref-in-loop-place.ensures.value k d l,
+      c.loop-at.invariant.state.same_jobs,
+      all_in_jobs s.releases.items s.released s.keys.all.items s.left.items s.ends.items s.ready.items s.soonest s.time
+          c.deref-in-loop-at.result.now c.loop-at.invariant.state c.deref-in-loop-at.ensures.value k d l,
       ap (λ (z : List ℕ). length z) c.deref.ensures.value,
     )
 
 pub soonest_end-self-requires : goal.soonest_end-self-requires
 soonest_end-self-requires c k d l =
-    let s = c.loop-place.self in
+    let s = c.loop-at.self in
     omega (
       arith,
-      c.loop-place.invariant.state.same_jobs,
-      all_in_jobs s.releases.items s.released s.left.items s.ends.items s.ready.items s.soonest s.time
-          c.deref-3.result.now c.loop-place.invariant.state c.deref-3.ensures.value k d l,
+      c.loop-at.invariant.state.same_jobs,
+      all_in_jobs s.releases.items s.released s.keys.all.items s.left.items s.ends.items s.ready.items s.soonest s.time
+          c.deref-3.result.now c.loop-at.invariant.state c.deref-3.ensures.value k d l,
       ap (λ (z : List ℕ). length z) c.deref-2.ensures.value,
     )
 
-pub loop-place-preserved : goal.loop-place-preserved
-loop-place-preserved c =
-    let s = c.loop-place.self in
-    let i = c.loop-place.invariant in
-    let over : get_or s.ends.items c.in-Some.place 0 ≤ s.time
-    = subst (λ (z : List ℕ). get_or z c.in-Some.place 0 ≤ s.time) c.deref.ensures.value c.in-Some.ensures.1 in
+pub loop-at-preserved : goal.loop-at-preserved
+loop-at-preserved c =
+    let s = c.loop-at.self in
+    let i = c.loop-at.invariant in
+    let keys = s.keys.all.items in
+    let ready = s.ready.items in
+    let ended : (c.in-Some.at < length ready) × (get_or s.ends.items (get_or ready c.in-Some.at 0) 0 ≤ s.time)
+    = (
+      subst (λ (z : List ℕ). c.in-Some.at < length z) c.deref-in-loop-at.ensures.value c.in-Some.ensures.0,
+      subst (λ (z : List ℕ). get_or s.ends.items (get_or z c.in-Some.at 0) 0 ≤ s.time)
+          c.deref-in-loop-at.ensures.value (subst
+          (λ (z : List ℕ). get_or z (get_or c.deref-in-loop-at.result.now c.in-Some.at 0) 0 ≤ s.time)
+          c.deref.ensures.value c.in-Some.ensures.1),
+    ) in
     record {
       state =
-          one_ends s.releases.items s.released s.left.items s.ends.items s.ready.items s.soonest s.time c.in-Some.place
-          c.remove_place.new.places.items i.state over c.remove_place.ensures;
-      best = i.best;
+          one_ends s.releases.items s.released keys s.left.items s.ends.items ready s.soonest s.time
+          (get_or ready c.in-Some.at 0) c.remove.new.self.items i.state ended.1
+          (subst (RemovesPlace keys ready (get_or ready c.in-Some.at 0)) (sym c.remove.ensures.items)
+          (remove_removes keys ready c.in-Some.at i.state.by_key ended.0));
       time = i.time;
       releases = i.releases;
       released = i.released;

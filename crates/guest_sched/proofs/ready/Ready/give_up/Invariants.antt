@@ -1,12 +1,11 @@
-use Rattle.std.proofs.Common.{◌≡◌, length, None}
+use Rattle.std.proofs.Common.{◌≡◌, length}
 use Rattle.guest_sched.specs.inner.Ready.{IsReady}
 use Rattle.guest_sched.proofs.ready.Ready.give_up.Given as goal
 
 -- some of the jobs that end by now are given up
-abbrev pub invariant-loop-place : goal.invariant-loop-place
-invariant-loop-place l = record {
+abbrev pub invariant-loop-at : goal.invariant-loop-at
+invariant-loop-at l = record {
   state : IsReady l.self;
-  best : l.self.best ≡ None;
   time : l.self.time ≡ l.fn.self.time;
   releases : l.self.releases ≡ l.fn.self.releases;
   released : l.self.released ≡ l.fn.self.released;
@@ -15,5 +14,5 @@ invariant-loop-place l = record {
   keys : l.self.keys ≡ l.fn.self.keys;
 }
 
-abbrev pub decreases-loop-place : goal.decreases-loop-place
-decreases-loop-place l = length l.self.ready.items
+abbrev pub decreases-loop-at : goal.decreases-loop-at
+decreases-loop-at l = length l.self.ready.items

@@ -1,7 +1,7 @@
-use Rattle.std.proofs.Common.{refl, arith}
+use Rattle.std.proofs.Common.{ℕ, Option, true, refl, arith, subst, sym}
 use Rattle.slot_model.specs.Task.{sporadic_tasks}
+use Rattle.guest_sched.specs.inner.Ready.{IsServed}
 use Rattle.guest_sched.proofs.State.{all_in_jobs}
-use Rattle.guest_sched.proofs.Best.{best_stays}
 use Rattle.guest_sched.proofs.ready.Ready.serve.Goals as goal
 
 pub choose-requires-clause-in_jobs : goal.choose-requires-clause-in_jobs
@@ -10,11 +10,11 @@ choose-requires-clause-in_jobs g c k d l =
     omega (
       arith,
       c.requires.all_jobs,
-      all_in_jobs s.releases.items s.released s.left.items s.ends.items s.ready.items s.soonest s.time
+      all_in_jobs s.releases.items s.released s.keys.all.items s.left.items s.ends.items s.ready.items s.soonest s.time
           s.ready.items c.requires.state refl k d l,
     )
 
-pub returns-in-Some-clause-best : goal.returns-in-Some-clause-best
-returns-in-Some-clause-best g c =
-    best_stays (g.O.Order.goes c.args.order.now (sporadic_tasks c.args.tasks.now)) c.args.jobs.now c.choose.new.self
-    c.give.new.self c.choose.ensures.best c.give.ensures.best
+pub returns-in-Some-clause-served : goal.returns-in-Some-clause-served
+returns-in-Some-clause-served g c =
+    subst (λ (o : Option ℕ). IsServed (g.O.Order.goes c.args.order.now (sporadic_tasks c.args.tasks.now))
+    c.args.jobs.now c.args.self.now.ready.items true o) (sym c.give.ensures.job) c.in-Some.ensures.1

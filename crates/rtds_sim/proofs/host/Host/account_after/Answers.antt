@@ -15,6 +15,7 @@ returns c =
     = part_here sys c.parts.result.now v c.index-parts-v.result c.parts.ensures.parts
     (omega (arith, c.requires.is_part, ap (λ (ps : List PartView). length ps) c.parts.ensures.parts))
     c.index-parts-v.is in
-    taken_is c.args.row.what c.taking.result c.account_of.result (account_at c.args.self.now.accounts v) c.args.row.at
+    taken_is c.args.row.what c.taking.result c.account.result (account_at c.args.self.now.vcpus.accounts v)
+    c.args.row.at
     c.period.result c.budget_of.result (part_at sys v).period (budget_at c.args.plan.now v) c.taking.ensures
-    c.account_of.ensures (c.period.ensures ∙ ap (λ (p : PartView). p.period) part) c.budget_of.ensures
+    c.account.ensures (c.period.ensures ∙ ap (λ (p : PartView). p.period) part) c.budget_of.ensures

@@ -1,31 +1,23 @@
 use Rattle.std.proofs.Common.{ℕ, ◌<◌, length, ap, arith}
-use Rattle.tree_model.specs.declared.place.Place.TheVariants.{Core}
-use Rattle.tree_model.specs.Tree.{is_child}
 use Rattle.rtds_queues.specs.declared.account.Account.{Account}
-use Rattle.rtds_sim.proofs.Firsts.{first_least, first_later}
+use Rattle.rtds_queues.proofs.Firsts.{first_later}
 use Rattle.rtds_sim.proofs.host.Host.next_change.Goals as goal
 
 pub returns-in-Some-clause-ends : goal.returns-in-Some-clause-ends
 returns-in-Some-clause-ends c v l child =
-    let all = c.requires.by_end in
     omega (
       arith,
       c.min.ensures,
       c.min-end.ensures,
-      c.first_end.ensures,
-      first_least (is_child c.args.sys.now (Core c.args.core)) (length c.args.sys.now.parts) c.args.self.now.accounts
-          c.args.vcpus.now all.all all.order v l child,
+      c.first_end.ensures.least v l child,
     )
 
 pub returns-in-None-clause-ends : goal.returns-in-None-clause-ends
 returns-in-None-clause-ends c v l child =
-    let all = c.requires.by_end in
     omega (
       arith,
       c.min-end.ensures,
-      c.first_end.ensures,
-      first_least (is_child c.args.sys.now (Core c.args.core)) (length c.args.sys.now.parts) c.args.self.now.accounts
-          c.args.vcpus.now all.all all.order v l child,
+      c.first_end.ensures.least v l child,
     )
 
 pub returns-in-Some-clause-later : goal.returns-in-Some-clause-later
@@ -37,13 +29,11 @@ returns-in-Some-clause-later c =
       arith,
       c.min.ensures,
       c.min-end.ensures,
-      c.first_end.ensures,
       c.requires.in_time,
       (c.requires.ready.sound v part).some_left,
-      ap (λ (a : Account). a.left) c.account_of.ensures,
-      first_later (is_child c.args.sys.now (Core c.args.core)) (length c.args.sys.now.parts) c.args.self.now.accounts
-          c.args.vcpus.now c.args.at c.requires.by_end.all
-          (omega (arith, c.requires.in_time, c.requires.in_limit)) c.requires.ends,
+      ap (λ (a : Account). a.left) c.account.ensures,
+      first_later c.args.sys.now c.args.self.now.vcpus.accounts c.args.core c.args.at c.first_end.result
+          c.first_end.ensures (omega (arith, c.requires.in_time, c.requires.in_limit)) c.requires.ends,
     )
 
 pub returns-in-None-clause-later : goal.returns-in-None-clause-later
@@ -51,9 +41,7 @@ returns-in-None-clause-later c =
     omega (
       arith,
       c.min-end.ensures,
-      c.first_end.ensures,
       c.requires.in_time,
-      first_later (is_child c.args.sys.now (Core c.args.core)) (length c.args.sys.now.parts) c.args.self.now.accounts
-          c.args.vcpus.now c.args.at c.requires.by_end.all
-          (omega (arith, c.requires.in_time, c.requires.in_limit)) c.requires.ends,
+      first_later c.args.sys.now c.args.self.now.vcpus.accounts c.args.core c.args.at c.first_end.result
+          c.first_end.ensures (omega (arith, c.requires.in_time, c.requires.in_limit)) c.requires.ends,
     )

@@ -1,11 +1,11 @@
 use Rattle.std.proofs.Common.{◌≡◌, ℕ, ◌-◌, ◌<◌, ◌≤◌, List, length, Option, refl, ◌∙◌, ap, arith, subst}
 use Rattle.slot_model.specs.Run.{holds}
-use Rattle.tree_model.specs.declared.place.Place.TheVariants.{Core}
 use Rattle.tree_model.specs.System.{part_at}
-use Rattle.tree_model.specs.Tree.{is_child, budget_at}
+use Rattle.tree_model.specs.Tree.{budget_at}
 use Rattle.rtds_queues.specs.declared.account.Account.{Account}
 use Rattle.rtds_queues.specs.Accounts.{account_at}
-use Rattle.rtds_sim.specs.inner.Accounts.{holder_at, gone_on, NoEndBefore}
+use Rattle.rtds_sim.specs.inner.Accounts.{holder_at, gone_on}
+use Rattle.rtds_queues.specs.Vcpus.{NoEndBefore}
 use Rattle.rtds_sim.proofs.CoreRuns.{keeps_all, keeps_more, stands_first, stands_last, stands_on, gone_few}
 use Rattle.rtds_sim.proofs.host.Host.run_core.Goals as goal
 
@@ -15,13 +15,6 @@ loop-at-init c = record {
       λ rows n k run u. stands_first c.args.sys.now c.args.plan.now rows n c.args.core run c.args.from
       c.args.self.now.time k c.args.self.now c.args.self.now c.args.told.now.items refl refl u;
   ready = c.requires.ready;
-  by_end =
-      record {
-        all =
-            c.sort.ensures.all (is_child c.args.sys.now (Core c.args.core)) (length c.args.sys.now.parts)
-            c.requires.vcpus;
-        order = c.sort.ensures.order;
-      };
   since = omega arith;
   in_time = omega (arith, c.requires.later);
   few = c.requires.few;
@@ -42,11 +35,12 @@ loop-at-preserved c =
     let switched = c.switch.new.self in
     let new = c.bring.new.self in
     let brought = c.bring.ensures in
-    let same : switched.accounts ≡ old.accounts = on.accounts in
+    let same : switched.vcpus.accounts ≡ old.vcpus.accounts = on.accounts in
     let holder : Option ℕ = holder_at switched.holders core in
     let gone : (v : ℕ) → v < length sys.parts → _
-    → account_at new.accounts v
-    ≡ gone_on (account_at old.accounts v) (holds holder v) (next - at) (part_at sys v).period (budget_at budgets v) next
+    → account_at new.vcpus.accounts v
+    ≡ gone_on (account_at old.vcpus.accounts v) (holds holder v) (next - at) (part_at sys v).period
+    (budget_at budgets v) next
     = λ v l child.
     brought.own v l child
     ∙ ap (λ (xs : List Account). gone_on (account_at xs v) (holds holder v) (next - at) (part_at sys v).period
@@ -66,13 +60,13 @@ loop-at-preserved c =
           ))
           new c.switch.new.told.items gone brought.holder on.told;
       ready = brought.ready;
-      by_end = brought.by_end;
       since = omega (arith, so_far.since, c.next_change-next.ensures.later);
       in_time = in_time;
       few =
           λ v l child. omega (
             arith,
-            gone_few (account_at old.accounts v) (holds holder v) at next (part_at sys v).period (budget_at budgets v)
+            gone_few (account_at old.vcpus.accounts v) (holds holder v) at next (part_at sys v).period
+                (budget_at budgets v)
                 (so_far.few v l child) c.next_change-next.ensures.later,
             ap (λ (a : Account). a.level) (gone v l child),
           );

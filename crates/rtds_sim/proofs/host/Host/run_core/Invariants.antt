@@ -1,7 +1,7 @@
 use Rattle.std.proofs.Common.{ℕ, suc, ◌-◌, ◌≤◌, List, Option}
 use Rattle.release_file.specs.declared.workload.Wake.{Wake as Row}
-use Rattle.rtds_sim.specs.inner.Accounts.{IsReady, NoEndBefore, NoneAbove}
-use Rattle.rtds_sim.specs.inner.ByEnd.{AreByEnd}
+use Rattle.rtds_sim.specs.inner.Accounts.{IsReady, NoneAbove}
+use Rattle.rtds_queues.specs.Vcpus.{NoEndBefore}
 use Rattle.rtds_sim.specs.inner.Running.{IsUnderway, KeepsOthers}
 use Rattle.rtds_sim.proofs.CoreRuns.{StandsAt}
 use Rattle.rtds_sim.proofs.host.Host.run_core.Given as goal
@@ -14,11 +14,10 @@ invariant-loop-at l = record {
       → StandsAt l.sys l.plan rows l.core run l.from l.initial.self.time k l.at l.self
       l.initial.told.items l.told.items;
   ready : IsReady l.sys l.self;
-  by_end : AreByEnd l.sys l.core l.self.accounts l.vcpus;
   since : l.from ≤ l.at;
   in_time : l.at ≤ l.initial.self.time;
-  few : NoneAbove l.sys l.self.accounts l.core l.at;
-  ends : NoEndBefore l.sys l.self.accounts l.core (suc l.at);
+  few : NoneAbove l.sys l.self.vcpus.accounts l.core l.at;
+  ends : NoEndBefore l.sys l.self.vcpus.accounts l.core (suc l.at);
   keeps : KeepsOthers l.sys l.core l.initial.self l.self;
 }
 

@@ -1,7 +1,6 @@
 use Rattle.std.proofs.Common.{◌≡◌, ◌≢◌, ℕ, suc, ◌<◌, true, List, [], length, set, Vec, Global, refl, sym, ◌∙◌, ap, arith, subst, inl, inr}
-use Rattle.std.specs.Vec.{with_items}
 use Rattle.std.proofs.lemmas.Bool.{cases_eq}
-use Rattle.std.proofs.lemmas.List.{length-set, with_items_is}
+use Rattle.std.proofs.lemmas.List.{length-set}
 use Rattle.tree_model.specs.declared.pinned_core.Core.{Core as CoreView}
 use Rattle.tree_model.specs.declared.place.Place.TheVariants.{Core}
 use Rattle.tree_model.specs.Tree.{is_child}
@@ -9,11 +8,10 @@ use Rattle.trace_file.specs.declared.event.Event.{Event}
 use Rattle.rtds_queues.specs.declared.account.Account.{Account}
 use Rattle.rtds_sim.specs.declared.host.Host.{Host}
 use Rattle.rtds_queues.specs.Accounts.{account_at}
-use Rattle.rtds_sim.specs.inner.Accounts.{NoEndBefore}
-use Rattle.rtds_sim.specs.inner.Members.{AreAll}
+use Rattle.rtds_queues.specs.Vcpus.{NoEndBefore}
 use Rattle.rtds_sim.specs.inner.Running.{IsUnderway, HasRun}
-use Rattle.rtds_sim.specs.inner.Lists.{list_at}
-use Rattle.rtds_sim.proofs.Lists.{list_read, list_here, list_there}
+use Rattle.rtds_queues.specs.Lists.{list_at}
+use Rattle.rtds_queues.proofs.Lists.{list_read, list_here, list_there}
 use Rattle.rtds_queues.proofs.Queueing.{on_one_core}
 use Rattle.rtds_sim.proofs.Ready.{ready_later}
 use Rattle.rtds_sim.proofs.CoreRuns.{underway_same, has_run_same, end_same}
@@ -24,7 +22,6 @@ loop-c-init c = record {
   run = λ rows n k d run l. absurd (omega (arith, l));
   ready =
       ready_later c.args.sys.now c.args.self.now c.args.to (omega (arith, c.requires.later)) c.requires.ready;
-  members = c.requires.members;
   ends = λ d l. absurd (omega (arith, l));
   same = λ v l none. refl;
   holders = λ d l. refl;
@@ -34,20 +31,9 @@ loop-c-init c = record {
   taken = refl;
 }
 
-pub run_core-requires-clause-vcpus : goal.run_core-requires-clause-vcpus
-run_core-requires-clause-vcpus c =
-    let i : ℕ = c.loop-c.c in
-    let within : i < length c.args.sys.now.cores
-    = omega (arith, c.loop-c-test.true, ap (λ (xs : List CoreView). length xs) c.cores-c-end.ensures.cores) in
-    subst (AreAll (is_child c.args.sys.now (Core i)) (length c.args.sys.now.parts))
-    (list_read c.loop-c.members.lists.items i c.index_mut-vcpus.result.now
-    (omega (arith, within, c.loop-c.invariant.members.one_each)) c.index_mut-vcpus.ensures.value
-    ∙ sym c.deref_mut.ensures.value)
-    (c.loop-c.invariant.members.lists i within)
-
 pub run_core-requires-clause-few : goal.run_core-requires-clause-few
 run_core-requires-clause-few c v l child =
-    let same : account_at c.loop-c.self.accounts v ≡ account_at c.args.self.now.accounts v
+    let same : account_at c.loop-c.self.vcpus.accounts v ≡ account_at c.args.self.now.vcpus.accounts v
     = c.loop-c.invariant.same v l
     (λ d m. on_one_core c.args.sys.now c.loop-c.c d v (λ q. omega (arith, q, m)) child) in
     omega (arith, ap (λ (a : Account). a.level) same, (c.requires.ready.sound v l).few)
@@ -57,7 +43,7 @@ run_core-requires-clause-ends c =
     let i : ℕ = c.loop-c.c in
     let within : i < length c.args.sys.now.cores
     = omega (arith, c.loop-c-test.true, ap (λ (xs : List CoreView). length xs) c.cores-c-end.ensures.cores) in
-    end_same c.args.sys.now c.args.self.now.accounts c.loop-c.self.accounts i (suc c.args.self.now.time)
+    end_same c.args.sys.now c.args.self.now.vcpus.accounts c.loop-c.self.vcpus.accounts i (suc c.args.self.now.time)
     (λ v l child. c.loop-c.invariant.same v l
     (λ d m. on_one_core c.args.sys.now i d v (λ q. omega (arith, q, m)) child)) (c.requires.ends i within)
 
@@ -73,8 +59,6 @@ loop-c-preserved c =
     let old = c.loop-c.self in
     let new = c.run_core.new.self in
     let ran = c.in_ok-run_core.ensures in
-    let vcpus : List (Vec ℕ Global) = c.loop-c.members.lists.items in
-    let vcpus_run : Vec ℕ Global = with_items c.index_mut-vcpus.result.now c.run_core.new.vcpus in
     let lists : List (Vec Event Global) = c.loop-c.switches.lists.items in
     let room : i < length lists = omega (arith, within, so_far.one_each) in
     let own : List Event = c.index_mut.result.now.items in
@@ -83,10 +67,10 @@ loop-c-preserved c =
     ∙ so_far.empty i (omega arith) in
     -- the accounts of core i are as they were, and those of the others stay
     let kept : (v : ℕ) → v < length sys.parts → is_child sys (Core i) v ≡ true
-    → account_at old.accounts v ≡ account_at first.accounts v
+    → account_at old.vcpus.accounts v ≡ account_at first.vcpus.accounts v
     = λ v l child. so_far.same v l (λ d m. on_one_core sys i d v (λ q. omega (arith, q, m)) child) in
     let stays : (d : ℕ) → d ≢ i → (v : ℕ) → v < length sys.parts → is_child sys (Core d) v ≡ true
-    → account_at new.accounts v ≡ account_at old.accounts v
+    → account_at new.vcpus.accounts v ≡ account_at old.vcpus.accounts v
     = λ d ne v l child. ran.keeps.accounts v l (on_one_core sys d i v (λ q. ne (sym q)) child) in
     record {
       run = λ rows n k d run l u. elim (cases_eq d i) [
@@ -112,28 +96,12 @@ loop-c-preserved c =
             (list_there lists i d c.run_core.new.told ne) (so_far.run rows n k d run (omega (arith, l, ne)) u)
       ];
       ready = ran.ready;
-      members = record {
-        one_each = length-set vcpus i vcpus_run ∙ so_far.members.one_each;
-        lists = λ d l. elim (cases_eq d i) [
-          | inl e ↦
-              subst (λ (z : ℕ). AreAll (is_child sys (Core z)) (length sys.parts) (list_at (set vcpus i vcpus_run) z))
-              (sym e)
-              (subst (AreAll (is_child sys (Core i)) (length sys.parts))
-              (sym (list_here vcpus i vcpus_run (omega (arith, within, so_far.members.one_each))))
-              (subst (AreAll (is_child sys (Core i)) (length sys.parts))
-              (sym (with_items_is c.index_mut-vcpus.result.now c.run_core.new.vcpus
-              (omega (arith, c.run_core.auto.vcpus, c.deref_mut.ensures.len)))) ran.vcpus))
-          | inr ne ↦
-              subst (AreAll (is_child sys (Core d)) (length sys.parts)) (sym (list_there vcpus i d vcpus_run ne))
-              (so_far.members.lists d l)
-        ];
-      };
       ends = λ d l. elim (cases_eq d i) [
         | inl e ↦
-            subst (λ (z : ℕ). NoEndBefore sys new.accounts z (suc c.args.to)) (sym e)
-            (subst (λ (y : ℕ). NoEndBefore sys new.accounts i (suc y)) so_far.time ran.ends)
+            subst (λ (z : ℕ). NoEndBefore sys new.vcpus.accounts z (suc c.args.to)) (sym e)
+            (subst (λ (y : ℕ). NoEndBefore sys new.vcpus.accounts i (suc y)) so_far.time ran.ends)
         | inr ne ↦
-            end_same sys old.accounts new.accounts d (suc c.args.to) (stays d ne)
+            end_same sys old.vcpus.accounts new.vcpus.accounts d (suc c.args.to) (stays d ne)
             (so_far.ends d (omega (arith, l, ne)))
       ];
       same = λ v l none. ran.keeps.accounts v l (none i (omega arith))
@@ -157,6 +125,6 @@ returns-clause-run c rows n k d run l u =
 
 pub returns-clause-ends : goal.returns-clause-ends
 returns-clause-ends c d l =
-    subst (λ (y : ℕ). NoEndBefore c.args.sys.now c.loop-c.self.accounts d (suc y)) (sym c.loop-c.invariant.time)
+    subst (λ (y : ℕ). NoEndBefore c.args.sys.now c.loop-c.self.vcpus.accounts d (suc y)) (sym c.loop-c.invariant.time)
     (c.loop-c.invariant.ends d
     (omega (arith, l, c.loop-c-test.false, ap (λ (xs : List CoreView). length xs) c.cores-c-end.ensures.cores)))

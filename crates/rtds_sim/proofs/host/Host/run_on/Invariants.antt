@@ -3,10 +3,10 @@ use Rattle.tree_model.specs.declared.place.Place.TheVariants.{Core}
 use Rattle.tree_model.specs.Tree.{is_child}
 use Rattle.release_file.specs.declared.workload.Wake.{Wake as Row}
 use Rattle.rtds_queues.specs.Accounts.{account_at}
-use Rattle.rtds_sim.specs.inner.Accounts.{holder_at, IsReady, NoEndBefore}
-use Rattle.rtds_sim.specs.inner.Members.{AreMembers}
+use Rattle.rtds_sim.specs.inner.Accounts.{holder_at, IsReady}
+use Rattle.rtds_queues.specs.Vcpus.{NoEndBefore}
 use Rattle.rtds_sim.specs.inner.Running.{IsUnderway, HasRun}
-use Rattle.rtds_sim.specs.inner.Lists.{list_at}
+use Rattle.rtds_queues.specs.Lists.{list_at}
 use Rattle.rtds_sim.proofs.host.Host.run_on.Given as goal
 
 -- the cores so far have run, and the others are as they were
@@ -16,10 +16,9 @@ invariant-loop-c l = record {
       → IsUnderway l.sys l.plan rows n d run l.from l.to k l.initial.self
       → HasRun l.sys l.plan rows d run l.from l.to k l.self [] (list_at l.switches.lists.items d);
   ready : IsReady l.sys l.self;
-  members : AreMembers l.sys l.members;
-  ends : (d : ℕ) → d < l.c → NoEndBefore l.sys l.self.accounts d (suc l.to);
+  ends : (d : ℕ) → d < l.c → NoEndBefore l.sys l.self.vcpus.accounts d (suc l.to);
   same : (v : ℕ) → v < length l.sys.parts → ((d : ℕ) → d < l.c → is_child l.sys (Core d) v ≡ false)
-      → account_at l.self.accounts v ≡ account_at l.initial.self.accounts v;
+      → account_at l.self.vcpus.accounts v ≡ account_at l.initial.self.vcpus.accounts v;
   holders : (d : ℕ) → l.c ≤ d → holder_at l.self.holders d ≡ holder_at l.initial.self.holders d;
   one_each : length l.switches.lists.items ≡ length l.sys.cores;
   empty : (d : ℕ) → l.c ≤ d → list_at l.switches.lists.items d ≡ [];

@@ -1,6 +1,6 @@
 use Rattle.std.proofs.Common.{◌≡◌, ◌<◌, length, refl, sym, ◌∙◌, arith, subst}
-use Rattle.rtds_sim.specs.inner.Accounts.{holder_at, IsChoice}
-use Rattle.rtds_sim.proofs.Choices.{first_choice}
+use Rattle.rtds_sim.specs.inner.Accounts.{holder_at}
+use Rattle.rtds_queues.specs.Vcpus.{IsChoice}
 use Rattle.rtds_sim.proofs.CoreRuns.{keeps_all}
 use Rattle.rtds_sim.proofs.Stopping.{set_here, set_there}
 use Rattle.rtds_sim.proofs.Visits.{no_switch}
@@ -11,10 +11,9 @@ returns-in_ok-push-clause-chosen c =
     let old = c.args.self.now in
     let room : c.args.core < length old.holders
     = omega (arith, c.requires.is_core, c.requires.ready.room.all_cores, c.requires.ready.room.few_cores) in
-    subst (IsChoice c.args.sys.now old.accounts c.args.core)
+    subst (IsChoice c.args.sys.now old.vcpus.accounts c.args.core)
     (sym (set_here old.holders c.args.core c.first_of-next.result room))
-    (first_choice c.args.sys.now old c.requires.ready c.args.core c.first_of-next.result
-    (c.first_of-next.ensures old.accounts c.requires.ready.listed))
+    c.first_of-next.ensures
 
 pub returns-in_default-clause-chosen : goal.returns-in_default-clause-chosen
 returns-in_default-clause-chosen c =
@@ -22,9 +21,8 @@ returns-in_default-clause-chosen c =
     let keeps : holder_at old.holders c.args.core ≡ c.first_of-next.result
     = no_switch c.args.core c.args.at (holder_at old.holders c.args.core) c.first_of-next.result
     (sym c.switch_event.ensures ∙ c.in_default.is) in
-    subst (IsChoice c.args.sys.now old.accounts c.args.core) (sym keeps)
-    (first_choice c.args.sys.now old c.requires.ready c.args.core c.first_of-next.result
-    (c.first_of-next.ensures old.accounts c.requires.ready.listed))
+    subst (IsChoice c.args.sys.now old.vcpus.accounts c.args.core) (sym keeps)
+    c.first_of-next.ensures
 
 pub returns-in_ok-push-clause-keeps : goal.returns-in_ok-push-clause-keeps
 returns-in_ok-push-clause-keeps c = record {

@@ -13,12 +13,12 @@ pub loop-self-preserved : goal.loop-self-preserved
 loop-self-preserved c =
     let rows = c.args.rows.now in
     let k = c.loop-self.self.taken in
-    let old = c.loop-self.self.accounts in
+    let old = c.loop-self.self.vcpus.accounts in
     let at : (row_at rows k).at ≡ c.args.self.now.time
     = ap (λ (r : Wake). r.at) (sym c.row_at.ensures) ∙ (c.if-row_at-self.true ∙ c.loop-self.invariant.time) in
     let sys = c.args.sys.now in
     let budgets = c.args.plan.now in
-    let new : c.take.new.self.accounts ≡ set old (row_at rows k).vcpu (own_taken sys budgets rows old k)
+    let new : c.take.new.self.vcpus.accounts ≡ set old (row_at rows k).vcpu (own_taken sys budgets rows old k)
     = c.take.ensures.accounts
     ∙ ap (λ (r : Wake). set old r.vcpu (row_taken r.what (r.at + (part_at sys r.vcpu).period) (budget_at budgets r.vcpu)
     (account_at old r.vcpu))) c.row_at-in-loop-self.ensures in
@@ -36,7 +36,7 @@ loop-self-preserved c =
           ];
       accounts =
           λ runs w a. subst
-          (λ (n : ℕ). AreAccounts sys budgets rows runs c.args.self.now.time n c.take.new.self.accounts)
+          (λ (n : ℕ). AreAccounts sys budgets rows runs c.args.self.now.time n c.take.new.self.vcpus.accounts)
           (sym c.take.ensures.taken)
           (subst (AreAccounts sys budgets rows runs c.args.self.now.time (k + 1)) (sym new)
           (accounts_more sys budgets rows w runs c.args.self.now.time k old c.requires.plan c.loop-self-test.true at

@@ -12,8 +12,8 @@ invariant-loop-self l = record {
   later : l.initial.self.taken ≤ l.self.taken;
   now : (i : ℕ) → l.initial.self.taken ≤ i → i < l.self.taken → (row_at l.rows i).at ≡ l.initial.self.time;
   accounts : (runs : List (List (Option ℕ))) → IsWorkload l.sys l.rows
-      → AreAccounts l.sys l.plan l.rows runs l.initial.self.time l.initial.self.taken l.initial.self.accounts
-      → AreAccounts l.sys l.plan l.rows runs l.initial.self.time l.self.taken l.self.accounts;
+      → AreAccounts l.sys l.plan l.rows runs l.initial.self.time l.initial.self.taken l.initial.self.vcpus.accounts
+      → AreAccounts l.sys l.plan l.rows runs l.initial.self.time l.self.taken l.self.vcpus.accounts;
   time : l.self.time ≡ l.initial.self.time;
   holders : l.self.holders ≡ l.initial.self.holders;
 }

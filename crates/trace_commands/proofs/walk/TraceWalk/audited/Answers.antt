@@ -1,21 +1,27 @@
 use Rattle.std.proofs.Common.{subst, sym}
+use Rattle.std.proofs.lemmas.Result.{IfOk-at_ok}
 use Rattle.slot_model.proofs.HandedOn.{err_is}
 use Rattle.trace_file.specs.Fed.{HasChecked}
 use Rattle.trace_commands.specs.inner.Walk.{IsWaiting}
 use Rattle.trace_commands.proofs.Walked.{checking, unspelled, waited}
 use Rattle.trace_commands.proofs.walk.TraceWalk.audited.Goals as goal
 
-pub returns-in_err-checked-in-Checks-clause-refused : goal.returns-in_err-checked-in-Checks-clause-refused
-returns-in_err-checked-in-Checks-clause-refused c sys bytes h =
+pub finish-requires : goal.finish-requires
+finish-requires c =
+    let (sys, bytes, h) = c.requires in
+    (sys, bytes, subst (HasChecked sys bytes) (sym c.in-Checks.check-is) (checking sys bytes _ _ _ c.in-Checks.is h).0)
+
+pub returns-in_err-finished-in-Checks-clause-refused : goal.returns-in_err-finished-in-Checks-clause-refused
+returns-in_err-finished-in-Checks-clause-refused c sys bytes h =
     let taken = checking sys bytes _ _ _ c.in-Checks.is h in
     rw (err_is c.from_residual.result _ c.from_residual.ensures.1)
-    (unspelled sys bytes _ (c.in_err-checked-in-Checks.ensures.refused sys bytes
-    (subst (HasChecked sys bytes) (sym c.in-Checks.check-is) taken.0)))
+    (unspelled sys bytes _ (c.in_err-finished-in-Checks.ensures.refused sys bytes
+    (c.finish.ensures.fault sys bytes (subst (HasChecked sys bytes) (sym c.in-Checks.check-is) taken.0))))
 
-pub returns-in_ok-checked-in-Checks-clause-refused : goal.returns-in_ok-checked-in-Checks-clause-refused
-returns-in_ok-checked-in-Checks-clause-refused c sys bytes h =
+pub returns-in_ok-finished-in-Checks-clause-refused : goal.returns-in_ok-finished-in-Checks-clause-refused
+returns-in_ok-finished-in-Checks-clause-refused c sys bytes h =
     let taken = checking sys bytes _ _ _ c.in-Checks.is h in
-    waited sys bytes
-    (c.in_ok-checked-in-Checks.ensures.spelled sys bytes
-    (subst (HasChecked sys bytes) (sym c.in-Checks.check-is) taken.0))
-    _ (subst (IsWaiting sys) (sym c.in-Checks.refused-is) taken.1)
+    let kept = IfOk-at_ok _ c.in_ok-finished-in-Checks.ensures.value (c.finish.ensures.kept sys bytes
+    (subst (HasChecked sys bytes) (sym c.in-Checks.check-is) taken.0)) in
+    waited sys bytes (record { events = kept.0; spelled = kept.1 }) _
+    (subst (IsWaiting sys) (sym c.in-Checks.refused-is) taken.1)

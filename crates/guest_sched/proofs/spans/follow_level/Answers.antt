@@ -1,0 +1,274 @@
+use Rattle.std.proofs.Common.{◌≡◌, ◌≢◌, ℕ, ◌+◌, ◌-◌, ◌<◌, ◌≤◌, Bool, true, List, [], ◌++◌, Option, Some, None, length, get_or, replicate, refl, sym, ◌∙◌, ap, arith, subst, inl, inr, IfSome}
+use Rattle.std.specs.Prelude.{All}
+use Rattle.std.proofs.lemmas.Bool.{cases_eq}
+use Rattle.std.proofs.lemmas.List.{get_or_default, length-map}
+use Rattle.std.proofs.lemmas.Option.{same_Some}
+use Rattle.slot_model.specs.declared.job.Job.{Job}
+use Rattle.slot_model.specs.declared.task.Task.{Task}
+use Rattle.slot_model.specs.Task.{SporadicTask, default_job, task_at, sporadic_task, sporadic_tasks}
+use Rattle.slot_model.specs.Release.{LegalRelease}
+use Rattle.slot_model.specs.Run.{Level, FirstRunTo}
+use Rattle.slot_model.proofs.FirstRuns.{none_some}
+use Rattle.guest_sched.specs.declared.ready.Ready.{Ready}
+use Rattle.guest_sched.specs.inner.Keep.{level_of}
+use Rattle.guest_sched.specs.inner.Ready.{IsReady, HaveCome, AreToCome, HasKeys}
+use Rattle.guest_sched.proofs.Best.{keys_kept}
+use Rattle.guest_sched.specs.Spans.{Window, slots_of, entries_of, window_at, AreWindows}
+use Rattle.guest_sched.proofs.Given.{AreOver, slots-long, slot_at, none_given, all_given}
+use Rattle.guest_sched.proofs.State.{ready_in}
+use Rattle.guest_sched.proofs.Steps.{Kept, IsCurrent, Serves, AreGiven, kept_start, kept_gap, kept_more, served_stands}
+use Rattle.guest_sched.proofs.spans.follow_level.Goals as goal
+
+pub loop-at-init : goal.loop-at-init
+loop-at-init g c =
+    let before = g.O.Order.goes c.args.order.now (sporadic_tasks c.args.tasks.now) in
+    let T = sporadic_tasks c.args.tasks.now in
+    let made = c.in_ok-ready.ensures in
+    let ready = c.in_ok-ready.ready in
+    let kept : Kept (level_of c.args.keep) before T c.args.jobs.now (slots_of c.args.given.now c.args.slots) [] ready =
+    kept_start (level_of c.args.keep) before T c.args.jobs.now (slots_of c.args.given.now c.args.slots) ready
+    made.time made.releases made.state made.none_come made.left made.ends in
+    record {
+      so_far = ([], kept, c.requires.begins);
+      is_state = made.state;
+      come = kept.come;
+      long = kept.long;
+      takes = c.requires.takes;
+      same = refl;
+      keys = made.keys;
+      in_list = omega arith;
+      over = λ i l. absurd (omega arith);
+      next = λ l. omega (arith, made.time, c.requires.windows.some 0 l);
+      in_slots = omega (arith, made.time);
+    }
+
+in_jitter_each : (tasks : List SporadicTask) (jobs : List Job) → LegalRelease tasks jobs → (d : Job) (k : ℕ)
+    → k < length jobs → (get_or jobs k d).early ≤ (task_at tasks (get_or jobs k d).task).jitter
+in_jitter_each tasks jobs h d k l =
+    subst (λ (a : Job). a.early ≤ (task_at tasks a.task).jitter) (get_or_default jobs k default_job d l)
+    (h.in_jitter k l)
+
+named_each : (tasks : List Task) (jobs : List Job) → LegalRelease (sporadic_tasks tasks) jobs
+    → All (λ (a : Job). a.task < length tasks) jobs
+named_each tasks jobs h = λ k d l. omega (
+  arith,
+  h.named k l,
+  ap (λ (a : Job). a.task) (get_or_default jobs k d default_job l),
+  length-map tasks sporadic_task,
+)
+
+pub serve-span-requires-clause-in_jitter : goal.serve-span-requires-clause-in_jitter
+serve-span-requires-clause-in_jitter g c =
+    λ k d l. in_jitter_each (sporadic_tasks c.args.tasks.now) c.args.jobs.now c.requires.legal d k l
+
+pub serve-span-requires-clause-named : goal.serve-span-requires-clause-named
+serve-span-requires-clause-named g c = named_each c.args.tasks.now c.args.jobs.now c.requires.legal
+
+where_some : (o : Option ℕ) (P : ℕ → Type 0) → IfSome o P → (p : ℕ) → o ≡ Some p → P p
+where_some None P h p e = absurd (none_some None p refl e)
+where_some (Some q) P h p e = subst P (same_Some q p e) h
+
+some_where : (o : Option ℕ) (P : ℕ → Type 0) → ((p : ℕ) → o ≡ Some p → P p) → IfSome o P
+some_where None P h = tt
+some_where (Some p) P h = h p refl
+
+-- the keys where only the time goes by
+keys_later : (before : Job → Job → Bool) (jobs : List Job) (old new : Ready) → new ≡ record old { time = new.time }
+    → HasKeys before jobs old → HasKeys before jobs new
+keys_later before jobs old new same h = subst (λ (s : Ready). HasKeys before jobs s) (sym same) h
+
+-- the window of a moment, and the next one where it is over
+window_passed : (windows : List Window) (n at next from now : ℕ) → AreWindows windows n → at < length windows
+    → AreOver windows at from → from ≤ now → now ≤ (window_at windows at).until
+    → ((window_at windows at).until ≡ now → next ≡ at + 1) → ((window_at windows at).until ≢ now → next ≡ at)
+    → (next ≤ length windows) × AreOver windows next now
+    × (next < length windows → now < (window_at windows next).until)
+window_passed windows n at next from now h l over m u ends stays = elim (cases_eq (window_at windows at).until now) [
+  | inl e ↦ (
+    omega (arith, ends e),
+    (λ i k. elim (cases_eq i at) [
+      | inl q ↦
+          omega (arith, e, ap (λ (z : ℕ). (window_at windows z).until) q)
+      | inr ne ↦
+          omega (arith, over i (omega (arith, ends e)))
+    ]),
+    λ k. omega (
+      arith,
+      e,
+      ends e,
+      h.in_turn at (omega (arith, ends e)),
+      h.some (at + 1) (omega (arith, ends e)),
+      ap (λ (z : ℕ). (window_at windows z).until) (ends e),
+    ),
+  )
+  | inr ne ↦ (
+    omega (arith, stays ne),
+    (λ i k. omega (arith, over i (omega (arith, stays ne)))),
+    λ k. omega (arith, u, ne, stays ne, ap (λ (z : ℕ). (window_at windows z).until) (stays ne)),
+  )
+]
+
+pub serve-span-requires-clause-keys : goal.serve-span-requires-clause-keys
+serve-span-requires-clause-keys g c =
+    let before = g.O.Order.goes c.args.order.now (sporadic_tasks c.args.tasks.now) in
+    keys_kept before c.args.jobs.now c.pass_until.new.ready c.catch_up.new.self c.in_ok-catch_up.ensures.keys
+    (keys_later before c.args.jobs.now c.loop-at.ready c.pass_until.new.ready c.in_ok-pass_until.ensures.rest
+    c.loop-at.invariant.keys)
+
+pub pass_until-requires-clause-follows : goal.pass_until-requires-clause-follows
+pass_until-requires-clause-follows g c =
+    let s = c.loop-at.invariant.so_far in
+    (s.0, s.1.run_so_far.long, s.2)
+
+pub pass_until-requires-2-clause-follows : goal.pass_until-requires-2-clause-follows
+pass_until-requires-2-clause-follows g c =
+    let s = c.loop-at.invariant.so_far in
+    (s.0, s.1.run_so_far.long, s.2)
+
+pub add-requires-clause-is_taken : goal.add-requires-clause-is_taken
+add-requires-clause-is_taken g c =
+    let came = c.catch_up.new.self in
+    let caught = c.in_ok-catch_up.ensures in
+    let before = g.O.Order.goes c.args.order.now (sporadic_tasks c.args.tasks.now) in
+    let begun = c.pass_until.new.ready in
+    let passed = c.in_ok-pass_until.ensures in
+    some_where c.serve-span.result.job (λ j. g.F.Follow.takes c.pass_until.new.follower j) (λ j e.
+    passed.takes j (c.loop-at.invariant.takes j (omega (
+      arith,
+      ready_in came.releases.items came.released came.keys.all.items came.left.items came.ends.items came.ready.items
+          came.soonest came.time caught.state j
+          (served_stands before c.args.jobs.now came.ready.items true c.serve-span.result.job j
+          c.serve-span.ensures.served e),
+      ap (λ v. length v.items) caught.left,
+      ap (λ (s : Ready). length s.left.items) passed.rest,
+      c.loop-at.invariant.long,
+    ))))
+
+-- what is kept of the run up to a window
+over_gap : (level : Level) (before : Job → Job → Bool) (tasks : List SporadicTask) (jobs : List Job)
+    (windows : List Window) (n at from : ℕ) (run : List (Option ℕ)) (old begun : Ready) → AreWindows windows n
+    → at < length windows → AreOver windows at old.time → from ≡ (window_at windows at).from
+    → Kept level before tasks jobs (slots_of windows n) run old → begun ≡ record old { time = begun.time }
+    → begun.time ≡ old.time + (from - old.time) → IsReady begun
+    → Kept level before tasks jobs (slots_of windows n) (run ++ replicate (from - old.time) None) begun
+over_gap level before tasks jobs windows n at from run old begun h inside over e kept rest time state =
+    kept_gap level before tasks jobs (slots_of windows n) run (run ++ replicate (from - old.time) None) old begun from
+    kept (λ x a b. slot_at windows n x (omega (arith, e, h.some at inside, h.in_slots at inside))
+    ∙ none_given windows n at old.time x h over a (λ l. omega (arith, e, b))) rest time state refl
+
+pub add-requires-clause-joins : goal.add-requires-clause-joins
+add-requires-clause-joins g c =
+    let i = c.loop-at.invariant in
+    let passed = c.in_ok-pass_until.ensures in
+    let run = i.so_far.0 in
+    let gap = over_gap (level_of c.args.keep) (g.O.Order.goes c.args.order.now (sporadic_tasks c.args.tasks.now))
+    (sporadic_tasks c.args.tasks.now) c.args.jobs.now c.args.given.now c.args.slots c.loop-at.at
+    (window_at c.args.given.now c.loop-at.at).from run c.loop-at.ready c.pass_until.new.ready c.requires.windows
+    c.loop-at-test.true i.over refl i.so_far.1 passed.rest passed.time passed.state in (
+      run ++ replicate ((window_at c.args.given.now c.loop-at.at).from - c.loop-at.ready.time) None,
+      gap.run_so_far.long ∙ sym c.in_ok-catch_up.ensures.time ∙ sym c.serve-span.ensures.from,
+      passed.followed run i.so_far.1.run_so_far.long i.so_far.2,
+    )
+
+pub loop-at-preserved : goal.loop-at-preserved
+loop-at-preserved g c =
+    let before = g.O.Order.goes c.args.order.now (sporadic_tasks c.args.tasks.now) in
+    let T = sporadic_tasks c.args.tasks.now in
+    let windows = c.args.given.now in
+    let n = c.args.slots in
+    let slots = slots_of windows n in
+    let at = c.loop-at.at in
+    let i = c.loop-at.invariant in
+    let old = c.loop-at.ready in
+    let run = i.so_far.0 in
+    let begun = c.pass_until.new.ready in
+    let passed = c.in_ok-pass_until.ensures in
+    let came = c.catch_up.new.self in
+    let caught = c.in_ok-catch_up.ensures in
+    let after = c.serve-span.new.self in
+    let served = c.serve-span.ensures in
+    let span = c.serve-span.result in
+    let inside : at < length windows = c.loop-at-test.true in
+    let from = (window_at windows at).from in
+    let until = (window_at windows at).until in
+    let passing : List (Option ℕ) = run ++ replicate (from - old.time) None in
+    let gap : Kept (level_of c.args.keep) before T c.args.jobs.now slots passing begun =
+    over_gap (level_of c.args.keep) before T c.args.jobs.now windows n at from run old begun c.requires.windows inside
+    i.over refl i.so_far.1 passed.rest passed.time passed.state in
+    let some : until ≤ n = c.requires.windows.in_slots at inside in
+    let later : begun.time < until = omega (arith, passed.time, i.next inside, c.requires.windows.some at inside) in
+    let current : IsCurrent came = record {
+      is_state = caught.state;
+      come = subst (HaveCome came) (sym caught.time) caught.come;
+      to_come = subst (AreToCome came) (sym caught.time) caught.to_come;
+      none_over = caught.none_over;
+      early = omega (arith, caught.time, later, some, c.ranges.slots.fits);
+    } in
+    let serves : Serves before c.args.jobs.now came span after = record {
+      from = served.from;
+      some = served.some;
+      served = served.served;
+      steady = served.steady;
+      enough = where_some span.job (λ p. span.until - came.time ≤ get_or came.left.items p 0) served.enough;
+      left = served.left;
+      is_state = served.state;
+      time = served.time;
+      releases = ap (λ v. v.items) served.releases;
+      released = served.released;
+      ends = ap (λ v. v.items) served.ends;
+    } in
+    let given : AreGiven slots begun.time span.until
+    = λ x a b. slot_at windows n x (omega (arith, served.in_time, some))
+    ∙ all_given windows at x inside (omega (arith, passed.time)) (omega (arith, served.in_time)) in
+    let kept : Kept (level_of c.args.keep) before T c.args.jobs.now slots (passing ++ entries_of span) after =
+    kept_more (level_of c.args.keep) before T c.args.jobs.now windows n passing (passing ++ entries_of span) begun came
+    after span gap current caught.time (ap (λ v. v.items) caught.releases) (ap (λ v. v.items) caught.left)
+    (ap (λ v. v.items) caught.ends) given serves refl in
+    let follows : g.F.Follow.follows c.add.new.self (passing ++ entries_of span) =
+    c.in_ok-add.ensures.followed passing (gap.run_so_far.long ∙ sym caught.time ∙ sym served.from)
+    (passed.followed run i.so_far.1.run_so_far.long i.so_far.2) in
+    let next
+    = window_passed windows n at c.next_after-at.result old.time after.time c.requires.windows inside i.over
+    (omega (arith, passed.time, caught.time, served.some, served.time))
+    (omega (arith, served.in_time, served.time))
+    (λ e. c.next_after-at.ensures.over (omega (arith, e, c.time.ensures)))
+    (λ ne. c.next_after-at.ensures.stays (λ e. ne (omega (arith, e, c.time.ensures)))) in
+    let came_keys : HasKeys before c.args.jobs.now came
+    = keys_kept before c.args.jobs.now begun came caught.keys
+    (keys_later before c.args.jobs.now old begun passed.rest i.keys) in
+    record {
+      so_far = (passing ++ entries_of span, kept, follows);
+      is_state = kept.is_state;
+      come = kept.come;
+      long = kept.long;
+      takes = λ j l. c.in_ok-add.ensures.taken j (passed.takes j (i.takes j l));
+      same = c.in_ok-add.ensures.same ∙ passed.same ∙ i.same;
+      keys = keys_kept before c.args.jobs.now came after served.keys came_keys;
+      in_list = next.0;
+      over = next.1;
+      next = next.2;
+      in_slots = omega (arith, served.in_time, served.time, some);
+    }
+
+pub returns-clause-followed : goal.returns-clause-followed
+returns-clause-followed g c =
+    let before = g.O.Order.goes c.args.order.now (sporadic_tasks c.args.tasks.now) in
+    let windows = c.args.given.now in
+    let slots = slots_of windows c.args.slots in
+    let i = c.loop-at.invariant in
+    let old = c.loop-at.ready in
+    let run = i.so_far.0 in
+    let all : List (Option ℕ) = run ++ replicate (c.args.slots - old.time) None in
+    let after = c.pass_until-2.new.ready in
+    let passed = c.in_ok-pass_until-2.ensures in
+    let kept : Kept (level_of c.args.keep) before (sporadic_tasks c.args.tasks.now) c.args.jobs.now slots all after =
+    kept_gap (level_of c.args.keep) before (sporadic_tasks c.args.tasks.now) c.args.jobs.now slots run all old after
+    c.args.slots i.so_far.1 (λ x a b. slot_at windows c.args.slots x b
+    ∙ none_given windows c.args.slots c.loop-at.at old.time x c.requires.windows i.over a
+    (λ l. absurd (omega (arith, l, c.loop-at-test.false)))) passed.rest passed.time passed.state refl in
+    let end : after.time ≡ length slots = omega (arith, slots-long windows c.args.slots, i.in_slots, passed.time) in (
+      all,
+      subst (λ (n : ℕ). FirstRunTo (level_of c.args.keep) before (sporadic_tasks c.args.tasks.now) c.args.jobs.now slots
+          n all) end kept.run_so_far,
+      passed.followed run i.so_far.1.run_so_far.long i.so_far.2,
+    )
