@@ -5,6 +5,8 @@ ghost use Rattle.csv.specs.declared.parser.State.TheVariants as st;
 ghost use Rattle.csv_rows.specs.PlainText.{IsPlainText};
 ghost use Rattle.csv_rows.specs.Row.{texts_of};
 
+use crate::near::{near_line, split_line};
+use crate::stops::next_stop;
 use memchr::memchr2;
 use std::alloc::AllocError;
 
@@ -44,6 +46,7 @@ fn has_begun(fields: usize, from: usize, i: usize) -> bool
 
 /// Splits the first record of a plain text into its fields, and answers what is left behind it.
 /// None where there is no record: the text is empty, or has empty lines alone.
+#[inline(always)]
 pub fn split_record<'b>(
     text: &'b [u8],
     fields: &mut Vec<&'b [u8]>,
@@ -54,23 +57,40 @@ pub fn split_record<'b>(
     ensures plain { IsPlainText text.now
         → IfOk result (λ left. IfSome left (λ rest. IsPlainText rest.now)) }
 {
+    match near_line(text) {
+        Some(end) => {
+            split_line(text, end, fields)?;
+            Ok(Some(&text[end + 1..]))
+        }
+        None => split_any(text, fields),
+    }
+}
+
+/// The same of a record of any length.
+#[inline(never)]
+fn split_any<'b>(text: &'b [u8], fields: &mut Vec<&'b [u8]>) -> Result<Option<&'b [u8]>, AllocError>
+    ensures first { IsPlainText text.now
+        → IfOk result (λ left. next_record default_config st.StartRecord [] [] text.now
+        ≡ option_map (λ rest. (texts_of fields.new.items, st.StartRecord, rest.now)) left) }
+    ensures plain { IsPlainText text.now
+        → IfOk result (λ left. IfSome left (λ rest. IsPlainText rest.now)) }
+{
     fields.clear();
     let mut from = 0;
-    for i in 0..text.len() {
-        let byte = text[i];
-        if byte > b',' {
-            continue;
-        }
+    let mut at = next_stop(text, 0);
+    while at < text.len() {
+        let byte = text[at];
         if byte == b',' {
-            fields.push(&text[from..i])?;
-            from = i + 1;
+            fields.push(&text[from..at])?;
+            from = at + 1;
         } else if byte == b'\n' {
-            if has_begun(fields.len(), from, i) {
-                fields.push(&text[from..i])?;
-                return Ok(Some(&text[i + 1..]));
+            if has_begun(fields.len(), from, at) {
+                fields.push(&text[from..at])?;
+                return Ok(Some(&text[at + 1..]));
             }
-            from = i + 1;
+            from = at + 1;
         }
+        at = next_stop(text, at + 1);
     }
     if !has_begun(fields.len(), from, text.len()) {
         return Ok(None);

@@ -38,6 +38,7 @@ impl Hints {
     }
 
     /// The place that is told for the end of a name: that of the last name with it, if any.
+    #[inline(always)]
     pub fn of(&self, name: &[u8]) -> usize {
         usize::from(self.places[end_of(name)])
     }

@@ -1,6 +1,5 @@
 use Rattle.std.proofs.Common.{◌≡◌, ◌∙◌, [], get_or, sym}
 use Rattle.std.proofs.lemmas.List.{get_or-map}
-use Rattle.std.proofs.lemmas.Slice.Eq.{bytes_eq-Decides}
 use Rattle.tree_model.specs.declared.pinned_core.Core.{Core}
 use Rattle.tree_model.specs.System.{core_names}
 use Rattle.trace_file.proofs.names.is_core_at.Goals as goal
@@ -14,5 +13,5 @@ returns-then-place-cores c h =
     ∙ sym (get_or-map (λ (z : Core). z.name) cores c.args.place c.index-cores-place.result []
     c.if-place-cores.true)) in (
       c.if-place-cores.true,
-      sym name ∙ (bytes_eq-Decides c.as_bytes.result.now c.args.name.now).0 (sym c.eq.ensures ∙ h),
+      sym name ∙ c.is_same.ensures h,
     )

@@ -1,6 +1,5 @@
 use Rattle.std.proofs.Common.{◌≡◌, ◌∙◌, [], get_or, sym, ap}
 use Rattle.std.proofs.lemmas.List.{get_or-map}
-use Rattle.std.proofs.lemmas.Slice.Eq.{bytes_eq-Decides}
 use Rattle.tree_model.specs.View.{PartView}
 use Rattle.tree_model.specs.System.{part_names}
 use Rattle.trace_file.proofs.names.is_part_at.Goals as goal
@@ -16,5 +15,5 @@ returns-then-place-parts c h =
     ∙ sym (get_or-map (λ (z : PartView). z.name) parts c.args.place c.index-parts-place.result []
     c.if-place-parts.true)))) in (
       c.if-place-parts.true,
-      sym name ∙ (bytes_eq-Decides c.as_bytes.result.now c.args.name.now).0 (sym c.eq.ensures ∙ h),
+      sym name ∙ c.is_same.ensures h,
     )

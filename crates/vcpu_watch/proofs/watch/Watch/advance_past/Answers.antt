@@ -1,16 +1,16 @@
 use Rattle.std.proofs.Common.{arith}
 use Rattle.vcpu_watch.proofs.Telling.{stays_in}
-use Rattle.vcpu_watch.proofs.watch.Watch.advance.Goals as goal
+use Rattle.vcpu_watch.proofs.watch.Watch.advance_past.Goals as goal
 
 pub returns-clause-tells : goal.returns-clause-tells
 returns-clause-tells c runs blocks f st t =
     let s = c.args.state in
     let from = c.args.self.now.now in
     let to = c.args.to in
-    let first = c.pass-2.ensures in
+    let first = c.pass.ensures in
     let second = c.close.ensures in
     let third = c.skip_to.ensures in
-    let end = c.if-to-end.false in
+    let end = c.requires.goes_on in
     let t2
     = first.tells runs blocks f (stays_in runs blocks s from to from _ (omega arith) (omega (arith, end)) st) t in
     let t3
@@ -19,6 +19,6 @@ returns-clause-tells c runs blocks f st t =
     let t4
     = third.tells runs blocks f
     (stays_in runs blocks s from to _ _ (omega (arith, first.now, second.now, end)) third.now st) t3 in
-    c.pass-3.ensures.tells runs blocks f
+    c.pass-2.ensures.tells runs blocks f
     (stays_in runs blocks s from to _ to (omega (arith, first.now, second.now, third.goes_on, end)) (omega arith) st)
     t4

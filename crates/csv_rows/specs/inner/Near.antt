@@ -1,0 +1,16 @@
+-- A line that ends among the first bytes of a text.
+use Rattle.std.specs.Prelude.{◌≡◌, ◌≢◌, ℕ, ◌<◌, ◌≤◌, List, length, slice_index}
+use Rattle.std.specs.Int.{bit_at}
+
+-- of the first 32 bytes of a text, bit k is set where byte k is this one, and no other bit is
+pub record Marks (text : List ℕ) (byte marks : ℕ) : Type 0 where
+  pub each : (k : ℕ) → k < 32 → slice_index text k ≡ byte → bit_at marks k ≡ 1
+  pub only : (k : ℕ) → bit_at marks k ≡ 1 → (k < 32) × (slice_index text k ≡ byte)
+
+-- the first line of a text is not empty and ends here, among the first 32 bytes
+pub record IsNearLine (text : List ℕ) (end : ℕ) : Type 0 where
+  pub room : 32 ≤ length text
+  pub near : end < 32
+  pub begun : 0 < end
+  pub ends : slice_index text end ≡ 10
+  pub line : (k : ℕ) → k < end → slice_index text k ≢ 10

@@ -1,0 +1,101 @@
+ghost use Rattle.std.specs.Prelude.{◌≡◌, ◌≢◌, ℕ, ◌+◌, ◌<◌, ◌≤◌, [], Some, length, drop, IfSome, OnOk};
+ghost use Rattle.std.specs.Int.{bit_at};
+ghost use Rattle.csv.specs.Machine.{next_record};
+ghost use Rattle.csv.specs.Reading.{default_config};
+ghost use Rattle.csv.specs.declared.parser.State.TheVariants as st;
+ghost use Rattle.csv_rows.specs.PlainText.{IsPlainText};
+ghost use Rattle.csv_rows.specs.Row.{texts_of};
+ghost use Rattle.csv_rows.specs.inner.Near.{IsNearLine, Marks};
+
+use std::alloc::AllocError;
+use std::simd::prelude::*;
+
+/// How many bytes are looked at at once.
+const LANES: usize = 32;
+
+/// Which of the first bytes of a text are this one, the first byte lowest.
+#[inline(always)]
+fn places_of(text: &[u8], byte: u8) -> u64
+    requires { 32 ≤ length text.now }
+    ensures { Marks text.now byte result }
+{
+    u8x32::from_slice(text)
+        .simd_eq(u8x32::splat(byte))
+        .to_bitmask()
+}
+
+/// The first place that is marked.
+#[inline(always)]
+fn lowest(marks: u64) -> usize
+    requires { marks ≢ 0 }
+    ensures bound { result < 64 }
+    ensures set { bit_at marks result ≡ 1 }
+    ensures below { (k : ℕ) → k < result → bit_at marks k ≡ 0 }
+{
+    marks.trailing_zeros() as usize
+}
+
+/// The marks of all places but this one.
+#[inline(always)]
+fn without(marks: u64, place: usize) -> u64
+    requires { place < 64 }
+    ensures kept { (k : ℕ) → k < 64 → k ≢ place → bit_at result k ≡ bit_at marks k }
+    ensures gone { bit_at result place ≡ 0 }
+    ensures no_more { (k : ℕ) → bit_at result k ≡ 1 → bit_at marks k ≡ 1 }
+{
+    marks & !(1 << place)
+}
+
+/// The marks of the places before this one.
+#[inline(always)]
+fn before(marks: u64, place: usize) -> u64
+    requires { place < 64 }
+    ensures kept { (k : ℕ) → k < place → bit_at result k ≡ bit_at marks k }
+    ensures no_more { (k : ℕ) → bit_at result k ≡ 1 → (k < place) × (bit_at marks k ≡ 1) }
+{
+    marks & ((1 << place) - 1)
+}
+
+/// Where the first line ends, if that is among the first bytes and the line is not empty.
+#[inline(always)]
+pub fn near_line(text: &[u8]) -> Option<usize>
+    ensures { IfSome result (IsNearLine text.now) }
+{
+    if text.len() < LANES {
+        return None;
+    }
+    let lines = places_of(text, b'\n');
+    if lines == 0 {
+        return None;
+    }
+    let end = lowest(lines);
+    if end == 0 {
+        return None;
+    }
+    Some(end)
+}
+
+/// Splits such a line into its fields.
+#[inline(always)]
+pub fn split_line<'b>(
+    text: &'b [u8],
+    end: usize,
+    fields: &mut Vec<&'b [u8]>,
+) -> Result<(), AllocError>
+    requires { IsNearLine text.now end }
+    ensures { IsPlainText text.now → OnOk result
+        (next_record default_config st.StartRecord [] [] text.now
+        ≡ Some (texts_of fields.new.items, st.StartRecord, drop (end + 1) text.now)) }
+{
+    fields.clear();
+    let mut from = 0;
+    let mut commas = before(places_of(text, b','), end);
+    while commas != 0 {
+        let at = lowest(commas);
+        fields.push(&text[from..at])?;
+        from = at + 1;
+        commas = without(commas, at);
+    }
+    fields.push(&text[from..end])?;
+    Ok(())
+}
