@@ -1,5 +1,5 @@
--- One task of one leaf has other work, and nothing else is changed; and what is said of the greatest. A
--- definition that says less breaks one of these.
+-- One task of one leaf has other work, and nothing else is changed; and what is said of the
+-- greatest. A definition that says less breaks one of these.
 use Rattle.std.proofs.Common.{◌≡◌, ℕ, ◌<◌, ◌≤◌, List, [], ◌∷◌, None, true, false, length, refl}
 use Rattle.std.specs.Prelude.{slice_index_or}
 use Rattle.slot_model.specs.declared.sched.Sched.TheVariants.{Edf}
