@@ -69,4 +69,4 @@ leaf_node_of sys n q given T jobs sched e g node h =
     let own : IsGuestLevel (part_at sys q).sched (own_tasks_at sys q) jobs given n node
     = subst (λ (t : List SporadicTask). IsGuestLevel (part_at sys q).sched t jobs given n node) e
     (subst (λ (s : Sched). IsGuestLevel s T jobs given n node) g h) in
-    record { spans = own.spans; first = own.first; counts = own.counts }
+    record { spans = own.spans; first = own.first; no_shares = own.no_shares; counts = own.counts }

@@ -1,5 +1,5 @@
 -- The run of a level of servers, and of a leaf's jobs, as a node has it.
-use Rattle.std.specs.Prelude.{◌≡◌, ℕ, List, length}
+use Rattle.std.specs.Prelude.{◌≡◌, ℕ, List, [], length}
 use Rattle.slot_model.specs.declared.job.Job.{Job}
 use Rattle.slot_model.specs.declared.sched.Sched.{Sched}
 use Rattle.slot_model.specs.Task.{SporadicTask}
@@ -31,10 +31,11 @@ pub record IsServerLevel (sched : Sched) (tasks : List SporadicTask) (given : Li
   pub counts : AreCounts tasks (synchronous tasks 0 n) (slots_of given n) (run_of node.spans)
       node.counts
 
--- the first run of a leaf's jobs over windows, and its counts
+-- the first run of a leaf's jobs over windows, and its counts; it has no children to give any
 pub record IsGuestLevel (sched : Sched) (tasks : List SporadicTask) (jobs : List Job)
     (given : List Window) (n : ℕ) (node : NodeView) : Type 0 where
   pub spans : AreSpans node.spans n
   pub first : FirstRun guest (before_of sched tasks) tasks jobs (slots_of given n)
       (run_of node.spans)
+  pub no_shares : node.shares ≡ []
   pub counts : AreCounts tasks jobs (slots_of given n) (run_of node.spans) node.counts

@@ -67,11 +67,12 @@ pub record IsServerNode (sys : SystemView) (budgets : List ℕ) (n : ℕ) (place
   pub counts : AreCounts (server_tasks sys budgets place) (server_jobs sys budgets place n) slots
       (run_of node.spans) node.counts
 
--- a leaf: the first run of its jobs over its slots, and its counts
+-- a leaf: the first run of its jobs over its slots, its counts, and no children
 pub record IsLeafNode (sys : SystemView) (n q : ℕ) (jobs : List Job) (slots : List Bool)
     (node : NodeView) : Type 0 where
   pub spans : AreSpans node.spans n
   pub first : FirstLeaf sys q jobs slots (run_of node.spans)
+  pub no_shares : node.shares ≡ []
   pub counts : AreCounts (own_tasks_at sys q) jobs slots (run_of node.spans) node.counts
 
 pub record IsPartNode (sys : SystemView) (budgets : List ℕ) (n q : ℕ) (jobs : List Job)

@@ -1,4 +1,4 @@
-use Rattle.std.proofs.Common.{◌≡◌, List, length, map, refl, sym, subst, Vec, Global}
+use Rattle.std.proofs.Common.{◌≡◌, List, length, map, refl, sym, subst, ap, Vec, Global}
 use Rattle.slot_model.specs.Task.{sporadic_tasks}
 use Rattle.slot_model.specs.Run.{guest}
 use Rattle.slot_model.specs.Miss.{HoldsReleased}
@@ -28,6 +28,7 @@ returns c = record {
   is_node = record {
     spans = c.in_ok-spans.ensures.spans;
     first = c.in_ok-spans.ensures.first;
+    no_shares = ap (map (λ (s : Vec Window Global). s.items)) c.new.ensures.items;
     counts =
         subst (λ (ss : List Span). AreCounts (sporadic_tasks c.args.tasks.now) c.args.jobs.now
         (slots_of c.args.given.now c.args.slots) (run_of ss) c.in_ok-counts.counts) c.deref.ensures.value
