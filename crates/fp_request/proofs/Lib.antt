@@ -10,3 +10,4 @@ mod Insertion
 mod Aboves
 pub mod Keyed
 mod KeyExamples
+pub mod Gathered
