@@ -77,11 +77,7 @@ fn hits_by<S: Supply>(
 }
 
 /// The same of a level.
-fn hits_of<S: Supply>(
-    alloc: Global,
-    level: &RankedLevel,
-    s: &S,
-) -> Result<Vec<u64>, AllocError>
+fn hits_of<S: Supply>(alloc: Global, level: &RankedLevel, s: &S) -> Result<Vec<u64>, AllocError>
     requires few { length level.now.tasks.now < 2 ^ 32 }
     requires all_hit { let T = sporadic_tasks level.now.tasks.now in
         AllHit (ranks_above level.now.sched T) T (S.bound s.now) }

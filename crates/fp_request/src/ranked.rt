@@ -10,8 +10,8 @@ use crate::by_terms::{Above, above_among, rank_terms, request_by};
 use slot_model::{Sched, Task};
 use window_terms::{KEPT, Term};
 
-/// A level under a fixed priority, with the terms of its tasks as they rank: they are gathered once,
-/// and asked for each task. Where there are none a task is slower.
+/// A level under a fixed priority, with the terms of its tasks as they rank. They are gathered
+/// once, and asked for each task; where there are none a task is slower.
 #[derive(Clone, Copy)]
 pub struct RankedLevel<'a> {
     pub sched: Sched,

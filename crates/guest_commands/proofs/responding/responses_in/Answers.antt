@@ -24,7 +24,8 @@ loop-i-preserved c =
     let period = c.args.supply.now.period in let budget = c.args.supply.now.budget in
     let i = c.loop-i.i in let worst = c.loop-i.worst.items in
     let least : ℕ → ℕ → Type 0 = IsLeastHit (ranks_above c.args.level.now.sched T) T (sbf period budget) in
-    let greatest : ℕ → ℕ → Type 0 = IsGreatestResponse (GivesBudget period budget) (before_of c.args.level.now.sched T) T in
+    let greatest : ℕ → ℕ → Type 0
+    = IsGreatestResponse (GivesBudget period budget) (before_of c.args.level.now.sched T) T in
     record {
       long =
           omega (

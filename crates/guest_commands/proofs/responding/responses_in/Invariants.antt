@@ -14,7 +14,8 @@ invariant-loop-i l =
     record {
       long : length l.worst.items ≡ l.i;
       least : (k : ℕ) → k < l.i
-          → IsLeastHit (ranks_above l.level.sched T) T (sbf l.supply.period l.supply.budget) k (get_or l.worst.items k 0);
+          → IsLeastHit (ranks_above l.level.sched T) T (sbf l.supply.period l.supply.budget) k
+          (get_or l.worst.items k 0);
       greatest : (k : ℕ) → k < l.i
           → IsGreatestResponse (GivesBudget l.supply.period l.supply.budget) (before_of l.level.sched T) T k
           (get_or l.worst.items k 0);
