@@ -7,7 +7,6 @@ ghost use Rattle.cert_verify.specs.Flaws.{NodeFlaw};
 
 use crate::Flaw;
 use crate::points::{is_chain, is_cover, is_hit, is_short};
-use crate::rooms::Rooms;
 use edf_demand::{DemandLevel, horizon};
 use fp_request::RankedLevel;
 use slot_model::{LIMIT, Sched, Task};
@@ -16,9 +15,9 @@ use tree_model::Node;
 use window_terms::Term;
 
 /// Whether all that a node claims holds for its tasks and its supply, or the first flaw. Its level
-/// is gathered once, in these rooms.
+/// is gathered once, in `room`.
 pub fn check_claims<S: Supply>(
-    rooms: &mut Rooms,
+    room: &mut [Term],
     sched: Sched,
     tasks: &[Task],
     s: &S,
@@ -38,14 +37,14 @@ pub fn check_claims<S: Supply>(
 {
     match sched {
         Sched::Edf => {
-            let level = DemandLevel::gather(tasks, &mut rooms.all);
+            let level = DemandLevel::gather(tasks, room);
             check_points(&level, s, node)?;
             check_least(node, shows_least_window(&level, node))
         }
         _ => {
-            let level = RankedLevel::gather(sched, tasks, &mut rooms.all);
-            check_hits(&level, &mut rooms.above, s, node)?;
-            check_least(node, shows_least_task(&level, &mut rooms.above, node))
+            let level = RankedLevel::gather(sched, tasks, room);
+            check_hits(&level, s, node)?;
+            check_least(node, shows_least_task(&level, node))
         }
     }
 }
@@ -68,13 +67,8 @@ fn check_points<S: Supply>(level: &DemandLevel, s: &S, node: &Node) -> Result<()
     }
 }
 
-/// The hits of a node under a fixed rank. `above` is for the terms of the tasks above one.
-fn check_hits<S: Supply>(
-    level: &RankedLevel,
-    above: &mut [Term],
-    s: &S,
-    node: &Node,
-) -> Result<(), Flaw>
+/// The hits of a node under a fixed rank.
+fn check_hits<S: Supply>(level: &RankedLevel, s: &S, node: &Node) -> Result<(), Flaw>
     requires { length level.now.tasks.now < 2 ^ 32 }
     ensures shown { let T = sporadic_tasks level.now.tasks.now in
         IfOk result
@@ -88,7 +82,7 @@ fn check_hits<S: Supply>(
     }
     for i in 0..level.tasks.len() as u32 {
         let hit = node.hits[i as usize];
-        if !is_hit(&level.task(i, above), s, hit) {
+        if !is_hit(&level.task(i), s, hit) {
             return Err(Flaw::Hit(node.place, i));
         }
     }
@@ -132,8 +126,8 @@ fn shows_window<S: Supply>(level: &DemandLevel, less: &S, node: &Node) -> bool
     }
 }
 
-/// The same by a task without a hit. `above` is for the terms of the tasks above it.
-fn shows_least_task(level: &RankedLevel, above: &mut [Term], node: &Node) -> bool
+/// The same by a task without a hit.
+fn shows_least_task(level: &RankedLevel, node: &Node) -> bool
     requires few { length level.now.tasks.now < 2 ^ 32 }
     requires in_limit { node.now.period ≤ LIMIT }
     requires some_slots { node.now.computed ≡ true → 1 ≤ node.now.budget }
@@ -144,10 +138,10 @@ fn shows_least_task(level: &RankedLevel, above: &mut [Term], node: &Node) -> boo
     if !node.computed {
         return has_no_witness(node);
     }
-    shows_task(level, above, &one_slot_less(node), node)
+    shows_task(level, &one_slot_less(node), node)
 }
 
-fn shows_task<S: Supply>(level: &RankedLevel, above: &mut [Term], less: &S, node: &Node) -> bool
+fn shows_task<S: Supply>(level: &RankedLevel, less: &S, node: &Node) -> bool
     requires { length level.now.tasks.now < 2 ^ 32 }
     ensures { let T = sporadic_tasks level.now.tasks.now in
         IsTrue result ↔ IsChainOf (ranks_above level.now.sched T) T (S.bound less.now) node.now }
@@ -158,7 +152,7 @@ fn shows_task<S: Supply>(level: &RankedLevel, above: &mut [Term], less: &S, node
     if task >= level.tasks.len() as u128 {
         return false;
     }
-    is_chain(&level.task(task as u32, above), less, &node.falls)
+    is_chain(&level.task(task as u32), less, &node.falls)
 }
 
 fn has_no_witness(node: &Node) -> bool

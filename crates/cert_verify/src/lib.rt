@@ -5,7 +5,6 @@ mod claims;
 mod flaw;
 mod nodes;
 mod points;
-mod rooms;
 
 pub use flaw::Flaw;
 pub use nodes::verify;

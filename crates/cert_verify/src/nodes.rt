@@ -9,7 +9,6 @@ ghost use Rattle.cert_verify.specs.declared.flaw.Flaw.{Flaw as AnyFlaw};
 
 use crate::Flaw;
 use crate::claims::check_claims;
-use crate::rooms::Rooms;
 use slot_model::Task;
 use tree_model::{
     Certificate, MAX_PARTS, Node, Place, System, budget_of, node_supply, period_of, sched_of,
@@ -114,23 +113,20 @@ fn check_nodes(sys: &System, budgets: &[u64], nodes: &[Node]) -> Result<(), Flaw
         FirstNode nodes.now (NodeProves sys.now budgets.now) (NodeFails sys.now budgets.now flaw)) }
 {
     let mut room = [Task::least(); MAX_PARTS];
-    let mut rooms = Rooms {
-        all: [Term::none(); MAX_PARTS],
-        above: [Term::none(); MAX_PARTS],
-    };
+    let mut terms = [Term::none(); MAX_PARTS];
     for node in nodes {
-        check_node(sys, budgets, node, &mut room, &mut rooms)?;
+        check_node(sys, budgets, node, &mut room, &mut terms)?;
     }
     Ok(())
 }
 
-/// Checks what one node claims. `room` is for its tasks, and `rooms` for their terms.
+/// Checks what one node claims. `room` is for its tasks, and `terms` for their terms.
 fn check_node(
     sys: &System,
     budgets: &[u64],
     node: &Node,
     room: &mut [Task],
-    rooms: &mut Rooms,
+    terms: &mut [Term],
 ) -> Result<(), Flaw>
     requires is_node { IsNode sys.now node.now.place }
     requires has { HasBudget sys.now node.now }
@@ -143,5 +139,5 @@ fn check_node(
     let sched = sched_of(sys, node.place);
     let supply = node_supply(sys, budgets, node.place);
     let count = write_tasks(sys, budgets, node.place, room);
-    check_claims(rooms, sched, &room[..count], &supply, node)
+    check_claims(terms, sched, &room[..count], &supply, node)
 }

@@ -5,7 +5,7 @@ ghost use Rattle.slot_model.specs.Bound.{dbf, rbf, IsHit};
 ghost use Rattle.slot_model.specs.Points.{IsCover, IsChain};
 
 use edf_demand::DemandLevel;
-use fp_request::RankedTask;
+use fp_request::{RankedTask, room_at};
 use supply_bound::Supply;
 
 /// Whether the points are a cover of all windows up to `h`.
@@ -72,8 +72,7 @@ pub fn is_chain<S: Supply>(task: &RankedTask, s: &S, falls: &[u64]) -> bool
         IsTrue result ↔
         IsChain (ranks_above task.now.sched T) T (S.bound s.now) task.now.i falls.now }
 {
-    let own = task.tasks[task.i as usize];
-    let end = own.deadline - own.jitter + 1;
+    let end = room_at(task.tasks, task.i) + 1;
     if falls.is_empty() || falls[0] != 1 {
         return false;
     }
@@ -108,8 +107,7 @@ pub fn is_hit<S: Supply>(task: &RankedTask, s: &S, t: u64) -> bool
     ensures { let T = sporadic_tasks task.now.tasks.now in
         IsTrue result ↔ IsHit (ranks_above task.now.sched T) T (S.bound s.now) task.now.i t }
 {
-    let own = task.tasks[task.i as usize];
-    if t < 1 || t > own.deadline - own.jitter {
+    if t < 1 || t > room_at(task.tasks, task.i) {
         return false;
     }
     let given = s.least(t as u128);

@@ -14,7 +14,7 @@ use miss_witness::witness;
 use slot_model::{Sched, Task};
 use std::alloc::{AllocError, Global};
 use supply_bound::{Periodic, Supply};
-use window_terms::{KEPT, Term};
+use window_terms::Term;
 
 /// The points and the hits that show that a level passes. `room` is for the terms of its tasks.
 pub fn pass_lists<S: Supply>(
@@ -57,9 +57,7 @@ fn points_of<S: Supply>(
     Ok(points)
 }
 
-/// The least hit of each task. `room` is for their terms. It stands apart, since a function pays at
-/// its entry for all the room that it may need.
-#[inline(never)]
+/// The least hit of each task. `room` is for their terms.
 fn hits_by<S: Supply>(
     alloc: Global,
     room: &mut [Term],
@@ -75,16 +73,11 @@ fn hits_by<S: Supply>(
         IfOk result (λ hits. AreLeastHits (ranks_above sched T) T (S.bound s.now) hits.items) }
 {
     let level = RankedLevel::gather(sched, tasks, room);
-    hits_of(alloc, &level, &mut [Term::none(); KEPT], s)
+    hits_of(alloc, &level, s)
 }
 
-/// The same of a level. `above` is for the terms of the tasks above one.
-fn hits_of<S: Supply>(
-    alloc: Global,
-    level: &RankedLevel,
-    above: &mut [Term],
-    s: &S,
-) -> Result<Vec<u64>, AllocError>
+/// The same of a level.
+fn hits_of<S: Supply>(alloc: Global, level: &RankedLevel, s: &S) -> Result<Vec<u64>, AllocError>
     requires few { length level.now.tasks.now < 2 ^ 32 }
     requires all_hit { let T = sporadic_tasks level.now.tasks.now in
         AllHit (ranks_above level.now.sched T) T (S.bound s.now) }
@@ -94,7 +87,7 @@ fn hits_of<S: Supply>(
 {
     let mut hits = Vec::with_capacity(alloc, level.tasks.len())?;
     for i in 0..level.tasks.len() as u32 {
-        hits.push(hit_in(level, i, above, s).unwrap())?;
+        hits.push(hit_in(level, i, s).unwrap())?;
     }
     Ok(hits)
 }
@@ -133,8 +126,7 @@ pub fn short_lists(
     }
 }
 
-/// The falls of task `i`, which has no hit. `room` is for the terms of the tasks above it, which
-/// are all that is gathered.
+/// The falls of task `i`, which has no hit. `room` is for the terms of the tasks.
 fn falls_by<S: Supply>(
     alloc: Global,
     room: &mut [Term],
@@ -150,10 +142,6 @@ fn falls_by<S: Supply>(
     ensures { let T = sporadic_tasks tasks.now in
         IfOk result (λ falls. AreFalls (ranks_above sched T) T (S.bound s.now) i falls.items) }
 {
-    let level = RankedLevel {
-        sched,
-        tasks,
-        terms: &[],
-    };
-    falls_of(alloc, &level.task(i, room), s)
+    let level = RankedLevel::gather(sched, tasks, room);
+    falls_of(alloc, &level.task(i), s)
 }

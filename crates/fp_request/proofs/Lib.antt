@@ -6,6 +6,8 @@ pub mod Ceiling
 pub mod Parts
 mod ReleasedExamples
 mod OrderExamples
-pub mod Aboves
+mod Insertion
+mod Aboves
 pub mod Keyed
 mod KeyExamples
+pub mod Gathered

@@ -3,3 +3,4 @@ pub mod Ranks
 pub mod Parts
 pub mod Terms
 pub mod Keys
+pub mod inner

@@ -10,6 +10,6 @@ mod ranked;
 mod request_bound;
 
 pub use fixed::Fixed;
-pub use rank::higher;
+pub use rank::{higher, room_at};
 pub use ranked::{RankedLevel, RankedTask};
 pub use request_bound::request;

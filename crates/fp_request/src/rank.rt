@@ -1,5 +1,6 @@
-ghost use Rattle.std.specs.Prelude.{◌≡◌, ◌≢◌, ◌<◌, ◌==◌, ◌&&◌, ◌||◌, nat_lt, length};
-ghost use Rattle.slot_model.specs.Task.{sporadic_tasks, task_at};
+ghost use Rattle.std.specs.Prelude.{◌≡◌, ◌≢◌, ◌<◌, ◌≤◌, ◌==◌, ◌&&◌, ◌||◌, nat_lt, length};
+ghost use Rattle.slot_model.specs.declared.task.TheConstants.{LIMIT};
+ghost use Rattle.slot_model.specs.Task.{room_of, sporadic_tasks, task_at};
 ghost use Rattle.slot_model.specs.Order.{ranks_above};
 ghost use Rattle.fp_request.specs.Keys.{rank_of};
 
@@ -47,4 +48,14 @@ pub(crate) fn rank_of(sched: Sched, tasks: &[Task], place: u32) -> u64
         Sched::Dm => tasks[place as usize].deadline,
         Sched::Listed | Sched::Edf => 0,
     }
+}
+
+/// What the deadline of task `i` leaves past its jitter: its longest response that is in time.
+pub fn room_at(tasks: &[Task], i: u32) -> u64
+    requires { i < length tasks.now }
+    ensures exact { result ≡ room_of (task_at (sporadic_tasks tasks.now) i) }
+    ensures fits { result ≤ LIMIT }
+{
+    let task = &tasks[i as usize];
+    task.deadline - task.jitter
 }

@@ -1,27 +1,30 @@
-ghost use Rattle.std.specs.Prelude.{◌≢◌, ◌<◌, length};
+ghost use Rattle.std.specs.Prelude.{◌≡◌, ◌≢◌, ◌<◌, ◌≤◌, length, IfSome};
 ghost use Rattle.std.specs.Option.{ForSome};
 ghost use Rattle.slot_model.specs.declared.sched.Sched.TheVariants.{Edf};
 ghost use Rattle.slot_model.specs.Task.{sporadic_tasks};
 ghost use Rattle.slot_model.specs.Order.{ranks_above};
-ghost use Rattle.fp_request.specs.Terms.{AreTerms, IsAbove};
+ghost use Rattle.window_terms.specs.declared.TheConstants.{KEPT};
+ghost use Rattle.fp_request.specs.Terms.{AreRankedTo, IsAbove};
 
-use crate::by_terms::{Above, gather, gather_above, request_by};
+use crate::by_terms::{Above, above_among, rank_terms, request_by};
 use slot_model::{Sched, Task};
-use window_terms::Term;
+use window_terms::{KEPT, Term};
 
-/// A level under a fixed priority, with terms of its first tasks: they are gathered once, and asked
-/// for each task. A term that is not there is made where it is needed.
+/// A level under a fixed priority, with the terms of its tasks as they rank. They are gathered
+/// once, and asked for each task; where there are none a task is slower.
 #[derive(Clone, Copy)]
 pub struct RankedLevel<'a> {
     pub sched: Sched,
     pub tasks: &'a [Task],
-    pub terms: &'a [Term],
+    terms: &'a [Term],
     pub ghost fixed: { sched ≢ Edf },
-    pub ghost are_terms: { AreTerms terms.now tasks.now },
+    pub ghost are_ranked: { let T = sporadic_tasks tasks.now in
+        length terms.now ≡ length tasks.now →
+        (length tasks.now ≤ KEPT)
+        × AreRankedTo (ranks_above sched T) T (length tasks.now) terms.now },
 }
 
-/// Task `i` of such a level, with the terms of the tasks that rank above it: they are gathered
-/// once, and asked for each window of each supply.
+/// Task `i` of such a level. The tasks that rank above it have the first of its terms.
 #[derive(Clone, Copy)]
 pub struct RankedTask<'a> {
     pub sched: Sched,
@@ -38,36 +41,54 @@ pub struct RankedTask<'a> {
 impl<'a> RankedLevel<'a> {
     ghost use Rattle.std.specs.Prelude.{◌≡◌};
 
-    /// Gathers the terms of as many of the tasks as `room` has places for.
+    /// Gathers the terms of the tasks, where `room` has places for all of them.
     pub fn gather(sched: Sched, tasks: &'a [Task], room: &'a mut [Term]) -> RankedLevel<'a>
         requires fixed { sched ≢ Sched.Edf }
         ensures { (result.sched ≡ sched) × (result.tasks.now ≡ tasks.now) }
     {
-        let count = gather(tasks, room);
+        if room.len() < tasks.len() || KEPT < tasks.len() {
+            return RankedLevel {
+                sched,
+                tasks,
+                terms: &[],
+            };
+        }
+        let terms = &mut room[..tasks.len()];
+        rank_terms(sched, tasks, terms);
         RankedLevel {
             sched,
             tasks,
-            terms: &room[..count],
+            terms,
         }
     }
 
-    /// Task `i`. Where `room` has fewer places than there are tasks, it is slower.
-    pub fn task<'b>(&self, i: u32, room: &'b mut [Term]) -> RankedTask<'b>
-    where
-        'a: 'b,
+    /// Task `i`.
+    pub fn task(&self, i: u32) -> RankedTask<'a>
         requires { i < length self.now.tasks.now }
         ensures level { (result.sched ≡ self.now.sched)
             × (result.tasks.now ≡ self.now.tasks.now) }
         ensures task { result.i ≡ i }
     {
-        let above = gather_above(self.sched, self.tasks, self.terms, i, room);
         RankedTask {
             sched: self.sched,
             tasks: self.tasks,
             i,
-            terms: room,
-            above,
+            terms: self.terms,
+            above: self.above(i),
         }
+    }
+
+    /// What is gathered of the tasks that rank above task `i`.
+    fn above(&self, i: u32) -> Option<Above>
+        requires { i < length self.now.tasks.now }
+        ensures { let T = sporadic_tasks self.now.tasks.now in
+            IfSome result
+            (λ a. IsAbove (ranks_above self.now.sched T) T i a self.now.terms.now) }
+    {
+        if self.terms.len() != self.tasks.len() {
+            return None;
+        }
+        Some(above_among(self.sched, self.tasks, i as usize, self.tasks.len()))
     }
 }
 

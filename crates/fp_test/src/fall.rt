@@ -5,7 +5,7 @@ ghost use Rattle.slot_model.specs.Bound.{IsShortTask};
 ghost use Rattle.slot_model.specs.Points.{IsChain};
 ghost use Rattle.fp_test.specs.Falls.{IsNextFall, AreFalls, ChainsShow};
 
-use fp_request::{RankedLevel, RankedTask};
+use fp_request::{RankedLevel, RankedTask, room_at};
 use slot_model::{Sched, Task};
 use std::alloc::{AllocError, Global};
 use supply_bound::Supply;
@@ -33,15 +33,12 @@ pub fn falls<S: Supply>(
     ensures shows { let T = sporadic_tasks tasks.now in
         ChainsShow (ranks_above sched T) T (S.bound s.now) i }
 {
-    let level = RankedLevel {
-        sched,
-        tasks,
-        terms: &[],
-    };
-    falls_of(alloc, &level.task(i, &mut [Term::none(); KEPT]), s)
+    let mut room = [Term::none(); KEPT];
+    let level = RankedLevel::gather(sched, tasks, &mut room);
+    falls_of(alloc, &level.task(i), s)
 }
 
-/// The same, of a task whose terms were gathered.
+/// The same, of a task that was gathered.
 pub fn falls_of<S: Supply>(alloc: Global, task: &RankedTask, s: &S) -> Result<Vec<u64>, AllocError>
     requires { let T = sporadic_tasks task.now.tasks.now in
         IsShortTask (ranks_above task.now.sched T) T (S.bound s.now) task.now.i }
@@ -54,8 +51,7 @@ pub fn falls_of<S: Supply>(alloc: Global, task: &RankedTask, s: &S) -> Result<Ve
     ensures shows { let T = sporadic_tasks task.now.tasks.now in
         ChainsShow (ranks_above task.now.sched T) T (S.bound s.now) task.now.i }
 {
-    let own = task.tasks[task.i as usize];
-    let end = own.deadline - own.jitter + 1;
+    let end = room_at(task.tasks, task.i) + 1;
     let mut windows = Vec::new(alloc);
     let mut last = 1;
     windows.push(last)?;
@@ -71,8 +67,7 @@ fn next_fall<S: Supply>(task: &RankedTask, s: &S, from: u64) -> u64
     ensures { let T = sporadic_tasks task.now.tasks.now in
         IsNextFall (ranks_above task.now.sched T) T (S.bound s.now) task.now.i from result }
 {
-    let own = task.tasks[task.i as usize];
-    let room = own.deadline - own.jitter;
+    let room = room_at(task.tasks, task.i);
     let Some(asked) = task.request(from as u128) else {
         return room + 1;
     };

@@ -10,12 +10,14 @@ ghost use Rattle.tree_model.specs.System.{part_at};
 ghost use Rattle.tree_model.specs.Admission.{Admitted};
 ghost use Rattle.guest_commands.specs.Responses.{is_fixed_leaf, answered_at, AnswerTasks, AreResponses, IsReplayOf};
 
-use response_times::{replay_tasks, response};
+use fp_request::{RankedLevel, room_at};
+use response_times::{replay_tasks, response_in};
 use rt_report::Response;
 use slot_model::{Sched, Task};
 use std::alloc::{AllocError, Global};
 use supply_bound::{Periodic, Supply};
 use tree_model::{MAX_TASKS, Part, Plan, System, own_tasks_in};
+use window_terms::Term;
 
 /// The longest run that is replayed, in slots.
 const MOST_SLOTS: u64 = 1_000_000;
@@ -26,15 +28,17 @@ pub fn respond_all(alloc: Global, sys: &System, plan: &Plan) -> Result<Vec<Respo
     ensures { IfOk result (λ rows. AreResponses sys.now plan.now rows.items) }
 {
     let mut room = vec![in alloc; Task::least(); MAX_TASKS]?;
-    respond_leaves(alloc, sys, plan, &mut room)
+    let mut terms = vec![in alloc; Term::none(); MAX_TASKS]?;
+    respond_leaves(alloc, sys, plan, &mut room, &mut terms)
 }
 
-/// The same, where the tasks of each leaf are written to `room`.
+/// The same, where the tasks of each leaf are written to `room`, and their terms to `terms`.
 fn respond_leaves(
     alloc: Global,
     sys: &System,
     plan: &Plan,
     room: &mut [Task],
+    terms: &mut [Term],
 ) -> Result<Vec<Response>, AllocError>
     requires admitted { Admitted sys.now plan.now }
     requires room { 256 ≤ length room.old }
@@ -43,7 +47,7 @@ fn respond_leaves(
     let mut rows = Vec::new(alloc);
     for (q, part) in sys.parts().iter().enumerate() {
         if is_fixed_leaf(part) {
-            respond_leaf(alloc, sys, plan, q as u32, room, &mut rows)?;
+            respond_leaf(alloc, sys, plan, q as u32, room, terms, &mut rows)?;
         }
     }
     Ok(rows)
@@ -56,13 +60,15 @@ fn is_fixed_leaf(part: &Part) -> bool
     part.is_leaf() && part.sched() != Sched::Edf
 }
 
-/// Adds the responses of the leaf at place `q`, whose tasks are written to `room`.
+/// Adds the responses of the leaf at place `q`, whose tasks are written to `room`, and their terms
+/// to `terms`.
 fn respond_leaf(
     alloc: Global,
     sys: &System,
     plan: &Plan,
     q: u32,
     room: &mut [Task],
+    terms: &mut [Term],
     rows: &mut Vec<Response>,
 ) -> Result<(), AllocError>
     requires admitted { Admitted sys.now plan.now }
@@ -81,7 +87,7 @@ fn respond_leaf(
         budget: budgets[q as usize],
     };
     let sched = part.sched();
-    let worst = responses(alloc, sched, tasks, &supply)?;
+    let worst = responses(alloc, sched, tasks, terms, &supply)?;
     let seen = replays(alloc, sched, tasks, &supply, &worst)?;
     for i in 0..tasks.len() {
         rows.push(row_of(tasks, q, i as u32, worst[i], seen[i]))?;
@@ -89,11 +95,13 @@ fn respond_leaf(
     Ok(())
 }
 
-/// The greatest response of each task of a guest over a supply under which it passes.
+/// The greatest response of each task of a guest over a supply under which it passes. `room` is for
+/// the terms of the tasks.
 fn responses(
     alloc: Global,
     sched: Sched,
     tasks: &[Task],
+    room: &mut [Term],
     supply: &Periodic,
 ) -> Result<Vec<u64>, AllocError>
     requires fixed { sched ≢ Sched.Edf }
@@ -110,9 +118,33 @@ fn responses(
         IfOk result (λ worst. (i : ℕ) → i < length tasks.now →
         IsGreatestResponse conforms (before_of sched T) T i (slice_index_or worst.items i 0)) }
 {
-    let mut worst = Vec::with_capacity(alloc, tasks.len())?;
-    for i in 0..tasks.len() {
-        let Some(t) = response(sched, tasks, i as u32, supply) else {
+    let level = RankedLevel::gather(sched, tasks, room);
+    responses_in(alloc, &level, supply)
+}
+
+/// The same of a level that was gathered.
+fn responses_in(
+    alloc: Global,
+    level: &RankedLevel,
+    supply: &Periodic,
+) -> Result<Vec<u64>, AllocError>
+    requires few { length level.now.tasks.now ≤ 256 }
+    requires passes { let bound = sbf supply.now.period supply.now.budget in
+        Passes level.now.sched (sporadic_tasks level.now.tasks.now) bound }
+    ensures long { IfOk result (λ worst. length worst.items ≡ length level.now.tasks.now) }
+    ensures least { let T = sporadic_tasks level.now.tasks.now in
+        let bound = sbf supply.now.period supply.now.budget in
+        IfOk result (λ worst. (i : ℕ) → i < length level.now.tasks.now →
+        IsLeastHit (ranks_above level.now.sched T) T bound i (slice_index_or worst.items i 0)) }
+    ensures greatest { let T = sporadic_tasks level.now.tasks.now in
+        let conforms = GivesBudget supply.now.period supply.now.budget in
+        let before = before_of level.now.sched T in
+        IfOk result (λ worst. (i : ℕ) → i < length level.now.tasks.now →
+        IsGreatestResponse conforms before T i (slice_index_or worst.items i 0)) }
+{
+    let mut worst = Vec::with_capacity(alloc, level.tasks.len())?;
+    for i in 0..level.tasks.len() {
+        let Some(t) = response_in(level, i as u32, supply) else {
             unreachable!()
         };
         worst.push(t)?;
@@ -170,12 +202,11 @@ fn row_of(tasks: &[Task], q: u32, i: u32, worst: u64, replay: Option<u64>) -> Re
     ensures limit { result.limit ≡ room_of (task_at (sporadic_tasks tasks.now) i) }
     ensures told { (result.worst ≡ worst) × (result.replay ≡ replay) }
 {
-    let task = tasks[i as usize];
     Response {
         part: q,
         task: i,
         worst,
-        limit: task.deadline - task.jitter,
+        limit: room_at(tasks, i),
         replay,
     }
 }

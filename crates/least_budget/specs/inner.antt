@@ -1,3 +1,4 @@
 -- What only private functions promise each other.
 pub mod Cuts
 pub mod Levels
+pub mod Within

@@ -42,7 +42,7 @@ fn test_in<const ROOM: usize, S: Supply>(sched: Sched, tasks: &[Task], s: &S) ->
 {
     let mut room = [Term::none(); ROOM];
     let level = Level::gather(sched, tasks, &mut room);
-    level.test::<ROOM, S>(s)
+    level.test(s)
 }
 
 /// The test of a level under earliest deadline first.
@@ -59,16 +59,15 @@ pub fn test_by_windows<S: Supply>(lined: &LinedLevel, s: &S) -> Tested
     }
 }
 
-/// The test of a level under a fixed rank, which needs no horizon. `above` is for the terms of the
-/// tasks above one.
-pub fn test_by_rank<S: Supply>(level: &RankedLevel, above: &mut [Term], s: &S) -> Tested
+/// The test of a level under a fixed rank, which needs no horizon.
+pub fn test_by_rank<S: Supply>(level: &RankedLevel, s: &S) -> Tested
     requires { length level.now.tasks.now < 2 ^ 32 }
     ensures { let T = sporadic_tasks level.now.tasks.now in
         IsTested level.now.sched T (S.bound s.now) (S.cycle_of s.now) result }
 {
-    let common = hit_of_lowest(level, above, s);
+    let common = hit_of_lowest(level, s);
     for i in 0..level.tasks.len() as u32 {
-        if !has_hit_within(level, above, i, s, common) {
+        if !has_hit_within(level, i, s, common) {
             return Tested::Short(Short::Task(i));
         }
     }

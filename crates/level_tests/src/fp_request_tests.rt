@@ -56,8 +56,7 @@ fn requests_by_terms(rt: HostRuntime) {
     ];
     let mut room = [Term::none(); 3];
     let level = RankedLevel::gather(Sched::Rm, &tasks, &mut room);
-    let mut terms = [Term::none(); 3];
-    let last = level.task(2, &mut terms);
+    let last = level.task(2);
     for (t, want) in [
         (0, 29),
         (1, 36),

@@ -7,6 +7,6 @@ mod in_spans;
 mod jobs;
 mod replays;
 
-pub use greatest::response;
+pub use greatest::{response, response_in};
 pub use jobs::response_jobs;
 pub use replays::{replay, replay_tasks};

@@ -42,7 +42,7 @@ check_claims-requires-clause-in_period c =
     λ t. (computed_range (given_budget c.args.sys.now c.args.node.now.place) c.args.node.now c.requires.has.budget t).1
 
 -- what is so of the level as it is read is so of the node's
-of_node : (c : goal.After-check_claims) (P : Sched → List SporadicTask → (ℕ → ℕ) → ℕ → Type 0) →
+of_node : (c : goal.After-terms-1) (P : Sched → List SporadicTask → (ℕ → ℕ) → ℕ → Type 0) →
     let sys = c.args.sys.now in let budgets = c.args.budgets.now in let place = c.args.node.now.place in
     P c.sched_of-sched.result (sporadic_tasks (take c.write_tasks-count.result c.write_tasks-count.new.room))
     (bound_of c.node_supply-supply.result) (cycle_of c.node_supply-supply.result)

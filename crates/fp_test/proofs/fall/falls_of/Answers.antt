@@ -1,7 +1,6 @@
 use Rattle.std.proofs.Common.{ℕ, ◌<◌, Bool, List, sym, subst, arith}
 use Rattle.slot_model.specs.Task.{SporadicTask, sporadic_tasks}
 use Rattle.slot_model.specs.Order.{ranks_above}
-use Rattle.fp_test.proofs.Answer.{room-is}
 use Rattle.fp_test.proofs.FallSteps.{FallsTo, fall_later, falls_more}
 use Rattle.fp_test.proofs.fall.falls_of.Goals as goal
 use Rattle.fp_test.proofs.fall.falls_of.Goals.{After-next_fall-last}
@@ -14,7 +13,7 @@ later g c =
     (omega (
       arith,
       c.loop-last-test.true,
-      room-is c.args.task.now.tasks.now c.args.task.now.i c.index-task-task.result c.args.task.now.i_named,
+      c.room_at-end.ensures.exact,
     ))
     c.next_fall-last.ensures
 

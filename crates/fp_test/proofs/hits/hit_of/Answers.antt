@@ -1,5 +1,4 @@
-use Rattle.std.proofs.Common.{◌^◌, ◌≡◌, ◌<◌, ◌≤◌, ◌-◌, ℕ, List, get_or, sym, subst, arith}
-use Rattle.slot_model.specs.declared.task.Task.{Task}
+use Rattle.std.proofs.Common.{◌^◌, ◌<◌, ◌≤◌, ℕ, List, subst, arith}
 use Rattle.slot_model.specs.Task.{SporadicTask, room_of, task_at, sporadic_tasks}
 use Rattle.slot_model.specs.Order.{ranks_above}
 use Rattle.slot_model.specs.Bound.{rbf, IsShortTask}
@@ -7,24 +6,13 @@ use Rattle.slot_model.proofs.HandedOn.{none_handed_on}
 use Rattle.slot_model.proofs.Constrained.{are_constrained}
 use Rattle.fp_request.proofs.Parts.{sporadic_tasks-length}
 use Rattle.fp_test.proofs.Jumps.{bound-le, passed_first, passed_more, passed_hit, passed_late, passed_wide, before_reach}
-use Rattle.fp_test.proofs.Answer.{room-is, room_fits}
 use Rattle.fp_test.proofs.hits.hit_of.Goals as goal
 use Rattle.fp_test.proofs.hits.hit_of.Goals.{After-request}
 
--- the task that the code reads
-abbrev own : (g : _) → After-request g → Task
-own g c = get_or c.args.task.now.tasks.now c.args.task.now.i c.index-task-task.result
-
--- what its deadline leaves past its jitter
-room_read : (g : _) (c : After-request g)
-    → room_of (task_at (sporadic_tasks c.args.task.now.tasks.now) c.args.task.now.i)
-    ≡ (own g c).deadline - (own g c).jitter
-room_read g c = room-is c.args.task.now.tasks.now c.args.task.now.i c.index-task-task.result c.args.task.now.i_named
-
--- it is small
+-- what the deadline leaves past the jitter is small
 small : (g : _) (c : After-request g)
     → room_of (task_at (sporadic_tasks c.args.task.now.tasks.now) c.args.task.now.i) < 2 ^ 128
-small g c = room_fits c.args.task.now.tasks.now c.args.task.now.i c.index-task-task.result c.args.task.now.i_named
+small g c = omega (arith, c.room_at-end.ensures.exact, c.room_at-end.ensures.fits)
 
 -- so there is no hit where a window asks for more than a number of the code holds
 none_wide : (g : _) (c : After-request g) → let T : List SporadicTask = sporadic_tasks c.args.task.now.tasks.now in
@@ -51,10 +39,9 @@ returns-in_err-t g c =
 
 pub returns-then-t-end : goal.returns-then-t-end
 returns-then-t-end g c =
-    let at = (goal.at.returns-then-t-end g c).After-request in
     passed_late _ _ (g.met.S.Supply.laws c.args.s.now) c.args.task.now.i c.loop-t.asked c.in_ok-t.t
     c.loop-t.invariant c.in_ok-t.ensures.1
-    (subst (λ (room : ℕ). room < c.in_ok-t.t) (sym (room_read g at)) c.if-t-end.true)
+    (subst (λ (room : ℕ). room < c.in_ok-t.t) (c.room_at-end.ensures.exact) c.if-t-end.true)
 
 pub returns-in_err-more : goal.returns-in_err-more
 returns-in_err-more g c =
@@ -65,10 +52,9 @@ returns-in_err-more g c =
 
 pub returns-then-more-asked : goal.returns-then-more-asked
 returns-then-more-asked g c =
-    let at = (goal.at.returns-then-more-asked g c).After-request in
     passed_hit _ _ (g.met.S.Supply.laws c.args.s.now) c.args.task.now.i c.loop-t.asked c.in_ok-t.t
     c.loop-t.invariant c.in_ok-t.ensures
-    (subst (λ (room : ℕ). c.in_ok-t.t ≤ room) (sym (room_read g at)) c.if-t-end.false)
+    (subst (λ (room : ℕ). c.in_ok-t.t ≤ room) (c.room_at-end.ensures.exact) c.if-t-end.false)
     (omega (arith, c.in_ok-more.ensures))
 
 pub loop-t-init : goal.loop-t-init

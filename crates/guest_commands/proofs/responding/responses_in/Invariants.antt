@@ -5,17 +5,18 @@ use Rattle.slot_model.specs.Order.{before_of, ranks_above}
 use Rattle.slot_model.specs.Bound.{sbf}
 use Rattle.fp_test.specs.Hits.{IsLeastHit}
 use Rattle.response_times.specs.Response.{IsGreatestResponse}
-use Rattle.guest_commands.proofs.responding.responses.Given as goal
+use Rattle.guest_commands.proofs.responding.responses_in.Given as goal
 
 -- the greatest responses of the tasks so far
 abbrev pub invariant-loop-i : goal.invariant-loop-i
 invariant-loop-i l =
-    let T = sporadic_tasks l.tasks in
+    let T = sporadic_tasks l.level.tasks.now in
     record {
       long : length l.worst.items ≡ l.i;
       least : (k : ℕ) → k < l.i
-          → IsLeastHit (ranks_above l.sched T) T (sbf l.supply.period l.supply.budget) k (get_or l.worst.items k 0);
+          → IsLeastHit (ranks_above l.level.sched T) T (sbf l.supply.period l.supply.budget) k
+          (get_or l.worst.items k 0);
       greatest : (k : ℕ) → k < l.i
-          → IsGreatestResponse (GivesBudget l.supply.period l.supply.budget) (before_of l.sched T) T k
+          → IsGreatestResponse (GivesBudget l.supply.period l.supply.budget) (before_of l.level.sched T) T k
           (get_or l.worst.items k 0);
     }
