@@ -1,5 +1,6 @@
 pub mod Released
 pub mod Ranks
+pub mod Lowest
 pub mod Parts
 pub mod Terms
 pub mod Keys

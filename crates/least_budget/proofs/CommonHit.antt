@@ -8,7 +8,8 @@ use Rattle.slot_model.specs.Bound.{request_of, rbf, IsHit}
 use Rattle.slot_model.proofs.Sums.{sum_below-lt}
 use Rattle.fp_request.specs.Parts.{part_of}
 use Rattle.fp_test.specs.Hits.{AnswersLeastHit}
-use Rattle.least_budget.specs.CommonHit.{IsLowest, IsCommon}
+use Rattle.fp_request.specs.Lowest.{IsLowest}
+use Rattle.least_budget.specs.CommonHit.{IsCommon}
 
 -- a task asks for its work in every window
 work_asked : (task : SporadicTask) → IsConstrained task → (t : ℕ) → 1 ≤ t → task.work ≤ request_of task t

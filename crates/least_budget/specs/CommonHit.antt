@@ -1,11 +1,7 @@
--- The task that all others rank above, and a window within which it has a hit.
-use Rattle.std.specs.Prelude.{◌≡◌, ◌≢◌, ℕ, ◌<◌, ◌≤◌, Bool, true, List, length}
+-- A window within which the task that all others rank above has a hit.
+use Rattle.std.specs.Prelude.{ℕ, ◌<◌, ◌≤◌, Bool, List, length}
 use Rattle.slot_model.specs.Task.{SporadicTask, task_at, room_of}
 use Rattle.slot_model.specs.Bound.{IsHit}
-
--- all other places below n rank above this one
-abbrev pub IsLowest : (ℕ → ℕ → Bool) → ℕ → ℕ → Type 0
-IsLowest above n low = (k : ℕ) → k < n → k ≢ low → above k low ≡ true
 
 -- each task whose deadline leaves as many slots past its jitter has a hit there
 abbrev pub IsCommon : (ℕ → ℕ → Bool) → List SporadicTask → (ℕ → ℕ) → ℕ → Type 0

@@ -2,7 +2,8 @@ ghost use Rattle.std.specs.Prelude.{◌≢◌, ◌↔◌, ◌^◌, ◌<◌, leng
 ghost use Rattle.slot_model.specs.Task.{room_of, sporadic_tasks, task_at};
 ghost use Rattle.slot_model.specs.Order.{ranks_above};
 ghost use Rattle.least_budget.specs.Answers.{HasHit};
-ghost use Rattle.least_budget.specs.CommonHit.{IsLowest, IsCommon};
+ghost use Rattle.fp_request.specs.Lowest.{IsLowest};
+ghost use Rattle.least_budget.specs.CommonHit.{IsCommon};
 ghost use Rattle.least_budget.specs.inner.Within.{IsWithin};
 
 use fp_request::{RankedLevel, higher, room_at};

@@ -4,7 +4,7 @@ use Rattle.slot_model.specs.Order.{ranks_above}
 use Rattle.slot_model.proofs.Constrained.{are_constrained}
 use Rattle.fp_request.specs.Ranks.{ranks_is_rank}
 use Rattle.fp_request.proofs.Parts.{sporadic_tasks-length}
-use Rattle.least_budget.specs.CommonHit.{IsLowest}
+use Rattle.fp_request.specs.Lowest.{IsLowest}
 use Rattle.least_budget.proofs.CommonHit.{common_answer}
 use Rattle.least_budget.proofs.lowest.hit_of_lowest.Goals as goal
 

@@ -1,7 +1,7 @@
 use Rattle.std.proofs.Common.{◌<◌}
 use Rattle.slot_model.specs.Task.{sporadic_tasks}
 use Rattle.slot_model.specs.Order.{ranks_above}
-use Rattle.least_budget.specs.CommonHit.{IsLowest}
+use Rattle.fp_request.specs.Lowest.{IsLowest}
 use Rattle.least_budget.proofs.lowest.lowest.Given as goal
 
 abbrev pub invariant-loop-i : goal.invariant-loop-i
