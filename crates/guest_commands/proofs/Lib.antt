@@ -1,3 +1,4 @@
 mod OneResponses
 mod RespondLeaf
 pub mod Laws
+mod Examples

@@ -13,7 +13,7 @@ use Rattle.admission_session.specs.Answers.{IsAdmitted}
 use Rattle.placement.specs.declared.fault.PlaceFault.{PlaceFault}
 use Rattle.placement.specs.declared.fault.PlaceFault.TheVariants.{Refused, BadGuest, Unplaced, NoMemory}
 use Rattle.placement.specs.Placement.{IsPlaced}
-use Rattle.placement.specs.Answers.{AreRefused, PlaceFails, guest_at}
+use Rattle.placement.specs.Answers.{AreRefused, IsBadGuest, PlaceFails, StopsAt, guest_at}
 use Rattle.script_file.specs.declared.guests.GuestFault.{GuestFault}
 use Rattle.script_file.specs.declared.guests.GuestFault.TheVariants.{Script as NoScript, Other}
 use Rattle.script_file.specs.Guests.{SpellsGuests, IsGuestFault}
@@ -125,10 +125,19 @@ pub record TellsUnplaced (sys : SystemView) (guests : List PartView) (text : Lis
   pub refused : (c : ℕ) → c < length sys.cores →
       IsTrulyRefused (with_guest now (guest_at guests guest) c)
 
+-- a refused file means: the text tells the row of a guest that can be no leaf of the system that
+-- the guests before it make, each of which has its first fit there
+pub record TellsBadGuest (sys : SystemView) (guests : List PartView) (text : List ℕ)
+    : Type 0 where
+  pub guest : ℕ
+  pub told : text ≡ fault_text (BadRow (row_of guest)) 2
+  pub stops : StopsAt sys guests guest IsBadGuest
+
 -- of a wide answer nothing is claimed
 abbrev pub MeansOfPlaces : SystemView → List PartView → Status → List ℕ → Type 0
 MeansOfPlaces sys guests Yes text = TellsPlaced sys guests text
 MeansOfPlaces sys guests No text = IsTrulyOverfull sys text ⊎ TellsUnplaced sys guests text
+MeansOfPlaces sys guests BadFile text = TellsBadGuest sys guests text
 MeansOfPlaces sys guests _ text = ⊤
 
 abbrev pub PlaceMeans : Contents → Status → List ℕ → Type 0

@@ -1,8 +1,11 @@
 -- Worked cores: what is asked of the last slots of a period, who is isolated and by how many, and a
 -- run in which one that is not falls short. A definition that says otherwise breaks one of these.
-use Rattle.std.proofs.Common.{◌≡◌, ℕ, nat_lt, true, false, Bool, Option, Some, None, List, [], ◌∷◌, refl, lit≤}
+use Rattle.std.proofs.Common.{◌≡◌, ℕ, zero, suc, nat_lt, ◌<◌, ◌≤◌, true, false, Bool, Option, Some, None, List, [], ◌∷◌, refl, subst, arith, lit<, lit≤}
+use Rattle.std.proofs.lemmas.Bool.{and_parts, ltb-true}
+use Rattle.std.proofs.lemmas.Bool.Decides.{nat_tests}
 use Rattle.csv_rows.specs.Last.{last_below}
 use Rattle.slot_model.specs.Slots.{sum_below, count_below}
+use Rattle.slot_model.specs.Run.{held}
 use Rattle.slot_model.specs.declared.sched.Sched.TheVariants.{Edf}
 use Rattle.tree_model.specs.declared.pinned_core.Core.{Core as CoreView}
 use Rattle.tree_model.specs.declared.place.Parent.{Parent}
@@ -11,13 +14,20 @@ use Rattle.tree_model.specs.View.{PartView, SystemView}
 use Rattle.release_file.specs.declared.workload.Wake.{Wake}
 use Rattle.release_file.specs.declared.workload.WakeKind.{WakeKind}
 use Rattle.release_file.specs.declared.workload.WakeKind.TheVariants.{Start, Wake as ToWake, Block}
-use Rattle.release_file.specs.Workload.{start_of}
-use Rattle.rtds_sim.specs.Rtds.{CoreRun, deadline_at}
+use Rattle.release_file.specs.Workload.{start_of, is_blocked_at, IsWorkload}
+use Rattle.rtds_sim.specs.Rtds.{CoreRun, deadline_at, is_eligible, level_at}
+use Rattle.rtds_sim.specs.Printed.{IsRtdsTrace}
 use Rattle.rtds_sim.proofs.Runs.{better, choice, chosen, is_run}
 use Rattle.rtds_sim.specs.Demand.{deferrable_demand, later}
 use Rattle.isolation.specs.Demand.{no_tie, asked, IsIsolatedBy}
-use Rattle.isolation.specs.Open.{goes_sooner}
-use Rattle.isolation.specs.Keeping.{got_in}
+use Rattle.isolation.specs.Open.{goes_sooner, OpenEntry, OpenRun}
+use Rattle.isolation.specs.Keeping.{got_in, IsAwakeLast, KeepsBudget, KeepsOpenly}
+use Rattle.isolation.specs.InTrace.{IsRunLength, IsAwakeInTrace, KeepsInTrace}
+use Rattle.trace_file.specs.declared.event.Event.{Event}
+use Rattle.trace_file.specs.declared.event.What.{What}
+use Rattle.trace_file.specs.declared.event.What.TheVariants.{Start as Starts, Wake as Wakes, Block as Blocks, End}
+use Rattle.trace_file.specs.Periods.{blocked, budget_of, got_in as got_in_trace}
+use Rattle.tree_model.specs.Tree.{budget_at}
 
 abbrev server : Parent → ℕ → ℕ → Bool → PartView
 server parent period budget extra =
@@ -137,3 +147,111 @@ others_are_not_asked = refl
 sooner : (goes_sooner 0 5 1 0 6 0 ≡ true) × (goes_sooner 0 5 0 0 5 1 ≡ false) × (goes_sooner 0 9 1 1 5 0 ≡ true)
     × (goes_sooner 1 5 0 0 9 1 ≡ false)
 sooner = (refl, refl, refl, refl)
+
+-- two of one period that start at once may each go first where ties are left open, and only the
+-- first in the file where they are not
+abbrev equal_budgets : List ℕ
+equal_budgets = 3 ∷ 4 ∷ 3 ∷ []
+
+abbrev start_at_once : List Wake
+start_at_once = row 0 0 Start ∷ row 0 1 Start ∷ []
+
+abbrev second_first : List (Option ℕ)
+second_first = two ∷ []
+
+is_one : (v : ℕ) → two ≡ Some v → 1 ≡ v
+is_one v e = cc
+
+not_before_the_second : (u : ℕ) → is_eligible equal equal_budgets start_at_once 0 second_first u 0 ≡ true
+    → goes_sooner (level_at equal equal_budgets start_at_once second_first u 0) (deadline_at equal start_at_once u 0) u
+    (level_at equal equal_budgets start_at_once second_first 1 0) (deadline_at equal start_at_once 1 0) 1 ≡ false
+unfolding last_below sum_below
+not_before_the_second zero e = refl
+not_before_the_second (suc zero) e = refl
+not_before_the_second (suc (suc zero)) e = refl
+not_before_the_second (suc (suc (suc u))) e =
+    absurd (omega (arith, ltb-true (suc (suc (suc u))) 3 (and_parts _ _ (and_parts _ _ (and_parts _ _ e).0).0).0))
+
+the_second_is_eligible : is_eligible equal equal_budgets start_at_once 0 second_first 1 0 ≡ true
+unfolding last_below sum_below
+the_second_is_eligible = refl
+
+a_tie_may_go_to_the_later : OpenRun equal equal_budgets start_at_once 1 0 second_first
+a_tie_may_go_to_the_later = record { long = refl; each = at }
+  where
+    at : (x : ℕ) → x < 1 → OpenEntry equal equal_budgets start_at_once 0 second_first x (held second_first x)
+    at zero l = record {
+      idle = λ e v. cc;
+      named =
+          λ v e. subst (λ (z : ℕ). is_eligible equal equal_budgets start_at_once 0 second_first z 0 ≡ true) (is_one v e)
+          the_second_is_eligible;
+      first =
+          λ u v e eligible. subst (λ (z : ℕ). goes_sooner
+          (level_at equal equal_budgets start_at_once second_first u 0) (deadline_at equal start_at_once u 0) u
+          (level_at equal equal_budgets start_at_once second_first z 0) (deadline_at equal start_at_once z 0) z ≡ false)
+          (is_one v e) (not_before_the_second u eligible);
+    }
+    at (suc x) l = absurd (omega (arith, l))
+
+-- the third starts at 0, blocks at 1 and wakes at 7, so it is awake in the last 3 slots of its
+-- period, which ends with the run
+abbrev wakes_at_seven : List Wake
+wakes_at_seven = row 0 2 Start ∷ row 1 2 Block ∷ row 7 2 ToWake ∷ []
+
+awake_from_seven : (x : ℕ) → 7 ≤ x → is_blocked_at wakes_at_seven 2 x ≡ false
+unfolding last_below
+awake_from_seven x l = grind (arith, nat_tests, l)
+
+its_start : start_of wakes_at_seven 2 ≡ 0
+unfolding last_below
+its_start = refl
+
+awake_in_its_last_slots : IsAwakeLast equal wakes_at_seven 10 0 2 0 3
+unfolding last_below
+awake_in_its_last_slots = record {
+  starts = record { is_part = lit< tt; on_core = refl; started = refl };
+  in_run = lit≤ tt;
+  awake = λ x l m. awake_from_seven x (omega (arith, l));
+}
+
+-- the same in a trace, whose moments are nanoseconds
+abbrev event : ℕ → What → Event
+event at what = record { at = at; core = 0; what = what }
+
+abbrev trace_to_ten : List Event
+trace_to_ten = event 0 (Starts 2) ∷ event 1000 (Blocks 2) ∷ event 7000 (Wakes 2) ∷ event 10000 End ∷ []
+
+awake_from_seven_thousand : (x : ℕ) → 7000 ≤ x → blocked trace_to_ten 2 x ≡ false
+unfolding last_below
+awake_from_seven_thousand x l = grind (arith, nat_tests, l)
+
+awake_in_its_last_moments : IsAwakeInTrace equal trace_to_ten 2 0 0 3
+unfolding last_below
+awake_in_its_last_moments = record {
+  started = refl;
+  in_trace = lit≤ tt;
+  awake = λ x l m. awake_from_seven_thousand x (omega (arith, l));
+}
+
+-- a run of as many slots as `rtds` takes
+the_longest_run : IsRunLength 1000000
+the_longest_run = (lit≤ tt, lit≤ tt)
+
+-- what is kept, taken apart: no more is asked of a workload, a run and a period than this
+what_is_kept : (sys : SystemView) (budgets : List ℕ) (c v t : ℕ) → KeepsBudget sys budgets c v t
+    → (rows : List Wake) (n : ℕ) (run : List (Option ℕ)) (k : ℕ) → IsWorkload sys rows
+    → CoreRun sys budgets rows n c run → IsAwakeLast sys rows n c v k t
+    → budget_at budgets v ≤ got_in sys rows run v k
+what_is_kept sys budgets c v t keeps = keeps
+
+what_is_kept_openly : (sys : SystemView) (budgets : List ℕ) (c v t : ℕ) → KeepsOpenly sys budgets c v t
+    → (rows : List Wake) (n : ℕ) (run : List (Option ℕ)) (k : ℕ) → IsWorkload sys rows
+    → OpenRun sys budgets rows n c run → IsAwakeLast sys rows n c v k t
+    → budget_at budgets v ≤ got_in sys rows run v k
+what_is_kept_openly sys budgets c v t keeps = keeps
+
+what_is_kept_in_traces : (sys : SystemView) (budgets : List ℕ) (v t : ℕ) → KeepsInTrace sys budgets v t
+    → (rows : List Wake) (slots : ℕ) (events : List Event) (f k : ℕ) → IsWorkload sys rows → IsRunLength slots
+    → IsRtdsTrace sys budgets rows slots events → IsAwakeInTrace sys events v f k t
+    → budget_of budgets v ≤ got_in_trace sys events v f k
+what_is_kept_in_traces sys budgets v t keeps = keeps

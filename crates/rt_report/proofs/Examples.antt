@@ -16,7 +16,11 @@ use Rattle.system_file.specs.declared.fault.SystemFault.TheVariants.{NotToml, Mi
 use Rattle.release_file.specs.declared.fault.ReleaseFault.TheVariants.{BadHeader as NoReleases, BadRow as ReleaseBadRow, Unknown as ReleaseUnknown, OutOfRange as ReleaseOutOfRange, TooEarly, BadOrder}
 use Rattle.trace_file.specs.declared.fault.TraceFault.TheVariants.{BadHeader as NoTrace, BadRow, Unknown, OutOfRange as LateMoment, TimeFalls, WrongCore, NotStarted, StartedTwice, NotBlocked, NotRunnable, StillRunning, CoreIdle, AfterEnd, NoEnd}
 use Rattle.cert_reader.specs.declared.fault.CertFault.TheVariants.{NotJson, WrongShape, BadNumber, TooMany as TooManyNodes}
-use Rattle.rt_report.specs.declared.fault.FileFault.TheVariants.{System, Release, Trace, Cert, NoSuchLeaf, BadDeadline}
+use Rattle.script_file.specs.declared.fault.ScriptFault.TheVariants.{BadHeader as NoScript, BadRow as ScriptBadRow}
+use Rattle.isolation.specs.declared.isolation.Isolation.TheVariants.{Isolated, ByTies, ByBlock}
+use Rattle.admission_session.specs.declared.answer.Answer.TheVariants.{Done, Refused, Denied}
+use Rattle.admission_session.specs.declared.fault.EditFault.TheVariants.{LastChild}
+use Rattle.rt_report.specs.declared.fault.FileFault.TheVariants.{System, Release, Trace, Cert, Script, BadGuest, NoSuchLeaf, BadDeadline}
 use Rattle.miss_witness.specs.declared.replay.Replay.{Replay}
 use Rattle.auditor.specs.declared.finding.Finding.TheVariants.{Yes, Short, Over}
 use Rattle.rt_report.specs.Audit.{audit_text}
@@ -28,6 +32,12 @@ use Rattle.rt_report.specs.Check.{check_text}
 use Rattle.rt_report.specs.Choose.{best_text, nothing_text}
 use Rattle.rt_report.specs.Fault.{fault_text, not_rtds_text}
 use Rattle.rt_report.specs.Interface.{interface_text}
+use Rattle.rt_report.specs.Isolation.{isolation_text}
+use Rattle.rt_report.specs.Place.{unplaced_text}
+use Rattle.rt_report.specs.Responses.{responses_text}
+use Rattle.rt_report.specs.Session.{session_text}
+use Rattle.rt_report.specs.Slack.{slack_text}
+use Rattle.rt_report.specs.Tally.{tally_text}
 use Rattle.rt_report.specs.Unread.{absent_text, too_long_text}
 use Rattle.rt_report.specs.Words.{served_name}
 
@@ -202,3 +212,53 @@ a_generated_host : bulk_text (record { guests = 1; cores = 1; budgets = 53; jobs
     ≡ codes "verdict=yes\nguests=1 cores=1 budgets=53 jobs=15 missed=0 pending=130460\n"
 unfolding digits
 a_generated_host = refl
+
+-- a script and its guests, of which a row is told, and a guest that fits on no core
+faults_of_scripts : (fault_text (Script NoScript) 2 ≡ codes "fault=BadHeader row=1 file=2\n")
+    × (fault_text (Script (ScriptBadRow 3)) 2 ≡ codes "fault=BadRow row=3 file=2\n")
+    × (fault_text (BadGuest 4) 2 ≡ codes "fault=BadGuest row=4 file=2\n")
+    × (unplaced_text (codes "ctl") ≡ codes "verdict=no\nunplaced ctl\n")
+unfolding digits
+faults_of_scripts = (refl, refl, refl, refl)
+
+-- a session: its rows are counted from 1, and below them stands the plan of what is left
+what_a_session_tells : session_text
+    (Done ∷ Refused LastChild ∷ Denied tree (Overfull (Part 2) (Task 1)) ∷ Denied tree (Wide (Core 0)) ∷ [])
+    (record { cores = []; parts = part (codes "net") (on_core 0) 40 (Some 2) [] ∷ [] }) (2 ∷ [])
+    ≡ codes
+    "verdict=yes\n1 yes\n2 refused LastChild\n3 overfull part video task=v2\n4 wide core cpu0\npart net period=40 budget=2 given\n"
+unfolding digits
+what_a_session_tells = refl
+
+-- a line for each task of a leaf
+what_responses_tell : responses_text tree
+    (record { part = 2; task = 1; worst = 90; limit = 750; replay = Some 90 }
+    ∷ record { part = 3; task = 0; worst = 41; limit = 400; replay = None } ∷ [])
+    ≡ codes
+    "verdict=yes\nresponse video v2 worst=90 limit=750 replay=90\nresponse ctl c1 worst=41 limit=400 replay=skipped\n"
+unfolding digits
+what_responses_tell = refl
+
+what_slack_tells : slack_text (part_at tree 2) (71 ∷ 95 ∷ [])
+    ≡ codes "verdict=yes\nslack video v1 work=70 most=71\nslack video v2 work=90 most=95\n"
+unfolding digits
+what_slack_tells = refl
+
+-- a line for each part on a core: yes where each is isolated however ties are broken
+what_isolations_tell :
+    (isolation_text tree (record { part = 1; isolation = Isolated 5 } ∷ [])
+    ≡ codes "verdict=yes\nisolated net last=5 of=40\n")
+    × (isolation_text tree (record { part = 0; isolation = ByTies 31 } ∷ record { part = 1; isolation = ByBlock } ∷ [])
+    ≡ codes "verdict=no\nexposed mid by=ties last=31 of=50\nexposed net by=block\n")
+unfolding digits
+what_isolations_tell = (refl, refl)
+
+-- behind an audit a line for each part on a core, and none for the parts of a part
+what_a_tally_tells : tally_text tree (30 ∷ 2 ∷ 28 ∷ 40 ∷ []) (Yes 3)
+    (record { begun = 4; judged = 3; short = 0; over = 0; least = Some 30000; most = Some 31000 }
+    ∷ record { begun = 0; judged = 0; short = 0; over = 0; least = None; most = None }
+    ∷ record { begun = 9; judged = 9; short = 9; over = 9; least = None; most = None } ∷ [])
+    ≡ codes
+    "verdict=yes\nperiods=3\nvcpu mid begun=4 judged=3 short=0 over=0 least_ns=30000 most_ns=31000\nvcpu net begun=0 judged=0 short=0 over=0 least_ns=- most_ns=-\n"
+unfolding digits
+what_a_tally_tells = refl

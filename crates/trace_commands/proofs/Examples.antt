@@ -1,16 +1,32 @@
 -- Worked cases of what is answered to traces and runs. A wrong definition breaks one of them.
-use Rattle.std.proofs.Common.{◌≡◌, ℕ, List, length, Option, refl, ◌<◌}
-use Rattle.std.specs.Prelude.{codes}
+use Rattle.std.proofs.Common.{◌≡◌, ◌⊎◌, ℕ, Bool, true, false, List, length, Option, refl, ◌<◌}
+use Rattle.std.specs.Prelude.{codes, All, ◌++◌}
 use Rattle.std.specs.Fmt.{digits}
 use Rattle.tree_model.specs.View.{SystemView}
 use Rattle.tree_model.specs.Tree.{run_at}
-use Rattle.tree_model.specs.Admission.{Admitted}
+use Rattle.tree_model.specs.Admission.{Admitted, Assigned}
+use Rattle.slot_model.specs.Slots.{sum_below}
 use Rattle.command_steps.specs.declared.status.Status.TheVariants.{Yes, No, BadFile}
 use Rattle.trace_file.specs.declared.event.Event.{Event}
 use Rattle.trace_file.specs.declared.fault.TraceFault.TheVariants.{BadHeader, TimeFalls}
 use Rattle.trace_file.specs.Periods.{Satisfied}
 use Rattle.auditor.specs.declared.finding.Finding.TheVariants.{Yes as Kept, Short, Over}
-use Rattle.trace_commands.specs.Audit.{tracing, finding_status}
+use Rattle.auditor.specs.Tally.{AreTallies, tally_at}
+use Rattle.vcpu_watch.specs.declared.tally.Tally.{Tally}
+use Rattle.isolation.specs.declared.isolation.Isolation.TheVariants.{Isolated, ByTies, ByBlock}
+use Rattle.isolation.specs.declared.vcpus.PartIsolation.{PartIsolation}
+use Rattle.isolation.specs.Keeping.{KeepsOpenly}
+use Rattle.isolation.specs.InTrace.{KeepsInTrace, IsExposedInTrace}
+use Rattle.isolation.specs.Answers.{own_core, AreIsolations, are_isolated}
+use Rattle.rt_report.specs.Audit.{audit_text}
+use Rattle.rt_report.specs.Isolation.{isolation_text}
+use Rattle.rt_report.specs.Tally.{tally_lines}
+use Rattle.command_steps.specs.declared.status.Status.{Status}
+use Rattle.command_steps.specs.Budgets.{IsTrulyOverfull}
+use Rattle.rtds_sim.specs.Fault.{AllRtds}
+use Rattle.trace_commands.specs.Audit.{tracing, finding_status, TellsSatisfied}
+use Rattle.trace_commands.specs.Isolate.{IsolationsMean, LineMeans, TellsIsolations}
+use Rattle.trace_commands.specs.Tally.{TellsTally}
 use Rattle.csv_rows.specs.Printing.{text_of}
 use Rattle.csv_rows.specs.Reading.{records_of}
 use Rattle.trace_file.specs.File.{Spells}
@@ -60,3 +76,49 @@ a_host_that_gives : (sys : SystemView) (budgets : List ℕ) (wakes : List Wake) 
     ((c : ℕ) → c < length sys.cores → AlwaysRunnable sys wakes c) → Satisfied sys budgets told.events
 a_host_that_gives sys budgets wakes slots text told admitted runnable =
     told.satisfied (record { admitted = admitted; runnable = runnable })
+
+-- what the lines of `isolate` say
+abbrev AreLinesOf : SystemView → List ℕ → List ℕ → Bool → Type 0
+AreLinesOf sys text budgets all =
+    (rows : List PartIsolation) × Admitted sys budgets × Assigned sys budgets × AllRtds sys (length sys.cores)
+    × AreIsolations sys budgets rows
+    × All (λ (row : PartIsolation). LineMeans sys budgets (own_core sys row.part) row.part row.isolation) rows
+    × (are_isolated rows ≡ all) × (text ≡ isolation_text sys rows)
+
+what_lines_say : (sys : SystemView) (text : List ℕ) (all : Bool) → TellsIsolations sys text all
+    → (budgets : List ℕ) × AreLinesOf sys text budgets all
+what_lines_say sys text all told = (
+  told.budgets,
+  (
+    told.rows,
+    told.admitted,
+    told.assigned,
+    told.all_rtds,
+    told.isolations,
+    told.means,
+    told.all_isolated,
+    told.told,
+  ),
+)
+
+a_yes_isolates_all : (sys : SystemView) (text : List ℕ) → IsolationsMean sys Yes text → TellsIsolations sys text true
+a_yes_isolates_all sys text told = told
+
+a_no_isolates_not_all : (sys : SystemView) (text : List ℕ) → IsolationsMean sys No text
+    → IsTrulyOverfull sys text ⊎ TellsIsolations sys text false
+a_no_isolates_not_all sys text told = told
+
+what_a_line_says : (sys : SystemView) (budgets : List ℕ) (c v last : ℕ)
+    → (LineMeans sys budgets c v (Isolated last)
+    → KeepsInTrace sys budgets v last × KeepsOpenly sys budgets c v last)
+    × (LineMeans sys budgets c v (ByTies last) → KeepsInTrace sys budgets v last)
+    × (LineMeans sys budgets c v ByBlock → IsExposedInTrace sys budgets c v)
+what_a_line_says sys budgets c v last = (λ h. h, λ h. h, λ h. h)
+
+-- what a tally says: what an audit does, and on yes the periods of all VCPUs
+what_a_tally_says : (sys : SystemView) (budgets : List ℕ) (events : List Event) (status : Status) (text : List ℕ)
+    → TellsTally sys budgets events status text
+    → (tallies : List Tally) × TellsSatisfied sys budgets events status × AreTallies sys budgets events tallies
+    × (status ≡ Yes → text ≡ audit_text sys budgets (Kept (sum_below (λ v. (tally_at tallies v).judged)
+    (length sys.parts))) ++ tally_lines sys 0 tallies)
+what_a_tally_says sys budgets events status text told = (told.tallies, told.satisfied, told.counted, told.on_yes)

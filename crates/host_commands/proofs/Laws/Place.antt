@@ -111,7 +111,7 @@ fault_means sys is guests (Refused (Overfull node short)) h =
     })
 fault_means sys is guests (Refused (TooWide node)) h = tt
 fault_means sys is guests (Refused NoRefusal) h = tt
-fault_means sys is guests (BadGuest i) h = tt
+fault_means sys is guests (BadGuest i) h = record { guest = i; told = refl; stops = h.fails }
 fault_means sys is guests (Unplaced i) h = inr (unplaced_means sys is guests i h.refused)
 fault_means sys is guests NoMemory h = tt
 
