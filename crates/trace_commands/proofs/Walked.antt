@@ -6,8 +6,15 @@ use Rattle.tree_model.specs.View.{SystemView}
 use Rattle.trace_file.specs.declared.check.TraceCheck.{TraceCheck}
 use Rattle.trace_file.specs.declared.event.Event.{Event}
 use Rattle.trace_file.specs.Fed.{HasChecked}
+use Rattle.auditor.specs.declared.finding.Finding.{Finding}
+use Rattle.auditor.specs.declared.finding.Finding.TheVariants.{Yes as Kept, Short, Over}
+use Rattle.auditor.specs.Finding.{IsFinding, IsFindingOf}
+use Rattle.auditor.specs.Tally.{IsTalliedOf}
+use Rattle.vcpu_watch.specs.declared.tally.Tally.{Tally}
 use Rattle.auditor.specs.declared.pieces.Audit.{Audit}
 use Rattle.auditor.specs.Pieces.{HasAudited}
+use Rattle.rt_report.specs.Audit.{audit_text, IsFindingOf as IsToldOf}
+use Rattle.rt_report.specs.Tally.{tally_text}
 use Rattle.command_steps.specs.declared.status.Status.{Status}
 use Rattle.command_steps.specs.declared.answer.Ending.{Ending}
 use Rattle.command_steps.specs.declared.answer.Ending.TheVariants.{Answered, Unread, NoMemory as NoRoom}
@@ -18,8 +25,8 @@ use Rattle.trace_commands.specs.declared.walk.Walker.{Walker}
 use Rattle.trace_commands.specs.declared.walk.Walker.TheVariants.{Audits, Checks}
 use Rattle.trace_commands.specs.declared.audit.TraceCommand.{TraceCommand}
 use Rattle.trace_commands.specs.declared.audit.TraceCommand.TheVariants.{Audit as ToAudit, Tally as ToTally}
-use Rattle.trace_commands.specs.Audit.{tracing, IsAudited, OnTrace, IsTrace}
-use Rattle.trace_commands.specs.Tally.{IsToldTally}
+use Rattle.trace_commands.specs.Audit.{tracing, finding_status, AuditsBytes, IsAudited, OnTrace, IsTrace}
+use Rattle.trace_commands.specs.Tally.{IsToldTally, TalliesBytes}
 use Rattle.trace_commands.specs.Told.{trace_says}
 use Rattle.trace_commands.specs.inner.Walk.{HasWalked, HasTakenTrace, IsAuditUnder, IsWaiting, IsUnaudited}
 
@@ -68,6 +75,13 @@ checks_on result sys bytes piece old new refused walker is h take =
     let taken = checking sys bytes old refused walker is h in
     still result (λ checked. (checked, taken.1)) (take sys bytes taken.0)
 
+-- what is found of a trace is told of a part of the system
+pub told_of_part : (sys : SystemView) (budgets : List ℕ) (events : List Event) (finding : Finding)
+    → IsFinding sys budgets events finding → IsToldOf sys finding
+told_of_part sys budgets events (Kept periods) found = tt
+told_of_part sys budgets events (Short v from got) found = found.short.period.is_part
+told_of_part sys budgets events (Over v from got) found = found.over.period.is_part
+
 -- a trace that is refused, and then the budgets, is what is said of the bytes, whatever is said of
 -- a trace under budgets
 module _ (sys : SystemView) (bytes : List ℕ) where
@@ -100,3 +114,40 @@ module _ (sys : SystemView) (bytes : List ℕ) where
       → IfAnswered stop (λ a. trace_says command sys bytes a.status a.text.items)
   refused_said ToAudit stop h = unaudited IsAudited stop h
   refused_said ToTally stop h = unaudited IsToldTally stop h
+
+  -- and what is found and counted is said of it
+  pub found_said : (budgets : List ℕ) (audit : Audit) (finding : Finding) (status : Status) (text : List ℕ)
+      → IsAuditUnder sys bytes budgets audit → IsFindingOf sys budgets bytes finding
+      → status ≡ finding_status finding → text ≡ audit_text sys budgets finding → AuditsBytes sys bytes status text
+  found_said budgets audit finding status text under is status_is told =
+      inl (record {
+        value = is.events;
+        gives = is.spelled;
+        said = inl (record {
+          value = budgets;
+          gives = under.assigned;
+          said = record { finding = finding; found = is.found; status_is = status_is; told = told };
+        });
+      })
+
+  pub tallied_said : (budgets : List ℕ) (audit : Audit) (finding : Finding) (tallies : List Tally) (status : Status)
+      (text : List ℕ) → IsAuditUnder sys bytes budgets audit → IsTalliedOf sys budgets bytes finding tallies
+      → status ≡ finding_status finding → text ≡ tally_text sys budgets finding tallies
+      → TalliesBytes sys bytes status text
+  tallied_said budgets audit finding tallies status text under is status_is told =
+      inl (record {
+        value = is.events;
+        gives = is.spelled;
+        said = inl (record {
+          value = budgets;
+          gives = under.assigned;
+          said = record {
+            finding = finding;
+            found = is.found;
+            tallies = tallies;
+            counted = is.counted;
+            status_is = status_is;
+            told = told;
+          };
+        });
+      })

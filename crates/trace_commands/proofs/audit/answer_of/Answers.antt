@@ -1,0 +1,72 @@
+use Rattle.std.proofs.Common.{◌≡◌, ℕ, List, Result, Ok, subst}
+use Rattle.std.specs.Prelude.{IfOk}
+use Rattle.slot_model.proofs.HandedOn.{err_is}
+use Rattle.tree_model.specs.View.{SystemView}
+use Rattle.auditor.specs.declared.verdict.Tallied.{Tallied}
+use Rattle.auditor.specs.Finding.{IsFindingOf}
+use Rattle.auditor.specs.Tally.{IsTalliedOf}
+use Rattle.trace_commands.proofs.Walked.{found_said, refused_said, tallied_said, told_of_part, unspelled}
+use Rattle.trace_commands.proofs.audit.answer_of.Goals as goal
+
+-- what is said of a result holds of its value
+of_value : {Value Fault : Type 0} (Said : Value → Type 0) (made : Result Value Fault) (value : Value)
+    → made ≡ Ok value → IfOk made Said → Said value
+of_value Said made value is said = subst (λ r. IfOk r Said) is said
+
+abbrev Tallies : SystemView → List ℕ → List ℕ → Tallied → Type 0
+Tallies sys budgets bytes t = IsTalliedOf sys budgets bytes t.finding t.vcpus.items
+
+pub returns-in_err-finding-in-Audit-clause-answer : goal.returns-in_err-finding-in-Audit-clause-answer
+returns-in_err-finding-in-Audit-clause-answer c = λ bytes under.
+    rw (err_is c.from_residual.result _ c.from_residual.ensures.1)
+    (refused_said c.args.sys.now bytes c.args.command c.in_err-finding-in-Audit.field-0.0
+    (unspelled c.args.sys.now bytes c.in_err-finding-in-Audit.field-0.0
+    (c.in_err-finding-in-Audit.ensures.refused c.args.sys.now bytes
+    (c.finish.ensures.fault c.args.sys.now c.args.plan.now bytes under.audited))))
+
+pub audit_text-requires-clause-part : goal.audit_text-requires-clause-part
+audit_text-requires-clause-part c =
+    let is = of_value (IsFindingOf c.args.sys.now c.args.plan.now c.requires.0) c.finish.result
+    c.in_ok-finding-in-Audit.finding c.in_ok-finding-in-Audit.ensures.value
+    (c.finish.ensures.found c.args.sys.now c.args.plan.now c.requires.0 c.requires.1.audited) in
+    told_of_part c.args.sys.now c.args.plan.now is.events c.in_ok-finding-in-Audit.finding is.found
+
+pub returns-in_ok-audit_text-in-Audit-clause-answer : goal.returns-in_ok-audit_text-in-Audit-clause-answer
+returns-in_ok-audit_text-in-Audit-clause-answer c = λ bytes under.
+    rw c.in-Audit.is
+    (found_said c.args.sys.now bytes c.args.plan.now _ c.in_ok-finding-in-Audit.finding _ _ under
+    (of_value (IsFindingOf c.args.sys.now c.args.plan.now bytes) c.finish.result c.in_ok-finding-in-Audit.finding
+    c.in_ok-finding-in-Audit.ensures.value
+    (c.finish.ensures.found c.args.sys.now c.args.plan.now bytes under.audited)) c.status_of.ensures
+    c.in_ok-audit_text-in-Audit.ensures)
+
+pub returns-in_err-tallied-in-Tally-clause-answer : goal.returns-in_err-tallied-in-Tally-clause-answer
+returns-in_err-tallied-in-Tally-clause-answer c = λ bytes under.
+    rw (err_is c.from_residual-in_err-tallied-in-Tally.result _ c.from_residual-in_err-tallied-in-Tally.ensures.1)
+    (refused_said c.args.sys.now bytes c.args.command c.in_err-tallied-in-Tally.field-0.0
+    (unspelled c.args.sys.now bytes c.in_err-tallied-in-Tally.field-0.0
+    (c.in_err-tallied-in-Tally.ensures.refused c.args.sys.now bytes
+    (c.finish_tallied.ensures.fault c.args.sys.now c.args.plan.now bytes under.audited))))
+
+pub tally_text-requires-clause-part : goal.tally_text-requires-clause-part
+tally_text-requires-clause-part c =
+    let is = of_value (Tallies c.args.sys.now c.args.plan.now c.requires.0)
+    c.finish_tallied.result c.in_ok-tallied-in-Tally.tallied c.in_ok-tallied-in-Tally.ensures.value
+    (c.finish_tallied.ensures.tallied c.args.sys.now c.args.plan.now c.requires.0 c.requires.1.audited) in
+    told_of_part c.args.sys.now c.args.plan.now is.events c.in_ok-tallied-in-Tally.tallied.finding is.found
+
+pub tally_text-requires-clause-each_part : goal.tally_text-requires-clause-each_part
+tally_text-requires-clause-each_part c =
+    let is = of_value (Tallies c.args.sys.now c.args.plan.now c.requires.0) c.finish_tallied.result
+    c.in_ok-tallied-in-Tally.tallied c.in_ok-tallied-in-Tally.ensures.value
+    (c.finish_tallied.ensures.tallied c.args.sys.now c.args.plan.now c.requires.0 c.requires.1.audited) in
+    is.counted.each_part
+
+pub returns-in_ok-tally_text-in-Tally-clause-answer : goal.returns-in_ok-tally_text-in-Tally-clause-answer
+returns-in_ok-tally_text-in-Tally-clause-answer c = λ bytes under.
+    rw c.in-Tally.is
+    (tallied_said c.args.sys.now bytes c.args.plan.now _ c.in_ok-tallied-in-Tally.tallied.finding _ _ _ under
+    (of_value (Tallies c.args.sys.now c.args.plan.now bytes)
+    c.finish_tallied.result c.in_ok-tallied-in-Tally.tallied c.in_ok-tallied-in-Tally.ensures.value
+    (c.finish_tallied.ensures.tallied c.args.sys.now c.args.plan.now bytes under.audited))
+    c.status_of-in-Tally.ensures c.in_ok-tally_text-in-Tally.ensures)
