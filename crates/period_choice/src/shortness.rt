@@ -1,9 +1,12 @@
 ghost use Rattle.std.specs.Prelude.{◌≢◌, ◌↔◌, ◌^◌, ◌<◌, length, IsTrue, IfSome};
 ghost use Rattle.slot_model.specs.Task.{sporadic_tasks};
+ghost use Rattle.slot_model.specs.Order.{ranks_above};
 ghost use Rattle.slot_model.specs.Bound.{sbf, Passes, TestPasses};
+ghost use Rattle.fp_test.specs.Hits.{AnswersLeastHit};
 
 use edf_demand::demand;
-use fp_test::hit;
+use fp_request::RankedLevel;
+use fp_test::hit_in;
 use least_budget::{Tested, test};
 use slot_model::{Sched, Short, Task};
 use supply_bound::{Periodic, Supply};
@@ -71,4 +74,16 @@ fn is_short_task(sched: Sched, tasks: &[Task], s: &Periodic, short: Short) -> bo
         Short::Task(i) if (i as usize) < tasks.len() => hit(sched, tasks, i, s).is_none(),
         _ => false,
     }
+}
+
+/// The least hit of task `i`. It is the one question to this supply, and mostly the last, so no
+/// terms are gathered for it.
+fn hit(sched: Sched, tasks: &[Task], i: u32, s: &Periodic) -> Option<u64>
+    requires fixed { sched ≢ Sched.Edf }
+    requires i_named { i < length tasks.now }
+    ensures exact { let T = sporadic_tasks tasks.now in
+        AnswersLeastHit (ranks_above sched T) T (sbf s.now.period s.now.budget) i result }
+{
+    let level = RankedLevel::gather(sched, tasks, &mut []);
+    hit_in(&level, i, s)
 }
