@@ -7,6 +7,7 @@ use Rattle.auditor.specs.Finding.{IsFindingOf}
 use Rattle.auditor.specs.Tally.{IsTalliedOf}
 use Rattle.trace_commands.proofs.Walked.{found_said, refused_said, tallied_said, told_of_part, unspelled}
 use Rattle.trace_commands.proofs.audit.answer_of.Goals as goal
+use Rattle.trace_commands.proofs.audit.answer_of.Goals.{After-status_of-in-Tally}
 
 -- what is said of a result holds of its value
 of_value : {Value Fault : Type 0} (Said : Value → Type 0) (made : Result Value Fault) (value : Value)
@@ -48,19 +49,21 @@ returns-in_err-tallied-in-Tally-clause-answer c = λ bytes under.
     (c.in_err-tallied-in-Tally.ensures.refused c.args.sys.now bytes
     (c.finish_tallied.ensures.fault c.args.sys.now c.args.plan.now bytes under.audited))))
 
+tallied_of : (c : After-status_of-in-Tally)
+    → Tallies c.args.sys.now c.args.plan.now c.requires.0 c.in_ok-tallied-in-Tally.tallied
+tallied_of c =
+    of_value (Tallies c.args.sys.now c.args.plan.now c.requires.0) c.finish_tallied.result
+    c.in_ok-tallied-in-Tally.tallied c.in_ok-tallied-in-Tally.ensures.value
+    (c.finish_tallied.ensures.tallied c.args.sys.now c.args.plan.now c.requires.0 c.requires.1.audited)
+
 pub tally_text-requires-clause-part : goal.tally_text-requires-clause-part
 tally_text-requires-clause-part c =
-    let is = of_value (Tallies c.args.sys.now c.args.plan.now c.requires.0)
-    c.finish_tallied.result c.in_ok-tallied-in-Tally.tallied c.in_ok-tallied-in-Tally.ensures.value
-    (c.finish_tallied.ensures.tallied c.args.sys.now c.args.plan.now c.requires.0 c.requires.1.audited) in
+    let is = tallied_of (goal.at.tally_text-requires-clause-part c).After-status_of-in-Tally in
     told_of_part c.args.sys.now c.args.plan.now is.events c.in_ok-tallied-in-Tally.tallied.finding is.found
 
 pub tally_text-requires-clause-each_part : goal.tally_text-requires-clause-each_part
 tally_text-requires-clause-each_part c =
-    let is = of_value (Tallies c.args.sys.now c.args.plan.now c.requires.0) c.finish_tallied.result
-    c.in_ok-tallied-in-Tally.tallied c.in_ok-tallied-in-Tally.ensures.value
-    (c.finish_tallied.ensures.tallied c.args.sys.now c.args.plan.now c.requires.0 c.requires.1.audited) in
-    is.counted.each_part
+    (tallied_of (goal.at.tally_text-requires-clause-each_part c).After-status_of-in-Tally).counted.each_part
 
 pub returns-in_ok-tally_text-in-Tally-clause-answer : goal.returns-in_ok-tally_text-in-Tally-clause-answer
 returns-in_ok-tally_text-in-Tally-clause-answer c = λ bytes under.
