@@ -6,9 +6,10 @@ ghost use Rattle.cert_verify.specs.Proves.{NoWitness, IsChainOf, IsShortWindow, 
 ghost use Rattle.cert_verify.specs.Flaws.{NodeFlaw};
 
 use crate::Flaw;
-use crate::points::{is_chain, is_cover, is_hit, is_short};
+use crate::points::{is_chain, is_cover, is_short};
 use edf_demand::{DemandLevel, horizon};
 use fp_request::RankedLevel;
+use fp_test::is_hit;
 use slot_model::{LIMIT, Sched, Task};
 use supply_bound::{Periodic, Supply};
 use tree_model::Node;

@@ -1,7 +1,7 @@
 ghost use Rattle.std.specs.Prelude.{◌≡◌, ◌↔◌, ◌-◌, ◌<◌, ◌≤◌, IsTrue};
 ghost use Rattle.slot_model.specs.Task.{sporadic_tasks};
 ghost use Rattle.slot_model.specs.Order.{ranks_above};
-ghost use Rattle.slot_model.specs.Bound.{dbf, rbf, IsHit};
+ghost use Rattle.slot_model.specs.Bound.{dbf, rbf};
 ghost use Rattle.slot_model.specs.Points.{IsCover, IsChain};
 
 use edf_demand::DemandLevel;
@@ -98,21 +98,5 @@ fn falls_short<S: Supply>(task: &RankedTask, s: &S, from: u64, to: u64) -> bool
     match task.request(from as u128) {
         Some(asked) => given < asked,
         None => true,
-    }
-}
-
-/// Whether a window is a hit of a task: within what its deadline leaves past its jitter, and enough
-/// for all that is requested there.
-pub fn is_hit<S: Supply>(task: &RankedTask, s: &S, t: u64) -> bool
-    ensures { let T = sporadic_tasks task.now.tasks.now in
-        IsTrue result ↔ IsHit (ranks_above task.now.sched T) T (S.bound s.now) task.now.i t }
-{
-    if t < 1 || t > room_at(task.tasks, task.i) {
-        return false;
-    }
-    let given = s.least(t as u128);
-    match task.request(t as u128) {
-        Some(asked) => asked <= given,
-        None => false,
     }
 }

@@ -53,7 +53,7 @@ impl Order for Fixed {
     #[tactic(auto, using(crate::proofs::Keyed::fixed_keyed))]
     fn key(&self, tasks: &[Task], job: &Job) -> Option<Key> {
         Some(Key {
-            rank: rank_of(self.sched, tasks, job.task) as u128,
+            rank: rank_of(self.sched, tasks, job.task as usize) as u128,
             place: job.task,
             arrival: arrival_of(tasks, job),
         })

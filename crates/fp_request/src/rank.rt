@@ -24,28 +24,24 @@ pub(crate) fn ranks(sched: Sched, tasks: &[Task], i: usize, j: usize) -> bool
     requires j_named { j < length tasks.now }
     ensures { result ≡ ranks_above sched (sporadic_tasks tasks.now) i j }
 {
-    match sched {
-        Sched::Rm => smaller(tasks[i].period, i, tasks[j].period, j),
-        Sched::Dm => smaller(tasks[i].deadline, i, tasks[j].deadline, j),
-        Sched::Listed => i < j,
-        Sched::Edf => unreachable!(),
-    }
+    smaller(rank_of(sched, tasks, i), i, rank_of(sched, tasks, j), j)
 }
 
-fn smaller(a: u64, i: usize, b: u64, j: usize) -> bool
+/// Whether task `i` of rank `a` ranks above task `j` of rank `b`.
+pub(crate) fn smaller(a: u64, i: usize, b: u64, j: usize) -> bool
     ensures { result ≡ (nat_lt a b || (a == b && nat_lt i j)) }
 {
     a < b || (a == b && i < j)
 }
 
 /// What a task ranks by, before its place: the smaller above.
-pub(crate) fn rank_of(sched: Sched, tasks: &[Task], place: u32) -> u64
+pub(crate) fn rank_of(sched: Sched, tasks: &[Task], place: usize) -> u64
     requires named { place < length tasks.now }
     ensures { result ≡ rank_of sched (task_at (sporadic_tasks tasks.now) place) }
 {
     match sched {
-        Sched::Rm => tasks[place as usize].period,
-        Sched::Dm => tasks[place as usize].deadline,
+        Sched::Rm => tasks[place].period,
+        Sched::Dm => tasks[place].deadline,
         Sched::Listed | Sched::Edf => 0,
     }
 }

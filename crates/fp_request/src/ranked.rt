@@ -39,12 +39,15 @@ pub struct RankedTask<'a> {
 }
 
 impl<'a> RankedLevel<'a> {
-    ghost use Rattle.std.specs.Prelude.{◌≡◌};
+    ghost use Rattle.std.specs.Prelude.{◌≡◌, ◌≤◌, length};
+    ghost use Rattle.window_terms.specs.declared.TheConstants.{KEPT};
 
     /// Gathers the terms of the tasks, where `room` has places for all of them.
     pub fn gather(sched: Sched, tasks: &'a [Task], room: &'a mut [Term]) -> RankedLevel<'a>
         requires fixed { sched ≢ Sched.Edf }
-        ensures { (result.sched ≡ sched) × (result.tasks.now ≡ tasks.now) }
+        ensures level { (result.sched ≡ sched) × (result.tasks.now ≡ tasks.now) }
+        ensures kept { length tasks.now ≤ length room.old → length tasks.now ≤ KEPT →
+            length result.terms.now ≡ length tasks.now }
     {
         if room.len() < tasks.len() || KEPT < tasks.len() {
             return RankedLevel {

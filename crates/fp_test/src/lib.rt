@@ -7,4 +7,4 @@ mod fall;
 mod hits;
 
 pub use fall::{falls, falls_of};
-pub use hits::{hit, hit_in, hit_of};
+pub use hits::{hit, hit_in, hit_of, is_hit};
