@@ -6,8 +6,9 @@ ghost use Rattle.cert_verify.specs.Proves.{NoWitness, IsChainOf, IsShortWindow, 
 ghost use Rattle.cert_verify.specs.Flaws.{NodeFlaw};
 
 use crate::Flaw;
-use crate::points::{is_chain, is_cover, is_short};
+use crate::points::{is_chain, is_cover};
 use edf_demand::{DemandLevel, horizon};
+use edf_test::is_short;
 use fp_request::RankedLevel;
 use fp_test::is_hit;
 use slot_model::{LIMIT, Sched, Task};

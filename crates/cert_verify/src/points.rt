@@ -51,21 +51,6 @@ fn covers<S: Supply>(level: &DemandLevel, s: &S, from: u128, to: u128) -> bool
     }
 }
 
-/// Whether a window asks for more than the supply gives in it.
-pub fn is_short<S: Supply>(level: &DemandLevel, s: &S, t: u128) -> bool
-    ensures { let T = sporadic_tasks level.now.tasks.now in
-        IsTrue result ↔ ((1 ≤ t) × (S.bound s.now t < dbf T t)) }
-{
-    if t < 1 {
-        return false;
-    }
-    let given = s.least(t);
-    match level.demand(t) {
-        Some(asked) => given < asked,
-        None => true,
-    }
-}
-
 /// Whether the falls are a chain for a task, so that it has no hit.
 pub fn is_chain<S: Supply>(task: &RankedTask, s: &S, falls: &[u64]) -> bool
     ensures { let T = sporadic_tasks task.now.tasks.now in

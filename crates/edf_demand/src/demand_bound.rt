@@ -7,7 +7,7 @@ ghost use Rattle.edf_demand.specs.Terms.{IsGathered};
 
 use crate::terms::Gathered;
 use slot_model::{LIMIT, Task};
-use window_terms::{Term, asked};
+use window_terms::{Term, asked, room_of};
 
 /// The demand bound function: the most work that jobs of the tasks ask for, if they are released
 /// and due in one window of `t` slots. None exactly where it is 2^128 slots or more.
@@ -30,7 +30,7 @@ pub fn demand(tasks: &[Task], t: u128) -> Option<u128>
 fn demand_of_one(task: &Task, t: u128) -> u128
     ensures { result ≡ demand_of (sporadic_task task.now) t }
 {
-    let room = (task.deadline - task.jitter) as u128;
+    let room = room_of(task) as u128;
     if t < room {
         return 0;
     }

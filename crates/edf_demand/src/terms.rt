@@ -5,7 +5,7 @@ ghost use Rattle.window_terms.specs.Asked.{asked_by, IsNear};
 ghost use Rattle.edf_demand.specs.Terms.{IsGathered};
 
 use slot_model::Task;
-use window_terms::{Term, near};
+use window_terms::{Term, near, room_of};
 
 /// How many terms were written, and for how many tasks they stand. Up to the near window no term
 /// needs more than its reciprocal, and 64 bits hold the sum.
@@ -89,5 +89,5 @@ fn slack_of(task: &Task) -> u64
     ensures exact { result ≡ task.now.period - (task.now.deadline - task.now.jitter) }
     ensures in_period { result < task.now.period }
 {
-    task.period - (task.deadline - task.jitter)
+    task.period - room_of(task)
 }

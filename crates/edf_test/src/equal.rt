@@ -7,6 +7,7 @@ use crate::amount::amount_of;
 use edf_demand::demand;
 use slot_model::Task;
 use supply_bound::Supply;
+use window_terms::room_of;
 
 /// Whether what the tasks ask for and what the supply gives over `m` slots tell that the demand
 /// never catches up with the supply's bound: an exact test for rates that are equal, too.
@@ -69,7 +70,7 @@ fn ahead_of_task(task: &Task, m: u128) -> Option<u128>
         MatchOption result (2 ^ 128 ≤ ahead) (λ a. a ≡ ahead) }
 {
     let work = m / task.period as u128 * task.work as u128;
-    let early = task.period - (task.deadline - task.jitter);
+    let early = task.period - room_of(task);
     work.checked_mul(early as u128)
 }
 

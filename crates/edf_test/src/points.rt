@@ -46,9 +46,8 @@ pub fn cover_of<S: Supply>(
         × IsBackward T (S.bound s.now) h points.items)) }
     ensures shows { CoversShow (sporadic_tasks level.now.tasks.now) (S.bound s.now) h }
 {
-    let mut points = Vec::new(alloc);
     let mut point = h + 1;
-    points.push(point)?;
+    let mut points = Vec::from_slice(alloc, &[point])?;
     loop {
         let Some(given) = given_by(level, s, point - 1) else {
             return Ok(None);

@@ -8,6 +8,7 @@ use crate::amount::amount_of;
 use crate::line::Line;
 use slot_model::Task;
 use supply_bound::Supply;
+use window_terms::room_of;
 
 /// One slot, in the unit of `Line`.
 const ONE: u128 = 1 << 60;
@@ -59,7 +60,7 @@ pub fn demand_line(tasks: &[Task]) -> Option<Line>
     let mut offset: u128 = 0;
     for task in tasks {
         let rate = rate_of(task);
-        let room = task.deadline - task.jitter;
+        let room = room_of(task);
         slope = slope.checked_add(rate)?;
         offset = offset.checked_add(rate * (task.period - room) as u128)?;
     }
@@ -88,7 +89,8 @@ fn supply_line<S: Supply>(s: &S) -> Line
     let cycle = s.cycle() as u128;
     let amount = amount_of(s);
     let slope = amount * ONE / cycle;
-    let latest = slope * (2 * cycle - amount);
+    let two_cycles = 2 * cycle;
+    let latest = slope * (two_cycles - amount);
     Line {
         slope,
         offset: latest.saturating_sub(s.least(cycle) * ONE),

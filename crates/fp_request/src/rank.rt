@@ -5,6 +5,7 @@ ghost use Rattle.slot_model.specs.Order.{ranks_above};
 ghost use Rattle.fp_request.specs.Keys.{rank_of};
 
 use slot_model::{Sched, Task};
+use window_terms::room_of;
 
 /// Whether task `i` ranks above task `j`: by the smaller period (`Rm`), the smaller deadline (`Dm`)
 /// or the earlier place (`Listed`), and by the earlier place where two are equal.
@@ -52,6 +53,5 @@ pub fn room_at(tasks: &[Task], i: u32) -> u64
     ensures exact { result ≡ room_of (task_at (sporadic_tasks tasks.now) i) }
     ensures fits { result ≤ LIMIT }
 {
-    let task = &tasks[i as usize];
-    task.deadline - task.jitter
+    room_of(&tasks[i as usize])
 }

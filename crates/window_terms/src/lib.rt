@@ -3,9 +3,11 @@
 //! division.
 #![tactic(auto)]
 
+mod room;
 mod sums;
 mod term;
 
+pub use room::room_of;
 pub use sums::{asked, asked_near, near};
 pub use term::Term;
 

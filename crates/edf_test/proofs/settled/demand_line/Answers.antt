@@ -20,7 +20,7 @@ returns-in_err-offset c =
       c.in_err-offset.ensures,
       c.loop-task.invariant.offset_small,
       ahead_small c.rate_of-rate.result c.task-item.result.period
-          (c.task-item.result.deadline - c.task-item.result.jitter) c.rate_of-rate.ensures.at_most_one
+          c.room_of-room.result c.rate_of-rate.ensures.at_most_one
           c.task-item.result.in_limit,
     ))
 
@@ -45,7 +45,8 @@ loop-task-preserved c =
     = above_more before task c.loop-task.slope c.loop-task.offset rate c.loop-task.invariant.above over in
     let slope : c.loop-task.slope + rate ≡ c.in_ok-slope.slope = sym c.in_ok-slope.ensures.1 in
     let offset : c.loop-task.offset + rate * (task.period - (task.deadline - task.jitter)) ≡ c.in_ok-offset.offset
-    = sym c.in_ok-offset.ensures.1 in
+    = ap (λ (z : ℕ). c.loop-task.offset + rate * (task.period - z)) (sym c.room_of-room.ensures.exact)
+    ∙ sym c.in_ok-offset.ensures.1 in
     let ahead : c.in_ok-offset.offset ≡ asked_ahead (sporadic_tasks (before ++ task ∷ []))
     = omega (
       arith,

@@ -4,8 +4,8 @@ use Rattle.slot_model.proofs.Rising.{bound-le}
 use Rattle.edf_test.proofs.Lines.{rises_by, part_small, latest_small, bound_above}
 use Rattle.edf_test.proofs.settled.supply_line.Goals as goal
 
-pub overflow_mul-latest-2 : goal.overflow_mul-latest-2
-overflow_mul-latest-2 g c =
+pub overflow_mul-latest : goal.overflow_mul-latest
+overflow_mul-latest g c =
     let laws = g.met.S.Supply.laws c.args.s.now in
     omega (
       arith,
