@@ -8,5 +8,7 @@ pub fn amount_of<S: Supply>(s: &S) -> u128
     ensures in_cycle { result ≤ S.cycle_of s.now }
 {
     let cycle = s.cycle() as u128;
-    s.least(2 * cycle) - s.least(cycle)
+    let in_one = s.least(cycle);
+    let in_two = s.least(2 * cycle);
+    in_two - in_one
 }
