@@ -6,7 +6,7 @@ use Rattle.slot_model.specs.declared.sched.Short.{Short}
 use Rattle.slot_model.specs.Task.{SporadicTask}
 use Rattle.slot_model.specs.Bound.{sbf, Passes, IsShortfall, shows_by}
 use Rattle.slot_model.proofs.WorstPattern.{periodic_laws}
-use Rattle.least_budget.proofs.Level.{short_misses}
+use Rattle.least_budget.proofs.LevelRuns.{short_misses}
 use Rattle.least_budget.proofs.Decide.{passes_or_short}
 use Rattle.least_budget.proofs.Budgets.{over_misses}
 use Rattle.tree_model.specs.declared.place.Place.{Place}

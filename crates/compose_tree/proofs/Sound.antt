@@ -8,7 +8,7 @@ use Rattle.slot_model.specs.Bound.{sbf, Passes, IsLeastBudget}
 use Rattle.slot_model.specs.Miss.{NoJobLost}
 use Rattle.slot_model.proofs.FullSupply.{full_laws}
 use Rattle.slot_model.proofs.WorstPattern.{periodic_laws}
-use Rattle.least_budget.proofs.Level.{level_no_loss}
+use Rattle.least_budget.proofs.LevelRuns.{level_no_loss}
 use Rattle.least_budget.proofs.Budgets.{not_passing_misses}
 use Rattle.tree_model.specs.declared.place.Place.TheVariants.{Core, Part}
 use Rattle.tree_model.specs.View.{SystemView}

@@ -1,4 +1,4 @@
-pub mod Level
+pub mod LevelRuns
 pub mod Decide
 pub mod Budgets
 mod Testing

@@ -13,7 +13,7 @@ use Rattle.least_budget.specs.declared.answers.Tested.TheVariants.{Passes as All
 use Rattle.least_budget.specs.Answers.{IsTested, Foretells, HasHit}
 use Rattle.edf_demand.specs.Cyclic.{RisesByCycle}
 use Rattle.edf_demand.proofs.Horizons.{rises_of_laws}
-use Rattle.least_budget.proofs.Level.{level_no_loss, short_misses}
+use Rattle.least_budget.proofs.LevelRuns.{level_no_loss, short_misses}
 
 -- under a fixed rank
 pub fixed_passes : (sched : Sched) → sched ≢ Edf → (tasks : List SporadicTask) (bound : ℕ → ℕ) (cycle n : ℕ)

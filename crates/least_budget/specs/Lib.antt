@@ -1,3 +1,4 @@
 pub mod Answers
 pub mod CommonHit
+pub mod Levels
 pub mod inner

@@ -1,4 +1,3 @@
 -- What only private functions promise each other.
 pub mod Cuts
-pub mod Levels
 pub mod Within

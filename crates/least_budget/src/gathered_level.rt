@@ -1,11 +1,11 @@
-ghost use Rattle.std.specs.Prelude.{◌^◌, ◌<◌, ◌≤◌, length};
+ghost use Rattle.std.specs.Prelude.{◌↔◌, ◌^◌, ◌<◌, ◌≤◌, length, IsTrue};
 ghost use Rattle.slot_model.specs.Task.{sporadic_tasks};
-ghost use Rattle.least_budget.specs.Answers.{IsTested, IsLeastOf, IsShortBelow};
-ghost use Rattle.least_budget.specs.inner.Levels.{sched_of, tasks_of};
+ghost use Rattle.least_budget.specs.Answers.{IsTested, IsShort, IsLeastOf, IsShortBelow};
+ghost use Rattle.least_budget.specs.Levels.{sched_of, tasks_of};
 
 use crate::by_task::least_by_rank;
 use crate::halving::least_by_windows;
-use crate::level_test::{test_by_rank, test_by_windows};
+use crate::level_test::{is_short_task, is_short_window, test_by_rank, test_by_windows};
 use crate::{Edge, Least, Tested};
 use edf_demand::DemandLevel;
 use edf_test::LinedLevel;
@@ -44,6 +44,17 @@ impl<'a> Level<'a> {
         match self {
             Level::ByWindows(lined) => test_by_windows(lined, s),
             Level::ByRank(level) => test_by_rank(level, s),
+        }
+    }
+
+    /// Whether this is short of the supply: one question, where `test` asks all.
+    pub fn is_short<S: Supply>(&self, s: &S, short: Short) -> bool
+        ensures { IsTrue result ↔ IsShort (sched_of self.now)
+            (sporadic_tasks (tasks_of self.now)) (S.bound s.now) short }
+    {
+        match self {
+            Level::ByWindows(lined) => is_short_window(lined, s, short),
+            Level::ByRank(level) => is_short_task(level, s, short),
         }
     }
 

@@ -1,13 +1,13 @@
-ghost use Rattle.std.specs.Prelude.{◌^◌, ◌<◌, ◌≤◌, length};
+ghost use Rattle.std.specs.Prelude.{◌↔◌, ◌^◌, ◌<◌, ◌≤◌, length, IsTrue};
 ghost use Rattle.slot_model.specs.Task.{sporadic_tasks};
 ghost use Rattle.slot_model.specs.Order.{before_of};
-ghost use Rattle.least_budget.specs.Answers.{IsTested, Foretells};
+ghost use Rattle.least_budget.specs.Answers.{IsTested, IsShort, Foretells};
 
 use crate::Tested;
 use crate::gathered_level::Level;
-use crate::lowest::{has_hit_within, hit_of_lowest};
+use crate::lowest::{has_hit, has_hit_within, hit_of_lowest};
 use edf_demand::horizon;
-use edf_test::{LinedLevel, first_short_by};
+use edf_test::{LinedLevel, first_short_by, is_short};
 use fp_request::RankedLevel;
 use slot_model::{Sched, Short, Task};
 use supply_bound::Supply;
@@ -72,4 +72,26 @@ pub fn test_by_rank<S: Supply>(level: &RankedLevel, s: &S) -> Tested
         }
     }
     Tested::Passes
+}
+
+/// Whether a window is short under earliest deadline first.
+pub fn is_short_window<S: Supply>(lined: &LinedLevel, s: &S, short: Short) -> bool
+    ensures { let T = sporadic_tasks lined.now.level.tasks.now in
+        IsTrue result ↔ IsShort Sched.Edf T (S.bound s.now) short }
+{
+    match short {
+        Short::At(t) => is_short(&lined.level, s, t),
+        Short::Task(_) => false,
+    }
+}
+
+/// Whether a task has no hit under a fixed rank.
+pub fn is_short_task<S: Supply>(level: &RankedLevel, s: &S, short: Short) -> bool
+    ensures { let T = sporadic_tasks level.now.tasks.now in
+        IsTrue result ↔ IsShort level.now.sched T (S.bound s.now) short }
+{
+    match short {
+        Short::Task(i) if (i as usize) < level.tasks.len() => !has_hit(&level.task(i), s),
+        _ => false,
+    }
 }

@@ -6,8 +6,8 @@ ghost use Rattle.fp_request.specs.Lowest.{IsLowest};
 ghost use Rattle.least_budget.specs.CommonHit.{IsCommon};
 ghost use Rattle.least_budget.specs.inner.Within.{IsWithin};
 
-use fp_request::{RankedLevel, higher, room_at};
-use fp_test::hit_in;
+use fp_request::{RankedLevel, RankedTask, higher, room_at};
+use fp_test::{hit_in, hit_of, is_hit};
 use slot_model::{Sched, Task};
 use supply_bound::Supply;
 
@@ -50,16 +50,22 @@ pub fn has_hit_within<S: Supply>(level: &RankedLevel, i: u32, s: &S, common: Opt
     ensures { let T = sporadic_tasks level.now.tasks.now in
         IsTrue result ↔ HasHit (ranks_above level.now.sched T) T (S.bound s.now) i }
 {
-    if is_within(level.tasks, i, common) {
-        return true;
-    }
-    hit_in(level, i, s).is_some()
+    is_within(level.tasks, i, common) || has_hit(&level.task(i), s)
+}
+
+/// Whether a task has a hit. Mostly the longest window that is in time is one, so it is asked
+/// first.
+pub fn has_hit<S: Supply>(task: &RankedTask, s: &S) -> bool
+    ensures { let T = sporadic_tasks task.now.tasks.now in
+        IsTrue result ↔ HasHit (ranks_above task.now.sched T) T (S.bound s.now) task.now.i }
+{
+    is_hit(task, s, room_at(task.tasks, task.i)) || hit_of(task, s).is_some()
 }
 
 /// Whether the room of task `i` reaches this window.
 pub fn is_within(tasks: &[Task], i: u32, window: Option<u64>) -> bool
     requires { i < length tasks.now }
-    ensures { IsTrue result → IsWithin (room_of (task_at (sporadic_tasks tasks.now) i)) window }
+    ensures { IsTrue result ↔ IsWithin (room_of (task_at (sporadic_tasks tasks.now) i)) window }
 {
     match window {
         Some(t) => t <= room_at(tasks, i),

@@ -14,7 +14,7 @@ use Rattle.slot_model.proofs.WorstPattern.{periodic_laws}
 use Rattle.miss_witness.specs.Defeat.{IsShortWindow}
 use Rattle.edf_test.proofs.Level.{edf_misses_from_start}
 use Rattle.least_budget.proofs.Budgets.{gives_less, smaller_misses}
-use Rattle.least_budget.proofs.Level.{short_misses}
+use Rattle.least_budget.proofs.LevelRuns.{short_misses}
 use Rattle.fp_request.specs.Ranks.{ranks_is_rank}
 use Rattle.fp_test.proofs.Witness.{short_misses_from_start}
 

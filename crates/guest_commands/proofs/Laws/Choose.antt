@@ -11,7 +11,7 @@ use Rattle.least_budget.specs.declared.answers.Least.{Least}
 use Rattle.least_budget.specs.declared.answers.Least.TheVariants.{Budget, Over, Wide as TooWide}
 use Rattle.least_budget.specs.Answers.{IsLeast}
 use Rattle.least_budget.proofs.Budgets.{not_passing_misses, over_misses}
-use Rattle.least_budget.proofs.Level.{level_no_loss}
+use Rattle.least_budget.proofs.LevelRuns.{level_no_loss}
 use Rattle.period_choice.specs.declared.choice.Choice.{Choice}
 use Rattle.period_choice.specs.declared.choice.Choice.TheVariants.{Best, Nothing}
 use Rattle.period_choice.specs.Choice.{is_over, IsChoice}

@@ -9,7 +9,7 @@ use Rattle.slot_model.proofs.BudgetSupplies.{deadline_budgets}
 use Rattle.least_budget.specs.declared.answers.Least.{Least}
 use Rattle.least_budget.specs.declared.answers.Least.TheVariants.{Budget, Over, Wide as TooWide}
 use Rattle.least_budget.proofs.Budgets.{none_misses, smaller_misses}
-use Rattle.least_budget.proofs.Level.{level_no_loss, short_misses}
+use Rattle.least_budget.proofs.LevelRuns.{level_no_loss, short_misses}
 use Rattle.least_budget.proofs.OneAnswer.{one_least_of}
 use Rattle.edp_supply.specs.Least.{IsLeastExplicit}
 use Rattle.tree_model.specs.View.{SystemView}

@@ -10,6 +10,6 @@ returns-then-is_within g c = (
   λ yes'. hit_within (ranks_above c.args.level.now.sched (sporadic_tasks c.args.level.now.tasks.now))
       (sporadic_tasks c.args.level.now.tasks.now) (g.S.Supply.bound c.args.s.now) c.args.i
       (omega (arith, sporadic_tasks-length c.args.level.now.tasks.now)) c.args.common c.requires.common
-      (c.is_within.ensures c.if-is_within.true),
-  λ has. refl,
+      (c.is_within.ensures.0 c.if-is_within.true),
+  λ has. c.if-is_within.true,
 )
