@@ -2,7 +2,8 @@ pub mod LevelRuns
 pub mod Decide
 pub mod Budgets
 mod Testing
-mod Gathered
+pub mod Gathered
+pub mod Shortfalls
 mod Rate
 mod Between
 mod Cuts

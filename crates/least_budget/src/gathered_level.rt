@@ -1,6 +1,7 @@
-ghost use Rattle.std.specs.Prelude.{◌↔◌, ◌^◌, ◌<◌, ◌≤◌, length, IsTrue};
+ghost use Rattle.std.specs.Prelude.{◌≡◌, ◌↔◌, ◌^◌, ◌<◌, ◌≤◌, length, IsTrue};
+ghost use Rattle.slot_model.specs.declared.task.TheConstants.{LIMIT};
 ghost use Rattle.slot_model.specs.Task.{sporadic_tasks};
-ghost use Rattle.least_budget.specs.Answers.{IsTested, IsShort, IsLeastOf, IsShortBelow};
+ghost use Rattle.least_budget.specs.Answers.{IsTested, IsShort, IsLeast, IsLeastOf, IsShortBelow};
 ghost use Rattle.least_budget.specs.Levels.{sched_of, tasks_of};
 
 use crate::by_task::least_by_rank;
@@ -10,8 +11,8 @@ use crate::{Edge, Least, Tested};
 use edf_demand::DemandLevel;
 use edf_test::LinedLevel;
 use fp_request::RankedLevel;
-use slot_model::{Sched, Short, Task};
-use supply_bound::{Budgeted, Supply};
+use slot_model::{LIMIT, Sched, Short, Task};
+use supply_bound::{Budgeted, Periodic, Supply};
 use window_terms::Term;
 
 /// A level of tasks for any scheduler: it is gathered once, and asked for each supply.
@@ -70,6 +71,17 @@ impl<'a> Level<'a> {
         }
     }
 
+    /// The least budget from 0 to `period` with which the level passes over the periodic resource of
+    /// that period and budget.
+    pub fn least_budget(&self, period: u64) -> Least
+        requires few { length (tasks_of self.now) < 2 ^ 32 }
+        requires some_period { 1 ≤ period }
+        requires in_limit { period ≤ LIMIT }
+        ensures { IsLeast (sched_of self.now) (sporadic_tasks (tasks_of self.now)) period result }
+    {
+        self.least_of(&whole(period))
+    }
+
     /// The least budget, and what is short first with one slot less.
     pub fn edge<S: Budgeted>(&self, s: &S) -> Edge
         requires few { length (tasks_of self.now) < 2 ^ 32 }
@@ -103,5 +115,17 @@ impl<'a> Level<'a> {
             Tested::Short(short) => Some(short),
             Tested::Passes | Tested::Wide => unreachable!(),
         }
+    }
+}
+
+/// The periodic resource of this period whose budget is all of it.
+pub(crate) fn whole(period: u64) -> Periodic
+    requires some_period { 1 ≤ period }
+    requires in_limit { period ≤ LIMIT }
+    ensures { (result.period ≡ period) × (result.budget ≡ period) }
+{
+    Periodic {
+        period,
+        budget: period,
     }
 }

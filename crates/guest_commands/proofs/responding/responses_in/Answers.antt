@@ -8,7 +8,7 @@ use Rattle.fp_request.proofs.Parts.{sporadic_tasks-length}
 use Rattle.fp_test.specs.Hits.{IsLeastHit}
 use Rattle.response_times.specs.Response.{IsGreatestResponse}
 use Rattle.slot_model.proofs.Places.{each_pushed}
-use Rattle.period_choice.proofs.Shares.{short_task_fails}
+use Rattle.least_budget.proofs.Shortfalls.{short_task_fails}
 use Rattle.guest_commands.proofs.responding.responses_in.Goals as goal
 
 pub unreachable-requires : goal.unreachable-requires

@@ -1,0 +1,30 @@
+-- What is short keeps a level from passing.
+use Rattle.std.proofs.Common.{◌≢◌, ℕ, ◌<◌, List, length, refl, arith}
+use Rattle.slot_model.specs.declared.sched.Sched.{Sched}
+use Rattle.slot_model.specs.declared.sched.Sched.TheVariants.{Edf, Rm, Dm, Listed}
+use Rattle.slot_model.specs.declared.sched.Short.{Short}
+use Rattle.slot_model.specs.declared.sched.Short.TheVariants.{At, Task}
+use Rattle.slot_model.specs.Task.{SporadicTask}
+use Rattle.slot_model.specs.Order.{ranks_above}
+use Rattle.slot_model.specs.Bound.{IsShortTask, Passes}
+use Rattle.slot_model.proofs.Budgets.{hits_of}
+use Rattle.least_budget.specs.Answers.{IsShort}
+
+-- a task without a hit
+pub short_task_fails : (sched : Sched) (tasks : List SporadicTask) (bound : ℕ → ℕ) (i : ℕ) → sched ≢ Edf
+    → i < length tasks → IsShortTask (ranks_above sched tasks) tasks bound i → Passes sched tasks bound → ⊥
+short_task_fails sched tasks bound i fixed l short passes =
+    let (t, hit) = hits_of sched fixed tasks bound passes i l in
+    omega (arith, hit.enough, short t hit.some_slots hit.in_deadline)
+
+pub short_fails : (sched : Sched) (tasks : List SporadicTask) (bound : ℕ → ℕ) (short : Short)
+    → IsShort sched tasks bound short → Passes sched tasks bound → ⊥
+short_fails Edf tasks bound (At t) h fits = omega (arith, h.1, fits t h.0)
+short_fails Edf tasks bound (Task i) h fits = h
+short_fails Rm tasks bound (At t) h passes = h
+short_fails Rm tasks bound (Task i) h passes = short_task_fails Rm tasks bound i (λ e. absurd (cc)) h.0 h.1 passes
+short_fails Dm tasks bound (At t) h passes = h
+short_fails Dm tasks bound (Task i) h passes = short_task_fails Dm tasks bound i (λ e. absurd (cc)) h.0 h.1 passes
+short_fails Listed tasks bound (At t) h passes = h
+short_fails Listed tasks bound (Task i) h passes =
+    short_task_fails Listed tasks bound i (λ e. absurd (cc)) h.0 h.1 passes
