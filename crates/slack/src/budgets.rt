@@ -38,12 +38,15 @@ fn most_open(alloc: Global, sys: &System, plan: &Plan, q: usize) -> Result<u64, 
     let mut low = plan.budgets()[q];
     let start = Place::Part(q as u32);
     let mut trial = copy_system(alloc, sys)?;
+    let mut budgets = Plan {
+        budgets: Vec::from_slice(alloc, plan.budgets())?,
+    };
     let mut tasks = vec![in alloc; Task::least(); MAX_PARTS]?;
     let room = tasks.as_mut_slice();
     while low < high {
         let middle = high - (high - low) / 2;
         trial = with_budget(trial, q, middle);
-        if is_admitted(alloc, &trial, plan, start, room)? {
+        if is_admitted(&trial, plan, start, &mut budgets, room) {
             low = middle;
         } else {
             high = middle - 1;
@@ -64,24 +67,21 @@ fn with_budget(sys: System, q: usize, budget: u64) -> System
     System { cores, parts }
 }
 
-/// Whether a system is admitted that differs at `start` from one that the plan admits. `room` is
-/// for the tasks of one node.
+/// Whether a system is admitted that differs at `start` from one that the plan admits. `trial` is
+/// for its budgets, and `room` for the tasks of one node.
 fn is_admitted(
-    alloc: Global,
     sys: &System,
     plan: &Plan,
     start: Place,
+    trial: &mut Plan,
     room: &mut [Task],
-) -> Result<bool, AllocError>
+) -> bool
     requires kept { IsKept sys.now plan.now start }
+    requires long { length trial.old ≡ length plan.now }
     requires room { MAX_PARTS ≤ length room.old }
-    ensures { IfOk result (λ yes. IsTrue yes ↔ IsAdmitted sys.now) }
+    ensures long { length trial.new ≡ length plan.now }
+    ensures admitted { IsTrue result ↔ IsAdmitted sys.now }
 {
-    let mut trial = Plan {
-        budgets: Vec::from_slice(alloc, plan.budgets())?,
-    };
-    match recompose(sys, &mut trial, start, room) {
-        Ok(()) => Ok(true),
-        Err(_) => Ok(false),
-    }
+    trial.budgets.copy_from_slice(plan.budgets());
+    recompose(sys, trial, start, room).is_ok()
 }

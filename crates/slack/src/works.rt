@@ -3,10 +3,11 @@ ghost use Rattle.slot_model.specs.Task.{sporadic_tasks, room_of, task_at};
 ghost use Rattle.slot_model.specs.Bound.{sbf, TestPasses};
 ghost use Rattle.slack.specs.inner.Steps.{tasks_with, IsMostPassing, AreMostPassing};
 
-use least_budget::{Tested, test};
+use least_budget::{Level, Tested};
 use slot_model::{Sched, Task};
 use std::alloc::{AllocError, Global};
 use supply_bound::Periodic;
+use window_terms::{Term, room_of};
 
 /// The greatest work of each task with which all pass over the supply, each task by itself.
 pub fn most_works(
@@ -22,16 +23,23 @@ pub fn most_works(
     ensures most { IfOk result (λ works. AreMostPassing sched (sporadic_tasks tasks.old)
         supply.period supply.budget works.items) }
 {
-    let mut works = Vec::new(alloc);
+    let mut room = vec![in alloc; Term::none(); tasks.len()]?;
+    let mut works = Vec::with_capacity(alloc, tasks.len())?;
     for i in 0..tasks.len() {
-        works.push(most_work(sched, tasks, i, supply))?;
+        works.push(most_work(sched, tasks, i, supply, &mut room))?;
     }
     Ok(works)
 }
 
 /// The greatest work of task `i` with which all pass, by halving between its work and what its
-/// deadline leaves past its jitter.
-fn most_work(sched: Sched, tasks: &mut [Task], i: usize, supply: Periodic) -> u64
+/// deadline leaves past its jitter. `room` is for the terms of the tasks.
+fn most_work(
+    sched: Sched,
+    tasks: &mut [Task],
+    i: usize,
+    supply: Periodic,
+    room: &mut [Term],
+) -> u64
     requires few { length tasks.old < 2 ^ 32 }
     requires is_task { i < length tasks.old }
     requires passes { TestPasses sched (sporadic_tasks tasks.old)
@@ -42,10 +50,10 @@ fn most_work(sched: Sched, tasks: &mut [Task], i: usize, supply: Periodic) -> u6
 {
     let task = tasks[i];
     let mut low = task.work;
-    let mut high = task.deadline - task.jitter;
+    let mut high = room_of(&task);
     while low < high {
         let middle = high - (high - low) / 2;
-        if passes_with(sched, tasks, i, middle, supply) {
+        if passes_with(sched, tasks, i, middle, supply, room) {
             low = middle;
         } else {
             high = middle - 1;
@@ -55,7 +63,14 @@ fn most_work(sched: Sched, tasks: &mut [Task], i: usize, supply: Periodic) -> u6
 }
 
 /// Whether all tasks pass over the supply where task `i` has this work.
-fn passes_with(sched: Sched, tasks: &mut [Task], i: usize, work: u64, supply: Periodic) -> bool
+fn passes_with(
+    sched: Sched,
+    tasks: &mut [Task],
+    i: usize,
+    work: u64,
+    supply: Periodic,
+    room: &mut [Term],
+) -> bool
     requires few { length tasks.old < 2 ^ 32 }
     requires is_task { i < length tasks.old }
     requires some { 1 ≤ work }
@@ -66,17 +81,18 @@ fn passes_with(sched: Sched, tasks: &mut [Task], i: usize, work: u64, supply: Pe
 {
     let task = tasks[i];
     tasks[i] = with_work(task, work);
-    let passes = all_pass(sched, tasks, supply);
+    let passes = all_pass(sched, tasks, supply, room);
     tasks[i] = task;
     passes
 }
 
-fn all_pass(sched: Sched, tasks: &[Task], supply: Periodic) -> bool
+fn all_pass(sched: Sched, tasks: &[Task], supply: Periodic, room: &mut [Term]) -> bool
     requires { length tasks.now < 2 ^ 32 }
     ensures { IsTrue result ↔ TestPasses sched (sporadic_tasks tasks.now)
         (sbf supply.period supply.budget) supply.period }
 {
-    matches!(test(sched, tasks, &supply), Tested::Passes)
+    let level = Level::gather(sched, tasks, room);
+    matches!(level.test(&supply), Tested::Passes)
 }
 
 /// The task with other work.

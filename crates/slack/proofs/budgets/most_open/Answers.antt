@@ -17,50 +17,56 @@ loop-low-init c =
     let here : c.index-parts-q.result ≡ part_at c.args.sys.now c.args.q
     = part_here c.args.sys.now c.parts.result.now c.args.q c.index-parts-q.result c.parts.ensures.parts
     (omega (arith, c.requires.is_part, ap (λ (ps : List PartView). length ps) c.parts.ensures.parts))
-    c.index-parts-q.is in (
-      trial_begins sys c.in_ok-trial.trial c.args.q c.in_ok-trial.ensures c.requires.is_part,
-      subst (λ (b : List ℕ). BudgetBetween sys c.args.q (budget_at b c.args.q) c.period-high.result)
+    c.index-parts-q.is in
+    record {
+      trial = trial_begins sys c.in_ok-trial.trial c.args.q c.in_ok-trial.ensures c.requires.is_part;
+      long = omega (arith, c.in_ok-from_slice.ensures.len, ap (λ (b : List ℕ). length b) c.budgets-2.ensures);
+      between = subst (λ (b : List ℕ). BudgetBetween sys c.args.q (budget_at b c.args.q) c.period-high.result)
           (sym c.budgets.ensures)
           (subst (λ (p : ℕ). BudgetBetween sys c.args.q (budget_at c.args.plan.now c.args.q) p)
           (sym (c.period-high.ensures ∙ ap (λ (p : PartView). p.period) here))
           (budget_begins sys c.parts.ensures.system c.args.q c.requires.is_part c.requires.leaf c.args.plan.now
-          c.requires.admitted)),
-    )
+          c.requires.admitted));
+    }
 
 pub is_admitted-requires-clause-kept : goal.is_admitted-requires-clause-kept
 is_admitted-requires-clause-kept c =
     let middle = c.loop-low.high - (c.loop-low.high - c.loop-low.low) / 2 in
     subst (λ (s : SystemView). IsKept s c.args.plan.now (Part c.args.q))
-    (sym (c.with_budget-trial.ensures ∙ c.loop-low.invariant.0.same middle))
+    (sym (c.with_budget-trial.ensures ∙ c.loop-low.invariant.trial.same middle))
     (kept_by_change c.args.sys.now c.args.q (part_with_budget (part_at c.args.sys.now c.args.q) middle) c.args.plan.now
     c.requires.is_part refl c.requires.admitted)
 
-pub loop-low-preserved-then-branch : goal.loop-low-preserved-then-branch
-loop-low-preserved-then-branch c =
-    let middle = c.loop-low.high - (c.loop-low.high - c.loop-low.low) / 2 in (
-      trial_goes_on c.args.sys.now c.loop-low.trial c.with_budget-trial.result c.args.q middle c.loop-low.invariant.0
-          c.with_budget-trial.ensures,
-      budget_higher c.args.sys.now c.args.q c.loop-low.low c.loop-low.high middle (omega (arith, c.loop-low-test.true))
+pub loop-low-preserved-then-is_admitted : goal.loop-low-preserved-then-is_admitted
+loop-low-preserved-then-is_admitted c =
+    let middle = c.loop-low.high - (c.loop-low.high - c.loop-low.low) / 2 in
+    record {
+      trial = trial_goes_on c.args.sys.now c.loop-low.trial c.with_budget-trial.result c.args.q middle c.loop-low.invariant.trial
+          c.with_budget-trial.ensures;
+      long = c.is_admitted.ensures.long;
+      between = budget_higher c.args.sys.now c.args.q c.loop-low.low c.loop-low.high middle (omega (arith, c.loop-low-test.true))
           (omega arith)
-          (subst IsAdmitted (c.with_budget-trial.ensures ∙ c.loop-low.invariant.0.same middle)
-          (c.in_ok-is_admitted.ensures.0 c.if-branch.true))
-          c.loop-low.invariant.1,
-    )
+          (subst IsAdmitted (c.with_budget-trial.ensures ∙ c.loop-low.invariant.trial.same middle)
+          (c.is_admitted.ensures.admitted.0 c.if-is_admitted.true))
+          c.loop-low.invariant.between;
+    }
 
 pub loop-low-preserved : goal.loop-low-preserved
 loop-low-preserved c =
-    let middle = c.loop-low.high - (c.loop-low.high - c.loop-low.low) / 2 in (
-      trial_goes_on c.args.sys.now c.loop-low.trial c.with_budget-trial.result c.args.q middle c.loop-low.invariant.0
-          c.with_budget-trial.ensures,
-      budget_lower c.args.sys.now c.parts.ensures.system c.args.q c.requires.is_part c.requires.leaf c.loop-low.low
+    let middle = c.loop-low.high - (c.loop-low.high - c.loop-low.low) / 2 in
+    record {
+      trial = trial_goes_on c.args.sys.now c.loop-low.trial c.with_budget-trial.result c.args.q middle c.loop-low.invariant.trial
+          c.with_budget-trial.ensures;
+      long = c.is_admitted.ensures.long;
+      between = budget_lower c.args.sys.now c.parts.ensures.system c.args.q c.requires.is_part c.requires.leaf c.loop-low.low
           c.loop-low.high middle (omega (arith, c.loop-low-test.true)) (omega arith)
-          (λ made. let e = c.in_ok-is_admitted.ensures.1 (subst IsAdmitted
-          (sym (c.with_budget-trial.ensures ∙ c.loop-low.invariant.0.same middle)) made) in
-          let f = c.if-branch.false in absurd (cc))
-          c.loop-low.invariant.1,
-    )
+          (λ made. let e = c.is_admitted.ensures.admitted.1 (subst IsAdmitted
+          (sym (c.with_budget-trial.ensures ∙ c.loop-low.invariant.trial.same middle)) made) in
+          let f = c.if-is_admitted.false in absurd (cc))
+          c.loop-low.invariant.between;
+    }
 
 pub returns : goal.returns
 returns c =
     budget_ends c.args.sys.now c.args.q c.loop-low.low c.loop-low.high (omega (arith, c.loop-low-test.false))
-    c.requires.computed c.loop-low.invariant.1
+    c.requires.computed c.loop-low.invariant.between
