@@ -71,8 +71,8 @@ impl<'a> Level<'a> {
         }
     }
 
-    /// The least budget from 0 to `period` with which the level passes over the periodic resource of
-    /// that period and budget.
+    /// The least budget from 0 to `period` with which the level passes over the periodic resource
+    /// of that period and budget.
     pub fn least_budget(&self, period: u64) -> Least
         requires few { length (tasks_of self.now) < 2 ^ 32 }
         requires some_period { 1 ≤ period }

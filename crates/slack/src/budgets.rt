@@ -69,13 +69,7 @@ fn with_budget(sys: System, q: usize, budget: u64) -> System
 
 /// Whether a system is admitted that differs at `start` from one that the plan admits. `trial` is
 /// for its budgets, and `room` for the tasks of one node.
-fn is_admitted(
-    sys: &System,
-    plan: &Plan,
-    start: Place,
-    trial: &mut Plan,
-    room: &mut [Task],
-) -> bool
+fn is_admitted(sys: &System, plan: &Plan, start: Place, trial: &mut Plan, room: &mut [Task]) -> bool
     requires kept { IsKept sys.now plan.now start }
     requires long { length trial.old ≡ length plan.now }
     requires room { MAX_PARTS ≤ length room.old }

@@ -33,13 +33,7 @@ pub fn most_works(
 
 /// The greatest work of task `i` with which all pass, by halving between its work and what its
 /// deadline leaves past its jitter. `room` is for the terms of the tasks.
-fn most_work(
-    sched: Sched,
-    tasks: &mut [Task],
-    i: usize,
-    supply: Periodic,
-    room: &mut [Term],
-) -> u64
+fn most_work(sched: Sched, tasks: &mut [Task], i: usize, supply: Periodic, room: &mut [Term]) -> u64
     requires few { length tasks.old < 2 ^ 32 }
     requires is_task { i < length tasks.old }
     requires passes { TestPasses sched (sporadic_tasks tasks.old)

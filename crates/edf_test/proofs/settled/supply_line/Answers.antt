@@ -42,7 +42,8 @@ returns-clause-below g c t later =
     bound_above (g.S.Supply.bound c.args.s.now) c.amount_of-amount.result c.cycle-cycle.result (2 ^ 60)
     (c.amount_of-amount.result * 2 ^ 60 / c.cycle-cycle.result) c.saturating_sub.result
     (rises_by _ _ _ c.amount_of-amount.result c.cycle-cycle.result (rises_of_laws _ _ _ _ _ _ laws)
-    c.amount_of-amount.ensures.exact c.cycle-cycle.ensures) laws.never_falls laws.rises_by_one (some g at) (in_cycle g at)
+    c.amount_of-amount.ensures.exact c.cycle-cycle.ensures) laws.never_falls laws.rises_by_one (some g at)
+    (in_cycle g at)
     (part_small c.amount_of-amount.result c.cycle-cycle.result (some g at) (in_cycle g at))
     (div-mul-le_self (c.amount_of-amount.result * 2 ^ 60) c.cycle-cycle.result)
     (omega (arith, c.saturating_sub.ensures, c.least.ensures)) t (omega (arith, later, c.cycle-cycle.ensures))

@@ -41,10 +41,14 @@ pub loop-low-preserved-then-is_admitted : goal.loop-low-preserved-then-is_admitt
 loop-low-preserved-then-is_admitted c =
     let middle = c.loop-low.high - (c.loop-low.high - c.loop-low.low) / 2 in
     record {
-      trial = trial_goes_on c.args.sys.now c.loop-low.trial c.with_budget-trial.result c.args.q middle c.loop-low.invariant.trial
+      trial =
+          trial_goes_on c.args.sys.now c.loop-low.trial c.with_budget-trial.result c.args.q middle
+          c.loop-low.invariant.trial
           c.with_budget-trial.ensures;
       long = c.is_admitted.ensures.long;
-      between = budget_higher c.args.sys.now c.args.q c.loop-low.low c.loop-low.high middle (omega (arith, c.loop-low-test.true))
+      between =
+          budget_higher c.args.sys.now c.args.q c.loop-low.low c.loop-low.high middle
+          (omega (arith, c.loop-low-test.true))
           (omega arith)
           (subst IsAdmitted (c.with_budget-trial.ensures ∙ c.loop-low.invariant.trial.same middle)
           (c.is_admitted.ensures.admitted.0 c.if-is_admitted.true))
@@ -55,10 +59,14 @@ pub loop-low-preserved : goal.loop-low-preserved
 loop-low-preserved c =
     let middle = c.loop-low.high - (c.loop-low.high - c.loop-low.low) / 2 in
     record {
-      trial = trial_goes_on c.args.sys.now c.loop-low.trial c.with_budget-trial.result c.args.q middle c.loop-low.invariant.trial
+      trial =
+          trial_goes_on c.args.sys.now c.loop-low.trial c.with_budget-trial.result c.args.q middle
+          c.loop-low.invariant.trial
           c.with_budget-trial.ensures;
       long = c.is_admitted.ensures.long;
-      between = budget_lower c.args.sys.now c.parts.ensures.system c.args.q c.requires.is_part c.requires.leaf c.loop-low.low
+      between =
+          budget_lower c.args.sys.now c.parts.ensures.system c.args.q c.requires.is_part c.requires.leaf
+          c.loop-low.low
           c.loop-low.high middle (omega (arith, c.loop-low-test.true)) (omega arith)
           (λ made. let e = c.is_admitted.ensures.admitted.1 (subst IsAdmitted
           (sym (c.with_budget-trial.ensures ∙ c.loop-low.invariant.trial.same middle)) made) in

@@ -22,10 +22,12 @@ loop-i-preserved c =
         length_push works c.most_work.result,
         before.1,
       ),
-      subst (λ (xs : List ℕ). AreMostPassing c.args.sched (sporadic_tasks c.args.tasks.now) c.args.supply.period c.args.supply.budget xs) (sym c.in_ok-push.ensures.items)
+      subst (λ (xs : List ℕ). AreMostPassing c.args.sched (sporadic_tasks c.args.tasks.now)
+          c.args.supply.period c.args.supply.budget xs) (sym c.in_ok-push.ensures.items)
           (record {
             each =
-                λ k l. each_pushed most 0 works c.most_work.result i before.1 (λ j m. before.2.each j (omega (arith, before.1)))
+                λ k l. each_pushed most 0 works c.most_work.result i before.1
+                (λ j m. before.2.each j (omega (arith, before.1)))
                 here k (omega (arith, l, length_push works c.most_work.result, before.1));
           }),
     )
