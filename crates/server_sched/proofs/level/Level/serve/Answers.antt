@@ -26,8 +26,12 @@ pub step-requires-clause-ready : goal.step-requires-clause-ready
 step-requires-clause-ready c =
     let slots = slots_of c.args.given.now c.args.self.now.slots in
     let inside : c.loop-self.self.time < c.loop-self.self.slots
-    = omega
-    (arith, c.loop-self-test.true, c.requires.windows.in_slots c.args.at c.requires.inside, c.loop-self.invariant.slots) in
+    = omega (
+      arith,
+      c.loop-self-test.true,
+      c.requires.windows.in_slots c.args.at c.requires.inside,
+      c.loop-self.invariant.slots,
+    ) in
     let now = c.turn.ensures.run slots inside c.loop-self.invariant.state in
     let s
     = sound_in c.args.sched (sporadic_tasks c.args.tasks.now) slots c.turn.new.self.slots c.turn.new.self now refl in

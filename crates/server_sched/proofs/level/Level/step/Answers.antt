@@ -75,7 +75,8 @@ returns-in-None-clause-run c = λ sched T slots fits are l given h.
 pub add_window-requires-clause-windows : goal.add_window-requires-clause-windows
 add_window-requires-clause-windows c =
     let level = c.args.self.now in
-    let (best, in_shares) = best_here level c.in-Some.best c.in-Some.is c.requires.ready.chosen c.requires.ready.one_each in
+    let (best, in_shares)
+    = best_here level c.in-Some.best c.in-Some.is c.requires.ready.chosen c.requires.ready.one_each in
     subst (λ (w : List Window). AreWindows w level.time)
     (share_read level.shares.items c.in-Some.best c.index_mut.result.now in_shares c.index_mut.ensures.value)
     (c.requires.ready.fit c.in-Some.best in_shares)

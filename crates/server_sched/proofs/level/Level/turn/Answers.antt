@@ -50,8 +50,8 @@ returns-clause-run c = λ slots m h.
     (subst (λ (s : List Server). AtRest c.args.sched T level.slots h.run level.time level.come.released
     level.time s) (sym c.as_slice-late.ensures.value) (at_rest c.args.sched T slots level e h)) tallied in
     let now
-    = renewed c.args.sched T slots level c.deref_mut.result.now c.renew-self.new.servers _ _ c.deref_mut.ensures.value e m
-    h c.renew-self.ensures.rest in
+    = renewed c.args.sched T slots level c.deref_mut.result.now c.renew-self.new.servers _ _ c.deref_mut.ensures.value e
+    m h c.renew-self.ensures.rest in
     record {
       run = h.run;
       first = h.first;
