@@ -17,10 +17,11 @@ def entries():
 
 
 def run(command, program, env=None):
-    """What a command prints, with another program in place of `./rtadmit`."""
-    named = re.sub(r"(?<![^\s;|&(])\./rtadmit(?=\s|$)", lambda _: shlex.quote(str(program)), command)
+    """What a command prints, with another program in place of `./rtadmit`, also where it prints the words that call it."""
+    words = shlex.quote(str(program))
+    named = re.sub(r"(?<![^\s;|&(])\./rtadmit(?=\s|$)", lambda _: words, command)
     ran = subprocess.run(["bash", "-c", named], cwd=top, env=env, stdin=subprocess.DEVNULL, stdout=subprocess.PIPE)
-    return ran.stdout.decode(errors="surrogateescape")
+    return ran.stdout.decode(errors="surrogateescape").replace(f"| {words} admit", "| ./rtadmit admit")
 
 
 RECORDER = """#!/bin/sh

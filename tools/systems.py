@@ -21,7 +21,7 @@ PART_LINE = re.compile(r"part (\S+) period=(\d+) budget=(\d+) (given|computed)")
 BROKEN_LINE = re.compile(r"(short|over) (\S+) from_ns=(\d+) got_ns=(\d+) of_ns=(\d+)")
 TALLY_LINE = re.compile(r"vcpu (\S+) begun=(\d+) judged=(\d+) short=(\d+) over=(\d+) least_ns=(\d+|-) most_ns=(\d+|-)")
 SCHEDS = {"edf": "earliest deadline first", "rm": "rate monotonic", "dm": "deadline monotonic", "listed": "in the order of the file"}
-CHANGE = re.compile(r"([^.=]+)\.(?:(period|budget|parent)|([^.=]+)\.(work))=([^.=]+)")
+CHANGE = re.compile(r"([^.=]+)\.(?:(period|budget|parent|sched)|([^.=]+)\.(work))=([^.=]+)")
 KEYS = {"core": ("name", "sched", "supply_period", "supply_budget"), "part": ("name", "parent", "sched", "period", "budget", "extra")}
 TASK_KEYS = ("name", "period", "deadline", "jitter", "work")
 
@@ -179,10 +179,12 @@ class System:
         return "\n".join(told) + "\n"
 
     def changed(self, change):
-        """The same system with one change: `PART.TASK.work=N`, `PART.period=N`, `PART.budget=open` or `PART.parent=CORE`."""
+        """The same system with one change: `PART.TASK.work=N`, `PART.period=N`, `PART.budget=open`, `PART.parent=CORE` or
+        `NODE.sched=WORD`."""
         tree = copy.deepcopy(self.tree)
         found = CHANGE.fullmatch(change)
-        table = found and next((part for part in tree.get("part", []) if part["name"] == found[1]), None)
+        nodes = [*tree.get("part", []), *(tree["core"] if found and found[2] == "sched" else [])]
+        table = found and next((node for node in nodes if node["name"] == found[1]), None)
         if table and found[4]:
             table = next((task for task in table.get("task", []) if task["name"] == found[3]), None)
         if not table:
@@ -190,12 +192,12 @@ class System:
         key, value = found[2] or found[4], found[5]
         if key == "budget" and value == "open":
             table.pop("budget", None)
-        elif key == "parent":
-            table["parent"] = value
+        elif key == "parent" or key == "sched" and value in SCHEDS:
+            table[key] = value
         elif value.isascii() and value.isdecimal():
             table[key] = int(value)
         else:
-            raise Refused(self.path, None, f"{change!r}: {value!r} is no number")
+            raise Refused(self.path, None, f"{change!r}: {value!r} is no {'scheduler' if key == 'sched' else 'number'}")
         return System(self.path, tree)
 
     def only(self, cores):

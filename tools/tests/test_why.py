@@ -8,8 +8,10 @@ import subprocess
 import tempfile
 import tomllib
 import unittest
+from unittest import mock
 
 from load import load, program, top
+import hostfile
 import systems
 from hostfile import Refused
 
@@ -110,10 +112,10 @@ class Case(unittest.TestCase):
         self.addCleanup(scratch.cleanup)
         self.file = pathlib.Path(scratch.name) / "system.toml"
 
-    def judged(self, text, most=None):
+    def judged(self, text, most=None, asked=None):
         """The status, and the lines."""
         self.file.write_text(text)
-        return tool.judged(str(self.file), Judge(), most)
+        return tool.judged(str(self.file), Judge(), most, asked)
 
     def changes(self, lines):
         """The changes that are told, each with the line before it."""
@@ -183,6 +185,43 @@ class Changes(Case):
             "C.parent=cpu1": "C, 40.00% of a core, to cpu1",
         })
 
+    def test_another_order(self):
+        """x has 4 slots of work and y 3 within 5: y has to go first, and 3 + 4 is in time for x. By equal periods x goes first again."""
+        head = '[[core]]\nname = "cpu0"\nsched = "edf"\n[[part]]\nname = "P"\nparent = "cpu0"\nsched = "listed"\nperiod = 1\n'
+        x, y = '[[part.task]]\nname = "x"\nperiod = 10\nwork = 4\n', '[[part.task]]\nname = "y"\nperiod = 10\ndeadline = 5\nwork = 3\n'
+        _, lines = self.judged(f"format = 1\n{head}{x}{y}")
+        self.assertEqual(self.changes(lines), {
+            "P.sched=dm": "P: deadline monotonic, where it was in the order of the file",
+            "P.sched=edf": "P: earliest deadline first, where it was in the order of the file",
+            "P.x.work=2": "x of P: 2, where it was 4",
+            "P.y.work=1": "y of P: 1, where it was 3",
+        })
+
+    def test_another_order_of_a_core(self):
+        """2 of 4 and 3 of 6 fill the core. Where A goes first, it has 4 slots of the 6 in which B needs 3."""
+        guest = '[[part]]\nname = "{0}"\nparent = "cpu0"\nsched = "edf"\nperiod = {1}\nbudget = {2}\n[[part.task]]\nname = "t"\nperiod = 60\nwork = 1\n'
+        core = '[[core]]\nname = "cpu0"\nsched = "rm"\n'
+        _, lines = self.judged(f"format = 1\n{core}{guest.format('A', 4, 2)}{guest.format('B', 6, 3)}")
+        self.assertEqual(lines[0], f"{self.file}: verdict=no overfull core cpu0 task=B")
+        self.assertEqual(self.changes(lines)["cpu0.sched=edf"], "cpu0: earliest deadline first, where it was rate monotonic")
+        self.assertNotIn("cpu0.sched=dm", self.changes(lines))
+
+    def test_a_stand_in_keeps_its_budget_and_its_period(self):
+        text = HOST.replace('name = "c"\nperiod = 100\nwork = 10', 'name = "any"\nperiod = 100\nwork = 1')
+        self.assertIn("C.budget=open", self.changes(self.judged(text)[1]))
+        with mock.patch.object(tool, "INVENTED", [systems.Task("any", 100, 100, 1, 0)]):
+            _, lines = self.judged(text)
+        self.assertIn("(C: the task is invented, so budget and period stay as they are.)", lines)
+        self.assertEqual({change for change in self.changes(lines) if change.startswith("C.")}, {"C.parent=cpu1"})
+        self.assertIn("A.a.work=6", self.changes(lines))
+
+    def test_a_stand_in_is_what_the_tools_write(self):
+        known = tomllib.loads(hostfile.part_text("", "C", "cpu0", 5, 2, stand_in=True))
+        system = systems.System("made", {"core": [{"name": "cpu0", "sched": "edf"}], **known})
+        self.assertTrue(tool.is_stand_in(system.nodes["C"]))
+        for change in ("C.budget=open", "C.any.work=2"):
+            self.assertFalse(tool.is_stand_in(system.changed(change).nodes["C"]), change)
+
     def test_a_shorter_period(self):
         """One slot of every 6 gives 7 in 50, and one of every 7 gives 6."""
         _, lines = self.judged((top / "examples/guest-short.toml").read_text())
@@ -251,6 +290,18 @@ class Changes(Case):
             self.assertTrue(Judge().admit(systems.System("copy", tomllib.loads(ran.stdout))).is_yes, words[0])
 
 
+    def test_words_with_the_program_that_was_named(self):
+        lines = self.judged(HOST, asked="out/a.program")[1]
+        words = [line.strip() for line in lines if " --copy " in line]
+        self.assertTrue(words)
+        self.assertTrue(all(line.endswith(" | out/a.program admit /dev/stdin") for line in words), words)
+        with mock.patch.object(tool, "judged", return_value=(0, [])) as judged:
+            for words, asked in ((["--program=./rtadmit  --unproved"], "./rtadmit --unproved"), (["--program='a b'"], "'a b'")):
+                with contextlib.redirect_stdout(io.StringIO()):
+                    tool.main([str(self.file), *words])
+                self.assertEqual(judged.call_args[0][3], asked)
+
+
 class Systems(Case):
     def test_a_copy_says_the_same(self):
         for path in sorted((top / "examples").glob("*.toml")):
@@ -281,8 +332,10 @@ class Systems(Case):
         self.assertEqual(system.changed("B.period=4").nodes["B"].period, 4)
         self.assertIsNone(system.changed("C.budget=open").nodes["C"].budget)
         self.assertEqual(system.changed("C.parent=cpu1").nodes["cpu1"].children, ["C", "D"])
+        self.assertEqual(system.changed("C.sched=dm").nodes["C"].sched, "dm")
+        self.assertEqual(system.changed("cpu1.sched=rm").nodes["cpu1"].sched, "rm")
         self.assertEqual(system.nodes["B"].tasks[0].work, 6)
-        for change in ("B.x.work=2", "X.period=2", "B.period", "B.work=2", "B.period=2.5", "B.period=-2", "B.parent=cpu7"):
+        for change in ("B.x.work=2", "X.period=2", "B.period", "B.work=2", "B.period=2.5", "B.period=-2", "B.parent=cpu7", "B.sched=fast", "cpu1.period=3"):
             with self.assertRaises(Refused, msg=change):
                 system.changed(change)
 

@@ -120,14 +120,16 @@ fn count_run(
         (runs_of tree.now.cores) (runs_of tree.now.parts)) }
     ensures few { IfOk result (λ counts. AreBelow (2 ^ 58) counts) }
 {
+    let pinned = sys.cores();
+    let guests = tree.parts();
     let budgets = sum_of(plan.budgets());
     let number = number_of_jobs(jobs);
     let at_cores = misses_of(tree.cores());
-    let at_parts = misses_of(tree.parts());
-    let pending = pending_of(alloc, jobs, tree.parts())?;
+    let at_parts = misses_of(guests);
+    let pending = pending_of(alloc, jobs, guests)?;
     Ok(BulkCounts {
         guests: n,
-        cores: sys.cores().len() as u64,
+        cores: pinned.len() as u64,
         budgets,
         jobs: number,
         missed: at_cores + at_parts,

@@ -1,4 +1,4 @@
-ghost use Rattle.std.specs.Prelude.{◌≡◌, ◌↔◌, ◌^◌, ◌<◌, ◌≤◌, IsTrue, IsOk, IfOk, IfErr, map, take, length};
+ghost use Rattle.std.specs.Prelude.{◌≡◌, ◌↔◌, ◌^◌, ◌<◌, ◌≤◌, IsTrue, IsOk, IfOk, IfErr, MatchResult, map, take, length};
 ghost use Rattle.tree_model.specs.declared.system.TheConstants.{MAX_PARTS};
 ghost use Rattle.tree_model.specs.Tree.{IsNode};
 ghost use Rattle.tree_model.specs.Admission.{Admitted};
@@ -133,8 +133,8 @@ fn check_node(
     requires one_each { length budgets.now ≡ length sys.now.parts }
     requires fit { BudgetsFit sys.now budgets.now }
     requires room { MAX_PARTS ≤ length room.old }
-    ensures proved { IfOk result (λ _. NodeProves sys.now budgets.now node.now) }
-    ensures flaw { IfErr result (λ flaw. NodeFails sys.now budgets.now flaw node.now) }
+    ensures { MatchResult result (λ _. NodeProves sys.now budgets.now node.now)
+        (λ flaw. NodeFails sys.now budgets.now flaw node.now) }
 {
     let sched = sched_of(sys, node.place);
     let supply = node_supply(sys, budgets, node.place);

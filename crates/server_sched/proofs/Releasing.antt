@@ -1,5 +1,5 @@
 -- Where the jobs of servers stand among all: each moment's after those of earlier ones.
-use Rattle.std.proofs.Common.{◌≡◌, ℕ, zero, suc, ◌+◌, ◌<◌, ◌≤◌, true, List, length, sym, ◌∙◌, ap, arith, inl, inr}
+use Rattle.std.proofs.Common.{◌≡◌, ◌⊎◌, ℕ, zero, suc, ◌+◌, ◌<◌, ◌≤◌, true, List, length, sym, ◌∙◌, ap, arith, inl, inr}
 use Rattle.std.proofs.lemmas.Bool.{cases_eq, cases_lt, cases_Bool, cond-true, cond-false}
 use Rattle.std.proofs.lemmas.List.{get_or_push, length_push}
 use Rattle.slot_model.specs.declared.job.Job.{Job}
@@ -123,6 +123,21 @@ added_then T x (suc i) jobs k l m = elim (cases_lt k (length (releases_at T 0 x 
   ]
 ]
 
+-- a job that is released before a moment has come a moment earlier, or is released just then
+just_then : (T : List SporadicTask) (n k : ℕ) → k < length (synchronous T 0 (suc n))
+    → ((k < length (synchronous T 0 n)) × ((job_at (synchronous T 0 (suc n)) k).release
+    ≡ (job_at (synchronous T 0 n) k).release)) ⊎ ((job_at (synchronous T 0 (suc n)) k).release ≡ n)
+just_then T n k m =
+    let here : length (synchronous T 0 (suc n)) ≡ come_by T n (length T)
+    = ap (λ (js : List Job). length js) (next_moment T 0 n) in
+    elim (cases_lt k (length (synchronous T 0 n))) [
+      | inl before ↦
+          inl (before, ap (λ (j : Job). j.release) (stays_there T n (suc n) k (omega arith) before))
+      | inr after ↦
+          inr (ap (λ (js : List Job). (job_at js k).release) (next_moment T 0 n)
+          ∙ added_then T n (length T) (synchronous T 0 n) k after (omega (arith, m, here)))
+    ]
+
 -- no job after the first so many is released earlier
 pub later_jobs : (T : List SporadicTask) (y n k : ℕ) → y ≤ n → length (synchronous T 0 y) ≤ k
     → k < length (synchronous T 0 n) → y ≤ (job_at (synchronous T 0 n) k).release
@@ -130,21 +145,9 @@ later_jobs T y zero k l a m = omega arith
 later_jobs T y (suc n) k l a m = elim (cases_eq y (suc n)) [
   | inl e ↦ absurd (omega (arith, a, m, ap (λ (z : ℕ). length (synchronous T 0 z)) e))
   | inr ne ↦
-      let here : length (synchronous T 0 (suc n)) ≡ come_by T n (length T)
-      = ap (λ (js : List Job). length js) (next_moment T 0 n) in
-      elim (cases_lt k (length (synchronous T 0 n))) [
-        | inl before ↦
-            omega (
-              arith,
-              later_jobs T y n k (omega arith) a before,
-              ap (λ (j : Job). j.release) (stays_there T n (suc n) k (omega arith) before),
-            )
-        | inr after ↦
-            omega (
-              arith,
-              ap (λ (js : List Job). (job_at js k).release) (next_moment T 0 n),
-              added_then T n (length T) (synchronous T 0 n) k after (omega (arith, m, here)),
-            )
+      elim (just_then T n k m) [
+        | inl before ↦ omega (arith, later_jobs T y n k (omega arith) a before.0, before.1)
+        | inr then ↦ omega (arith, then)
       ]
 ]
 
@@ -152,20 +155,7 @@ later_jobs T y (suc n) k l a m = elim (cases_eq y (suc n)) [
 pub in_moments : (T : List SporadicTask) (n k : ℕ) → k < length (synchronous T 0 n)
     → (job_at (synchronous T 0 n) k).release < n
 in_moments T zero k m = absurd (omega (arith, m, ap (λ (js : List Job). length js) (no_moment T 0)))
-in_moments T (suc n) k m =
-    let here : length (synchronous T 0 (suc n)) ≡ come_by T n (length T)
-    = ap (λ (js : List Job). length js) (next_moment T 0 n) in
-    elim (cases_lt k (length (synchronous T 0 n))) [
-      | inl before ↦
-          omega (
-            arith,
-            in_moments T n k before,
-            ap (λ (j : Job). j.release) (stays_there T n (suc n) k (omega arith) before),
-          )
-      | inr after ↦
-          omega (
-            arith,
-            ap (λ (js : List Job). (job_at js k).release) (next_moment T 0 n),
-            added_then T n (length T) (synchronous T 0 n) k after (omega (arith, m, here)),
-          )
-    ]
+in_moments T (suc n) k m = elim (just_then T n k m) [
+  | inl before ↦ omega (arith, in_moments T n k before.0, before.1)
+  | inr then ↦ omega (arith, then)
+]

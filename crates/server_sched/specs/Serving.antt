@@ -153,6 +153,15 @@ pub record IsUnderway (sched : Sched) (tasks : List SporadicTask) (slots : List 
       (is_late tasks (synchronous tasks 0 level.slots) run level.come.next 0)
       level.tally.missed level.tally.first
 
+-- a level whose jobs up to its moment have come, with the server that goes first, and with windows
+-- of each child that end by then
+pub record CanServe (level : Level) : Type 0 where
+  pub before_next : level.time < level.come.next
+  pub chosen : IsChosen level.servers.items level.best
+  pub one_each : length level.shares.items ≡ length level.servers.items
+  pub fit : (k : ℕ) → k < length level.shares.items →
+      AreWindows (share_at (map (λ s. s.items) level.shares.items) k) level.time
+
 -- the first run of a level of servers, of which this is kept
 pub record IsServed (sched : Sched) (tasks : List SporadicTask) (given : List Window) (n : ℕ)
     (kept : KeptView) : Type 0 where

@@ -1,10 +1,9 @@
-ghost use Rattle.std.specs.Prelude.{◌≡◌, ℕ, ◌<◌, ◌≤◌, ◌^◌, true, false, Bool, List, length, map, slice_index_or, IfOk, OnOk};
+ghost use Rattle.std.specs.Prelude.{◌≡◌, ℕ, ◌<◌, ◌≤◌, ◌^◌, true, false, Bool, List, length, slice_index_or, IfOk, OnOk};
 ghost use Rattle.guest_sched.specs.Spans.{AreWindows, slots_of, window_at};
 ghost use Rattle.slot_model.specs.declared.sched.Sched.{Sched as AnySched};
 ghost use Rattle.slot_model.specs.Task.{SporadicTask, AreConstrained, sporadic_tasks};
 ghost use Rattle.slot_model.specs.Release.{synchronous};
-ghost use Rattle.tree_spans.specs.Shares.{share_at};
-ghost use Rattle.server_sched.specs.Serving.{AreServerTasks, IsChosen, IsUnderway};
+ghost use Rattle.server_sched.specs.Serving.{AreServerTasks, CanServe, IsUnderway};
 
 use crate::serving::{Come, Server, choose, first_after, renew};
 use crate::tally::{Tally, close};
@@ -54,7 +53,8 @@ impl Level {
         if self.come.next != self.time {
             return;
         }
-        self.tally = close(self.tally, self.best, &self.servers, tasks, self.time);
+        let late = self.servers.as_slice();
+        self.tally = close(self.tally, self.best, late, tasks, self.time);
         self.come = renew(
             &mut self.servers,
             tasks,
@@ -69,11 +69,7 @@ impl Level {
     /// further job comes, or to none where no job lacks any.
     pub fn step(&mut self, until: u64) -> Result<(), AllocError>
         requires later { self.old.time < until }
-        requires before_next { self.old.time < self.old.come.next }
-        requires chosen { IsChosen self.old.servers.items self.old.best }
-        requires one_each { length self.old.shares.items ≡ length self.old.servers.items }
-        requires fit { (k : ℕ) → k < length self.old.shares.items →
-            AreWindows (share_at (map (λ s. s.items) self.old.shares.items) k) self.old.time }
+        requires ready { CanServe self.old }
         ensures slots { OnOk result (self.new.slots ≡ self.old.slots) }
         ensures later { OnOk result (self.old.time < self.new.time) }
         ensures in_time { OnOk result (self.new.time ≤ until) }

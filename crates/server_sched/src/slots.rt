@@ -12,7 +12,7 @@ use guest_sched::{Window, windows_of, written};
 use slot_model::Job;
 use std::alloc::{AllocError, Global};
 use tree_model::{Plan, System, TreeRun};
-use tree_spans::{NodeSpans, span_tree};
+use tree_spans::{NodeSpans, TreeSpans, span_tree};
 
 /// The one first run of the tree over lists of slots, one a core, slot by slot: cores and inner
 /// parts run the servers of their children, leaves their jobs.
@@ -47,8 +47,8 @@ pub fn run_tree(
 {
     let windows = core_windows(alloc, sys, given, slots)?;
     let tree = span_tree(alloc, sys, plan, jobs, &windows, slots)?;
-    let cores = written_runs(alloc, tree.cores(), slots)?;
-    let parts = written_runs(alloc, tree.parts(), slots)?;
+    let cores = core_runs(alloc, &tree, slots)?;
+    let parts = part_runs(alloc, &tree, slots)?;
     Ok(TreeRun { cores, parts })
 }
 
@@ -69,6 +69,32 @@ fn core_windows(
         windows.push(windows_of(alloc, list)?)?;
     }
     Ok(windows)
+}
+
+/// The runs of the cores, slot by slot.
+fn core_runs(
+    alloc: Global,
+    tree: &TreeSpans,
+    slots: u64,
+) -> Result<Vec<Vec<Option<u32>>>, AllocError>
+    requires { (c : ℕ) → c < length tree.now.cores →
+        AreSpans (node_at tree.now.cores c).spans slots }
+    ensures { IfOk result (λ runs. map (λ r. r.items) runs.items ≡ runs_of tree.now.cores) }
+{
+    written_runs(alloc, tree.cores(), slots)
+}
+
+/// The runs of the parts, slot by slot.
+fn part_runs(
+    alloc: Global,
+    tree: &TreeSpans,
+    slots: u64,
+) -> Result<Vec<Vec<Option<u32>>>, AllocError>
+    requires { (q : ℕ) → q < length tree.now.parts →
+        AreSpans (node_at tree.now.parts q).spans slots }
+    ensures { IfOk result (λ runs. map (λ r. r.items) runs.items ≡ runs_of tree.now.parts) }
+{
+    written_runs(alloc, tree.parts(), slots)
 }
 
 /// The runs of nodes, slot by slot.

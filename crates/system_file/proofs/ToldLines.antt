@@ -1,6 +1,8 @@
 -- One line of a known key after the other.
-use Rattle.std.proofs.Common.{◌≡◌, ℕ, true, false, List, [], ◌∷◌, ◌++◌, ◌≤◌, codes, Option, Some, None, option_map, unwrap_or, Bor, refl, sym, ap, subst, ◌∙◌}
-use Rattle.std.specs.List.{list_any}
+use Rattle.std.proofs.Common.{◌≡◌, ℕ, Bool, true, false, List, [], ◌∷◌, ◌++◌, ◌≤◌, codes, Option, Some, None, option_map, unwrap_or, cond, map, Bor, refl, sym, ap, subst, ◌∙◌}
+use Rattle.std.proofs.lemmas.Map.Text.{is_eq-slice_cmp}
+use Rattle.std.proofs.lemmas.Slice.Eq.{bytes_eq-Decides}
+use Rattle.std.specs.List.{AllByRecursion, list_any}
 use Rattle.std.specs.Prelude.{bytes_eq}
 use Rattle.slot_model.specs.Name.{is_name}
 use Rattle.slot_model.specs.Task.{SporadicTask, IsConstrained}
@@ -16,7 +18,7 @@ use Rattle.system_file.specs.declared.fault.Spot.{Spot}
 use Rattle.system_file.specs.Faults.{name_faults, task_faults, task_keys}
 use Rattle.system_file.specs.Written.{IsWhole, IsWrittenTask, There, MayBe}
 use Rattle.system_file.specs.inner.Plain.{ReadsElement}
-use Rattle.system_file.specs.inner.Told.{of_number, of_text, Tells, TellsFirst, TellsLines, TellsMore, TellsTask}
+use Rattle.system_file.specs.inner.Told.{of_number, of_text, told_at, Stands, Tells, TellsFirst, TellsLines, TellsMore, TellsTask}
 use Rattle.system_file.proofs.Faultless.{name_fits as name_faultless}
 use Rattle.system_file.proofs.Laws.{task_fits}
 use Rattle.system_file.proofs.Named.{taken_is, more_names}
@@ -26,143 +28,61 @@ use Rattle.system_file.proofs.OneWalk.{put_listed}
 pub none_told : (format : Format) (told : Told) → told.name ≡ None → told.period ≡ None → told.deadline ≡ None
     → told.jitter ≡ None → told.work ≡ None → Tells format told no_members
 none_told format told a b c d e = record {
-  name = ap (option_map of_text) (sym a);
-  period = ap (option_map of_number) (sym b);
-  deadline = ap (option_map of_number) (sym c);
-  jitter = ap (option_map of_number) (sym d);
-  work = ap (option_map of_number) (sym e);
+  held =
+      let of = λ (o : Option ℕ) (none : o ≡ None). ap (option_map of_number) (sym none) in
+      (ap (option_map of_text) (sym a), (of _ b, (of _ c, (of _ d, (of _ e, tt)))));
   only = refl;
 }
 
--- what is put at its key, where nothing stood
-was_new : {A : Type 0} {data_of : A → Data} {key : List ℕ} {before after : Option A} {text rest : List ℕ}
-    (ms : Members) → TellsFirst data_of key before after text rest → get_member key ms ≡ option_map data_of before
-    → get_member key ms ≡ None
-was_new {data_of = data_of} ms first held = held ∙ ap (option_map data_of) first.untold
-
-now_told : {A : Type 0} {data_of : A → Data} {key : List ℕ} {before after : Option A} {text rest : List ℕ}
-    (first : TellsFirst data_of key before after text rest) (ms : Members)
-    → get_member key (insert_member key (data_of first.value) ms) ≡ option_map data_of after
-now_told {data_of = data_of} {key} first ms =
-    get_member-insert key (data_of first.value) ms ∙ ap (option_map data_of) (sym first.told)
-
-listed_in_both : (format : Format) (key : List ℕ) → list_any (bytes_eq key) (task_keys One) ≡ true
+-- a key that is listed in both formats is listed in each
+pub in_both : (format : Format) (key : List ℕ) → list_any (bytes_eq key) (task_keys One) ≡ true
     → list_any (bytes_eq key) (task_keys Two) ≡ true → list_any (bytes_eq key) (task_keys format) ≡ true
-listed_in_both One key a b = a
-listed_in_both Two key a b = b
+in_both One key a b = a
+in_both Two key a b = b
 
--- what stands at another key stays
-stays : (j k : List ℕ) (d : Data) (ms : Members) (o : Option Data) → same_key j k ≡ false → get_member j ms ≡ o
-    → get_member j (insert_member k d ms) ≡ o
-stays j k d ms o apart held = get_member-insert_other j k d ms apart ∙ held
+-- what stands at a key where a value is put at one
+put_at : (j k : List ℕ) (d : Data) (ms : Members)
+    → get_member j (insert_member k d ms) ≡ cond (same_key j k) (Some d) (get_member j ms)
+put_at j k d ms = by (same_key j k) refl
+  where
+    by : (same : Bool) → same_key j k ≡ same
+        → get_member j (insert_member k d ms) ≡ cond same (Some d) (get_member j ms)
+    by true h =
+        subst (λ (key : List ℕ). get_member key (insert_member k d ms) ≡ Some d)
+        (sym ((bytes_eq-Decides j k).0 (sym (is_eq-slice_cmp j k) ∙ h))) (get_member-insert k d ms)
+    by false h = get_member-insert_other j k d ms h
 
-pub tells_name : (format : Format) (before : Told) (after : Option (Bor (List ℕ))) (text rest : List ℕ)
-    → TellsFirst of_text (codes "name") before.name after text rest
-    → TellsMore format before (record before { name = after }) text rest
-tells_name format before after text rest first =
-    let d = of_text first.value in
+-- what is told with a value at this key
+abbrev pub with_value : List ℕ → Data → List ℕ × Option Data → List ℕ × Option Data
+with_value key value told = (told.0, cond (same_key told.0 key) (Some value) told.1)
+
+still_stands : (key : List ℕ) (d : Data) (ms : Members) (told : List (List ℕ × Option Data))
+    → AllByRecursion (Stands ms) told
+    → AllByRecursion (Stands (insert_member key d ms)) (map (with_value key d) told)
+still_stands key d ms [] held = tt
+still_stands key d ms (pair ∷ more) held =
+    (put_at pair.0 key d ms ∙ ap (cond (same_key pair.0 key) (Some d)) held.0, still_stands key d ms more held.1)
+
+-- The line of a key, of which nothing was told, tells one thing more.
+pub tells_more : {A : Type 0} {data_of : A → Data} {key : List ℕ} {before after : Option A} {text rest : List ℕ}
+    (format : Format) (told : Told) (tell : Option A → Told) → list_any (bytes_eq key) (task_keys format) ≡ true
+    → ((ms : Members) → AllByRecursion (Stands ms) (told_at told) → get_member key ms ≡ option_map data_of before)
+    → ((value : A) → told_at (tell (Some value)) ≡ map (with_value key (data_of value)) (told_at told))
+    → TellsFirst data_of key before after text rest → TellsMore format told (tell after) text rest
+tells_more {data_of = data_of} {key} format told tell listed stands told_more first =
+    let d = data_of first.value in
     record {
-      key = codes "name";
+      key = key;
       value = d;
       line = first.line;
       adds = λ ms tells. (
-        was_new ms first tells.name,
-        record {
-          name = now_told first ms;
-          period = stays (codes "period") (codes "name") d ms _ refl tells.period;
-          deadline = stays (codes "deadline") (codes "name") d ms _ refl tells.deadline;
-          jitter = stays (codes "jitter") (codes "name") d ms _ refl tells.jitter;
-          work = stays (codes "work") (codes "name") d ms _ refl tells.work;
-          only = put_listed (task_keys format) (codes "name") d ms (listed_in_both format (codes "name") refl refl) tells.only;
-        },
-      );
-    }
-
-pub tells_period : (format : Format) (before : Told) (after : Option (ℕ)) (text rest : List ℕ)
-    → TellsFirst of_number (codes "period") before.period after text rest
-    → TellsMore format before (record before { period = after }) text rest
-tells_period format before after text rest first =
-    let d = of_number first.value in
-    record {
-      key = codes "period";
-      value = d;
-      line = first.line;
-      adds = λ ms tells. (
-        was_new ms first tells.period,
-        record {
-          name = stays (codes "name") (codes "period") d ms _ refl tells.name;
-          period = now_told first ms;
-          deadline = stays (codes "deadline") (codes "period") d ms _ refl tells.deadline;
-          jitter = stays (codes "jitter") (codes "period") d ms _ refl tells.jitter;
-          work = stays (codes "work") (codes "period") d ms _ refl tells.work;
-          only = put_listed (task_keys format) (codes "period") d ms (listed_in_both format (codes "period") refl refl) tells.only;
-        },
-      );
-    }
-
-pub tells_deadline : (format : Format) (before : Told) (after : Option (ℕ)) (text rest : List ℕ)
-    → TellsFirst of_number (codes "deadline") before.deadline after text rest
-    → TellsMore format before (record before { deadline = after }) text rest
-tells_deadline format before after text rest first =
-    let d = of_number first.value in
-    record {
-      key = codes "deadline";
-      value = d;
-      line = first.line;
-      adds = λ ms tells. (
-        was_new ms first tells.deadline,
-        record {
-          name = stays (codes "name") (codes "deadline") d ms _ refl tells.name;
-          period = stays (codes "period") (codes "deadline") d ms _ refl tells.period;
-          deadline = now_told first ms;
-          jitter = stays (codes "jitter") (codes "deadline") d ms _ refl tells.jitter;
-          work = stays (codes "work") (codes "deadline") d ms _ refl tells.work;
-          only = put_listed (task_keys format) (codes "deadline") d ms (listed_in_both format (codes "deadline") refl refl) tells.only;
-        },
-      );
-    }
-
-pub tells_jitter : (format : Format) (before : Told) (after : Option (ℕ)) (text rest : List ℕ) → format ≡ Two
-    → TellsFirst of_number (codes "jitter") before.jitter after text rest
-    → TellsMore format before (record before { jitter = after }) text rest
-tells_jitter format before after text rest two first =
-    let d = of_number first.value in
-    record {
-      key = codes "jitter";
-      value = d;
-      line = first.line;
-      adds = λ ms tells. (
-        was_new ms first tells.jitter,
-        record {
-          name = stays (codes "name") (codes "jitter") d ms _ refl tells.name;
-          period = stays (codes "period") (codes "jitter") d ms _ refl tells.period;
-          deadline = stays (codes "deadline") (codes "jitter") d ms _ refl tells.deadline;
-          jitter = now_told first ms;
-          work = stays (codes "work") (codes "jitter") d ms _ refl tells.work;
-          only = put_listed (task_keys format) (codes "jitter") d ms (rw two refl) tells.only;
-        },
-      );
-    }
-
-pub tells_work : (format : Format) (before : Told) (after : Option (ℕ)) (text rest : List ℕ)
-    → TellsFirst of_number (codes "work") before.work after text rest
-    → TellsMore format before (record before { work = after }) text rest
-tells_work format before after text rest first =
-    let d = of_number first.value in
-    record {
-      key = codes "work";
-      value = d;
-      line = first.line;
-      adds = λ ms tells. (
-        was_new ms first tells.work,
-        record {
-          name = stays (codes "name") (codes "work") d ms _ refl tells.name;
-          period = stays (codes "period") (codes "work") d ms _ refl tells.period;
-          deadline = stays (codes "deadline") (codes "work") d ms _ refl tells.deadline;
-          jitter = stays (codes "jitter") (codes "work") d ms _ refl tells.jitter;
-          work = now_told first ms;
-          only = put_listed (task_keys format) (codes "work") d ms (listed_in_both format (codes "work") refl refl) tells.only;
-        },
+        stands ms tells.held ∙ ap (option_map data_of) first.untold,
+        rw first.told (record {
+          held =
+              subst (λ (now : List (List ℕ × Option Data)). AllByRecursion (Stands (insert_member key d ms)) now)
+              (sym (told_more first.value)) (still_stands key d ms (told_at told) tells.held);
+          only = put_listed (task_keys format) key d ms listed tells.only;
+        }),
       );
     }
 
@@ -184,16 +104,16 @@ task_is_told {told = told} name task lines named period_is work_is deadline_is j
     let tells = lines.tells in
     let ms = lines.members in
     let period = told_whole (get_member (codes "period") ms) task.period
-    (tells.period ∙ ap (option_map of_number) period_is) in
+    (tells.held.1.0 ∙ ap (option_map of_number) period_is) in
     let work = told_whole (get_member (codes "work") ms) task.work
-    (tells.work ∙ ap (option_map of_number) work_is) in
-    let deadline = may_whole (get_member (codes "deadline") ms) told.deadline tells.deadline in
-    let jitter = may_whole (get_member (codes "jitter") ms) told.jitter tells.jitter in
+    (tells.held.1.1.1.1.0 ∙ ap (option_map of_number) work_is) in
+    let deadline = may_whole (get_member (codes "deadline") ms) told.deadline tells.held.1.1.0 in
+    let jitter = may_whole (get_member (codes "jitter") ms) told.jitter tells.held.1.1.1.0 in
     record {
       members = ms;
       reads = lines.reads;
       only = tells.only;
-      named = tells.name ∙ ap (option_map of_text) named;
+      named = tells.held.0 ∙ ap (option_map of_text) named;
       period = period.0;
       deadline = deadline.0;
       jitter = jitter.0;

@@ -1,5 +1,6 @@
 -- What the lines of a task tell of it while they are read by their known keys.
-use Rattle.std.specs.Prelude.{◌≡◌, ℕ, pos, true, List, [], codes, Option, Some, None, option_map}
+use Rattle.std.specs.Prelude.{◌≡◌, ℕ, pos, true, List, [], ◌∷◌, codes, Option, Some, None, option_map}
+use Rattle.std.specs.List.{AllByRecursion}
 use Rattle.std.specs.Borrow.{Bor}
 use Rattle.slot_model.specs.Task.{SporadicTask}
 use Rattle.toml.specs.Data.{Data, string, integer, table, Members, get_member}
@@ -19,13 +20,22 @@ of_number n = integer (pos n)
 abbrev pub of_text : Bor (List ℕ) → Data
 of_text s = string s.now
 
+-- What is told of a task, key by key.
+abbrev pub told_at : Told → List (List ℕ × Option Data)
+told_at told =
+    (codes "name", option_map of_text told.name) ∷
+    (codes "period", option_map of_number told.period) ∷
+    (codes "deadline", option_map of_number told.deadline) ∷
+    (codes "jitter", option_map of_number told.jitter) ∷
+    (codes "work", option_map of_number told.work) ∷ []
+
+-- At its key stands what is told.
+abbrev pub Stands : Members → List ℕ × Option Data → Type 0
+Stands members told = get_member told.0 members ≡ told.1
+
 -- The members of a table hold what is told of a task, and nothing else.
 pub record Tells (format : Format) (told : Told) (members : Members) : Type 0 where
-  pub name : get_member (codes "name") members ≡ option_map of_text told.name
-  pub period : get_member (codes "period") members ≡ option_map of_number told.period
-  pub deadline : get_member (codes "deadline") members ≡ option_map of_number told.deadline
-  pub jitter : get_member (codes "jitter") members ≡ option_map of_number told.jitter
-  pub work : get_member (codes "work") members ≡ option_map of_number told.work
+  pub held : AllByRecursion (Stands members) (told_at told)
   pub only : has_only (task_keys format) members ≡ true
 
 -- From behind a header on, up to a later text, stand lines that tell this.

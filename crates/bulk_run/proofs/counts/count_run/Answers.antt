@@ -1,4 +1,4 @@
-use Rattle.std.proofs.Common.{◌≡◌, ℕ, ◌+◌, ◌^◌, ◌<◌, List, Vec, Global, length, refl, sym, ◌∙◌, ap, arith, subst}
+use Rattle.std.proofs.Common.{◌≡◌, ℕ, ◌+◌, ◌^◌, ◌<◌, List, Vec, Global, length, map, refl, sym, ◌∙◌, ap, arith, subst}
 use Rattle.std.specs.Prelude.{sum, sum_by}
 use Rattle.std.proofs.lemmas.List.{length-map}
 use Rattle.slot_model.specs.declared.job.Job.{Job}
@@ -41,40 +41,44 @@ misses_of-at_cores-requires c =
 
 pub misses_of-at_parts-requires : goal.misses_of-at_parts-requires
 misses_of-at_parts-requires c =
-    omega
-    (arith, few_at_parts c.args.n c.requires.most c.args.tree.now c.requires.tree c.parts.result.now c.parts.ensures)
+    omega (
+      arith,
+      few_at_parts c.args.n c.requires.most c.args.tree.now c.requires.tree c.parts-guests.result.now
+          c.parts-guests.ensures,
+    )
+
+-- there is a list of jobs for each guest
+one_list_each : (n : ℕ) (jobs : List (Vec Job Global))
+    → map (λ (list : Vec Job Global). list.items) jobs ≡ bulk_jobs n → length jobs ≡ n
+one_list_each n jobs are =
+    sym (length-map jobs (λ (list : Vec Job Global). list.items))
+    ∙ (ap (λ (js : List (List Job)). length js) are ∙ jobs-many n)
 
 pub pending_of-requires-clause-few : goal.pending_of-requires-clause-few
 pending_of-requires-clause-few c =
-    omega (
-      arith,
-      length-map c.args.jobs.now (λ (list : Vec Job Global). list.items),
-      ap (λ (js : List (List Job)). length js) c.requires.jobs,
-      jobs-many c.args.n,
-      c.requires.most,
-    )
+    omega (arith, one_list_each c.args.n c.args.jobs.now c.requires.jobs, c.requires.most)
 
 pub pending_of-requires-clause-runs : goal.pending_of-requires-clause-runs
 pending_of-requires-clause-runs c =
-    subst (λ (js : List (List Job)). AreGuestRuns js c.parts-2.result.now) (sym c.requires.jobs)
-    (subst (λ (ns : List NodeView). AreGuestRuns (bulk_jobs c.args.n) ns) (sym c.parts-2.ensures)
+    subst (λ (js : List (List Job)). AreGuestRuns js c.parts-guests.result.now) (sym c.requires.jobs)
+    (subst (λ (ns : List NodeView). AreGuestRuns (bulk_jobs c.args.n) ns) (sym c.parts-guests.ensures)
     (guest_runs c.args.n (bulk_budgets c.args.n) c.args.tree.now c.requires.tree))
 
 -- the counts, each as its call told it
-budgets_told : (c : goal.After-cores-2) → c.sum_of-budgets.result ≡ sum (bulk_budgets c.args.n)
+budgets_told : (c : goal.In_ok-pending) → c.sum_of-budgets.result ≡ sum (bulk_budgets c.args.n)
 budgets_told c = c.sum_of-budgets.ensures ∙ ap (λ (b : List ℕ). sum b) (c.budgets.ensures ∙ c.requires.plan)
 
-jobs_told : (c : goal.After-cores-2)
+jobs_told : (c : goal.In_ok-pending)
     → c.number_of_jobs-number.result ≡ sum_by (λ (jobs : List Job). length jobs) (bulk_jobs c.args.n)
 jobs_told c =
     c.number_of_jobs-number.ensures
     ∙ (jobs_in_all c.args.jobs.now
     ∙ ap (λ (js : List (List Job)). sum_by (λ (jobs : List Job). length jobs) js) c.requires.jobs)
 
-cores_told : (c : goal.After-cores-2) → length c.cores-2.result.now ≡ length (bulk_host c.args.n).cores
-cores_told c = ap length c.cores-2.ensures.cores ∙ ap (λ (s : SystemView). length s.cores) c.requires.host
+cores_told : (c : goal.In_ok-pending) → length c.cores-pinned.result.now ≡ length (bulk_host c.args.n).cores
+cores_told c = ap length c.cores-pinned.ensures.cores ∙ ap (λ (s : SystemView). length s.cores) c.requires.host
 
-few_missed : (c : goal.After-cores-2) → c.misses_of-at_cores.result + c.misses_of-at_parts.result < 2 ^ 49
+few_missed : (c : goal.In_ok-pending) → c.misses_of-at_cores.result + c.misses_of-at_parts.result < 2 ^ 49
 few_missed c =
     omega (
       arith,
@@ -82,7 +86,8 @@ few_missed c =
       c.misses_of-at_parts.ensures,
       few_at_cores c.args.n c.requires.some c.requires.most c.args.tree.now c.requires.tree c.cores.result.now
           c.cores.ensures,
-      few_at_parts c.args.n c.requires.most c.args.tree.now c.requires.tree c.parts.result.now c.parts.ensures,
+      few_at_parts c.args.n c.requires.most c.args.tree.now c.requires.tree c.parts-guests.result.now
+          c.parts-guests.ensures,
     )
 
 pub overflow_add-result : goal.overflow_add-result
@@ -98,15 +103,15 @@ returns-clause-counts c =
       c.misses_of-at_cores.ensures,
       c.misses_of-at_parts.ensures,
       cores_missed n (bulk_budgets n) tree c.requires.tree c.cores.result.now c.cores.ensures,
-      guests_missed n (bulk_budgets n) tree c.requires.tree c.parts.result.now c.parts.ensures,
+      guests_missed n (bulk_budgets n) tree c.requires.tree c.parts-guests.result.now c.parts-guests.ensures,
     ))
     (c.in_ok-pending.ensures.counted
     ∙ (ap (λ (js : List (List Job)). sum_below
-    (λ q. pairs_pending (jobs_at js q) (run_of (node_at c.parts-2.result.now q).spans)) (length js))
+    (λ q. pairs_pending (jobs_at js q) (run_of (node_at c.parts-guests.result.now q).spans)) (length js))
     c.requires.jobs
     ∙ (ap (λ (ns : List NodeView). sum_below
     (λ q. pairs_pending (jobs_at (bulk_jobs n) q) (run_of (node_at ns q).spans)) (length (bulk_jobs n)))
-    c.parts-2.ensures
+    c.parts-guests.ensures
     ∙ guests_pending n (bulk_budgets n) tree c.requires.tree)))
 
 pub returns-clause-few : goal.returns-clause-few
@@ -120,9 +125,7 @@ returns-clause-few c = record {
       omega (
         arith,
         c.in_ok-pending.ensures.few,
-        length-map c.args.jobs.now (λ (list : Vec Job Global). list.items),
-        ap (λ (js : List (List Job)). length js) c.requires.jobs,
-        jobs-many c.args.n,
+        one_list_each c.args.n c.args.jobs.now c.requires.jobs,
         c.requires.most,
       );
 }

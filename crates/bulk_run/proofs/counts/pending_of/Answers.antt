@@ -1,4 +1,4 @@
-use Rattle.std.proofs.Common.{◌≡◌, ℕ, List, Vec, Global, get_or, map, sym, ◌∙◌, ap, arith, add-one}
+use Rattle.std.proofs.Common.{◌≡◌, ◌<◌, ℕ, length, List, Vec, Global, get_or, map, sym, ◌∙◌, ap, arith, add-one}
 use Rattle.std.proofs.lemmas.List.{length-map}
 use Rattle.slot_model.specs.declared.job.Job.{Job}
 use Rattle.slot_model.specs.Slots.{sum_below}
@@ -20,19 +20,20 @@ pub loop-place-init : goal.loop-place-init
 loop-place-init c =
     record { counted = sym (sum_below-zero (pending_at c.args.jobs.now c.args.nodes.now)); few = omega arith }
 
--- what is read of the guest at a place
+-- a place is that of a list
+in_lists : (c : After-deref)
+    → c.loop-place.place < length (map (λ (list : Vec Job Global). list.items) c.args.jobs.now)
+in_lists c =
+    omega (arith, c.loop-place-test.true, length-map c.args.jobs.now (λ (list : Vec Job Global). list.items))
+
+-- what is read of the guest there
 here : (c : After-deref) (node : NodeView) → node ≡ get_or c.args.nodes.now c.loop-place.place node
     → AreFound (map (λ (list : Vec Job Global). list.items) c.args.jobs.now) c.args.nodes.now c.loop-place.place
     c.deref.result.now node.spans
 here c node is =
     found c.args.jobs.now c.args.nodes.now c.loop-place.place c.index-jobs-place.result node c.deref.result.now
     (omega (arith, c.loop-place-test.true))
-    (omega (
-      arith,
-      c.loop-place-test.true,
-      length-map c.args.jobs.now (λ (list : Vec Job Global). list.items),
-      c.requires.runs.one_each,
-    )) c.index-jobs-place.is c.deref.ensures.value is
+    (omega (arith, in_lists c, c.requires.runs.one_each)) c.index-jobs-place.is c.deref.ensures.value is
 
 pub pending_in-requires : goal.pending_in-requires
 pending_in-requires c =
@@ -42,11 +43,7 @@ pending_in-requires c =
           run_found (map (λ (list : Vec Job Global). list.items) c.args.jobs.now) c.args.nodes.now c.loop-place.place
           c.deref.result.now c.index-nodes-place.result.spans
           (here at c.index-nodes-place.result c.index-nodes-place.is) c.requires.runs
-          (omega (
-            arith,
-            c.loop-place-test.true,
-            length-map c.args.jobs.now (λ (list : Vec Job Global). list.items),
-          ));
+          (in_lists at);
     }
 
 pub overflow_add-pending : goal.overflow_add-pending

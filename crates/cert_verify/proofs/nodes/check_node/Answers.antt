@@ -1,5 +1,6 @@
 use Rattle.std.proofs.Common.{◌≡◌, ℕ, ◌≤◌, List, take, Bool, true, false, Option, Some, None, sym, ◌∙◌, ap, subst, arith}
-use Rattle.std.proofs.lemmas.Result.{IfOk-weaker, IfErr-weaker}
+use Rattle.std.specs.Prelude.{MatchResult}
+use Rattle.std.proofs.lemmas.Result.{MatchResult-from_both}
 use Rattle.slot_model.specs.declared.sched.Sched.{Sched}
 use Rattle.slot_model.specs.Task.{SporadicTask, sporadic_tasks}
 use Rattle.supply_bound.specs.NodeSupplies.{bound_of, cycle_of}
@@ -42,24 +43,15 @@ check_claims-requires-clause-in_period c =
     λ t. (computed_range (given_budget c.args.sys.now c.args.node.now.place) c.args.node.now c.requires.has.budget t).1
 
 -- what is so of the level as it is read is so of the node's
-of_node : (c : goal.After-terms-1) (P : Sched → List SporadicTask → (ℕ → ℕ) → ℕ → Type 0) →
-    let sys = c.args.sys.now in let budgets = c.args.budgets.now in let place = c.args.node.now.place in
-    P c.sched_of-sched.result (sporadic_tasks (take c.write_tasks-count.result c.write_tasks-count.new.room))
-    (bound_of c.node_supply-supply.result) (cycle_of c.node_supply-supply.result)
-    → P (node_sched sys place) (node_tasks sys budgets place) (node_bound sys budgets place) (node_cycle sys place)
-of_node c P h =
+pub returns : goal.returns
+returns c =
     let sys = c.args.sys.now in let budgets = c.args.budgets.now in
-    of_level P (c.sched_of-sched.ensures.sched ∙ ap (λ (node : NodeView). node_sched sys node.place) c.node.view_is)
+    of_level
+    (λ sched tasks bound cycle. MatchResult c.check_claims.result
+    (λ done. IsShown sched tasks bound cycle c.args.node.now)
+    (λ flaw. NodeFlaw sched tasks bound cycle c.args.node.now flaw))
+    (c.sched_of-sched.ensures.sched ∙ ap (λ (node : NodeView). node_sched sys node.place) c.node.view_is)
     (c.write_tasks-count.ensures.tasks ∙ ap (λ (node : NodeView). node_tasks sys budgets node.place) c.node.view_is)
     (c.node_supply-supply.ensures.bound ∙ ap (λ (node : NodeView). node_bound sys budgets node.place) c.node.view_is)
-    (c.node_supply-supply.ensures.cycle ∙ ap (λ (node : NodeView). node_cycle sys node.place) c.node.view_is) h
-
-pub returns-clause-proved : goal.returns-clause-proved
-returns-clause-proved c =
-    IfOk-weaker c.check_claims.result _ _ (λ done h. of_node c (λ s T f m. IsShown s T f m c.args.node.now) h)
-    c.check_claims.ensures.shown
-
-pub returns-clause-flaw : goal.returns-clause-flaw
-returns-clause-flaw c =
-    IfErr-weaker c.check_claims.result _ _ (λ flaw h. of_node c (λ s T f m. NodeFlaw s T f m c.args.node.now flaw) h)
-    c.check_claims.ensures.flaw
+    (c.node_supply-supply.ensures.cycle ∙ ap (λ (node : NodeView). node_cycle sys node.place) c.node.view_is)
+    (MatchResult-from_both c.check_claims.result _ _ c.check_claims.ensures.shown c.check_claims.ensures.flaw)

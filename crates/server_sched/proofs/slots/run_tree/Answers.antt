@@ -10,14 +10,20 @@ use Rattle.tree_spans.proofs.Lists.{same_supplies, are_supplies, few_in_reach, s
 use Rattle.server_sched.proofs.SlotCounted.{permitted_tree_holds}
 use Rattle.server_sched.proofs.slots.run_tree.Goals as goal
 
+-- there is one list of windows for each list of slots
+each_list : (slots : ℕ) (given : List (Vec Bool Global)) (windows : List (List Window))
+    → AreWindowsOf slots (slot_lists given) (length given) windows
+    → AreWindowsOf slots (slot_lists given) (length (slot_lists given)) windows
+each_list slots given windows are =
+    subst (λ (m : ℕ). AreWindowsOf slots (slot_lists given) m windows)
+    (sym (length-map given (λ (s : Vec Bool Global). s.items))) are
+
 pub span_tree-requires-clause-windows : goal.span_tree-requires-clause-windows
 span_tree-requires-clause-windows c =
     let given = slot_lists c.args.given.now in
     let long : length given ≡ length c.args.given.now
     = length-map c.args.given.now (λ (s : Vec Bool Global). s.items) in
-    let are : AreWindowsOf c.args.slots given (length given) (window_lists c.in_ok-windows.windows.items)
-    = subst (λ (m : ℕ). AreWindowsOf c.args.slots given m (window_lists c.in_ok-windows.windows.items)) (sym long)
-    c.in_ok-windows.ensures.windows in
+    let are = each_list c.args.slots c.args.given.now _ c.in_ok-windows.ensures.windows in
     subst (λ (v : List (Vec Window Global)). AreSupplies c.args.sys.now c.args.slots (window_lists v))
     (sym c.deref.ensures.value) (are_supplies c.args.sys.now c.args.slots given
     (window_lists c.in_ok-windows.windows.items) (long ∙ c.requires.one_each) are)
@@ -27,42 +33,29 @@ span_tree-requires-clause-few c =
     few_in_reach c.args.sys.now c.args.plan.now c.args.slots (job_lists c.args.jobs.now) c.core_windows.ensures.system
     c.requires.short c.requires.few
 
-pub written_runs-requires : goal.written_runs-requires
-written_runs-requires c =
-    subst (λ (v : List NodeView). (i : ℕ) → i < length v → AreSpans (node_at v i).spans c.args.slots)
-    (sym c.cores.ensures)
-    (λ i l. (c.in_ok-tree.ensures.spans.cores i (omega (arith, c.in_ok-tree.ensures.spans.each_core))).spans)
+pub core_runs-requires : goal.core_runs-requires
+core_runs-requires c =
+    λ i l. (c.in_ok-tree.ensures.spans.cores i (omega (arith, l, c.in_ok-tree.ensures.spans.each_core))).spans
 
-pub written_runs-requires-2 : goal.written_runs-requires-2
-written_runs-requires-2 c =
-    subst (λ (v : List NodeView). (i : ℕ) → i < length v → AreSpans (node_at v i).spans c.args.slots)
-    (sym c.parts.ensures) (λ i l. part_spans _ _ _ _ _ _ _
-    (c.in_ok-tree.ensures.spans.parts i (omega (arith, c.in_ok-tree.ensures.spans.each_part))))
+pub part_runs-requires : goal.part_runs-requires
+part_runs-requires c =
+    λ i l. part_spans _ _ _ _ _ _ _
+    (c.in_ok-tree.ensures.spans.parts i (omega (arith, l, c.in_ok-tree.ensures.spans.each_part)))
 
 pub returns-clause-first : goal.returns-clause-first
 returns-clause-first c =
     let sys = c.args.sys.now in let n = c.args.slots in
     let given = slot_lists c.args.given.now in
     let jobs = job_lists c.args.jobs.now in
-    let long : length given ≡ length c.args.given.now
-    = length-map c.args.given.now (λ (s : Vec Bool Global). s.items) in
-    let are : AreWindowsOf n given (length given) (window_lists c.in_ok-windows.windows.items)
-    = subst (λ (m : ℕ). AreWindowsOf n given m (window_lists c.in_ok-windows.windows.items)) (sym long)
-    c.in_ok-windows.ensures.windows in
+    let are = each_list n c.args.given.now _ c.in_ok-windows.ensures.windows in
     let supplies : supplies_of (window_lists c.deref.result.now) n ≡ given
     = ap (λ (v : List (Vec Window Global)). supplies_of (window_lists v) n) c.deref.ensures.value
     ∙ same_supplies n given (window_lists c.in_ok-windows.windows.items) are in
-    let cores : runs_of c.in_ok-tree.tree.cores
-    ≡ map (λ (r : Vec (Option ℕ) Global). r.items) c.in_ok-cores.cores.items
-    = sym (c.in_ok-cores.ensures ∙ ap runs_of c.cores.ensures) in
-    let parts : runs_of c.in_ok-tree.tree.parts
-    ≡ map (λ (r : Vec (Option ℕ) Global). r.items) c.in_ok-parts.parts.items
-    = sym (c.in_ok-parts.ensures ∙ ap runs_of c.parts.ensures) in
     subst (λ (v : List (List (Option ℕ))). FirstTree sys c.args.plan.now n given jobs
-    (map (λ (r : Vec (Option ℕ) Global). r.items) c.in_ok-cores.cores.items) v) parts
+    (map (λ (r : Vec (Option ℕ) Global). r.items) c.in_ok-cores.cores.items) v) (sym c.in_ok-parts.ensures)
     (subst
     (λ (v : List (List (Option ℕ))). FirstTree sys c.args.plan.now n given jobs v (runs_of c.in_ok-tree.tree.parts))
-    cores
+    (sym c.in_ok-cores.ensures)
     (subst (λ (v : List (List Bool)). FirstTree sys c.args.plan.now n v jobs (runs_of c.in_ok-tree.tree.cores)
     (runs_of c.in_ok-tree.tree.parts)) supplies c.in_ok-tree.ensures.spans.first))
 

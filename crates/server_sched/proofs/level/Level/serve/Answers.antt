@@ -22,39 +22,30 @@ turn-requires c =
       missed = may.1;
     }
 
--- the window's slots are in the whole
-in_slots : (c : goal.After-step-arg-1) → c.loop-self.self.time < c.loop-self.self.slots
-in_slots c =
-    omega
-    (arith, c.loop-self-test.true, c.requires.windows.in_slots c.args.at c.requires.inside, c.loop-self.invariant.slots)
-
-turned : (c : goal.After-step-arg-1)
-    → IsUnderway c.args.sched (sporadic_tasks c.args.tasks.now) (slots_of c.args.given.now c.args.self.now.slots)
-    c.turn.new.self
-turned c = c.turn.ensures.run (slots_of c.args.given.now c.args.self.now.slots) (in_slots c) c.loop-self.invariant.state
-
-pub step-requires-clause-before_next : goal.step-requires-clause-before_next
-step-requires-clause-before_next c =
-    c.turn.ensures.next (slots_of c.args.given.now c.args.self.now.slots) (in_slots c) c.loop-self.invariant.state
-
-pub step-requires-clause-chosen : goal.step-requires-clause-chosen
-step-requires-clause-chosen c = (turned c).chosen
-
-pub step-requires-clause-one_each : goal.step-requires-clause-one_each
-step-requires-clause-one_each c =
-    let s
-    = sound_in c.args.sched (sporadic_tasks c.args.tasks.now) (slots_of c.args.given.now c.args.self.now.slots)
-    c.turn.new.self.slots c.turn.new.self (turned c) refl in
-    omega (arith, s.shares, s.one_each)
-
-pub step-requires-clause-fit : goal.step-requires-clause-fit
-step-requires-clause-fit c =
-    λ k l. (turned c).shares.fit k (omega (
+pub step-requires-clause-ready : goal.step-requires-clause-ready
+step-requires-clause-ready c =
+    let slots = slots_of c.args.given.now c.args.self.now.slots in
+    let inside : c.loop-self.self.time < c.loop-self.self.slots
+    = omega (
       arith,
-      l,
-      (turned c).shares.one_each,
-      length-map c.turn.new.self.shares.items (λ (s : Vec Window Global). s.items),
-    ))
+      c.loop-self-test.true,
+      c.requires.windows.in_slots c.args.at c.requires.inside,
+      c.loop-self.invariant.slots,
+    ) in
+    let now = c.turn.ensures.run slots inside c.loop-self.invariant.state in
+    let s
+    = sound_in c.args.sched (sporadic_tasks c.args.tasks.now) slots c.turn.new.self.slots c.turn.new.self now refl in
+    record {
+      before_next = c.turn.ensures.next slots inside c.loop-self.invariant.state;
+      chosen = now.chosen;
+      one_each = omega (arith, s.shares, s.one_each);
+      fit = λ k l. now.shares.fit k (omega (
+        arith,
+        l,
+        now.shares.one_each,
+        length-map c.turn.new.self.shares.items (λ (s : Vec Window Global). s.items),
+      ));
+    }
 
 pub loop-self-preserved : goal.loop-self-preserved
 loop-self-preserved c =
