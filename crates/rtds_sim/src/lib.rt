@@ -3,6 +3,7 @@
 #![tactic(auto)]
 
 mod account;
+mod core_run;
 mod fault;
 mod host;
 mod moment;
