@@ -33,7 +33,7 @@ impl Model for Vcpus {
 }
 
 impl Vcpus {
-    ghost use Rattle.std.specs.Prelude.{◌≡◌, ℕ, suc, ◌<◌, ◌≤◌, ◌+◌, ◌^◌, ◌≢◌, Option, None, length, slice_set, IfOk, IfSome};
+    ghost use Rattle.std.specs.Prelude.{◌≡◌, ℕ, suc, ◌<◌, ◌≤◌, ◌+◌, ◌^◌, ◌≢◌, Some, None, length, slice_set, IfOk};
     ghost use Rattle.slot_model.specs.declared.task.TheConstants.{LIMIT};
     ghost use Rattle.rtds_queues.specs.Accounts.{account_at, had_slots, begun};
     ghost use Rattle.rtds_queues.specs.Vcpus.{BeginsOne, HavePeriods, IsChoice, IsFirstEnd, IsPlaceOf, NoEndBefore, NoneStarted};
@@ -64,7 +64,7 @@ impl Vcpus {
 
     /// Which VCPU is this part of the system, if one is.
     pub fn place_of(&self, part: u32) -> Option<u32>
-        ensures some { IfSome result (λ v. IsPlaceOf self.now part v) }
+        ensures some { (v : ℕ) → result ≡ Some v → IsPlaceOf self.now part v }
         ensures none { result ≡ None → (v : ℕ) → v < length self.now
             → (account_at self.now v).part ≢ part }
     {
@@ -142,11 +142,7 @@ impl Vcpus {
     {
         let v = self.by_end[0];
         let account = self.accounts[v as usize];
-        self.queue.set_numbers(
-            &mut self.accounts,
-            v,
-            account.renewed(at + account.period),
-        );
+        self.queue.set_numbers(&mut self.accounts, v, account.renewed(at + account.period));
         settle(&mut self.by_end, &self.accounts);
     }
 }

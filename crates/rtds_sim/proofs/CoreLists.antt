@@ -1,7 +1,7 @@
 -- The lists of several cores.
 use Rattle.std.proofs.Common.{◌≡◌, ◌≢◌, ℕ, ◌<◌, List, [], length, map, set, get_or, sym, ◌∙◌, ap, arith, Vec, Global}
 use Rattle.std.proofs.lemmas.List.{map-set, get_or-map, length-map, get_or-set_same, get_or-set_other}
-use Rattle.rtds_queues.specs.Lists.{list_at}
+use Rattle.rtds_sim.specs.inner.Lists.{list_at}
 
 -- what is read at a core is its list
 pub list_read : {X : Type 0} (lists : List (Vec X Global)) (c : ℕ) (own : Vec X Global) → c < length lists

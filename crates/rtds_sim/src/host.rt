@@ -1,4 +1,4 @@
-use crate::core_run::CoreRun;
+use crate::host_core::HostCore;
 use crate::moment::moment_of_slot;
 use crate::rows::{core_of, row_at};
 use crate::switches::Switches;
@@ -20,11 +20,11 @@ pub struct Host {
     pub time: u64,
     /// How many rows of the workload have been taken.
     pub taken: usize,
-    pub cores: Vec<CoreRun>,
+    pub cores: Vec<HostCore>,
 }
 
 impl Host {
-    ghost use Rattle.std.specs.Prelude.{◌≡◌, ◌≢◌, ℕ, suc, ◌≤◌, ◌<◌, ◌+◌, ◌^◌, false, List, [], Option, None, length, IfOk, OnOk};
+    ghost use Rattle.std.specs.Prelude.{◌≡◌, ◌≢◌, ℕ, ◌≤◌, ◌<◌, ◌+◌, ◌^◌, false, List, [], Option, length, IfOk, OnOk};
     ghost use Rattle.slot_model.specs.declared.task.TheConstants.{LIMIT};
     ghost use Rattle.tree_model.specs.View.{SystemView};
     ghost use Rattle.tree_model.specs.System.{IsSystem, part_at};
@@ -35,7 +35,7 @@ impl Host {
     ghost use Rattle.trace_file.specs.Taker.{Took};
     ghost use Rattle.trace_file.specs.declared.event.What.TheVariants.{Stop};
     ghost use Rattle.rtds_sim.specs.Printed.{core_of, gathered, on_at};
-    ghost use Rattle.rtds_sim.specs.inner.Accounts.{core_at, AreNew, AreReady, IsReady, TakesRow, gives_up, holder_left_of, stop_of, StandsOn};
+    ghost use Rattle.rtds_sim.specs.inner.Accounts.{new_core, core_at, core_left, gives_up, holder_of, stop_of, AreOn, AreReady, TakesRow};
     ghost use Rattle.rtds_sim.specs.inner.Lists.{list_at};
     ghost use Rattle.rtds_sim.specs.inner.Running.{IsUnderway, HasRun};
 
@@ -46,13 +46,13 @@ impl Host {
         ensures time { IfOk result (λ host. host.time ≡ 0) }
         ensures taken { IfOk result (λ host. host.taken ≡ 0) }
         ensures one_each { IfOk result (λ host. length host.cores.items ≡ length sys.now.cores) }
-        ensures new { IfOk result (λ host. (c : ℕ) → c < length sys.now.cores
-            → IsNew sys.now plan.now c (core_at host.cores.items c)) }
+        ensures cores { IfOk result (λ host. (c : ℕ) → c < length sys.now.cores
+            → core_at host.cores.items c ≡ new_core sys.now plan.now c) }
     {
         prove!(sys.cores().len() <= MAX_CORES);
         let mut cores = Vec::new(alloc);
         for c in 0..sys.cores().len() {
-            cores.push(CoreRun::new(alloc, sys, plan, c)?)?;
+            cores.push(HostCore::new(alloc, sys, plan, c)?)?;
         }
         Ok(Host {
             time: 0,
@@ -70,13 +70,15 @@ impl Host {
         requires now { row.at ≡ self.old.time }
         requires in_limit { self.old.time ≤ LIMIT }
         ensures one_each { length self.new.cores.items ≡ length self.old.cores.items }
+        ensures ready { AreReady self.new }
         ensures takes { TakesRow row
             (core_at self.old.cores.items (core_of (part_at sys.now row.vcpu).parent)).vcpus
             (core_at self.new.cores.items (core_of (part_at sys.now row.vcpu).parent)).vcpus }
         ensures others { (c : ℕ) → c ≢ core_of (part_at sys.now row.vcpu).parent
             → core_at self.new.cores.items c ≡ core_at self.old.cores.items c }
-        ensures holder { (c : ℕ) → (core_at self.new.cores.items c).holder
-            ≡ (core_at self.old.cores.items c).holder }
+        ensures held { (c : ℕ) → c < length self.old.cores.items
+            → holder_of (core_at self.new.cores.items c)
+            ≡ holder_of (core_at self.old.cores.items c) }
         ensures taken { self.new.taken ≡ self.old.taken + 1 }
         ensures time { self.new.time ≡ self.old.time }
     {
@@ -107,8 +109,9 @@ impl Host {
             (core_at self.old.cores.items c).vcpus →
             AreOn sys.now budgets rows.now c (run_at runs c) self.old.time self.new.taken
             (core_at self.new.cores.items c).vcpus }
-        ensures holder { (c : ℕ) → (core_at self.new.cores.items c).holder
-            ≡ (core_at self.old.cores.items c).holder }
+        ensures held { (c : ℕ) → c < length self.old.cores.items
+            → holder_of (core_at self.new.cores.items c)
+            ≡ holder_of (core_at self.old.cores.items c) }
         ensures time { self.new.time ≡ self.old.time }
     {
         while self.taken < rows.len() && row_at(rows, self.taken).at == self.time {

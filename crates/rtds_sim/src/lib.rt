@@ -3,9 +3,9 @@
 #![tactic(auto)]
 
 mod account;
-mod core_run;
 mod fault;
 mod host;
+mod host_core;
 mod moment;
 mod rows;
 mod running;

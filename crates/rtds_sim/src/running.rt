@@ -2,7 +2,7 @@ ghost use Rattle.std.specs.Prelude.{◌≡◌, ◌≤◌, ◌<◌};
 ghost use Rattle.slot_model.specs.declared.task.TheConstants.{LIMIT};
 ghost use Rattle.rtds_sim.specs.Printed.{on_core_at, switch_to};
 
-use crate::core_run::CoreRun;
+use crate::host_core::HostCore;
 use crate::moment::moment_of_slot;
 use slot_model::LIMIT;
 use std::alloc::AllocError;
@@ -37,8 +37,8 @@ fn switch_event(core: usize, at: u64, holder: Option<u32>, next: Option<u32>) ->
     }
 }
 
-impl CoreRun {
-    ghost use Rattle.std.specs.Prelude.{◌≡◌, ℕ, suc, ◌≤◌, ◌<◌, ◌+◌, ◌-◌, List, Option, Some, length, OnOk};
+impl HostCore {
+    ghost use Rattle.std.specs.Prelude.{◌≡◌, ℕ, ◌≤◌, ◌<◌, ◌+◌, ◌-◌, List, Option, Some, length, OnOk};
     ghost use Rattle.slot_model.specs.Run.{holds};
     ghost use Rattle.slot_model.specs.declared.task.TheConstants.{LIMIT};
     ghost use Rattle.tree_model.specs.View.{SystemView};
@@ -61,11 +61,9 @@ impl CoreRun {
     ) -> Result<(), AllocError>
         requires few { core < 64 }
         requires ready { IsReady from self.old }
-        requires ends { NoEndBefore self.old.vcpus (suc from) }
         requires later { from < to }
         requires in_limit { to ≤ LIMIT }
         ensures ready { OnOk result (IsReady to self.new) }
-        ensures ends { OnOk result (NoEndBefore self.new.vcpus (suc to)) }
         ensures run { OnOk result ((sys : SystemView) (budgets : List ℕ) (rows : List RowView)
             (n k : ℕ) (run : List (Option ℕ)) → IsPlan sys budgets →
             IsUnderway sys budgets rows n core run from to k self.old →
@@ -121,7 +119,6 @@ impl CoreRun {
         requires ready { IsReady at self.now }
         requires in_limit { to ≤ LIMIT }
         requires in_time { at < to }
-        requires ends { NoEndBefore self.now.vcpus (suc at) }
         ensures in_time { result ≤ to }
         ensures ends { NoEndBefore self.now.vcpus result }
         ensures budget { (v : ℕ) → self.now.holder ≡ Some v
@@ -145,7 +142,6 @@ impl CoreRun {
         ensures one_each { length self.new.vcpus ≡ length self.old.vcpus }
         ensures gone { (v : ℕ) → v < length self.old.vcpus → account_at self.new.vcpus v
             ≡ gone_on (account_at self.old.vcpus v) (holds self.old.holder v) (to - from) to }
-        ensures ends { NoEndBefore self.new.vcpus (suc to) }
         ensures holder { self.new.holder ≡ self.old.holder }
     {
         self.use_slots(to - from);

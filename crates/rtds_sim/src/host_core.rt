@@ -14,20 +14,17 @@ use tree_model::{MAX_CORES, MAX_PARTS, Parent, Plan, System};
 
 /// A core with its VCPUs, and which of them has it.
 #[derive(Drop)]
-pub struct CoreRun {
+pub struct HostCore {
     pub vcpus: Vcpus,
     /// By its place among them.
     pub holder: Option<u32>,
 }
 
-impl CoreRun {
-    ghost use Rattle.std.specs.Prelude.{◌≡◌, ◌+◌, ◌<◌, ℕ, ◌≤◌, false, Option, Some, None, map, length, slice_set, IfOk};
+impl HostCore {
+    ghost use Rattle.std.specs.Prelude.{◌≡◌, ℕ, ◌<◌, ◌≤◌, Some, length, IfOk};
     ghost use Rattle.slot_model.specs.declared.task.TheConstants.{LIMIT};
-    ghost use Rattle.slot_model.specs.Slots.{places_where};
-    ghost use Rattle.tree_model.specs.declared.place.Place.TheVariants.{Core};
-    ghost use Rattle.tree_model.specs.Tree.{is_child};
     ghost use Rattle.tree_model.specs.Plans.{IsPlan};
-    ghost use Rattle.rtds_sim.specs.inner.Accounts.{new_account, row_taken, gives_up, IsReady, TakesRow};
+    ghost use Rattle.rtds_sim.specs.inner.Accounts.{new_core, gives_up, IsReady, TakesRow};
 
     /// Before the first slot.
     pub fn new(
@@ -35,17 +32,15 @@ impl CoreRun {
         sys: &System,
         plan: &Plan,
         core: usize,
-    ) -> Result<CoreRun, AllocError>
+    ) -> Result<HostCore, AllocError>
         requires plan { IsPlan sys.now plan.now }
         requires is_core { core < length sys.now.cores }
-        ensures vcpus { IfOk result (λ run. run.vcpus ≡ map (new_account sys.now plan.now)
-            (places_where (is_child sys.now (Core core)) (length sys.now.parts))) }
-        ensures holder { IfOk result (λ run. run.holder ≡ None) }
+        ensures { IfOk result (λ run. run ≡ new_core sys.now plan.now core) }
     {
         prove!(sys.cores().len() <= MAX_CORES);
         let accounts = accounts_of(alloc, sys, plan, core as u32)?;
         let vcpus = Vcpus::new(alloc, accounts)?;
-        Ok(CoreRun {
+        Ok(HostCore {
             vcpus,
             holder: None,
         })
@@ -55,6 +50,7 @@ impl CoreRun {
     pub fn take(&mut self, row: Wake)
         requires ready { IsReady row.at self.old }
         requires in_limit { row.at ≤ LIMIT }
+        ensures ready { IsReady row.at self.new }
         ensures takes { TakesRow row self.old.vcpus self.new.vcpus }
         ensures holder { self.new.holder ≡ self.old.holder }
     {
@@ -68,7 +64,7 @@ impl CoreRun {
     /// Whether the VCPU that has it is blocked.
     pub fn gives_up(&self) -> bool
         requires { (v : ℕ) → self.now.holder ≡ Some v → v < length self.now.vcpus }
-        ensures { result ≡ gives_up self.now.vcpus self.now.holder }
+        ensures { result ≡ gives_up self.now }
     {
         match self.holder {
             Some(v) => self.vcpus.account(v).blocked,
