@@ -9,7 +9,7 @@ use Rattle.trace_file.specs.declared.event.Event.{Event}
 use Rattle.release_file.specs.declared.workload.Wake.{Wake as Row}
 use Rattle.rtds_queues.specs.declared.account.Account.{Account}
 use Rattle.rtds_queues.specs.Accounts.{account_at, renewed, using, had_budget}
-use Rattle.rtds_queues.specs.Vcpus.{IsPlaceOf, IsChoice, NoEndBefore}
+use Rattle.rtds_queues.specs.Vcpus.{IsChoice, NoEndBefore}
 use Rattle.rtds_sim.specs.declared.host_core.HostCore.{HostCore}
 use Rattle.rtds_sim.specs.inner.Accounts.{part_of, InTurn, gone_on, HasNumbers, IsAccount, AreOn, AreBefore}
 use Rattle.rtds_sim.specs.Printed.{push_some, holder_before, holder_left, on_core_at, switch_to, switch_on}
@@ -71,7 +71,8 @@ gone_numbers a has slots to = go (to == a.until) has (nat_lt slots a.left)
 -- from slot t, at which the core goes on to the VCPU that goes first, to slot u, before which
 -- nothing changes on it
 module _ (sys : SystemView) (budgets : List ℕ) (plan : IsPlan sys budgets) (rows : List Row) (n c : ℕ)
-    (run : List (Option ℕ)) (x to k : ℕ) (first : HostCore) (underway : IsUnderway sys budgets rows n c run x to k first)
+    (run : List (Option ℕ)) (x to k : ℕ) (first : HostCore)
+    (underway : IsUnderway sys budgets rows n c run x to k first)
     (t u : ℕ) (l : x ≤ t) (m : t < u) (in_time : u ≤ to) (old : HostCore) (before told : List Event)
     (at : StandsAt sys budgets rows c run x to k t old before told) (turn : InTurn old.vcpus) (holder : Option ℕ)
     (chosen : IsChoice old.vcpus holder) (bound : NoEndBefore old.vcpus u)

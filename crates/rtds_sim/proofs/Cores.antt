@@ -1,7 +1,7 @@
 -- The cores of a host, of which one is set.
-use Rattle.std.proofs.Common.{◌≡◌, ◌≢◌, ℕ, ◌<◌, List, [], length, set, get_or, None, sym, ◌∙◌, ap, arith, subst, inl, inr}
+use Rattle.std.proofs.Common.{◌≡◌, ◌≢◌, ℕ, ◌<◌, List, [], length, set, get_or, None, sym, ◌∙◌, subst, inl, inr}
 use Rattle.std.proofs.lemmas.Bool.{cases_eq}
-use Rattle.std.proofs.lemmas.List.{get_or-set_same, get_or-set_other, get_or_default, length-set}
+use Rattle.std.proofs.lemmas.List.{get_or-set_same, get_or-set_other, get_or_default}
 use Rattle.rtds_queues.specs.declared.account.Account.{Account}
 use Rattle.rtds_sim.specs.declared.host_core.HostCore.{HostCore}
 use Rattle.rtds_sim.specs.inner.Accounts.{core_at}
@@ -26,9 +26,10 @@ pub core_there : (cores : List HostCore) (i d : ℕ) (new : HostCore) → d ≢ 
 core_there cores i d new ne = get_or-set_other cores i d new no_core ne
 
 -- what holds of the core that is set and of the others holds of all
-pub each_core : (P : ℕ → HostCore → Type 0) (cores : List HostCore) (i : ℕ) (new : HostCore) → i < length cores → P i new
-    → (d : ℕ) → (d ≢ i → P d (core_at cores d)) → P d (core_at (set cores i new) d)
+pub each_core : (P : ℕ → HostCore → Type 0) (cores : List HostCore) (i : ℕ) (new : HostCore) → i < length cores
+    → P i new → (d : ℕ) → (d ≢ i → P d (core_at cores d)) → P d (core_at (set cores i new) d)
 each_core P cores i new l here d there = elim (cases_eq d i) [
-  | inl e ↦ subst (λ (z : ℕ). P z (core_at (set cores i new) z)) (sym e) (subst (P i) (sym (core_here cores i new l)) here)
+  | inl e ↦
+      subst (λ (z : ℕ). P z (core_at (set cores i new) z)) (sym e) (subst (P i) (sym (core_here cores i new l)) here)
   | inr ne ↦ subst (P d) (sym (core_there cores i d new ne)) (there ne)
 ]

@@ -1,8 +1,7 @@
 -- The VCPUs of a core, each by the part of the system that it is.
-use Rattle.std.proofs.Common.{◌≡◌, ◌≢◌, ℕ, zero, suc, ◌+◌, ◌<◌, ◌≤◌, ◌==◌, nat_lt, Bool, true, false, cond, if◌then◌else◌, ◌&&◌, ◌||◌, List, [], ◌∷◌, length, map, get_or, Option, Some, None, refl, sym, ◌∙◌, ap, arith, subst, inl, inr, eq-eqb, eqb-true, lt-ltb, le-ltb}
+use Rattle.std.proofs.Common.{◌≡◌, ℕ, zero, suc, ◌<◌, ◌≤◌, ◌==◌, nat_lt, Bool, true, false, cond, if◌then◌else◌, ◌&&◌, ◌||◌, List, [], ◌∷◌, length, map, get_or, Option, Some, None, refl, sym, ◌∙◌, ap, arith, subst, inl, inr, eq-eqb, eqb-true, lt-ltb, le-ltb}
 use Rattle.std.specs.Prelude.{is_some}
 use Rattle.std.proofs.lemmas.Bool.{cases_eq, cases_lt, false≢true, ne_eqb}
-use Rattle.std.proofs.lemmas.Bool.Decides.{nat_tests}
 use Rattle.std.proofs.lemmas.List.{get_or-map, length-map}
 use Rattle.std.proofs.lemmas.Option.{same_Some}
 use Rattle.slot_model.specs.Run.{holds}
@@ -12,18 +11,17 @@ use Rattle.slot_model.proofs.Places.{stands_at, counted_below, length-places_whe
 use Rattle.slot_model.proofs.Runs.{count_below-mono, count_below-le}
 use Rattle.tree_model.specs.declared.place.Place.TheVariants.{Core}
 use Rattle.tree_model.specs.View.{SystemView}
-use Rattle.tree_model.specs.System.{part_at, IsSystem}
-use Rattle.tree_model.specs.Tree.{is_child, budget_at}
+use Rattle.tree_model.specs.System.{IsSystem}
+use Rattle.tree_model.specs.Tree.{is_child}
 use Rattle.tree_model.specs.Plans.{IsPlan}
 use Rattle.release_file.specs.declared.workload.Wake.{Wake as Row}
 use Rattle.release_file.specs.Workload.{row_at, starts, is_of, blocks}
 use Rattle.csv_rows.proofs.Last.{last_below-zero}
 use Rattle.rtds_queues.specs.declared.account.Account.{Account}
-use Rattle.rtds_queues.specs.Accounts.{no_account, account_at, end_at, account_eligible, goes_ahead, is_ahead}
-use Rattle.rtds_queues.specs.Keys.{goes_first}
+use Rattle.rtds_queues.specs.Accounts.{no_account, account_at, account_eligible, goes_ahead}
 use Rattle.rtds_queues.specs.Vcpus.{IsPlaceOf, IsChoice, NoneStarted}
 use Rattle.rtds_queues.proofs.Membership.{IsPlace, is_place}
-use Rattle.rtds_sim.specs.inner.Accounts.{new_account, new_core, part_of, InTurn, HasNumbers, AreOf, AreOn, IsAccount, IsSound, IsReady}
+use Rattle.rtds_sim.specs.inner.Accounts.{new_account, new_core, part_of, InTurn, HasNumbers, AreOf, AreOn, IsSound, IsReady}
 
 -- the place of the first VCPU that is a part
 place_in : List Account → ℕ → ℕ
@@ -99,7 +97,8 @@ module _ (accounts : List Account) (turn : InTurn accounts) where
   holds_part None within v lv = refl
   holds_part (Some w) within v lv = elim (cases_eq w v) [
     | inl e ↦
-        eq-eqb (account_at accounts w).part (account_at accounts v).part (ap (λ (z : ℕ). (account_at accounts z).part) e)
+        eq-eqb (account_at accounts w).part (account_at accounts v).part
+        (ap (λ (z : ℕ). (account_at accounts z).part) e)
         ∙ sym (eq-eqb w v e)
     | inr ne ↦
         ne_eqb (account_at accounts w).part (account_at accounts v).part

@@ -76,7 +76,8 @@ sound_gone a has x to h l = elim (cases_Bool (to == a.until)) [
     }
     used true = elim (cases_lt (to - x) a.left) [
       | inl less ↦
-          subst (λ (q : Bool). IsSound to (cond q (using a (to - x)) (had_budget a))) (sym (lt-ltb (to - x) a.left less))
+          subst (λ (q : Bool). IsSound to (cond q (using a (to - x)) (had_budget a)))
+          (sym (lt-ltb (to - x) a.left less))
           (record {
             some_period = h.some_period;
             in_limit = h.in_limit;
@@ -85,7 +86,8 @@ sound_gone a has x to h l = elim (cases_Bool (to == a.until)) [
             some_left = omega (arith, less);
           })
       | inr more ↦
-          subst (λ (q : Bool). IsSound to (cond q (using a (to - x)) (had_budget a))) (sym (le-ltb (to - x) a.left more))
+          subst (λ (q : Bool). IsSound to (cond q (using a (to - x)) (had_budget a)))
+          (sym (le-ltb (to - x) a.left more))
           (record {
             some_period = h.some_period;
             in_limit = h.in_limit;

@@ -8,7 +8,6 @@ use Rattle.tree_model.specs.Plans.{IsPlan}
 use Rattle.release_file.specs.declared.workload.Wake.{Wake as Row}
 use Rattle.release_file.specs.Workload.{row_at, IsWorkload}
 use Rattle.release_file.proofs.Rows.{ordered}
-use Rattle.rtds_sim.specs.declared.host_core.HostCore.{HostCore}
 use Rattle.rtds_sim.specs.declared.host.Host.{Host}
 use Rattle.rtds_sim.specs.inner.Accounts.{new_core, core_at, holder_of, AreOn, AreBefore, AreReady}
 use Rattle.rtds_sim.specs.inner.Running.{RowsFrom, Stands}

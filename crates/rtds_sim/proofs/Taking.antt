@@ -1,8 +1,7 @@
 -- Rows at one slot, taken one after the other.
-use Rattle.std.proofs.Common.{◌≡◌, ◌≢◌, ℕ, suc, ◌+◌, ◌*◌, ◌-◌, ◌/◌, ◌<◌, ◌≤◌, Bool, true, false, cond, leb, ◌&&◌, List, length, set, Option, Some, None, refl, sym, ◌∙◌, ap, arith, subst, inl, inr, eq-eqb, eqb-true, ne_eqb}
+use Rattle.std.proofs.Common.{◌≡◌, ◌≢◌, ℕ, suc, ◌+◌, ◌*◌, ◌-◌, ◌/◌, ◌<◌, ◌≤◌, Bool, true, false, cond, leb, ◌&&◌, List, length, Option, Some, None, refl, sym, ◌∙◌, ap, arith, subst, inl, inr, eq-eqb, eqb-true, ne_eqb}
 use Rattle.std.specs.Prelude.{is_some}
 use Rattle.std.proofs.lemmas.Bool.{cases_eq, cases_Bool, and_parts, and_from, false≢true, lt-leb, and_right}
-use Rattle.std.proofs.lemmas.List.{get_or-set_same, get_or-set_other, length-set}
 use Rattle.std.proofs.Math.Nat.{div-eq_of_lt, zero-div}
 use Rattle.slot_model.specs.Run.{held, holds}
 use Rattle.slot_model.proofs.Sums.{sum_below-same, sum_below-none}
@@ -89,7 +88,8 @@ module _ (sys : SystemView) (budgets : List ℕ) (rows : List Row) (workload : I
       }
 
   start_account : (run : List (Option ℕ)) (v x k : ℕ) (a : Account) → HasNumbers sys budgets v a
-      → 1 ≤ (part_at sys v).period → 1 ≤ budget_at budgets v → k < length rows → (row_at rows k).at ≡ x → is_of v (row_at rows k) ≡ true
+      → 1 ≤ (part_at sys v).period → 1 ≤ budget_at budgets v → k < length rows → (row_at rows k).at ≡ x
+      → is_of v (row_at rows k) ≡ true
       → (row_at rows k).what ≡ Start
       → IsAccount sys budgets rows run v x (suc k)
       (row_taken Start ((row_at rows k).at + a.period) a)
@@ -142,7 +142,8 @@ module _ (sys : SystemView) (budgets : List ℕ) (rows : List Row) (workload : I
   }
 
   own_account : (run : List (Option ℕ)) (v x k : ℕ) (a : Account) → HasNumbers sys budgets v a
-      → 1 ≤ (part_at sys v).period → 1 ≤ budget_at budgets v → k < length rows → (row_at rows k).at ≡ x → is_of v (row_at rows k) ≡ true
+      → 1 ≤ (part_at sys v).period → 1 ≤ budget_at budgets v → k < length rows → (row_at rows k).at ≡ x
+      → is_of v (row_at rows k) ≡ true
       → IsAccount sys budgets rows run v x k a → (what : WakeKind) → (row_at rows k).what ≡ what
       → IsAccount sys budgets rows run v x (suc k)
       (row_taken what ((row_at rows k).at + a.period) a)

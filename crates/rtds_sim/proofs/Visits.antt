@@ -11,8 +11,8 @@ use Rattle.release_file.specs.declared.workload.Wake.{Wake as Row}
 use Rattle.release_file.specs.Workload.{is_started_at, is_blocked_at}
 use Rattle.rtds_sim.specs.Rtds.{can_run, CoreRun}
 use Rattle.rtds_sim.specs.inner.Running.{RowsFrom, Stands}
-use Rattle.rtds_sim.specs.Printed.{gathered, on_at, on_core_at, switch_to, holder_before, is_blocked_one, holder_left, stop_at, row_event_at, switch_on, printed_at, printed_below}
-use Rattle.rtds_sim.specs.inner.Accounts.{part_of, is_blocked_in, gives_up, core_left, AreBefore, IsReady}
+use Rattle.rtds_sim.specs.Printed.{gathered, on_at, on_core_at, switch_to, holder_before, is_blocked_one, holder_left, row_event_at, switch_on, printed_at, printed_below}
+use Rattle.rtds_sim.specs.inner.Accounts.{part_of, holder_of, is_blocked_in, gives_up, core_left, AreBefore, IsReady}
 use Rattle.rtds_sim.proofs.Runs.{eligible_runs}
 use Rattle.rtds_sim.proofs.Gathered.{gathered-none}
 use Rattle.rtds_sim.proofs.Taking.{row_none}
@@ -111,14 +111,14 @@ module _ (sys : SystemView) (budgets : List ℕ) (rows : List Row) (c : ℕ) (ru
     pub gives_up_is : gives_up core ≡ is_blocked_one rows x (holder_before run x)
     gives_up_is = blocked_is core.holder held_in ∙ ap (is_blocked_one rows x) stands.holder_is
 
-    pub left_is : part_of (core_left core).vcpus (core_left core).holder ≡ holder_left rows run x
+    pub left_is : holder_of (core_left core) ≡ holder_left rows run x
     left_is =
         left_by (gives_up core)
         ∙ (ap (λ (q : Bool). cond q None (part_of core.vcpus core.holder)) gives_up_is
         ∙ ap (λ (o : Option ℕ). cond (is_blocked_one rows x (holder_before run x)) None o) stands.holder_is)
       where
         left_by : (b : Bool)
-            → part_of (cond b (record core { holder = None }) core).vcpus (cond b (record core { holder = None }) core).holder
+            → holder_of (cond b (record core { holder = None }) core)
             ≡ cond b None (part_of core.vcpus core.holder)
         left_by true = refl
         left_by false = refl

@@ -196,7 +196,8 @@ impl Host {
         ensures run { OnOk result ((sys : SystemView) (budgets : List ℕ) (rows : List RowView)
             (n k c : ℕ) (run : List (Option ℕ)) → IsPlan sys budgets →
             c < length self.old.cores.items →
-            IsUnderway sys budgets rows n c run self.old.time to k (core_at self.old.cores.items c) →
+            IsUnderway sys budgets rows n c run self.old.time to k
+            (core_at self.old.cores.items c) →
             HasRun sys budgets rows c run self.old.time to k (core_at self.new.cores.items c) []
             (list_at switches.new.lists.items c)) }
         ensures lists { OnOk result

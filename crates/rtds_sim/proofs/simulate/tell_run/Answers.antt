@@ -1,4 +1,4 @@
-use Rattle.std.proofs.Common.{◌≡◌, ℕ, suc, ◌+◌, ◌-◌, ◌<◌, ◌≤◌, ◌++◌, false, List, [], ◌∷◌, length, Option, Some, None, refl, sym, ◌∙◌, ap, arith, subst, cond, Bool}
+use Rattle.std.proofs.Common.{◌≡◌, ℕ, suc, ◌+◌, ◌-◌, ◌<◌, ◌≤◌, ◌++◌, List, [], ◌∷◌, length, Option, Some, None, refl, sym, ◌∙◌, ap, arith, subst, cond, Bool}
 use Rattle.std.proofs.lemmas.Option.{none-some, same_Some}
 use Rattle.slot_model.specs.Run.{held}
 use Rattle.tree_model.specs.Tree.{run_at}
@@ -9,11 +9,10 @@ use Rattle.rtds_sim.specs.declared.host_core.HostCore.{HostCore}
 use Rattle.rtds_sim.specs.declared.host.Host.{Host}
 use Rattle.release_file.specs.declared.workload.Wake.{Wake as Row}
 use Rattle.release_file.specs.Workload.{row_at}
-use Rattle.rtds_queues.specs.declared.account.Account.{Account}
 use Rattle.rtds_sim.specs.Rtds.{RtdsRun}
 use Rattle.trace_file.specs.Taker.{Took}
 use Rattle.rtds_sim.specs.Printed.{moment_of_slot, printed_below, gathered, row_event_at, stop_at, switch_at, switch_to, on_core_at, holder_before, is_blocked_one, holder_left, on_at, printed}
-use Rattle.rtds_sim.specs.inner.Accounts.{new_core, core_at, core_left, holder_of, gives_up, stop_of, AreBefore, AreOn, IsReady}
+use Rattle.rtds_sim.specs.inner.Accounts.{core_at, core_left, holder_of, gives_up, stop_of, AreBefore, AreOn, IsReady}
 use Rattle.rtds_sim.specs.inner.Running.{RowsFrom, HasRun}
 use Rattle.rtds_sim.specs.inner.Lists.{list_at}
 use Rattle.rtds_sim.specs.inner.Telling.{told_by, AreAtSlots}
@@ -220,7 +219,8 @@ loop-host-preserved g c =
           (sym (ap (λ (z : HostCore). z.vcpus) left_core ∙ left_vcpus core)) (visit.cores d l).are);
       holder_is =
           ap holder_of left_core
-          ∙ (left_is sys budgets rows d (run_at runs d) x k visit.taken core (visit.cores d l) (visit.ready d in_it).holder
+          ∙ (left_is sys budgets rows d (run_at runs d) x k visit.taken core (visit.cores d l)
+          (visit.ready d in_it).holder
           ∙ ap (holder_left rows (run_at runs d)) (sym time));
     })) in
     let has_taken = g.T.EventTaker.has_taken in

@@ -130,7 +130,9 @@ returns c =
     let next : c.renewed.result ≡ renewed (account_at accounts v) (c.args.at + (account_at accounts v).period)
     = c.renewed.ensures
     ∙ ap (λ (a : Account). renewed a (c.args.at + a.period)) (read at.After-index-account) in
-    subst (λ (xs : List Account). BeginsOne c.args.at xs (with_items in_it.accounts c.set_numbers.new.accounts).items) c.self.view_is
+    subst
+    (λ (xs : List Account). BeginsOne c.args.at xs (with_items in_it.accounts c.set_numbers.new.accounts).items)
+    c.self.view_is
     (record {
       vcpu = v;
       is_vcpu = room at.After-index-v;

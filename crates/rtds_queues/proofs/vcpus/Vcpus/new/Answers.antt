@@ -1,4 +1,4 @@
-use Rattle.std.proofs.Common.{◌≡◌, ℕ, length, arith}
+use Rattle.std.proofs.Common.{◌≡◌, length, arith}
 use Rattle.rtds_queues.proofs.Sinking.{in_turn_all}
 use Rattle.rtds_queues.proofs.Setting.{none_started}
 use Rattle.rtds_queues.proofs.vcpus.Vcpus.new.Goals as goal

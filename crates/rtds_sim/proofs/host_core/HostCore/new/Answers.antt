@@ -1,7 +1,6 @@
-use Rattle.std.proofs.Common.{◌≤◌, List, length, None, sym, ◌∙◌, ap, subst}
+use Rattle.std.proofs.Common.{◌≤◌, List, length, sym, ◌∙◌, ap, subst}
 use Rattle.rtds_queues.specs.declared.account.Account.{Account}
 use Rattle.rtds_queues.specs.Vcpus.{NoneStarted}
-use Rattle.rtds_sim.specs.declared.host_core.HostCore.{HostCore}
 use Rattle.rtds_sim.proofs.Cores.{idle_core}
 use Rattle.rtds_sim.proofs.Members.{few_fresh, fresh_idle}
 use Rattle.rtds_sim.proofs.host_core.HostCore.new.Goals as goal
