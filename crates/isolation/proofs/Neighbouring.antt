@@ -12,7 +12,7 @@ use Rattle.tree_model.specs.System.{part_at, IsSystem, Stands}
 use Rattle.tree_model.specs.Tree.{is_child, place_of, same_place}
 use Rattle.tree_model.proofs.NodeTasks.{part_here}
 use Rattle.rtds_queues.specs.Queues.{place_at}
-use Rattle.rtds_queues.proofs.Queueing.{on_one_core}
+use Rattle.rtds_queues.proofs.Membership.{on_one_core}
 use Rattle.isolation.specs.declared.neighbours.Neighbours.{Neighbours}
 use Rattle.isolation.specs.inner.Neighbours.{IsNextOn, AreNeighboursFrom}
 

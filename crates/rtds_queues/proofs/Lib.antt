@@ -6,7 +6,6 @@ pub mod Queueing
 pub mod Membership
 pub mod Sinking
 pub mod Firsts
-pub mod Lists
 pub mod Setting
 pub mod Beginning
 pub mod Choices

@@ -1,6 +1,12 @@
 -- The VCPUs of each core.
-use Rattle.std.proofs.Common.{◌≡◌, ◌∙◌, ◌<◌, ℕ, zero, suc, Bool, true, cond, length, get_or, sym, ap, arith, subst, inl, inr}
+use Rattle.std.proofs.Common.{◌≡◌, ◌≢◌, ◌∙◌, ◌<◌, ℕ, zero, suc, Bool, true, false, cond, length, get_or, sym, ap, arith, subst, inl, inr, eqb-true}
 use Rattle.std.proofs.lemmas.Bool.{cases_lt, cases_Bool}
+use Rattle.tree_model.specs.declared.place.Parent.{Parent}
+use Rattle.tree_model.specs.declared.place.Parent.TheVariants.{Core as on_core, Part as on_part}
+use Rattle.tree_model.specs.declared.place.Place.TheVariants.{Core}
+use Rattle.tree_model.specs.View.{SystemView}
+use Rattle.tree_model.specs.System.{part_at}
+use Rattle.tree_model.specs.Tree.{is_child, place_of, same_place}
 use Rattle.slot_model.specs.Slots.{count_below, places_where}
 use Rattle.slot_model.proofs.Places.{length-push_if, push_if-kept, push_if-last, length-places_where}
 
@@ -39,4 +45,17 @@ is_place passes (suc n) i d l = elim (cases_lt i (length (places_where passes n)
           ap (λ (b : Bool). cond {A = ℕ} b 1 0) e,
         ))
   ]
+]
+
+-- what stands on one core stands on no other
+same_core : (p : Parent) (c d : ℕ) → same_place (place_of p) (Core d) ≡ true → same_place (place_of p) (Core c) ≡ true
+    → d ≡ c
+same_core (on_core e) c d x y = sym (eqb-true e d x) ∙ eqb-true e c y
+same_core (on_part q) c d x y = cc
+
+pub on_one_core : (sys : SystemView) (c d v : ℕ) → d ≢ c → is_child sys (Core c) v ≡ true
+    → is_child sys (Core d) v ≡ false
+on_one_core sys c d v ne its = elim (cases_Bool (is_child sys (Core d) v)) [
+  | inr b ↦ b
+  | inl b ↦ absurd (ne (same_core (part_at sys v).parent c d b its))
 ]

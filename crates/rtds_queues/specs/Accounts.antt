@@ -1,11 +1,22 @@
--- What is kept of a VCPU between two events.
+-- A VCPU of a core: its numbers, and what is kept of it between two events.
 use Rattle.std.specs.Prelude.{ℕ, suc, ◌+◌, ◌-◌, ◌==◌, Bool, false, not, ◌&&◌, ◌||◌, nat_lt, if◌then◌else◌, List, slice_index_or}
 use Rattle.rtds_queues.specs.declared.account.Account.{Account}
 use Rattle.rtds_queues.specs.declared.account.TheConstants.{PAST_ALL}
 use Rattle.rtds_queues.specs.Keys.{goes_first}
 
 abbrev pub no_account : Account
-no_account = record { started = false; blocked = false; until = PAST_ALL; level = 0; left = 1 }
+no_account =
+    record {
+      part = 0;
+      period = 1;
+      budget = 1;
+      extra = false;
+      started = false;
+      blocked = false;
+      until = PAST_ALL;
+      level = 0;
+      left = 1;
+    }
 
 abbrev pub account_at : List Account → ℕ → Account
 account_at accounts v = slice_index_or accounts v no_account
@@ -15,30 +26,35 @@ abbrev pub end_at : List Account → ℕ → ℕ
 end_at accounts v = (account_at accounts v).until
 
 -- an account where a period begins that ends at slot `end`
-abbrev pub renewed : Account → ℕ → ℕ → Account
-renewed account end budget = record account { until = end; level = 0; left = budget }
+abbrev pub renewed : Account → ℕ → Account
+renewed account end = record account { until = end; level = 0; left = account.budget }
 
 -- an account whose VCPU has had some slots, and one whose VCPU has had its budget once more
 abbrev pub using : Account → ℕ → Account
 using account slots = record account { left = account.left - slots }
 
-abbrev pub had_budget : Account → ℕ → Account
-had_budget account budget = record account { level = suc account.level; left = budget }
+abbrev pub had_budget : Account → Account
+had_budget account = record account { level = suc account.level; left = account.budget }
 
 -- either of them, by how many slots were left
-abbrev pub had_slots : Account → ℕ → ℕ → Account
-had_slots account slots budget =
-    if nat_lt slots account.left then using account slots else had_budget account budget
+abbrev pub had_slots : Account → ℕ → Account
+had_slots account slots =
+    if nat_lt slots account.left then using account slots else had_budget account
+
+-- an account with the numbers of another one's period
+abbrev pub with_numbers : Account → Account → Account
+with_numbers account other =
+    record account { until = other.until; level = other.level; left = other.left }
 
 -- an account at a slot, where its next period begins if the one before ends there
-abbrev pub begun : Account → ℕ → ℕ → ℕ → Account
-begun account period budget at =
-    if at == account.until then renewed account (at + period) budget else account
+abbrev pub begun : Account → ℕ → Account
+begun account at =
+    if at == account.until then renewed account (at + account.period) else account
 
 -- whether it is started and not blocked, and has budget left or extra time
-abbrev pub account_eligible : Account → Bool → Bool
-account_eligible account extra =
-    (account.started && not account.blocked) && ((account.level == 0) || extra)
+abbrev pub account_eligible : Account → Bool
+account_eligible account =
+    (account.started && not account.blocked) && ((account.level == 0) || account.extra)
 
 -- whether VCPU u of an account goes before VCPU v of another
 abbrev pub goes_ahead : Account → ℕ → Account → ℕ → Bool

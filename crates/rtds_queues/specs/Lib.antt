@@ -1,6 +1,5 @@
 pub mod Keys
 pub mod Accounts
 pub mod Queues
-pub mod Lists
 pub mod ByEnd
 pub mod Vcpus

@@ -6,9 +6,16 @@ use slot_model::LIMIT;
 /// Past the last slot of each run.
 pub const PAST_ALL: u64 = LIMIT + 1;
 
-/// What is kept of a VCPU between two events.
+/// A VCPU of a core: its numbers, and what is kept of it between two events.
 #[derive(Clone, Copy, Debug, PartialEq, Eq)]
 pub struct Account {
+    /// Its place in the system file.
+    pub part: u32,
+    /// In slots, as the budget.
+    pub period: u64,
+    pub budget: u64,
+    /// Whether it goes on past its budget where no VCPU with budget left wants to.
+    pub extra: bool,
     pub started: bool,
     pub blocked: bool,
     /// The slot at which its period ends, and one past all where it is not started.
@@ -21,10 +28,15 @@ pub struct Account {
 
 impl Account {
     /// Before its start.
-    pub fn new() -> Account
-        ensures { result ≡ no_account }
+    pub fn new(part: u32, period: u64, budget: u64, extra: bool) -> Account
+        ensures { result
+            ≡ record no_account { part = part; period = period; budget = budget; extra = extra } }
     {
         Account {
+            part,
+            period,
+            budget,
+            extra,
             started: false,
             blocked: false,
             until: PAST_ALL,
@@ -35,13 +47,13 @@ impl Account {
 
     /// Where a period of it begins that ends at slot `end`.
     #[inline(always)]
-    pub fn renewed(self, end: u64, budget: u64) -> Account
-        ensures { result ≡ renewed self end budget }
+    pub fn renewed(self, end: u64) -> Account
+        ensures { result ≡ renewed self end }
     {
         Account {
             until: end,
             level: 0,
-            left: budget,
+            left: self.budget,
             ..self
         }
     }
@@ -60,23 +72,23 @@ impl Account {
 
     /// Once it has had its budget once more.
     #[inline(always)]
-    pub fn had_budget(self, budget: u64) -> Account
+    pub fn had_budget(self) -> Account
         requires { self.level + 1 < 2 ^ 64 }
-        ensures { result ≡ had_budget self budget }
+        ensures { result ≡ had_budget self }
     {
         Account {
             level: self.level + 1,
-            left: budget,
+            left: self.budget,
             ..self
         }
     }
 
     /// Whether it is started and not blocked, and has budget left or extra time.
     #[inline(always)]
-    pub fn is_eligible(&self, extra: bool) -> bool
-        ensures { result ≡ account_eligible self.now extra }
+    pub fn is_eligible(&self) -> bool
+        ensures { result ≡ account_eligible self.now }
     {
-        self.started && !self.blocked && (self.level == 0 || extra)
+        self.started && !self.blocked && (self.level == 0 || self.extra)
     }
 
     /// Whether VCPU `u`, which has this account, goes before VCPU `v`, which has the other one: by

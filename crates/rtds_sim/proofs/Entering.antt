@@ -13,10 +13,9 @@ use Rattle.release_file.specs.declared.workload.Wake.{Wake as Row}
 use Rattle.release_file.specs.Workload.{row_at, last_row, is_by, is_of, starts, blocks, started_after, blocked_after, is_started_at, is_blocked_at}
 use Rattle.rtds_sim.specs.Rtds.{used, level_at, deadline_at, can_run, is_eligible, goes_before, RtdsEntry}
 use Rattle.rtds_queues.specs.Keys.{goes_first}
-use Rattle.rtds_sim.specs.inner.Running.{AreOn}
-use Rattle.rtds_queues.specs.Accounts.{account_at, end_at, account_eligible, is_ahead}
-use Rattle.rtds_sim.specs.inner.Accounts.{IsInPeriod, IsAccount, AreBefore}
-use Rattle.rtds_queues.specs.Vcpus.{ranked, IsChoice}
+use Rattle.rtds_queues.specs.Accounts.{account_eligible, goes_ahead}
+use Rattle.rtds_sim.specs.inner.Accounts.{HasNumbers, IsInPeriod, IsAccount, AreBefore}
+use Rattle.rtds_sim.proofs.Members.{IsChoiceBy}
 use Rattle.csv_rows.proofs.Last.{last_by_moment}
 
 -- the last row among those at or before x is the last of the first k, where those are the rows at
@@ -45,31 +44,34 @@ none_had slots budget some = elim (cases_lt slots budget) [
 ]
 
 module _ (sys : SystemView) (budgets : List ℕ) (rows : List Row) (c : ℕ) (run : List (Option ℕ)) (x k : ℕ)
-    (taken : AreBefore rows k (suc x)) (plan : IsPlan sys budgets) (accounts : List Account)
-    (are : AreOn sys budgets rows c run x k accounts) where
+    (taken : AreBefore rows k (suc x)) (plan : IsPlan sys budgets) (its : ℕ → Account)
+    (numbers : (v : ℕ) → v < length sys.parts → is_child sys (Core c) v ≡ true → HasNumbers sys budgets v (its v))
+    (are : (v : ℕ) → v < length sys.parts → is_child sys (Core c) v ≡ true
+    → IsAccount sys budgets rows run v x k (its v)) where
   abbrev on_this : ℕ → Type 0
   on_this v = (v < length sys.parts) × (is_child sys (Core c) v ≡ true)
 
-  account_on : (v : ℕ) → on_this v → IsAccount sys budgets rows run v x k (account_at accounts v)
+  account_on : (v : ℕ) → on_this v → IsAccount sys budgets rows run v x k (its v)
   account_on v on = are v on.0 on.1
 
   -- Bool algebra
-  eligible_same : (p child started blocked left extra started' blocked' left' : Bool) → p ≡ true → child ≡ true
-      → started ≡ started' → blocked ≡ blocked' → (started ≡ true → left ≡ left') →
-      (((p && child) && (started' && not blocked')) && (left' || extra))
-      ≡ (child && ((started && not blocked) && (left || extra)))
-  eligible_same p child started blocked left extra started' blocked' left' hp hc hs hb hl = grind arith
+  eligible_same : (p child started blocked left extra started' blocked' left' extra' : Bool) → p ≡ true → child ≡ true
+      → started ≡ started' → blocked ≡ blocked' → extra ≡ extra' → (started ≡ true → left ≡ left') →
+      (((p && child) && (started' && not blocked')) && (left' || extra'))
+      ≡ ((started && not blocked) && (left || extra))
+  eligible_same p child started blocked left extra started' blocked' left' extra' hp hc hs hb he hl = grind arith
 
   -- the account tells who is eligible
-  eligible_is : (v : ℕ) → on_this v → is_eligible sys budgets rows c run v x ≡ ranked sys accounts c v
+  eligible_is : (v : ℕ) → on_this v → is_eligible sys budgets rows c run v x ≡ account_eligible (its v)
   eligible_is v on =
-      let h : IsAccount sys budgets rows run v x k (account_at accounts v) = account_on v on in
-      eligible_same (nat_lt v (length sys.parts)) (is_child sys (Core c) v) (account_at accounts v).started
-      (account_at accounts v).blocked ((account_at accounts v).level == 0)
-      (part_at sys v).extra (is_started_at rows v x) (is_blocked_at rows v x)
-      (nat_lt (used sys rows run v x) (budget_at budgets v))
+      let h : IsAccount sys budgets rows run v x k (its v) = account_on v on in
+      eligible_same (nat_lt v (length sys.parts)) (is_child sys (Core c) v) (its v).started
+      (its v).blocked ((its v).level == 0)
+      (its v).extra (is_started_at rows v x) (is_blocked_at rows v x)
+      (nat_lt (used sys rows run v x) (budget_at budgets v)) (part_at sys v).extra
       (lt-ltb v (length sys.parts) on.0) on.1 (h.started ∙ sym (started_by rows v x k taken))
       (h.blocked ∙ sym (blocked_by rows v x k taken))
+      (numbers v on.0 on.1).extra_is
       (λ s. ap (λ (g : ℕ). g == 0) (h.in_period s).level_is
       ∙ sym (none_had (used sys rows run v x) (budget_at budgets v) (plan.some_budget v on.0)))
 
@@ -83,51 +85,40 @@ module _ (sys : SystemView) (budgets : List ℕ) (rows : List Row) (c : ℕ) (ru
       (nat_lt (used sys rows run v x) (budget_at budgets v) || (part_at sys v).extra) e).0).0 in
       (ltb-true v (length sys.parts) p.0, p.1)
 
-  ranked_started : (v : ℕ) → ranked sys accounts c v ≡ true
-      → (is_child sys (Core c) v ≡ true) × ((account_at accounts v).started ≡ true)
-  ranked_started v e =
-      let p
-      = and_parts (is_child sys (Core c) v)
-      (account_eligible (account_at accounts v) (part_at sys v).extra) e in (
-        p.0,
-        (and_parts (account_at accounts v).started (not (account_at accounts v).blocked)
-            (and_parts ((account_at accounts v).started && not (account_at accounts v).blocked)
-            (((account_at accounts v).level == 0) || (part_at sys v).extra) p.1).0).0,
-      )
-
   -- and in which order
-  rank_numbers : (v : ℕ) → v < length sys.parts → ranked sys accounts c v ≡ true
-      → ((account_at accounts v).level ≡ level_at sys budgets rows run v x)
-      × (end_at accounts v ≡ deadline_at sys rows v x)
-  rank_numbers v l e =
-      let s : (is_child sys (Core c) v ≡ true) × ((account_at accounts v).started ≡ true) = ranked_started v e in
-      let h : IsInPeriod sys budgets rows run v x (account_at accounts v) = (account_on v (l, s.0)).in_period s.1 in
+  rank_numbers : (v : ℕ) → on_this v → account_eligible (its v) ≡ true
+      → ((its v).level ≡ level_at sys budgets rows run v x) × ((its v).until ≡ deadline_at sys rows v x)
+  rank_numbers v on e =
+      let s : (its v).started ≡ true
+      = (and_parts (its v).started (not (its v).blocked)
+      (and_parts ((its v).started && not (its v).blocked) (((its v).level == 0) || (its v).extra) e).0).0 in
+      let h : IsInPeriod sys budgets rows run v x (its v) = (account_on v on).in_period s in
       (h.level_is, h.until_is)
 
-  before_is : (u v : ℕ) → u < length sys.parts → v < length sys.parts → ranked sys accounts c u ≡ true
-      → ranked sys accounts c v ≡ true → is_ahead accounts u v ≡ goes_before sys budgets rows run x u v
+  before_is : (u v : ℕ) → on_this u → on_this v → account_eligible (its u) ≡ true → account_eligible (its v) ≡ true
+      → goes_ahead (its u) u (its v) v ≡ goes_before sys budgets rows run x u v
   before_is u v lu lv eu ev =
       let a = rank_numbers u lu eu in
       let b = rank_numbers v lv ev in
-      ap (λ (l : ℕ). goes_first l (end_at accounts u) u (account_at accounts v).level (end_at accounts v) v) a.0
-      ∙ (ap (λ (d : ℕ). goes_first (level_at sys budgets rows run u x) d u (account_at accounts v).level
-      (end_at accounts v) v) a.1
+      ap (λ (l : ℕ). goes_first l (its u).until u (its v).level (its v).until v) a.0
+      ∙ (ap (λ (d : ℕ). goes_first (level_at sys budgets rows run u x) d u (its v).level (its v).until v) a.1
       ∙ (ap (λ (l : ℕ). goes_first (level_at sys budgets rows run u x) (deadline_at sys rows u x) u l
-      (end_at accounts v) v) b.0
+      (its v).until v) b.0
       ∙ ap (λ (d : ℕ). goes_first (level_at sys budgets rows run u x) (deadline_at sys rows u x) u
       (level_at sys budgets rows run v x) d v) b.1))
 
   -- so the choice is the entry
-  pub choice_entry : (o : Option ℕ) → IsChoice sys accounts c o → RtdsEntry sys budgets rows c run x o
+  pub choice_entry : (o : Option ℕ) → IsChoiceBy sys c its o → RtdsEntry sys budgets rows c run x o
   choice_entry o h = record {
     idle = λ q v. elim (cases_Bool (is_eligible sys budgets rows c run v x)) [
       | inr e ↦ e
       | inl e ↦
-          let on : on_this v = eligible_on v e in absurd (both_ways _ (h.idle q v on.0) (sym (eligible_is v on) ∙ e))
+          let on : on_this v = eligible_on v e in
+          absurd (both_ways _ (h.idle q v on.0 on.1) (sym (eligible_is v on) ∙ e))
     ];
-    named = λ v q. eligible_is v (h.within v q, (ranked_started v (h.named v q)).0) ∙ h.named v q;
+    named = λ v q. eligible_is v (h.within v q) ∙ h.named v q;
     first = λ u v q e.
         let on : on_this u = eligible_on u e in
-        let ranked_u : ranked sys accounts c u ≡ true = sym (eligible_is u on) ∙ e in
-        sym (before_is u v on.0 (h.within v q) ranked_u (h.named v q)) ∙ h.first u v q on.0 ranked_u;
+        let eligible : account_eligible (its u) ≡ true = sym (eligible_is u on) ∙ e in
+        sym (before_is u v on (h.within v q) eligible (h.named v q)) ∙ h.first u v q on.0 on.1 eligible;
   }

@@ -7,8 +7,8 @@ use Rattle.slot_model.specs.Slots.{sum_below}
 use Rattle.slot_model.proofs.Sums.{sum_below-lt}
 use Rattle.trace_file.specs.declared.event.Event.{Event}
 use Rattle.rtds_sim.specs.declared.switches.TheConstants.{NEVER}
-use Rattle.rtds_queues.specs.Lists.{list_at}
-use Rattle.rtds_queues.proofs.Lists.{list_here, list_there}
+use Rattle.rtds_sim.specs.inner.Lists.{list_at}
+use Rattle.rtds_sim.proofs.CoreLists.{list_here, list_there}
 use Rattle.rtds_sim.specs.inner.Soonest.{moment_of, next_moment}
 use Rattle.rtds_sim.proofs.Merging.{AreMoments}
 

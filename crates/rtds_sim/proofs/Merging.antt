@@ -6,7 +6,7 @@ use Rattle.std.proofs.lemmas.Option.{same_Some}
 use Rattle.trace_file.specs.declared.event.Event.{Event}
 use Rattle.trace_file.specs.Taker.{Took}
 use Rattle.rtds_sim.specs.Printed.{push_some, gathered, moment_of_slot}
-use Rattle.rtds_queues.specs.Lists.{list_at}
+use Rattle.rtds_sim.specs.inner.Lists.{list_at}
 use Rattle.rtds_sim.specs.inner.Telling.{told_on, told_by, AreAtSlots, AreTold}
 use Rattle.rtds_sim.specs.inner.Soonest.{next_moment, AreNever, IsSoonest}
 use Rattle.rtds_sim.proofs.Gathered.{gathered-zero, gathered-suc, gathered-rest, gathered-none, took_nothing, took_same, took_more}

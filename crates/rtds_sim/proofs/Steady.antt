@@ -20,10 +20,9 @@ use Rattle.release_file.specs.Workload.{is_started_at, is_blocked_at, start_of}
 use Rattle.rtds_sim.specs.Rtds.{period_number, period_from, used, level_at, deadline_at, can_run, is_eligible, goes_before, RtdsEntry, CoreRun}
 use Rattle.rtds_queues.specs.Keys.{goes_first}
 use Rattle.rtds_sim.specs.Printed.{core_of}
-use Rattle.rtds_queues.specs.Accounts.{account_at, renewed, using, had_budget}
-use Rattle.rtds_sim.specs.inner.Accounts.{used_more, gone_on, left_of, IsInPeriod, IsAccount, AreBefore}
-use Rattle.rtds_queues.specs.Vcpus.{NoEndBefore}
-use Rattle.rtds_sim.specs.inner.Running.{RowsFrom, AreOn}
+use Rattle.rtds_queues.specs.Accounts.{renewed, using, had_budget}
+use Rattle.rtds_sim.specs.inner.Accounts.{used_more, gone_on, left_of, HasNumbers, IsInPeriod, IsAccount, AreBefore}
+use Rattle.rtds_sim.specs.inner.Running.{RowsFrom}
 use Rattle.rtds_sim.proofs.Runs.{entry_unique}
 use Rattle.rtds_sim.proofs.Taking.{none_between, all_left}
 use Rattle.rtds_sim.proofs.Entering.{started_by, blocked_by}
@@ -50,29 +49,29 @@ whole_level g slots b some exact =
     ap (λ (z : ℕ). z / b) e ∙ div-mul-add (suc (g / b)) b 0 some
 
 -- slots had change neither where it is nor when its period ends
-pub started_more : (a : Account) (has : Bool) (slots b : ℕ) → (used_more a has slots b).started ≡ a.started
-started_more a true slots b = ends (nat_lt slots a.left)
+pub started_more : (a : Account) (has : Bool) (slots : ℕ) → (used_more a has slots).started ≡ a.started
+started_more a true slots = ends (nat_lt slots a.left)
   where
-    ends : (q : Bool) → (cond q (using a slots) (had_budget a b)).started ≡ a.started
+    ends : (q : Bool) → (cond q (using a slots) (had_budget a)).started ≡ a.started
     ends true = refl
     ends false = refl
-started_more a false slots b = refl
+started_more a false slots = refl
 
-pub blocked_more : (a : Account) (has : Bool) (slots b : ℕ) → (used_more a has slots b).blocked ≡ a.blocked
-blocked_more a true slots b = ends (nat_lt slots a.left)
+pub blocked_more : (a : Account) (has : Bool) (slots : ℕ) → (used_more a has slots).blocked ≡ a.blocked
+blocked_more a true slots = ends (nat_lt slots a.left)
   where
-    ends : (q : Bool) → (cond q (using a slots) (had_budget a b)).blocked ≡ a.blocked
+    ends : (q : Bool) → (cond q (using a slots) (had_budget a)).blocked ≡ a.blocked
     ends true = refl
     ends false = refl
-blocked_more a false slots b = refl
+blocked_more a false slots = refl
 
-pub until_more : (a : Account) (has : Bool) (slots b : ℕ) → (used_more a has slots b).until ≡ a.until
-until_more a true slots b = ends (nat_lt slots a.left)
+pub until_more : (a : Account) (has : Bool) (slots : ℕ) → (used_more a has slots).until ≡ a.until
+until_more a true slots = ends (nat_lt slots a.left)
   where
-    ends : (q : Bool) → (cond q (using a slots) (had_budget a b)).until ≡ a.until
+    ends : (q : Bool) → (cond q (using a slots) (had_budget a)).until ≡ a.until
     ends true = refl
     ends false = refl
-until_more a false slots b = refl
+until_more a false slots = refl
 
 -- a slot of the same period
 pub number_same : (period f x y : ℕ) → begins period f (period_number period f x) ≤ x → x ≤ y
@@ -101,14 +100,16 @@ core_in sys is v l = go (part_at sys v).parent (is.parents v l)
 -- what is known of core c at slot x, whose rows are taken and whose VCPU has it, and of a later
 -- slot
 pub record IsNext (sys : SystemView) (budgets : List ℕ) (rows : List Row) (c : ℕ) (run : List (Option ℕ)) (x k : ℕ)
-    (accounts : List Account) (holder : Option ℕ) (to : ℕ) : Type 0 where
+    (its : ℕ → Account) (holder : Option ℕ) (to : ℕ) : Type 0 where
   pub taken : AreBefore rows k (suc x)
-  pub are : AreOn sys budgets rows c run x k accounts
+  pub numbers : (v : ℕ) → v < length sys.parts → is_child sys (Core c) v ≡ true → HasNumbers sys budgets v (its v)
+  pub are : (v : ℕ) → v < length sys.parts → is_child sys (Core c) v ≡ true
+      → IsAccount sys budgets rows run v x k (its v)
   pub holder_is : holder ≡ held run x
   pub later : x < to
   pub rows_later : RowsFrom rows k to
-  pub in_period : NoEndBefore sys accounts c to
-  pub in_budget : (v : ℕ) → holder ≡ Some v → to ≤ x + (account_at accounts v).left
+  pub in_period : (v : ℕ) → v < length sys.parts → is_child sys (Core c) v ≡ true → to ≤ (its v).until
+  pub in_budget : (v : ℕ) → holder ≡ Some v → to ≤ x + (its v).left
 
 -- no row comes from slot x on and before a later one
 pub taken_by : (rows : List Row) (k x to y : ℕ) → AreBefore rows k (suc x) → RowsFrom rows k to → x ≤ y → y < to
@@ -122,8 +123,8 @@ taken_by rows k x to y taken rows_later l m =
 
 module _ (sys : SystemView) (budgets : List ℕ) (plan : IsPlan sys budgets) (rows : List Row) (n c : ℕ)
     (run : List (Option ℕ)) (is : CoreRun sys budgets rows n c run)
-    (x k : ℕ) (accounts : List Account) (holder : Option ℕ) (to : ℕ)
-    (next : IsNext sys budgets rows c run x k accounts holder to) where
+    (x k : ℕ) (its : ℕ → Account) (holder : Option ℕ) (to : ℕ)
+    (next : IsNext sys budgets rows c run x k its holder to) where
   taken_at : (y : ℕ) → x ≤ y → y < to → AreBefore rows k (suc y)
   taken_at y l m = taken_by rows k x to y next.taken next.rows_later l m
 
@@ -146,8 +147,8 @@ module _ (sys : SystemView) (budgets : List ℕ) (plan : IsPlan sys budgets) (ro
   record Runs (v : ℕ) : Type 0 where
     is_part : v < length sys.parts
     child : is_child sys (Core c) v ≡ true
-    started : (account_at accounts v).started ≡ true
-    in_period : IsInPeriod sys budgets rows run v x (account_at accounts v)
+    started : (its v).started ≡ true
+    in_period : IsInPeriod sys budgets rows run v x (its v)
 
   runs_is : (v : ℕ) → can_run sys rows c v x ≡ true → Runs v
   runs_is v h =
@@ -156,8 +157,8 @@ module _ (sys : SystemView) (budgets : List ℕ) (plan : IsPlan sys budgets) (ro
       (is_started_at rows v x && not (is_blocked_at rows v x)) h in
       let q = and_parts (nat_lt v (length sys.parts)) (is_child sys (Core c) v) p.0 in
       let l : v < length sys.parts = ltb-true v (length sys.parts) q.0 in
-      let a : IsAccount sys budgets rows run v x k (account_at accounts v) = next.are v l q.1 in
-      let s : (account_at accounts v).started ≡ true
+      let a : IsAccount sys budgets rows run v x k (its v) = next.are v l q.1 in
+      let s : (its v).started ≡ true
       = a.started
       ∙ (sym (started_by rows v x k next.taken)
       ∙ (and_parts (is_started_at rows v x) (not (is_blocked_at rows v x)) p.1).0) in
@@ -203,9 +204,9 @@ module _ (sys : SystemView) (budgets : List ℕ) (plan : IsPlan sys budgets) (ro
   same_at : (v y : ℕ) → x ≤ y → y < to → AlikeTo y → Runs v → Same v y
   same_at v y l t alike r = elim (cases_Bool (holds (held run x) v)) [
     | inl b ↦
-        let left : to ≤ x + (account_at accounts v).left
+        let left : to ≤ x + (its v).left
         = next.in_budget v (next.holder_is ∙ holds-is (held run x) v b) in
-        let its : (account_at accounts v).left ≡ left_of (used sys rows run v x) (budget_at budgets v)
+        let its : (its v).left ≡ left_of (used sys rows run v x) (budget_at budgets v)
         = r.in_period.left_is in
         same_by v y (y - x) l t r (used_is v y l t alike r
         ∙ ap (λ (z : ℕ). used sys rows run v x + z) (cond-true {A = ℕ} (holds (held run x) v) (y - x) 0 b))
@@ -280,9 +281,9 @@ module _ (sys : SystemView) (budgets : List ℕ) (plan : IsPlan sys budgets) (ro
   -- the account of a VCPU at the next slot, by whether its period ends there and whether it has its
   -- core
   ended_account : (v : ℕ) → v < length sys.parts → (r : List (Option ℕ)) (a : Account)
-      → IsAccount sys budgets rows r v x k a → a.started ≡ true → to ≡ a.until
-      → IsAccount sys budgets rows r v to k (renewed a (to + (part_at sys v).period) (budget_at budgets v))
-  ended_account v l r a h on end =
+      → HasNumbers sys budgets v a → IsAccount sys budgets rows r v x k a → a.started ≡ true → to ≡ a.until
+      → IsAccount sys budgets rows r v to k (renewed a (to + a.period))
+  ended_account v l r a n h on end =
       let p : IsInPeriod sys budgets rows r v x a = h.in_period on in
       let some : 1 ≤ (part_at sys v).period = omega (arith, plan.some_budget v l, plan.in_period v l) in
       let number : period_number (part_at sys v).period (start_of rows v) to
@@ -298,13 +299,14 @@ module _ (sys : SystemView) (budgets : List ℕ) (plan : IsPlan sys budgets) (ro
         blocked = h.blocked;
         in_period =
             λ _. record {
-              until_is = omega (arith, from);
+              until_is = omega (arith, from, n.period_is);
               level_is = sym (ap (λ (g : ℕ). g / budget_at budgets v) none ∙ zero-div (budget_at budgets v));
               left_is =
-                  sym (ap (λ (g : ℕ). left_of g (budget_at budgets v)) none
+                  n.budget_is
+                  ∙ sym (ap (λ (g : ℕ). left_of g (budget_at budgets v)) none
                   ∙ all_left (budget_at budgets v) (plan.some_budget v l));
-              begun = omega arith;
-              not_over = omega (arith, some);
+              begun = omega (arith, n.period_is);
+              not_over = omega (arith, some, n.period_is);
             };
       }
 
@@ -342,48 +344,49 @@ module _ (sys : SystemView) (budgets : List ℕ) (plan : IsPlan sys budgets) (ro
       }
 
   -- what is had of a budget, and what is left of it
-  had_is : (a : Account) (g slots b : ℕ) → 1 ≤ b → a.level ≡ g / b → a.left ≡ left_of g b → slots ≤ a.left
-      → ((used_more a true slots b).level ≡ (g + slots) / b) × ((used_more a true slots b).left ≡ left_of (g + slots) b)
-  had_is a g slots b some level left most = elim (cases_lt slots a.left) [
+  had_is : (a : Account) (g slots b : ℕ) → 1 ≤ b → a.budget ≡ b → a.level ≡ g / b → a.left ≡ left_of g b
+      → slots ≤ a.left
+      → ((used_more a true slots).level ≡ (g + slots) / b) × ((used_more a true slots).left ≡ left_of (g + slots) b)
+  had_is a g slots b some budget level left most = elim (cases_lt slots a.left) [
     | inl l ↦
         let same : (g + slots) / b ≡ g / b = same_quotient g slots b some (omega (arith, l, left)) in
         let is : nat_lt slots a.left ≡ true = lt-ltb slots a.left l in
         let rest : a.left - slots ≡ left_of (g + slots) b
         = omega (arith, left, l, some, ap (λ (z : ℕ). z * b) same) in (
-          ap (λ (q : Bool). (cond q (using a slots) (had_budget a b)).level) is
+          ap (λ (q : Bool). (cond q (using a slots) (had_budget a)).level) is
               ∙ (level ∙ sym same),
-          ap (λ (q : Bool). (cond q (using a slots) (had_budget a b)).left) is ∙ rest,
+          ap (λ (q : Bool). (cond q (using a slots) (had_budget a)).left) is ∙ rest,
         )
     | inr m ↦
         let whole : (g + slots) / b ≡ suc (g / b) = whole_level g slots b some (omega (arith, m, most, left)) in
         let is : nat_lt slots a.left ≡ false = le-ltb slots a.left m in
-        let rest : b ≡ left_of (g + slots) b
-        = omega (arith, left, m, most, some, ap (λ (z : ℕ). z * b) whole) in (
-          ap (λ (q : Bool). (cond q (using a slots) (had_budget a b)).level) is
+        let rest : a.budget ≡ left_of (g + slots) b
+        = budget ∙ omega (arith, left, m, most, some, ap (λ (z : ℕ). z * b) whole) in (
+          ap (λ (q : Bool). (cond q (using a slots) (had_budget a)).level) is
               ∙ (ap suc level ∙ sym whole),
-          ap (λ (q : Bool). (cond q (using a slots) (had_budget a b)).left) is ∙ rest,
+          ap (λ (q : Bool). (cond q (using a slots) (had_budget a)).left) is ∙ rest,
         )
   ]
 
   going_account : (v : ℕ) → v < length sys.parts → (r : List (Option ℕ))
       → ((z : ℕ) → x ≤ z → z < to → held r z ≡ held r x) → (a : Account) (has : Bool) → has ≡ holds (held r x) v
-      → (has ≡ true → to ≤ x + a.left)
+      → (has ≡ true → to ≤ x + a.left) → HasNumbers sys budgets v a
       → IsAccount sys budgets rows r v x k a → (a.started ≡ true → to < a.until)
-      → IsAccount sys budgets rows r v to k (used_more a has (to - x) (budget_at budgets v))
-  going_account v l r same a true is_has most h below =
+      → IsAccount sys budgets rows r v to k (used_more a has (to - x))
+  going_account v l r same a true is_has most n h below =
       let b : ℕ = budget_at budgets v in
       record {
-        started = started_more a true (to - x) b ∙ h.started;
-        blocked = blocked_more a true (to - x) b ∙ h.blocked;
+        started = started_more a true (to - x) ∙ h.started;
+        blocked = blocked_more a true (to - x) ∙ h.blocked;
         in_period = λ on.
-            let on_before : a.started ≡ true = sym (started_more a true (to - x) b) ∙ on in
+            let on_before : a.started ≡ true = sym (started_more a true (to - x)) ∙ on in
             let p : IsInPeriod sys budgets rows r v x a = h.in_period on_before in
-            let end : (used_more a true (to - x) b).until ≡ a.until = until_more a true (to - x) b in
+            let end : (used_more a true (to - x)).until ≡ a.until = until_more a true (to - x) in
             let on_it = goes_on v r same a p (below on_before) in
             let used_to : used sys rows r v to ≡ used sys rows r v x + (to - x)
             = on_it.count_is
             ∙ ap (λ (q : Bool). used sys rows r v x + cond q (to - x) 0) (sym is_has) in
-            let had = had_is a (used sys rows r v x) (to - x) b (plan.some_budget v l) p.level_is p.left_is
+            let had = had_is a (used sys rows r v x) (to - x) b (plan.some_budget v l) n.budget_is p.level_is p.left_is
             (omega (arith, most refl)) in
             record {
               until_is = end ∙ on_it.end_is;
@@ -393,7 +396,7 @@ module _ (sys : SystemView) (budgets : List ℕ) (plan : IsPlan sys budgets) (ro
               not_over = omega (arith, end, below on_before);
             };
       }
-  going_account v l r same a false is_has most h below = record {
+  going_account v l r same a false is_has most n h below = record {
     started = h.started;
     blocked = h.blocked;
     in_period = λ on.
@@ -414,19 +417,16 @@ module _ (sys : SystemView) (budgets : List ℕ) (plan : IsPlan sys budgets) (ro
 
   gone_account : (v : ℕ) → v < length sys.parts → (r : List (Option ℕ))
       → ((z : ℕ) → x ≤ z → z < to → held r z ≡ held r x) → (a : Account) (has : Bool) → has ≡ holds (held r x) v
-      → (has ≡ true → to ≤ x + a.left)
+      → (has ≡ true → to ≤ x + a.left) → HasNumbers sys budgets v a
       → IsAccount sys budgets rows r v x k a → to ≤ a.until
-      → IsAccount sys budgets rows r v to k
-      (gone_on a has (to - x) (part_at sys v).period (budget_at budgets v) to)
-  gone_account v l r same a has is_has most h in_period =
-      let period : ℕ = (part_at sys v).period in
-      let b : ℕ = budget_at budgets v in
+      → IsAccount sys budgets rows r v to k (gone_on a has (to - x) to)
+  gone_account v l r same a has is_has most n h in_period =
       elim (cases_Bool (to == a.until)) [
         | inl e ↦
             subst (λ (z : Account). IsAccount sys budgets rows r v to k z)
-            (sym (ap (λ (q : Bool). cond q (renewed a (to + period) b) (used_more a has (to - x) b)) e))
+            (sym (ap (λ (q : Bool). cond q (renewed a (to + a.period)) (used_more a has (to - x))) e))
             (elim (cases_Bool a.started) [
-              | inl on ↦ ended_account v l r a h on (eqb-true to a.until e)
+              | inl on ↦ ended_account v l r a n h on (eqb-true to a.until e)
               | inr off ↦ record {
                 started = h.started;
                 blocked = h.blocked;
@@ -435,21 +435,17 @@ module _ (sys : SystemView) (budgets : List ℕ) (plan : IsPlan sys budgets) (ro
             ])
         | inr e ↦
             subst (λ (z : Account). IsAccount sys budgets rows r v to k z)
-            (sym (ap (λ (q : Bool). cond q (renewed a (to + period) b) (used_more a has (to - x) b)) e))
-            (going_account v l r same a has is_has most h (λ on. elim (cases_eq to a.until) [
+            (sym (ap (λ (q : Bool). cond q (renewed a (to + a.period)) (used_more a has (to - x))) e))
+            (going_account v l r same a has is_has most n h (λ on. elim (cases_eq to a.until) [
               | inl q ↦ absurd (both_ways _ e (eq-eqb to a.until q))
               | inr ne ↦ omega (arith, in_period, ne)
             ]))
       ]
 
   -- the accounts of the core at the next slot
-  pub gone_accounts : to ≤ n → (new : List Account)
-      → ((v : ℕ) → v < length sys.parts → is_child sys (Core c) v ≡ true
-      → account_at new v
-      ≡ gone_on (account_at accounts v) (holds holder v) (to - x) (part_at sys v).period (budget_at budgets v) to)
-      → AreOn sys budgets rows c run to k new
-  gone_accounts fits new each v l child =
-      subst (λ (z : Account). IsAccount sys budgets rows run v to k z) (sym (each v l child))
-      (gone_account v l run (alike fits) (account_at accounts v) (holds holder v)
+  pub gone_accounts : to ≤ n → (v : ℕ) → v < length sys.parts → is_child sys (Core c) v ≡ true
+      → IsAccount sys budgets rows run v to k (gone_on (its v) (holds holder v) (to - x) to)
+  gone_accounts fits v l child =
+      gone_account v l run (alike fits) (its v) (holds holder v)
       (ap (λ (o : Option ℕ). holds o v) next.holder_is) (λ has. next.in_budget v (holds-is holder v has))
-      (next.are v l child) (next.in_period v l child))
+      (next.numbers v l child) (next.are v l child) (next.in_period v l child)

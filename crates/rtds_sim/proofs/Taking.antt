@@ -1,8 +1,7 @@
 -- Rows at one slot, taken one after the other.
-use Rattle.std.proofs.Common.{◌≡◌, ◌≢◌, ℕ, suc, ◌+◌, ◌*◌, ◌-◌, ◌/◌, ◌<◌, ◌≤◌, Bool, true, false, cond, leb, ◌&&◌, List, length, set, Option, Some, None, refl, sym, ◌∙◌, ap, arith, subst, inl, inr, eq-eqb, eqb-true, ne_eqb}
+use Rattle.std.proofs.Common.{◌≡◌, ◌≢◌, ℕ, suc, ◌+◌, ◌*◌, ◌-◌, ◌/◌, ◌<◌, ◌≤◌, Bool, true, false, cond, leb, ◌&&◌, List, length, Option, Some, None, refl, sym, ◌∙◌, ap, arith, subst, inl, inr, eq-eqb, eqb-true, ne_eqb}
 use Rattle.std.specs.Prelude.{is_some}
 use Rattle.std.proofs.lemmas.Bool.{cases_eq, cases_Bool, and_parts, and_from, false≢true, lt-leb, and_right}
-use Rattle.std.proofs.lemmas.List.{get_or-set_same, get_or-set_other, length-set}
 use Rattle.std.proofs.Math.Nat.{div-eq_of_lt, zero-div}
 use Rattle.slot_model.specs.Run.{held, holds}
 use Rattle.slot_model.proofs.Sums.{sum_below-same, sum_below-none}
@@ -18,8 +17,10 @@ use Rattle.release_file.specs.declared.workload.WakeKind.TheVariants.{Start, Wak
 use Rattle.release_file.specs.Workload.{row_at, last_row, is_of, is_start, starts, is_block, blocks, slot_of, start_of, may_follow, IsWorkload}
 use Rattle.rtds_sim.specs.Rtds.{period_number, period_from, used}
 use Rattle.rtds_sim.specs.Printed.{event_of, row_event_at}
-use Rattle.rtds_queues.specs.Accounts.{account_at, no_account}
-use Rattle.rtds_sim.specs.inner.Accounts.{left_of, row_taken, IsInPeriod, IsAccount, AreAccounts, run_of_part}
+use Rattle.rtds_queues.specs.Accounts.{account_at}
+use Rattle.rtds_sim.specs.inner.Accounts.{left_of, row_taken, TakesRow, HasNumbers, IsInPeriod, IsAccount, AreOn}
+use Rattle.rtds_sim.proofs.Members.{of_same}
+use Rattle.rtds_sim.proofs.TakenRows.{takes_numbers}
 use Rattle.csv_rows.proofs.Last.{last_below-no, last_below-yes, last_is, some_row}
 
 -- the event of a row at a slot
@@ -38,12 +39,6 @@ pub none_between : (p : ℕ → Bool) (x : ℕ) → count_between p x x ≡ 0
 none_between p x =
     sum_below-same (λ y. cond (leb x y && p y) 1 0) (λ y. 0) x
     (λ y l. ap (λ (b : Bool). cond {A = ℕ} (b && p y) 1 0) (lt-leb x y l)) ∙ sum_below-none x
-
--- the account of its VCPU after row k
-abbrev pub own_taken : SystemView → List ℕ → List Row → List Account → ℕ → Account
-own_taken sys budgets rows accounts k =
-    row_taken (row_at rows k).what ((row_at rows k).at + (part_at sys (row_at rows k).vcpu).period)
-    (budget_at budgets (row_at rows k).vcpu) (account_at accounts (row_at rows k).vcpu)
 
 -- without slots all of a budget is left
 pub all_left : (budget : ℕ) → 1 ≤ budget → left_of 0 budget ≡ budget
@@ -92,12 +87,13 @@ module _ (sys : SystemView) (budgets : List ℕ) (rows : List Row) (workload : I
         in_period = h.in_period;
       }
 
-  start_account : (run : List (Option ℕ)) (v x k : ℕ) (a : Account) → 1 ≤ (part_at sys v).period
-      → 1 ≤ budget_at budgets v → k < length rows → (row_at rows k).at ≡ x → is_of v (row_at rows k) ≡ true
+  start_account : (run : List (Option ℕ)) (v x k : ℕ) (a : Account) → HasNumbers sys budgets v a
+      → 1 ≤ (part_at sys v).period → 1 ≤ budget_at budgets v → k < length rows → (row_at rows k).at ≡ x
+      → is_of v (row_at rows k) ≡ true
       → (row_at rows k).what ≡ Start
       → IsAccount sys budgets rows run v x (suc k)
-      (row_taken Start ((row_at rows k).at + (part_at sys v).period) (budget_at budgets v) a)
-  start_account run v x k a some budget l at of is =
+      (row_taken Start ((row_at rows k).at + a.period) a)
+  start_account run v x k a n some budget l at of is =
       let f : start_of rows v ≡ x = start_is sys rows workload k v l of is ∙ at in
       let number : period_number (part_at sys v).period (start_of rows v) x ≡ 0
       = ap (λ (z : ℕ). (x - z) / (part_at sys v).period) f
@@ -106,8 +102,8 @@ module _ (sys : SystemView) (budgets : List ℕ) (rows : List Row) (workload : I
       let from : period_from sys rows v x ≡ x
       = ap (λ (n : ℕ). begins (part_at sys v).period (start_of rows v) n) number
       ∙ (let e : start_of rows v + 0 * (part_at sys v).period ≡ x = omega arith in e) in
-      let first : begins (part_at sys v).period (start_of rows v) (suc 0) ≡ (row_at rows k).at + (part_at sys v).period
-      = omega (arith, at, f) in
+      let first : begins (part_at sys v).period (start_of rows v) (suc 0) ≡ (row_at rows k).at + a.period
+      = omega (arith, at, f, n.period_is) in
       let none : used sys rows run v x ≡ 0
       = ap (λ (a : ℕ). count_between (λ y. holds (held run y) v) a x) from
       ∙ none_between (λ y. holds (held run y) v) x in
@@ -121,10 +117,11 @@ module _ (sys : SystemView) (budgets : List ℕ) (rows : List Row) (workload : I
               until_is =
                   sym (ap (λ (n : ℕ). begins (part_at sys v).period (start_of rows v) (suc n)) number ∙ first);
               level_is = sym (ap (λ (g : ℕ). g / budget_at budgets v) none ∙ zero-div (budget_at budgets v));
-              left_is = sym (ap (λ (g : ℕ). left_of g (budget_at budgets v)) none
-                  ∙ all_left (budget_at budgets v) budget);
-              begun = omega (arith, at);
-              not_over = omega (arith, at, some);
+              left_is =
+                  n.budget_is
+                  ∙ sym (ap (λ (g : ℕ). left_of g (budget_at budgets v)) none ∙ all_left (budget_at budgets v) budget);
+              begun = omega (arith, at, n.period_is);
+              not_over = omega (arith, at, some, n.period_is);
             };
       }
 
@@ -144,45 +141,40 @@ module _ (sys : SystemView) (budgets : List ℕ) (rows : List Row) (workload : I
         { until_is = p.until_is; level_is = p.level_is; left_is = p.left_is; begun = p.begun; not_over = p.not_over };
   }
 
-  own_account : (run : List (Option ℕ)) (v x k : ℕ) (a : Account) → 1 ≤ (part_at sys v).period
-      → 1 ≤ budget_at budgets v → k < length rows → (row_at rows k).at ≡ x → is_of v (row_at rows k) ≡ true
+  own_account : (run : List (Option ℕ)) (v x k : ℕ) (a : Account) → HasNumbers sys budgets v a
+      → 1 ≤ (part_at sys v).period → 1 ≤ budget_at budgets v → k < length rows → (row_at rows k).at ≡ x
+      → is_of v (row_at rows k) ≡ true
       → IsAccount sys budgets rows run v x k a → (what : WakeKind) → (row_at rows k).what ≡ what
       → IsAccount sys budgets rows run v x (suc k)
-      (row_taken what ((row_at rows k).at + (part_at sys v).period) (budget_at budgets v) a)
-  own_account run v x k a some budget l at of h Start is = start_account run v x k a some budget l at of is
-  own_account run v x k a some budget l at of h Wake is =
+      (row_taken what ((row_at rows k).at + a.period) a)
+  own_account run v x k a n some budget l at of h Start is = start_account run v x k a n some budget l at of is
+  own_account run v x k a n some budget l at of h Wake is =
       change_account run v x k false a of (ap is_start is) (ap is_block is) h
-  own_account run v x k a some budget l at of h Block is =
+  own_account run v x k a n some budget l at of h Block is =
       change_account run v x k true a of (ap is_start is) (ap is_block is) h
 
   -- one row more
-  pub accounts_more : (runs : List (List (Option ℕ))) (x k : ℕ) (accounts : List Account) → IsPlan sys budgets
-      → k < length rows → (row_at rows k).at ≡ x → (row_at rows k).vcpu < length accounts
-      → AreAccounts sys budgets rows runs x k accounts
-      → AreAccounts sys budgets rows runs x (k + 1)
-      (set accounts (row_at rows k).vcpu (own_taken sys budgets rows accounts k))
-  accounts_more runs x k accounts plan l at room h =
-      let v : ℕ = (row_at rows k).vcpu in
-      let r : Account = own_taken sys budgets rows accounts k in
-      record {
-        all_vcpus = length-set accounts v r ∙ h.all_vcpus;
-        each =
-            λ u p. subst
-            (λ (n : ℕ). IsAccount sys budgets rows (run_of_part sys runs u) u x n (account_at (set accounts v r) u))
-            (let e : suc k ≡ k + 1 = omega arith in e) (elim (cases_eq u v) [
-              | inl e ↦
-                  subst (λ (z : Account). IsAccount sys budgets rows (run_of_part sys runs u) u x (suc k) z)
-                  (sym (ap (account_at (set accounts v r)) e ∙ get_or-set_same accounts v r no_account room))
-                  (subst (λ (z : ℕ). IsAccount sys budgets rows (run_of_part sys runs u) u x (suc k)
-                  (row_taken (row_at rows k).what ((row_at rows k).at + (part_at sys z).period) (budget_at budgets z)
-                  (account_at accounts z))) e
-                  (own_account (run_of_part sys runs u) u x k (account_at accounts u)
-                  (omega (arith, plan.some_budget u p, plan.in_period u p)) (plan.some_budget u p) l at
-                  (eq-eqb v u (sym e))
-                  (h.each u p) (row_at rows k).what refl))
-              | inr ne ↦
-                  subst (λ (z : Account). IsAccount sys budgets rows (run_of_part sys runs u) u x (suc k) z)
-                  (sym (get_or-set_other accounts v u r no_account ne))
-                  (other_account (run_of_part sys runs u) u x k (account_at accounts u) (λ e. ne (sym e)) (h.each u p))
-            ]);
-      }
+  pub on_taken : (c : ℕ) (run : List (Option ℕ)) (x k : ℕ) (old new : List Account) → IsPlan sys budgets
+      → k < length rows → (row_at rows k).at ≡ x → TakesRow (row_at rows k) old new
+      → AreOn sys budgets rows c run x k old → AreOn sys budgets rows c run x (suc k) new
+  on_taken c run x k old new plan l at takes h = record {
+    of = of_same old new takes.one_each (takes_numbers (row_at rows k) old new takes) sys budgets c h.of;
+    each = λ v lv.
+        let lo : v < length old = omega (arith, lv, takes.one_each) in
+        let q : ℕ = (account_at old v).part in
+        let a : Account = account_at old v in
+        let p : q < length sys.parts = h.of.parts v lo in
+        subst (λ (z : ℕ). IsAccount sys budgets rows run z x (suc k) (account_at new v))
+        (sym (takes_numbers (row_at rows k) old new takes v lo).part)
+        (elim (cases_eq q (row_at rows k).vcpu) [
+          | inl e ↦
+              subst (λ (z : Account). IsAccount sys budgets rows run q x (suc k) z) (sym (takes.own v lo e))
+              (own_account run q x k a (h.of.numbers v lo)
+              (omega (arith, plan.some_budget q p, plan.in_period q p)) (plan.some_budget q p) l at
+              (eq-eqb (row_at rows k).vcpu q (sym e))
+              (h.each v lo) (row_at rows k).what refl)
+          | inr ne ↦
+              subst (λ (z : Account). IsAccount sys budgets rows run q x (suc k) z) (sym (takes.other v lo ne))
+              (other_account run q x k a (λ e. ne (sym e)) (h.each v lo))
+        ]);
+  }

@@ -4,17 +4,17 @@ use Rattle.std.proofs.lemmas.Bool.{cases_lt, and_parts, not-true}
 use Rattle.std.proofs.lemmas.Option.{none-some}
 use Rattle.slot_model.specs.Run.{held}
 use Rattle.tree_model.specs.View.{SystemView}
-use Rattle.tree_model.specs.Tree.{run_at}
 use Rattle.trace_file.specs.declared.event.What.TheVariants.{Stop, Run}
-use Rattle.rtds_sim.specs.declared.host.Host.{Host}
+use Rattle.rtds_queues.specs.Accounts.{account_at}
+use Rattle.rtds_sim.specs.declared.host_core.HostCore.{HostCore}
 use Rattle.release_file.specs.declared.workload.Wake.{Wake as Row}
 use Rattle.release_file.specs.Workload.{is_started_at, is_blocked_at}
 use Rattle.rtds_sim.specs.Rtds.{can_run, CoreRun}
-use Rattle.rtds_sim.specs.inner.Running.{RowsFrom}
-use Rattle.rtds_sim.specs.Printed.{gathered, on_at, on_core_at, switch_to, holder_before, is_blocked_one, holder_left, stop_at, row_event_at, switch_on, printed_at, printed_below}
-use Rattle.rtds_sim.specs.inner.Accounts.{left_at, holder_at, gives_up, stop_of, AreAccounts, AreBefore, HasRoom}
+use Rattle.rtds_sim.specs.inner.Running.{RowsFrom, Stands}
+use Rattle.rtds_sim.specs.Printed.{gathered, on_at, on_core_at, switch_to, holder_before, is_blocked_one, holder_left, row_event_at, switch_on, printed_at, printed_below}
+use Rattle.rtds_sim.specs.inner.Accounts.{part_of, holder_of, is_blocked_in, gives_up, core_left, AreBefore, IsReady}
 use Rattle.rtds_sim.proofs.Runs.{eligible_runs}
-use Rattle.rtds_sim.proofs.Gathered.{gathered-none, gathered-same}
+use Rattle.rtds_sim.proofs.Gathered.{gathered-none}
 use Rattle.rtds_sim.proofs.Taking.{row_none}
 use Rattle.rtds_sim.proofs.Entering.{blocked_by}
 use Rattle.rtds_sim.proofs.Steady.{taken_by}
@@ -97,35 +97,49 @@ rows_none sys rows x k to taken later y a b =
     gathered-none (row_event_at sys rows y) (length rows) (λ i l. row_none sys rows y i
     (λ e. elim (cases_lt i k) [ inl h ↦ omega (arith, e, taken.past i h) | inr h ↦ omega (arith, e, later i h l) ]))
 
--- what is told of the cores that stop
-module _ (sys : SystemView) (budgets : List ℕ) (rows : List Row) (runs : List (List (Option ℕ)))
-    (host : Host) (taken : AreBefore rows host.taken (suc host.time))
-    (are : AreAccounts sys budgets rows runs host.time host.taken host.vcpus.accounts) (room : HasRoom sys host)
-    (holders_are : (c : ℕ) → c < length sys.cores → holder_at host.holders c ≡ holder_before (run_at runs c) host.time)
+-- a core whose VCPU blocks stops
+module _ (sys : SystemView) (budgets : List ℕ) (rows : List Row) (c : ℕ) (run : List (Option ℕ)) (x k : ℕ)
+    (taken : AreBefore rows k (suc x)) (core : HostCore) (stands : Stands sys budgets rows c run x k core)
+    (held_in : (v : ℕ) → core.holder ≡ Some v → v < length core.vcpus)
   where
-    abbrev x : ℕ
-    x = host.time
+    blocked_is : (o : Option ℕ) → ((v : ℕ) → o ≡ Some v → v < length core.vcpus)
+        → is_blocked_in core.vcpus o ≡ is_blocked_one rows x (part_of core.vcpus o)
+    blocked_is None h = refl
+    blocked_is (Some v) h =
+        (stands.are.each v (h v refl)).blocked ∙ sym (blocked_by rows (account_at core.vcpus v).part x k taken)
 
-    gives_up_is : (o : Option ℕ) → ((v : ℕ) → o ≡ Some v → v < length sys.parts)
-        → gives_up host.vcpus.accounts o ≡ is_blocked_one rows x o
-    gives_up_is None h = refl
-    gives_up_is (Some v) h = (are.each v (h v refl)).blocked ∙ sym (blocked_by rows v x host.taken taken)
+    pub gives_up_is : gives_up core ≡ is_blocked_one rows x (holder_before run x)
+    gives_up_is = blocked_is core.holder held_in ∙ ap (is_blocked_one rows x) stands.holder_is
 
-    pub gives_up_at : (c : ℕ) → c < length sys.cores
-        → gives_up host.vcpus.accounts (holder_at host.holders c)
-        ≡ is_blocked_one rows x (holder_before (run_at runs c) x)
-    gives_up_at c lc =
-        gives_up_is (holder_at host.holders c) (λ v e. room.parts c v lc e)
-        ∙ ap (is_blocked_one rows x) (holders_are c lc)
+    pub left_is : holder_of (core_left core) ≡ holder_left rows run x
+    left_is =
+        left_by (gives_up core)
+        ∙ (ap (λ (q : Bool). cond q None (part_of core.vcpus core.holder)) gives_up_is
+        ∙ ap (λ (o : Option ℕ). cond (is_blocked_one rows x (holder_before run x)) None o) stands.holder_is)
+      where
+        left_by : (b : Bool)
+            → holder_of (cond b (record core { holder = None }) core)
+            ≡ cond b None (part_of core.vcpus core.holder)
+        left_by true = refl
+        left_by false = refl
 
-    pub stops_are : gathered (stop_of host) (length sys.cores) ≡ gathered (stop_at rows runs x) (length sys.cores)
-    stops_are =
-        gathered-same (stop_of host) (stop_at rows runs x) (length sys.cores)
-        (λ c lc. ap (λ (q : Bool). cond q (Some (on_at c x Stop)) None) (gives_up_at c lc))
+-- a core that stops keeps its VCPUs
+pub left_vcpus : (core : HostCore) → (core_left core).vcpus ≡ core.vcpus
+left_vcpus core = go (gives_up core)
+  where
+    go : (b : Bool) → (cond b (record core { holder = None }) core).vcpus ≡ core.vcpus
+    go true = refl
+    go false = refl
 
-    pub left_is : (c : ℕ) → c < length sys.cores
-        → left_at host.vcpus.accounts host.holders c ≡ holder_left rows (run_at runs c) x
-    left_is c lc =
-        ap (λ (q : Bool). cond q None (holder_at host.holders c)) (gives_up_at c lc)
-        ∙ ap (λ (o : Option ℕ). cond (is_blocked_one rows x (holder_before (run_at runs c) x)) None o)
-        (holders_are c lc)
+-- and stands ready
+pub left_ready : (time : ℕ) (core : HostCore) → IsReady time core → IsReady time (core_left core)
+left_ready time core h = go (gives_up core)
+  where
+    go : (b : Bool) → IsReady time (cond b (record core { holder = None }) core)
+    go true = record {
+      sound = h.sound;
+      in_turn = h.in_turn;
+      ends = h.ends;
+      holder = λ v e. absurd (none-some v e);
+    }
+    go false = h

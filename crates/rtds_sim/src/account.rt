@@ -5,16 +5,14 @@ use release_file::WakeKind;
 use rtds_queues::Account;
 
 /// An account after a row of its VCPU, at which a period would begin that ends at slot `end`.
-pub fn taking(account: Account, what: WakeKind, end: u64, budget: u64) -> Account
-    ensures { result ≡ row_taken what end budget account }
+pub fn taking(account: Account, what: WakeKind, end: u64) -> Account
+    ensures { result ≡ row_taken what end account }
 {
     match what {
         WakeKind::Start => Account {
             started: true,
             blocked: false,
-            until: end,
-            level: 0,
-            left: budget,
+            ..account.renewed(end)
         },
         WakeKind::Wake => Account {
             blocked: false,

@@ -5,6 +5,7 @@
 mod account;
 mod fault;
 mod host;
+mod host_core;
 mod moment;
 mod rows;
 mod running;

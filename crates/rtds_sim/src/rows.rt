@@ -21,7 +21,7 @@ pub fn row_at(rows: &[Wake], i: usize) -> Wake
 }
 
 /// The core on which a part stands.
-fn core_of(sys: &System, v: u32) -> u32
+pub fn core_of(sys: &System, v: u32) -> u32
     requires { v < length sys.now.parts }
     ensures is { result ≡ core_of (part_at sys.now v).parent }
     ensures within { result < length sys.now.cores }

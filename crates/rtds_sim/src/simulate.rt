@@ -201,15 +201,15 @@ fn tell_run<T: EventTaker>(
         × Took T.has_taken events.old events.new told) }
     ensures system { IsSystem sys.now }
 {
-    let mut host = Host::new(alloc, sys)?;
+    let mut host = Host::new(alloc, sys, plan)?;
     let mut switches = Switches::new(alloc, sys)?;
     while host.time < slots {
         let first = host.taken;
-        host.take_rows(sys, plan, wakes);
-        host.stop_blocked(sys, first, events)?;
+        host.take_rows(sys, wakes);
+        host.stop_blocked(first, events)?;
         print_rows(sys, wakes, first, host.taken, events)?;
         let next = host.next_row(wakes, slots);
-        host.run_on(sys, plan, next, &mut switches)?;
+        host.run_on(next, &mut switches)?;
         switches.tell(events)?;
     }
     events.take(Event {

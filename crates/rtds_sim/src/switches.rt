@@ -1,7 +1,7 @@
 ghost use Rattle.std.specs.Prelude.{◌≡◌, ℕ, ◌≤◌, ◌<◌, Option, Some, [], length, map, slice_index, slice_get, MatchOption, IfOk, OnOk};
 ghost use Rattle.trace_file.specs.declared.event.Event.{Event as EventView};
 ghost use Rattle.trace_file.specs.Taker.{Took};
-ghost use Rattle.rtds_queues.specs.Lists.{list_at};
+ghost use Rattle.rtds_sim.specs.inner.Lists.{list_at};
 ghost use Rattle.rtds_sim.specs.inner.Telling.{told_by, AreAtSlots, AreTold};
 ghost use Rattle.rtds_sim.specs.inner.Soonest.{next_moment, AreNever, IsSoonest};
 

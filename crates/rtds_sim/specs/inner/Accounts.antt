@@ -1,65 +1,108 @@
 -- What is kept of VCPUs and cores between two events.
-use Rattle.std.specs.Prelude.{◌≡◌, ℕ, suc, ◌+◌, ◌-◌, ◌%◌, ◌<◌, ◌≤◌, ◌==◌, Bool, true, false, if◌then◌else◌, List, length, slice_index_or, Option, Some, None}
+use Rattle.std.specs.Prelude.{◌≡◌, ◌≢◌, ℕ, suc, ◌+◌, ◌-◌, ◌%◌, ◌<◌, ◌≤◌, ◌==◌, Bool, true, false, if◌then◌else◌, List, [], map, length, slice_index_or, Option, Some, None}
+use Rattle.slot_model.specs.declared.task.TheConstants.{LIMIT}
+use Rattle.slot_model.specs.Slots.{places_where}
 use Rattle.tree_model.specs.declared.place.Place.TheVariants.{Core}
 use Rattle.tree_model.specs.View.{SystemView}
 use Rattle.tree_model.specs.System.{part_at}
-use Rattle.tree_model.specs.Tree.{is_child, budget_at, run_at}
+use Rattle.tree_model.specs.Tree.{is_child, budget_at}
 use Rattle.trace_file.specs.declared.event.Event.{Event}
 use Rattle.trace_file.specs.declared.event.What.TheVariants.{Stop}
-use Rattle.rtds_queues.specs.declared.account.Account.{Account}
-use Rattle.rtds_queues.specs.declared.account.TheConstants.{PAST_ALL}
-use Rattle.rtds_sim.specs.declared.host.Host.{Host}
 use Rattle.release_file.specs.declared.workload.Wake.{Wake as Row}
 use Rattle.release_file.specs.declared.workload.WakeKind.{WakeKind}
 use Rattle.release_file.specs.declared.workload.WakeKind.TheVariants.{Start, Wake, Block}
 use Rattle.release_file.specs.Workload.{row_at, started_after, blocked_after}
+use Rattle.rtds_queues.specs.declared.account.Account.{Account}
+use Rattle.rtds_queues.specs.Accounts.{no_account, account_at, renewed, had_slots}
+use Rattle.rtds_queues.specs.Vcpus.{IsPlaceOf, NoEndBefore}
+use Rattle.rtds_sim.specs.declared.host_core.HostCore.{HostCore}
+use Rattle.rtds_sim.specs.declared.host.Host.{Host}
 use Rattle.rtds_sim.specs.Rtds.{used, level_at, deadline_at}
-use Rattle.rtds_queues.specs.Accounts.{account_at, renewed, had_slots}
-use Rattle.rtds_queues.specs.Vcpus.{AreVcpus, NoEndBefore}
-use Rattle.rtds_sim.specs.Printed.{core_of, on_at}
+use Rattle.rtds_sim.specs.Printed.{on_at}
 
-abbrev pub holder_at : List (Option ℕ) → ℕ → Option ℕ
-holder_at holders c = slice_index_or holders c None
+-- the account of a part before the first slot
+abbrev pub new_account : SystemView → List ℕ → ℕ → Account
+new_account sys budgets v =
+    record no_account {
+      part = v;
+      period = (part_at sys v).period;
+      budget = budget_at budgets v;
+      extra = (part_at sys v).extra;
+    }
+
+-- core c before the first slot, with its VCPUs in the order of the file
+abbrev pub new_core : SystemView → List ℕ → ℕ → HostCore
+new_core sys budgets c =
+    record {
+      vcpus =
+          map (new_account sys budgets) (places_where (is_child sys (Core c)) (length sys.parts));
+      holder = None;
+    }
+
+abbrev pub core_at : List HostCore → ℕ → HostCore
+core_at cores c = slice_index_or cores c (record { vcpus = []; holder = None })
+
+-- which part of the system is meant, if one is
+abbrev pub part_of : List Account → Option ℕ → Option ℕ
+part_of accounts None = None
+part_of accounts (Some v) = Some (account_at accounts v).part
+
+-- the part that has a core, if one has it
+abbrev pub holder_of : HostCore → Option ℕ
+holder_of core = part_of core.vcpus core.holder
+
+-- the VCPUs stand in the order of the file
+abbrev pub InTurn : List Account → Type 0
+InTurn accounts = (u v : ℕ) → u < v → v < length accounts →
+    (account_at accounts u).part < (account_at accounts v).part
 
 -- an account after a row of its VCPU, at which a period would begin that ends at slot `end`
-abbrev pub row_taken : WakeKind → ℕ → ℕ → Account → Account
-row_taken Start end budget account =
-    renewed (record account { started = true; blocked = false }) end budget
-row_taken Wake end budget account = record account { blocked = false }
-row_taken Block end budget account = record account { blocked = true }
+abbrev pub row_taken : WakeKind → ℕ → Account → Account
+row_taken Start end account =
+    renewed (record account { started = true; blocked = false }) end
+row_taken Wake end account = record account { blocked = false }
+row_taken Block end account = record account { blocked = true }
+
+-- a row is taken by the VCPU that is its part
+pub record TakesRow (row : Row) (old new : List Account) : Type 0 where
+  pub one_each : length new ≡ length old
+  pub own : (v : ℕ) → v < length old → (account_at old v).part ≡ row.vcpu → account_at new v
+      ≡ row_taken row.what (row.at + (account_at old v).period) (account_at old v)
+  pub other : (v : ℕ) → v < length old → (account_at old v).part ≢ row.vcpu →
+      account_at new v ≡ account_at old v
 
 -- an account some slots later, which its VCPU had or not, and in which it had its budget once more
 -- at most
-abbrev pub used_more : Account → Bool → ℕ → ℕ → Account
-used_more account has_core slots budget =
-    if has_core then had_slots account slots budget else account
+abbrev pub used_more : Account → Bool → ℕ → Account
+used_more account has_core slots = if has_core then had_slots account slots else account
 
 -- an account some slots later, at `to`, before which its period does not end
-abbrev pub gone_on : Account → Bool → ℕ → ℕ → ℕ → ℕ → Account
-gone_on account has_core slots period budget to =
+abbrev pub gone_on : Account → Bool → ℕ → ℕ → Account
+gone_on account has_core slots to =
     if to == account.until
-    then renewed account (to + period) budget
-    else used_more account has_core slots budget
+    then renewed account (to + account.period)
+    else used_more account has_core slots
 
 -- the slots until a VCPU that had some has had its budget once more
 abbrev pub left_of : ℕ → ℕ → ℕ
 left_of slots budget = budget - slots % budget
 
 -- whether a VCPU, if one is meant, is blocked
-abbrev pub gives_up : List Account → Option ℕ → Bool
-gives_up accounts None = false
-gives_up accounts (Some v) = (account_at accounts v).blocked
+abbrev pub is_blocked_in : List Account → Option ℕ → Bool
+is_blocked_in accounts None = false
+is_blocked_in accounts (Some v) = (account_at accounts v).blocked
 
--- the VCPU that still has a core, if its VCPU gives it up where it blocks
-abbrev pub left_at : List Account → List (Option ℕ) → ℕ → Option ℕ
-left_at accounts holders c =
-    if gives_up accounts (holder_at holders c) then None else holder_at holders c
+-- whether the VCPU of a core gives it up, and the core where it does if it is blocked
+abbrev pub gives_up : HostCore → Bool
+gives_up core = is_blocked_in core.vcpus core.holder
+
+abbrev pub core_left : HostCore → HostCore
+core_left core = if gives_up core then record core { holder = None } else core
 
 -- what is told of core c when blocked VCPUs give their cores up
 abbrev pub stop_of : Host → ℕ → Option Event
 stop_of host c =
-    if gives_up host.vcpus.accounts (holder_at host.holders c) then Some (on_at c host.time Stop)
-    else None
+    if gives_up (core_at host.cores.items c) then Some (on_at c host.time Stop) else None
 
 -- the account of VCPU v at slot x, after the first k rows: whether it is started and blocked, and
 -- where it is, when its period ends, how often it has had its budget in it before x, and how many
@@ -78,15 +121,30 @@ pub record IsAccount (sys : SystemView) (budgets : List ℕ) (rows : List Row)
   pub blocked : account.blocked ≡ blocked_after rows k v
   pub in_period : account.started ≡ true → IsInPeriod sys budgets rows run v x account
 
--- the run of the core on which part v stands
-abbrev pub run_of_part : SystemView → List (List (Option ℕ)) → ℕ → List (Option ℕ)
-run_of_part sys runs v = run_at runs (core_of (part_at sys v).parent)
+-- an account has the numbers of part v
+pub record HasNumbers (sys : SystemView) (budgets : List ℕ) (v : ℕ) (account : Account) :
+    Type 0 where
+  pub period_is : account.period ≡ (part_at sys v).period
+  pub budget_is : account.budget ≡ budget_at budgets v
+  pub extra_is : account.extra ≡ (part_at sys v).extra
 
-pub record AreAccounts (sys : SystemView) (budgets : List ℕ) (rows : List Row)
-    (runs : List (List (Option ℕ))) (x k : ℕ) (accounts : List Account) : Type 0 where
-  pub all_vcpus : length accounts ≡ 512
-  pub each : (v : ℕ) → v < length sys.parts →
-      IsAccount sys budgets rows (run_of_part sys runs v) v x k (account_at accounts v)
+-- the accounts are those of the VCPUs of core c
+pub record AreOf (sys : SystemView) (budgets : List ℕ) (c : ℕ) (accounts : List Account) :
+    Type 0 where
+  pub parts : (v : ℕ) → v < length accounts → (account_at accounts v).part < length sys.parts
+  pub on_core : (v : ℕ) → v < length accounts →
+      is_child sys (Core c) (account_at accounts v).part ≡ true
+  pub numbers : (v : ℕ) → v < length accounts →
+      HasNumbers sys budgets (account_at accounts v).part (account_at accounts v)
+  pub all : (q : ℕ) → q < length sys.parts → is_child sys (Core c) q ≡ true →
+      (v : ℕ) × IsPlaceOf accounts q v
+
+-- and they are as they come at slot x, after the first k rows
+pub record AreOn (sys : SystemView) (budgets : List ℕ) (rows : List Row) (c : ℕ)
+    (run : List (Option ℕ)) (x k : ℕ) (accounts : List Account) : Type 0 where
+  pub of : AreOf sys budgets c accounts
+  pub each : (v : ℕ) → v < length accounts →
+      IsAccount sys budgets rows run (account_at accounts v).part x k (account_at accounts v)
 
 -- the first k rows are those before slot x
 pub record AreBefore (rows : List Row) (k x : ℕ) : Type 0 where
@@ -94,37 +152,22 @@ pub record AreBefore (rows : List Row) (k x : ℕ) : Type 0 where
   pub past : (i : ℕ) → i < k → (row_at rows i).at < x
   pub to_come : (i : ℕ) → k ≤ i → i < length rows → x ≤ (row_at rows i).at
 
--- there is room for each VCPU and each core, and what has a core is a part
-pub record HasRoom (sys : SystemView) (host : Host) : Type 0 where
-  pub all_vcpus : length host.vcpus.accounts ≡ 512
-  pub all_cores : length host.holders ≡ 64
-  pub few_parts : length sys.parts ≤ 512
-  pub few_cores : length sys.cores ≤ 64
-  pub parts : (c v : ℕ) → c < length sys.cores → holder_at host.holders c ≡ Some v →
-      v < length sys.parts
-
--- the level of an account is small, of its slots some are left, and without a start its period ends
--- past all
+-- the numbers of an account are in range, its level is small, and of its slots some are left
 pub record IsSound (time : ℕ) (account : Account) : Type 0 where
+  pub some_period : 1 ≤ account.period
+  pub in_limit : account.period ≤ LIMIT
+  pub some_budget : 1 ≤ account.budget
   pub few : account.level ≤ time
   pub some_left : 1 ≤ account.left
-  pub idle : account.started ≡ false → account.until ≡ PAST_ALL
 
--- the VCPUs stand in their orders, and their accounts are sound; what has a core stands on it
-pub record IsReady (sys : SystemView) (host : Host) : Type 0 where
-  pub room : HasRoom sys host
-  pub vcpus : AreVcpus sys host.vcpus
-  pub sound : (v : ℕ) → v < length sys.parts →
-      IsSound host.time (account_at host.vcpus.accounts v)
-  pub on_core : (c v : ℕ) → c < length sys.cores → holder_at host.holders c ≡ Some v →
-      is_child sys (Core c) v ≡ true
+-- the accounts are sound, no period ends by the next slot, and what has the core is one of its
+-- VCPUs
+pub record IsReady (time : ℕ) (core : HostCore) : Type 0 where
+  pub sound : (v : ℕ) → v < length core.vcpus → IsSound time (account_at core.vcpus v)
+  pub in_turn : InTurn core.vcpus
+  pub ends : NoEndBefore core.vcpus (suc time)
+  pub holder : (v : ℕ) → core.holder ≡ Some v → v < length core.vcpus
 
--- no period of a VCPU of any core ends by the next slot
-abbrev pub NoneEnds : SystemView → Host → Type 0
-NoneEnds sys host = (c : ℕ) → c < length sys.cores →
-    NoEndBefore sys host.vcpus.accounts c (suc host.time)
-
--- no VCPU of core c is above level x
-abbrev pub NoneAbove : SystemView → List Account → ℕ → ℕ → Type 0
-NoneAbove sys accounts c x = (v : ℕ) → v < length sys.parts → is_child sys (Core c) v ≡ true →
-    (account_at accounts v).level ≤ x
+abbrev pub AreReady : Host → Type 0
+AreReady host = (c : ℕ) → c < length host.cores.items →
+    IsReady host.time (core_at host.cores.items c)

@@ -2,7 +2,7 @@
 use Rattle.std.specs.Prelude.{◌≡◌, ℕ, zero, suc, ◌+◌, ◌<◌, List, [], ◌++◌, Option, Some}
 use Rattle.std.specs.Global.{Vec}
 use Rattle.trace_file.specs.declared.event.Event.{Event}
-use Rattle.rtds_queues.specs.Lists.{list_at}
+use Rattle.rtds_sim.specs.inner.Lists.{list_at}
 use Rattle.rtds_sim.specs.Printed.{gathered, moment_of_slot}
 
 -- what is told at the m slots from x on, where f tells what is at each, if anything

@@ -1,26 +1,25 @@
-use Rattle.std.proofs.Common.{◌≡◌, ℕ, suc, ◌+◌, ◌-◌, ◌<◌, ◌++◌, List, [], ◌∷◌, length, Option, Some, None, refl, sym, ◌∙◌, ap, arith, subst}
+use Rattle.std.proofs.Common.{◌≡◌, ℕ, suc, ◌+◌, ◌-◌, ◌<◌, ◌≤◌, ◌++◌, List, [], ◌∷◌, length, Option, Some, None, refl, sym, ◌∙◌, ap, arith, subst, cond, Bool}
 use Rattle.std.proofs.lemmas.Option.{none-some, same_Some}
 use Rattle.slot_model.specs.Run.{held}
 use Rattle.tree_model.specs.Tree.{run_at}
 use Rattle.trace_file.specs.declared.event.Event.{Event}
 use Rattle.trace_file.specs.declared.event.What.{What}
-use Rattle.trace_file.specs.declared.event.What.TheVariants.{End}
-use Rattle.rtds_queues.specs.declared.account.Account.{Account}
+use Rattle.trace_file.specs.declared.event.What.TheVariants.{Stop, End}
+use Rattle.rtds_sim.specs.declared.host_core.HostCore.{HostCore}
 use Rattle.rtds_sim.specs.declared.host.Host.{Host}
 use Rattle.release_file.specs.declared.workload.Wake.{Wake as Row}
 use Rattle.release_file.specs.Workload.{row_at}
 use Rattle.rtds_sim.specs.Rtds.{RtdsRun}
 use Rattle.trace_file.specs.Taker.{Took}
-use Rattle.rtds_sim.specs.Printed.{core_of, moment_of_slot, printed_below, gathered, row_event_at, stop_at, switch_at, switch_to, on_core_at, holder_left, on_at, printed}
-use Rattle.rtds_queues.specs.Accounts.{account_at, end_at}
-use Rattle.rtds_sim.specs.inner.Accounts.{stop_of, AreBefore, IsAccount}
+use Rattle.rtds_sim.specs.Printed.{moment_of_slot, printed_below, gathered, row_event_at, stop_at, switch_at, switch_to, on_core_at, holder_before, is_blocked_one, holder_left, on_at, printed}
+use Rattle.rtds_sim.specs.inner.Accounts.{core_at, core_left, holder_of, gives_up, stop_of, AreBefore, AreOn, IsReady}
 use Rattle.rtds_sim.specs.inner.Running.{RowsFrom, HasRun}
-use Rattle.rtds_queues.specs.Lists.{list_at}
+use Rattle.rtds_sim.specs.inner.Lists.{list_at}
 use Rattle.rtds_sim.specs.inner.Telling.{told_by, AreAtSlots}
+use Rattle.rtds_sim.proofs.Members.{fresh_ready}
 use Rattle.rtds_sim.proofs.Runs.{rtds_run, rtds_run-is}
-use Rattle.trace_file.proofs.Moments.{child_parent}
-use Rattle.rtds_sim.proofs.Gathered.{took_nothing, took_same, took_more}
-use Rattle.rtds_sim.proofs.Visits.{printed_below-zero, gives_up_at, none_blocks, left_is, stops_are}
+use Rattle.rtds_sim.proofs.Gathered.{gathered-same, took_nothing, took_same, took_more}
+use Rattle.rtds_sim.proofs.Visits.{printed_below-zero, gives_up_is, none_blocks, left_is, left_vcpus, left_ready}
 use Rattle.rtds_sim.proofs.Telling.{printed_on}
 use Rattle.rtds_sim.proofs.Standing.{Visit, standing_start, standing_next, visit_rows}
 use Rattle.release_file.proofs.Rows.{ordered}
@@ -30,23 +29,22 @@ use Rattle.rtds_sim.proofs.simulate.tell_run.Goals.{After-take_rows, After-next_
 pub loop-host-init : goal.loop-host-init
 loop-host-init g c =
     let made = c.in_ok-host.ensures in
+    let sys = c.args.sys.now in
+    let run = rtds_run sys c.args.plan.now c.args.wakes.now c.args.slots in
     record {
       stands =
-          standing_start c.args.sys.now c.args.plan.now c.args.wakes.now
-          (rtds_run c.args.sys.now c.args.plan.now c.args.wakes.now c.args.slots) c.in_ok-host.host made.time
-          made.taken
-          made.ready.room made.accounts made.holders;
+          standing_start sys c.new.ensures.system c.args.plan.now c.requires.plan c.args.wakes.now run
+          c.in_ok-host.host made.time made.taken made.one_each made.cores;
       told =
           took_same g.T.EventTaker.has_taken c.args.events.now c.args.events.now []
-          (printed_below c.args.sys.now c.args.wakes.now
-          (rtds_run c.args.sys.now c.args.plan.now c.args.wakes.now c.args.slots) c.in_ok-host.host.time)
-          (sym (ap (printed_below c.args.sys.now c.args.wakes.now
-          (rtds_run c.args.sys.now c.args.plan.now c.args.wakes.now c.args.slots)) made.time
-          ∙ printed_below-zero c.args.sys.now c.args.wakes.now
-          (rtds_run c.args.sys.now c.args.plan.now c.args.wakes.now c.args.slots)))
+          (printed_below sys c.args.wakes.now run c.in_ok-host.host.time)
+          (sym (ap (printed_below sys c.args.wakes.now run) made.time
+          ∙ printed_below-zero sys c.args.wakes.now run))
           (took_nothing g.T.EventTaker.has_taken c.args.events.now);
-      ready = made.ready;
-      ends = made.ends;
+      ready = λ d l.
+          subst (λ (x : ℕ). IsReady x (core_at c.in_ok-host.host.cores.items d)) (sym made.time)
+          (subst (IsReady 0) (sym (made.cores d (omega (arith, l, made.one_each))))
+          (fresh_ready sys c.new.ensures.system c.args.plan.now c.requires.plan d));
       in_slots = omega (arith, made.time);
       one_each = c.in_ok-switches.ensures.one_each;
       empty = c.in_ok-switches.ensures.empty;
@@ -61,9 +59,12 @@ visited : (g : _) (c : After-take_rows g)
     → Visit c.args.sys.now c.args.plan.now c.args.wakes.now (runs_of g c) c.take_rows.new.self
 visited g c =
     let took = c.take_rows.ensures in
-    visit_rows c.args.sys.now c.args.plan.now c.args.wakes.now c.requires.workload (runs_of g c) c.loop-host.host
-    c.take_rows.new.self c.loop-host.invariant.stands took.time took.holders took.ready.room took.in_rows took.later
-    took.now took.no_more took.accounts
+    visit_rows c.args.sys.now c.args.plan.now c.requires.plan c.args.wakes.now c.requires.workload (runs_of g c)
+    c.loop-host.host c.take_rows.new.self c.loop-host.invariant.stands took.time took.one_each took.ready took.held
+    took.in_rows took.later took.now took.no_more took.vcpus
+
+few : (g : _) (c : After-take_rows g) → length c.take_rows.new.self.cores.items ≤ 64
+few g c = omega (arith, (visited g c).one_each, c.new.ensures.system.few_cores)
 
 in_slots : (g : _) (c : After-take_rows g) → c.take_rows.new.self.time < c.args.slots
 in_slots g c = omega (arith, c.take_rows.ensures.time, c.loop-host-test.true)
@@ -87,6 +88,18 @@ next_later g c =
       )),
     )
 
+-- a core gives its VCPU up where that blocks at the slot
+gives_up_at : (g : _) (c : After-take_rows g) (d : ℕ) → d < length c.args.sys.now.cores
+    → gives_up (core_at c.take_rows.new.self.cores.items d)
+    ≡ is_blocked_one c.args.wakes.now c.take_rows.new.self.time
+    (holder_before (run_at (runs_of g c) d) c.take_rows.new.self.time)
+gives_up_at g c d l =
+    let host : Host = c.take_rows.new.self in
+    let visit = visited g c in
+    gives_up_is c.args.sys.now c.args.plan.now c.args.wakes.now d (run_at (runs_of g c) d) host.time host.taken
+    visit.taken (core_at host.cores.items d) (visit.cores d l)
+    (visit.ready d (omega (arith, l, visit.one_each))).holder
+
 -- where no row was taken, no VCPU that has a core is blocked
 pub stop_blocked-requires-clause-awake : goal.stop_blocked-requires-clause-awake
 stop_blocked-requires-clause-awake g c same d l =
@@ -94,14 +107,17 @@ stop_blocked-requires-clause-awake g c same d l =
     let run = rtds_run-is c.args.sys.now c.args.plan.now c.args.wakes.now c.args.slots in
     let host : Host = c.take_rows.new.self in
     let visit = visited g at in
+    let in_it : d < length c.args.sys.now.cores = omega (arith, l, visit.one_each) in
     let before : AreBefore c.args.wakes.now host.taken host.time
     = subst (λ (k : ℕ). AreBefore c.args.wakes.now k host.time) same
     (subst (AreBefore c.args.wakes.now c.loop-host.host.taken) (sym c.take_rows.ensures.time)
     c.loop-host.invariant.stands.before) in
-    gives_up_at c.args.sys.now c.args.plan.now c.args.wakes.now (runs_of g at) host visit.taken visit.are visit.room
-    visit.holders_are d l
+    gives_up_at g at d in_it
     ∙ none_blocks c.args.sys.now c.args.plan.now c.args.wakes.now c.args.slots d (run_at (runs_of g at) d)
-    (run.cores d l) host.time host.taken before visit.taken (in_slots g at)
+    (run.cores d in_it) host.time host.taken before visit.taken (in_slots g at)
+
+pub stop_blocked-requires-clause-few : goal.stop_blocked-requires-clause-few
+stop_blocked-requires-clause-few g c = few g (goal.at.stop_blocked-requires-clause-few g c).After-take_rows
 
 -- a switch stands at its slot
 at_slots : (rows : List Row) (runs : List (List (Option ℕ))) → AreAtSlots (switch_at rows runs)
@@ -111,13 +127,29 @@ at_slots rows runs y c event is = go (switch_to (holder_left rows (run_at runs c
     go None e = absurd (none-some event e)
     go (Some what) e = sym (ap (λ (z : Event). z.at) (same_Some (on_at c y what) event e))
 
-pub run_on-requires-clause-ends : goal.run_on-requires-clause-ends
-run_on-requires-clause-ends g c d l v lv child =
+pub run_on-requires-clause-few : goal.run_on-requires-clause-few
+run_on-requires-clause-few g c =
     omega (
       arith,
-      c.take_rows.ensures.ends d l v lv child,
-      ap (λ (xs : List Account). end_at xs v) c.stop_blocked.ensures.accounts,
-      c.stop_blocked.ensures.time,
+      few g (goal.at.run_on-requires-clause-few g c).After-take_rows,
+      c.stop_blocked.ensures.one_each,
+    )
+
+pub run_on-requires-clause-ready : goal.run_on-requires-clause-ready
+run_on-requires-clause-ready g c d l =
+    let host : Host = c.take_rows.new.self in
+    let in_it : d < length host.cores.items = omega (arith, l, c.stop_blocked.ensures.one_each) in
+    subst (λ (x : ℕ). IsReady x (core_at c.stop_blocked.new.self.cores.items d)) (sym c.stop_blocked.ensures.time)
+    (subst (IsReady host.time) (sym (c.in_ok-stop_blocked.ensures.left d in_it))
+    (left_ready host.time (core_at host.cores.items d) (c.take_rows.ensures.ready d in_it)))
+
+pub run_on-requires-clause-one_each : goal.run_on-requires-clause-one_each
+run_on-requires-clause-one_each g c =
+    omega (
+      arith,
+      c.loop-host.invariant.one_each,
+      (visited g (goal.at.run_on-requires-clause-one_each g c).After-take_rows).one_each,
+      c.stop_blocked.ensures.one_each,
     )
 
 pub run_on-requires-clause-later : goal.run_on-requires-clause-later
@@ -149,10 +181,10 @@ loop-host-preserved g c =
     let took = c.take_rows.ensures in
     let visit : Visit sys budgets rows runs c.take_rows.new.self = visited g at.After-take_rows in
     let is : RtdsRun sys budgets rows c.args.slots runs = rtds_run-is sys budgets rows c.args.slots in
-    let took_host : Host = c.take_rows.new.self in
+    let host : Host = c.take_rows.new.self in
     let left : Host = c.stop_blocked.new.self in
-    let x : ℕ = took_host.time in
-    let k : ℕ = took_host.taken in
+    let x : ℕ = host.time in
+    let k : ℕ = host.taken in
     let to : ℕ = c.next_row-next.result in
     let cores : ℕ = length sys.cores in
     let time : left.time ≡ x = c.stop_blocked.ensures.time in
@@ -167,31 +199,32 @@ loop-host-preserved g c =
     ) in
     -- each core has run
     let has_run : (d : ℕ) → d < cores
-    → HasRun sys budgets rows d (run_at runs d) x to k c.run_on.new.self []
+    → HasRun sys budgets rows d (run_at runs d) x to k (core_at c.run_on.new.self.cores.items d) []
     (list_at c.run_on.new.switches.lists.items d)
     = λ d l.
-    subst (λ (y : ℕ). HasRun sys budgets rows d (run_at runs d) y to k c.run_on.new.self []
+    let core : HostCore = core_at host.cores.items d in
+    let in_it : d < length host.cores.items = omega (arith, l, visit.one_each) in
+    let left_core : core_at left.cores.items d ≡ core_left core = c.in_ok-stop_blocked.ensures.left d in_it in
+    subst (λ (y : ℕ). HasRun sys budgets rows d (run_at runs d) y to k (core_at c.run_on.new.self.cores.items d) []
     (list_at c.run_on.new.switches.lists.items d)) time
-    (c.in_ok-run_on.ensures.run rows c.args.slots k d (run_at runs d) l (record {
+    (c.in_ok-run_on.ensures.run sys budgets rows c.args.slots k d (run_at runs d) c.requires.plan
+    (omega (arith, in_it, c.stop_blocked.ensures.one_each)) (record {
       is_run = is.cores d l;
       fits = c.next_row-next.ensures.in_slots;
       taken = subst (λ (y : ℕ). AreBefore rows k (suc y)) (sym time) visit.taken;
       rows_later = rows_later;
       are =
-          λ v lv child. subst
-          (λ (xs : List Account). IsAccount sys budgets rows (run_at runs d) v left.time k (account_at xs v))
-          (sym c.stop_blocked.ensures.accounts)
-          (subst (λ (y : ℕ). IsAccount sys budgets rows (run_at runs d) v y k (account_at took_host.vcpus.accounts v))
-          (sym time)
-          (subst (λ (e : ℕ). IsAccount sys budgets rows (run_at runs e) v x k (account_at took_host.vcpus.accounts v))
-          (ap core_of (child_parent sys d v child)) (visit.are.each v lv)));
+          subst (λ (y : ℕ). AreOn sys budgets rows d (run_at runs d) y k (core_at left.cores.items d).vcpus) (sym time)
+          (subst (AreOn sys budgets rows d (run_at runs d) x k)
+          (sym (ap (λ (z : HostCore). z.vcpus) left_core ∙ left_vcpus core)) (visit.cores d l).are);
       holder_is =
-          c.in_ok-stop_blocked.ensures.left d l
-          ∙ (left_is sys budgets rows runs took_host visit.taken visit.are visit.room visit.holders_are d l
+          ap holder_of left_core
+          ∙ (left_is sys budgets rows d (run_at runs d) x k visit.taken core (visit.cores d l)
+          (visit.ready d in_it).holder
           ∙ ap (holder_left rows (run_at runs d)) (sym time));
     })) in
     let has_taken = g.T.EventTaker.has_taken in
-    let stops : List Event = gathered (stop_of took_host) cores in
+    let stops : List Event = gathered (stop_of host) (length host.cores.items) in
     let of_rows : List Event = gathered (row_event_at sys rows x) (length rows) in
     let f : ℕ → ℕ → Option Event = switch_at rows runs in
     let switches : List Event = told_by f x cores (to - x) in
@@ -200,14 +233,17 @@ loop-host-preserved g c =
     (λ i l. omega (arith, took.time, c.loop-host.invariant.stands.before.past i l))
     (λ i a b. took.now i a (omega (arith, b, taken)) ∙ sym took.time)
     (λ i a b. omega (arith, visit.taken.to_come i (omega (arith, a, taken)) b)) in
-    let each_told : length c.run_on.new.switches.lists.items ≡ cores = c.in_ok-run_on.ensures.one_each in
+    let each_told : length c.run_on.new.switches.lists.items ≡ cores
+    = c.in_ok-run_on.ensures.lists ∙ c.loop-host.invariant.one_each in
     let switches_told : Took has_taken c.print_rows.new.events c.tell.new.events switches =
     subst (λ (m : ℕ). Took has_taken c.print_rows.new.events c.tell.new.events (told_by f x m (to - x))) each_told
     (c.in_ok-tell.ensures.told f x (to - x) (at_slots rows runs)
     (λ d l. (has_run d (omega (arith, l, each_told))).told_is)) in
     let at_first : stops ++ of_rows ≡ gathered (stop_at rows runs x) cores ++ of_rows
     = ap (λ (es : List Event). es ++ of_rows)
-    (stops_are sys budgets rows runs took_host visit.taken visit.are visit.room visit.holders_are) in
+    (ap (gathered (stop_of host)) visit.one_each
+    ∙ gathered-same (stop_of host) (stop_at rows runs x) cores
+    (λ d l. ap (λ (q : Bool). cond q (Some (on_at d x Stop)) None) (gives_up_at g at.After-take_rows d l))) in
     let some : x + suc (to - x - 1) ≡ to = omega (arith, later) in
     let some' : suc (to - x - 1) ≡ to - x = omega (arith, later) in
     let printed_to : printed_below sys rows runs to
@@ -227,13 +263,10 @@ loop-host-preserved g c =
     told_first switches_told in
     record {
       stands =
-          standing_next sys c.new.ensures.system budgets rows c.requires.workload runs x k took_host.vcpus.accounts
-          visit.are
-          visit.taken to later rows_later c.run_on.new.self
-          c.in_ok-run_on.ensures.time (c.in_ok-run_on.ensures.taken ∙ taken) c.in_ok-run_on.ensures.ready.room
-          (λ d l. (has_run d l).are) (λ d l. (has_run d l).holder_is)
-          (λ v l none. c.in_ok-run_on.ensures.others v l none
-          ∙ ap (λ (xs : List Account). account_at xs v) c.stop_blocked.ensures.accounts);
+          standing_next sys budgets rows runs x k to visit.taken later rows_later c.run_on.new.self
+          c.in_ok-run_on.ensures.time (c.in_ok-run_on.ensures.taken ∙ taken)
+          (c.in_ok-run_on.ensures.one_each ∙ (c.stop_blocked.ensures.one_each ∙ visit.one_each))
+          (λ d l. (has_run d l).stands);
       told =
           subst (λ (y : ℕ). Took has_taken c.args.events.now c.tell.new.events (printed_below sys rows runs y))
           (sym c.in_ok-run_on.ensures.time)
@@ -245,7 +278,6 @@ loop-host-preserved g c =
           (subst (λ (y : ℕ). Took has_taken c.args.events.now c.loop-host.events (printed_below sys rows runs y))
           (sym took.time) c.loop-host.invariant.told) told_all));
       ready = c.in_ok-run_on.ensures.ready;
-      ends = c.in_ok-run_on.ensures.ends;
       in_slots = omega (arith, c.in_ok-run_on.ensures.time, c.next_row-next.ensures.in_slots);
       one_each = c.in_ok-tell.ensures.one_each ∙ each_told;
       empty = c.in_ok-tell.ensures.empty;

@@ -1,5 +1,5 @@
 use Rattle.std.proofs.Common.{◌≡◌, ℕ, ◌<◌, length, get_or}
-use Rattle.rtds_queues.specs.Lists.{list_at}
+use Rattle.rtds_sim.specs.inner.Lists.{list_at}
 use Rattle.rtds_sim.specs.inner.Soonest.{next_moment}
 use Rattle.rtds_sim.proofs.switches.first_moments.Given as goal
 

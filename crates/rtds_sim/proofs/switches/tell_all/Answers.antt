@@ -2,7 +2,7 @@ use Rattle.std.proofs.Common.{◌≡◌, ℕ, ◌+◌, ◌<◌, List, Some, leng
 use Rattle.std.specs.Prelude.{slice_get}
 use Rattle.std.proofs.lemmas.List.{length-set, get_or-set_same, get_or-set_other}
 use Rattle.trace_file.specs.declared.event.Event.{Event}
-use Rattle.rtds_queues.specs.Lists.{list_at}
+use Rattle.rtds_sim.specs.inner.Lists.{list_at}
 use Rattle.rtds_sim.specs.inner.Soonest.{next_moment, IsSoonest}
 use Rattle.rtds_sim.proofs.Merging.{AreMoments, told_none, told_one, told_all}
 use Rattle.rtds_sim.proofs.Lists.{has_event, moments_more, left_less}

@@ -1,68 +1,34 @@
-use Rattle.std.proofs.Common.{◌≡◌, arith, subst}
+use Rattle.std.proofs.Common.{arith, subst}
 use Rattle.rtds_queues.specs.Vcpus.{IsFirstEnd}
-use Rattle.rtds_queues.proofs.Beginning.{begins_first, begins_on, some, ended, fewer, ends_past}
+use Rattle.rtds_queues.proofs.Beginning.{begins_first, begins_on, fewer, ends_past}
 use Rattle.rtds_queues.proofs.vcpus.Vcpus.begin_periods.Goals as goal
-use Rattle.rtds_queues.proofs.vcpus.Vcpus.begin_periods.Goals.{After-first_end}
-
--- where the loop goes on, a period ends at the slot
-first : (c : After-first_end) → c.first_end.result ≡ c.args.at
-    → IsFirstEnd c.args.sys.now c.loop-self.self.accounts c.args.core c.args.at
-first c is = subst (IsFirstEnd c.args.sys.now c.loop-self.self.accounts c.args.core) is c.first_end.ensures
 
 pub loop-self-init : goal.loop-self-init
-loop-self-init c = record {
-  are = c.requires.are;
-  begins =
-      begins_first c.args.sys.now c.args.plan.now c.args.core c.args.at c.args.self.now.accounts c.requires.ends;
-}
+loop-self-init c = begins_first c.args.at c.args.self.now c.requires.periods c.requires.ends
 
-pub begin_first-requires-clause-some : goal.begin_first-requires-clause-some
-begin_first-requires-clause-some c =
-    some c.args.sys.now c.args.plan.now c.args.core c.args.at c.requires.in_limit c.loop-self.self
-    c.loop-self.invariant.are c.requires.is_core
-    (first (goal.at.begin_first-requires-clause-some c).After-first_end c.loop-self-test.true)
-
-pub begin_first-requires-clause-in_limit : goal.begin_first-requires-clause-in_limit
-begin_first-requires-clause-in_limit c =
-    omega (
-      arith,
-      c.requires.in_limit,
-      ended c.args.sys.now c.args.plan.now c.args.core c.args.at c.requires.in_limit c.loop-self.self
-          c.loop-self.invariant.are c.requires.is_core
-          (first (goal.at.begin_first-requires-clause-in_limit c).After-first_end c.loop-self-test.true),
-    )
+pub begin_first-requires-clause-first : goal.begin_first-requires-clause-first
+begin_first-requires-clause-first c =
+    subst (IsFirstEnd c.loop-self.self) c.loop-self-test.true c.first_end.ensures
 
 pub loop-self-smaller : goal.loop-self-smaller
 loop-self-smaller c =
-    fewer c.args.sys.now c.args.plan.now c.args.core c.args.at c.requires.in_limit c.loop-self.self
-    c.loop-self.invariant.are c.requires.is_core
-    (first (goal.at.loop-self-smaller c).After-first_end c.loop-self-test.true)
-    c.requires.plan c.begin_first.new.self.accounts c.begin_first.ensures.accounts
+    fewer c.args.at c.loop-self.self c.begin_first.new.self c.begin_first.ensures c.loop-self.invariant.periods
 
 pub loop-self-preserved : goal.loop-self-preserved
-loop-self-preserved c = record {
-  are = c.begin_first.ensures.are;
-  begins =
-      begins_on c.args.sys.now c.args.plan.now c.args.core c.args.at c.requires.in_limit c.loop-self.self
-      c.loop-self.invariant.are c.requires.is_core
-      (first (goal.at.loop-self-preserved c).After-first_end c.loop-self-test.true)
-      c.requires.plan c.begin_first.new.self.accounts c.begin_first.ensures.accounts c.args.self.now.accounts
-      c.loop-self.invariant.begins;
-}
+loop-self-preserved c =
+    begins_on c.args.at c.loop-self.self c.begin_first.new.self c.begin_first.ensures c.loop-self.invariant.periods
+    c.args.self.now c.loop-self.invariant
 
 pub returns-clause-ends : goal.returns-clause-ends
 returns-clause-ends c =
-    ends_past c.args.sys.now c.args.core c.args.at c.first_end.result c.loop-self.self.accounts c.requires.in_limit
-    c.first_end.ensures c.loop-self.invariant.begins.later c.loop-self-test.false
+    ends_past c.args.at c.first_end.result c.loop-self.self c.requires.in_limit c.first_end.ensures
+    c.loop-self.invariant.later c.loop-self-test.false
 
-pub returns-clause-own : goal.returns-clause-own
-returns-clause-own c v l its =
-    c.loop-self.invariant.begins.done v l its (λ e. omega (
+pub returns-clause-begun : goal.returns-clause-begun
+returns-clause-begun c v l =
+    c.loop-self.invariant.done v l (λ e. omega (
       arith,
       e,
-      ends_past c.args.sys.now c.args.core c.args.at c.first_end.result c.loop-self.self.accounts c.requires.in_limit
-          c.first_end.ensures c.loop-self.invariant.begins.later c.loop-self-test.false v l its,
+      ends_past c.args.at c.first_end.result c.loop-self.self c.requires.in_limit c.first_end.ensures
+          c.loop-self.invariant.later c.loop-self-test.false v (omega (arith, l, c.loop-self.invariant.one_each)),
     ))
-
-pub returns-clause-others : goal.returns-clause-others
-returns-clause-others c = c.loop-self.invariant.begins.others

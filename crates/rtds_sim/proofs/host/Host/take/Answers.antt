@@ -1,64 +1,69 @@
-use Rattle.std.proofs.Common.{◌+◌, ◌<◌, ℕ, List, length, set, refl, sym, ap, arith, subst, ◌∙◌, inl, inr}
-use Rattle.std.proofs.lemmas.Bool.{cases_eq}
-use Rattle.tree_model.specs.System.{part_at}
-use Rattle.tree_model.specs.Tree.{budget_at}
-use Rattle.rtds_queues.specs.declared.account.Account.{Account}
-use Rattle.rtds_queues.specs.Accounts.{account_at, end_at}
-use Rattle.rtds_sim.specs.inner.Accounts.{row_taken, IsSound}
-use Rattle.rtds_queues.proofs.Setting.{account_here, account_there}
-use Rattle.rtds_sim.proofs.Ready.{later_taken, sound_taken, ready_set}
+use Rattle.std.proofs.Common.{◌≡◌, ◌<◌, ℕ, List, length, set, refl, sym, ap, arith, subst, ◌∙◌}
+use Rattle.std.proofs.lemmas.List.{length-set}
+use Rattle.rtds_sim.specs.declared.host_core.HostCore.{HostCore}
+use Rattle.rtds_sim.specs.inner.Accounts.{core_at, part_of, holder_of, TakesRow, IsReady}
+use Rattle.rtds_sim.proofs.Cores.{core_read, core_here, core_there, each_core}
+use Rattle.rtds_sim.proofs.Members.{part_of_same}
+use Rattle.rtds_sim.proofs.TakenRows.{takes_numbers}
 use Rattle.rtds_sim.proofs.host.Host.take.Goals as goal
+use Rattle.rtds_sim.proofs.host.Host.take.Goals.{After-index_mut, After-take}
+
+room : (c : After-index_mut) → c.core_of-core.result < length c.args.self.now.cores.items
+room c = omega (arith, c.core_of-core.ensures.within, c.requires.one_each)
+
+read : (c : After-index_mut) → c.index_mut.result.now ≡ core_at c.args.self.now.cores.items c.core_of-core.result
+read c =
+    core_read c.args.self.now.cores.items c.core_of-core.result c.index_mut.result.now (room c)
+    c.index_mut.ensures.value
+
+-- the core of the row is ready
+ready : (c : After-index_mut) → IsReady c.args.row.at c.index_mut.result.now
+ready c =
+    subst (IsReady c.args.row.at) (sym (read c))
+    (subst (λ (x : ℕ). IsReady x (core_at c.args.self.now.cores.items c.core_of-core.result)) (sym c.requires.now)
+    (c.requires.ready c.core_of-core.result (room c)))
+
+pub take-requires-clause-ready : goal.take-requires-clause-ready
+take-requires-clause-ready c = ready (goal.at.take-requires-clause-ready c).After-index_mut
 
 pub returns-clause-ready : goal.returns-clause-ready
-returns-clause-ready c =
-    let v : ℕ = c.args.row.vcpu in
-    let old = c.args.self.now in
-    ready_set c.args.sys.now old (record old { taken = old.taken + 1; vcpus = c.set.new.self }) v
-    c.account_after-account.result c.requires.is_part c.requires.ready refl refl c.set.ensures.are
-    (subst (IsSound old.time) (sym c.account_after-account.ensures)
-    (sound_taken old.time (c.args.row.at + (part_at c.args.sys.now v).period)
-    (budget_at c.args.plan.now v) (account_at old.vcpus.accounts v)
-    (c.requires.ready.sound v c.requires.is_part) (c.requires.plan.some_budget v c.requires.is_part)
-    c.args.row.what))
-    c.set.ensures.accounts
+returns-clause-ready c d l =
+    let items : List HostCore = c.args.self.now.cores.items in
+    let at = (goal.at.returns-clause-ready c).After-index_mut in
+    each_core (λ e z. IsReady c.args.self.now.time z) items c.core_of-core.result c.take.new.self (room at)
+    (subst (λ (x : ℕ). IsReady x c.take.new.self) c.requires.now c.take.ensures.ready) d
+    (λ ne. c.requires.ready d (omega (arith, l, length-set items c.core_of-core.result c.take.new.self)))
 
-pub returns-clause-accounts : goal.returns-clause-accounts
-returns-clause-accounts c =
-    c.set.ensures.accounts ∙ ap (set c.args.self.now.vcpus.accounts c.args.row.vcpu) c.account_after-account.ensures
+pub returns-clause-takes : goal.returns-clause-takes
+returns-clause-takes c =
+    let items : List HostCore = c.args.self.now.cores.items in
+    let at = (goal.at.returns-clause-takes c).After-index_mut in
+    subst (λ (z : ℕ). TakesRow c.args.row (core_at items z).vcpus
+    (core_at (set items c.core_of-core.result c.take.new.self) z).vcpus) c.core_of-core.ensures.is
+    (subst (λ (z : HostCore). TakesRow c.args.row (core_at items c.core_of-core.result).vcpus z.vcpus)
+    (sym (core_here items c.core_of-core.result c.take.new.self (room at)))
+    (subst (λ (z : HostCore). TakesRow c.args.row z.vcpus c.take.new.self.vcpus) (read at) c.take.ensures.takes))
 
-pub returns-clause-ends : goal.returns-clause-ends
-returns-clause-ends c core l u lu child =
-    let v : ℕ = c.args.row.vcpu in
-    let old : List Account = c.args.self.now.vcpus.accounts in
-    let before : c.args.self.now.time < end_at old u = omega (arith, c.requires.ends core l u lu child) in
-    elim (cases_eq u v) [
-      | inl e ↦
-          let room : v < length old
-          = omega (arith, c.requires.is_part, c.requires.ready.room.all_vcpus, c.requires.ready.room.few_parts) in
-          let new : c.args.self.now.time
-          < (row_taken c.args.row.what (c.args.row.at + (part_at c.args.sys.now v).period) (budget_at c.args.plan.now v)
-          (account_at old v)).until
-          = later_taken c.args.self.now.time (c.args.row.at + (part_at c.args.sys.now v).period)
-          (budget_at c.args.plan.now v) (account_at old v)
-          (omega (
-            arith,
-            c.requires.now,
-            c.requires.plan.some_budget v c.requires.is_part,
-            c.requires.plan.in_period v c.requires.is_part,
-          ))
-          (omega (arith, before, ap (end_at old) e)) c.args.row.what in
-          omega (
-            arith,
-            new,
-            ap (λ (a : Account). a.until) (ap (account_at c.set.new.self.accounts) e
-                ∙ (ap (λ (xs : List Account). account_at xs v) c.set.ensures.accounts
-                ∙ (account_here old v c.account_after-account.result room ∙ c.account_after-account.ensures))),
-          )
-      | inr ne ↦
-          omega (
-            arith,
-            before,
-            ap (λ (a : Account). a.until) (ap (λ (xs : List Account). account_at xs u) c.set.ensures.accounts
-                ∙ account_there old v u c.account_after-account.result ne),
-          )
-    ]
+pub returns-clause-others : goal.returns-clause-others
+returns-clause-others c d ne =
+    core_there c.args.self.now.cores.items c.core_of-core.result d c.take.new.self
+    (λ e. ne (e ∙ c.core_of-core.ensures.is))
+
+-- its VCPU has it still
+held : (c : After-take)
+    → holder_of c.take.new.self ≡ holder_of (core_at c.args.self.now.cores.items c.core_of-core.result)
+held c =
+    let own : HostCore = c.index_mut.result.now in
+    let new : HostCore = c.take.new.self in
+    let at = (goal.at.After-take c).After-index_mut in
+    ap (part_of new.vcpus) c.take.ensures.holder
+    ∙ (part_of_same own.vcpus new.vcpus own.holder
+    (λ v e. (takes_numbers c.args.row own.vcpus new.vcpus c.take.ensures.takes v ((ready at).holder v e)).part)
+    ∙ ap holder_of (read at))
+
+pub returns-clause-held : goal.returns-clause-held
+returns-clause-held c d l =
+    let items : List HostCore = c.args.self.now.cores.items in
+    let at = goal.at.returns-clause-held c in
+    each_core (λ e z. holder_of z ≡ holder_of (core_at items e)) items c.core_of-core.result c.take.new.self
+    (room at.After-index_mut) (held at.After-take) d (λ ne. refl)

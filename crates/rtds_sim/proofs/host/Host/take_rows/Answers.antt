@@ -1,52 +1,61 @@
-use Rattle.std.proofs.Common.{◌≡◌, ℕ, ◌+◌, set, sym, ◌∙◌, ap, arith, subst, inl, inr}
+use Rattle.std.proofs.Common.{◌≡◌, ℕ, suc, sym, ◌∙◌, ap, arith, subst, inl, inr}
 use Rattle.std.proofs.lemmas.Bool.{cases_eq}
 use Rattle.tree_model.specs.System.{part_at}
-use Rattle.tree_model.specs.Tree.{budget_at}
+use Rattle.tree_model.specs.Tree.{run_at}
 use Rattle.release_file.specs.declared.workload.Wake.{Wake}
 use Rattle.release_file.specs.Workload.{row_at}
-use Rattle.rtds_queues.specs.Accounts.{account_at}
-use Rattle.rtds_sim.specs.inner.Accounts.{row_taken, AreAccounts}
-use Rattle.rtds_sim.proofs.Taking.{own_taken, accounts_more}
+use Rattle.rtds_sim.specs.Printed.{core_of}
+use Rattle.rtds_sim.specs.declared.host_core.HostCore.{HostCore}
+use Rattle.rtds_sim.specs.inner.Accounts.{core_at, TakesRow, AreOn}
+use Rattle.rtds_sim.proofs.TakenRows.{takes_elsewhere}
+use Rattle.rtds_sim.proofs.Taking.{on_taken}
 use Rattle.rtds_sim.proofs.host.Host.take_rows.Goals as goal
 
 pub loop-self-preserved : goal.loop-self-preserved
 loop-self-preserved c =
-    let rows = c.args.rows.now in
-    let k = c.loop-self.self.taken in
-    let old = c.loop-self.self.vcpus.accounts in
-    let at : (row_at rows k).at ≡ c.args.self.now.time
-    = ap (λ (r : Wake). r.at) (sym c.row_at.ensures) ∙ (c.if-row_at-self.true ∙ c.loop-self.invariant.time) in
+    let so_far = c.loop-self.invariant in
     let sys = c.args.sys.now in
-    let budgets = c.args.plan.now in
-    let new : c.take.new.self.vcpus.accounts ≡ set old (row_at rows k).vcpu (own_taken sys budgets rows old k)
-    = c.take.ensures.accounts
-    ∙ ap (λ (r : Wake). set old r.vcpu (row_taken r.what (r.at + (part_at sys r.vcpu).period) (budget_at budgets r.vcpu)
-    (account_at old r.vcpu))) c.row_at-in-loop-self.ensures in
+    let rows = c.args.rows.now in
+    let k : ℕ = c.loop-self.self.taken in
+    let row : Wake = row_at rows k in
+    let old = c.loop-self.self.cores.items in
+    let new = c.take.new.self.cores.items in
+    let took = c.take.ensures in
+    let is_row : c.row_at-in-loop-self.result ≡ row = c.row_at-in-loop-self.ensures in
+    let at : row.at ≡ c.args.self.now.time
+    = ap (λ (r : Wake). r.at) (sym c.row_at.ensures) ∙ (c.if-row_at-self.true ∙ so_far.time) in
+    let home : ℕ = core_of (part_at sys row.vcpu).parent in
+    let takes : TakesRow row (core_at old home).vcpus (core_at new home).vcpus
+    = subst (λ (r : Wake). TakesRow r (core_at old (core_of (part_at sys r.vcpu).parent)).vcpus
+    (core_at new (core_of (part_at sys r.vcpu).parent)).vcpus) is_row took.takes in
     record {
-      ready = c.take.ensures.ready;
-      ends = c.take.ensures.ends;
-      in_rows = omega (arith, c.take.ensures.taken, c.loop-self-test.true);
-      later = omega (arith, c.take.ensures.taken, c.loop-self.invariant.later);
+      one_each = took.one_each ∙ so_far.one_each;
+      ready = took.ready;
+      in_rows = omega (arith, took.taken, c.loop-self-test.true);
+      later = omega (arith, took.taken, so_far.later);
       now =
           λ i a b. elim (cases_eq i k) [
             | inl e ↦
                 ap (λ (z : ℕ). (row_at rows z).at) e ∙ at
             | inr ne ↦
-                c.loop-self.invariant.now i a (omega (arith, c.take.ensures.taken))
+                so_far.now i a (omega (arith, took.taken))
           ];
-      accounts =
-          λ runs w a. subst
-          (λ (n : ℕ). AreAccounts sys budgets rows runs c.args.self.now.time n c.take.new.self.vcpus.accounts)
-          (sym c.take.ensures.taken)
-          (subst (AreAccounts sys budgets rows runs c.args.self.now.time (k + 1)) (sym new)
-          (accounts_more sys budgets rows w runs c.args.self.now.time k old c.requires.plan c.loop-self-test.true at
-          (omega (
-            arith,
-            c.requires.known k c.loop-self-test.true,
-            c.loop-self.invariant.ready.room.all_vcpus,
-            c.loop-self.invariant.ready.room.few_parts,
-          ))
-          (c.loop-self.invariant.accounts runs w a)));
-      time = c.take.ensures.time ∙ c.loop-self.invariant.time;
-      holders = c.take.ensures.holders ∙ c.loop-self.invariant.holders;
+      vcpus = λ budgets runs d plan w l a.
+          let before : AreOn sys budgets rows d (run_at runs d) c.args.self.now.time k (core_at old d).vcpus
+          = so_far.vcpus budgets runs d plan w l a in
+          subst (λ (n : ℕ). AreOn sys budgets rows d (run_at runs d) c.args.self.now.time n (core_at new d).vcpus)
+          (let e : suc k ≡ c.take.new.self.taken = omega (arith, took.taken) in e)
+          (on_taken sys budgets rows w d (run_at runs d) c.args.self.now.time k (core_at old d).vcpus
+          (core_at new d).vcpus plan c.loop-self-test.true at
+          (elim (cases_eq d home) [
+            | inl e ↦
+                subst (λ (z : ℕ). TakesRow row (core_at old z).vcpus (core_at new z).vcpus) (sym e) takes
+            | inr ne ↦
+                subst (λ (z : HostCore). TakesRow row (core_at old d).vcpus z.vcpus)
+                (sym (took.others d (λ e. ne (e
+                ∙ ap (λ (r : Wake). core_of (part_at sys r.vcpu).parent) is_row))))
+                (takes_elsewhere sys budgets d row (core_at old d).vcpus before.of ne)
+          ]) before);
+      held = λ d l. took.held d (omega (arith, l, so_far.one_each)) ∙ so_far.held d l;
+      time = took.time ∙ so_far.time;
     }

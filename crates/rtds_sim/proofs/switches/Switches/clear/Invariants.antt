@@ -1,5 +1,5 @@
 use Rattle.std.proofs.Common.{◌≡◌, ℕ, ◌<◌, [], length}
-use Rattle.rtds_queues.specs.Lists.{list_at}
+use Rattle.rtds_sim.specs.inner.Lists.{list_at}
 use Rattle.rtds_sim.proofs.switches.Switches.clear.Given as goal
 
 -- the lists so far are empty
