@@ -60,14 +60,10 @@ impl<'s> Audit<'s> {
         let plan = Plan {
             budgets: Vec::from_slice(alloc, plan.budgets())?,
         };
-        let watcher = Watcher {
-            plan,
-            watches: Watches::new(sys),
-        };
-        Ok(Audit {
-            sys,
-            feed: TraceFeed::new(alloc, sys, watcher)?,
-        })
+        let watches = Watches::new(sys);
+        let watcher = Watcher { plan, watches };
+        let feed = TraceFeed::new(alloc, sys, watcher)?;
+        Ok(Audit { sys, feed })
     }
 
     /// Takes the next bytes of the text.

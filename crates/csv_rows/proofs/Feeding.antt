@@ -14,6 +14,14 @@ some_bytes : (piece : List ℕ) → (length piece == 0) ≡ false → 0 < length
 some_bytes [] none = absurd (false≢true (sym none))
 some_bytes (b ∷ piece) none = omega arith
 
+-- one record more
+pub took_on : {T : Type 0} (has_taken : T → T → List (List (List ℕ)) → Type 0) (first old new : T)
+    (read : List (List (List ℕ))) (row : List (List ℕ)) → Took has_taken first old read
+    → Took has_taken old new (row ∷ []) → Took has_taken first new (read ++ row ∷ [])
+took_on has_taken first old new read row took more start records h =
+    subst (λ (z : List (List (List ℕ))). has_taken start new z) (append_assoc records read (row ∷ []))
+    (more start (records ++ read) (took start records h))
+
 module _ {T : Type 0} (has_taken : T → T → List (List (List ℕ)) → Type 0) (start : T) (text : List ℕ) where
   -- bytes behind the text
   pub more_bytes : (taker : T) (left piece : List ℕ) → TakesFirst has_taken start text taker left

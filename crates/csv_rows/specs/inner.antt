@@ -1,3 +1,4 @@
 -- What only private functions promise each other.
 pub mod Stops
 pub mod Near
+pub mod Digits

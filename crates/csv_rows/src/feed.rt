@@ -1,9 +1,11 @@
-ghost use Rattle.std.specs.Prelude.{ℕ, List, OnOk};
+ghost use Rattle.std.specs.Prelude.{◌∷◌, [], ℕ, List, OnOk};
 ghost use Rattle.csv.specs.Reading.{default_config, records};
 ghost use Rattle.csv_rows.specs.PlainText.{IsPlainText};
 ghost use Rattle.csv_rows.specs.Reading.{records_of};
+ghost use Rattle.csv_rows.specs.Row.{texts_of};
 ghost use Rattle.csv_rows.specs.Taker.{Took};
 
+use crate::near::near_four;
 use crate::plain_text::{MARK, has_no_quote, split_record};
 use crate::{RecordTaker, Records, Row};
 use memchr::{memchr, memrchr};
@@ -59,11 +61,30 @@ fn take_plain<T: RecordTaker>(alloc: Global, text: &[u8], taker: &mut T) -> Resu
 {
     let mut fields = Vec::new(alloc);
     let mut left = text;
-    while let Some(rest) = split_record(left, &mut fields)? {
-        taker.take(&Row::Split(&fields))?;
-        left = rest;
+    loop {
+        if let Some(line) = near_four(left) {
+            taker.take(&Row::Split(&line.fields))?;
+            left = line.rest;
+            continue;
+        }
+        match split_record(left, &mut fields)? {
+            Some(rest) => {
+                take_fields(&fields, taker)?;
+                left = rest;
+            }
+            None => return Ok(()),
+        }
     }
-    Ok(())
+}
+
+/// Takes a record of these fields.
+#[inline(never)]
+fn take_fields<T: RecordTaker>(fields: &[&[u8]], taker: &mut T) -> Result<(), AllocError>
+    requires { (start : T) × (read : List (List (List ℕ)))
+        × T.has_taken start taker.old read }
+    ensures { OnOk result (Took T.has_taken taker.old taker.new (texts_of fields.now ∷ [])) }
+{
+    taker.take(&Row::Split(fields))
 }
 
 impl<T: RecordTaker + Drop> RecordFeed<T> {

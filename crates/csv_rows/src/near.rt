@@ -5,10 +5,25 @@ ghost use Rattle.csv.specs.Reading.{default_config};
 ghost use Rattle.csv.specs.declared.parser.State.TheVariants as st;
 ghost use Rattle.csv_rows.specs.PlainText.{IsPlainText};
 ghost use Rattle.csv_rows.specs.Row.{texts_of};
-ghost use Rattle.csv_rows.specs.inner.Near.{IsNearLine, Marks};
+ghost use Rattle.csv_rows.specs.inner.Near.{AreMarked, IsNearLine, Marks};
 
 use std::alloc::AllocError;
 use std::simd::prelude::*;
+
+/// A line of four fields, and what is left behind it.
+#[derive(Clone, Copy)]
+pub struct FourFields<'b> {
+    pub fields: [&'b [u8]; 4],
+    pub rest: &'b [u8],
+}
+
+/// Three places, from the first one on.
+#[derive(Clone, Copy)]
+struct ThreePlaces {
+    first: usize,
+    second: usize,
+    third: usize,
+}
 
 /// How many bytes are looked at at once.
 const LANES: usize = 32;
@@ -73,6 +88,57 @@ pub fn near_line(text: &[u8]) -> Option<usize>
         return None;
     }
     Some(end)
+}
+
+/// The places that are marked, where these are three.
+#[inline(always)]
+fn three_places(marks: u64) -> Option<ThreePlaces>
+    ensures { IfSome result (AreMarked marks) }
+{
+    if marks == 0 {
+        return None;
+    }
+    let first = lowest(marks);
+    let others = without(marks, first);
+    if others == 0 {
+        return None;
+    }
+    let second = lowest(others);
+    let last = without(others, second);
+    if last == 0 {
+        return None;
+    }
+    let third = lowest(last);
+    if without(last, third) != 0 {
+        return None;
+    }
+    Some(ThreePlaces {
+        first,
+        second,
+        third,
+    })
+}
+
+/// The first line of a text, where it ends among the first bytes and has four fields.
+#[inline(always)]
+pub fn near_four(text: &[u8]) -> Option<FourFields<'_>>
+    ensures first { IsPlainText text.now → IfSome result (λ line.
+        next_record default_config st.StartRecord [] [] text.now
+        ≡ Some (texts_of line.fields, st.StartRecord, line.rest.now)) }
+    ensures plain { IsPlainText text.now → IfSome result (λ line. IsPlainText line.rest.now) }
+{
+    let end = near_line(text)?;
+    let in_line = before(places_of(text, b','), end);
+    let commas = three_places(in_line)?;
+    Some(FourFields {
+        fields: [
+            &text[..commas.first],
+            &text[commas.first + 1..commas.second],
+            &text[commas.second + 1..commas.third],
+            &text[commas.third + 1..end],
+        ],
+        rest: &text[end + 1..],
+    })
 }
 
 /// Splits such a line into its fields.

@@ -59,6 +59,7 @@ impl<'s, W: EventWatcher + Drop> TraceTaker<'s, W> {
     ghost use Rattle.trace_file.specs.declared.trace_taker.Stage.TheVariants.{Header as at_header, Rows as at_rows};
 
     /// Takes the header.
+    #[inline(always)]
     fn take_header(&mut self, row: &Row)
         requires { self.old.stage ≡ at_header }
         ensures { (sys : SystemView) (start : W) (records : List (List (List ℕ)))

@@ -1,6 +1,6 @@
 ghost use Rattle.std.specs.Prelude.{◌≡◌, ◌≤◌, if◌then◌else◌};
 ghost use Rattle.trace_file.specs.declared.event.TheConstants.{LAST_MOMENT};
-ghost use Rattle.vcpu_watch.specs.Watch.{is_short_breach, is_over_breach, lesser, greater};
+ghost use Rattle.vcpu_watch.specs.Watch.{lesser, greater};
 
 use crate::watch::Breach;
 
@@ -27,26 +27,6 @@ pub fn number_if(holds: bool, number: u64) -> u64
     ensures { result ≡ (if holds then number else 0) }
 {
     if holds { number } else { 0 }
-}
-
-fn is_short(breach: Option<Breach>) -> bool
-    ensures { result ≡ is_short_breach breach }
-{
-    match breach {
-        Some(Breach::Short) => true,
-        Some(Breach::Over) => false,
-        None => false,
-    }
-}
-
-fn is_over(breach: Option<Breach>) -> bool
-    ensures { result ≡ is_over_breach breach }
-{
-    match breach {
-        Some(Breach::Over) => true,
-        Some(Breach::Short) => false,
-        None => false,
-    }
 }
 
 /// The lesser of a time and of the least so far.
@@ -107,9 +87,12 @@ impl Tally {
         let most = Some(greater(self.most, got));
         self.begun += many;
         self.judged += number_if(judged, many);
-        self.short += number_if(is_short(breach), many);
-        self.over += number_if(is_over(breach), many);
         self.least = least;
         self.most = most;
+        match breach {
+            Some(Breach::Short) => self.short += many,
+            Some(Breach::Over) => self.over += many,
+            None => {}
+        }
     }
 }

@@ -1,6 +1,7 @@
 -- A line that ends among the first bytes of a text.
 use Rattle.std.specs.Prelude.{◌≡◌, ◌≢◌, ℕ, ◌<◌, ◌≤◌, List, length, slice_index}
 use Rattle.std.specs.Int.{bit_at}
+use Rattle.csv_rows.specs.declared.near.ThreePlaces.{ThreePlaces}
 
 -- of the first 32 bytes of a text, bit k is set where byte k is this one, and no other bit is
 pub record Marks (text : List ℕ) (byte marks : ℕ) : Type 0 where
@@ -14,3 +15,11 @@ pub record IsNearLine (text : List ℕ) (end : ℕ) : Type 0 where
   pub begun : 0 < end
   pub ends : slice_index text end ≡ 10
   pub line : (k : ℕ) → k < end → slice_index text k ≢ 10
+
+-- these three places are marked, and no other
+pub record AreMarked (marks : ℕ) (places : ThreePlaces) : Type 0 where
+  pub in_order : (places.first < places.second) × (places.second < places.third)
+  pub set : (bit_at marks places.first ≡ 1) × (bit_at marks places.second ≡ 1)
+      × (bit_at marks places.third ≡ 1)
+  pub others : (k : ℕ) → k < 64 → k ≢ places.first → k ≢ places.second → k ≢ places.third
+      → bit_at marks k ≡ 0

@@ -1,4 +1,4 @@
-use Rattle.std.proofs.Common.{arith}
+use Rattle.std.proofs.Common.{arith, length}
 use Rattle.csv_rows.proofs.Numbers.{few_digits}
 use Rattle.csv_rows.proofs.decimal.short_number.Goals as goal
 
@@ -6,16 +6,16 @@ pub overflow_mul-n : goal.overflow_mul-n
 overflow_mul-n c =
     omega (
       arith,
-      few_digits c.loop-digit.n c.loop-digit.digit-index _ c.loop-digit-test.true
-          (c.begins_short.ensures c.if-not-begins_short.false).0 c.loop-digit.invariant.few,
+      few_digits c.loop-i.n c.loop-i.i (length c.args.field.now) (omega arith)
+          (c.begins_short.ensures c.if-not-begins_short.false).0 (omega (arith, c.loop-i.invariant.few)),
     )
 
 pub overflow_add-n : goal.overflow_add-n
 overflow_add-n c =
     omega (
       arith,
-      few_digits c.loop-digit.n c.loop-digit.digit-index _ c.loop-digit-test.true
-          (c.begins_short.ensures c.if-not-begins_short.false).0 c.loop-digit.invariant.few,
+      few_digits c.loop-i.n c.loop-i.i (length c.args.field.now) (omega arith)
+          (c.begins_short.ensures c.if-not-begins_short.false).0 (omega (arith, c.loop-i.invariant.few)),
       c.from.ensures,
-      c.type_inv.field c.loop-digit.digit-index,
+      c.type_inv.field c.loop-i.i,
     )

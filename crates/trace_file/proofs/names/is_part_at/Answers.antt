@@ -2,6 +2,7 @@ use Rattle.std.proofs.Common.{◌≡◌, ◌∙◌, [], get_or, sym, ap}
 use Rattle.std.proofs.lemmas.List.{get_or-map}
 use Rattle.tree_model.specs.View.{PartView}
 use Rattle.tree_model.specs.System.{part_names}
+use Rattle.trace_file.proofs.Words.{is_text}
 use Rattle.trace_file.proofs.names.is_part_at.Goals as goal
 
 pub returns-then-place-parts : goal.returns-then-place-parts
@@ -15,5 +16,5 @@ returns-then-place-parts c h =
     ∙ sym (get_or-map (λ (z : PartView). z.name) parts c.args.place c.index-parts-place.result []
     c.if-place-parts.true)))) in (
       c.if-place-parts.true,
-      sym name ∙ c.is_same.ensures h,
+      sym name ∙ is_text _ _ (sym c.is_same.ensures ∙ h),
     )

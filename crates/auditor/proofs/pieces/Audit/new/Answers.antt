@@ -2,21 +2,21 @@ use Rattle.std.proofs.Common.{◌∙◌, List, ℕ, refl, subst, sym}
 use Rattle.tree_model.specs.Plans.{IsPlan}
 use Rattle.auditor.proofs.pieces.Audit.new.Goals as goal
 
-pub new-requires-2 : goal.new-requires-2
-new-requires-2 c = record {
+pub new-requires : goal.new-requires
+new-requires c = record {
   same = refl;
-  system = c.new.ensures.system;
+  system = c.new-watches.ensures.system;
   plan =
       subst (λ (b : List ℕ). IsPlan c.args.sys.now b) (sym (c.in_ok-from_slice.ensures.items ∙ c.budgets.ensures))
       c.requires;
-  behind = λ more keep. c.new.ensures.watched c.in_ok-from_slice.field-0.items more;
+  behind = λ more keep. c.new-watches.ensures.watched c.in_ok-from_slice.field-0.items more;
 }
 
 pub returns : goal.returns
 returns c = record {
   sys_is = refl;
-  system = c.new.ensures.system;
-  start = record { plan = c.in_ok-from_slice.field-0.items; watches = c.new.result };
+  system = c.new-watches.ensures.system;
+  start = record { plan = c.in_ok-from_slice.field-0.items; watches = c.new-watches.result };
   plan_is = c.in_ok-from_slice.ensures.items ∙ c.budgets.ensures;
-  fed = c.in_ok-new.ensures;
+  fed = c.in_ok-feed.ensures;
 }
