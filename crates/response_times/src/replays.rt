@@ -8,7 +8,7 @@ ghost use Rattle.response_times.specs.Response.{IsGreatestResponse};
 use crate::greatest::response;
 use crate::in_spans::first_responses;
 use crate::jobs::response_jobs;
-use guest_sched::{guest_by, pattern_windows};
+use guest_sched::{Keep, ReleasedLevel, pattern_windows, spans_by};
 use slot_model::{Sched, Task};
 use std::alloc::{AllocError, Global};
 use supply_bound::Supply;
@@ -79,6 +79,13 @@ pub fn replay_tasks<S: Supply>(
     let start = s.start();
     let jobs = response_jobs(alloc, tasks, start, span)?;
     let windows = pattern_windows(alloc, s, start + span)?;
-    let spans = guest_by(alloc, sched, tasks, &jobs, &windows, start + span)?;
+    let level = ReleasedLevel {
+        keep: Keep::UntilDone,
+        tasks,
+        jobs: &jobs,
+        given: &windows,
+        slots: start + span,
+    };
+    let spans = spans_by(alloc, &level, sched)?;
     first_responses(alloc, &jobs, &spans, start + span, tasks.len())
 }
