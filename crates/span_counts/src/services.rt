@@ -1,12 +1,13 @@
 ghost use Rattle.std.specs.Prelude.{◌≡◌, ℕ, ◌-◌, ◌^◌, ◌<◌, ◌≤◌, min, List, [], Option, length, slice_index, IfOk};
 ghost use Rattle.slot_model.specs.Task.{sporadic_tasks, task_at, deadline_of};
 ghost use Rattle.slot_model.specs.Order.{before_of};
-ghost use Rattle.slot_model.specs.Miss.{AreInJitter, AreNamed, IsFirstMiss};
+ghost use Rattle.slot_model.specs.Miss.{AreInJitter, AreNamed, HoldsReleased, IsFirstMiss};
+ghost use Rattle.guest_sched.specs.Spans.{AreSpans, run_of};
 ghost use Rattle.guest_sched.specs.Levels.{FirstRunOf};
-ghost use Rattle.span_counts.specs.Counts.{AreDues, ServedTo};
+ghost use Rattle.span_counts.specs.Counts.{AreDues, AreServices, ServedTo};
 
 use crate::counts::{find_missed, slots_before};
-use guest_sched::{Follow, ReleasedLevel, Span, follow_by};
+use guest_sched::{Follow, ReleasedLevel, Span, follow_by, follow_spans};
 use slot_model::{Job, Miss, Sched, Task, deadline_moment};
 use std::alloc::{AllocError, Global};
 
@@ -66,6 +67,26 @@ fn due_moment(tasks: &[Task], job: &Job) -> u64
     ensures { result ≡ min (deadline_of (sporadic_tasks tasks.now) job.now) (2 ^ 64 - 1) }
 {
     u64::try_from(deadline_moment(tasks, job)).unwrap_or(u64::MAX)
+}
+
+/// The slots that each job gets before its deadline moment in a run of spans.
+pub(crate) fn services_in(
+    alloc: Global,
+    tasks: &[Task],
+    jobs: &[Job],
+    spans: &[Span],
+) -> Result<Vec<u64>, AllocError>
+    requires named { AreNamed (sporadic_tasks tasks.now) jobs.now }
+    requires in_jitter { AreInJitter (sporadic_tasks tasks.now) jobs.now }
+    requires released { HoldsReleased jobs.now (run_of spans.now) }
+    requires spans { AreSpans spans.now (length (run_of spans.now)) }
+    requires fits { length (run_of spans.now) < 2 ^ 64 }
+    ensures { let T = sporadic_tasks tasks.now in
+        IfOk result (λ got. AreServices T jobs.now (run_of spans.now) got.items) }
+{
+    let mut services = Services::new(alloc, tasks, jobs)?;
+    follow_spans(&mut services, spans)?;
+    Ok(services.got)
 }
 
 /// The first miss of the schedule of a level by a scheduler: the missed job with the earliest
