@@ -6,9 +6,9 @@ ghost use Rattle.response_times.specs.Replay.{IsReplayable, ShowsResponse, Shows
 ghost use Rattle.response_times.specs.Response.{IsGreatestResponse};
 
 use crate::greatest::response;
-use crate::in_spans::first_responses;
 use crate::jobs::response_jobs;
-use guest_sched::{Keep, ReleasedLevel, pattern_windows, spans_by};
+use crate::waited::first_responses;
+use guest_sched::{Keep, ReleasedLevel, pattern_windows};
 use slot_model::{Sched, Task};
 use std::alloc::{AllocError, Global};
 use supply_bound::Supply;
@@ -82,10 +82,9 @@ pub fn replay_tasks<S: Supply>(
     let level = ReleasedLevel {
         keep: Keep::UntilDone,
         tasks,
-        jobs: &jobs,
+        jobs: jobs.as_slice(),
         given: &windows,
         slots: start + span,
     };
-    let spans = spans_by(alloc, &level, sched)?;
-    first_responses(alloc, &jobs, &spans, start + span, tasks.len())
+    first_responses(alloc, &level, sched, tasks.len())
 }
