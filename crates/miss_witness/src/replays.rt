@@ -83,10 +83,12 @@ fn replay_leaf(
     let Some(short) = short else {
         unreachable!();
     };
+    let sched = part.sched();
+    let period = part.period();
     let tasks = own_tasks_in(part, room);
     let least = budgets[q as usize];
-    let witness = defeat_by(part.sched(), tasks, part.period(), least, short);
-    let miss = seen_miss(alloc, part.sched(), tasks, part.period(), &witness)?;
+    let witness = defeat_by(sched, tasks, period, least, short);
+    let miss = seen_miss(alloc, sched, tasks, period, &witness)?;
     Ok(Replay {
         part: q,
         witness,
@@ -126,7 +128,7 @@ fn seen_miss(
     let level = ReleasedLevel {
         keep: Keep::UntilDone,
         tasks,
-        jobs: &jobs,
+        jobs: jobs.as_slice(),
         given: &windows,
         slots,
     };

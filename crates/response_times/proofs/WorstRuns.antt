@@ -1,5 +1,5 @@
 -- The first run of the worst case, as the code makes it, and the responses that it shows.
-use Rattle.std.proofs.Common.{◌≡◌, ◌≢◌, ℕ, ◌+◌, ◌<◌, ◌≤◌, Bool, List, length, Option, Some, None, MatchOption, ◌∙◌, ap, arith, subst, sym, inl, inr}
+use Rattle.std.proofs.Common.{◌≡◌, ◌≢◌, ℕ, ◌+◌, ◌<◌, ◌≤◌, Bool, List, length, Option, Some, None, MatchOption, ◌∙◌, ap, arith, subst, inl, inr}
 use Rattle.std.proofs.lemmas.Bool.{cases_lt}
 use Rattle.slot_model.specs.declared.job.Job.{Job}
 use Rattle.slot_model.specs.declared.sched.Sched.{Sched}

@@ -11,8 +11,8 @@ use slot_model::{Job, Sched};
 use span_counts::{Wait, waits_by};
 use std::alloc::{AllocError, Global};
 
-/// The responses of the first `count` jobs in the schedule of a level by a scheduler, in slots. None
-/// of a job that does not get its work in the run.
+/// The responses of the first `count` jobs in the schedule of a level by a scheduler, in slots.
+/// None of a job that does not get its work in the run.
 pub fn first_responses(
     alloc: Global,
     level: &ReleasedLevel,

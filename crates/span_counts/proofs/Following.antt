@@ -152,14 +152,16 @@ waits_job jobs run from until slots i waits after e l h li s =
     (subst (λ (m : ℕ). AreWaitsTo jobs more slots m waits) e
     (waits_so_far jobs run (replicate (until - from) (Some i)) slots waits h)))
 
--- at the end of a run that was followed over these slots and works
-pub waits_end : (jobs held : List Job) (run : List (Option ℕ)) (slots told : ℕ) (waits : List Wait)
-    → (told ∷ map (λ (a : Job). a.work) held) ≡ (slots ∷ map (λ (a : Job). a.work) jobs) → length run ≡ slots
+-- at the end of a run that was followed: what is held of the slots and works is as it was
+pub waits_end : (jobs old held : List Job) (run : List (Option ℕ)) (slots before told : ℕ) (waits : List Wait)
+    → (old ≡ jobs) × (before ≡ slots)
+    → (told ∷ map (λ (a : Job). a.work) held) ≡ (before ∷ map (λ (a : Job). a.work) old) → length run ≡ slots
     → AreWaitsTo held run told (length run) waits → AreWaitsTo jobs run slots slots waits
-waits_end jobs held run slots told waits e long h =
+waits_end jobs old held run slots before told waits over e long h =
     let work = λ (a : Job). a.work in
-    let works : map work held ≡ map work jobs = ap (λ (xs : List ℕ). drop 1 xs) e in
-    let over : told ≡ slots = ap (λ (xs : List ℕ). get_or xs 0 0) e in
+    let works : map work held ≡ map work jobs
+    = ap (λ (xs : List ℕ). drop 1 xs) e ∙ ap (λ (js : List Job). map work js) over.0 in
+    let same_slots : told ≡ slots = ap (λ (xs : List ℕ). get_or xs 0 0) e ∙ over.1 in
     let count : length held ≡ length jobs
     = omega (arith, ap (λ (xs : List ℕ). length xs) works, length-map held work, length-map jobs work) in
     record {
@@ -169,6 +171,6 @@ waits_end jobs held run slots told waits e long h =
           = sym (get_or-map work held j default_job 0 (omega arith)) ∙ ap (λ (xs : List ℕ). get_or xs j 0) works
           ∙ get_or-map work jobs j default_job 0 l in
           subst (λ (m : ℕ). WaitsTo run j (job_at jobs j).work slots m (wait_at waits j)) long
-          (subst (λ (m : ℕ). WaitsTo run j (job_at jobs j).work m (length run) (wait_at waits j)) over
+          (subst (λ (m : ℕ). WaitsTo run j (job_at jobs j).work m (length run) (wait_at waits j)) same_slots
           (subst (λ (m : ℕ). WaitsTo run j m told (length run) (wait_at waits j)) same (h.each j (omega arith))));
     }

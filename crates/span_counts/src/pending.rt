@@ -84,11 +84,7 @@ impl<'a> Follow for Waits<'a> {
 
 /// What each job lacks of its work at the end of the schedule of a guest by a scheduler, and the
 /// moment from which it has all of it: the end of the run where it lacks some. No span is kept.
-pub fn waits_by(
-    alloc: Global,
-    level: &ReleasedLevel,
-    sched: Sched,
-) -> Result<Vec<Wait>, AllocError>
+pub fn waits_by(alloc: Global, level: &ReleasedLevel, sched: Sched) -> Result<Vec<Wait>, AllocError>
     ensures { let T = sporadic_tasks level.now.tasks.now in
         IfOk result (λ waits. (run : List (Option ℕ)) × FirstRunOf level.now (before_of sched T) run
         × AreWaitsTo level.now.jobs.now run level.now.slots level.now.slots waits.items) }

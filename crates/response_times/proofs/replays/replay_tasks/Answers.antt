@@ -1,8 +1,7 @@
-use Rattle.std.proofs.Common.{◌≡◌, List, Option, ℕ, length, arith, ap, ◌∙◌}
+use Rattle.std.proofs.Common.{List, length, arith, ap, ◌∙◌}
 use Rattle.std.proofs.lemmas.Result.{IfOk-weaker}
 use Rattle.slot_model.specs.declared.job.Job.{Job}
 use Rattle.slot_model.specs.Task.{sporadic_tasks}
-use Rattle.slot_model.specs.Order.{before_of}
 use Rattle.slot_model.proofs.Constrained.{are_constrained}
 use Rattle.release_pattern.proofs.FewTasks.{a_job_each}
 use Rattle.fp_request.proofs.Parts.{sporadic_tasks-length}

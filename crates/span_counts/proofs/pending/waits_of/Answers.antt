@@ -1,4 +1,4 @@
-use Rattle.std.proofs.Common.{ℕ, List, ◌∷◌, length, map, ap, sym, ◌∙◌, subst}
+use Rattle.std.proofs.Common.{ℕ, List, length, ap, sym, subst}
 use Rattle.slot_model.specs.declared.job.Job.{Job}
 use Rattle.guest_sched.specs.Spans.{run_of, AreSpans}
 use Rattle.span_counts.proofs.Following.{all_taken, waits_end}
@@ -13,10 +13,7 @@ follow_spans-requires-clause-takes c =
 pub returns : goal.returns
 returns c =
     let old = c.in_ok-waits.waits in
-    let over = c.in_ok-waits.ensures.over in
     let after = c.follow_spans.new.follower in
-    let numbers
-    = c.in_ok-follow_spans.ensures.same ∙ (ap (λ (z : ℕ). z ∷ map (λ (a : Job). a.work) old.jobs.now) over.1
-    ∙ ap (λ (js : List Job). c.args.slots ∷ map (λ (a : Job). a.work) js) over.0) in
-    waits_end c.args.jobs.now after.jobs.now (run_of c.args.spans.now) c.args.slots after.slots after.waits.items numbers
-    c.requires.long c.in_ok-follow_spans.ensures.followed
+    let followed = c.in_ok-follow_spans.ensures in
+    waits_end c.args.jobs.now old.jobs.now after.jobs.now (run_of c.args.spans.now) c.args.slots old.slots after.slots
+    after.waits.items c.in_ok-waits.ensures.over followed.same c.requires.long followed.followed
