@@ -4,13 +4,15 @@ use Rattle.std.proofs.lemmas.Bool.{cases_eq, cases_lt, cond-true, cond-false, bo
 use Rattle.std.proofs.lemmas.List.{get_or-map, length-map}
 use Rattle.std.proofs.lemmas.Option.{same_Some}
 use Rattle.slot_model.specs.declared.job.Job.{Job}
-use Rattle.slot_model.specs.Task.{SporadicTask, default_job, job_at}
+use Rattle.slot_model.specs.Task.{SporadicTask, sporadic_tasks, default_job, job_at}
 use Rattle.slot_model.specs.Run.{holds, service, Level, Pending, MayHold, Entry, FirstRunTo}
 use Rattle.slot_model.proofs.Sums.{sum_below-zero}
 use Rattle.slot_model.proofs.FirstRuns.{none_some}
 use Rattle.guest_sched.specs.declared.releases.Release.{Release}
 use Rattle.guest_sched.specs.declared.ready.Ready.{Ready}
+use Rattle.guest_sched.specs.declared.released.ReleasedLevel.{ReleasedLevel}
 use Rattle.guest_sched.specs.declared.spans.Span.{Span}
+use Rattle.guest_sched.specs.Levels.{level_of}
 use Rattle.guest_sched.specs.inner.Releases.{release_at, AreReleases}
 use Rattle.guest_sched.specs.inner.Keep.{AreEnds}
 use Rattle.guest_sched.specs.inner.Places.{StandsIn}
@@ -137,6 +139,12 @@ pub record Kept (level : Level) (before : Job → Job → Bool) (tasks : List Sp
   pub come : HaveCome state state.time
   pub lacks : IsLeft jobs run state.time state.left.items
   pub ends : AreEnds level tasks jobs state.ends.items
+
+-- the same of a level and an order
+abbrev pub KeptOf : ReleasedLevel → (Job → Job → Bool) → List (Option ℕ) → Ready → Type 0
+KeptOf level before run state =
+    Kept (level_of level.keep) before (sporadic_tasks level.tasks.now) level.jobs.now
+    (slots_of level.given.now level.slots) run state
 
 -- before the first slot
 pub kept_start : (level : Level) (before : Job → Job → Bool) (tasks : List SporadicTask) (jobs : List Job)

@@ -1,3 +1,4 @@
 pub mod Spans
+pub mod Levels
 pub mod MoreWindows
 pub mod inner

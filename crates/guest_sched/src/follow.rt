@@ -1,5 +1,5 @@
-ghost use Rattle.std.specs.Prelude.{◌≡◌, ℕ, ◌<◌, ◌++◌, List, Option, length, IfSome, OnOk};
-ghost use Rattle.guest_sched.specs.Spans.{entries_of};
+ghost use Rattle.std.specs.Prelude.{◌≡◌, ℕ, ◌<◌, ◌++◌, List, [], Option, length, All, IfSome, OnOk};
+ghost use Rattle.guest_sched.specs.Spans.{AreSpans, entries_of, run_of};
 
 use crate::Span;
 use std::alloc::AllocError;
@@ -25,4 +25,18 @@ pub trait Follow {
             follows self.old run → follows self.new (run ++ entries_of span)) }
         ensures taken { OnOk result ((j : ℕ) → takes self.old j → takes self.new j) }
         ensures same { OnOk result (numbers self.new ≡ numbers self.old) };
+}
+
+/// Lets `follower` follow a run that stands as spans.
+pub fn follow_spans<F: Follow>(follower: &mut F, spans: &[Span]) -> Result<(), AllocError>
+    requires spans { AreSpans spans.now (length (run_of spans.now)) }
+    requires takes { All (λ s. IfSome s.job (λ j. F.takes follower.old j)) spans.now }
+    requires begins { F.follows follower.old [] }
+    ensures followed { OnOk result (F.follows follower.new (run_of spans.now)) }
+    ensures same { OnOk result (F.numbers follower.new ≡ F.numbers follower.old) }
+{
+    for span in spans {
+        follower.add(*span)?;
+    }
+    Ok(())
 }

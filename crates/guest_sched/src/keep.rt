@@ -1,6 +1,7 @@
 ghost use Rattle.std.specs.Prelude.{◌<◌, ◌≤◌, length};
 ghost use Rattle.slot_model.specs.Task.{sporadic_tasks, task_at, deadline_of};
-ghost use Rattle.guest_sched.specs.inner.Keep.{level_of, IsEnd};
+ghost use Rattle.guest_sched.specs.Levels.{level_of};
+ghost use Rattle.guest_sched.specs.inner.Keep.{IsEnd};
 
 use slot_model::{Job, Task, deadline_moment};
 

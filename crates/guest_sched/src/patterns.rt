@@ -20,6 +20,9 @@ pub fn windows_of(alloc: Global, given: &[bool]) -> Result<Vec<Window>, AllocErr
     Ok(windows)
 }
 
+/// So many windows are made room for at first, where there may be as many.
+const FIRST_ROOM: u64 = 512;
+
 /// The windows of the first `slots` places of the worst pattern of a supply. It costs time for each
 /// window, and none for a slot.
 pub fn pattern_windows<F: Supply>(
@@ -31,7 +34,8 @@ pub fn pattern_windows<F: Supply>(
     ensures follows { IfOk result (λ windows. Follows (F.pattern supply.now)
         (slots_of windows.items slots)) }
 {
-    let mut windows = Vec::new(alloc);
+    let cycles = slots / supply.cycle().max(1);
+    let mut windows = Vec::with_capacity(alloc, cycles.min(FIRST_ROOM) as usize + 1)?;
     let mut from = 0;
     while let Some(window) = supply.next_window(from, slots) {
         windows.push(window)?;

@@ -1,7 +1,8 @@
 ghost use Rattle.std.specs.Prelude.{◌≡◌, ℕ, ◌+◌, ◌-◌, ◌<◌, ◌≤◌, ◌^◌, ◌↔◌, true, length, map, slice_index, All, IsTrue, IfOk, IfSome, OnOk, MatchOption, Some, None};
 ghost use Rattle.slot_model.specs.Task.{sporadic_tasks, task_at};
 ghost use Rattle.guest_sched.specs.inner.Releases.{release_at, AreReleases};
-ghost use Rattle.guest_sched.specs.inner.Keep.{level_of, AreEnds};
+ghost use Rattle.guest_sched.specs.Levels.{level_of};
+ghost use Rattle.guest_sched.specs.inner.Keep.{AreEnds};
 ghost use Rattle.guest_sched.specs.inner.Keys.{AreByKey};
 ghost use Rattle.guest_sched.specs.inner.Ready.{IsReady, HaveCome, AreToCome, HasKeys, GoesFirst, IsServed, AllEndAfter, IsSteady, left_after};
 

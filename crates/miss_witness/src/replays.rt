@@ -13,7 +13,7 @@ ghost use Rattle.miss_witness.specs.Replay.{AreReplays, IsReplay, IsReplayed};
 use crate::witnesses::defeat_by;
 use crate::{Defeat, Replay, witness_jobs};
 use compose_tree::Composed;
-use guest_sched::pattern_windows;
+use guest_sched::{Keep, ReleasedLevel, pattern_windows};
 use slot_model::{Miss, Sched, Short, Task};
 use span_counts::first_miss_by;
 use std::alloc::{AllocError, Global};
@@ -83,10 +83,12 @@ fn replay_leaf(
     let Some(short) = short else {
         unreachable!();
     };
+    let sched = part.sched();
+    let period = part.period();
     let tasks = own_tasks_in(part, room);
     let least = budgets[q as usize];
-    let witness = defeat_by(part.sched(), tasks, part.period(), least, short);
-    let miss = seen_miss(alloc, part.sched(), tasks, part.period(), &witness)?;
+    let witness = defeat_by(sched, tasks, period, least, short);
+    let miss = seen_miss(alloc, sched, tasks, period, &witness)?;
     Ok(Replay {
         part: q,
         witness,
@@ -123,7 +125,14 @@ fn seen_miss(
     };
     let windows = pattern_windows(alloc, &supply, slots)?;
     let jobs = witness_jobs(alloc, tasks, defeat)?;
-    first_miss_by(alloc, sched, tasks, &jobs, &windows, slots)
+    let level = ReleasedLevel {
+        keep: Keep::UntilDone,
+        tasks,
+        jobs: jobs.as_slice(),
+        given: &windows,
+        slots,
+    };
+    first_miss_by(alloc, &level, sched)
 }
 
 /// Where the window of a defeat ends, and None exactly where that is past 1,000,000 slots.

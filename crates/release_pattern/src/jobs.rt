@@ -26,7 +26,7 @@ pub fn synchronous_jobs(
     ensures legal { IfOk result (λ jobs. LegalRelease (sporadic_tasks tasks.now) jobs.items) }
     ensures few { IfOk result (λ jobs. length jobs.items < 2 ^ 32) }
 {
-    let mut jobs = Vec::new(alloc);
+    let mut jobs = Vec::with_capacity(alloc, releases_of(tasks, span) as usize)?;
     let mut due = Due::new(alloc, tasks)?;
     let mut after = 0;
     while after < span {
@@ -50,6 +50,15 @@ pub fn jobs_in_reach(
     ensures few { IfOk result (λ jobs. length jobs.items ≤ 256000000) }
 {
     synchronous_jobs(alloc, tasks, start, span)
+}
+
+/// About how many jobs tasks release within `span` slots: no more than one each too many.
+fn releases_of(tasks: &[Task], span: u64) -> u64 {
+    let mut count: u64 = 0;
+    for task in tasks {
+        count = count.saturating_add(span / task.period).saturating_add(1);
+    }
+    count
 }
 
 /// When the next jobs are released, in slots after the start.

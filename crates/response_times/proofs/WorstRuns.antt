@@ -1,5 +1,5 @@
 -- The first run of the worst case, as the code makes it, and the responses that it shows.
-use Rattle.std.proofs.Common.{◌≡◌, ◌≢◌, ℕ, ◌+◌, ◌<◌, ◌≤◌, Bool, List, length, Option, Some, None, MatchOption, ◌∙◌, ap, arith, subst, sym, inl, inr}
+use Rattle.std.proofs.Common.{◌≡◌, ◌≢◌, ℕ, ◌+◌, ◌<◌, ◌≤◌, Bool, List, length, Option, Some, None, MatchOption, ◌∙◌, ap, arith, subst, inl, inr}
 use Rattle.std.proofs.lemmas.Bool.{cases_lt}
 use Rattle.slot_model.specs.declared.job.Job.{Job}
 use Rattle.slot_model.specs.declared.sched.Sched.{Sched}
@@ -8,16 +8,13 @@ use Rattle.slot_model.specs.Supply.{SupplyLaws, Follows}
 use Rattle.slot_model.specs.Task.{SporadicTask, AreConstrained, job_at}
 use Rattle.slot_model.specs.Release.{synchronous}
 use Rattle.slot_model.specs.Run.{guest, held, holds, service, FirstRun, PermittedRun}
-use Rattle.slot_model.specs.Miss.{HoldsReleased}
 use Rattle.slot_model.specs.Order.{before_of, ranks_above}
 use Rattle.slot_model.proofs.FirstRuns.{first_permitted, run_to}
-use Rattle.slot_model.proofs.MissedJobs.{permitted_holds_released}
 use Rattle.slot_model.proofs.Runs.{count_below-mono}
 use Rattle.slot_model.proofs.WorstLists.{worst_list, worst_list-is}
 use Rattle.fp_test.specs.Hits.{IsLeastHit}
 use Rattle.fp_test.proofs.Answer.{answer_in_time, answer_late}
-use Rattle.guest_sched.specs.declared.spans.Span.{Span}
-use Rattle.guest_sched.specs.Spans.{run_of, slots_of, Window}
+use Rattle.guest_sched.specs.Spans.{slots_of, Window}
 use Rattle.guest_sched.proofs.Given.{slots-long}
 use Rattle.response_times.specs.Replay.{AnswersResponse, IsFirstJob, IsWorstRun, ShowsAnswer, ShowsResponse}
 use Rattle.response_times.specs.Response.{IsResponse}
@@ -31,51 +28,32 @@ worst_permitted : (before : Job → Job → Bool) (tasks : List SporadicTask) (p
 worst_permitted before tasks pattern start span run h =
     first_permitted guest before tasks (synchronous tasks start span) h.slots run h.first_run
 
--- jobs and spans that are those of the worst case
+-- jobs and a run that are those of the worst case
 pub record RanWorst (before : Job → Job → Bool) (tasks : List SporadicTask) (pattern : ℕ → Bool) (start span : ℕ)
-    (jobs : List Job) (spans : List Span) : Type 0 where
+    (jobs : List Job) (run : List (Option ℕ)) : Type 0 where
   pub jobs_are : jobs ≡ synchronous tasks start span
-  pub is_worst : IsWorstRun before tasks pattern start span (run_of spans)
+  pub is_worst : IsWorstRun before tasks pattern start span run
 
--- as the code makes them: the jobs, the windows of the pattern, and the spans of the run over them
+-- as the code makes them: the jobs, the windows of the pattern, and the first run over them
 pub ran_worst : (before : Job → Job → Bool) (tasks : List SporadicTask) (pattern : ℕ → Bool) (start from span : ℕ)
-    (made ran told : List Job) (drawn windows : List Window) (spans seen : List Span)
-    → from ≡ start → ran ≡ made → windows ≡ drawn → told ≡ made → seen ≡ spans → made ≡ synchronous tasks from span
-    → Follows pattern (slots_of drawn (from + span))
-    → FirstRun guest before tasks ran (slots_of windows (from + span)) (run_of spans)
-    → RanWorst before tasks pattern start span told seen
-ran_worst before tasks pattern start from span made ran told drawn windows spans seen f r w j s exact follows first =
+    (made jobs : List Job) (drawn windows : List Window) (run : List (Option ℕ)) → from ≡ start → jobs ≡ made
+    → windows ≡ drawn → made ≡ synchronous tasks from span → Follows pattern (slots_of drawn (from + span))
+    → FirstRun guest before tasks jobs (slots_of windows (from + span)) run
+    → RanWorst before tasks pattern start span jobs run
+ran_worst before tasks pattern start from span made jobs drawn windows run f j w exact follows first =
     let slots : List Bool = slots_of drawn (from + span) in
     let ended : length slots ≡ from + span = slots-long drawn (from + span) in
-    let same : made ≡ synchronous tasks start span = exact ∙ ap (λ (a : ℕ). synchronous tasks a span) f in
-    let here : FirstRun guest before tasks ran slots (run_of seen)
-    = subst (λ (z : List Span). FirstRun guest before tasks ran slots (run_of z)) (sym s)
-    (subst (λ (z : List Window). FirstRun guest before tasks ran (slots_of z (from + span)) (run_of spans)) w first) in
+    let same : jobs ≡ synchronous tasks start span = j ∙ exact ∙ ap (λ (a : ℕ). synchronous tasks a span) f in
+    let here : FirstRun guest before tasks jobs slots run
+    = subst (λ (z : List Window). FirstRun guest before tasks jobs (slots_of z (from + span)) run) w first in
     record {
-      jobs_are = j ∙ same;
+      jobs_are = same;
       is_worst = record {
         slots = slots;
         worst = record { follows = follows; long = omega (arith, ended, f) };
-        first_run = subst (λ (z : List Job). FirstRun guest before tasks z slots (run_of seen)) (r ∙ same) here;
+        first_run = subst (λ (z : List Job). FirstRun guest before tasks z slots run) same here;
       };
     }
-
--- a run holds released jobs alone, and is as long as it is to be
-pub ran_released : (before : Job → Job → Bool) (tasks : List SporadicTask) (slots : List Bool)
-    (made ran told : List Job) (spans seen : List Span) → ran ≡ made → told ≡ made → seen ≡ spans
-    → FirstRun guest before tasks ran slots (run_of spans) → HoldsReleased told (run_of seen)
-ran_released before tasks slots made ran told spans seen r j s first =
-    let here : HoldsReleased ran (run_of spans)
-    = permitted_holds_released guest before tasks ran slots (run_of spans)
-    (first_permitted guest before tasks ran slots (run_of spans) first) in
-    subst (λ (z : List Job). HoldsReleased z (run_of seen)) (r ∙ sym j)
-    (subst (λ (z : List Span). HoldsReleased ran (run_of z)) (sym s) here)
-
-pub ran_long : (before : Job → Job → Bool) (tasks : List SporadicTask) (ran : List Job) (windows : List Window) (n : ℕ)
-    (spans seen : List Span) → seen ≡ spans → FirstRun guest before tasks ran (slots_of windows n) (run_of spans)
-    → length (run_of seen) ≡ n
-ran_long before tasks ran windows n spans seen s first =
-    ap (λ (z : List Span). length (run_of z)) s ∙ (first.long ∙ slots-long windows n)
 
 -- what is read off it of the job at a task's place is what it shows of the task
 shows_answer : (before : Job → Job → Bool) (tasks : List SporadicTask) (pattern : ℕ → Bool) (start span i j : ℕ)
@@ -88,13 +66,12 @@ shows_answer before tasks pattern start span i j run (Some t) worst first respon
     record { run = run; is_worst = worst; job = j; first_job = first; responds = responds }
 
 pub worst_shows : (before : Job → Job → Bool) (tasks : List SporadicTask) (pattern : ℕ → Bool) (start span i : ℕ)
-    (jobs : List Job) (spans : List Span) (answer : Option ℕ) → i < length tasks → 1 ≤ span
-    → RanWorst before tasks pattern start span jobs spans → AnswersResponse jobs (run_of spans) i answer
+    (jobs : List Job) (run : List (Option ℕ)) (answer : Option ℕ) → i < length tasks → 1 ≤ span
+    → RanWorst before tasks pattern start span jobs run → AnswersResponse jobs run i answer
     → ShowsAnswer before tasks pattern start span i answer
-worst_shows before tasks pattern start span i jobs spans answer li some h read =
-    shows_answer before tasks pattern start span i i (run_of spans) answer h.is_worst
-    (first_place tasks start span i li some)
-    (subst (λ (z : List Job). AnswersResponse z (run_of spans) i answer) h.jobs_are read)
+worst_shows before tasks pattern start span i jobs run answer li some h read =
+    shows_answer before tasks pattern start span i i run answer h.is_worst (first_place tasks start span i li some)
+    (subst (λ (z : List Job). AnswersResponse z run i answer) h.jobs_are read)
 
 module _ (sched : Sched) (fixed : sched ≢ Edf) (tasks : List SporadicTask) (fits : AreConstrained tasks) {bound : ℕ → ℕ}
     {amount cycle : ℕ} {pattern : ℕ → Bool} {start : ℕ} {Conforms : List Bool → Type 0}

@@ -3,9 +3,9 @@
 #![tactic(auto)]
 
 mod greatest;
-mod in_spans;
 mod jobs;
 mod replays;
+mod waited;
 
 pub use greatest::{response, response_in};
 pub use jobs::response_jobs;

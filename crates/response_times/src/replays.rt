@@ -6,9 +6,9 @@ ghost use Rattle.response_times.specs.Replay.{IsReplayable, ShowsResponse, Shows
 ghost use Rattle.response_times.specs.Response.{IsGreatestResponse};
 
 use crate::greatest::response;
-use crate::in_spans::first_responses;
 use crate::jobs::response_jobs;
-use guest_sched::{guest_by, pattern_windows};
+use crate::waited::first_responses;
+use guest_sched::{Keep, ReleasedLevel, pattern_windows};
 use slot_model::{Sched, Task};
 use std::alloc::{AllocError, Global};
 use supply_bound::Supply;
@@ -79,6 +79,12 @@ pub fn replay_tasks<S: Supply>(
     let start = s.start();
     let jobs = response_jobs(alloc, tasks, start, span)?;
     let windows = pattern_windows(alloc, s, start + span)?;
-    let spans = guest_by(alloc, sched, tasks, &jobs, &windows, start + span)?;
-    first_responses(alloc, &jobs, &spans, start + span, tasks.len())
+    let level = ReleasedLevel {
+        keep: Keep::UntilDone,
+        tasks,
+        jobs: jobs.as_slice(),
+        given: &windows,
+        slots: start + span,
+    };
+    first_responses(alloc, &level, sched, tasks.len())
 }

@@ -1,7 +1,7 @@
 use crate::helpers::{expect, jobs_of, tasks_of, told_run, windows_of};
 use guest_sched::{
-    Span, are_windows, guest_by, pattern_windows, run_level, run_over, run_spans, server_spans,
-    servers_by,
+    Keep, ReleasedLevel, Span, are_windows, pattern_windows, run_level, run_over, run_spans,
+    spans_by,
 };
 use slot_model::{Edf, Sched, is_legal};
 use std::alloc::{AllocError, Global};
@@ -182,25 +182,35 @@ fn told_of(
     rt: &impl Abort,
     alloc: Global,
     case: &SpanCase,
-    are_servers: bool,
+    keep: Keep,
 ) -> Result<String, AllocError> {
     let tasks = tasks_of(alloc, case.tasks)?;
     let jobs = jobs_of(alloc, case.jobs)?;
     let given = windows_of(alloc, case.windows)?;
     assert!(rt; is_legal(&tasks, &jobs) && jobs.len() < 1000 && are_windows(&given, case.slots));
-    let spans = if are_servers {
-        server_spans(alloc, &tasks, &jobs, &Edf, &given, case.slots)?
-    } else {
-        run_spans(alloc, &tasks, &jobs, &Edf, &given, case.slots)?
+    let level = ReleasedLevel {
+        keep,
+        tasks: &tasks,
+        jobs: &jobs,
+        given: &given,
+        slots: case.slots,
     };
-    told(alloc, &spans)
+    told(alloc, &run_spans(alloc, &level, &Edf)?)
 }
 
 #[test]
 fn spans_of_guests_and_of_servers(rt: HostRuntime) -> Result<(), Fail> {
     for case in &SPANS {
-        expect(&rt, told_of(&rt, rt.alloc(), case, false)?, case.guest);
-        expect(&rt, told_of(&rt, rt.alloc(), case, true)?, case.servers);
+        expect(
+            &rt,
+            told_of(&rt, rt.alloc(), case, Keep::UntilDone)?,
+            case.guest,
+        );
+        expect(
+            &rt,
+            told_of(&rt, rt.alloc(), case, Keep::UntilDeadline)?,
+            case.servers,
+        );
     }
     Ok(())
 }
@@ -225,22 +235,19 @@ fn windows_of_the_worst_pattern(rt: HostRuntime) -> Result<(), Fail> {
 }
 
 /// The spans of one level by its scheduler.
-fn told_by(
-    rt: &impl Abort,
-    alloc: Global,
-    sched: Sched,
-    are_servers: bool,
-) -> Result<String, AllocError> {
+fn told_by(rt: &impl Abort, alloc: Global, sched: Sched, keep: Keep) -> Result<String, AllocError> {
     let tasks = tasks_of(alloc, &[(9, 5), (4, 3)])?;
     let jobs = jobs_of(alloc, &[(0, 0, 5), (1, 1, 3)])?;
     let given = windows_of(alloc, &[(0, 12)])?;
     assert!(rt; is_legal(&tasks, &jobs) && jobs.len() < 1000 && are_windows(&given, 12));
-    let spans = if are_servers {
-        servers_by(alloc, sched, &tasks, &jobs, &given, 12)?
-    } else {
-        guest_by(alloc, sched, &tasks, &jobs, &given, 12)?
+    let level = ReleasedLevel {
+        keep,
+        tasks: &tasks,
+        jobs: &jobs,
+        given: &given,
+        slots: 12,
     };
-    told(alloc, &spans)
+    told(alloc, &spans_by(alloc, &level, sched)?)
 }
 
 #[test]
@@ -248,14 +255,18 @@ fn levels_by_their_scheduler(rt: HostRuntime) -> Result<(), Fail> {
     let alloc = rt.alloc();
     expect(
         &rt,
-        told_by(&rt, alloc, Sched::Rm, false)?,
+        told_by(&rt, alloc, Sched::Rm, Keep::UntilDone)?,
         "0:0 1:1 4:0 8:- ",
     );
     expect(
         &rt,
-        told_by(&rt, alloc, Sched::Listed, false)?,
+        told_by(&rt, alloc, Sched::Listed, Keep::UntilDone)?,
         "0:0 5:1 8:- ",
     );
-    expect(&rt, told_by(&rt, alloc, Sched::Listed, true)?, "0:0 5:- ");
+    expect(
+        &rt,
+        told_by(&rt, alloc, Sched::Listed, Keep::UntilDeadline)?,
+        "0:0 5:- ",
+    );
     Ok(())
 }

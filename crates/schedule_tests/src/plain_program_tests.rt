@@ -6,7 +6,7 @@ ghost use Rattle.slot_model.specs.Task.{sporadic_tasks, task_at, deadline_of};
 ghost use Rattle.slot_model.specs.Order.{edf_before};
 ghost use Rattle.slot_model.specs.EdfOrder.{edf_laws};
 
-use guest_sched::{Span, run_spans, server_spans, windows_of};
+use guest_sched::{Keep, ReleasedLevel, Span, run_spans, windows_of};
 use slot_model::{Edf, Job, Order, Task, deadline_moment, is_legal};
 use std::alloc::{AllocError, Global};
 use std::test::Fail;
@@ -194,12 +194,18 @@ fn agree<O: Order>(
         return Ok(None);
     }
     let windows = windows_of(alloc, &level.slots)?;
-    let slots = level.slots.len() as u64;
-    let spans = if is_server {
-        server_spans(alloc, &level.tasks, &level.jobs, order, &windows, slots)?
-    } else {
-        run_spans(alloc, &level.tasks, &level.jobs, order, &windows, slots)?
+    let released = ReleasedLevel {
+        keep: if is_server {
+            Keep::UntilDeadline
+        } else {
+            Keep::UntilDone
+        },
+        tasks: &level.tasks,
+        jobs: &level.jobs,
+        given: &windows,
+        slots: level.slots.len() as u64,
     };
+    let spans = run_spans(alloc, &released, order)?;
     let run = plain_run(alloc, level, is_server)?;
     Ok(Some(are_the_run(&spans, &run)))
 }

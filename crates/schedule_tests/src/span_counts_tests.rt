@@ -4,7 +4,7 @@ ghost use Rattle.slot_model.specs.Release.{LegalRelease};
 ghost use Rattle.slot_model.specs.Task.{sporadic_tasks};
 ghost use Rattle.guest_sched.specs.Spans.{AreWindows, AreSpans, run_of};
 
-use guest_sched::{Span, Window, run_spans};
+use guest_sched::{Keep, ReleasedLevel, Span, Window, run_spans};
 use slot_model::{Edf, Job, Miss, Task, is_legal};
 use span_counts::{Counts, count_level, count_pending, first_miss, misses};
 use std::alloc::{AllocError, Global};
@@ -33,7 +33,14 @@ fn spans_of(
     ensures long { IfOk result (λ spans. length (run_of spans.items) ≡ 22) }
     ensures released { IfOk result (λ spans. HoldsReleased jobs.now (run_of spans.items)) }
 {
-    run_spans(alloc, tasks, jobs, &Edf, given, 22)
+    let level = ReleasedLevel {
+        keep: Keep::UntilDone,
+        tasks,
+        jobs,
+        given,
+        slots: 22,
+    };
+    run_spans(alloc, &level, &Edf)
 }
 
 /// The misses, the first miss and the counts of that schedule, and the number of pairs of a job and

@@ -2,16 +2,14 @@
 use Rattle.std.proofs.Common.{◌≡◌, ℕ, zero, suc, min, ◌+◌, ◌-◌, ◌<◌, ◌≤◌, ◌&&◌, Bool, true, false, cond, nat_le, List, length, get_or, set, Option, Some, None, refl, sym, ◌∙◌, ap, arith, subst, inl, inr, add-one, eqb, eq-eqb, ne_eqb, le-leb, length-set, get_or-set_same, get_or-set_other, replicate}
 use Rattle.std.proofs.lemmas.Bool.{cases_eq, cond-true, cond-false}
 use Rattle.std.proofs.lemmas.List.{get_or-replicate, length-replicate}
-use Rattle.slot_model.specs.declared.job.Job.{Job}
 use Rattle.slot_model.specs.Slots.{count_below, slots_between}
-use Rattle.slot_model.specs.Task.{SporadicTask, job_at, deadline_of}
 use Rattle.slot_model.specs.Run.{held, holds, service}
 use Rattle.slot_model.proofs.Sums.{sum_below-zero}
 use Rattle.slot_model.proofs.Counts.{count_same, count_stretch}
 use Rattle.slot_model.proofs.Runs.{count_below-le}
 use Rattle.guest_sched.specs.Spans.{Window, is_given, slots_of, window_at, AreWindows}
 use Rattle.guest_sched.proofs.Given.{apart, none_given, all_given, slot_at}
-use Rattle.span_counts.specs.Counts.{AreServices, ServedTo}
+use Rattle.span_counts.specs.Counts.{ServedTo}
 use Rattle.guest_sched.proofs.SpanByOne.{Holds}
 
 pub count_to : (p : ℕ → Bool) (v : Bool) (a b : ℕ) → a ≤ b → ((x : ℕ) → a ≤ x → x < b → p x ≡ v)
@@ -145,14 +143,3 @@ pub served_fits : (due : ℕ → ℕ) (n : ℕ) (run : List (Option ℕ)) (m i :
     → ServedTo due n run m got → i < n → get_or got i 0 ≤ min (due i) m
 served_fits due n run m i got h l =
     omega (arith, h.each i l, count_below-le (λ y. holds (held run y) i) (min (due i) m))
-
--- when each job is due
-abbrev pub due_of : List SporadicTask → List Job → ℕ → ℕ
-due_of tasks jobs j = deadline_of tasks (job_at jobs j)
-
-abbrev pub JobsServed : List SporadicTask → List Job → List (Option ℕ) → ℕ → List ℕ → Type 0
-JobsServed tasks jobs run m got = ServedTo (due_of tasks jobs) (length jobs) run m got
-
-pub all_served : (tasks : List SporadicTask) (jobs : List Job) (run : List (Option ℕ)) (got : List ℕ)
-    → JobsServed tasks jobs run (length run) got → AreServices tasks jobs run got
-all_served tasks jobs run got h = record { long = h.long; each = h.each }

@@ -5,6 +5,7 @@ ghost use Rattle.slot_model.specs.Miss.{AreInJitter, AreNamed, HoldsReleased, Is
 ghost use Rattle.guest_sched.specs.Spans.{AreWindows, AreSpans, slots_of, run_of};
 ghost use Rattle.span_counts.specs.Counts.{AreCounts, AreServices, is_early};
 
+use crate::services::services_in;
 use guest_sched::{Span, Window};
 use slot_model::{Job, Miss, Task, deadline_moment, earlier_miss};
 use std::alloc::{AllocError, Global};
@@ -39,7 +40,7 @@ pub fn count_level(
         IfOk result (λ counts. AreCounts T jobs.now (slots_of given.now slots)
         (run_of spans.now) counts) }
 {
-    let got = services(alloc, tasks, jobs, spans)?;
+    let got = services_in(alloc, tasks, jobs, spans)?;
     let missed = find_missed(tasks, jobs, slots, &got);
     Ok(Counts {
         given: slots_given(given),
@@ -66,8 +67,9 @@ pub fn misses(
     ensures none { let T = sporadic_tasks tasks.now in
         IfOk result (λ n. (n ≡ 0) ↔ NoneMissed T jobs.now (run_of spans.now)) }
 {
-    let got = services(alloc, tasks, jobs, spans)?;
-    Ok(find_missed(tasks, jobs, end_of_run(spans), &got).count)
+    let end = end_of_run(spans);
+    let got = services_in(alloc, tasks, jobs, spans)?;
+    Ok(find_missed(tasks, jobs, end, &got).count)
 }
 
 /// The missed job with the earliest deadline moment in a run of spans, and of several the first in
@@ -85,8 +87,9 @@ pub fn first_miss(
     ensures { let T = sporadic_tasks tasks.now in
         IfOk result (λ miss. IsFirstMiss T jobs.now (run_of spans.now) miss) }
 {
-    let got = services(alloc, tasks, jobs, spans)?;
-    Ok(find_missed(tasks, jobs, end_of_run(spans), &got).first)
+    let end = end_of_run(spans);
+    let got = services_in(alloc, tasks, jobs, spans)?;
+    Ok(find_missed(tasks, jobs, end, &got).first)
 }
 
 /// The number of slots of windows.
@@ -113,32 +116,6 @@ fn jobs_before(jobs: &[Job], moment: u64) -> u64
         }
     }
     released
-}
-
-/// The slots that each job gets before its deadline moment.
-fn services(
-    alloc: Global,
-    tasks: &[Task],
-    jobs: &[Job],
-    spans: &[Span],
-) -> Result<Vec<u64>, AllocError>
-    requires named { AreNamed (sporadic_tasks tasks.now) jobs.now }
-    requires in_jitter { AreInJitter (sporadic_tasks tasks.now) jobs.now }
-    requires released { HoldsReleased jobs.now (run_of spans.now) }
-    requires spans { AreSpans spans.now (length (run_of spans.now)) }
-    ensures { let T = sporadic_tasks tasks.now in
-        IfOk result (λ got. AreServices T jobs.now (run_of spans.now) got.items) }
-{
-    let mut got = vec![in alloc; 0; jobs.len()]?;
-    for span in spans {
-        if let Some(job) = span.job {
-            let place = job as usize;
-            let due = deadline_moment(tasks, &jobs[place]);
-            let before = got[place];
-            got[place] = before + slots_before(span, due);
-        }
-    }
-    Ok(got)
 }
 
 /// The slots of a span before a moment.

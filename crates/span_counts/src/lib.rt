@@ -7,5 +7,5 @@ mod pending;
 mod services;
 
 pub use counts::{Counts, count_level, first_miss, misses, slots_given};
-pub use pending::{Wait, count_pending, waits_of};
+pub use pending::{Wait, Waits, count_pending, waits_by};
 pub use services::{Services, first_miss_by};

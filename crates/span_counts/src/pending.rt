@@ -1,12 +1,14 @@
-ghost use Rattle.std.specs.Prelude.{◌≡◌, ◌↔◌, ℕ, ◌+◌, ◌-◌, ◌*◌, ◌^◌, ◌≤◌, ◌<◌, List, Option, length, IfOk, IsTrue};
-ghost use Rattle.slot_model.specs.Task.{SporadicTask, job_at};
+ghost use Rattle.std.specs.Prelude.{◌≡◌, ◌↔◌, ℕ, ◌+◌, ◌-◌, ◌*◌, ◌^◌, ◌≤◌, ◌<◌, List, [], Option, length, IfOk, IsTrue};
+ghost use Rattle.slot_model.specs.Task.{SporadicTask, sporadic_tasks, job_at};
+ghost use Rattle.slot_model.specs.Order.{before_of};
 ghost use Rattle.slot_model.specs.Run.{guest, Pending};
 ghost use Rattle.slot_model.specs.Miss.{HoldsReleased};
 ghost use Rattle.guest_sched.specs.Spans.{AreSpans, run_of};
+ghost use Rattle.guest_sched.specs.Levels.{FirstRunOf};
 ghost use Rattle.span_counts.specs.Pending.{is_pending, pairs_pending, wait_at, AreWaitsTo};
 
-use guest_sched::Span;
-use slot_model::Job;
+use guest_sched::{Follow, ReleasedLevel, Span, follow_by, follow_spans};
+use slot_model::{Job, Sched};
 use std::alloc::{AllocError, Global};
 
 /// What a job still lacks of its work, and the moment from which it has all of it, as far as is
@@ -40,9 +42,60 @@ pub fn count_pending(
     Ok(sum_of_waits(jobs, &waits, slots))
 }
 
-/// What each job lacks of its work at the end of a run of `slots` slots, and the moment from which
-/// it has all of it: the end of the run where it lacks some. One pass over the spans.
-pub fn waits_of(
+/// What each job lacks of its work, followed as a run of `slots` slots is made.
+#[derive(Drop)]
+pub struct Waits<'a> {
+    jobs: &'a [Job],
+    slots: u64,
+    waits: Vec<Wait>,
+}
+
+impl<'a> Waits<'a> {
+    /// Before the first slot.
+    fn new(alloc: Global, jobs: &'a [Job], slots: u64) -> Result<Waits<'a>, AllocError>
+        requires works { (j : ℕ) → j < length jobs.now → 1 ≤ (job_at jobs.now j).work }
+        ensures over { IfOk result (λ w. (w.jobs.now ≡ jobs.now) × (w.slots ≡ slots)) }
+        ensures begins { IfOk result (λ w. AreWaitsTo jobs.now [] slots 0 w.waits.items) }
+    {
+        let waits = first_waits(alloc, jobs, slots)?;
+        Ok(Waits { jobs, slots, waits })
+    }
+}
+
+impl<'a> Follow for Waits<'a> {
+    ghost use Rattle.std.specs.Prelude.{◌<◌, ◌∷◌, length, map};
+    ghost use Rattle.span_counts.specs.Pending.{AreWaitsTo};
+
+    ghost follows = { λ w run. AreWaitsTo w.jobs.now run w.slots (length run) w.waits.items };
+
+    ghost numbers = { λ w. w.slots ∷ map (λ j. j.work) w.jobs.now };
+
+    ghost takes = { λ w j. j < length w.jobs.now };
+
+    fn add(&mut self, span: Span) -> Result<(), AllocError> {
+        if let Some(job) = span.job {
+            let place = job as usize;
+            let wait = self.waits[place];
+            self.waits[place] = served(wait, span.from, span.until);
+        }
+        Ok(())
+    }
+}
+
+/// What each job lacks of its work at the end of the schedule of a guest by a scheduler, and the
+/// moment from which it has all of it: the end of the run where it lacks some. No span is kept.
+pub fn waits_by(alloc: Global, level: &ReleasedLevel, sched: Sched) -> Result<Vec<Wait>, AllocError>
+    ensures { let T = sporadic_tasks level.now.tasks.now in
+        IfOk result (λ waits. (run : List (Option ℕ)) × FirstRunOf level.now (before_of sched T) run
+        × AreWaitsTo level.now.jobs.now run level.now.slots level.now.slots waits.items) }
+{
+    let mut waits = Waits::new(alloc, level.jobs, level.slots)?;
+    follow_by(alloc, level, sched, &mut waits)?;
+    Ok(waits.waits)
+}
+
+/// The same of a run of spans of `slots` slots.
+fn waits_of(
     alloc: Global,
     jobs: &[Job],
     spans: &[Span],
@@ -55,15 +108,9 @@ pub fn waits_of(
     ensures { IfOk result (λ waits.
         AreWaitsTo jobs.now (run_of spans.now) slots slots waits.items) }
 {
-    let mut waits = first_waits(alloc, jobs, slots)?;
-    for span in spans {
-        if let Some(job) = span.job {
-            let place = job as usize;
-            let wait = waits[place];
-            waits[place] = served(wait, span.from, span.until);
-        }
-    }
-    Ok(waits)
+    let mut waits = Waits::new(alloc, jobs, slots)?;
+    follow_spans(&mut waits, spans)?;
+    Ok(waits.waits)
 }
 
 /// The waits before the run: each job lacks all its work.

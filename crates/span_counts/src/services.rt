@@ -1,14 +1,13 @@
 ghost use Rattle.std.specs.Prelude.{◌≡◌, ℕ, ◌-◌, ◌^◌, ◌<◌, ◌≤◌, min, List, [], Option, length, slice_index, IfOk};
 ghost use Rattle.slot_model.specs.Task.{sporadic_tasks, task_at, deadline_of};
-ghost use Rattle.slot_model.specs.Release.{LegalRelease};
 ghost use Rattle.slot_model.specs.Order.{before_of};
-ghost use Rattle.slot_model.specs.Run.{guest, FirstRun};
-ghost use Rattle.slot_model.specs.Miss.{AreInJitter, AreNamed, IsFirstMiss};
-ghost use Rattle.guest_sched.specs.Spans.{AreWindows, slots_of};
-ghost use Rattle.span_counts.specs.Counts.{AreDues, ServedTo};
+ghost use Rattle.slot_model.specs.Miss.{AreInJitter, AreNamed, HoldsReleased, IsFirstMiss};
+ghost use Rattle.guest_sched.specs.Spans.{AreSpans, run_of};
+ghost use Rattle.guest_sched.specs.Levels.{FirstRunOf};
+ghost use Rattle.span_counts.specs.Counts.{AreDues, AreServices, ServedTo};
 
 use crate::counts::{find_missed, slots_before};
-use guest_sched::{Follow, Span, Window, follow_guest};
+use guest_sched::{Follow, ReleasedLevel, Span, follow_by, follow_spans};
 use slot_model::{Job, Miss, Sched, Task, deadline_moment};
 use std::alloc::{AllocError, Global};
 
@@ -70,24 +69,38 @@ fn due_moment(tasks: &[Task], job: &Job) -> u64
     u64::try_from(deadline_moment(tasks, job)).unwrap_or(u64::MAX)
 }
 
-/// The first miss of the schedule of a guest by a scheduler: the missed job with the earliest
+/// The slots that each job gets before its deadline moment in a run of spans.
+pub(crate) fn services_in(
+    alloc: Global,
+    tasks: &[Task],
+    jobs: &[Job],
+    spans: &[Span],
+) -> Result<Vec<u64>, AllocError>
+    requires named { AreNamed (sporadic_tasks tasks.now) jobs.now }
+    requires in_jitter { AreInJitter (sporadic_tasks tasks.now) jobs.now }
+    requires released { HoldsReleased jobs.now (run_of spans.now) }
+    requires spans { AreSpans spans.now (length (run_of spans.now)) }
+    requires fits { length (run_of spans.now) < 2 ^ 64 }
+    ensures { let T = sporadic_tasks tasks.now in
+        IfOk result (λ got. AreServices T jobs.now (run_of spans.now) got.items) }
+{
+    let mut services = Services::new(alloc, tasks, jobs)?;
+    follow_spans(&mut services, spans)?;
+    Ok(services.got)
+}
+
+/// The first miss of the schedule of a level by a scheduler: the missed job with the earliest
 /// deadline moment, and of several the first in the list. No span of the run is kept.
 pub fn first_miss_by(
     alloc: Global,
+    level: &ReleasedLevel,
     sched: Sched,
-    tasks: &[Task],
-    jobs: &[Job],
-    given: &[Window],
-    slots: u64,
 ) -> Result<Option<Miss>, AllocError>
-    requires legal { LegalRelease (sporadic_tasks tasks.now) jobs.now }
-    requires few { length jobs.now < 2 ^ 32 }
-    requires windows { AreWindows given.now slots }
-    ensures { let T = sporadic_tasks tasks.now in
-        IfOk result (λ miss. (run : List (Option ℕ)) × FirstRun guest (before_of sched T) T
-        jobs.now (slots_of given.now slots) run × IsFirstMiss T jobs.now run miss) }
+    ensures { let T = sporadic_tasks level.now.tasks.now in
+        IfOk result (λ miss. (run : List (Option ℕ)) × FirstRunOf level.now (before_of sched T) run
+        × IsFirstMiss T level.now.jobs.now run miss) }
 {
-    let mut services = Services::new(alloc, tasks, jobs)?;
-    follow_guest(alloc, sched, tasks, jobs, given, slots, &mut services)?;
-    Ok(find_missed(tasks, jobs, slots, &services.got).first)
+    let mut services = Services::new(alloc, level.tasks, level.jobs)?;
+    follow_by(alloc, level, sched, &mut services)?;
+    Ok(find_missed(level.tasks, level.jobs, level.slots, &services.got).first)
 }

@@ -4,7 +4,7 @@ ghost use Rattle.tree_spans.specs.NodeView.{counts_of};
 use crate::TreeCounts;
 use crate::kept::{KeptNode, counts_kept};
 use crate::shares::shares_of;
-use guest_sched::{Span, Window, guest_by, servers_by};
+use guest_sched::{Keep, ReleasedLevel, Span, Window, spans_by};
 use release_pattern::synchronous_jobs;
 use slot_model::{Job, Sched, Task};
 use span_counts::{Counts, count_level};
@@ -65,7 +65,14 @@ impl KeptNode for NodeSpans {
         slots: u64,
     ) -> Result<NodeSpans, AllocError> {
         let jobs = synchronous_jobs(alloc, tasks, 0, slots)?;
-        let spans = servers_by(alloc, sched, tasks, &jobs, given, slots)?;
+        let level = ReleasedLevel {
+            keep: Keep::UntilDeadline,
+            tasks,
+            jobs: &jobs,
+            given,
+            slots,
+        };
+        let spans = spans_by(alloc, &level, sched)?;
         let shares = shares_of(alloc, tasks, &jobs, &spans)?;
         let counts = count_level(alloc, tasks, &jobs, given, &spans, slots)?;
         Ok(NodeSpans {
@@ -83,7 +90,14 @@ impl KeptNode for NodeSpans {
         given: &[Window],
         slots: u64,
     ) -> Result<NodeSpans, AllocError> {
-        let spans = guest_by(alloc, sched, tasks, jobs, given, slots)?;
+        let level = ReleasedLevel {
+            keep: Keep::UntilDone,
+            tasks,
+            jobs,
+            given,
+            slots,
+        };
+        let spans = spans_by(alloc, &level, sched)?;
         let counts = count_level(alloc, tasks, jobs, given, &spans, slots)?;
         Ok(NodeSpans {
             spans,

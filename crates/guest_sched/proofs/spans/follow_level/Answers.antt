@@ -10,23 +10,25 @@ use Rattle.slot_model.specs.Release.{LegalRelease}
 use Rattle.slot_model.specs.Run.{Level, FirstRunTo}
 use Rattle.slot_model.proofs.FirstRuns.{none_some}
 use Rattle.guest_sched.specs.declared.ready.Ready.{Ready}
-use Rattle.guest_sched.specs.inner.Keep.{level_of}
+use Rattle.guest_sched.specs.Levels.{level_of}
 use Rattle.guest_sched.specs.inner.Ready.{IsReady, HaveCome, AreToCome, HasKeys}
 use Rattle.guest_sched.proofs.Best.{keys_kept}
 use Rattle.guest_sched.specs.Spans.{Window, slots_of, entries_of, window_at, AreWindows}
 use Rattle.guest_sched.proofs.Given.{AreOver, slots-long, slot_at, none_given, all_given}
 use Rattle.guest_sched.proofs.State.{ready_in}
-use Rattle.guest_sched.proofs.Steps.{Kept, IsCurrent, Serves, AreGiven, kept_start, kept_gap, kept_more, served_stands}
+use Rattle.guest_sched.proofs.Steps.{Kept, KeptOf, IsCurrent, Serves, AreGiven, kept_start, kept_gap, kept_more, served_stands}
 use Rattle.guest_sched.proofs.spans.follow_level.Goals as goal
+use Rattle.guest_sched.proofs.spans.follow_level.Goals.{In_ok-pass_until}
 
 pub loop-at-init : goal.loop-at-init
 loop-at-init g c =
-    let before = g.O.Order.goes c.args.order.now (sporadic_tasks c.args.tasks.now) in
-    let T = sporadic_tasks c.args.tasks.now in
+    let level = c.args.level.now in
+    let T = sporadic_tasks level.tasks.now in
+    let before = g.O.Order.goes c.args.order.now T in
     let made = c.in_ok-ready.ensures in
     let ready = c.in_ok-ready.ready in
-    let kept : Kept (level_of c.args.keep) before T c.args.jobs.now (slots_of c.args.given.now c.args.slots) [] ready =
-    kept_start (level_of c.args.keep) before T c.args.jobs.now (slots_of c.args.given.now c.args.slots) ready
+    let kept : KeptOf level before [] ready =
+    kept_start (level_of level.keep) before T level.jobs.now (slots_of level.given.now level.slots) ready
     made.time made.releases made.state made.none_come made.left made.ends in
     record {
       so_far = ([], kept, c.requires.begins);
@@ -38,7 +40,7 @@ loop-at-init g c =
       keys = made.keys;
       in_list = omega arith;
       over = λ i l. absurd (omega arith);
-      next = λ l. omega (arith, made.time, c.requires.windows.some 0 l);
+      next = λ l. omega (arith, made.time, level.windows.some 0 l);
       in_slots = omega (arith, made.time);
     }
 
@@ -59,10 +61,13 @@ named_each tasks jobs h = λ k d l. omega (
 
 pub serve-span-requires-clause-in_jitter : goal.serve-span-requires-clause-in_jitter
 serve-span-requires-clause-in_jitter g c =
-    λ k d l. in_jitter_each (sporadic_tasks c.args.tasks.now) c.args.jobs.now c.requires.legal d k l
+    let level = c.args.level.now in
+    λ k d l. in_jitter_each (sporadic_tasks level.tasks.now) level.jobs.now level.legal d k l
 
 pub serve-span-requires-clause-named : goal.serve-span-requires-clause-named
-serve-span-requires-clause-named g c = named_each c.args.tasks.now c.args.jobs.now c.requires.legal
+serve-span-requires-clause-named g c =
+    let level = c.args.level.now in
+    named_each level.tasks.now level.jobs.now level.legal
 
 where_some : (o : Option ℕ) (P : ℕ → Type 0) → IfSome o P → (p : ℕ) → o ≡ Some p → P p
 where_some None P h p e = absurd (none_some None p refl e)
@@ -110,9 +115,10 @@ window_passed windows n at next from now h l over m u ends stays = elim (cases_e
 
 pub serve-span-requires-clause-keys : goal.serve-span-requires-clause-keys
 serve-span-requires-clause-keys g c =
-    let before = g.O.Order.goes c.args.order.now (sporadic_tasks c.args.tasks.now) in
-    keys_kept before c.args.jobs.now c.pass_until.new.ready c.catch_up.new.self c.in_ok-catch_up.ensures.keys
-    (keys_later before c.args.jobs.now c.loop-at.ready c.pass_until.new.ready c.in_ok-pass_until.ensures.rest
+    let level = c.args.level.now in
+    let before = g.O.Order.goes c.args.order.now (sporadic_tasks level.tasks.now) in
+    keys_kept before level.jobs.now c.pass_until.new.ready c.catch_up.new.self c.in_ok-catch_up.ensures.keys
+    (keys_later before level.jobs.now c.loop-at.ready c.pass_until.new.ready c.in_ok-pass_until.ensures.rest
     c.loop-at.invariant.keys)
 
 pub pass_until-requires-clause-follows : goal.pass_until-requires-clause-follows
@@ -127,17 +133,17 @@ pass_until-requires-2-clause-follows g c =
 
 pub add-requires-clause-is_taken : goal.add-requires-clause-is_taken
 add-requires-clause-is_taken g c =
+    let level = c.args.level.now in
     let came = c.catch_up.new.self in
     let caught = c.in_ok-catch_up.ensures in
-    let before = g.O.Order.goes c.args.order.now (sporadic_tasks c.args.tasks.now) in
-    let begun = c.pass_until.new.ready in
+    let before = g.O.Order.goes c.args.order.now (sporadic_tasks level.tasks.now) in
     let passed = c.in_ok-pass_until.ensures in
     some_where c.serve-span.result.job (λ j. g.F.Follow.takes c.pass_until.new.follower j) (λ j e.
     passed.takes j (c.loop-at.invariant.takes j (omega (
       arith,
       ready_in came.releases.items came.released came.keys.all.items came.left.items came.ends.items came.ready.items
           came.soonest came.time caught.state j
-          (served_stands before c.args.jobs.now came.ready.items true c.serve-span.result.job j
+          (served_stands before level.jobs.now came.ready.items true c.serve-span.result.job j
           c.serve-span.ensures.served e),
       ap (λ v. length v.items) caught.left,
       ap (λ (s : Ready). length s.left.items) passed.rest,
@@ -156,26 +162,36 @@ over_gap level before tasks jobs windows n at from run old begun h inside over e
     kept (λ x a b. slot_at windows n x (omega (arith, e, h.some at inside, h.in_slots at inside))
     ∙ none_given windows n at old.time x h over a (λ l. omega (arith, e, b))) rest time state refl
 
+gap : (g : _) (c : In_ok-pass_until g)
+    → KeptOf c.args.level.now (g.O.Order.goes c.args.order.now (sporadic_tasks c.args.level.now.tasks.now))
+    (c.loop-at.invariant.so_far.0
+    ++ replicate ((window_at c.args.level.now.given.now c.loop-at.at).from - c.loop-at.ready.time) None)
+    c.pass_until.new.ready
+gap g c =
+    let level = c.args.level.now in
+    let T = sporadic_tasks level.tasks.now in
+    let i = c.loop-at.invariant in
+    let passed = c.in_ok-pass_until.ensures in
+    over_gap (level_of level.keep) (g.O.Order.goes c.args.order.now T) T level.jobs.now level.given.now level.slots
+    c.loop-at.at (window_at level.given.now c.loop-at.at).from i.so_far.0 c.loop-at.ready c.pass_until.new.ready
+    level.windows c.loop-at-test.true i.over refl i.so_far.1 passed.rest passed.time passed.state
+
 pub add-requires-clause-joins : goal.add-requires-clause-joins
 add-requires-clause-joins g c =
     let i = c.loop-at.invariant in
-    let passed = c.in_ok-pass_until.ensures in
-    let run = i.so_far.0 in
-    let gap = over_gap (level_of c.args.keep) (g.O.Order.goes c.args.order.now (sporadic_tasks c.args.tasks.now))
-    (sporadic_tasks c.args.tasks.now) c.args.jobs.now c.args.given.now c.args.slots c.loop-at.at
-    (window_at c.args.given.now c.loop-at.at).from run c.loop-at.ready c.pass_until.new.ready c.requires.windows
-    c.loop-at-test.true i.over refl i.so_far.1 passed.rest passed.time passed.state in (
-      run ++ replicate ((window_at c.args.given.now c.loop-at.at).from - c.loop-at.ready.time) None,
-      gap.run_so_far.long ∙ sym c.in_ok-catch_up.ensures.time ∙ sym c.serve-span.ensures.from,
-      passed.followed run i.so_far.1.run_so_far.long i.so_far.2,
+    let kept = gap g (goal.at.add-requires-clause-joins g c).In_ok-pass_until in (
+      i.so_far.0 ++ replicate ((window_at c.args.level.now.given.now c.loop-at.at).from - c.loop-at.ready.time) None,
+      kept.run_so_far.long ∙ sym c.in_ok-catch_up.ensures.time ∙ sym c.serve-span.ensures.from,
+      c.in_ok-pass_until.ensures.followed i.so_far.0 i.so_far.1.run_so_far.long i.so_far.2,
     )
 
 pub loop-at-preserved : goal.loop-at-preserved
 loop-at-preserved g c =
-    let before = g.O.Order.goes c.args.order.now (sporadic_tasks c.args.tasks.now) in
-    let T = sporadic_tasks c.args.tasks.now in
-    let windows = c.args.given.now in
-    let n = c.args.slots in
+    let level = c.args.level.now in
+    let T = sporadic_tasks level.tasks.now in
+    let before = g.O.Order.goes c.args.order.now T in
+    let windows = level.given.now in
+    let n = level.slots in
     let slots = slots_of windows n in
     let at = c.loop-at.at in
     let i = c.loop-at.invariant in
@@ -192,19 +208,17 @@ loop-at-preserved g c =
     let from = (window_at windows at).from in
     let until = (window_at windows at).until in
     let passing : List (Option ℕ) = run ++ replicate (from - old.time) None in
-    let gap : Kept (level_of c.args.keep) before T c.args.jobs.now slots passing begun =
-    over_gap (level_of c.args.keep) before T c.args.jobs.now windows n at from run old begun c.requires.windows inside
-    i.over refl i.so_far.1 passed.rest passed.time passed.state in
-    let some : until ≤ n = c.requires.windows.in_slots at inside in
-    let later : begun.time < until = omega (arith, passed.time, i.next inside, c.requires.windows.some at inside) in
+    let gap : KeptOf level before passing begun = gap g (goal.at.loop-at-preserved g c).In_ok-pass_until in
+    let some : until ≤ n = level.windows.in_slots at inside in
+    let later : begun.time < until = omega (arith, passed.time, i.next inside, level.windows.some at inside) in
     let current : IsCurrent came = record {
       is_state = caught.state;
       come = subst (HaveCome came) (sym caught.time) caught.come;
       to_come = subst (AreToCome came) (sym caught.time) caught.to_come;
       none_over = caught.none_over;
-      early = omega (arith, caught.time, later, some, c.ranges.slots.fits);
+      early = omega (arith, caught.time, later, some, c.type_inv.level);
     } in
-    let serves : Serves before c.args.jobs.now came span after = record {
+    let serves : Serves before level.jobs.now came span after = record {
       from = served.from;
       some = served.some;
       served = served.served;
@@ -220,22 +234,22 @@ loop-at-preserved g c =
     let given : AreGiven slots begun.time span.until
     = λ x a b. slot_at windows n x (omega (arith, served.in_time, some))
     ∙ all_given windows at x inside (omega (arith, passed.time)) (omega (arith, served.in_time)) in
-    let kept : Kept (level_of c.args.keep) before T c.args.jobs.now slots (passing ++ entries_of span) after =
-    kept_more (level_of c.args.keep) before T c.args.jobs.now windows n passing (passing ++ entries_of span) begun came
+    let kept : KeptOf level before (passing ++ entries_of span) after =
+    kept_more (level_of level.keep) before T level.jobs.now windows n passing (passing ++ entries_of span) begun came
     after span gap current caught.time (ap (λ v. v.items) caught.releases) (ap (λ v. v.items) caught.left)
     (ap (λ v. v.items) caught.ends) given serves refl in
     let follows : g.F.Follow.follows c.add.new.self (passing ++ entries_of span) =
     c.in_ok-add.ensures.followed passing (gap.run_so_far.long ∙ sym caught.time ∙ sym served.from)
     (passed.followed run i.so_far.1.run_so_far.long i.so_far.2) in
     let next
-    = window_passed windows n at c.next_after-at.result old.time after.time c.requires.windows inside i.over
+    = window_passed windows n at c.next_after-at.result old.time after.time level.windows inside i.over
     (omega (arith, passed.time, caught.time, served.some, served.time))
     (omega (arith, served.in_time, served.time))
     (λ e. c.next_after-at.ensures.over (omega (arith, e, c.time.ensures)))
     (λ ne. c.next_after-at.ensures.stays (λ e. ne (omega (arith, e, c.time.ensures)))) in
-    let came_keys : HasKeys before c.args.jobs.now came
-    = keys_kept before c.args.jobs.now begun came caught.keys
-    (keys_later before c.args.jobs.now old begun passed.rest i.keys) in
+    let came_keys : HasKeys before level.jobs.now came
+    = keys_kept before level.jobs.now begun came caught.keys
+    (keys_later before level.jobs.now old begun passed.rest i.keys) in
     record {
       so_far = (passing ++ entries_of span, kept, follows);
       is_state = kept.is_state;
@@ -243,7 +257,7 @@ loop-at-preserved g c =
       long = kept.long;
       takes = λ j l. c.in_ok-add.ensures.taken j (passed.takes j (i.takes j l));
       same = c.in_ok-add.ensures.same ∙ passed.same ∙ i.same;
-      keys = keys_kept before c.args.jobs.now came after served.keys came_keys;
+      keys = keys_kept before level.jobs.now came after served.keys came_keys;
       in_list = next.0;
       over = next.1;
       next = next.2;
@@ -252,23 +266,25 @@ loop-at-preserved g c =
 
 pub returns-clause-followed : goal.returns-clause-followed
 returns-clause-followed g c =
-    let before = g.O.Order.goes c.args.order.now (sporadic_tasks c.args.tasks.now) in
-    let windows = c.args.given.now in
-    let slots = slots_of windows c.args.slots in
+    let level = c.args.level.now in
+    let T = sporadic_tasks level.tasks.now in
+    let before = g.O.Order.goes c.args.order.now T in
+    let windows = level.given.now in
+    let n = level.slots in
+    let slots = slots_of windows n in
     let i = c.loop-at.invariant in
     let old = c.loop-at.ready in
     let run = i.so_far.0 in
-    let all : List (Option ℕ) = run ++ replicate (c.args.slots - old.time) None in
+    let all : List (Option ℕ) = run ++ replicate (n - old.time) None in
     let after = c.pass_until-2.new.ready in
     let passed = c.in_ok-pass_until-2.ensures in
-    let kept : Kept (level_of c.args.keep) before (sporadic_tasks c.args.tasks.now) c.args.jobs.now slots all after =
-    kept_gap (level_of c.args.keep) before (sporadic_tasks c.args.tasks.now) c.args.jobs.now slots run all old after
-    c.args.slots i.so_far.1 (λ x a b. slot_at windows c.args.slots x b
-    ∙ none_given windows c.args.slots c.loop-at.at old.time x c.requires.windows i.over a
+    let kept : KeptOf level before all after =
+    kept_gap (level_of level.keep) before T level.jobs.now slots run all old after n i.so_far.1
+    (λ x a b. slot_at windows n x b
+    ∙ none_given windows n c.loop-at.at old.time x level.windows i.over a
     (λ l. absurd (omega (arith, l, c.loop-at-test.false)))) passed.rest passed.time passed.state refl in
-    let end : after.time ≡ length slots = omega (arith, slots-long windows c.args.slots, i.in_slots, passed.time) in (
+    let end : after.time ≡ length slots = omega (arith, slots-long windows n, i.in_slots, passed.time) in (
       all,
-      subst (λ (n : ℕ). FirstRunTo (level_of c.args.keep) before (sporadic_tasks c.args.tasks.now) c.args.jobs.now slots
-          n all) end kept.run_so_far,
+      subst (λ (m : ℕ). FirstRunTo (level_of level.keep) before T level.jobs.now slots m all) end kept.run_so_far,
       passed.followed run i.so_far.1.run_so_far.long i.so_far.2,
     )

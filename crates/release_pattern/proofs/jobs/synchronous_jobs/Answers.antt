@@ -11,7 +11,7 @@ use Rattle.release_pattern.proofs.jobs.synchronous_jobs.Goals as goal
 pub loop-after-init : goal.loop-after-init
 loop-after-init c = record {
   jobs =
-      c.new-jobs.ensures.items ∙ sym (no_moment (sporadic_tasks c.args.tasks.now) c.args.start)
+      c.in_ok-jobs.ensures.items ∙ sym (no_moment (sporadic_tasks c.args.tasks.now) c.args.start)
       ∙ ap (synchronous (sporadic_tasks c.args.tasks.now) c.args.start) (omega arith);
   due = c.in_ok-due.ensures;
 }
