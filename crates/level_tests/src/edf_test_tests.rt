@@ -5,7 +5,7 @@ use crate::helpers::{
 };
 use edf_demand::{DemandLevel, horizon};
 use edf_test::{
-    LinedLevel, cover, first_short, first_short_by, last_short_by, passes, settled_past,
+    LinedLevel, cover, first_short, first_short_by, is_short, last_short_by, passes, settled_past,
 };
 use slot_model::Task;
 use std::alloc::Global;
@@ -166,5 +166,26 @@ fn short_windows_of_a_level(rt: HostRuntime) {
     ] {
         expect_at(&rt, window, first_short_by(&lined, &supply, window), first);
         expect_at(&rt, window, last_short_by(&lined, &supply, window), last);
+    }
+}
+
+#[test]
+fn which_windows_are_short(rt: HostRuntime) {
+    let tasks = [task(&rt, 10, 4, 3)];
+    let mut terms = [Term::none()];
+    let level = DemandLevel::gather(&tasks, &mut terms);
+    let supply = periodic(&rt, 5, 2);
+    // as above: the first three are asked for in 4 slots and come in 12
+    for (t, want) in [
+        (0, false),
+        (3, false),
+        (4, true),
+        (11, true),
+        (12, false),
+        (17, true),
+        (18, false),
+        (u128::MAX, false),
+    ] {
+        expect_at(&rt, t, is_short(&level, &supply, t), want);
     }
 }

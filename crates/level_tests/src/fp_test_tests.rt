@@ -4,11 +4,13 @@ use crate::helpers::{
     MEMORY, expect, expect_at, five_long_tasks, late_task, periodic, task, two_late_tasks,
     two_tasks,
 };
-use fp_test::{falls, hit};
+use fp_request::RankedLevel;
+use fp_test::{falls, hit, is_hit};
 use slot_model::{Sched, Task};
 use std::alloc::Global;
 use std::process::Abort;
 use supply_bound::{Full, Periodic};
+use window_terms::Term;
 
 #[test]
 fn hits_of_two_tasks(rt: HostRuntime) {
@@ -24,6 +26,25 @@ fn hits_of_two_tasks(rt: HostRuntime) {
         expect_at(&rt, (i, budget), hit(sched, &tasks, i, &supply), want);
     }
     expect(&rt, hit(Sched::Dm, &tasks, 1, &Full), Some(16));
+}
+
+#[test]
+fn which_windows_are_hits(rt: HostRuntime) {
+    let tasks = two_tasks(&rt);
+    let four = periodic(&rt, 10, 4);
+    let mut terms = [Term::none(); 2];
+    let second = RankedLevel::gather(Sched::Rm, &tasks, &mut terms).task(1);
+    for (t, want) in [
+        (0, false),
+        (45, false),
+        (46, true),
+        (50, true),
+        (51, false),
+        (75, true),
+        (76, false),
+    ] {
+        expect_at(&rt, t, is_hit(&second, &four, t), want);
+    }
 }
 
 #[test]

@@ -4,10 +4,11 @@ ghost use Rattle.slot_model.specs.declared.task.TheConstants.{LIMIT};
 use crate::helpers::{
     expect, expect_at, five_long_tasks, five_rates, periodic, task, two_late_tasks, two_tasks,
 };
-use least_budget::{Edge, Least, Tested, budget_edge, least_budget, test};
+use least_budget::{Edge, Least, Level, Tested, budget_edge, least_budget, test};
 use slot_model::{Sched, Short, Task};
 use std::process::Abort;
 use supply_bound::Full;
+use window_terms::Term;
 
 const RANKS: [Sched; 3] = [Sched::Rm, Sched::Dm, Sched::Listed];
 
@@ -59,6 +60,33 @@ fn what_is_short_one_slot_below_the_least_budget(rt: HostRuntime) {
     };
     expect(&rt, budget_edge(Sched::Edf, &none, 10), nothing);
     expect(&rt, budget_edge(Sched::Rm, &none, 10), nothing);
+}
+
+#[test]
+fn one_level_over_several_supplies(rt: HostRuntime) {
+    let two = two_tasks(&rt);
+    let (two_slots, three_slots) = (periodic(&rt, 10, 2), periodic(&rt, 10, 3));
+    let mut terms = [Term::none(); 2];
+    let ranked = Level::gather(Sched::Rm, &two, &mut terms);
+    expect(&rt, ranked.least_budget(10), Least::Budget(4));
+    let short = Tested::Short(Short::Task(1));
+    expect(&rt, ranked.test(&three_slots), short);
+    for (short, want) in [
+        (Short::Task(0), false),
+        (Short::Task(1), true),
+        (Short::Task(2), false),
+        (Short::At(75), false),
+    ] {
+        expect_at(&rt, short, ranked.is_short(&three_slots, short), want);
+    }
+    let mut terms = [Term::none(); 2];
+    let by_deadline = Level::gather(Sched::Edf, &two, &mut terms);
+    expect(&rt, by_deadline.least_budget(10), Least::Budget(3));
+    let window = Short::At(75);
+    for (supply, want) in [(&two_slots, true), (&three_slots, false)] {
+        expect(&rt, by_deadline.is_short(supply, window), want);
+    }
+    expect(&rt, by_deadline.is_short(&two_slots, Short::Task(1)), false);
 }
 
 #[test]
