@@ -313,9 +313,11 @@ module _ (sys : SystemView) (system : IsSystem sys) (budgets : List ℕ) (plan :
         let in_it : part v < length sys.parts = (place v l).within in
         subst (IsSound 0) (sym (fresh_is v l))
         (record {
-          some_period = (system.parts (part v) in_it).period.0;
-          in_limit = (system.parts (part v) in_it).period.1;
-          some_budget = plan.some_budget (part v) in_it;
+          numbers = record {
+            some_period = (system.parts (part v) in_it).period.0;
+            in_limit = (system.parts (part v) in_it).period.1;
+            some_budget = plan.some_budget (part v) in_it;
+          };
           few = omega arith;
           some_left = omega arith;
         });

@@ -1,5 +1,5 @@
 -- Accounts that go on.
-use Rattle.std.proofs.Common.{◌≡◌, ℕ, ◌+◌, ◌-◌, ◌<◌, Bool, true, false, cond, ◌==◌, nat_lt, List, length, set, Option, Some, refl, sym, ◌∙◌, ap, arith, subst, inl, inr, eq-eqb, lt-ltb, le-ltb}
+use Rattle.std.proofs.Common.{◌≡◌, ◌⊎◌, ℕ, ◌+◌, ◌-◌, ◌<◌, ◌≤◌, Bool, true, false, cond, ◌==◌, nat_lt, List, length, set, Option, Some, refl, sym, ◌∙◌, ap, arith, subst, inl, inr, eq-eqb, lt-ltb, le-ltb}
 use Rattle.std.proofs.lemmas.Bool.{cases_Bool, cases_eq, cases_lt, ne_eqb}
 use Rattle.slot_model.specs.Run.{holds}
 use Rattle.rtds_queues.specs.declared.account.Account.{Account}
@@ -51,48 +51,19 @@ gone_is a false slots to = refl
 
 -- and it is sound
 pub sound_gone : (a : Account) (has : Bool) (x to : ℕ) → IsSound x a → x < to → IsSound to (gone_on a has (to - x) to)
-sound_gone a has x to h l = elim (cases_Bool (to == a.until)) [
-  | inl e ↦
-      subst (λ (q : Bool). IsSound to (cond q (renewed a (to + a.period)) (used_more a has (to - x)))) (sym e)
-      (record {
-        some_period = h.some_period;
-        in_limit = h.in_limit;
-        some_budget = h.some_budget;
-        few = omega arith;
-        some_left = h.some_budget;
-      })
-  | inr e ↦
-      subst (λ (q : Bool). IsSound to (cond q (renewed a (to + a.period)) (used_more a has (to - x)))) (sym e)
-      (used has)
-]
+sound_gone a has x to h l = go (cases_Bool (to == a.until)) has (cases_lt (to - x) a.left)
   where
-    used : (has : Bool) → IsSound to (used_more a has (to - x))
-    used false = record {
-      some_period = h.some_period;
-      in_limit = h.in_limit;
-      some_budget = h.some_budget;
-      few = omega (arith, h.few, l);
-      some_left = h.some_left;
-    }
-    used true = elim (cases_lt (to - x) a.left) [
-      | inl less ↦
-          subst (λ (q : Bool). IsSound to (cond q (using a (to - x)) (had_budget a)))
-          (sym (lt-ltb (to - x) a.left less))
-          (record {
-            some_period = h.some_period;
-            in_limit = h.in_limit;
-            some_budget = h.some_budget;
-            few = omega (arith, h.few, l);
-            some_left = omega (arith, less);
-          })
-      | inr more ↦
-          subst (λ (q : Bool). IsSound to (cond q (using a (to - x)) (had_budget a)))
-          (sym (le-ltb (to - x) a.left more))
-          (record {
-            some_period = h.some_period;
-            in_limit = h.in_limit;
-            some_budget = h.some_budget;
-            few = omega (arith, h.few, l);
-            some_left = h.some_budget;
-          })
-    ]
+    go : ((to == a.until) ≡ true) ⊎ ((to == a.until) ≡ false) → (has : Bool) → (to - x < a.left) ⊎ (a.left ≤ to - x)
+        → IsSound to (gone_on a has (to - x) to)
+    go (inl e) has _ =
+        subst (λ (q : Bool). IsSound to (cond q (renewed a (to + a.period)) (used_more a has (to - x)))) (sym e)
+        (record { numbers = h.numbers; few = omega arith; some_left = h.numbers.some_budget })
+    go (inr e) false _ =
+        subst (λ (q : Bool). IsSound to (cond q (renewed a (to + a.period)) a)) (sym e)
+        (record { numbers = h.numbers; few = omega (arith, h.few, l); some_left = h.some_left })
+    go (inr e) true (inl less) =
+        rw (e, lt-ltb (to - x) a.left less)
+        (record { numbers = h.numbers; few = omega (arith, h.few, l); some_left = omega (arith, less) })
+    go (inr e) true (inr more) =
+        rw (e, le-ltb (to - x) a.left more)
+        (record { numbers = h.numbers; few = omega (arith, h.few, l); some_left = h.numbers.some_budget })

@@ -26,29 +26,9 @@ taken_numbers Block end a = record { part = refl; period = refl; budget = refl; 
 sound_taken : (time end : ℕ) (a : Account) → IsSound time a → (what : WakeKind)
     → IsSound time (row_taken what end a)
 sound_taken time end a h Start =
-    record {
-      some_period = h.some_period;
-      in_limit = h.in_limit;
-      some_budget = h.some_budget;
-      few = omega arith;
-      some_left = h.some_budget;
-    }
-sound_taken time end a h Wake =
-    record {
-      some_period = h.some_period;
-      in_limit = h.in_limit;
-      some_budget = h.some_budget;
-      few = h.few;
-      some_left = h.some_left;
-    }
-sound_taken time end a h Block =
-    record {
-      some_period = h.some_period;
-      in_limit = h.in_limit;
-      some_budget = h.some_budget;
-      few = h.few;
-      some_left = h.some_left;
-    }
+    record { numbers = h.numbers; few = omega arith; some_left = h.numbers.some_budget }
+sound_taken time end a h Wake = record { numbers = h.numbers; few = h.few; some_left = h.some_left }
+sound_taken time end a h Block = record { numbers = h.numbers; few = h.few; some_left = h.some_left }
 
 -- nor does its period end by a slot after a row, where neither does nor would one that begins
 later_taken : (x end : ℕ) (a : Account) → x < end → x < a.until → (what : WakeKind) → x < (row_taken what end a).until
@@ -87,7 +67,7 @@ ready_taken row old new h takes holder = record {
         arith,
         at_taken (λ a b. 1 ≤ a.period → row.at < a.until → row.at < b.until) row old.vcpus new.vcpus takes (λ a s e. e)
             (λ a s e. later_taken row.at (row.at + a.period) a (omega (arith, s)) e row.what) v lo
-            (h.sound v lo).some_period (omega (arith, h.ends v lo)),
+            (h.sound v lo).numbers.some_period (omega (arith, h.ends v lo)),
       );
   holder = λ v e. omega (arith, h.holder v (sym holder ∙ e), takes.one_each);
 }

@@ -152,11 +152,15 @@ pub record AreBefore (rows : List Row) (k x : ℕ) : Type 0 where
   pub past : (i : ℕ) → i < k → (row_at rows i).at < x
   pub to_come : (i : ℕ) → k ≤ i → i < length rows → x ≤ (row_at rows i).at
 
+-- a period and a budget are in range
+pub record AreInRange (period budget : ℕ) : Type 0 where
+  pub some_period : 1 ≤ period
+  pub in_limit : period ≤ LIMIT
+  pub some_budget : 1 ≤ budget
+
 -- the numbers of an account are in range, its level is small, and of its slots some are left
 pub record IsSound (time : ℕ) (account : Account) : Type 0 where
-  pub some_period : 1 ≤ account.period
-  pub in_limit : account.period ≤ LIMIT
-  pub some_budget : 1 ≤ account.budget
+  pub numbers : AreInRange account.period account.budget
   pub few : account.level ≤ time
   pub some_left : 1 ≤ account.left
 

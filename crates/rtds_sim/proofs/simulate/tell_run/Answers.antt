@@ -60,11 +60,11 @@ visited : (g : _) (c : After-take_rows g)
 visited g c =
     let took = c.take_rows.ensures in
     visit_rows c.args.sys.now c.args.plan.now c.requires.plan c.args.wakes.now c.requires.workload (runs_of g c)
-    c.loop-host.host c.take_rows.new.self c.loop-host.invariant.stands took.time took.one_each took.ready took.held
+    c.loop-host.host c.take_rows.new.self c.loop-host.invariant.stands took.time took.one_each took.held
     took.in_rows took.later took.now took.no_more took.vcpus
 
 few : (g : _) (c : After-take_rows g) → length c.take_rows.new.self.cores.items ≤ 64
-few g c = omega (arith, (visited g c).one_each, c.new.ensures.system.few_cores)
+few g c = omega (arith, (visited g c).stand.one_each, c.new.ensures.system.few_cores)
 
 in_slots : (g : _) (c : After-take_rows g) → c.take_rows.new.self.time < c.args.slots
 in_slots g c = omega (arith, c.take_rows.ensures.time, c.loop-host-test.true)
@@ -97,8 +97,8 @@ gives_up_at g c d l =
     let host : Host = c.take_rows.new.self in
     let visit = visited g c in
     gives_up_is c.args.sys.now c.args.plan.now c.args.wakes.now d (run_at (runs_of g c) d) host.time host.taken
-    visit.taken (core_at host.cores.items d) (visit.cores d l)
-    (visit.ready d (omega (arith, l, visit.one_each))).holder
+    visit.taken (core_at host.cores.items d) (visit.stand.cores d l)
+    (c.take_rows.ensures.ready d (omega (arith, l, visit.stand.one_each))).holder
 
 -- where no row was taken, no VCPU that has a core is blocked
 pub stop_blocked-requires-clause-awake : goal.stop_blocked-requires-clause-awake
@@ -107,7 +107,7 @@ stop_blocked-requires-clause-awake g c same d l =
     let run = rtds_run-is c.args.sys.now c.args.plan.now c.args.wakes.now c.args.slots in
     let host : Host = c.take_rows.new.self in
     let visit = visited g at in
-    let in_it : d < length c.args.sys.now.cores = omega (arith, l, visit.one_each) in
+    let in_it : d < length c.args.sys.now.cores = omega (arith, l, visit.stand.one_each) in
     let before : AreBefore c.args.wakes.now host.taken host.time
     = subst (λ (k : ℕ). AreBefore c.args.wakes.now k host.time) same
     (subst (AreBefore c.args.wakes.now c.loop-host.host.taken) (sym c.take_rows.ensures.time)
@@ -148,7 +148,7 @@ run_on-requires-clause-one_each g c =
     omega (
       arith,
       c.loop-host.invariant.one_each,
-      (visited g (goal.at.run_on-requires-clause-one_each g c).After-take_rows).one_each,
+      (visited g (goal.at.run_on-requires-clause-one_each g c).After-take_rows).stand.one_each,
       c.stop_blocked.ensures.one_each,
     )
 
@@ -203,7 +203,7 @@ loop-host-preserved g c =
     (list_at c.run_on.new.switches.lists.items d)
     = λ d l.
     let core : HostCore = core_at host.cores.items d in
-    let in_it : d < length host.cores.items = omega (arith, l, visit.one_each) in
+    let in_it : d < length host.cores.items = omega (arith, l, visit.stand.one_each) in
     let left_core : core_at left.cores.items d ≡ core_left core = c.in_ok-stop_blocked.ensures.left d in_it in
     subst (λ (y : ℕ). HasRun sys budgets rows d (run_at runs d) y to k (core_at c.run_on.new.self.cores.items d) []
     (list_at c.run_on.new.switches.lists.items d)) time
@@ -216,11 +216,11 @@ loop-host-preserved g c =
       are =
           subst (λ (y : ℕ). AreOn sys budgets rows d (run_at runs d) y k (core_at left.cores.items d).vcpus) (sym time)
           (subst (AreOn sys budgets rows d (run_at runs d) x k)
-          (sym (ap (λ (z : HostCore). z.vcpus) left_core ∙ left_vcpus core)) (visit.cores d l).are);
+          (sym (ap (λ (z : HostCore). z.vcpus) left_core ∙ left_vcpus core)) (visit.stand.cores d l).are);
       holder_is =
           ap holder_of left_core
-          ∙ (left_is sys budgets rows d (run_at runs d) x k visit.taken core (visit.cores d l)
-          (visit.ready d in_it).holder
+          ∙ (left_is sys budgets rows d (run_at runs d) x k visit.taken core (visit.stand.cores d l)
+          (took.ready d in_it).holder
           ∙ ap (holder_left rows (run_at runs d)) (sym time));
     })) in
     let has_taken = g.T.EventTaker.has_taken in
@@ -241,7 +241,7 @@ loop-host-preserved g c =
     (λ d l. (has_run d (omega (arith, l, each_told))).told_is)) in
     let at_first : stops ++ of_rows ≡ gathered (stop_at rows runs x) cores ++ of_rows
     = ap (λ (es : List Event). es ++ of_rows)
-    (ap (gathered (stop_of host)) visit.one_each
+    (ap (gathered (stop_of host)) visit.stand.one_each
     ∙ gathered-same (stop_of host) (stop_at rows runs x) cores
     (λ d l. ap (λ (q : Bool). cond q (Some (on_at d x Stop)) None) (gives_up_at g at.After-take_rows d l))) in
     let some : x + suc (to - x - 1) ≡ to = omega (arith, later) in
@@ -265,8 +265,10 @@ loop-host-preserved g c =
       stands =
           standing_next sys budgets rows runs x k to visit.taken later rows_later c.run_on.new.self
           c.in_ok-run_on.ensures.time (c.in_ok-run_on.ensures.taken ∙ taken)
-          (c.in_ok-run_on.ensures.one_each ∙ (c.stop_blocked.ensures.one_each ∙ visit.one_each))
-          (λ d l. (has_run d l).stands);
+          (record {
+            one_each = c.in_ok-run_on.ensures.one_each ∙ (c.stop_blocked.ensures.one_each ∙ visit.stand.one_each);
+            cores = λ d l. (has_run d l).stands;
+          });
       told =
           subst (λ (y : ℕ). Took has_taken c.args.events.now c.tell.new.events (printed_below sys rows runs y))
           (sym c.in_ok-run_on.ensures.time)

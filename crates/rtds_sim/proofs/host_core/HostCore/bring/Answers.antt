@@ -32,10 +32,10 @@ begin_periods-requires-clause-periods c =
     record {
       some = λ v l.
           let lo : v < length c.args.self.now.vcpus = omega (arith, l, c.use_slots.ensures.one_each) in
-          omega (arith, period_same at v lo, (c.requires.ready.sound v lo).some_period);
+          omega (arith, period_same at v lo, (c.requires.ready.sound v lo).numbers.some_period);
       few = λ v l.
           let lo : v < length c.args.self.now.vcpus = omega (arith, l, c.use_slots.ensures.one_each) in
-          omega (arith, period_same at v lo, (c.requires.ready.sound v lo).in_limit);
+          omega (arith, period_same at v lo, (c.requires.ready.sound v lo).numbers.in_limit);
     }
 
 pub begin_periods-requires-clause-ends : goal.begin_periods-requires-clause-ends
