@@ -63,19 +63,14 @@ core_dated core = by core.supply
     by (Some supply) = refl
 
 -- parts
+abbrev with_rest : PartView → Option ℕ → Bool → List NamedTask → PartView
+with_rest part budget extra tasks = record part { budget = budget; extra = extra; tasks = tasks }
+
 part_depth : (sys : SystemView) (part : PartView) → depth (printed_part sys part) ≤ 3
 part_depth sys part = by part.budget part.extra part.tasks
   where
     by : (budget : Option ℕ) (extra : Bool) (tasks : List NamedTask) →
-        depth (printed_part sys (record {
-          name = part.name;
-          parent = part.parent;
-          sched = part.sched;
-          period = part.period;
-          budget = budget;
-          extra = extra;
-          tasks = tasks;
-        })) ≤ 3
+        depth (printed_part sys (with_rest part budget extra tasks)) ≤ 3
     by None true [] = omega arith
     by None true (t ∷ ts) = omega (arith, items_within printed_task 1 task_depth (t ∷ ts))
     by None false [] = omega arith
@@ -89,15 +84,7 @@ part_dated : (sys : SystemView) (part : PartView) → has_valid_dates (printed_p
 part_dated sys part = by part.budget part.extra part.tasks
   where
     by : (budget : Option ℕ) (extra : Bool) (tasks : List NamedTask) →
-        has_valid_dates (printed_part sys (record {
-          name = part.name;
-          parent = part.parent;
-          sched = part.sched;
-          period = part.period;
-          budget = budget;
-          extra = extra;
-          tasks = tasks;
-        })) ≡ true
+        has_valid_dates (printed_part sys (with_rest part budget extra tasks)) ≡ true
     by None true [] = refl
     by None true (t ∷ ts) = rw (task_dated t, items_dated printed_task task_dated ts)
     by None false [] = refl

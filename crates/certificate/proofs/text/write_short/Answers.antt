@@ -1,16 +1,16 @@
-use Rattle.std.proofs.Common.{◌≡◌, ℕ, List, ◌-◌, take, drop, sym, rules, arith}
+use Rattle.std.proofs.Common.{◌≡◌, ℕ, ◌<◌, ◌≤◌, ◌^◌, List, length, decimal, ◌-◌, take, drop, sym, rules, arith}
 use Rattle.std.proofs.lemmas.Fmt.{length-decimal-le}
 use Rattle.cert_reader.specs.Text.{quoted_number}
 use Rattle.certificate.proofs.Quotes.{from_the_quote}
 use Rattle.certificate.proofs.text.write_short.Goals as goal
 
+-- a number of 64 bits has at most 20 digits
+few_digits : (n : ℕ) → n < 2 ^ 64 → length (decimal n) ≤ 20
+few_digits n fits = length-decimal-le 20 n (omega arith) (omega (arith, fits)) (omega (arith, fits))
+
 pub write_digits-start-requires : goal.write_digits-start-requires
 write_digits-start-requires c = (
-  omega (
-    arith,
-    length-decimal-le 20 c.args.number (omega arith) (omega (arith, c.ranges.number.fits))
-        (omega (arith, c.ranges.number.fits)),
-  ),
+  omega (arith, few_digits c.args.number (omega (arith, c.ranges.number.fits))),
   omega arith,
 )
 
@@ -19,8 +19,7 @@ overflow_sub-start c =
     omega (
       arith,
       c.write_digits-start.ensures.start,
-      length-decimal-le 20 c.args.number (omega arith) (omega (arith, c.ranges.number.fits))
-          (omega (arith, c.ranges.number.fits)),
+      few_digits c.args.number (omega (arith, c.ranges.number.fits)),
     )
 
 pub returns : goal.returns
@@ -31,8 +30,7 @@ returns c =
     from_the_quote row start c.args.number (omega (
       arith,
       c.write_digits-start.ensures.start,
-      length-decimal-le 20 c.args.number (omega arith) (omega (arith, c.ranges.number.fits))
-          (omega (arith, c.ranges.number.fits)),
+      few_digits c.args.number (omega (arith, c.ranges.number.fits)),
     )) (omega (arith, c.write_digits-start.ensures.start))
     c.write_digits-start.auto.buf c.write_digits-start.ensures.before c.write_digits-start.ensures.written in
     rw (sym same) (search rules)
