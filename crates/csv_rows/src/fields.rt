@@ -14,8 +14,8 @@ pub fn field<'r>(row: &Row<'r>, i: usize) -> &'r [u8]
     }
 }
 
-/// Whether two texts are the same. Words and names are short, and many have two or three bytes, so
-/// this is quicker than `==`.
+/// Whether two texts are the same. Names are short, and many have two or three bytes, so this is
+/// quicker than `==`.
 #[inline(always)]
 pub fn is_same(text: &[u8], other: &[u8]) -> bool
     ensures { result ≡ bytes_eq text.now other.now }
@@ -49,5 +49,5 @@ fn is_same_by_one(text: &[u8], other: &[u8]) -> bool
 pub fn is_word(field: &[u8], word: &str) -> bool
     ensures { result ≡ bytes_eq field.now word.now }
 {
-    is_same(field, word.as_bytes())
+    is_same_by_one(field, word.as_bytes())
 }
