@@ -52,7 +52,8 @@ core_of (on_part q) = q
 
 -- an event after which a VCPU still has its core does not block it
 still_able : (sys : SystemView) (events : List Event) (n d c v : ℕ) (what : What) → what_fault events n d what ≡ None
-    → stands_on sys d (named what) ≡ true → StandsOn sys c v → holder events n c ≡ Some v → is_blocked events n v ≡ false
+    → stands_on sys d (named what) ≡ true → StandsOn sys c v → holder events n c ≡ Some v
+    → is_blocked events n v ≡ false
     → cond (is_change_of v what) (is_block what) (is_blocked events n v) ≡ false
 still_able sys events n d c v (Start w) keeps stands on holds_it able = either (eqb w v) (is_blocked events n v) able
 still_able sys events n d c v (Wake w) keeps stands on holds_it able = either (eqb w v) (is_blocked events n v) able
@@ -93,10 +94,12 @@ holder_able sys events (suc n) c v keep h =
           (sym (holder_next events n c ∙ cond-true {A = Option ℕ} (switches c e) (runner e.what) (holder events n c) on)
           ∙ h) in
           blocked_next events n v
-          ∙ (cond-false {A = Bool} (is_change_of v e.what) (is_block e.what) (is_blocked events n v) can.stays ∙ can.able)
+          ∙ (cond-false {A = Bool} (is_change_of v e.what) (is_block e.what) (is_blocked events n v) can.stays
+          ∙ can.able)
       | inr off ↦
           let held
-          = sym (holder_next events n c ∙ cond-false {A = Option ℕ} (switches c e) (runner e.what) (holder events n c) off)
+          = sym (holder_next events n c
+          ∙ cond-false {A = Option ℕ} (switches c e) (runner e.what) (holder events n c) off)
           ∙ h in
           blocked_next events n v
           ∙ still_able sys events n e.core c v e.what row.what row.stands (holder_stands sys events n c v before held)
@@ -143,5 +146,6 @@ module _ (sys : SystemView) (is : IsSystem sys) (events : List Event) (n v : ℕ
         system = is;
         is_part = on.is_part;
         state_is =
-            same_state (holds last v) false _ _ (core_is on) (sym (can_run events n e.core v e.what row.what runs_next).able);
+            same_state (holds last v) false _ _ (core_is on)
+            (sym (can_run events n e.core v e.what row.what runs_next).able);
       }

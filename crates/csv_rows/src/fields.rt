@@ -14,10 +14,23 @@ pub fn field<'r>(row: &Row<'r>, i: usize) -> &'r [u8]
     }
 }
 
-/// Whether two texts are the same. Words and names are short, so this is quicker than `==`.
-#[tactic(auto, using(crate::proofs::Same::same_texts, crate::proofs::Same::other_length, crate::proofs::Same::other_byte))]
+/// Whether two texts are the same. Names are short, and many have two or three bytes, so this is
+/// quicker than `==`.
 #[inline(always)]
 pub fn is_same(text: &[u8], other: &[u8]) -> bool
+    ensures { result ≡ bytes_eq text.now other.now }
+{
+    match (text, other) {
+        ([a, b], [c, d]) => a == c && b == d,
+        ([a, b, c], [d, e, f]) => a == d && b == e && c == f,
+        _ => is_same_by_one(text, other),
+    }
+}
+
+/// The same, byte by byte.
+#[tactic(auto, using(crate::proofs::Same::same_texts, crate::proofs::Same::other_length, crate::proofs::Same::other_byte))]
+#[inline(always)]
+fn is_same_by_one(text: &[u8], other: &[u8]) -> bool
     ensures { result ≡ bytes_eq text.now other.now }
 {
     if text.len() != other.len() {
@@ -36,5 +49,5 @@ pub fn is_same(text: &[u8], other: &[u8]) -> bool
 pub fn is_word(field: &[u8], word: &str) -> bool
     ensures { result ≡ bytes_eq field.now word.now }
 {
-    is_same(field, word.as_bytes())
+    is_same_by_one(field, word.as_bytes())
 }

@@ -1,6 +1,20 @@
-use Rattle.std.proofs.Common.{◌∙◌}
+use Rattle.std.proofs.Common.{◌∙◌, ℕ, List}
+use Rattle.tree_model.specs.View.{SystemView}
+use Rattle.trace_file.specs.declared.event.Event.{Event}
+use Rattle.trace_file.specs.declared.rows.Rows.{Rows}
+use Rattle.auditor.specs.inner.Told.{StandsSo}
+use Rattle.auditor.specs.inner.Watches.{AwaitsSwitch}
 use Rattle.auditor.proofs.Holding.{next_stands}
 use Rattle.auditor.proofs.watches.Watches.advance_next.Goals as goal
+use Rattle.auditor.proofs.watches.Watches.advance_next.Goals.{After-before_run}
+
+-- the VCPU stands as one that is to run
+stands : (c : After-before_run) (sys : SystemView) (budgets : List ℕ) (events : List Event) (n : ℕ) (rows : Rows)
+    → AwaitsSwitch sys budgets events n c.args.event rows c.args.last c.args.self.now
+    → StandsSo sys events n c.in-Some.v c.before_run.result
+stands c sys budgets events n rows waits =
+    rw c.before_run.ensures (next_stands sys waits.system events n c.in-Some.v c.args.event rows c.args.last
+    waits.awaits.next waits.last_is (c.requires.runs ∙ c.in-Some.is))
 
 pub advance-requires : goal.advance-requires
 advance-requires c =
@@ -10,8 +24,7 @@ advance-requires c =
       events,
       n,
       rows,
-      rw c.before_run.ensures (next_stands sys waits.system events n c.in-Some.v c.args.event rows c.args.last
-          waits.awaits.next waits.last_is (c.requires.runs ∙ c.in-Some.is)),
+      stands (goal.at.advance-requires c).After-before_run sys budgets events n rows waits,
       waits.awaits,
     )
 
@@ -21,6 +34,6 @@ returns-in-Some-clause-awaits c sys budgets events n rows waits = record {
   last_is = waits.last_is;
   awaits =
       c.advance.ensures.awaits sys budgets events n rows
-      (rw c.before_run.ensures (next_stands sys waits.system events n c.in-Some.v c.args.event rows c.args.last
-      waits.awaits.next waits.last_is (c.requires.runs ∙ c.in-Some.is))) waits.awaits;
+      (stands (goal.at.returns-in-Some-clause-awaits c).After-before_run sys budgets events n rows waits)
+      waits.awaits;
 }

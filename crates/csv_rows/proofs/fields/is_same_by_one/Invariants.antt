@@ -1,5 +1,5 @@
 use Rattle.std.proofs.Common.{◌≡◌, ◌<◌, ℕ, get_or}
-use Rattle.csv_rows.proofs.fields.is_same.Given as goal
+use Rattle.csv_rows.proofs.fields.is_same_by_one.Given as goal
 
 -- the bytes so far are the same
 abbrev pub invariant-loop-i : goal.invariant-loop-i
