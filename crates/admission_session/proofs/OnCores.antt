@@ -30,7 +30,7 @@ use Rattle.admission_session.specs.inner.Shares.{share, shares}
 use Rattle.admission_session.proofs.Nodes.{same_below, same_leaf, settled_with}
 use Rattle.admission_session.proofs.KeptByEdits.{changed_at, changed_here, same_child}
 use Rattle.admission_session.proofs.EditedSystems.{added_here}
-use Rattle.admission_session.proofs.RowSystems.{new_leaf_is, add_keeps}
+use Rattle.admission_session.proofs.MadeSystems.{new_leaf_is, add_keeps}
 
 abbrev of_parts : SystemView → List PartView → SystemView
 of_parts sys parts = record { cores = sys.cores; parts = parts }

@@ -4,10 +4,12 @@
 mod answer;
 mod copies;
 mod cores;
+mod edit;
 mod edited;
 mod fault;
 mod find;
 mod in_place;
+mod leaf;
 mod op;
 mod plans;
 mod row;
@@ -17,8 +19,10 @@ mod shares;
 mod trials;
 
 pub use answer::Answer;
+pub use edit::Edit;
 pub use edited::copy_system;
 pub use fault::EditFault;
+pub use leaf::Leaf;
 pub use op::Op;
 pub use row::Row;
 pub use rules::is_new_leaf;

@@ -8,7 +8,7 @@ use Rattle.tree_model.specs.View.{SystemView}
 use Rattle.tree_model.specs.Admission.{Admitted}
 use Rattle.admission_session.specs.declared.answer.Answer.{Answer}
 use Rattle.admission_session.specs.declared.answer.Answer.TheVariants.{Done, Refused, Denied}
-use Rattle.admission_session.specs.RowView.{RowView}
+use Rattle.admission_session.specs.declared.edit.Edit.{Edit}
 use Rattle.admission_session.specs.Answers.{IsAdmitted, IsAnswered}
 use Rattle.admission_session.specs.History.{AreAnswered}
 use Rattle.admission_session.proofs.History.{history_more, one_each}
@@ -26,11 +26,11 @@ use Rattle.host_commands.specs.inner.Editing.{HasEdited, IsToldSession}
 use Rattle.command_steps.proofs.Budgets.{refusal_told}
 
 -- an answer can be told
-pub can_tell : (sys : SystemView) (row : RowView) (answer : Answer) (now : SystemView) → IsAnswered sys row answer now
+pub can_tell : (sys : SystemView) (edit : Edit) (answer : Answer) (now : SystemView) → IsAnswered sys edit answer now
     → IsToldAnswer answer
-can_tell sys row Done now h = tt
-can_tell sys row (Refused fault) now h = tt
-can_tell sys row (Denied denied refusal) now h = refusal_told denied refusal h.2
+can_tell sys edit Done now h = tt
+can_tell sys edit (Refused fault) now h = tt
+can_tell sys edit (Denied denied refusal) now h = refusal_told denied refusal h.2
 
 -- a plan has a budget a part
 pub one_budget_each : (sys : SystemView) (budgets : List ℕ) → Admitted sys budgets → length budgets ≡ length sys.parts
@@ -41,7 +41,7 @@ pub none_edited : (t : Editing) → HasEdited t t []
 none_edited t = record { answers = []; answered = (refl, refl); told = sym (append-nil (string_bytes t.text)) }
 
 -- one row more
-pub edited_more : (start before after : Editing) (rows : List (List (List ℕ))) (row : List (List ℕ)) (edit : RowView)
+pub edited_more : (start before after : Editing) (rows : List (List (List ℕ))) (row : List (List ℕ)) (edit : Edit)
     (number : ℕ) → HasEdited start before rows → edit ≡ edit_of row → number ≡ length rows + 1
     → (answer : Answer) × IsAnswered before.session edit answer after.session
     × (string_bytes after.text ≡ string_bytes before.text ++ answer_line number answer)
@@ -51,10 +51,10 @@ edited_more start before after rows row edit number h is n next =
     record {
       answers = h.answers ++ answer ∷ [];
       answered =
-          subst (λ (es : List RowView). AreAnswered start.session es (h.answers ++ answer ∷ []) after.session)
+          subst (λ (es : List Edit). AreAnswered start.session es (h.answers ++ answer ∷ []) after.session)
           (sym (edits_more rows row)) (history_more start.session (edits_of rows) h.answers before.session (edit_of row)
           answer after.session h.answered
-          (subst (λ (e : RowView). IsAnswered before.session e answer after.session) is answered));
+          (subst (λ (e : Edit). IsAnswered before.session e answer after.session) is answered));
       told =
           told
           ∙ (ap (λ (z : List ℕ). z ++ answer_line number answer) h.told
@@ -71,7 +71,7 @@ edited_more start before after rows row edit number h is n next =
 
 -- a row is answered
 pub took_edit : {A : Type 0} (start before after : Editing) (rows : List (List (List ℕ))) (row : List (List ℕ))
-    (edit : RowView) (number : ℕ) (result : Result A ScriptFault) → HasEdited start before rows
+    (edit : Edit) (number : ℕ) (result : Result A ScriptFault) → HasEdited start before rows
     → number ≡ length rows + 2 → IsSpelt row (Some edit)
     → OnOk result ((answer : Answer) × IsAnswered before.session edit answer after.session
     × (string_bytes after.text ≡ string_bytes before.text ++ answer_line (number - 1) answer))
@@ -94,7 +94,7 @@ told_all sys bytes text start now header same begun told all end =
     let (read, is, keep, edited) = all in
     let (budgets, under, written) = end in
     record {
-      rows = edits_of read;
+      edits = edits_of read;
       spelled =
           record
           { rows = read; header = behind_header (records_of bytes) header read is told; keep = keep; edits_are = refl };
@@ -117,7 +117,7 @@ pub edits_told : (sys : SystemView) (bytes text : List ℕ) (status : Status) �
     → IsToldSession sys bytes text → status ≡ Yes → EditsBytes sys bytes status text
 edits_told sys bytes text status admitted t is_yes =
     inl (record {
-      value = t.rows;
+      value = t.edits;
       gives = t.spelled;
       said = inl (record {
         value = admitted.0;

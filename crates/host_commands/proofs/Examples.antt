@@ -16,7 +16,7 @@ use Rattle.system_file.specs.SystemFile.{system_of}
 use Rattle.compose_tree.specs.Truth.{IsTight, RefusalHolds}
 use Rattle.admission_session.specs.declared.answer.Answer.{Answer}
 use Rattle.admission_session.specs.declared.answer.Answer.TheVariants.{Denied}
-use Rattle.admission_session.specs.RowView.{RowView}
+use Rattle.admission_session.specs.declared.edit.Edit.{Edit}
 use Rattle.admission_session.specs.History.{AreAnswered}
 use Rattle.admission_session.specs.Leaves.{with_guest}
 use Rattle.placement.specs.Placement.{IsPlaced}
@@ -33,12 +33,12 @@ use Rattle.host_commands.specs.Bulk.{HostKeepsDeadlines}
 
 -- a yes tells the answer to each row, of which the refusal of each denied row holds, and budgets
 -- that admit the system that is left, lose no job, and can't be smaller at a computed leaf
-what_a_session_gives : (sys : SystemView) (rows : List RowView) (text : List ℕ) → MeansOfEdits sys rows Yes text
+what_a_session_gives : (sys : SystemView) (edits : List Edit) (text : List ℕ) → MeansOfEdits sys edits Yes text
     → (answers : List Answer) × (last : SystemView) × (budgets : List ℕ)
-    × (text ≡ session_text answers last budgets) × AreAnswered sys rows answers last
+    × (text ≡ session_text answers last budgets) × AreAnswered sys edits answers last
     × ((k : ℕ) (edited : SystemView) (refusal : Refusal) → slice_get answers k ≡ Some (Denied edited refusal)
     → RefusalHolds edited refusal) × Admitted last budgets × NoLoss last budgets × IsTight last budgets
-what_a_session_gives sys rows text left = (
+what_a_session_gives sys edits text left = (
   left.answers,
   left.last,
   left.budgets,

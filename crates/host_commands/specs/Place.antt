@@ -153,10 +153,18 @@ pub record AreGuests (sys : SystemView) (bytes : List ℕ) : Type 0 where
 abbrev pub CanPlace : Contents → Type 0
 CanPlace contents = AreReadable contents AreGuests
 
--- yes, no or wide, or a guest can be no leaf, or memory ran out
-abbrev pub EndsPlacing : Status → Type 0
-EndsPlacing BadFile = ⊤
-EndsPlacing status = IsVerdict status
+-- a guest of the files can be no leaf of the system that those before it make
+pub record SpellsBadGuest (contents : Contents) : Type 0 where
+  pub sys : SystemView
+  pub guests : List PartView
+  pub spelled : SpellsSystem contents sys (λ bytes. SpellsGuests (records_of bytes) guests)
+  pub guest : ℕ
+  pub stops : StopsAt sys guests guest IsBadGuest
+
+-- yes, no or wide, or memory ran out, or a file is refused, where a guest can be no leaf
+abbrev pub EndsPlacing : Contents → Status → Type 0
+EndsPlacing contents BadFile = SpellsBadGuest contents
+EndsPlacing contents status = IsVerdict status
 
 -- what there is to say of the command
 abbrev pub the_place : List ℕ → List ℕ → CommandSpec
@@ -165,5 +173,5 @@ the_place file guests = record {
   Answers = Places;
   Means = PlaceMeans;
   CanJudge = CanPlace;
-  EndsAs = λ contents. EndsPlacing;
+  EndsAs = EndsPlacing;
 }

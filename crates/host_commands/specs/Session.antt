@@ -8,7 +8,7 @@ use Rattle.tree_model.specs.Admission.{Admitted}
 use Rattle.compose_tree.specs.Truth.{IsTight, RefusalHolds}
 use Rattle.admission_session.specs.declared.answer.Answer.{Answer}
 use Rattle.admission_session.specs.declared.answer.Answer.TheVariants.{Denied}
-use Rattle.admission_session.specs.RowView.{RowView}
+use Rattle.admission_session.specs.declared.edit.Edit.{Edit}
 use Rattle.admission_session.specs.History.{AreAnswered}
 use Rattle.script_file.specs.declared.fault.ScriptFault.{ScriptFault}
 use Rattle.script_file.specs.Script.{SpellsScript, IsScriptFault, script_rows}
@@ -23,8 +23,8 @@ use Rattle.command_steps.specs.Attempt.{Attempt, OnAttempt}
 use Rattle.command_steps.specs.Budgets.{OnAdmitted, IsTrulyOverfull}
 use Rattle.command_steps.specs.TwoFiles.{OnTwoFiles, SpellsSystem, AreReadable}
 
--- the bytes of the second file spell rows of edits, or have a first fault
-abbrev pub scripting : List ℕ → Attempt (List RowView) ScriptFault
+-- the bytes of the second file spell edits, or have a first fault
+abbrev pub scripting : List ℕ → Attempt (List Edit) ScriptFault
 scripting bytes = record {
   Gives = SpellsScript (records_of bytes);
   Refuses = IsScriptFault (script_rows (records_of bytes));
@@ -32,20 +32,20 @@ scripting bytes = record {
   text_of = λ fault. fault_text (Script fault) 2;
 }
 
--- the text tells the answer to each row, and the plan of the system that they leave
-pub record IsSession (sys : SystemView) (rows : List RowView) (status : Status) (text : List ℕ)
+-- the text tells the answer to each edit, and the plan of the system that they leave
+pub record IsSession (sys : SystemView) (edits : List Edit) (status : Status) (text : List ℕ)
     : Type 0 where
   pub is_yes : status ≡ Yes
   pub answers : List Answer
   pub last : SystemView
-  pub answered : AreAnswered sys rows answers last
+  pub answered : AreAnswered sys edits answers last
   pub budgets : List ℕ
   pub admitted : Admitted last budgets
   pub told : text ≡ session_text answers last budgets
 
 -- the answer to a system and rows, to a system and bytes, and to two files
-abbrev pub EditsSystem : SystemView → List RowView → Status → List ℕ → Type 0
-EditsSystem sys rows = OnAdmitted sys (λ budgets. IsSession sys rows)
+abbrev pub EditsSystem : SystemView → List Edit → Status → List ℕ → Type 0
+EditsSystem sys edits = OnAdmitted sys (λ budgets. IsSession sys edits)
 
 abbrev pub EditsBytes : SystemView → List ℕ → Status → List ℕ → Type 0
 EditsBytes sys bytes = OnAttempt (scripting bytes) (EditsSystem sys)
@@ -64,11 +64,11 @@ DenialsHold answers =
 -- and of the system that the rows leave, the budgets that the text tells admit it, no job is lost
 -- on any level in any permitted run, whenever each server begins, and every whole budget below a
 -- computed leaf budget must miss
-pub record LeavesDeadlines (sys : SystemView) (rows : List RowView) (text : List ℕ)
+pub record LeavesDeadlines (sys : SystemView) (edits : List Edit) (text : List ℕ)
     : Type 0 where
   pub answers : List Answer
   pub last : SystemView
-  pub answered : AreAnswered sys rows answers last
+  pub answered : AreAnswered sys edits answers last
   pub denials : DenialsHold answers
   pub budgets : List ℕ
   pub told : text ≡ session_text answers last budgets
@@ -77,20 +77,20 @@ pub record LeavesDeadlines (sys : SystemView) (rows : List RowView) (text : List
   pub tight : IsTight last budgets
 
 -- no means what that of `admit` does; of a wide answer nothing is claimed
-abbrev pub MeansOfEdits : SystemView → List RowView → Status → List ℕ → Type 0
-MeansOfEdits sys rows Yes text = LeavesDeadlines sys rows text
-MeansOfEdits sys rows No text = IsTrulyOverfull sys text
-MeansOfEdits sys rows _ text = ⊤
+abbrev pub MeansOfEdits : SystemView → List Edit → Status → List ℕ → Type 0
+MeansOfEdits sys edits Yes text = LeavesDeadlines sys edits text
+MeansOfEdits sys edits No text = IsTrulyOverfull sys text
+MeansOfEdits sys edits _ text = ⊤
 
 abbrev pub SessionMeans : Contents → Status → List ℕ → Type 0
-SessionMeans contents status text = (sys : SystemView) (rows : List RowView)
-    → SpellsSystem contents sys (λ bytes. SpellsScript (records_of bytes) rows)
-    → MeansOfEdits sys rows status text
+SessionMeans contents status text = (sys : SystemView) (edits : List Edit)
+    → SpellsSystem contents sys (λ bytes. SpellsScript (records_of bytes) edits)
+    → MeansOfEdits sys edits status text
 
 -- the files are there, short enough, and spell a system and a script
 pub record IsScript (sys : SystemView) (bytes : List ℕ) : Type 0 where
-  pub rows : List RowView
-  pub spelled : SpellsScript (records_of bytes) rows
+  pub edits : List Edit
+  pub spelled : SpellsScript (records_of bytes) edits
 
 abbrev pub CanEdit : Contents → Type 0
 CanEdit contents = AreReadable contents IsScript

@@ -4,10 +4,10 @@ ghost use Rattle.script_file.specs.declared.fault.ScriptFault.TheVariants.{NoMem
 ghost use Rattle.script_file.specs.Script.{IsScriptFault, script_rows};
 ghost use Rattle.host_commands.specs.inner.Editing.{IsToldSession};
 
-use admission_session::{Row, Session};
-use csv_rows::{Records, RowRules, read_rows};
+use admission_session::{Edit, Session};
+use csv_rows::{Records, Row, RowRules, read_rows};
 use rt_report::{push_answer, session_begun, session_text};
-use script_file::{ScriptFault, read_header, spell_row};
+use script_file::{ScriptFault, read_header, spell_edit};
 use std::alloc::{AllocError, Global};
 
 /// A session that edits by the rows of a script as they are read, and the text of its answers.
@@ -33,8 +33,8 @@ impl RowRules for Editing {
     ghost is_memory = { λ fault. fault ≡ NoMemory };
 
     #[tactic(auto, using(crate::proofs::Edited::took_edit))]
-    fn take(&mut self, row: &csv_rows::Row, number: u64) -> Result<(), ScriptFault> {
-        match spell_row(self.alloc, row) {
+    fn take(&mut self, row: &Row, number: u64) -> Result<(), ScriptFault> {
+        match spell_edit(self.alloc, row) {
             Ok(Some(edit)) => self.edit(edit, number - 1),
             Ok(None) => Err(ScriptFault::BadRow(number)),
             Err(_) => Err(ScriptFault::NoMemory),
@@ -82,14 +82,14 @@ impl Editing {
 
     /// Answers row `number`, counted from 1.
     #[tactic(auto, using(crate::proofs::Edited::can_tell))]
-    fn edit(&mut self, row: Row, number: u64) -> Result<(), ScriptFault>
+    fn edit(&mut self, edit: Edit, number: u64) -> Result<(), ScriptFault>
         ensures answered { OnOk result ((answer : Answer)
-            × IsAnswered self.old.session row answer self.new.session
+            × IsAnswered self.old.session edit answer self.new.session
             × (string_bytes self.new.text
             ≡ string_bytes self.old.text ++ answer_line number answer)) }
         ensures memory { IfErr result (λ fault. fault ≡ NoMemory) }
     {
-        let Ok(answer) = self.session.edit(row) else {
+        let Ok(answer) = self.session.apply(edit) else {
             return Err(ScriptFault::NoMemory);
         };
         match push_answer(&mut self.text, number, &answer) {

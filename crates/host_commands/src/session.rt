@@ -8,10 +8,10 @@ ghost use Rattle.command_steps.specs.Steps.{ending_of, IfAnswered, EndsJudged};
 
 use crate::editing::edit_all;
 use crate::refusing::refuse_system;
-use admission_session::{Row, Session, copy_system};
+use admission_session::{Edit, Session, copy_system};
 use command_steps::{Answer, Ending, JudgeTwo, Status, second_fault};
 use rt_report::FileFault;
-use script_file::{ScriptFault, read_script};
+use script_file::{ScriptFault, read_edits};
 use std::alloc::Global;
 use tree_model::{Refusal, System};
 
@@ -62,15 +62,15 @@ fn edited(alloc: Global, sys: &System, opened: Session, bytes: &[u8]) -> Result<
     }
 }
 
-// The rows that the bytes of the second file word spell. It stops where they are refused.
-fn spelled_script(alloc: Global, bytes: &[u8]) -> Result<Vec<Row>, Ending>
-    ensures spelled { IfOk result (λ rows. SpellsScript (records_of bytes.now) rows.items) }
+// The edits that the bytes of the second file word spell. It stops where they are refused.
+fn spelled_script(alloc: Global, bytes: &[u8]) -> Result<Vec<Edit>, Ending>
+    ensures spelled { IfOk result (λ edits. SpellsScript (records_of bytes.now) edits.items) }
     ensures refused { IfErr result (λ stop. IfAnswered stop (λ a.
         IsRefused (scripting bytes.now) a.status a.text.items)) }
     ensures judged { IfErr result (λ stop. EndsJudged stop) }
 {
-    match read_script(alloc, bytes) {
-        Ok(rows) => Ok(rows),
+    match read_edits(alloc, bytes) {
+        Ok(edits) => Ok(edits),
         Err(ScriptFault::NoMemory) => Err(Ending::NoMemory),
         Err(fault) => Err(second_fault(alloc, FileFault::Script(fault))),
     }

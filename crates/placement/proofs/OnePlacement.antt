@@ -8,7 +8,7 @@ use Rattle.tree_model.specs.Admission.{FirstRefusal}
 use Rattle.tree_model.proofs.Unique.{never_both, one_refusal}
 use Rattle.admission_session.specs.Leaves.{with_guest}
 use Rattle.admission_session.specs.Answers.{IsAdmitted}
-use Rattle.admission_session.proofs.RowSystems.{new_leaf_is}
+use Rattle.admission_session.proofs.MadeSystems.{new_leaf_is}
 use Rattle.placement.specs.declared.fault.PlaceFault.{PlaceFault}
 use Rattle.placement.specs.declared.fault.PlaceFault.TheVariants.{Refused as Refuses, BadGuest, Unplaced, NoMemory}
 use Rattle.placement.specs.Placement.{IsFirstFit, IsPlaced}

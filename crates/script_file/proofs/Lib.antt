@@ -1,5 +1,6 @@
 pub mod CutPieces
 pub mod RowsTaking
 pub mod OneScript
+mod GuestsAdded
 pub mod OneGuests
 mod ScriptExamples

@@ -2,16 +2,16 @@
 use Rattle.std.proofs.Common.{◌≡◌, ℕ, List, Option, Some, None, sym, ◌∙◌, ap, subst}
 use Rattle.std.proofs.lemmas.Option.{same_Some}
 use Rattle.csv_rows.proofs.OneFault.{one_fault, no_fault_kept}
-use Rattle.admission_session.specs.RowView.{RowView}
+use Rattle.admission_session.specs.declared.edit.Edit.{Edit}
 use Rattle.script_file.specs.declared.fault.ScriptFault.{ScriptFault}
 use Rattle.script_file.specs.Script.{edits_of, script_rules, script_rows, SpellsScript, IsScriptFault}
 
-pub one_script : (records : List (List (List ℕ))) (xs ys : List RowView) → SpellsScript records xs
+pub one_script : (records : List (List (List ℕ))) (xs ys : List Edit) → SpellsScript records xs
     → SpellsScript records ys → xs ≡ ys
 one_script records xs ys s t =
     s.edits_are ∙ (ap edits_of (same_Some s.rows t.rows (sym s.header ∙ t.header)) ∙ sym t.edits_are)
 
-pub no_script_fault : (records : List (List (List ℕ))) (xs : List RowView) (fault : ScriptFault)
+pub no_script_fault : (records : List (List (List ℕ))) (xs : List Edit) (fault : ScriptFault)
     → SpellsScript records xs → IsScriptFault (script_rows records) fault → ⊥
 no_script_fault records xs fault s h =
     no_fault_kept script_rules s.rows fault s.keep

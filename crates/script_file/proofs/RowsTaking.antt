@@ -3,7 +3,7 @@ use Rattle.std.proofs.Common.{◌≡◌, ℕ, ◌+◌, ◌<◌, ◌^◌, true, f
 use Rattle.std.specs.Prelude.{OnOk}
 use Rattle.std.proofs.lemmas.List.{map-append}
 use Rattle.csv_rows.specs.Rules.{RowsKeep, IsFirstFault, fault_if, row_of}
-use Rattle.admission_session.specs.RowView.{RowView}
+use Rattle.admission_session.specs.declared.edit.Edit.{Edit}
 use Rattle.script_file.specs.declared.fault.ScriptFault.{ScriptFault}
 use Rattle.script_file.specs.declared.fault.ScriptFault.TheVariants.{BadRow}
 use Rattle.script_file.specs.declared.script_rows.ScriptRows.{ScriptRows}
@@ -26,16 +26,17 @@ breaks rows row number e n =
 
 -- a row is taken
 pub took_row : {A : Type 0} (start before after : ScriptRows) (rows : List (List (List ℕ))) (row : List (List ℕ))
-    (edit : RowView) (result : Result A ScriptFault) → HasTakenRows start before rows → IsSpelt row (Some edit)
-    → OnOk result (after.rows.items ≡ before.rows.items ++ edit ∷ []) → OnOk result (length after.rows.items < 2 ^ 32)
+    (edit : Edit) (result : Result A ScriptFault) → HasTakenRows start before rows → IsSpelt row (Some edit)
+    → OnOk result (after.edits.items ≡ before.edits.items ++ edit ∷ [])
+    → OnOk result (length after.edits.items < 2 ^ 32)
     → OnOk result ((script_rules rows row ≡ None) × HasTakenRows start after (rows ++ row ∷ []))
 took_row start before after rows row edit (Ok done) has spelt items few = (
   keeps rows row spelt.0,
   record {
     edits =
         items
-        ∙ (ap (λ (z : List RowView). z ++ edit ∷ []) has.edits
-        ∙ (ap (λ (e : RowView). edits_of rows ++ e ∷ []) spelt.1 ∙ sym (edits_more rows row)));
+        ∙ (ap (λ (z : List Edit). z ++ edit ∷ []) has.edits
+        ∙ (ap (λ (e : Edit). edits_of rows ++ e ∷ []) spelt.1 ∙ sym (edits_more rows row)));
     few = few;
   },
 )
@@ -49,7 +50,7 @@ behind_header records header read is told = ap script_rows is ∙ rw (told) refl
 pub spelt_all : (records : List (List (List ℕ))) (s t : ScriptRows) (header : List (List ℕ))
     → is_script_header header ≡ true
     → (read : List (List (List ℕ))) × (records ≡ header ∷ read) × RowsKeep script_rules read (length read)
-    × HasTakenRows s t read → SpellsScript records t.rows.items
+    × HasTakenRows s t read → SpellsScript records t.edits.items
 spelt_all records s t header told all =
     let (read, is, keep, taken) = all in
     record { rows = read; header = behind_header records header read is told; keep = keep; edits_are = taken.edits }

@@ -1,10 +1,11 @@
 -- Rows of scripts, on which the rules are computed.
-use Rattle.std.proofs.Common.{◌≡◌, ℕ, List, Some, None, true, false, [], ◌∷◌, codes, refl}
+use Rattle.std.proofs.Common.{◌≡◌, ℕ, List, Option, Some, None, true, false, [], ◌∷◌, codes, refl}
 use Rattle.slot_model.specs.declared.sched.Sched.TheVariants.{Edf, Listed}
 use Rattle.slot_model.specs.Task.{jittery_task}
 use Rattle.tree_model.specs.declared.place.Parent.TheVariants.{Core}
 use Rattle.csv_rows.specs.Rules.{row_of}
-use Rattle.admission_session.specs.declared.op.Op.TheVariants.{Add, Remove, Change}
+use Rattle.admission_session.specs.declared.edit.Edit.TheVariants.{Add, Remove, Change}
+use Rattle.admission_session.specs.LeafView.{LeafView}
 use Rattle.script_file.specs.declared.fault.ScriptFault.TheVariants.{BadHeader}
 use Rattle.script_file.specs.Pieces.{pieces}
 use Rattle.script_file.specs.Script.{edit_of, is_script_header, is_task, is_row, are_tasks, script_rows, task_of, IsScriptFault}
@@ -89,10 +90,9 @@ abbrev row : List ℕ → List ℕ → List ℕ → List (List ℕ)
 row op parent budget =
     op ∷ codes "B" ∷ parent ∷ codes "listed" ∷ codes "20" ∷ budget ∷ codes "t:20:20:1:2;u:40:30:0:3" ∷ []
 
-an_addition : edit_of (row (codes "add") (codes "cpu0") (codes "7")) ≡ record {
-  op = Add;
+abbrev spelled : LeafView
+spelled = record {
   name = codes "B";
-  parent = Some (codes "cpu0");
   sched = Listed;
   period = 20;
   budget = Some 7;
@@ -100,18 +100,22 @@ an_addition : edit_of (row (codes "add") (codes "cpu0") (codes "7")) ≡ record 
       record { name = codes "t"; task = jittery_task 20 20 2 1 }
       ∷ record { name = codes "u"; task = jittery_task 40 30 3 0 } ∷ [];
 }
+
+abbrev bare : Option ℕ → LeafView
+bare budget = record { name = codes "B"; sched = Edf; period = 10; budget = budget; tasks = [] }
+
+an_addition : edit_of (row (codes "add") (codes "cpu0") (codes "7")) ≡ Add spelled (Some (codes "cpu0"))
 an_addition = refl
 
 an_addition_of_a_guest : edit_of (codes "add" ∷ codes "B" ∷ [] ∷ codes "edf" ∷ codes "10" ∷ [] ∷ [] ∷ [])
-    ≡ record { op = Add; name = codes "B"; parent = None; sched = Edf; period = 10; budget = None; tasks = [] }
+    ≡ Add (bare None) None
 an_addition_of_a_guest = refl
 
 a_change : edit_of (codes "change" ∷ codes "B" ∷ [] ∷ codes "edf" ∷ codes "10" ∷ codes "3" ∷ [] ∷ [])
-    ≡ record { op = Change; name = codes "B"; parent = None; sched = Edf; period = 10; budget = Some 3; tasks = [] }
+    ≡ Change (bare (Some 3))
 a_change = refl
 
-a_removal_that_is_spelled : edit_of (codes "remove" ∷ codes "B" ∷ [] ∷ [] ∷ [] ∷ [] ∷ [] ∷ [])
-    ≡ record { op = Remove; name = codes "B"; parent = None; sched = Edf; period = 1; budget = None; tasks = [] }
+a_removal_that_is_spelled : edit_of (codes "remove" ∷ codes "B" ∷ [] ∷ [] ∷ [] ∷ [] ∷ [] ∷ []) ≡ Remove (codes "B")
 a_removal_that_is_spelled = refl
 
 rows_that_are_none : (is_row (codes "Add" ∷ codes "B" ∷ [] ∷ codes "edf" ∷ codes "10" ∷ [] ∷ [] ∷ []) ≡ false)
@@ -149,7 +153,7 @@ no_guest_on_a_parent = refl
 no_guest_by_a_change : is_guest (edit_of (row (codes "change") [] [])) ≡ false
 no_guest_by_a_change = refl
 
-the_leaf_of_a_guest : guest_of (edit_of (codes "add" ∷ codes "B" ∷ [] ∷ codes "edf" ∷ codes "10" ∷ codes "4" ∷ [] ∷ []))
+the_part_of_a_guest : guest_of (bare (Some 4))
     ≡ record {
       name = codes "B";
       parent = Core 0;
@@ -159,4 +163,4 @@ the_leaf_of_a_guest : guest_of (edit_of (codes "add" ∷ codes "B" ∷ [] ∷ co
       extra = false;
       tasks = [];
     }
-the_leaf_of_a_guest = refl
+the_part_of_a_guest = refl

@@ -1,4 +1,4 @@
--- The rows of edits that the records of a script spell. A record is a list of fields, and a field
+-- The edits that the records of a script spell. A record is a list of fields, and a field
 -- a list of bytes.
 use Rattle.std.specs.Prelude.{◌≡◌, ℕ, ◌+◌, Bool, true, false, not, ◌&&◌, ◌||◌, nat_le, nat_lt, if◌then◌else◌, List, [], ◌∷◌, length, map, Option, Some, None, is_some, unwrap_or, codes, bytes_eq}
 use Rattle.std.specs.List.{list_all}
@@ -12,8 +12,12 @@ use Rattle.csv_rows.specs.Decimal.{is_plain, number}
 use Rattle.csv_rows.specs.Rules.{RulesOf, RowsKeep, IsFirstFault, row_of, fault_if}
 use Rattle.system_file.specs.Document.{sched_named}
 use Rattle.admission_session.specs.declared.op.Op.{Op}
-use Rattle.admission_session.specs.declared.op.Op.TheVariants.{Add, Remove, Change}
+use Rattle.admission_session.specs.declared.op.Op.TheVariants.{Add as Adds, Remove as Removes, Change as Changes}
+use Rattle.admission_session.specs.declared.edit.Edit.{Edit}
+use Rattle.admission_session.specs.declared.edit.Edit.TheVariants.{Add, Remove, Change}
+use Rattle.admission_session.specs.LeafView.{LeafView}
 use Rattle.admission_session.specs.RowView.{RowView}
+use Rattle.admission_session.specs.Rows.{as_row}
 use Rattle.script_file.specs.declared.fault.ScriptFault.{ScriptFault}
 use Rattle.script_file.specs.declared.fault.ScriptFault.TheVariants.{BadHeader, BadRow}
 use Rattle.script_file.specs.Pieces.{pieces}
@@ -70,9 +74,9 @@ tasks_of field = map task_of (list_of field)
 -- the three words
 abbrev pub op_named : List ℕ → Option Op
 op_named word =
-    if bytes_eq word (codes "add") then Some Add
-    else if bytes_eq word (codes "remove") then Some Remove
-    else if bytes_eq word (codes "change") then Some Change
+    if bytes_eq word (codes "add") then Some Adds
+    else if bytes_eq word (codes "remove") then Some Removes
+    else if bytes_eq word (codes "change") then Some Changes
     else None
 
 -- a scheduler as a system file names it, a period, and a budget that may be left to be computed
@@ -92,29 +96,14 @@ abbrev pub is_leaf : List ℕ → List ℕ → List ℕ → List ℕ → List �
 is_leaf part sched period budget tasks =
     is_served sched period budget && are_tasks tasks && is_name part
 
-abbrev pub leaf_row : Op → Option (List ℕ)
-    → List ℕ → List ℕ → List ℕ → List ℕ → List ℕ → RowView
-leaf_row op parent part sched period budget tasks =
+abbrev pub leaf_of : List ℕ → List ℕ → List ℕ → List ℕ → List ℕ → LeafView
+leaf_of part sched period budget tasks =
     record {
-      op = op;
       name = part;
-      parent = parent;
       sched = sched_of sched;
       period = number period;
       budget = budget_of budget;
       tasks = tasks_of tasks;
-    }
-
-abbrev pub removal : List ℕ → RowView
-removal part =
-    record {
-      op = Remove;
-      name = part;
-      parent = None;
-      sched = Edf;
-      period = 1;
-      budget = None;
-      tasks = [];
     }
 
 abbrev pub is_bare : List ℕ → List ℕ → List ℕ → List ℕ → List ℕ → Bool
@@ -126,11 +115,11 @@ is_bare parent sched period budget tasks =
 abbrev pub is_row_of
     : Option Op → List ℕ → List ℕ → List ℕ → List ℕ → List ℕ → List ℕ → Bool
 is_row_of None part parent sched period budget tasks = false
-is_row_of (Some Add) part parent sched period budget tasks =
+is_row_of (Some Adds) part parent sched period budget tasks =
     (is_empty parent || is_name parent) && is_leaf part sched period budget tasks
-is_row_of (Some Remove) part parent sched period budget tasks =
+is_row_of (Some Removes) part parent sched period budget tasks =
     is_bare parent sched period budget tasks && is_name part
-is_row_of (Some Change) part parent sched period budget tasks =
+is_row_of (Some Changes) part parent sched period budget tasks =
     is_empty parent && is_leaf part sched period budget tasks
 
 abbrev pub parent_of : List ℕ → Option (List ℕ)
@@ -138,13 +127,13 @@ parent_of [] = None
 parent_of (b ∷ bytes) = Some (b ∷ bytes)
 
 abbrev pub edit_of_op
-    : Option Op → List ℕ → List ℕ → List ℕ → List ℕ → List ℕ → List ℕ → RowView
-edit_of_op None part parent sched period budget tasks = removal part
-edit_of_op (Some Add) part parent sched period budget tasks =
-    leaf_row Add (parent_of parent) part sched period budget tasks
-edit_of_op (Some Remove) part parent sched period budget tasks = removal part
-edit_of_op (Some Change) part parent sched period budget tasks =
-    leaf_row Change None part sched period budget tasks
+    : Option Op → List ℕ → List ℕ → List ℕ → List ℕ → List ℕ → List ℕ → Edit
+edit_of_op None part parent sched period budget tasks = Remove part
+edit_of_op (Some Adds) part parent sched period budget tasks =
+    Add (leaf_of part sched period budget tasks) (parent_of parent)
+edit_of_op (Some Removes) part parent sched period budget tasks = Remove part
+edit_of_op (Some Changes) part parent sched period budget tasks =
+    Change (leaf_of part sched period budget tasks)
 
 -- a row has seven fields
 abbrev pub is_row : List (List ℕ) → Bool
@@ -153,12 +142,12 @@ is_row (op ∷ part ∷ parent ∷ sched ∷ period ∷ budget ∷ tasks ∷ [])
 is_row _ = false
 
 -- what such a row spells
-abbrev pub edit_of : List (List ℕ) → RowView
+abbrev pub edit_of : List (List ℕ) → Edit
 edit_of (op ∷ part ∷ parent ∷ sched ∷ period ∷ budget ∷ tasks ∷ []) =
     edit_of_op (op_named op) part parent sched period budget tasks
-edit_of _ = removal []
+edit_of _ = Remove []
 
-abbrev pub edits_of : List (List (List ℕ)) → List RowView
+abbrev pub edits_of : List (List (List ℕ)) → List Edit
 edits_of rows = map edit_of rows
 
 -- the first rule that a row breaks behind these
@@ -178,11 +167,17 @@ script_rows [] = None
 script_rows (header ∷ rows) = if is_script_header header then Some rows else None
 
 -- the records spell these edits
-pub record SpellsScript (records : List (List (List ℕ))) (edits : List RowView) : Type 0 where
+pub record SpellsScript (records : List (List (List ℕ))) (edits : List Edit) : Type 0 where
   pub rows : List (List (List ℕ))
   pub header : script_rows records ≡ Some rows
   pub keep : RowsKeep script_rules rows (length rows)
   pub edits_are : edits ≡ edits_of rows
+
+-- and these rows, one of each edit
+pub record SpellsRows (records : List (List (List ℕ))) (rows : List RowView) : Type 0 where
+  pub edits : List Edit
+  pub spelled : SpellsScript records edits
+  pub rows_are : rows ≡ map as_row edits
 
 -- or this is their first fault: of the header, or of the first row that breaks a rule
 abbrev pub IsScriptFault : Option (List (List (List ℕ))) → ScriptFault → Type 0

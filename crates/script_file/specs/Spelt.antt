@@ -1,6 +1,6 @@
 -- What is made of a record of a script.
 use Rattle.std.specs.Prelude.{◌≡◌, ℕ, true, false, List, [], ◌∷◌, Option, Some, None}
-use Rattle.admission_session.specs.RowView.{RowView}
+use Rattle.admission_session.specs.declared.edit.Edit.{Edit}
 use Rattle.script_file.specs.declared.row_fields.RowFields.{RowFields}
 use Rattle.script_file.specs.declared.task_spelling.TaskFields.{TaskFields}
 use Rattle.script_file.specs.Script.{is_row, edit_of}
@@ -16,6 +16,6 @@ task_fields f =
     f.name.now ∷ f.period.now ∷ f.deadline.now ∷ f.jitter.now ∷ f.work.now ∷ []
 
 -- a record that is no row, or what a row spells
-abbrev pub IsSpelt : List (List ℕ) → Option RowView → Type 0
+abbrev pub IsSpelt : List (List ℕ) → Option Edit → Type 0
 IsSpelt fields None = is_row fields ≡ false
 IsSpelt fields (Some edit) = (is_row fields ≡ true) × (edit ≡ edit_of fields)

@@ -1,2 +1,3 @@
 -- What only private functions promise each other.
 pub mod Taken
+pub mod Guests

@@ -1,13 +1,14 @@
-ghost use Rattle.std.specs.Prelude.{◌≡◌, ◌⊎◌, ◌<◌, ◌^◌, true, map, length, IfOk, IfErr, MatchOption};
-ghost use Rattle.std.specs.List.{list_all};
+ghost use Rattle.std.specs.Prelude.{◌≡◌, ◌⊎◌, ◌<◌, ◌^◌, false, length, IfOk, IfErr, MatchOption};
 ghost use Rattle.csv_rows.specs.Reading.{records_of};
 ghost use Rattle.script_file.specs.declared.fault.ScriptFault.TheVariants.{NoMemory};
-ghost use Rattle.script_file.specs.Guests.{SpellsGuests, IsGuestFault, IsFirstOther, guest_of, is_guest};
+ghost use Rattle.admission_session.specs.LeafView.{LeafView};
+ghost use Rattle.script_file.specs.Guests.{SpellsGuests, IsGuestFault, guest_of, is_guest, without_parent};
+ghost use Rattle.script_file.specs.inner.Guests.{AddGuests, IsOther};
 
-use crate::{ScriptFault, read_script};
-use admission_session::{Op, Row};
+use crate::{ScriptFault, read_edits};
+use admission_session::Edit;
 use csv_rows::row_of;
-use std::alloc::{AllocError, Global};
+use std::alloc::Global;
 use tree_model::{Parent, Part};
 
 /// Why a text spells no guests.
@@ -27,52 +28,41 @@ pub fn read_guests(alloc: Global, bytes: &[u8]) -> Result<Vec<Part>, GuestFault>
     ensures fault { IfErr result (λ fault. (fault ≡ GuestFault.Script NoMemory)
         ⊎ IsGuestFault (records_of bytes.now) fault) }
 {
-    let rows = match read_script(alloc, bytes) {
-        Ok(rows) => rows,
-        Err(fault) => return Err(GuestFault::Script(fault)),
-    };
-    if let Some(row) = first_other(&rows) {
-        return Err(GuestFault::Other(row));
-    }
-    match guests_of(alloc, rows) {
-        Ok(guests) => Ok(guests),
-        Err(_) => Err(GuestFault::Script(ScriptFault::NoMemory)),
+    match read_edits(alloc, bytes) {
+        Ok(edits) => guests_of(alloc, edits),
+        Err(fault) => Err(GuestFault::Script(fault)),
     }
 }
 
-/// Whether a row adds a leaf and names no parent.
-fn is_guest(row: &Row) -> bool
-    ensures { result ≡ is_guest row.now }
-{
-    row.op == Op::Add && row.parent.is_none()
-}
-
-/// The first row, counted from the header, that is none of a guest.
-fn first_other(rows: &[Row]) -> Option<u64>
+/// The guest that an edit adds, where it names no parent.
+fn guest_of(edit: Edit) -> Option<Part>
     ensures { MatchOption result
-        (list_all is_guest rows.now ≡ true)
-        (IsFirstOther rows.now) }
+        (is_guest edit ≡ false)
+        (λ guest. (leaf : LeafView) × (edit ≡ without_parent leaf) × (guest ≡ guest_of leaf)) }
 {
-    for (i, row) in rows.iter().enumerate() {
-        if !is_guest(row) {
-            return Some(row_of(i as u64));
-        }
+    match edit {
+        Edit::Add { leaf, parent: None } => Some(leaf.on(Parent::Core(0), false)),
+        _ => None,
     }
-    None
 }
 
-fn guests_of(alloc: Global, rows: Vec<Row>) -> Result<Vec<Part>, AllocError>
-    ensures { IfOk result (λ guests. guests.items ≡ map guest_of rows.items) }
+/// The guests that edits add, or the row of the first edit that adds none.
+fn guests_of(alloc: Global, edits: Vec<Edit>) -> Result<Vec<Part>, GuestFault>
+    requires few { length edits.items < 2 ^ 32 }
+    ensures guests { IfOk result (λ guests. AddGuests edits.items guests.items) }
+    ensures fault { IfErr result (λ fault. (fault ≡ GuestFault.Script NoMemory)
+        ⊎ IsOther edits.items fault) }
 {
-    rows.into_iter()
-        .map(|row| Part {
-            name: row.name,
-            parent: Parent::Core(0),
-            sched: row.sched,
-            period: row.period,
-            budget: row.budget,
-            extra: false,
-            tasks: row.tasks,
-        })
-        .collect(alloc)
+    let mut guests = Vec::new(alloc);
+    let mut row = row_of(0);
+    for edit in edits {
+        let Some(guest) = guest_of(edit) else {
+            return Err(GuestFault::Other(row));
+        };
+        if guests.push(guest).is_err() {
+            return Err(GuestFault::Script(ScriptFault::NoMemory));
+        }
+        row += 1;
+    }
+    Ok(guests)
 }

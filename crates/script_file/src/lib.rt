@@ -1,4 +1,4 @@
-//! Scripts of edits: the rows that a file of comma-separated records spells, or its first fault.
+//! Scripts of edits: the edits that a file of comma-separated records spells, or its first fault.
 #![tactic(auto)]
 
 mod cutting;
@@ -13,5 +13,5 @@ mod task_spelling;
 
 pub use fault::ScriptFault;
 pub use guests::{GuestFault, read_guests};
-pub use script_reading::{read_header, read_script};
-pub use spelling::spell_row;
+pub use script_reading::{read_edits, read_header, read_script};
+pub use spelling::spell_edit;

@@ -1,14 +1,15 @@
-ghost use Rattle.std.specs.Prelude.{◌≡◌, ◌⊎◌, ◌∷◌, ◌<◌, ◌^◌, [], List, ℕ, true, None, length, IfOk, IfErr, OnOk};
+ghost use Rattle.std.specs.Prelude.{◌≡◌, ◌⊎◌, ◌∷◌, ◌<◌, ◌^◌, [], List, ℕ, true, None, length, map, IfOk, IfErr, OnOk};
+ghost use Rattle.admission_session.specs.Rows.{as_row};
 ghost use Rattle.csv_rows.specs.Reading.{HasRead, IsOpen, records_of};
 ghost use Rattle.script_file.specs.declared.fault.ScriptFault.TheVariants.{BadHeader, NoMemory};
-ghost use Rattle.script_file.specs.Script.{SpellsScript, IsScriptFault, is_script_header, script_rows};
+ghost use Rattle.script_file.specs.Script.{SpellsRows, SpellsScript, IsScriptFault, is_script_header, script_rows};
 
 use crate::ScriptFault;
 use crate::row_fields::is_script_header;
 use crate::script_rows::ScriptRows;
-use admission_session::Row;
+use admission_session::{Edit, Row};
 use csv_rows::{Records, read_rows};
-use std::alloc::Global;
+use std::alloc::{AllocError, Global};
 
 /// The header of a script.
 pub fn read_header(records: &mut Records) -> Result<(), ScriptFault>
@@ -30,10 +31,10 @@ pub fn read_header(records: &mut Records) -> Result<(), ScriptFault>
     Ok(())
 }
 
-/// The rows of edits that the records of a text spell, or the first rule that the text breaks.
-pub fn read_script(alloc: Global, bytes: &[u8]) -> Result<Vec<Row>, ScriptFault>
-    ensures spelt { IfOk result (λ rows. SpellsScript (records_of bytes.now) rows.items) }
-    ensures few { IfOk result (λ rows. length rows.items < 2 ^ 32) }
+/// The edits that the records of a text spell, or the first rule that the text breaks.
+pub fn read_edits(alloc: Global, bytes: &[u8]) -> Result<Vec<Edit>, ScriptFault>
+    ensures spelt { IfOk result (λ edits. SpellsScript (records_of bytes.now) edits.items) }
+    ensures few { IfOk result (λ edits. length edits.items < 2 ^ 32) }
     ensures fault { IfErr result (λ fault. (fault ≡ NoMemory)
         ⊎ IsScriptFault (script_rows (records_of bytes.now)) fault) }
 {
@@ -46,4 +47,27 @@ pub fn read_script(alloc: Global, bytes: &[u8]) -> Result<Vec<Row>, ScriptFault>
         return Err(fault);
     }
     Ok(rows.finish())
+}
+
+/// The same as rows, one of each edit.
+pub fn read_script(alloc: Global, bytes: &[u8]) -> Result<Vec<Row>, ScriptFault>
+    ensures spelt { IfOk result (λ rows. SpellsRows (records_of bytes.now) rows.items) }
+    ensures few { IfOk result (λ rows. length rows.items < 2 ^ 32) }
+    ensures fault { IfErr result (λ fault. (fault ≡ NoMemory)
+        ⊎ IsScriptFault (script_rows (records_of bytes.now)) fault) }
+{
+    let edits = read_edits(alloc, bytes)?;
+    match rows_of(alloc, edits) {
+        Ok(rows) => Ok(rows),
+        Err(_) => Err(ScriptFault::NoMemory),
+    }
+}
+
+fn rows_of(alloc: Global, edits: Vec<Edit>) -> Result<Vec<Row>, AllocError>
+    ensures { IfOk result (λ rows. rows.items ≡ map as_row edits.items) }
+{
+    edits
+        .into_iter()
+        .map(|edit| Row::of_edit(alloc, edit))
+        .collect(alloc)
 }

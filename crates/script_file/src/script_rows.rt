@@ -1,16 +1,16 @@
 ghost use Rattle.std.specs.Prelude.{◌≡◌};
 
 use crate::ScriptFault;
-use crate::spelling::spell_row;
-use admission_session::Row;
-use csv_rows::RowRules;
+use crate::spelling::spell_edit;
+use admission_session::Edit;
+use csv_rows::{Row, RowRules};
 use std::alloc::Global;
 
-/// The rows of a script so far.
+/// The edits of the rows of a script so far.
 #[derive(Drop)]
 pub struct ScriptRows {
     alloc: Global,
-    rows: Vec<Row>,
+    edits: Vec<Edit>,
 }
 
 impl RowRules for ScriptRows {
@@ -27,8 +27,8 @@ impl RowRules for ScriptRows {
 
     ghost is_memory = { λ fault. fault ≡ NoMemory };
 
-    fn take(&mut self, row: &csv_rows::Row, number: u64) -> Result<(), ScriptFault> {
-        match spell_row(self.alloc, row) {
+    fn take(&mut self, row: &Row, number: u64) -> Result<(), ScriptFault> {
+        match spell_edit(self.alloc, row) {
             Ok(Some(edit)) => self.keep(edit),
             Ok(None) => Err(ScriptFault::BadRow(number)),
             Err(_) => Err(ScriptFault::NoMemory),
@@ -51,24 +51,24 @@ impl ScriptRows {
     {
         ScriptRows {
             alloc,
-            rows: Vec::new(alloc),
+            edits: Vec::new(alloc),
         }
     }
 
-    /// The rows that were taken.
-    pub fn finish(self) -> Vec<Row>
-        ensures { result.items ≡ self.rows.items }
+    /// The edits of the rows that were taken.
+    pub fn finish(self) -> Vec<Edit>
+        ensures { result.items ≡ self.edits.items }
     {
-        self.rows
+        self.edits
     }
 
-    /// Keeps a row. So many that a place has no 32 bits are as good as want of memory.
-    fn keep(&mut self, row: Row) -> Result<(), ScriptFault>
-        ensures rows { OnOk result (self.new.rows.items ≡ self.old.rows.items ++ row ∷ []) }
-        ensures few { OnOk result (length self.new.rows.items < 2 ^ 32) }
+    /// Keeps an edit. So many that a place has no 32 bits are as good as want of memory.
+    fn keep(&mut self, edit: Edit) -> Result<(), ScriptFault>
+        ensures edits { OnOk result (self.new.edits.items ≡ self.old.edits.items ++ edit ∷ []) }
+        ensures few { OnOk result (length self.new.edits.items < 2 ^ 32) }
         ensures memory { IfErr result (λ fault. fault ≡ NoMemory) }
     {
-        if self.rows.len() >= u32::MAX as usize || self.rows.push(row).is_err() {
+        if self.edits.len() >= u32::MAX as usize || self.edits.push(edit).is_err() {
             return Err(ScriptFault::NoMemory);
         }
         Ok(())

@@ -2,14 +2,15 @@ ghost use Rattle.std.specs.Prelude.{◌≡◌, true, false, Some, IfOk, MatchOpt
 ghost use Rattle.csv_rows.specs.Row.{fields_of};
 ghost use Rattle.csv_rows.specs.Decimal.{number};
 ghost use Rattle.system_file.specs.Document.{sched_named};
-ghost use Rattle.script_file.specs.Script.{budget_of, is_bare, is_leaf, is_served, leaf_row, op_named, sched_of};
+ghost use Rattle.script_file.specs.Script.{budget_of, is_bare, is_leaf, is_served, leaf_of, op_named, sched_of};
 ghost use Rattle.script_file.specs.Spelt.{IsSpelt, row_fields};
+ghost use Rattle.admission_session.specs.declared.edit.Edit.TheVariants.{Add};
 
 use crate::numbers::number;
 use crate::row_fields::{RowFields, seven_fields};
 use crate::task_spelling::spell_tasks;
-use admission_session::{Op, Row};
-use csv_rows::is_word;
+use admission_session::{Edit, Leaf, Op};
+use csv_rows::{Row, is_word};
 use slot_model::{Name, Sched};
 use std::alloc::{AllocError, Global};
 
@@ -81,18 +82,12 @@ fn spell_served(f: &RowFields) -> Option<Served>
     })
 }
 
-/// The row of an operation that gives a leaf.
-fn spell_leaf(
-    alloc: Global,
-    op: Op,
-    parent: Option<Name>,
-    f: &RowFields,
-) -> Result<Option<Row>, AllocError>
+/// The leaf that the fields of a row spell, where they spell one.
+fn spell_leaf(alloc: Global, f: &RowFields) -> Result<Option<Leaf>, AllocError>
     ensures { let g = f.now in IfOk result (λ made. MatchOption made
         (is_leaf g.part.now g.sched.now g.period.now g.budget.now g.tasks.now ≡ false)
-        (λ row. (is_leaf g.part.now g.sched.now g.period.now g.budget.now g.tasks.now ≡ true)
-        × (row ≡ leaf_row op parent
-        g.part.now g.sched.now g.period.now g.budget.now g.tasks.now))) }
+        (λ leaf. (is_leaf g.part.now g.sched.now g.period.now g.budget.now g.tasks.now ≡ true)
+        × (leaf ≡ leaf_of g.part.now g.sched.now g.period.now g.budget.now g.tasks.now))) }
 {
     let Some(served) = spell_served(f) else {
         return Ok(None);
@@ -103,10 +98,8 @@ fn spell_leaf(
     let Some(name) = Name::new(alloc, f.part)? else {
         return Ok(None);
     };
-    Ok(Some(Row {
-        op,
+    Ok(Some(Leaf {
         name,
-        parent,
         sched: served.sched,
         period: served.period,
         budget: served.budget,
@@ -114,27 +107,48 @@ fn spell_leaf(
     }))
 }
 
-fn spell_addition(alloc: Global, f: &RowFields) -> Result<Option<Row>, AllocError>
+/// The addition of the leaf of a row, where it spells one.
+fn spell_added(
+    alloc: Global,
+    f: &RowFields,
+    parent: Option<Name>,
+) -> Result<Option<Edit>, AllocError>
+    ensures { let g = f.now in IfOk result (λ made. MatchOption made
+        (is_leaf g.part.now g.sched.now g.period.now g.budget.now g.tasks.now ≡ false)
+        (λ edit. (is_leaf g.part.now g.sched.now g.period.now g.budget.now g.tasks.now ≡ true)
+        × (edit ≡ Add
+        (leaf_of g.part.now g.sched.now g.period.now g.budget.now g.tasks.now) parent))) }
+{
+    match spell_leaf(alloc, f)? {
+        None => Ok(None),
+        Some(leaf) => Ok(Some(Edit::Add { leaf, parent })),
+    }
+}
+
+fn spell_addition(alloc: Global, f: &RowFields) -> Result<Option<Edit>, AllocError>
     requires { op_named f.now.op.now ≡ Some Op.Add }
     ensures { IfOk result (IsSpelt (row_fields f.now)) }
 {
     if f.parent.is_empty() {
-        return spell_leaf(alloc, Op::Add, None, f);
+        return spell_added(alloc, f, None);
     }
     match Name::new(alloc, f.parent)? {
         None => Ok(None),
-        Some(parent) => spell_leaf(alloc, Op::Add, Some(parent), f),
+        Some(parent) => spell_added(alloc, f, Some(parent)),
     }
 }
 
-fn spell_change(alloc: Global, f: &RowFields) -> Result<Option<Row>, AllocError>
+fn spell_change(alloc: Global, f: &RowFields) -> Result<Option<Edit>, AllocError>
     requires { op_named f.now.op.now ≡ Some Op.Change }
     ensures { IfOk result (IsSpelt (row_fields f.now)) }
 {
     if !f.parent.is_empty() {
         return Ok(None);
     }
-    spell_leaf(alloc, Op::Change, None, f)
+    match spell_leaf(alloc, f)? {
+        None => Ok(None),
+        Some(leaf) => Ok(Some(Edit::Change(leaf))),
+    }
 }
 
 /// Whether all fields are empty but the operation and the part.
@@ -149,7 +163,7 @@ fn is_bare(f: &RowFields) -> bool
         && f.tasks.is_empty()
 }
 
-fn spell_removal(alloc: Global, f: &RowFields) -> Result<Option<Row>, AllocError>
+fn spell_removal(alloc: Global, f: &RowFields) -> Result<Option<Edit>, AllocError>
     requires { op_named f.now.op.now ≡ Some Op.Remove }
     ensures { IfOk result (IsSpelt (row_fields f.now)) }
 {
@@ -158,20 +172,12 @@ fn spell_removal(alloc: Global, f: &RowFields) -> Result<Option<Row>, AllocError
     }
     match Name::new(alloc, f.part)? {
         None => Ok(None),
-        Some(name) => Ok(Some(Row {
-            op: Op::Remove,
-            name,
-            parent: None,
-            sched: Sched::Edf,
-            period: 1,
-            budget: None,
-            tasks: Vec::new(alloc),
-        })),
+        Some(name) => Ok(Some(Edit::Remove(name))),
     }
 }
 
-/// The row that seven fields spell, where they spell one.
-fn spell_fields(alloc: Global, f: &RowFields) -> Result<Option<Row>, AllocError>
+/// The edit that seven fields spell, where they spell one.
+fn spell_fields(alloc: Global, f: &RowFields) -> Result<Option<Edit>, AllocError>
     ensures { IfOk result (IsSpelt (row_fields f.now)) }
 {
     match op_named(f.op) {
@@ -182,8 +188,8 @@ fn spell_fields(alloc: Global, f: &RowFields) -> Result<Option<Row>, AllocError>
     }
 }
 
-/// The row that a record spells, where it spells one.
-pub fn spell_row(alloc: Global, row: &csv_rows::Row) -> Result<Option<Row>, AllocError>
+/// The edit that a record spells, where it spells one.
+pub fn spell_edit(alloc: Global, row: &Row) -> Result<Option<Edit>, AllocError>
     ensures { IfOk result (IsSpelt (fields_of row.now)) }
 {
     match seven_fields(row) {

@@ -1,5 +1,7 @@
 use crate::helpers::{MEMORY, add_task, inner, name, task};
-use admission_session::{Answer, EditFault, Op, Row, Session, copy_system, is_new_leaf};
+use admission_session::{
+    Answer, Edit, EditFault, Leaf, Op, Row, Session, copy_system, is_new_leaf,
+};
 use compose_tree::compose;
 use slot_model::{Sched, Short};
 use std::alloc::Global;
@@ -41,19 +43,29 @@ fn open(rt: &impl Abort, alloc: Global) -> Session {
     Session::open(alloc, copy).ok().expect(rt, "admitted")
 }
 
-/// A row of a leaf on the core with an open budget, whose one task asks for `work` slots of 400.
-fn row(rt: &impl Abort, alloc: Global, op: Op, text: &str, work: u64) -> Row {
-    let mut leaf = inner(rt, alloc, text, Parent::Core(0), Sched::Edf, 100);
-    add_task(rt, alloc, &mut leaf, "t", task(rt, 400, 400, work));
-    Row {
-        op,
-        name: leaf.name,
-        parent: Some(name(rt, alloc, "cpu0")),
+/// A leaf with an open budget, whose one task asks for `work` slots of 400.
+fn leaf(rt: &impl Abort, alloc: Global, text: &str, work: u64) -> Leaf {
+    let mut part = inner(rt, alloc, text, Parent::Core(0), Sched::Edf, 100);
+    add_task(rt, alloc, &mut part, "t", task(rt, 400, 400, work));
+    Leaf {
+        name: part.name,
         sched: Sched::Edf,
         period: 100,
         budget: None,
-        tasks: leaf.tasks,
+        tasks: part.tasks,
     }
+}
+
+/// The edit that adds such a leaf on the core.
+fn addition(rt: &impl Abort, alloc: Global, text: &str, work: u64) -> Edit {
+    Edit::Add {
+        leaf: leaf(rt, alloc, text, work),
+        parent: Some(name(rt, alloc, "cpu0")),
+    }
+}
+
+fn removal(rt: &impl Abort, alloc: Global, text: &str) -> Edit {
+    Edit::Remove(name(rt, alloc, text))
 }
 
 /// The plan of the session is the one that its whole system gets.
@@ -64,44 +76,34 @@ fn assert_composed(rt: &impl Abort, alloc: Global, session: &Session) {
     assert!(rt; plan.budgets() == composed.budgets());
 }
 
-/// The answer to a row with this operation, name and work.
-fn edited(
-    rt: &impl Abort,
-    alloc: Global,
-    session: &mut Session,
-    op: Op,
-    text: &str,
-    work: u64,
-) -> Answer {
-    session
-        .edit(row(rt, alloc, op, text, work))
-        .expect(rt, MEMORY)
+fn applied(rt: &impl Abort, session: &mut Session, edit: Edit) -> Answer {
+    session.apply(edit).expect(rt, MEMORY)
 }
 
 #[test]
-fn rows_are_answered_and_the_plan_is_that_of_the_whole_system(rt: HostRuntime) {
+fn edits_are_answered_and_the_plan_is_that_of_the_whole_system(rt: HostRuntime) {
     let alloc = rt.alloc();
     let mut session = open(&rt, alloc);
     assert_composed(&rt, alloc, &session);
-    let answer = edited(&rt, alloc, &mut session, Op::Remove, "w", 1);
+    let answer = applied(&rt, &mut session, removal(&rt, alloc, "w"));
     assert!(rt; matches!(answer, Answer::Done));
     assert_composed(&rt, alloc, &session);
-    let answer = edited(&rt, alloc, &mut session, Op::Change, "y", 60);
+    let answer = applied(&rt, &mut session, Edit::Change(leaf(&rt, alloc, "y", 60)));
     assert!(rt; matches!(answer, Answer::Done));
     assert_composed(&rt, alloc, &session);
 }
 
 #[test]
-fn a_row_is_refused_or_denied(rt: HostRuntime) {
+fn an_edit_is_refused_or_denied(rt: HostRuntime) {
     let alloc = rt.alloc();
     let mut session = open(&rt, alloc);
-    let answer = edited(&rt, alloc, &mut session, Op::Remove, "w", 1);
+    let answer = applied(&rt, &mut session, removal(&rt, alloc, "w"));
     assert!(rt; matches!(answer, Answer::Done));
-    let answer = edited(&rt, alloc, &mut session, Op::Change, "y", 60);
+    let answer = applied(&rt, &mut session, Edit::Change(leaf(&rt, alloc, "y", 60)));
     assert!(rt; matches!(answer, Answer::Done));
-    let answer = edited(&rt, alloc, &mut session, Op::Add, "y", 1);
+    let answer = applied(&rt, &mut session, addition(&rt, alloc, "y", 1));
     assert!(rt; matches!(answer, Answer::Refused(EditFault::NameTaken)));
-    match edited(&rt, alloc, &mut session, Op::Add, "z", 400) {
+    match applied(&rt, &mut session, addition(&rt, alloc, "z", 400)) {
         Answer::Denied { refusal, system } => {
             assert!(rt; system.parts().len() == 4);
             assert!(rt; refusal == Refusal::Overfull(Place::Core(0), Short::At(100)));
@@ -116,4 +118,23 @@ fn a_leaf_whose_name_is_taken_is_no_new_one(rt: HostRuntime) {
     let session = open(&rt, rt.alloc());
     let part = session.system().parts().first().expect(&rt, "a part");
     assert!(rt; !is_new_leaf(session.system(), part));
+}
+
+#[test]
+fn a_row_is_answered_as_its_edit(rt: HostRuntime) {
+    let alloc = rt.alloc();
+    let mut session = open(&rt, alloc);
+    let row = Row::of_edit(alloc, removal(&rt, alloc, "w"));
+    assert!(rt; row.op == Op::Remove && row.period == 1 && row.tasks.is_empty());
+    let answer = session.edit(row).expect(&rt, MEMORY);
+    assert!(rt; matches!(answer, Answer::Done));
+    let row = Row::of_edit(alloc, addition(&rt, alloc, "z", 1));
+    assert!(rt; row.op == Op::Add && row.parent.is_some());
+    let answer = session.edit(row).expect(&rt, MEMORY);
+    assert!(rt; matches!(answer, Answer::Done));
+    let row = Row::of_edit(alloc, Edit::Change(leaf(&rt, alloc, "nothing", 1)));
+    assert!(rt; row.op == Op::Change && row.parent.is_none());
+    let answer = session.edit(row).expect(&rt, MEMORY);
+    assert!(rt; matches!(answer, Answer::Refused(EditFault::NoSuchLeaf)));
+    assert!(rt; session.system().parts().len() == 4);
 }

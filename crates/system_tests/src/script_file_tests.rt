@@ -1,5 +1,5 @@
-use admission_session::Op;
-use script_file::{GuestFault, ScriptFault, read_guests, read_script};
+use admission_session::{Edit, Op};
+use script_file::{GuestFault, ScriptFault, read_edits, read_guests, read_script};
 use slot_model::Sched;
 
 const SCRIPT: &str = "op,part,parent,sched,period,budget,tasks
@@ -23,6 +23,23 @@ fn a_script_is_read(rt: HostRuntime) {
     assert_eq!(rt; rows[1].tasks[0].task().jitter, 5);
     let missing = read_script(alloc, b"op,part\n").err();
     assert_eq!(rt; missing, Some(ScriptFault::BadHeader));
+}
+
+#[test]
+fn edits_are_read(rt: HostRuntime) {
+    let alloc = rt.alloc();
+    let edits = read_edits(alloc, SCRIPT.as_bytes())
+        .ok()
+        .expect(&rt, "a script");
+    assert_eq!(rt; edits.len(), 2);
+    match &edits[0] {
+        Edit::Remove(name) => assert_eq!(rt; name.as_str(), "B"),
+        _ => panic!(rt; "no removal"),
+    }
+    match &edits[1] {
+        Edit::Add { leaf, .. } => assert_eq!(rt; leaf.tasks.len(), 2),
+        _ => panic!(rt; "no addition"),
+    }
 }
 
 #[test]

@@ -1,5 +1,6 @@
 -- What `place` answers: one thing, its statuses, and what it means.
 use Rattle.std.proofs.Common.{◌≡◌, ◌≢◌, ℕ, ◌<◌, List, length, take, refl, sym, ◌∙◌, subst, inl, inr}
+use Rattle.std.specs.Prelude.{⊤}
 use Rattle.csv_rows.specs.Reading.{records_of}
 use Rattle.tree_model.specs.declared.pinned_core.Core.{Core}
 use Rattle.tree_model.specs.View.{PartView, SystemView}
@@ -8,11 +9,12 @@ use Rattle.tree_model.specs.declared.plan.Refusal.TheVariants.{Overfull, Wide as
 use Rattle.compose_tree.proofs.Refusals.{refusal_holds}
 use Rattle.compose_tree.proofs.Sound.{admitted_no_loss, admitted_tight}
 use Rattle.admission_session.specs.Leaves.{with_guest}
-use Rattle.admission_session.proofs.RowSystems.{new_leaf_is}
+use Rattle.admission_session.proofs.MadeSystems.{new_leaf_is}
 use Rattle.placement.specs.declared.fault.PlaceFault.{PlaceFault}
 use Rattle.placement.specs.declared.fault.PlaceFault.TheVariants.{Refused, BadGuest, Unplaced, NoMemory}
-use Rattle.placement.specs.Answers.{AreRefused, PlaceFails, guest_at}
+use Rattle.placement.specs.Answers.{AreRefused, IsBadGuest, PlaceFails, StopsAt, guest_at}
 use Rattle.placement.proofs.OnePlacement.{placed_is, placed_cores, one_placed, never_placed_fails, one_place_fault}
+use Rattle.script_file.specs.Guests.{SpellsGuests}
 use Rattle.script_file.proofs.OneGuests.{one_guests, no_guest_fault, one_guest_fault}
 use Rattle.system_file.proofs.Laws.{read_is_spelled}
 use Rattle.system_file.proofs.OneText.{one_printed_text}
@@ -20,8 +22,9 @@ use Rattle.command_steps.specs.declared.status.Status.{Status}
 use Rattle.command_steps.specs.declared.status.Status.TheVariants.{Yes, No, Wide, BadFile}
 use Rattle.command_steps.specs.Answer.{Contents, IsOne}
 use Rattle.command_steps.specs.Attempt.{IsRefused}
+use Rattle.command_steps.specs.TwoFiles.{SpellsSystem}
 use Rattle.command_steps.specs.Budgets.{composing}
-use Rattle.host_commands.specs.Place.{the_place, guesting, placing, place_status, place_fault_text, IsPlaceFault, IsSystemText, PlacesGuests, Places, TellsUnplaced, MeansOfPlaces, PlaceMeans, AreGuests, EndsPlacing}
+use Rattle.host_commands.specs.Place.{the_place, guesting, placing, place_status, place_fault_text, IsPlaceFault, IsSystemText, PlacesGuests, Places, TellsUnplaced, MeansOfPlaces, PlaceMeans, AreGuests, CanPlace, EndsPlacing}
 use Rattle.command_steps.specs.Steps.{IsJudged}
 use Rattle.command_steps.proofs.Attempt.{IsDecided, one_attempt, statuses_attempt}
 use Rattle.command_steps.proofs.Budgets.{refused_status}
@@ -57,21 +60,21 @@ one_text : (placed : SystemView) → IsOne (IsSystemText placed)
 one_text placed = λ s t x y p q. (p.is_yes ∙ sym q.is_yes, one_printed_text placed x y p.told q.told)
 
 -- its statuses
-fault_status : (P : Status → Type 0) → P No → P Wide → P BadFile
-    → (sys : SystemView) (guests : List PartView) (fault : PlaceFault) → fault ≢ NoMemory → PlaceFails sys guests fault
-    → P (place_status fault)
-fault_status P at_no at_wide at_bad sys guests (Refused refusal) real fails =
+fault_status : (P : Status → Type 0) → P No → P Wide → (sys : SystemView) (guests : List PartView)
+    → ((i : ℕ) → StopsAt sys guests i IsBadGuest → P BadFile) → (fault : PlaceFault) → fault ≢ NoMemory
+    → PlaceFails sys guests fault → P (place_status fault)
+fault_status P at_no at_wide sys guests at_bad (Refused refusal) real fails =
     refused_status P at_no at_wide sys refusal fails
-fault_status P at_no at_wide at_bad sys guests (BadGuest i) real fails = at_bad
-fault_status P at_no at_wide at_bad sys guests (Unplaced i) real fails = at_no
-fault_status P at_no at_wide at_bad sys guests NoMemory real fails = absurd (real refl)
+fault_status P at_no at_wide sys guests at_bad (BadGuest i) real fails = at_bad i fails
+fault_status P at_no at_wide sys guests at_bad (Unplaced i) real fails = at_no
+fault_status P at_no at_wide sys guests at_bad NoMemory real fails = absurd (real refl)
 
-places_status : (P : Status → Type 0) → P Yes → P No → P Wide → P BadFile
-    → (sys : SystemView) (guests : List PartView) (status : Status) (text : List ℕ)
+places_status : (P : Status → Type 0) → P Yes → P No → P Wide → (sys : SystemView) (guests : List PartView)
+    → ((i : ℕ) → StopsAt sys guests i IsBadGuest → P BadFile) → (status : Status) (text : List ℕ)
     → PlacesGuests sys guests status text → P status
-places_status P at_yes at_no at_wide at_bad sys guests status text h =
+places_status P at_yes at_no at_wide sys guests at_bad status text h =
     statuses_attempt P (placing sys guests) IsSystemText status text
-    (λ fault refuses. fault_status P at_no at_wide at_bad sys guests fault refuses.real refuses.fails)
+    (λ fault refuses. fault_status P at_no at_wide sys guests at_bad fault refuses.real refuses.fails)
     (λ placed told. subst P (sym told.is_yes) at_yes) h
 
 -- what it means
@@ -143,7 +146,7 @@ places_read = record {
   one =
       λ sys is guests. one_attempt (placing sys guests) IsSystemText (placing_decided sys is guests)
       (λ placed gives. one_text placed);
-  judged = λ sys guests. places_status IsJudged tt tt tt tt sys guests;
+  judged = λ sys guests. places_status IsJudged tt tt tt sys guests (λ i stops. tt);
 }
 
 place_means : (contents : Contents) (status : Status) (text : List ℕ) → Places contents status text
@@ -152,12 +155,39 @@ place_means contents status text h = λ sys guests spelled.
     places_means sys (is_spelled_system contents sys _ spelled) guests status text
     (said_of_read (λ sys. guesting) PlacesGuests places_read contents sys guests status text spelled h)
 
+-- how it ends
+placing_ends : (contents : Contents) (status : Status) (text : List ℕ) → CanPlace contents → Places contents status text
+    → EndsPlacing contents status
+placing_ends contents status text can h =
+    let guests = can.spelled.second.good.guests in
+    let spelled : SpellsSystem contents can.sys (λ bytes. SpellsGuests (records_of bytes) guests)
+    = record {
+      first = can.spelled.first;
+      second = record {
+        bytes = can.spelled.second.bytes;
+        there = can.spelled.second.there;
+        short = can.spelled.second.short;
+        good = can.spelled.second.good.spelled;
+      };
+    } in
+    places_status (EndsPlacing contents) tt tt tt can.sys guests
+    (λ i stops. record { sys = can.sys; guests = guests; spelled = spelled; guest = i; stops = stops }) status text
+    (said_of_read (λ sys. guesting) PlacesGuests places_read contents can.sys guests status text spelled h)
+
 pub place_laws : (file guests : List ℕ) → CommandLaws (the_place file guests)
 place_laws file guests =
-    read_laws file guests (λ sys. guesting) PlacesGuests PlaceMeans AreGuests (λ contents. EndsPlacing) places_read
-    (record {
+    let laws = read_laws file guests (λ sys. guesting) PlacesGuests PlaceMeans AreGuests (λ contents status. ⊤)
+    places_read (record {
       means = place_means;
       good = λ sys bytes good. (good.guests, good.spelled);
-      verdict = λ contents sys spelled gs. places_status EndsPlacing tt tt tt tt sys gs;
+      verdict = λ contents sys spelled gs status text said. tt;
       no_memory = λ contents. tt;
-    })
+    }) in
+    record {
+      one_answer = laws.one_answer;
+      means = laws.means;
+      of_job = laws.of_job;
+      verdict = placing_ends;
+      no_memory = λ contents. tt;
+      without_file = laws.without_file;
+    }

@@ -12,7 +12,7 @@ use Rattle.compose_tree.proofs.Refusals.{refusal_holds}
 use Rattle.compose_tree.proofs.Sound.{admitted_no_loss, admitted_tight}
 use Rattle.admission_session.specs.declared.answer.Answer.{Answer}
 use Rattle.admission_session.specs.declared.answer.Answer.TheVariants.{Denied}
-use Rattle.admission_session.specs.RowView.{RowView}
+use Rattle.admission_session.specs.declared.edit.Edit.{Edit}
 use Rattle.admission_session.specs.Answers.{IsAnswered}
 use Rattle.admission_session.specs.History.{AreAnswered}
 use Rattle.admission_session.proofs.History.{SameHistory, answered_system, history_system, one_history}
@@ -44,12 +44,12 @@ same_plan : (last another : SystemView) → IsSystem last → last ≡ another �
 same_plan last another is same a b x y =
     one_admission last is a b x (subst (λ (s : SystemView). Admitted s b) (sym same) y)
 
-one_session : (sys : SystemView) → IsSystem sys → (rows : List RowView) → IsOne (IsSession sys rows)
-one_session sys is rows = λ s t x y p q.
+one_session : (sys : SystemView) → IsSystem sys → (edits : List Edit) → IsOne (IsSession sys edits)
+one_session sys is edits = λ s t x y p q.
     let same : SameHistory p.answers q.answers p.last q.last
-    = one_history sys is rows p.answers q.answers p.last q.last p.answered q.answered in
+    = one_history sys is edits p.answers q.answers p.last q.last p.answered q.answered in
     let plan : p.budgets ≡ q.budgets
-    = same_plan p.last q.last (history_system sys rows p.answers p.last is p.answered) same.last_is p.budgets
+    = same_plan p.last q.last (history_system sys edits p.answers p.last is p.answered) same.last_is p.budgets
     q.budgets p.admitted q.admitted in (
       p.is_yes ∙ sym q.is_yes,
       p.told
@@ -60,44 +60,44 @@ one_session sys is rows = λ s t x y p q.
 
 -- its statuses
 edits_status : (P : Status → Type 0) → P Yes → P No → P Wide
-    → (sys : SystemView) (rows : List RowView) (status : Status) (text : List ℕ) → EditsSystem sys rows status text
+    → (sys : SystemView) (edits : List Edit) (status : Status) (text : List ℕ) → EditsSystem sys edits status text
     → P status
-edits_status P at_yes at_no at_wide sys rows status text h =
-    statuses_attempt P (composing sys) (λ budgets. IsSession sys rows) status text (refused_status P at_no at_wide sys)
+edits_status P at_yes at_no at_wide sys edits status text h =
+    statuses_attempt P (composing sys) (λ budgets. IsSession sys edits) status text (refused_status P at_no at_wide sys)
     (λ budgets session. subst P (sym session.is_yes) at_yes) h
 
 -- what a denied row is told holds
-denial_holds : (sys : SystemView) (row : RowView) (answer : Answer) (now : SystemView) → IsAnswered sys row answer now
+denial_holds : (sys : SystemView) (edit : Edit) (answer : Answer) (now : SystemView) → IsAnswered sys edit answer now
     → (edited : SystemView) (refusal : Refusal) → answer ≡ Denied edited refusal → RefusalHolds edited refusal
-denial_holds sys row answer now h edited refusal e =
-    let denied : IsAnswered sys row (Denied edited refusal) now
-    = subst (λ (a : Answer). IsAnswered sys row a now) e h in
+denial_holds sys edit answer now h edited refusal e =
+    let denied : IsAnswered sys edit (Denied edited refusal) now
+    = subst (λ (a : Answer). IsAnswered sys edit a now) e h in
     refusal_holds edited denied.1.system refusal denied.2
 
 same_answer : (a b : Answer) → Some a ≡ Some b → a ≡ b
 same_answer a b e = cc
 
-denials_hold : (sys : SystemView) (rows : List RowView) (answers : List Answer) (last : SystemView) → IsSystem sys
-    → AreAnswered sys rows answers last → DenialsHold answers
+denials_hold : (sys : SystemView) (edits : List Edit) (answers : List Answer) (last : SystemView) → IsSystem sys
+    → AreAnswered sys edits answers last → DenialsHold answers
 denials_hold sys [] answers last is h k edited refusal e =
     absurd (omega (arith, slice_get_within answers k (Denied edited refusal) e, ap (λ (z : List Answer). length z) h.0))
-denials_hold sys (row ∷ rows) [] last is h k edited refusal e = absurd h
-denials_hold sys (row ∷ rows) (answer ∷ answers) last is h zero edited refusal e =
-    denial_holds sys row answer h.0 h.1 edited refusal (same_answer answer (Denied edited refusal) e)
-denials_hold sys (row ∷ rows) (answer ∷ answers) last is h (suc k) edited refusal e =
-    denials_hold h.0 rows answers last (answered_system sys row answer h.0 is h.1) h.2 k edited refusal e
+denials_hold sys (edit ∷ edits) [] last is h k edited refusal e = absurd h
+denials_hold sys (edit ∷ edits) (answer ∷ answers) last is h zero edited refusal e =
+    denial_holds sys edit answer h.0 h.1 edited refusal (same_answer answer (Denied edited refusal) e)
+denials_hold sys (edit ∷ edits) (answer ∷ answers) last is h (suc k) edited refusal e =
+    denials_hold h.0 edits answers last (answered_system sys edit answer h.0 is h.1) h.2 k edited refusal e
 
 -- what it means
-edits_means : (sys : SystemView) → IsSystem sys → (rows : List RowView) (status : Status) (text : List ℕ)
-    → EditsSystem sys rows status text → MeansOfEdits sys rows status text
-edits_means sys is rows status text h = elim h [
-  | inl a ↦ (let left : IsSystem a.said.last = history_system sys rows a.said.answers a.said.last is a.said.answered in
-      subst (λ (s : Status). MeansOfEdits sys rows s text) (sym a.said.is_yes)
+edits_means : (sys : SystemView) → IsSystem sys → (edits : List Edit) (status : Status) (text : List ℕ)
+    → EditsSystem sys edits status text → MeansOfEdits sys edits status text
+edits_means sys is edits status text h = elim h [
+  | inl a ↦ (let left : IsSystem a.said.last = history_system sys edits a.said.answers a.said.last is a.said.answered in
+      subst (λ (s : Status). MeansOfEdits sys edits s text) (sym a.said.is_yes)
       (record {
         answers = a.said.answers;
         last = a.said.last;
         answered = a.said.answered;
-        denials = denials_hold sys rows a.said.answers a.said.last is a.said.answered;
+        denials = denials_hold sys edits a.said.answers a.said.last is a.said.answered;
         budgets = a.said.budgets;
         told = a.said.told;
         admitted = a.said.admitted;
@@ -105,7 +105,7 @@ edits_means sys is rows status text h = elim h [
         tight = admitted_tight a.said.last left a.said.budgets a.said.admitted;
       }))
   | inr a ↦
-      refused_means (λ z. MeansOfEdits z rows) sys is (λ t over. over) (λ t. tt) a.refusal a.refuses status text
+      refused_means (λ z. MeansOfEdits z edits) sys is (λ t over. over) (λ t. tt) a.refusal a.refuses status text
       a.status_is a.told
 ]
 
@@ -114,23 +114,23 @@ edits_read = record {
   decided = λ sys. scripting_decided;
   bad_file = λ sys bytes fault. refl;
   one =
-      λ sys is rows. one_attempt (composing sys) (λ budgets. IsSession sys rows) (composing_decided sys is)
-      (λ budgets admitted. one_session sys is rows);
-  judged = λ sys rows. edits_status IsJudged tt tt tt sys rows;
+      λ sys is edits. one_attempt (composing sys) (λ budgets. IsSession sys edits) (composing_decided sys is)
+      (λ budgets admitted. one_session sys is edits);
+  judged = λ sys edits. edits_status IsJudged tt tt tt sys edits;
 }
 
 session_means : (contents : Contents) (status : Status) (text : List ℕ) → Edits contents status text
     → SessionMeans contents status text
-session_means contents status text h = λ sys rows spelled.
-    edits_means sys (is_spelled_system contents sys _ spelled) rows status text
-    (said_of_read (λ sys. scripting) EditsSystem edits_read contents sys rows status text spelled h)
+session_means contents status text h = λ sys edits spelled.
+    edits_means sys (is_spelled_system contents sys _ spelled) edits status text
+    (said_of_read (λ sys. scripting) EditsSystem edits_read contents sys edits status text spelled h)
 
 pub session_laws : (file script : List ℕ) → CommandLaws (the_session file script)
 session_laws file script =
     read_laws file script (λ sys. scripting) EditsSystem SessionMeans IsScript (λ contents. IsVerdict) edits_read
     (record {
       means = session_means;
-      good = λ sys bytes script. (script.rows, script.spelled);
-      verdict = λ contents sys spelled rows. edits_status IsVerdict tt tt tt sys rows;
+      good = λ sys bytes script. (script.edits, script.spelled);
+      verdict = λ contents sys spelled edits. edits_status IsVerdict tt tt tt sys edits;
       no_memory = λ contents. tt;
     })

@@ -4,5 +4,5 @@ use Rattle.script_file.specs.declared.script_rows.ScriptRows.{ScriptRows}
 use Rattle.script_file.specs.Script.{edits_of}
 
 pub record HasTakenRows (start now : ScriptRows) (rows : List (List (List ℕ))) : Type 0 where
-  pub edits : now.rows.items ≡ edits_of rows
-  pub few : length now.rows.items < 2 ^ 32
+  pub edits : now.edits.items ≡ edits_of rows
+  pub few : length now.edits.items < 2 ^ 32

@@ -2,7 +2,7 @@ use Rattle.std.proofs.Common.{rules, ◌≡◌, arith, sym, ◌∙◌, ap, subst
 use Rattle.tree_model.specs.View.{PartView}
 use Rattle.tree_model.specs.System.{IsSystem}
 use Rattle.admission_session.specs.Leaves.{with_leaf}
-use Rattle.admission_session.proofs.RowSystems.{new_leaf_is}
+use Rattle.admission_session.proofs.MadeSystems.{new_leaf_is}
 use Rattle.admission_session.proofs.cores.put_guest.Goals as goal
 
 pub push_leaf-requires : goal.push_leaf-requires

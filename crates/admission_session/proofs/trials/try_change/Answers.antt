@@ -1,5 +1,5 @@
 use Rattle.std.proofs.Common.{refl}
-use Rattle.admission_session.proofs.RowSystems.{change_keeps}
+use Rattle.admission_session.proofs.MadeSystems.{change_keeps}
 use Rattle.admission_session.proofs.TakenBack.{back_system, back_is}
 use Rattle.admission_session.proofs.trials.try_change.Goals as goal
 

@@ -1,7 +1,7 @@
 use Rattle.std.proofs.Common.{rules, ◌≡◌, List, [], ◌∷◌, ◌++◌, length, ◌∙◌, ap}
 use Rattle.tree_model.specs.View.{PartView}
 use Rattle.admission_session.specs.Leaves.{with_leaf}
-use Rattle.admission_session.proofs.RowSystems.{add_keeps}
+use Rattle.admission_session.proofs.MadeSystems.{add_keeps}
 use Rattle.admission_session.proofs.OneBudget.{budget_off}
 use Rattle.admission_session.proofs.TakenBack.{off_system, off_is}
 use Rattle.admission_session.proofs.trials.try_leaf.Goals as goal

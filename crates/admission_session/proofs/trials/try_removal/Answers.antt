@@ -5,7 +5,7 @@ use Rattle.tree_model.specs.Tree.{place_of}
 use Rattle.tree_model.specs.System.{part_at}
 use Rattle.tree_model.proofs.NodeTasks.{part_here}
 use Rattle.admission_session.specs.Leaves.{fallen}
-use Rattle.admission_session.proofs.RowSystems.{remove_keeps}
+use Rattle.admission_session.proofs.MadeSystems.{remove_keeps}
 use Rattle.admission_session.proofs.TakenBack.{put_fewer, put_system, put_is}
 use Rattle.admission_session.proofs.trials.try_removal.Goals as goal
 

@@ -1,7 +1,7 @@
 use Rattle.std.proofs.Common.{inl, inr}
 use Rattle.csv_rows.specs.Reading.{records_of}
 use Rattle.script_file.proofs.RowsTaking.{spelt_all, first_of_file}
-use Rattle.script_file.proofs.script_reading.read_script.Goals as goal
+use Rattle.script_file.proofs.script_reading.read_edits.Goals as goal
 
 pub returns-in-Err-read_rows-clause-fault : goal.returns-in-Err-read_rows-clause-fault
 returns-in-Err-read_rows-clause-fault c =
