@@ -1,6 +1,6 @@
 -- The flaw of a node under its own scheduler, tasks and supply; and a certificate with a flaw
 -- proves nothing.
-use Rattle.std.proofs.Common.{◌≡◌, ◌≢◌, ℕ, Bool, List, length, ◌∙◌, subst, refl, inl, inr, rules, ◌↔◌, Result, Ok, Err, IsOk, IfOk, IfErr}
+use Rattle.std.proofs.Common.{◌≡◌, ◌≢◌, ℕ, Bool, List, length, subst, refl, inl, inr, rules, ◌↔◌, Result, Ok, Err, IsOk, IfOk, IfErr}
 use Rattle.slot_model.specs.declared.sched.Sched.{Sched}
 use Rattle.slot_model.specs.declared.sched.Sched.TheVariants.{Edf, Rm, Dm, Listed}
 use Rattle.slot_model.specs.Task.{SporadicTask}

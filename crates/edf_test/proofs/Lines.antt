@@ -1,5 +1,5 @@
 -- Lines above the demand bound and below a supply's bound, and where they cross.
-use Rattle.std.proofs.Common.{◌≡◌, ◌^◌, ℕ, suc, ◌+◌, ◌*◌, ◌-◌, ◌/◌, ◌%◌, ◌<◌, ◌≤◌, List, [], ◌∷◌, ◌++◌, sym, ◌∙◌, ap, arith, subst, inl, inr, mul-le-mul_left, mul-le-mul_right, div-mul-le_self, sum_by}
+use Rattle.std.proofs.Common.{◌≡◌, ◌^◌, ℕ, suc, ◌+◌, ◌*◌, ◌-◌, ◌/◌, ◌%◌, ◌<◌, ◌≤◌, Bool, List, [], ◌∷◌, ◌++◌, sym, ◌∙◌, ap, arith, subst, inl, inr, mul-le-mul_left, mul-le-mul_right, div-mul-le_self, sum_by}
 use Rattle.std.proofs.Math.Nat.{le_of_mul-le-mul_right}
 use Rattle.std.proofs.lemmas.Nat.{mul-le}
 use Rattle.std.proofs.lemmas.List.{map-append}
@@ -9,6 +9,7 @@ use Rattle.std.proofs.lemmas.Bool.{cases_lt}
 use Rattle.slot_model.specs.declared.task.Task.{Task}
 use Rattle.slot_model.specs.Task.{SporadicTask, sporadic_task, sporadic_tasks, room_of, IsConstrained}
 use Rattle.slot_model.specs.Bound.{demand_of, dbf}
+use Rattle.slot_model.specs.Supply.{SupplyLaws}
 use Rattle.slot_model.proofs.Constrained.{constrained}
 use Rattle.edf_demand.specs.Cyclic.{RisesByCycle}
 use Rattle.edf_demand.proofs.Periodic.{bound_cycles}
@@ -111,11 +112,11 @@ past_crossing asked given slope offset rate behind last t above below l is past 
     = ap (λ (z : ℕ). z * t) (let e : rate ≡ slope + k = omega arith in e) ∙ omega arith in
     omega (arith, above, below, over, product, whole)
 
--- a cycle adds no more than its slots
-pub amount_in_cycle : (bound : ℕ → ℕ) (amount cycle : ℕ) → RisesByCycle bound amount cycle
-    → ((t : ℕ) → bound (suc t) ≤ suc (bound t)) → amount ≤ cycle
-amount_in_cycle bound amount cycle by slow =
-    omega (arith, by.each_cycle cycle (omega arith), rises_at_most bound slow cycle cycle)
+-- no more slots a cycle than the cycle has
+pub amount_within : {bound : ℕ → ℕ} {amount cycle : ℕ} {pattern : ℕ → Bool} {start : ℕ} {Conforms : List Bool → Type 0}
+    → SupplyLaws bound amount cycle pattern start Conforms → amount ≤ cycle
+amount_within {bound} {amount} {cycle} laws =
+    omega (arith, laws.each_cycle cycle (omega arith), rises_at_most bound laws.rises_by_one cycle cycle)
 
 -- what a cycle adds past the first one, as the code reads it
 pub amount_read : (bound : ℕ → ℕ) (amount cycle read two one : ℕ) → RisesByCycle bound amount cycle

@@ -1,5 +1,5 @@
 -- What is short keeps a level from passing.
-use Rattle.std.proofs.Common.{◌≢◌, ℕ, ◌<◌, List, length, refl, arith}
+use Rattle.std.proofs.Common.{◌≢◌, ℕ, ◌<◌, List, length, arith}
 use Rattle.slot_model.specs.declared.sched.Sched.{Sched}
 use Rattle.slot_model.specs.declared.sched.Sched.TheVariants.{Edf, Rm, Dm, Listed}
 use Rattle.slot_model.specs.declared.sched.Short.{Short}

@@ -4,19 +4,16 @@ use Rattle.slot_model.specs.Bound.{IsCommonMultiple}
 use Rattle.slot_model.proofs.Constrained.{are_constrained}
 use Rattle.edf_demand.proofs.Horizons.{rises_of_laws}
 use Rattle.edf_test.specs.Rates.{NeverMeets, behind_over}
-use Rattle.edf_test.proofs.Lines.{amount_in_cycle}
+use Rattle.edf_test.proofs.Lines.{amount_within}
 use Rattle.edf_test.proofs.NeverMeets.{never_catches_up, far_apart}
 use Rattle.edf_test.proofs.equal.never_meets.Goals as goal
 
 -- a demand past 128 bits is more than m slots
 pub returns-in_default-clause-exact : goal.returns-in_default-clause-exact
 returns-in_default-clause-exact g c =
-    let laws = g.met.S.Supply.laws c.args.s.now in
     let cycle : ℕ = g.S.Supply.cycle_of c.args.s.now in
     let amount : ℕ = g.S.Supply.amount c.args.s.now in
-    let in_cycle : amount ≤ cycle
-    = amount_in_cycle (g.S.Supply.bound c.args.s.now) amount cycle (rises_of_laws _ _ _ _ _ _ laws)
-    laws.rises_by_one in (
+    let in_cycle : amount ≤ cycle = amount_within (g.met.S.Supply.laws c.args.s.now) in (
       λ h. absurd (cc),
       λ never. absurd (omega (
         arith,
@@ -35,8 +32,7 @@ returns-then-behind-cycle-clause-settled g c less t later =
     let bound : ℕ → ℕ = g.S.Supply.bound c.args.s.now in
     let cycle : ℕ = g.S.Supply.cycle_of c.args.s.now in
     let amount : ℕ = g.S.Supply.amount c.args.s.now in
-    let in_cycle : amount ≤ cycle
-    = amount_in_cycle bound amount cycle (rises_of_laws _ _ _ _ _ _ laws) laws.rises_by_one in
+    let in_cycle : amount ≤ cycle = amount_within laws in
     let cycles : c.args.m / c.cycle-cycle.result ≡ c.args.m / cycle
     = ap (λ (z : ℕ). c.args.m / z) c.cycle-cycle.ensures in
     let given : c.args.m / c.cycle-cycle.result * c.amount_of.result ≡ c.args.m / cycle * amount

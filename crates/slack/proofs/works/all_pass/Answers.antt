@@ -1,4 +1,4 @@
-use Rattle.std.proofs.Common.{List, refl, subst}
+use Rattle.std.proofs.Common.{List}
 use Rattle.std.proofs.lemmas.Bool.{false≢true}
 use Rattle.slot_model.specs.declared.sched.Sched.{Sched}
 use Rattle.slot_model.specs.declared.task.Task.{Task}
