@@ -46,7 +46,7 @@ impl HostCore {
         })
     }
 
-    /// Takes a row of one of its VCPUs.
+    /// Takes a row, where it is of one of its VCPUs.
     pub fn take(&mut self, row: Wake)
         requires ready { IsReady row.at self.old }
         requires in_limit { row.at ≤ LIMIT }
