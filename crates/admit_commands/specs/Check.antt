@@ -12,7 +12,7 @@ use Rattle.rt_report.specs.Check.{check_text}
 use Rattle.rt_report.specs.Fault.{fault_text}
 use Rattle.command_steps.specs.declared.status.Status.{Status}
 use Rattle.command_steps.specs.declared.status.Status.TheVariants.{Yes, No, BadFile}
-use Rattle.command_steps.specs.CommandSpec.{CommandSpec, IsVerdict}
+use Rattle.command_steps.specs.CommandSpec.{CommandSpec, IsYesOrNo}
 use Rattle.command_steps.specs.Answer.{Contents}
 use Rattle.command_steps.specs.Attempt.{Attempt, OnAttempt}
 use Rattle.command_steps.specs.TwoFiles.{OnTwoFiles, SpellsSystem, AreReadable}
@@ -70,5 +70,5 @@ the_check file cert = record {
   Answers = Checks;
   Means = λ contents status text. CheckMeans contents status;
   CanJudge = CanCheck;
-  EndsAs = λ contents. IsVerdict;
+  EndsAs = λ contents. IsYesOrNo;
 }

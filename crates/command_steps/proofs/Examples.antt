@@ -9,8 +9,8 @@ use Rattle.system_file.specs.declared.fault.SystemFault.{SystemFault}
 use Rattle.system_file.specs.declared.fault.SystemFault.TheVariants.{NotToml}
 use Rattle.system_file.specs.SystemFile.{system_of}
 use Rattle.command_steps.specs.declared.status.Status.{Status}
-use Rattle.command_steps.specs.declared.status.Status.TheVariants.{Yes, No, Usage, BadFile, Wide, Absent, TooLong, ReadFault, WriteFault}
-use Rattle.command_steps.specs.CommandSpec.{IsVerdict}
+use Rattle.command_steps.specs.declared.status.Status.TheVariants.{Yes, No, Usage, BadFile, Wide, Absent, TooLong, ReadFault, WriteFault, NoMemory}
+use Rattle.command_steps.specs.CommandSpec.{IsVerdict, IsYesOrNo, IsYes}
 use Rattle.command_steps.specs.Answer.{Contents, file_at, AtFile, OnSystem, IfSystem, Saying, IsOne, file_limit}
 use Rattle.command_steps.specs.Budgets.{refusal_status}
 use Rattle.slot_model.specs.declared.sched.Short.TheVariants.{At}
@@ -56,6 +56,13 @@ said_of_the_file bytes sys P spelled said = subst (λ (r : Result SystemView Sys
 no_other_is_a_verdict : (IsVerdict Usage → ⊥) × (IsVerdict BadFile → ⊥) × (IsVerdict Absent → ⊥)
     × (IsVerdict TooLong → ⊥) × (IsVerdict ReadFault → ⊥) × (IsVerdict WriteFault → ⊥)
 no_other_is_a_verdict = (λ h. h, λ h. h, λ h. h, λ h. h, λ h. h, λ h. h)
+
+-- where no answer is wide, and where every answer is yes
+never_wide : IsYesOrNo Yes × IsYesOrNo No × IsYesOrNo NoMemory × (IsYesOrNo Wide → ⊥) × (IsYesOrNo BadFile → ⊥)
+never_wide = (tt, tt, tt, λ h. h, λ h. h)
+
+always_yes : IsYes Yes × IsYes NoMemory × (IsYes No → ⊥) × (IsYes Wide → ⊥) × (IsYes BadFile → ⊥)
+always_yes = (tt, tt, λ h. h, λ h. h, λ h. h)
 
 -- over a first file that spells a system the second is told by its own number
 on_second : (bytes text : List ℕ) (status : Status) (sys : SystemView) (contents : Contents)

@@ -24,3 +24,12 @@ IsVerdict No = ⊤
 IsVerdict Wide = ⊤
 IsVerdict NoMemory = ⊤
 IsVerdict _ = ⊥
+
+-- the same of a command that is never answered wide, and of one that is always answered yes
+abbrev pub IsYesOrNo : Status → Type 0
+IsYesOrNo Wide = ⊥
+IsYesOrNo status = IsVerdict status
+
+abbrev pub IsYes : Status → Type 0
+IsYes No = ⊥
+IsYes status = IsYesOrNo status

@@ -81,24 +81,38 @@ fn a_text_is_audited_as_its_events(rt: HostRuntime) {
     }
 }
 
-/// What is found of a text that is taken in two pieces, and whether it is a trace.
-fn in_two(
+/// What is found of a text that is taken in two pieces.
+fn found_in_two(
     alloc: Global,
     sys: &System,
     plan: &Plan,
     text: &[u8],
     at: usize,
-) -> Result<(Result<Finding, TraceFault>, Result<(), TraceFault>), AllocError>
+) -> Result<Result<Finding, TraceFault>, AllocError>
     requires plan { IsPlan sys.now plan.now }
     requires within { at ≤ length text.now }
 {
     let mut audit = Audit::new(alloc, sys, plan)?;
-    audit.take(&text[..at])?;
-    audit.take(&text[at..])?;
+    for piece in [&text[..at], &text[at..]] {
+        audit.take(piece)?;
+    }
+    Ok(audit.finish())
+}
+
+/// Whether a text that is taken in two pieces is a trace.
+fn checked_in_two(
+    alloc: Global,
+    sys: &System,
+    text: &[u8],
+    at: usize,
+) -> Result<Result<(), TraceFault>, AllocError>
+    requires { at ≤ length text.now }
+{
     let mut check = TraceCheck::new(alloc, sys)?;
-    check.take(&text[..at])?;
-    check.take(&text[at..])?;
-    Ok((audit.finish(), check.finish()))
+    for piece in [&text[..at], &text[at..]] {
+        check.take(piece)?;
+    }
+    Ok(check.finish())
 }
 
 #[test]
@@ -109,8 +123,10 @@ fn a_text_is_audited_in_any_pieces(rt: HostRuntime) {
         let text = text.as_bytes();
         let checked = check_bytes(rt.alloc(), &sys, text);
         for at in 0..text.len() {
-            let told = in_two(rt.alloc(), &sys, &plan, text, at).expect(&rt, MEMORY);
-            assert!(rt; told == (*found, checked), "{at}");
+            let told = found_in_two(rt.alloc(), &sys, &plan, text, at).expect(&rt, MEMORY);
+            assert!(rt; told == *found, "{at}");
+            let told = checked_in_two(rt.alloc(), &sys, text, at).expect(&rt, MEMORY);
+            assert!(rt; told == checked, "{at}");
         }
     }
 }

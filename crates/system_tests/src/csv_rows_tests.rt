@@ -10,11 +10,11 @@ use std::process::Abort;
 
 /// The text of two rows.
 fn two_rows(alloc: Global) -> Result<Vec<u8>, AllocError> {
-    let head: [&[u8]; 3] = [b"at", b"what", b"vcpu"];
-    let row: [&[u8]; 3] = [b"7", b"a,b", b""];
+    let rows: [[&[u8]; 3]; 2] = [[b"at", b"what", b"vcpu"], [b"7", b"a,b", b""]];
     let mut writer = RowWriter::new(alloc);
-    writer.write(&head)?;
-    writer.write(&row)?;
+    for row in &rows {
+        writer.write(row)?;
+    }
     writer.finish()
 }
 
@@ -100,9 +100,9 @@ fn in_three(alloc: Global, text: &[u8], from: usize, to: usize) -> Result<Writte
         text: Vec::new(alloc),
     };
     let mut feed = RecordFeed::new(alloc, written);
-    feed.take(&text[..from])?;
-    feed.take(&text[from..to])?;
-    feed.take(&text[to..])?;
+    for piece in [&text[..from], &text[from..to], &text[to..]] {
+        feed.take(piece)?;
+    }
     feed.finish()
 }
 

@@ -20,7 +20,7 @@ use Rattle.rt_report.specs.Check.{check_text, IsFlawOf}
 use Rattle.command_steps.specs.declared.status.Status.{Status}
 use Rattle.command_steps.specs.declared.status.Status.TheVariants.{Yes, No, Usage, BadFile, Wide, Absent, TooLong, ReadFault, WriteFault, NoMemory}
 use Rattle.command_steps.specs.Answer.{Contents, IsOne}
-use Rattle.command_steps.specs.CommandSpec.{IsVerdict}
+use Rattle.command_steps.specs.CommandSpec.{IsYesOrNo}
 use Rattle.admit_commands.specs.Check.{the_check, spelling, IsFlawed, ChecksNodes, Checks, TellsProof, CheckMeans}
 use Rattle.command_steps.specs.Steps.{IsJudged}
 use Rattle.command_steps.proofs.Attempt.{IsDecided}
@@ -127,10 +127,10 @@ check_means contents status text h = λ sys nodes of.
 pub check_laws : (file cert : List ℕ) → CommandLaws (the_check file cert)
 check_laws file cert =
     read_laws file cert (λ sys. spelling) ChecksNodes (λ contents status text. CheckMeans contents status)
-    (λ sys bytes. IsOk (certificate_of bytes)) (λ contents. IsVerdict) check_reads (record {
+    (λ sys bytes. IsOk (certificate_of bytes)) (λ contents. IsYesOrNo) check_reads (record {
       means = check_means;
       good = λ sys bytes. ok_of (certificate_of bytes);
-      verdict = λ contents sys spelled. verdict_status IsVerdict tt tt sys;
+      verdict = λ contents sys spelled. verdict_status IsYesOrNo tt tt sys;
       no_memory = λ contents. tt;
     })
 

@@ -1,10 +1,7 @@
-use Rattle.std.proofs.Common.{◌≡◌, suc, ◌<◌, true, List, length, arith, ap}
-use Rattle.tree_model.specs.declared.place.Place.TheVariants.{Core}
+use Rattle.std.proofs.Common.{◌≡◌, ◌<◌, List, length, arith, ap}
 use Rattle.tree_model.specs.View.{PartView}
-use Rattle.tree_model.specs.Tree.{is_child}
 use Rattle.rtds_queues.specs.Queues.{place_at}
 use Rattle.isolation.specs.Answer.{tie_of}
-use Rattle.isolation.specs.inner.Neighbours.{IsNextOn}
 use Rattle.isolation.proofs.Least.{asked_by, asked_none, asked_next, asked_with}
 use Rattle.isolation.proofs.window.asked_in.Goals as goal
 
@@ -23,19 +20,12 @@ loop-u-init c =
       few = omega arith;
     }
 
--- this one stands on the core, and the next one behind it
-one_here : (c : goal.After-asked_by-total)
-    → (c.loop-u.u < length c.args.sys.now.parts) × (is_child c.args.sys.now (Core c.args.core) c.loop-u.u ≡ true)
-    × IsNextOn c.args.sys.now c.args.core (suc c.loop-u.u) (place_at c.args.neighbours.now.next c.loop-u.u)
-one_here c =
+pub loop-u-preserved : goal.loop-u-preserved
+loop-u-preserved c =
     let parts = ap (λ (ps : List PartView). length ps) c.parts-in-loop-u.ensures.parts in
     let here : c.loop-u.u < length c.args.sys.now.parts = omega (arith, parts, c.loop-u-test.true) in
     let on = c.loop-u.invariant.here here in
-    (here, (on, c.requires.neighbours.next c.args.core c.loop-u.u (omega arith) here on))
-
-pub loop-u-preserved : goal.loop-u-preserved
-loop-u-preserved c =
-    let (_, on, next) = one_here (goal.at.loop-u-preserved c).After-asked_by-total in
+    let next = c.requires.neighbours.next c.args.core c.loop-u.u (omega arith) here on in
     record {
       within = next.within;
       here = next.here;
@@ -51,7 +41,9 @@ loop-u-preserved c =
 
 pub loop-u-smaller : goal.loop-u-smaller
 loop-u-smaller c =
-    let (here, _, next) = one_here (goal.at.loop-u-smaller c).After-asked_by-total in
+    let parts = ap (λ (ps : List PartView). length ps) c.parts-in-loop-u.ensures.parts in
+    let here : c.loop-u.u < length c.args.sys.now.parts = omega (arith, parts, c.loop-u-test.true) in
+    let next = c.requires.neighbours.next c.args.core c.loop-u.u (omega arith) here (c.loop-u.invariant.here here) in
     omega (arith, next.behind, here)
 
 pub returns : goal.returns

@@ -1,0 +1,16 @@
+use Rattle.std.proofs.Common.{[]}
+use Rattle.system_tests.proofs.auditor_tests.checked_in_two.Goals as goal
+
+pub loop-piece-init : goal.loop-piece-init
+loop-piece-init c = ([], c.in_ok-check.ensures)
+
+pub take-requires : goal.take-requires
+take-requires c = (c.args.sys.now, c.loop-piece.invariant.0, c.loop-piece.invariant.1)
+
+pub loop-piece-preserved : goal.loop-piece-preserved
+loop-piece-preserved c =
+    let taken = c.loop-piece.invariant in
+    (_, c.in_ok-take.ensures c.args.sys.now taken.0 taken.1)
+
+pub finish-requires : goal.finish-requires
+finish-requires c = (c.args.sys.now, c.loop-piece.invariant.0, c.loop-piece.invariant.1)
