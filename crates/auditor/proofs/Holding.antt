@@ -1,6 +1,6 @@
 -- How the VCPU stands that has a core, and the one that comes to it.
-use Rattle.std.proofs.Common.{◌≡◌, ℕ, zero, suc, ◌<◌, Bool, true, false, cond, not, eqb, List, length, Option, Some, None, refl, sym, ◌∙◌, ap, subst, arith, inl, inr}
-use Rattle.std.proofs.lemmas.Bool.{cases_Bool, cond-true, cond-false, eq-eqb, eqb-true, and_parts, false≢true}
+use Rattle.std.proofs.Common.{◌≡◌, ℕ, zero, suc, Bool, true, false, cond, not, eqb, List, Option, Some, None, refl, sym, ◌∙◌, ap, arith, inl, inr}
+use Rattle.std.proofs.lemmas.Bool.{cases_Bool, cond-true, cond-false, eq-eqb, eqb-true, false≢true}
 use Rattle.std.proofs.lemmas.Option.{none-some, same_Some}
 use Rattle.slot_model.specs.Run.{holds}
 use Rattle.tree_model.specs.declared.place.Parent.{Parent}
@@ -12,10 +12,10 @@ use Rattle.trace_file.specs.declared.event.What.{What}
 use Rattle.trace_file.specs.declared.event.What.TheVariants.{Start, Wake, Block, Run, Stop, End}
 use Rattle.trace_file.specs.declared.fault.TraceFault.TheVariants.{NotStarted, NotRunnable, StillRunning}
 use Rattle.trace_file.specs.declared.rows.Rows.{Rows}
-use Rattle.trace_file.specs.Events.{event_at, switches, is_switch, is_change_of, is_block, runner, runner_of, holder, has_core, is_started, is_blocked}
+use Rattle.trace_file.specs.Events.{event_at, switches, is_change_of, is_block, runner, runner_of, holder, has_core, is_started, is_blocked}
 use Rattle.trace_file.specs.Rules.{RowsKeep, named, row_of, stands_on, what_fault}
 use Rattle.csv_rows.proofs.Last.{last_below-zero}
-use Rattle.trace_file.proofs.After.{RowKeeps, blocked_next, fault_none, holder_next, row_keeps}
+use Rattle.trace_file.proofs.After.{blocked_next, fault_none, holder_next, row_keeps}
 use Rattle.trace_file.proofs.Moments.{StandsOn, child_parent, holder_stands, runs_there}
 use Rattle.vcpu_watch.specs.declared.watch.State.{State}
 use Rattle.auditor.specs.inner.Told.{IsNextEvent, StandsSo}

@@ -14,7 +14,7 @@ pub fn field<'r>(row: &Row<'r>, i: usize) -> &'r [u8]
     }
 }
 
-/// Whether two texts are the same. Names are short, and many have two or three bytes, so this is
+/// Whether two texts are the same. Names are short, and many have two to four bytes, so this is
 /// quicker than `==`.
 #[inline(always)]
 pub fn is_same(text: &[u8], other: &[u8]) -> bool
@@ -23,6 +23,7 @@ pub fn is_same(text: &[u8], other: &[u8]) -> bool
     match (text, other) {
         ([a, b], [c, d]) => a == c && b == d,
         ([a, b, c], [d, e, f]) => a == d && b == e && c == f,
+        ([a, b, c, d], [e, f, g, h]) => a == e && b == f && c == g && d == h,
         _ => is_same_by_one(text, other),
     }
 }

@@ -1,4 +1,4 @@
-use Rattle.std.proofs.Common.{◌≡◌, ◌≢◌, ℕ, ◌<◌, get_or, arith}
+use Rattle.std.proofs.Common.{arith}
 use Rattle.csv_rows.proofs.Fours.{four_read}
 use Rattle.csv_rows.proofs.near.near_four.Goals as goal
 
