@@ -95,11 +95,12 @@ pub fn try_removal(
     ensures refusal { IfErr result (λ r.
         r ≢ Refusal.NoMemory → FirstRefusal (without_leaf sys.old q) r) }
 {
-    let start = fallen(sys.parts()[q].parent(), q).place();
-    let Ok(fewer) = less_budget(alloc, plan, q) else {
+    let parts = sys.parts();
+    let start = fallen(parts[q].parent(), q).place();
+    let Ok(spare) = Vec::with_capacity(alloc, parts.len()) else {
         return Err(Refusal::NoMemory);
     };
-    let Ok(spare) = Vec::with_capacity(alloc, sys.parts().len()) else {
+    let Ok(fewer) = less_budget(alloc, plan, q) else {
         return Err(Refusal::NoMemory);
     };
     let was = mem::replace(plan, fewer);

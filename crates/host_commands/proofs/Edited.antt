@@ -90,14 +90,18 @@ pub told_all : (sys : SystemView) (bytes text : List ℕ) (start now : Editing) 
     → (budgets : List ℕ) × Admitted now.session budgets
     × (text ≡ string_bytes now.text ++ plan_lines now.session.parts budgets)
     → IsToldSession sys bytes text
-told_all sys bytes text start now header same begun told all end =
+told_all sys bytes text start now header same begun is_header all end =
     let (read, is, keep, edited) = all in
     let (budgets, under, written) = end in
     record {
       edits = edits_of read;
       spelled =
-          record
-          { rows = read; header = behind_header (records_of bytes) header read is told; keep = keep; edits_are = refl };
+          record {
+            rows = read;
+            header = behind_header (records_of bytes) header read is is_header;
+            keep = keep;
+            edits_are = refl;
+          };
       answers = edited.answers;
       last = now.session;
       answered =

@@ -2,6 +2,8 @@
 use Rattle.std.proofs.Common.{◌≡◌, ℕ, ◌+◌, ◌<◌, ◌^◌, true, false, Bool, not, Result, Ok, Err, List, [], ◌∷◌, ◌++◌, length, Some, None, refl, sym, ◌∙◌, ap, subst}
 use Rattle.std.specs.Prelude.{OnOk}
 use Rattle.std.proofs.lemmas.List.{map-append}
+use Rattle.csv_rows.specs.declared.records.Records.{Records}
+use Rattle.csv_rows.specs.Reading.{HasRead}
 use Rattle.csv_rows.specs.Rules.{RowsKeep, IsFirstFault, fault_if, row_of}
 use Rattle.admission_session.specs.declared.edit.Edit.{Edit}
 use Rattle.script_file.specs.declared.fault.ScriptFault.{ScriptFault}
@@ -42,23 +44,33 @@ took_row start before after rows row edit (Ok done) has spelt items few = (
 )
 took_row start before after rows row edit (Err fault) has spelt items few = tt
 
+-- a header was read, and no row behind it
+abbrev pub HeaderRead : List ℕ → Records → Type 0
+HeaderRead text records =
+    (header : List (List ℕ)) × (is_script_header header ≡ true) × HasRead text (header ∷ []) records
+
 -- the rows behind a header
 pub behind_header : (records : List (List (List ℕ))) (header : List (List ℕ)) (read : List (List (List ℕ)))
     → records ≡ header ∷ read → is_script_header header ≡ true → script_rows records ≡ Some read
-behind_header records header read is told = ap script_rows is ∙ rw (told) refl
+behind_header records header read is is_header = ap script_rows is ∙ rw (is_header) refl
 
 pub spelt_all : (records : List (List (List ℕ))) (s t : ScriptRows) (header : List (List ℕ))
     → is_script_header header ≡ true
     → (read : List (List (List ℕ))) × (records ≡ header ∷ read) × RowsKeep script_rules read (length read)
     × HasTakenRows s t read → SpellsScript records t.edits.items
-spelt_all records s t header told all =
+spelt_all records s t header is_header all =
     let (read, is, keep, taken) = all in
-    record { rows = read; header = behind_header records header read is told; keep = keep; edits_are = taken.edits }
+    record {
+      rows = read;
+      header = behind_header records header read is is_header;
+      keep = keep;
+      edits_are = taken.edits;
+    }
 
 pub first_of_file : (records : List (List (List ℕ))) (header : List (List ℕ)) (fault : ScriptFault)
     → is_script_header header ≡ true
     → (read : List (List (List ℕ))) × (records ≡ header ∷ read) × IsFirstFault script_rules read fault
     → IsScriptFault (script_rows records) fault
-first_of_file records header fault told all =
+first_of_file records header fault is_header all =
     let (read, is, first) = all in
-    subst (λ o. IsScriptFault o fault) (sym (behind_header records header read is told)) first
+    subst (λ o. IsScriptFault o fault) (sym (behind_header records header read is is_header)) first
