@@ -183,6 +183,14 @@ impl Order for WithoutKeys {
     ghost laws = { λ s. edf_laws };
 }
 
+fn keep_of(is_server: bool) -> Keep {
+    if is_server {
+        Keep::UntilDeadline
+    } else {
+        Keep::UntilDone
+    }
+}
+
 /// Whether both programs agree on a level, and None where its jobs are not legal.
 fn agree<O: Order>(
     alloc: Global,
@@ -195,11 +203,7 @@ fn agree<O: Order>(
     }
     let windows = windows_of(alloc, &level.slots)?;
     let released = ReleasedLevel {
-        keep: if is_server {
-            Keep::UntilDeadline
-        } else {
-            Keep::UntilDone
-        },
+        keep: keep_of(is_server),
         tasks: &level.tasks,
         jobs: &level.jobs,
         given: &windows,
