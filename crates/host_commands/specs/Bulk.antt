@@ -10,7 +10,7 @@ use Rattle.bulk_run.specs.Summary.{bulk_slots, bulk_supplies, bulk_jobs, AreBulk
 use Rattle.rt_report.specs.Bulk.{bulk_text}
 use Rattle.command_steps.specs.declared.status.Status.{Status}
 use Rattle.command_steps.specs.declared.status.Status.TheVariants.{Yes}
-use Rattle.command_steps.specs.CommandSpec.{CommandSpec, IsVerdict}
+use Rattle.command_steps.specs.CommandSpec.{CommandSpec, IsYes}
 
 -- the answer is yes, always: the text tells the counts of the host of n guests, 1 to 256
 pub record AnswersBulk (n : ℕ) (status : Status) (text : List ℕ) : Type 0 where
@@ -41,5 +41,5 @@ the_bulk guests = record {
   Answers = λ contents. AnswersBulk guests;
   Means = λ contents status text. HostKeepsDeadlines guests;
   CanJudge = λ contents. ⊤;
-  EndsAs = λ contents. IsVerdict;
+  EndsAs = λ contents. IsYes;
 }

@@ -12,7 +12,7 @@ use Rattle.rt_report.specs.Bulk.{bulk_text}
 use Rattle.command_steps.specs.declared.status.Status.{Status}
 use Rattle.command_steps.specs.declared.status.Status.TheVariants.{Yes}
 use Rattle.command_steps.specs.Answer.{IsOne}
-use Rattle.command_steps.specs.CommandSpec.{IsVerdict}
+use Rattle.command_steps.specs.CommandSpec.{IsYes}
 use Rattle.host_commands.specs.Bulk.{the_bulk, AnswersBulk, HostKeepsDeadlines}
 use Rattle.command_steps.specs.Steps.{IsSaid}
 use Rattle.command_steps.proofs.CommandLaws.{CommandLaws, no_contents}
@@ -41,7 +41,7 @@ bulk_laws n = record {
   one_answer = λ contents. one_bulk n;
   means = λ contents. bulk_means n;
   of_job = λ contents status text h. subst IsOfJob (sym h.is_yes) tt;
-  verdict = λ contents status text can h. subst IsVerdict (sym h.is_yes) tt;
+  verdict = λ contents status text can h. subst IsYes (sym h.is_yes) tt;
   no_memory = λ contents. tt;
   without_file = λ none contents status text h. h.is_yes;
 }
