@@ -32,6 +32,7 @@ loop-at-init g c =
     made.time made.releases made.state made.none_come made.left made.ends in
     record {
       so_far = ([], kept, c.requires.begins);
+      followed = ([], sym made.time, c.requires.begins);
       is_state = made.state;
       come = kept.come;
       long = kept.long;
@@ -120,16 +121,6 @@ serve-span-requires-clause-keys g c =
     keys_kept before level.jobs.now c.pass_until.new.ready c.catch_up.new.self c.in_ok-catch_up.ensures.keys
     (keys_later before level.jobs.now c.loop-at.ready c.pass_until.new.ready c.in_ok-pass_until.ensures.rest
     c.loop-at.invariant.keys)
-
-pub pass_until-requires-clause-follows : goal.pass_until-requires-clause-follows
-pass_until-requires-clause-follows g c =
-    let s = c.loop-at.invariant.so_far in
-    (s.0, s.1.run_so_far.long, s.2)
-
-pub pass_until-requires-2-clause-follows : goal.pass_until-requires-2-clause-follows
-pass_until-requires-2-clause-follows g c =
-    let s = c.loop-at.invariant.so_far in
-    (s.0, s.1.run_so_far.long, s.2)
 
 pub add-requires-clause-is_taken : goal.add-requires-clause-is_taken
 add-requires-clause-is_taken g c =
@@ -252,6 +243,7 @@ loop-at-preserved g c =
     (keys_later before level.jobs.now old begun passed.rest i.keys) in
     record {
       so_far = (passing ++ entries_of span, kept, follows);
+      followed = (passing ++ entries_of span, kept.run_so_far.long, follows);
       is_state = kept.is_state;
       come = kept.come;
       long = kept.long;
