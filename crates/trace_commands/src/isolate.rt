@@ -27,9 +27,10 @@ impl JudgeOne for Isolate {
     fn judge(&self, alloc: Global, sys: &System) -> Result<Answer, Ending> {
         let plan = admitted(alloc, sys)?;
         let rows = isolated(alloc, sys, &plan)?;
+        let text = isolation_text(alloc, sys, &rows)?;
         Ok(Answer {
             status: status_of(&rows),
-            text: isolation_text(alloc, sys, &rows)?,
+            text,
         })
     }
 }

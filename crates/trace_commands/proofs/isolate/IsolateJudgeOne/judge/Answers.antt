@@ -19,5 +19,5 @@ each_part sys budgets rows h k d l =
 pub isolation_text-requires : goal.isolation_text-requires
 isolation_text-requires c =
     subst (λ (rows : List PartIsolation). All (λ (row : PartIsolation). row.part < length c.args.sys.now.parts) rows)
-    (sym c.deref-2.ensures.value)
+    (sym c.deref.ensures.value)
     (each_part c.args.sys.now c.in_ok-plan.plan c.in_ok-rows.rows.items c.in_ok-rows.ensures.isolated.isolations)
