@@ -3,7 +3,7 @@ use Rattle.std.specs.Prelude.{◌≡◌, ℕ, List, [], ⊤}
 use Rattle.rt_report.specs.Version.{version_text}
 use Rattle.command_steps.specs.declared.status.Status.{Status}
 use Rattle.command_steps.specs.declared.status.Status.TheVariants.{Yes}
-use Rattle.command_steps.specs.CommandSpec.{CommandSpec, IsVerdict}
+use Rattle.command_steps.specs.CommandSpec.{CommandSpec, IsYes}
 
 -- the answer is yes, always, and the text is the line of the version
 pub record AnswersVersion (status : Status) (text : List ℕ) : Type 0 where
@@ -17,5 +17,5 @@ the_version = record {
   Answers = λ contents. AnswersVersion;
   Means = λ contents status text. text ≡ version_text;
   CanJudge = λ contents. ⊤;
-  EndsAs = λ contents. IsVerdict;
+  EndsAs = λ contents. IsYes;
 }

@@ -26,8 +26,8 @@ use Rattle.tree_spans.specs.TreeCounts.{NoneMisses}
 use Rattle.cert_reader.specs.CertificateFile.{certificate_of}
 use Rattle.cert_verify.specs.Proves.{Proves}
 use Rattle.command_steps.specs.declared.status.Status.{Status}
-use Rattle.command_steps.specs.declared.status.Status.TheVariants.{Yes, No, Usage, BadFile, Absent, TooLong, ReadFault, WriteFault}
-use Rattle.command_words.specs.Commands.{Command, admit, certify, check, rtds, audit, simulate, bulk}
+use Rattle.command_steps.specs.declared.status.Status.TheVariants.{Yes, No, Usage, BadFile, Wide, Absent, TooLong, ReadFault, WriteFault}
+use Rattle.command_words.specs.Commands.{Command, admit, certify, check, rtds, audit, simulate, bulk, version}
 use Rattle.command_steps.specs.Answer.{Contents, file_at, IfSystem, IsReadable}
 use Rattle.command_steps.specs.TwoFiles.{SpellsSystem}
 use Rattle.command_steps.specs.Budgets.{IsTrulyOverfull}
@@ -228,6 +228,13 @@ no_other_command_is_refused : (file other : List ℕ) (pattern : Pattern) (n : �
     × (EndsAs (check file other) contents BadFile → ⊥) × (EndsAs (audit file other) contents BadFile → ⊥)
     × (EndsAs (simulate file other pattern n) contents BadFile → ⊥) × (EndsAs (bulk n) contents BadFile → ⊥)
 no_other_command_is_refused file other pattern n contents = (λ h. h, λ h. h, λ h. h, λ h. h, λ h. h, λ h. h)
+
+-- a certificate is never answered wide; a generated host and the version are always answered yes
+who_is_not_answered_wide : (file other : List ℕ) (n : ℕ) (contents : Contents) →
+    (EndsAs (check file other) contents Wide → ⊥) × EndsAs (check file other) contents No
+    × (EndsAs (bulk n) contents Wide → ⊥) × (EndsAs (bulk n) contents No → ⊥) × EndsAs (bulk n) contents Yes
+    × (EndsAs version contents Wide → ⊥) × (EndsAs version contents No → ⊥) × EndsAs version contents Yes
+who_is_not_answered_wide file other n contents = (λ h. h, tt, λ h. h, λ h. h, tt, λ h. h, λ h. h, tt)
 
 the_verdict_is_of_the_command : (file : List ℕ) (files : Files)
     (judged : CanJudge (admit file) (file_named file files ∷ []))

@@ -3,7 +3,7 @@ use Rattle.std.proofs.Common.{◌≡◌, ℕ, List, [], Option, refl, sym, ◌�
 use Rattle.outside.specs.Files.{Files}
 use Rattle.rt_report.specs.Version.{version_text}
 use Rattle.command_steps.specs.declared.status.Status.TheVariants.{Yes}
-use Rattle.command_steps.specs.CommandSpec.{IsVerdict}
+use Rattle.command_steps.specs.CommandSpec.{IsYes}
 use Rattle.command_words.specs.Version.{the_version}
 use Rattle.command_steps.specs.Steps.{IsSaid}
 use Rattle.command_steps.proofs.CommandLaws.{CommandLaws, no_contents}
@@ -14,7 +14,7 @@ version_laws = record {
   one_answer = λ contents s t x y a b. (a.is_yes ∙ sym b.is_yes, a.told ∙ sym b.told);
   means = λ contents status text h. h.told;
   of_job = λ contents status text h. subst IsOfJob (sym h.is_yes) tt;
-  verdict = λ contents status text can h. subst IsVerdict (sym h.is_yes) tt;
+  verdict = λ contents status text can h. subst IsYes (sym h.is_yes) tt;
   no_memory = λ contents. tt;
   without_file = λ none contents status text h. h.is_yes;
 }
