@@ -1,30 +1,32 @@
-use Rattle.std.proofs.Common.{ℕ, ◌<◌, ◌≤◌, List, length, get_or, arith, ap, subst, sym}
+use Rattle.std.proofs.Common.{◌≡◌, ℕ, ◌<◌, ◌≤◌, List, length, get_or, arith, ap, subst, sym}
+use Rattle.std.specs.Prelude.{All}
+use Rattle.guest_sched.specs.declared.ready.Ready.{Ready}
+use Rattle.guest_sched.specs.inner.Ready.{IsReady}
 use Rattle.guest_sched.specs.inner.Places.{RemovesPlace}
 use Rattle.guest_sched.proofs.InOrder.{remove_removes}
 use Rattle.guest_sched.proofs.State.{all_in_jobs, one_ends}
 use Rattle.guest_sched.proofs.ready.Ready.give_up.Goals as goal
 
+-- the ready jobs have ends
+have_ends : (s : Ready) (ready ends : List ℕ) → IsReady s → ready ≡ s.ready.items → ends ≡ s.ends.items
+    → All (λ p. p < length ends) ready
+have_ends s ready ends h same same_ends k d l = omega (
+  arith,
+  h.same_jobs,
+  all_in_jobs s.releases.items s.released s.keys.all.items s.left.items s.ends.items s.ready.items s.soonest s.time
+      ready h same k d l,
+  ap (λ (z : List ℕ). length z) same_ends,
+)
+
 pub find_ended-requires : goal.find_ended-requires
-find_ended-requires c k d l =
-    let s = c.loop-at.self in
-    omega (
-      arith,
-      c.loop-at.invariant.state.same_jobs,
-      all_in_jobs s.releases.items s.released s.keys.all.items s.left.items s.ends.items s.ready.items s.soonest s.time
-          c.deref-in-loop-at.result.now c.loop-at.invariant.state c.deref-in-loop-at.ensures.value k d l,
-      ap (λ (z : List ℕ). length z) c.deref.ensures.value,
-    )
+find_ended-requires c =
+    have_ends c.loop-at.self c.deref-in-loop-at.result.now c.deref.result.now c.loop-at.invariant.state
+    c.deref-in-loop-at.ensures.value c.deref.ensures.value
 
 pub soonest_end-self-requires : goal.soonest_end-self-requires
-soonest_end-self-requires c k d l =
-    let s = c.loop-at.self in
-    omega (
-      arith,
-      c.loop-at.invariant.state.same_jobs,
-      all_in_jobs s.releases.items s.released s.keys.all.items s.left.items s.ends.items s.ready.items s.soonest s.time
-          c.deref-3.result.now c.loop-at.invariant.state c.deref-3.ensures.value k d l,
-      ap (λ (z : List ℕ). length z) c.deref-2.ensures.value,
-    )
+soonest_end-self-requires c =
+    have_ends c.loop-at.self c.deref-3.result.now c.deref-2.result.now c.loop-at.invariant.state
+    c.deref-3.ensures.value c.deref-2.ensures.value
 
 pub loop-at-preserved : goal.loop-at-preserved
 loop-at-preserved c =
