@@ -1,13 +1,14 @@
-use Rattle.std.proofs.Common.{◌≡◌, ℕ, ◌+◌, ◌<◌, List, Some, length, replicate, get_or, set, refl, sym, ◌∙◌, ap, arith, Vec, Global}
+use Rattle.std.proofs.Common.{◌≡◌, ℕ, ◌+◌, ◌<◌, List, Some, length, replicate, get_or, set, refl, sym, ◌∙◌, ap, arith}
 use Rattle.std.specs.Prelude.{slice_get}
 use Rattle.std.proofs.lemmas.List.{length-set, get_or-set_same, get_or-set_other}
 use Rattle.trace_file.specs.declared.event.Event.{Event}
 use Rattle.rtds_sim.specs.inner.Lists.{list_at}
-use Rattle.rtds_sim.specs.inner.Soonest.{next_moment, IsSoonest}
-use Rattle.rtds_sim.proofs.Merging.{AreMoments, told_none, told_one, told_all}
+use Rattle.rtds_sim.specs.inner.Soonest.{next_moment}
+use Rattle.rtds_sim.proofs.Merging.{told_none, told_one, told_all}
 use Rattle.rtds_sim.proofs.Lists.{has_event, moments_more, left_less}
 use Rattle.rtds_queues.proofs.Queueing.{alike}
 use Rattle.rtds_sim.proofs.switches.tell_all.Goals as goal
+use Rattle.rtds_sim.proofs.switches.tell_all.Goals.{In-Some}
 
 pub loop-core-init : goal.loop-core-init
 loop-core-init g c = record {
@@ -22,18 +23,18 @@ loop-core-init g c = record {
 }
 
 -- the core that is soonest has an event
-in_list : (lists : List (Vec Event Global)) (told moments : List ℕ) (core : ℕ)
-    → AreMoments lists told moments (length lists) → IsSoonest moments (length lists) core
-    → get_or told core 0 < length (list_at lists core)
-in_list lists told moments core are soonest =
-    has_event (list_at lists core) (get_or told core 0) (omega (arith, soonest.some, are core soonest.is_core))
+in_list : (g : _) (c : In-Some g)
+    → get_or c.loop-core.told c.in-Some.core 0 < length (list_at c.args.lists.now c.in-Some.core)
+in_list g c =
+    let soonest = c.in-Some.ensures in
+    has_event (list_at c.args.lists.now c.in-Some.core) (get_or c.loop-core.told c.in-Some.core 0)
+    (omega (arith, soonest.some, c.loop-core.invariant.moments c.in-Some.core soonest.is_core))
 
 pub event_at-requires : goal.event_at-requires
 event_at-requires g c =
     omega (
       arith,
-      in_list c.args.lists.now c.loop-core.told c.loop-core.moments c.in-Some.core c.loop-core.invariant.moments
-          c.in-Some.ensures,
+      in_list g (goal.at.event_at-requires g c).In-Some,
       ap (λ (es : List Event). length es) c.list_of-list.ensures,
     )
 
@@ -41,8 +42,7 @@ pub overflow_add-next : goal.overflow_add-next
 overflow_add-next g c =
     omega (
       arith,
-      in_list c.args.lists.now c.loop-core.told c.loop-core.moments c.in-Some.core c.loop-core.invariant.moments
-          c.in-Some.ensures,
+      in_list g (goal.at.overflow_add-next g c).In-Some,
       ap (λ (es : List Event). length es) c.list_of-list.ensures,
       c.list_of-list.type_inv,
     )
@@ -51,8 +51,7 @@ pub loop-core-smaller : goal.loop-core-smaller
 loop-core-smaller g c =
     left_less c.args.lists.now c.loop-core.told (length c.args.lists.now) c.in-Some.core c.in-Some.ensures.is_core
     (omega (arith, c.requires, c.in-Some.ensures.is_core, c.loop-core.invariant.room))
-    (in_list c.args.lists.now c.loop-core.told c.loop-core.moments c.in-Some.core c.loop-core.invariant.moments
-    c.in-Some.ensures)
+    (in_list g (goal.at.loop-core-smaller g c).In-Some)
 
 pub loop-core-preserved : goal.loop-core-preserved
 loop-core-preserved g c =
