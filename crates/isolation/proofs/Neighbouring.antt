@@ -11,7 +11,6 @@ use Rattle.tree_model.specs.View.{PartView, SystemView}
 use Rattle.tree_model.specs.System.{part_at, IsSystem, Stands}
 use Rattle.tree_model.specs.Tree.{is_child, place_of, same_place}
 use Rattle.tree_model.proofs.NodeTasks.{part_here}
-use Rattle.rtds_queues.specs.Queues.{place_at}
 use Rattle.rtds_queues.proofs.Membership.{on_one_core}
 use Rattle.isolation.specs.declared.neighbours.Neighbours.{Neighbours}
 use Rattle.isolation.specs.inner.Neighbours.{IsNextOn, AreNeighboursFrom}
@@ -61,7 +60,7 @@ module _ (sys : SystemView) where
     all_cores = length-replicate 64 n;
     all_parts = length-replicate 512 n;
     first = λ c l.
-        let is : place_at (replicate 64 n) c ≡ n = get_or-replicate 64 c n 0 (omega arith) in
+        let is : get_or (replicate 64 n) c 0 ≡ n = get_or-replicate 64 c n 0 (omega arith) in
         record {
           behind = omega (arith, is);
           within = omega (arith, is, e);
@@ -88,23 +87,23 @@ module _ (sys : SystemView) where
     pub on_core : (c : ℕ) → c < length sys.cores → is_child sys (Core c) v ≡ true → length sys.cores ≤ 64
         → length sys.parts ≤ 512 → AreNeighboursFrom sys (record {
           first = set neighbours.first c v;
-          next = set neighbours.next v (place_at neighbours.first c);
+          next = set neighbours.next v (get_or neighbours.first c 0);
         }) v
     on_core c lc its few_cores few_parts = record {
       all_cores = length-set neighbours.first c v ∙ h.all_cores;
       all_parts = length-set neighbours.next v was ∙ h.all_parts;
       first = λ d l. elim (cases_eq d c) [
         | inl e ↦
-            subst (λ (z : ℕ). IsNextOn sys z v (place_at first z)) (sym e)
+            subst (λ (z : ℕ). IsNextOn sys z v (get_or first z 0)) (sym e)
             (subst (IsNextOn sys c v) (sym (get_or-set_same neighbours.first c v 0 (omega (arith, lc, h.all_cores))))
             itself)
         | inr ne ↦
             subst (IsNextOn sys d v) (sym (get_or-set_other neighbours.first c d v 0 ne))
-            (not_it d (place_at neighbours.first d) (on_one_core sys c d v ne its) (h.first d l))
+            (not_it d (get_or neighbours.first d 0) (on_one_core sys c d v ne its) (h.first d l))
       ];
       next = λ d u a b on. elim (cases_eq u v) [
         | inl e ↦
-            subst (λ (z : ℕ). IsNextOn sys d (suc z) (place_at next z)) (sym e)
+            subst (λ (z : ℕ). IsNextOn sys d (suc z) (get_or next z 0)) (sym e)
             (subst (IsNextOn sys d (suc v)) (sym (get_or-set_same neighbours.next v was 0 (omega (arith, h.all_parts))))
             (behind_it d (subst (λ (z : ℕ). is_child sys (Core d) z ≡ true) e on)))
         | inr ne ↦
@@ -114,7 +113,7 @@ module _ (sys : SystemView) where
     }
       where
         was : ℕ
-        was = place_at neighbours.first c
+        was = get_or neighbours.first c 0
 
         first : List ℕ
         first = set neighbours.first c v

@@ -7,10 +7,11 @@ use Rattle.std.proofs.lemmas.List.{length-set}
 use Rattle.slot_model.specs.declared.task.TheConstants.{LIMIT}
 use Rattle.slot_model.specs.Slots.{count_below}
 use Rattle.rtds_queues.specs.declared.account.Account.{Account}
-use Rattle.rtds_queues.specs.Accounts.{account_at, end_at, renewed, with_numbers, begun}
-use Rattle.rtds_queues.specs.Queues.{place_at}
-use Rattle.rtds_queues.specs.ByEnd.{InOrder, AreByEnd}
-use Rattle.rtds_queues.specs.Vcpus.{BeginsOne, HavePeriods, NoEndBefore, IsFirstEnd}
+use Rattle.rtds_queues.specs.Accounts.{account_at, end_at, renewed, begun}
+use Rattle.rtds_queues.specs.inner.Queues.{place_at, with_numbers}
+use Rattle.rtds_queues.specs.inner.ByEnd.{InOrder, AreByEnd}
+use Rattle.rtds_queues.specs.Vcpus.{HavePeriods, NoEndBefore, IsFirstEnd}
+use Rattle.rtds_queues.specs.inner.Vcpus.{BeginsOne}
 use Rattle.rtds_queues.proofs.Setting.{account_here, account_there}
 use Rattle.rtds_queues.proofs.Walking.{count_fewer}
 
@@ -61,7 +62,7 @@ module _ (accounts : List Account) (list : List ℕ) (h : AreByEnd accounts list
     -- one ends at the slot, and so does the first in the list
     ending : (i : ℕ) × (i < length list) × (end_at accounts (place_at list i) ≡ at)
     ending = elim first.is_one [
-      | inl past ↦ absurd (omega (arith, past, few))
+      | inl past ↦ absurd (omega (arith, past.1, few))
       | inr its ↦
           let place = h.all.all its.0 its.1 in (
             place.0,
@@ -206,6 +207,6 @@ ends_past at end accounts few first later ne u l = omega (arith, past, first.lea
   where
     past : at < end
     past = elim first.is_one [
-      | inl e ↦ omega (arith, e, few)
+      | inl none ↦ omega (arith, none.1, few)
       | inr one ↦ omega (arith, later one.0 one.1, one.2, ne)
     ]

@@ -4,8 +4,9 @@ use Rattle.std.proofs.lemmas.Bool.{cases_eq}
 use Rattle.rtds_queues.specs.declared.account.Account.{Account}
 use Rattle.rtds_queues.specs.declared.queue.Queue.{Queue}
 use Rattle.rtds_queues.specs.Accounts.{is_ahead}
-use Rattle.rtds_queues.specs.Queues.{IsFirstQueued}
-use Rattle.rtds_queues.specs.Vcpus.{AreVcpus, IsChoice}
+use Rattle.rtds_queues.specs.inner.Queues.{IsFirstQueued}
+use Rattle.rtds_queues.specs.Vcpus.{IsChoice}
+use Rattle.rtds_queues.specs.inner.Vcpus.{AreVcpus}
 use Rattle.rtds_queues.proofs.FirstOf.{one_way}
 use Rattle.rtds_queues.proofs.Queueing.{strict_order}
 

@@ -1,7 +1,7 @@
 -- The first and the last by an order of the numbers that pass.
 use Rattle.std.proofs.Common.{◌≡◌, ◌≢◌, ℕ, ◌<◌, Bool, true, false, Option, sym, ◌∙◌, subst, inl, inr}
 use Rattle.std.proofs.lemmas.Bool.{cases_Bool, cases_eq, both_ways}
-use Rattle.rtds_queues.specs.Queues.{IsFirstOf, IsLastOf}
+use Rattle.rtds_queues.specs.inner.Queues.{IsFirstOf, IsLastOf}
 
 -- no number goes before itself, and what goes before one goes before all that that goes before
 pub record IsStrict (before : ℕ → ℕ → Bool) : Type 0 where

@@ -6,9 +6,10 @@ use Rattle.std.proofs.lemmas.List.{get_or-set_same, get_or-set_other, length-set
 use Rattle.rtds_queues.specs.declared.account.Account.{Account}
 use Rattle.rtds_queues.specs.declared.queue.Queue.{Queue}
 use Rattle.rtds_queues.specs.Accounts.{no_account, account_at, end_at, account_eligible}
-use Rattle.rtds_queues.specs.Queues.{place_at, stands_in, AreQueued}
-use Rattle.rtds_queues.specs.ByEnd.{AreAll, InOrder, AreByEnd}
-use Rattle.rtds_queues.specs.Vcpus.{AreVcpus, NoneStarted}
+use Rattle.rtds_queues.specs.inner.Queues.{place_at, stands_in, AreQueued}
+use Rattle.rtds_queues.specs.inner.ByEnd.{AreAll, InOrder, AreByEnd}
+use Rattle.rtds_queues.specs.Vcpus.{NoneStarted}
+use Rattle.rtds_queues.specs.inner.Vcpus.{AreVcpus}
 use Rattle.rtds_queues.proofs.Firsts.{order_kept}
 use Rattle.rtds_queues.proofs.Queueing.{stands_now, queued_same}
 

@@ -41,11 +41,6 @@ abbrev pub had_slots : Account → ℕ → Account
 had_slots account slots =
     if nat_lt slots account.left then using account slots else had_budget account
 
--- an account with the numbers of another one's period
-abbrev pub with_numbers : Account → Account → Account
-with_numbers account other =
-    record account { until = other.until; level = other.level; left = other.left }
-
 -- an account at a slot, where its next period begins if the one before ends there
 abbrev pub begun : Account → ℕ → Account
 begun account at =

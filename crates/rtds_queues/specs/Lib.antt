@@ -1,5 +1,4 @@
 pub mod Keys
 pub mod Accounts
-pub mod Queues
-pub mod ByEnd
 pub mod Vcpus
+pub mod inner

@@ -1,19 +1,9 @@
--- The VCPUs of a core, and its two orders.
-use Rattle.std.specs.Prelude.{◌≡◌, ℕ, ◌+◌, ◌<◌, ◌≤◌, ◌⊎◌, true, false, List, length, slice_set, Option, Some, None}
+-- The VCPUs of a core: the one that goes first, and the first end of a period.
+use Rattle.std.specs.Prelude.{◌≡◌, ℕ, ◌<◌, ◌≤◌, ◌⊎◌, true, false, List, length, Option, Some, None}
 use Rattle.slot_model.specs.declared.task.TheConstants.{LIMIT}
 use Rattle.rtds_queues.specs.declared.account.Account.{Account}
 use Rattle.rtds_queues.specs.declared.account.TheConstants.{PAST_ALL}
-use Rattle.rtds_queues.specs.declared.queue.Queue.{Queue}
-use Rattle.rtds_queues.specs.Accounts.{account_at, end_at, renewed, account_eligible, is_ahead}
-use Rattle.rtds_queues.specs.ByEnd.{AreByEnd}
-use Rattle.rtds_queues.specs.Queues.{stands_in, AreQueued}
-
--- those that are eligible are queued, and all stand in the order in which their periods end
-pub record AreVcpus (accounts : List Account) (queue : Queue) (by_end : List ℕ) : Type 0 where
-  pub queued : AreQueued accounts queue
-  pub eligible : (v : ℕ) → v < length accounts →
-      stands_in queue v ≡ account_eligible (account_at accounts v)
-  pub ends : AreByEnd accounts by_end
+use Rattle.rtds_queues.specs.Accounts.{account_at, end_at, account_eligible, is_ahead}
 
 -- none is started
 pub record NoneStarted (accounts : List Account) : Type 0 where
@@ -43,15 +33,8 @@ pub record IsChoice (accounts : List Account) (o : Option ℕ) : Type 0 where
 abbrev pub NoEndBefore : List Account → ℕ → Type 0
 NoEndBefore accounts to = (v : ℕ) → v < length accounts → to ≤ end_at accounts v
 
--- the slot at which the first period ends, and one past all where there is none
+-- the slot at which the first period ends, and one past all where the core has no VCPU
 pub record IsFirstEnd (accounts : List Account) (end : ℕ) : Type 0 where
   pub least : NoEndBefore accounts end
-  pub is_one : (end ≡ PAST_ALL) ⊎ ((v : ℕ) × (v < length accounts) × (end_at accounts v ≡ end))
-
--- a period that ends at slot `at` begins anew, of one VCPU
-pub record BeginsOne (at : ℕ) (old new : List Account) : Type 0 where
-  pub vcpu : ℕ
-  pub is_vcpu : vcpu < length old
-  pub ended : end_at old vcpu ≡ at
-  pub set_is : new
-      ≡ slice_set old vcpu (renewed (account_at old vcpu) (at + (account_at old vcpu).period))
+  pub is_one : ((length accounts ≡ 0) × (end ≡ PAST_ALL)) ⊎
+      ((v : ℕ) × (v < length accounts) × (end_at accounts v ≡ end))

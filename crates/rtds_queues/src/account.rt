@@ -20,9 +20,9 @@ pub struct Account {
     pub blocked: bool,
     /// The slot at which its period ends, and one past all where it is not started.
     pub until: u64,
-    /// How often it has had its budget in its period.
+    /// How often it has had its budget in its period. Before its start a filler: 0.
     pub level: u64,
-    /// The slots until it has had its budget once more.
+    /// The slots until it has had its budget once more. Before its start a filler: 1.
     pub left: u64,
 }
 

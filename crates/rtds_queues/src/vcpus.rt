@@ -1,5 +1,5 @@
 ghost use Rattle.std.specs.Prelude.{◌≡◌, ℕ, ◌<◌, length, IfOk};
-ghost use Rattle.rtds_queues.specs.Queues.{place_at};
+ghost use Rattle.rtds_queues.specs.inner.Queues.{place_at};
 
 use crate::account::Account;
 use crate::by_end::{first_end, settle, sort};
@@ -25,7 +25,7 @@ impl Model for Vcpus {
 
     ghost Value = { List AccountView };
 
-    ghost use Rattle.rtds_queues.specs.Vcpus.{AreVcpus};
+    ghost use Rattle.rtds_queues.specs.inner.Vcpus.{AreVcpus};
 
     ghost view = { λ v. v.accounts.items };
 
@@ -35,12 +35,14 @@ impl Model for Vcpus {
 impl Vcpus {
     ghost use Rattle.std.specs.Prelude.{◌≡◌, ℕ, suc, ◌<◌, ◌≤◌, ◌+◌, ◌^◌, ◌≢◌, Some, None, length, slice_set, IfOk};
     ghost use Rattle.slot_model.specs.declared.task.TheConstants.{LIMIT};
+    ghost use Rattle.tree_model.specs.declared.system.TheConstants.{MAX_PARTS};
     ghost use Rattle.rtds_queues.specs.Accounts.{account_at, had_slots, begun};
-    ghost use Rattle.rtds_queues.specs.Vcpus.{BeginsOne, HavePeriods, IsChoice, IsFirstEnd, IsPlaceOf, NoEndBefore, NoneStarted};
+    ghost use Rattle.rtds_queues.specs.Vcpus.{HavePeriods, IsChoice, IsFirstEnd, IsPlaceOf, NoEndBefore, NoneStarted};
+    ghost use Rattle.rtds_queues.specs.inner.Vcpus.{BeginsOne};
 
     /// Those of a core, of which none is started.
     pub fn new(alloc: Global, accounts: Vec<Account>) -> Result<Vcpus, AllocError>
-        requires few { length accounts.items ≤ 512 }
+        requires few { length accounts.items ≤ MAX_PARTS }
         requires idle { NoneStarted accounts.items }
         ensures { IfOk result (λ made. made ≡ accounts.items) }
     {
@@ -84,7 +86,7 @@ impl Vcpus {
         self.queue.first_of()
     }
 
-    /// The slot at which the first period ends, and one past all where there is none.
+    /// The slot at which the first period ends, and one past all where there is no VCPU.
     #[inline(always)]
     pub fn first_end(&self) -> u64
         ensures { IsFirstEnd self.now result }

@@ -19,25 +19,28 @@ use Rattle.rtds_sim.specs.Rtds.{RtdsRun}
 abbrev pub moment_of_slot : ℕ → ℕ
 moment_of_slot x = x * 1000
 
--- the entries of f at 0, 1 and so on below n that are there, in order
+-- a list with one more entry at its end, if there is one
 abbrev pub push_some : {X : Type 0} → List X → Option X → List X
 push_some xs None = xs
 push_some xs (Some y) = xs ++ y ∷ []
 
+-- the entries of f at 0, 1 and so on below n that are there, in order
 unfoldable pub gathered : {X : Type 0} → (ℕ → Option X) → ℕ → List X
 gathered f zero = []
 gathered f (suc n) = push_some (gathered f n) (f n)
 
--- the event of a row
+-- the core on which a part of this parent stands, and a filler, 0, where the parent is a part
 abbrev pub core_of : Parent → ℕ
 core_of (on_core c) = c
 core_of (on_part q) = 0
 
+-- what the event of a row of VCPU v says
 abbrev pub what_of : WakeKind → ℕ → What
 what_of ToStart v = Start v
 what_of ToWake v = Wake v
 what_of ToBlock v = Block v
 
+-- the event of a row
 abbrev pub event_of : SystemView → Row → Event
 event_of sys row =
     record {

@@ -26,6 +26,7 @@ pub struct Host {
 impl Host {
     ghost use Rattle.std.specs.Prelude.{◌≡◌, ◌≢◌, ℕ, ◌≤◌, ◌<◌, ◌+◌, ◌^◌, false, List, [], Option, length, IfOk, OnOk};
     ghost use Rattle.slot_model.specs.declared.task.TheConstants.{LIMIT};
+    ghost use Rattle.tree_model.specs.declared.system.TheConstants.{MAX_CORES};
     ghost use Rattle.tree_model.specs.View.{SystemView};
     ghost use Rattle.tree_model.specs.System.{IsSystem, part_at};
     ghost use Rattle.tree_model.specs.Tree.{run_at};
@@ -121,7 +122,7 @@ impl Host {
 
     /// What is told where core `core` stops.
     fn stop_event(&self, core: usize) -> Event
-        requires few { core < 64 }
+        requires few { core < MAX_CORES }
         requires in_limit { self.now.time ≤ LIMIT }
         ensures { result ≡ on_at core self.now.time Stop }
     {
@@ -138,7 +139,7 @@ impl Host {
         before: usize,
         events: &mut T,
     ) -> Result<(), AllocError>
-        requires few { length self.old.cores.items ≤ 64 }
+        requires few { length self.old.cores.items ≤ MAX_CORES }
         requires ready { AreReady self.old }
         requires in_limit { self.old.time ≤ LIMIT }
         requires awake { before ≡ self.old.taken → (c : ℕ) → c < length self.old.cores.items
@@ -185,7 +186,7 @@ impl Host {
     /// Runs each core by itself up to slot `to`, before which no row comes, and keeps what it
     /// tells.
     pub fn run_on(&mut self, to: u64, switches: &mut Switches) -> Result<(), AllocError>
-        requires few { length self.old.cores.items ≤ 64 }
+        requires few { length self.old.cores.items ≤ MAX_CORES }
         requires ready { AreReady self.old }
         requires later { self.old.time < to }
         requires in_limit { to ≤ LIMIT }

@@ -49,7 +49,7 @@ fn event_of(sys: &System, row: Wake) -> Event
     }
 }
 
-/// Takes the events of some rows, which are those at one slot.
+/// Hands on the events of some rows, which are those at one slot.
 pub fn print_rows<T: EventTaker>(
     sys: &System,
     rows: &[Wake],

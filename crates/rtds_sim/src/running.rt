@@ -1,5 +1,6 @@
 ghost use Rattle.std.specs.Prelude.{◌≡◌, ◌≤◌, ◌<◌};
 ghost use Rattle.slot_model.specs.declared.task.TheConstants.{LIMIT};
+ghost use Rattle.tree_model.specs.declared.system.TheConstants.{MAX_CORES};
 ghost use Rattle.rtds_sim.specs.Printed.{on_core_at, switch_to};
 
 use crate::host_core::HostCore;
@@ -23,7 +24,7 @@ fn switch_to(holder: Option<u32>, next: Option<u32>) -> Option<What>
 
 /// The event of it on core `core` at slot `at`.
 fn switch_event(core: usize, at: u64, holder: Option<u32>, next: Option<u32>) -> Option<Event>
-    requires few { core < 64 }
+    requires few { core < MAX_CORES }
     requires in_limit { at ≤ LIMIT }
     ensures { result ≡ on_core_at core at (switch_to holder next) }
 {
@@ -41,6 +42,7 @@ impl HostCore {
     ghost use Rattle.std.specs.Prelude.{◌≡◌, ℕ, ◌≤◌, ◌<◌, ◌+◌, ◌-◌, List, Option, Some, length, OnOk};
     ghost use Rattle.slot_model.specs.Run.{holds};
     ghost use Rattle.slot_model.specs.declared.task.TheConstants.{LIMIT};
+    ghost use Rattle.tree_model.specs.declared.system.TheConstants.{MAX_CORES};
     ghost use Rattle.tree_model.specs.View.{SystemView};
     ghost use Rattle.tree_model.specs.Plans.{IsPlan};
     ghost use Rattle.release_file.specs.declared.workload.Wake.{Wake as RowView};
@@ -59,7 +61,7 @@ impl HostCore {
         to: u64,
         told: &mut Vec<Event>,
     ) -> Result<(), AllocError>
-        requires few { core < 64 }
+        requires few { core < MAX_CORES }
         requires ready { IsReady from self.old }
         requires later { from < to }
         requires in_limit { to ≤ LIMIT }
@@ -94,7 +96,7 @@ impl HostCore {
     /// Gives the core to the VCPU that goes first at slot `at`, and tells it where that is another
     /// one.
     fn switch(&mut self, core: usize, at: u64, told: &mut Vec<Event>) -> Result<(), AllocError>
-        requires few { core < 64 }
+        requires few { core < MAX_CORES }
         requires ready { IsReady at self.old }
         requires in_limit { at ≤ LIMIT }
         ensures ready { OnOk result (IsReady at self.new) }

@@ -1,4 +1,5 @@
 ghost use Rattle.std.specs.Prelude.{◌≡◌, ℕ, ◌≤◌, ◌<◌, Option, Some, [], length, map, slice_index, slice_get, MatchOption, IfOk, OnOk};
+ghost use Rattle.tree_model.specs.declared.system.TheConstants.{MAX_CORES};
 ghost use Rattle.trace_file.specs.declared.event.Event.{Event as EventView};
 ghost use Rattle.trace_file.specs.Taker.{Took};
 ghost use Rattle.rtds_sim.specs.inner.Lists.{list_at};
@@ -33,7 +34,7 @@ impl Switches {
 
     /// Tells it slot by slot, and at each slot core by core, and forgets it.
     pub fn tell<T: EventTaker>(&mut self, events: &mut T) -> Result<(), AllocError>
-        requires few { length self.old.lists.items ≤ 64 }
+        requires few { length self.old.lists.items ≤ MAX_CORES }
         ensures told { OnOk result ((f : ℕ → ℕ → Option EventView) (x m : ℕ) → AreAtSlots f
             → AreTold f x m (length self.old.lists.items) self.old.lists.items
             → Took T.has_taken events.old events.new
@@ -87,8 +88,8 @@ fn next_moment(events: &[Event], told: usize) -> u64
 
 /// The moments of the first events.
 fn first_moments(lists: &[Vec<Event>]) -> [u64; MAX_CORES]
-    requires { length lists.now ≤ 64 }
-    ensures room { length result ≡ 64 }
+    requires { length lists.now ≤ MAX_CORES }
+    ensures room { length result ≡ MAX_CORES }
     ensures moments { (c : ℕ) → c < length lists.now
         → slice_index result c ≡ next_moment (list_at lists.now c) 0 }
 {
@@ -118,7 +119,7 @@ fn soonest(moments: &[u64], cores: usize) -> Option<usize>
 /// Tells the lists, slot by slot, and at each slot core by core.
 #[inline(never)]
 fn tell_all<T: EventTaker>(lists: &[Vec<Event>], events: &mut T) -> Result<(), AllocError>
-    requires { length lists.now ≤ 64 }
+    requires { length lists.now ≤ MAX_CORES }
     ensures { OnOk result ((f : ℕ → ℕ → Option EventView) (x m : ℕ) → AreAtSlots f
         → AreTold f x m (length lists.now) lists.now
         → Took T.has_taken events.old events.new (told_by f x (length lists.now) m)) }

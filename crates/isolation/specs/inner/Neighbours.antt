@@ -1,9 +1,8 @@
 -- The VCPUs of each core, one behind the other in file order.
-use Rattle.std.specs.Prelude.{◌≡◌, ℕ, suc, ◌<◌, ◌≤◌, true, false, length}
+use Rattle.std.specs.Prelude.{◌≡◌, ℕ, suc, ◌<◌, ◌≤◌, true, false, length, slice_index_or}
 use Rattle.tree_model.specs.declared.place.Place.TheVariants.{Core}
 use Rattle.tree_model.specs.View.{SystemView}
 use Rattle.tree_model.specs.Tree.{is_child}
-use Rattle.rtds_queues.specs.Queues.{place_at}
 use Rattle.isolation.specs.declared.neighbours.Neighbours.{Neighbours}
 
 -- of the parts from a place on, the first that stands on core c, and the number of parts where
@@ -19,9 +18,9 @@ pub record AreNeighboursFrom (sys : SystemView) (neighbours : Neighbours) (from 
   pub all_cores : length neighbours.first ≡ 64
   pub all_parts : length neighbours.next ≡ 512
   pub first : (c : ℕ) → c < length sys.cores →
-      IsNextOn sys c from (place_at neighbours.first c)
+      IsNextOn sys c from (slice_index_or neighbours.first c 0)
   pub next : (c v : ℕ) → from ≤ v → v < length sys.parts → is_child sys (Core c) v ≡ true →
-      IsNextOn sys c (suc v) (place_at neighbours.next v)
+      IsNextOn sys c (suc v) (slice_index_or neighbours.next v 0)
 
 -- of each core all
 abbrev pub AreNeighbours : SystemView → Neighbours → Type 0

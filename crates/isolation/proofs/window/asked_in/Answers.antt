@@ -1,6 +1,5 @@
-use Rattle.std.proofs.Common.{◌≡◌, ◌<◌, List, length, arith, ap}
+use Rattle.std.proofs.Common.{◌≡◌, ◌<◌, List, length, get_or, arith, ap}
 use Rattle.tree_model.specs.View.{PartView}
-use Rattle.rtds_queues.specs.Queues.{place_at}
 use Rattle.isolation.specs.Answer.{tie_of}
 use Rattle.isolation.proofs.Least.{asked_by, asked_none, asked_next, asked_with}
 use Rattle.isolation.proofs.window.asked_in.Goals as goal
@@ -14,7 +13,7 @@ loop-u-init c =
       total_is = omega (
         arith,
         asked_next (tie_of c.args.ties) c.args.sys.now c.args.plan.now c.args.core c.args.v c.args.t 0
-            (place_at c.args.neighbours.now.first c.args.core) first,
+            (get_or c.args.neighbours.now.first c.args.core 0) first,
         asked_none (tie_of c.args.ties) c.args.sys.now c.args.plan.now c.args.core c.args.v c.args.t,
       );
       few = omega arith;
@@ -34,7 +33,7 @@ loop-u-preserved c =
         c.loop-u.invariant.total_is,
         c.asked_by-total.ensures.exact,
         asked_with (tie_of c.args.ties) c.args.sys.now c.args.plan.now c.args.core c.args.v c.args.t c.loop-u.u
-            (place_at c.args.neighbours.now.next c.loop-u.u) on next,
+            (get_or c.args.neighbours.now.next c.loop-u.u 0) on next,
       );
       few = omega (arith, c.loop-u.invariant.few, c.asked_by-total.ensures.in_limit, next.behind);
     }

@@ -1,5 +1,5 @@
 use Rattle.std.proofs.Common.{◌≡◌, ◌<◌, ℕ, length}
-use Rattle.rtds_queues.specs.Queues.{place_at}
+use Rattle.rtds_queues.specs.inner.Queues.{place_at}
 use Rattle.rtds_queues.proofs.vcpus.numbers_below.Given as goal
 
 -- the numbers so far stand in their places

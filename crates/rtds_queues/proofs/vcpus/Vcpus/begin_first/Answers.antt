@@ -2,10 +2,12 @@ use Rattle.std.proofs.Common.{◌≡◌, ◌<◌, ◌+◌, ℕ, List, length, se
 use Rattle.std.specs.Vec.{with_items}
 use Rattle.std.proofs.lemmas.List.{get_or_default, with_items_is}
 use Rattle.rtds_queues.specs.declared.account.Account.{Account}
-use Rattle.rtds_queues.specs.Accounts.{no_account, account_at, end_at, renewed, with_numbers}
-use Rattle.rtds_queues.specs.ByEnd.{AreAll, InOrder}
-use Rattle.rtds_queues.specs.Queues.{place_at}
-use Rattle.rtds_queues.specs.Vcpus.{BeginsOne, HavePeriods, IsFirstEnd}
+use Rattle.rtds_queues.specs.Accounts.{no_account, account_at, end_at, renewed}
+use Rattle.rtds_queues.specs.inner.Queues.{with_numbers}
+use Rattle.rtds_queues.specs.inner.ByEnd.{AreAll, InOrder}
+use Rattle.rtds_queues.specs.inner.Queues.{place_at}
+use Rattle.rtds_queues.specs.Vcpus.{HavePeriods, IsFirstEnd}
+use Rattle.rtds_queues.specs.inner.Vcpus.{BeginsOne}
 use Rattle.rtds_queues.proofs.Beginning.{FirstIn, first_in, behind_kept, renewed_same}
 use Rattle.rtds_queues.proofs.Setting.{vcpus_ordered, accounts_written, ends_written}
 use Rattle.rtds_queues.proofs.vcpus.Vcpus.begin_first.Goals as goal

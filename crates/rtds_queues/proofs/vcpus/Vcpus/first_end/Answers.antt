@@ -1,6 +1,6 @@
 use Rattle.std.proofs.Common.{List, ◌∙◌, ap, subst}
 use Rattle.rtds_queues.specs.declared.account.Account.{Account}
-use Rattle.rtds_queues.specs.ByEnd.{first_end}
+use Rattle.rtds_queues.specs.inner.ByEnd.{first_end}
 use Rattle.rtds_queues.specs.Vcpus.{IsFirstEnd}
 use Rattle.rtds_queues.proofs.Firsts.{first_is}
 use Rattle.rtds_queues.proofs.vcpus.Vcpus.first_end.Goals as goal

@@ -1,7 +1,7 @@
 use Rattle.std.proofs.Common.{◌≡◌, List, length, set, sym, ◌∙◌, ap, arith, subst}
 use Rattle.std.proofs.lemmas.List.{with_items_is}
 use Rattle.rtds_queues.specs.declared.account.Account.{Account}
-use Rattle.rtds_queues.specs.ByEnd.{AreAll, InOrder}
+use Rattle.rtds_queues.specs.inner.ByEnd.{AreAll, InOrder}
 use Rattle.rtds_queues.proofs.Setting.{vcpus_ordered, accounts_written, ends_written}
 use Rattle.rtds_queues.proofs.vcpus.Vcpus.set.Goals as goal
 

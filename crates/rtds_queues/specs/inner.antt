@@ -1,0 +1,4 @@
+-- What only private functions promise each other.
+pub mod Queues
+pub mod ByEnd
+pub mod Vcpus
