@@ -8,7 +8,7 @@ use Rattle.admission_session.specs.declared.edit.Edit.TheVariants.{Add, Remove, 
 use Rattle.admission_session.specs.LeafView.{LeafView}
 use Rattle.admission_session.specs.RowView.{RowView}
 
--- the row of an edit; where a leaf is taken out there is nothing to be said but its name
+-- the row of an operation on a leaf
 abbrev pub leaf_row : Op → LeafView → Option (List ℕ) → RowView
 leaf_row op leaf parent =
     record {
@@ -21,6 +21,7 @@ leaf_row op leaf parent =
       tasks = leaf.tasks;
     }
 
+-- the row of an edit; where a leaf is taken out there is nothing to be said but its name
 abbrev pub as_row : Edit → RowView
 as_row (Add leaf parent) = leaf_row Adds leaf parent
 as_row (Remove name) =

@@ -1,4 +1,4 @@
-//! Sessions that edit an admitted system row by row, and stay admitted.
+//! Sessions: an admitted system is edited, one edit after another, and stays admitted.
 #![tactic(auto)]
 
 mod answer;

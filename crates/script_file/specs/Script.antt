@@ -154,7 +154,7 @@ edits_of rows = map edit_of rows
 abbrev pub script_rules : RulesOf ScriptFault
 script_rules rows row = fault_if (not (is_row row)) (BadRow (row_of (length rows))) None
 
--- the rows behind the header
+-- the names of the columns, and the rows behind them
 abbrev pub is_script_header : List (List ℕ) → Bool
 is_script_header (op ∷ part ∷ parent ∷ sched ∷ period ∷ budget ∷ tasks ∷ []) =
     bytes_eq op (codes "op") && bytes_eq part (codes "part") && bytes_eq parent (codes "parent")

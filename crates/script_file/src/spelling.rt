@@ -14,7 +14,7 @@ use csv_rows::{Row, is_word};
 use slot_model::{Name, Sched};
 use std::alloc::{AllocError, Global};
 
-/// The word of an operation.
+/// The operation of a word.
 fn op_named(word: &[u8]) -> Option<Op>
     ensures { result ≡ op_named word.now }
 {
@@ -30,7 +30,7 @@ fn op_named(word: &[u8]) -> Option<Op>
     None
 }
 
-/// The word of a scheduler.
+/// The scheduler of a word.
 fn sched_named(word: &[u8]) -> Option<Sched>
     ensures { result ≡ sched_named word.now }
 {
