@@ -1,4 +1,3 @@
-use Rattle.std.proofs.Common.{map}
 use Rattle.toml_items.specs.Item.{item_view}
 use Rattle.tree_model.proofs.Lists.{first_here, first_later, length_map}
 use Rattle.slot_model.proofs.HandedOn.{handed_on}
@@ -14,7 +13,7 @@ pub returns-in_err-cores-clause-fault : goal.returns-in_err-cores-clause-fault
 returns-in_err-cores-clause-fault c =
     let step = c.from_residual-in_err-cores in
     handed_on step.result _ _ step.ensures.1 (λ memory.
-    let (none, format_is, cores_are, parts_are) = c.in_ok-top.ensures.ok in
+    let (none, _, cores_are, _) = c.in_ok-top.ensures.ok in
     first_later _ _ _ none (first_here _ _ _ (rw cores_are at (c.in_err-cores.ensures.fault memory))))
 
 pub returns-in_err-parts-clause-fault : goal.returns-in_err-parts-clause-fault
@@ -22,9 +21,8 @@ returns-in_err-parts-clause-fault c =
     let step = c.from_residual-in_err-parts in
     handed_on step.result _ _ step.ensures.1 (λ memory.
     let (none, format_is, cores_are, parts_are) = c.in_ok-top.ensures.ok in
-    let cores = c.in_ok-top.top.cores.now in
     let wrong
-    = c.in_err-parts.ensures.fault memory (map item_view cores) (length_map item_view cores) c.in_ok-cores.ensures.ok.2
+    = c.in_err-parts.ensures.fault memory _ (length_map item_view c.in_ok-top.top.cores.now) c.in_ok-cores.ensures.ok.2
     in
     first_later _ _ _ none (first_later _ _ _ (rw cores_are at c.in_ok-cores.ensures.ok.0)
     (first_here _ _ _ (rw (format_is, cores_are, parts_are) at wrong))))
@@ -32,8 +30,8 @@ returns-in_err-parts-clause-fault c =
 pub returns-clause-ok : goal.returns-clause-ok
 returns-clause-ok c =
     let (none, format_is, cores_are, parts_are) = c.in_ok-top.ensures.ok in
-    let cores = c.in_ok-top.top.cores.now in
-    let read = c.in_ok-parts.ensures.ok (map item_view cores) (length_map item_view cores) c.in_ok-cores.ensures.ok.2 in
+    let read
+    = c.in_ok-parts.ensures.ok _ (length_map item_view c.in_ok-top.top.cores.now) c.in_ok-cores.ensures.ok.2 in
     record {
       no_top = none;
       no_core = rw cores_are at c.in_ok-cores.ensures.ok.0;
