@@ -16,16 +16,14 @@ pub struct DemandLevel<'a> {
 }
 
 impl<'a> DemandLevel<'a> {
-    ghost use Rattle.std.specs.Prelude.{◌≡◌, ◌^◌, ◌<◌, ◌≤◌, MatchOption, length};
+    ghost use Rattle.std.specs.Prelude.{◌≡◌, ◌^◌, ◌≤◌, min, MatchOption, length};
     ghost use Rattle.slot_model.specs.Task.{sporadic_tasks};
     ghost use Rattle.slot_model.specs.Bound.{dbf};
 
     /// Gathers in `room` the terms of as many of the tasks as it has places for.
     pub fn gather(tasks: &'a [Task], room: &'a mut [Term]) -> DemandLevel<'a>
         ensures tasks { result.tasks.now ≡ tasks.now }
-        ensures room { length result.terms.now ≡ length room.old }
-        ensures filled { result.gathered.tasks < length tasks.now →
-            result.gathered.terms ≡ length room.old }
+        ensures kept { min (length room.old) (length tasks.now) ≤ result.gathered.tasks }
     {
         let gathered = gather(tasks, room);
         DemandLevel {

@@ -1,5 +1,5 @@
 -- What a gathered level stands for.
-use Rattle.std.specs.Prelude.{◌≡◌, ℕ, ◌<◌, ◌≤◌, List, length}
+use Rattle.std.specs.Prelude.{◌≡◌, ℕ, ◌≤◌, min, List, length}
 use Rattle.slot_model.specs.declared.sched.Sched.{Sched}
 use Rattle.slot_model.specs.declared.sched.Sched.TheVariants.{Edf}
 use Rattle.slot_model.specs.declared.task.Task.{Task}
@@ -16,13 +16,12 @@ abbrev pub tasks_of : Level → List Task
 tasks_of (ByWindows lined) = lined.level.tasks.now
 tasks_of (ByRank level) = level.tasks.now
 
--- it keeps the terms of its tasks in a room of so many places. Under earliest deadline first they
--- stand for all tasks, or fill the room; under a fixed rank there is one for each, where the room
--- has places for all and they are not too many.
+-- it keeps the terms of its tasks in a room of so many places: under earliest deadline first those
+-- of as many tasks as there are places, under a fixed rank those of all, where they have places and
+-- are not too many
 abbrev pub KeepsTerms : ℕ → Level → Type 0
 KeepsTerms room (ByWindows lined) =
-    lined.level.gathered.tasks < length lined.level.tasks.now →
-    lined.level.gathered.terms ≡ room
+    min room (length lined.level.tasks.now) ≤ lined.level.gathered.tasks
 KeepsTerms room (ByRank level) =
     length level.tasks.now ≤ room → length level.tasks.now ≤ KEPT →
     length level.terms.now ≡ length level.tasks.now
