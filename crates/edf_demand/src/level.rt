@@ -10,19 +10,20 @@ use window_terms::Term;
 #[derive(Clone, Copy)]
 pub struct DemandLevel<'a> {
     pub tasks: &'a [Task],
-    terms: &'a [Term],
+    pub terms: &'a [Term],
     pub gathered: Gathered,
     pub ghost is_gathered: { IsGathered gathered terms.now tasks.now },
 }
 
 impl<'a> DemandLevel<'a> {
-    ghost use Rattle.std.specs.Prelude.{◌≡◌, ◌^◌, ◌≤◌, MatchOption};
+    ghost use Rattle.std.specs.Prelude.{◌≡◌, ◌^◌, ◌≤◌, min, MatchOption, length};
     ghost use Rattle.slot_model.specs.Task.{sporadic_tasks};
     ghost use Rattle.slot_model.specs.Bound.{dbf};
 
     /// Gathers in `room` the terms of as many of the tasks as it has places for.
     pub fn gather(tasks: &'a [Task], room: &'a mut [Term]) -> DemandLevel<'a>
-        ensures { result.tasks.now ≡ tasks.now }
+        ensures tasks { result.tasks.now ≡ tasks.now }
+        ensures kept { min (length room.old) (length tasks.now) ≤ result.gathered.tasks }
     {
         let gathered = gather(tasks, room);
         DemandLevel {

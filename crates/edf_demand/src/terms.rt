@@ -1,4 +1,4 @@
-ghost use Rattle.std.specs.Prelude.{◌≡◌, ℕ, ◌+◌, ◌*◌, ◌-◌, ◌^◌, ◌<◌, ◌≤◌, MatchOption, IfSome, All, length, take};
+ghost use Rattle.std.specs.Prelude.{◌≡◌, ℕ, ◌+◌, ◌*◌, ◌-◌, ◌^◌, ◌<◌, ◌≤◌, min, MatchOption, IfSome, All, length, take};
 ghost use Rattle.slot_model.specs.Bound.{demand_of};
 ghost use Rattle.slot_model.specs.Task.{sporadic_task};
 ghost use Rattle.window_terms.specs.Asked.{asked_by, IsNear};
@@ -21,7 +21,7 @@ pub struct Gathered {
 /// that room leaves of the period.
 pub(crate) fn gather(tasks: &[Task], into: &mut [Term]) -> Gathered
     ensures stand { IsGathered result into.new tasks.now }
-    ensures room { result.tasks < length tasks.now → result.terms ≡ length into.new }
+    ensures room { min (length into.old) (length tasks.now) ≤ result.tasks }
 {
     let mut terms = 0;
     for (k, task) in tasks.iter().enumerate() {
@@ -53,7 +53,7 @@ fn add(task: &Task, terms: usize, into: &mut [Term]) -> Option<usize>
     requires { terms ≤ length into.old }
     ensures { MatchOption result
         ((into.new ≡ into.old) × (terms ≡ length into.old))
-        (λ more. (more ≤ length into.new) × ((t : ℕ) →
+        (λ more. (more ≤ terms + 1) × (more ≤ length into.new) × ((t : ℕ) →
         asked_by (take more into.new) t
         ≡ asked_by (take terms into.old) t + demand_of (sporadic_task task.now) t)) }
 {

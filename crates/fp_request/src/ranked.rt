@@ -16,7 +16,7 @@ use window_terms::{KEPT, Term};
 pub struct RankedLevel<'a> {
     pub sched: Sched,
     pub tasks: &'a [Task],
-    terms: &'a [Term],
+    pub terms: &'a [Term],
     pub ghost fixed: { sched ≢ Edf },
     pub ghost are_ranked: { let T = sporadic_tasks tasks.now in
         length terms.now ≡ length tasks.now →

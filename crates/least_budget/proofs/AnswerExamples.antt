@@ -10,7 +10,8 @@ use Rattle.slot_model.specs.Bound.{sbf, Passes, IsShortfall, IsSmall, IsLeastBud
 use Rattle.slot_model.specs.Miss.{NoJobLost, MustMiss}
 use Rattle.least_budget.specs.declared.answers.Tested.TheVariants.{Passes as AllPasses, Short as FirstShort, Wide as TestWide}
 use Rattle.least_budget.specs.declared.answers.Least.TheVariants.{Budget, Over, Wide}
-use Rattle.least_budget.specs.Answers.{IsTested, Foretells, IsLeast, Separates}
+use Rattle.least_budget.specs.Answers.{IsTested, Foretells, IsShort, IsLeast, Separates}
+use Rattle.least_budget.proofs.Shortfalls.{short_fails, shortfall_is_short}
 
 what_a_test_says : (sched : Sched) (tasks : List SporadicTask) (bound : ℕ → ℕ) (cycle : ℕ) (short : Short) →
     (IsTested sched tasks bound cycle AllPasses → IsSmall sched tasks cycle × Passes sched tasks bound)
@@ -18,6 +19,15 @@ what_a_test_says : (sched : Sched) (tasks : List SporadicTask) (bound : ℕ → 
     → IsSmall sched tasks cycle × IsShortfall sched tasks bound short)
     × (IsTested sched tasks bound cycle TestWide → IsSmall sched tasks cycle → ⊥)
 what_a_test_says sched tasks bound cycle short = (λ h. h, λ h. h, λ h. h)
+
+what_it_finds_short_is_short : (sched : Sched) (tasks : List SporadicTask) (bound : ℕ → ℕ) (cycle : ℕ) (short : Short) →
+    IsTested sched tasks bound cycle (FirstShort short) → IsShort sched tasks bound short
+what_it_finds_short_is_short sched tasks bound cycle short found = shortfall_is_short sched tasks bound short found.1
+
+what_is_short_keeps_it_from_passing : (sched : Sched) (tasks : List SporadicTask) (bound : ℕ → ℕ) (cycle : ℕ)
+    (short : Short) → IsShort sched tasks bound short → IsTested sched tasks bound cycle AllPasses → ⊥
+what_is_short_keeps_it_from_passing sched tasks bound cycle short is_short passes =
+    short_fails sched tasks bound short is_short passes.1
 
 what_it_foretells : (Conforms : List Bool → Type 0) (before : Job → Job → Bool) (tasks : List SporadicTask)
     (short : Short) →

@@ -1,8 +1,10 @@
 ghost use Rattle.std.specs.Prelude.{◌≡◌, ◌↔◌, ◌^◌, ◌<◌, ◌≤◌, length, IsTrue};
 ghost use Rattle.slot_model.specs.declared.task.TheConstants.{LIMIT};
+ghost use Rattle.slot_model.specs.declared.sched.Short.{Short as AnyShort};
 ghost use Rattle.slot_model.specs.Task.{sporadic_tasks};
+ghost use Rattle.least_budget.specs.declared.answers.Tested.TheVariants.{Short as FirstShort};
 ghost use Rattle.least_budget.specs.Answers.{IsTested, IsShort, IsLeast, IsLeastOf, IsShortBelow};
-ghost use Rattle.least_budget.specs.Levels.{sched_of, tasks_of};
+ghost use Rattle.least_budget.specs.Levels.{sched_of, tasks_of, KeepsTerms};
 
 use crate::by_task::least_by_rank;
 use crate::halving::least_by_windows;
@@ -29,6 +31,7 @@ impl<'a> Level<'a> {
     pub fn gather(sched: Sched, tasks: &'a [Task], room: &'a mut [Term]) -> Level<'a>
         ensures sched { sched_of result ≡ sched }
         ensures tasks { tasks_of result ≡ tasks.now }
+        ensures kept { KeepsTerms (length room.old) result }
     {
         match sched {
             Sched::Edf => Level::ByWindows(LinedLevel::of(&DemandLevel::gather(tasks, room))),
@@ -39,8 +42,10 @@ impl<'a> Level<'a> {
     /// Whether the level passes over the supply, and if not, what is short first.
     pub fn test<S: Supply>(&self, s: &S) -> Tested
         requires few { length (tasks_of self.now) < 2 ^ 32 }
-        ensures { IsTested (sched_of self.now) (sporadic_tasks (tasks_of self.now))
+        ensures exact { IsTested (sched_of self.now) (sporadic_tasks (tasks_of self.now))
             (S.bound s.now) (S.cycle_of s.now) result }
+        ensures short { (short : AnyShort) → result ≡ FirstShort short →
+            IsShort (sched_of self.now) (sporadic_tasks (tasks_of self.now)) (S.bound s.now) short }
     {
         match self {
             Level::ByWindows(lined) => test_by_windows(lined, s),

@@ -1,5 +1,6 @@
 -- When the next jobs of tasks are released, in slots after the start.
-use Rattle.std.specs.Prelude.{◌≡◌, ℕ, ◌+◌, ◌*◌, ◌-◌, ◌^◌, ◌<◌, ◌≤◌, true, false, List, length, slice_index}
+use Rattle.std.specs.Prelude.{◌≡◌, ℕ, ◌+◌, ◌*◌, ◌-◌, ◌/◌, ◌^◌, ◌<◌, ◌≤◌, true, false, List, length, slice_index, sum_by}
+use Rattle.slot_model.specs.declared.task.Task.{Task}
 use Rattle.slot_model.specs.Task.{SporadicTask, task_at}
 use Rattle.slot_model.specs.Release.{releases_now}
 use Rattle.release_pattern.specs.declared.jobs.Due.{Due}
@@ -36,3 +37,7 @@ pub record IsDue (tasks : List SporadicTask) (x : ℕ) (due : Due) : Type 0 wher
   pub firsts : AreFirsts due.tasks.items due.groups.items 0 x
   pub all : length tasks < 8 * length due.groups.items
   pub no_more : 8 * length due.groups.items ≤ length tasks + 8
+
+-- for each task one job at the start, and one for every whole period within `span` slots
+abbrev pub first_room : List Task → ℕ → ℕ
+first_room tasks span = sum_by (λ task. span / task.period + 1) tasks

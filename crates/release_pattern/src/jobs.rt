@@ -2,7 +2,7 @@ ghost use Rattle.std.specs.Prelude.{◌≡◌, ◌⊎◌, ℕ, ◌+◌, ◌*◌,
 ghost use Rattle.slot_model.specs.Task.{sporadic_tasks, task_at};
 ghost use Rattle.slot_model.specs.Release.{LegalRelease, releases_now, release_of, releases_at, synchronous};
 ghost use Rattle.slot_model.specs.declared.job.Job.{Job as AnyJob};
-ghost use Rattle.release_pattern.specs.Due.{IsNext, AreDue, IsDue, NoneRelease};
+ghost use Rattle.release_pattern.specs.Due.{IsNext, AreDue, IsDue, NoneRelease, first_room};
 
 use slot_model::{Job, Task};
 use std::alloc::{AllocError, Global};
@@ -53,7 +53,9 @@ pub fn jobs_in_reach(
 }
 
 /// About how many jobs tasks release within `span` slots: no more than one each too many.
-fn releases_of(tasks: &[Task], span: u64) -> u64 {
+fn releases_of(tasks: &[Task], span: u64) -> u64
+    ensures { result ≡ min (first_room tasks.now span) (2 ^ 64 - 1) }
+{
     let mut count: u64 = 0;
     for task in tasks {
         count = count.saturating_add(span / task.period).saturating_add(1);

@@ -5,6 +5,7 @@ use Rattle.edf_demand.proofs.terms.add.Goals as goal
 
 pub returns-in-Some : goal.returns-in-Some
 returns-in-Some c = (
+  omega arith,
   omega (arith, length-set {A = Term}),
   λ t. longer_by c.args.into.now c.args.terms c.index-into-terms.result c.in-Some.longer c.args.task.now t
       (omega arith) (omega arith) c.index-into-terms.is c.in-Some.ensures,
@@ -12,6 +13,7 @@ returns-in-Some c = (
 
 pub returns : goal.returns
 returns c = (
+  omega arith,
   omega (arith, length-set {A = Term}),
   λ t. alone_behind c.args.into.now c.args.terms c.new.result c.args.task.now t (omega arith) c.new.ensures.0
       (c.new.ensures.1 ∙ c.slack_of.ensures.exact) c.new.ensures.2,

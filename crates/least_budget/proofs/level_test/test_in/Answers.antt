@@ -12,7 +12,7 @@ pub returns-clause-exact : goal.returns-clause-exact
 returns-clause-exact g c =
     of_gathered (λ (sched : Sched) (ts : List Task). IsTested sched (sporadic_tasks ts) (g.S.Supply.bound c.args.s.now)
     (g.S.Supply.cycle_of c.args.s.now) c.test.result) c.gather-level.result c.args.sched c.args.tasks.now
-    c.gather-level.ensures.sched c.gather-level.ensures.tasks c.test.ensures
+    c.gather-level.ensures.sched c.gather-level.ensures.tasks c.test.ensures.exact
 
 pub returns-clause-foretells : goal.returns-clause-foretells
 returns-clause-foretells g c =

@@ -17,7 +17,7 @@ told : (c : After-test)
 told c =
     of_gathered (λ (sched : Sched) (ts : List Task). IsTested sched (sporadic_tasks ts)
     (sbf c.args.supply.period c.args.supply.budget) c.args.supply.period c.test.result) c.gather-level.result
-    c.args.sched c.args.tasks.now c.gather-level.ensures.sched c.gather-level.ensures.tasks c.test.ensures
+    c.args.sched c.args.tasks.now c.gather-level.ensures.sched c.gather-level.ensures.tasks c.test.ensures.exact
 
 pub returns-in_default : goal.returns-in_default
 returns-in_default c = (
