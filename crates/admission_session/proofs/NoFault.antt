@@ -6,9 +6,8 @@ use Rattle.std.proofs.lemmas.Result.{IfOk-weaker}
 use Rattle.tree_model.specs.declared.place.Parent.{Parent}
 use Rattle.tree_model.specs.declared.place.Parent.TheVariants.{Core as on_core, Part as on_part}
 use Rattle.tree_model.specs.View.{PartView, SystemView}
-use Rattle.tree_model.specs.System.{IsSystem, IsPart, IsChildOf, Stands, is_leaf, is_leaf_at, part_at}
+use Rattle.tree_model.specs.System.{IsSystem, IsPart, IsChildOf, Stands, is_leaf, part_at}
 use Rattle.tree_model.specs.NamedLeaf.{IsLeafNamed}
-use Rattle.tree_model.proofs.NamedLeaf.{one_leaf}
 use Rattle.admission_session.specs.declared.fault.EditFault.{EditFault}
 use Rattle.admission_session.specs.declared.answer.Answer.{Answer}
 use Rattle.admission_session.specs.declared.answer.Answer.TheVariants.{Refused}
@@ -17,9 +16,9 @@ use Rattle.admission_session.specs.declared.edit.Edit.TheVariants.{Add, Remove, 
 use Rattle.admission_session.specs.LeafView.{LeafView}
 use Rattle.admission_session.specs.LeafPart.{leaf_part}
 use Rattle.admission_session.specs.Leaves.{on_parent, with_leaf, with_guest, with_changed, fallen, without_leaf}
-use Rattle.admission_session.specs.Edits.{IsNamed, IsParentNamed, IsLeafParent, IsLastChild, IsLeaf, IsNewLeaf, HasNoFault, IsAdded, IsRemoved, IsChanged, IsMade, MakesSystem, faults_of}
+use Rattle.admission_session.specs.Edits.{IsNamed, IsLeafParent, IsLastChild, IsLeaf, IsNewLeaf, HasNoFault, IsAdded, IsRemoved, IsChanged, IsMade, MakesSystem, faults_of}
 use Rattle.admission_session.specs.Answers.{IsAnswered}
-use Rattle.admission_session.proofs.KeptByEdits.{Moved, added_at, added_length, changed_here, changed_at, removed_at, removed_length, moved_before, fallen_before, fallen_behind, not_on_leaf}
+use Rattle.admission_session.proofs.KeptByEdits.{Moved, added_at, added_length, changed_here, removed_at, removed_length, moved_before, fallen_before, fallen_behind, not_on_leaf}
 use Rattle.admission_session.proofs.EditedSystems.{added_here, changed_parents, behind, Behind}
 use Rattle.admission_session.proofs.Named.{named_once}
 use Rattle.admission_session.proofs.EditTests.{leaf_anywhere, not_mixed, not_last}
