@@ -174,10 +174,10 @@ not_last_child sys is q h now last = gone child.0 child.1.0 (behind sys q child.
 
     gone : (r : ℕ) → r < length (without_leaf sys q).parts → Behind sys q r
         → (part_at (without_leaf sys q) r).parent ≡ on_part last.parent → ⊥
-    gone r l b child =
+    gone r l b stands_there =
         let stood : (part_at sys b.was).parent ≡ on_part last.parent
         = falls_from q last.parent (part_at sys b.was).parent stands.0
-        (sym (ap (λ (p : PartView). p.parent) (removed_at sys q b.was r h l b.moved)) ∙ child) in
+        (sym (ap (λ (p : PartView). p.parent) (removed_at sys q b.was r h l b.moved)) ∙ stands_there) in
         not_moved_to q r (subst (λ (i : ℕ). Moved q i r) (last.only b.was (b.inside, stood)) b.moved)
 
 removed_fine : (sys : SystemView) → IsSystem sys → (name : List ℕ) (edited : SystemView)
