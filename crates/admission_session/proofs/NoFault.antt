@@ -6,9 +6,8 @@ use Rattle.std.proofs.lemmas.Result.{IfOk-weaker}
 use Rattle.tree_model.specs.declared.place.Parent.{Parent}
 use Rattle.tree_model.specs.declared.place.Parent.TheVariants.{Core as on_core, Part as on_part}
 use Rattle.tree_model.specs.View.{PartView, SystemView}
-use Rattle.tree_model.specs.System.{IsSystem, IsPart, IsChildOf, Stands, is_leaf, is_leaf_at, part_at}
+use Rattle.tree_model.specs.System.{IsSystem, IsPart, IsChildOf, Stands, is_leaf, part_at}
 use Rattle.tree_model.specs.NamedLeaf.{IsLeafNamed}
-use Rattle.tree_model.proofs.NamedLeaf.{one_leaf}
 use Rattle.admission_session.specs.declared.fault.EditFault.{EditFault}
 use Rattle.admission_session.specs.declared.answer.Answer.{Answer}
 use Rattle.admission_session.specs.declared.answer.Answer.TheVariants.{Refused}
@@ -17,9 +16,9 @@ use Rattle.admission_session.specs.declared.edit.Edit.TheVariants.{Add, Remove, 
 use Rattle.admission_session.specs.LeafView.{LeafView}
 use Rattle.admission_session.specs.LeafPart.{leaf_part}
 use Rattle.admission_session.specs.Leaves.{on_parent, with_leaf, with_guest, with_changed, fallen, without_leaf}
-use Rattle.admission_session.specs.Edits.{IsNamed, IsParentNamed, IsLeafParent, IsLastChild, IsLeaf, IsNewLeaf, HasNoFault, IsAdded, IsRemoved, IsChanged, IsMade, MakesSystem, faults_of}
+use Rattle.admission_session.specs.Edits.{IsNamed, IsLeafParent, IsLastChild, IsLeaf, IsNewLeaf, HasNoFault, IsAdded, IsRemoved, IsChanged, IsMade, MakesSystem, faults_of}
 use Rattle.admission_session.specs.Answers.{IsAnswered}
-use Rattle.admission_session.proofs.KeptByEdits.{Moved, added_at, added_length, changed_here, changed_at, removed_at, removed_length, moved_before, fallen_before, fallen_behind, not_on_leaf}
+use Rattle.admission_session.proofs.KeptByEdits.{Moved, added_at, added_length, changed_here, removed_at, removed_length, moved_before, fallen_before, fallen_behind, not_on_leaf}
 use Rattle.admission_session.proofs.EditedSystems.{added_here, changed_parents, behind, Behind}
 use Rattle.admission_session.proofs.Named.{named_once}
 use Rattle.admission_session.proofs.EditTests.{leaf_anywhere, not_mixed, not_last}
@@ -175,10 +174,10 @@ not_last_child sys is q h now last = gone child.0 child.1.0 (behind sys q child.
 
     gone : (r : ℕ) → r < length (without_leaf sys q).parts → Behind sys q r
         → (part_at (without_leaf sys q) r).parent ≡ on_part last.parent → ⊥
-    gone r l b child =
+    gone r l b stands_there =
         let stood : (part_at sys b.was).parent ≡ on_part last.parent
         = falls_from q last.parent (part_at sys b.was).parent stands.0
-        (sym (ap (λ (p : PartView). p.parent) (removed_at sys q b.was r h l b.moved)) ∙ child) in
+        (sym (ap (λ (p : PartView). p.parent) (removed_at sys q b.was r h l b.moved)) ∙ stands_there) in
         not_moved_to q r (subst (λ (i : ℕ). Moved q i r) (last.only b.was (b.inside, stood)) b.moved)
 
 removed_fine : (sys : SystemView) → IsSystem sys → (name : List ℕ) (edited : SystemView)

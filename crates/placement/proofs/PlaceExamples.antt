@@ -7,13 +7,14 @@ use Rattle.tree_model.specs.declared.place.Parent.{Parent}
 use Rattle.tree_model.specs.declared.place.Parent.TheVariants.{Core, Part}
 use Rattle.tree_model.specs.declared.plan.Refusal.{Refusal}
 use Rattle.tree_model.specs.View.{PartView, SystemView}
+use Rattle.tree_model.specs.System.{IsSystem}
 use Rattle.tree_model.specs.Admission.{FirstRefusal}
 use Rattle.admission_session.specs.Leaves.{with_guest}
 use Rattle.admission_session.specs.Answers.{IsAdmitted}
 use Rattle.admission_session.specs.Edits.{IsNewLeaf}
 use Rattle.placement.specs.declared.fault.PlaceFault.TheVariants.{Refused, BadGuest, Unplaced}
 use Rattle.placement.specs.Placement.{IsFirstFit, IsPlaced}
-use Rattle.placement.specs.Answers.{AreRefused, PlaceFails, guest_at}
+use Rattle.placement.specs.Answers.{AreRefused, IsNoLeaf, PlaceFails, guest_at}
 
 -- a guest as it is spelled stands on the first core; it is put on another, behind all parts, and
 -- nothing else of it is changed
@@ -69,6 +70,12 @@ what_a_bad_guest_says : (sys : SystemView) (guests : List PartView) (i : ℕ) �
     × (IsNewLeaf now (guest_at guests i) → ⊥)
 what_a_bad_guest_says sys guests i stops =
     (stops.now, stops.admitted, stops.is_guest, stops.placed, stops.fault)
+
+-- and the system with it is none, whatever core it is put on
+what_no_leaf_says : (sys : SystemView) (guests : List PartView) (i : ℕ) → IsNoLeaf sys guests (BadGuest i)
+    → (now : SystemView) × IsPlaced sys (take i guests) now
+    × ((c : ℕ) → IsSystem (with_guest now (guest_at guests i) c) → ⊥)
+what_no_leaf_says sys guests i stops = (stops.now, stops.placed, stops.fault)
 
 what_an_unplaced_guest_says : (sys : SystemView) (guests : List PartView) (i : ℕ)
     → PlaceFails sys guests (Unplaced i)
