@@ -17,5 +17,5 @@ pub returns-in-Short : goal.returns-in-Short
 returns-in-Short c = (
   λ on. absurd (false≢true on),
   λ passes. absurd (short_not_passes (sched_of c.args.level.now) (sporadic_tasks (tasks_of c.args.level.now))
-      (sbf c.args.s.now.period c.args.s.now.budget) c.in-Short.short c.in-Short.ensures.1 passes.1),
+      (sbf c.args.s.now.period c.args.s.now.budget) c.in-Short.short c.in-Short.ensures.exact.1 passes.1),
 )
