@@ -1,23 +1,20 @@
 -- What is answered of the tasks of a leaf, and of the leaves among the first parts.
-use Rattle.std.proofs.Common.{◌≡◌, ◌≢◌, ℕ, ◌+◌, ◌<◌, ◌≤◌, Bool, true, false, cond, ◌-◌, List, [], ◌∷◌, ◌++◌, length, map, Option, Some, None, MatchOption, refl, sym, ◌∙◌, ap, arith, subst, inl, inr}
+use Rattle.std.proofs.Common.{◌≡◌, ℕ, ◌+◌, ◌<◌, ◌≤◌, Bool, true, false, cond, List, [], ◌∷◌, ◌++◌, length, map, Option, Some, None, MatchOption, refl, sym, ◌∙◌, ap, arith, subst}
 use Rattle.std.specs.List.{flat_map, range_with_len}
-use Rattle.std.proofs.lemmas.Bool.{and_parts, cases_lt}
+use Rattle.std.proofs.lemmas.Bool.{and_parts}
 use Rattle.std.proofs.lemmas.Grind.{flat_map-append}
 use Rattle.std.proofs.lemmas.List.{append_assoc, append-nil, length-map, map-append}
 use Rattle.std.proofs.lemmas.List.Elements.{All-push}
 use Rattle.std.proofs.lemmas.List.Folds.{flat_map-map}
 use Rattle.std.proofs.lemmas.List.FromFn.{map-range_with_len_more}
 use Rattle.slot_model.specs.declared.sched.Sched.{Sched}
-use Rattle.slot_model.specs.declared.sched.Sched.TheVariants.{Edf}
-use Rattle.slot_model.specs.Task.{SporadicTask, AreConstrained, room_of, task_at}
+use Rattle.slot_model.specs.Task.{SporadicTask, room_of, task_at}
 use Rattle.slot_model.specs.Supply.{GivesBudget, worst_slot}
 use Rattle.slot_model.specs.Order.{before_of, ranks_above}
 use Rattle.slot_model.specs.Bound.{sbf, Passes}
-use Rattle.slot_model.proofs.WorstPattern.{periodic_laws}
 use Rattle.fp_test.specs.Hits.{IsLeastHit}
 use Rattle.response_times.specs.Response.{IsGreatestResponse}
 use Rattle.response_times.specs.Replay.{ShowsResponse}
-use Rattle.response_times.proofs.WorstRuns.{shows_least}
 use Rattle.tree_model.specs.declared.place.Place.TheVariants.{Part}
 use Rattle.tree_model.specs.View.{PartView, SystemView}
 use Rattle.tree_model.specs.System.{is_leaf, own_tasks, part_at}
@@ -46,45 +43,39 @@ read_passes sys budgets h q l fixed sched tasks period budget read =
     (leaf_tasks sys budgets q (has_tasks (part_at sys q) fixed)) (h.passes (Part q) l).1 in
     rw (read.sched_is, read.tasks_are, read.period_is, read.least_is) own
 
+-- a replay is told where the run that shows the response ends soon enough
+replay_told : (sched : Sched) (tasks : List SporadicTask) (period budget i worst : ℕ)
+    → ShowsResponse (before_of sched tasks) tasks (worst_slot period budget) budget worst i worst → (replay : Option ℕ)
+    → MatchOption replay (1000000 < budget + worst) (λ t. (budget + worst ≤ 1000000) × (t ≡ worst))
+    → IsReplayOf sched tasks period budget i worst replay
+replay_told sched tasks period budget i worst shown None past = past
+replay_told sched tasks period budget i worst shown (Some t) (within, same) = (
+  within,
+  same,
+  subst (λ (z : ℕ). ShowsResponse (before_of sched tasks) tasks (worst_slot period budget) budget worst i z) (sym same)
+      shown,
+)
+
 -- what is told of a task, by what was found of it
 pub row_is : (sched : Sched) (tasks : List SporadicTask) (period budget i : ℕ) (row : Response) (worst : ℕ)
-    (replay : Option ℕ) → IsLeastHit (ranks_above sched tasks) tasks (sbf period budget) i worst
+    → IsLeastHit (ranks_above sched tasks) tasks (sbf period budget) i worst
     → IsGreatestResponse (GivesBudget period budget) (before_of sched tasks) tasks i worst
-    → IsReplayOf sched tasks period budget i worst replay → row.limit ≡ room_of (task_at tasks i)
-    → row.worst ≡ worst → row.replay ≡ replay → IsResponseOf sched tasks period budget i row
-row_is sched tasks period budget i row worst replay least greatest replayed limit w r =
+    → ShowsResponse (before_of sched tasks) tasks (worst_slot period budget) budget worst i worst
+    → row.limit ≡ room_of (task_at tasks i) → row.worst ≡ worst
+    → MatchOption row.replay (1000000 < budget + row.worst) (λ t. (budget + row.worst ≤ 1000000) × (t ≡ row.worst))
+    → IsResponseOf sched tasks period budget i row
+row_is sched tasks period budget i row worst least greatest shown limit same told =
     record {
       greatest =
-          subst (λ (z : ℕ). IsGreatestResponse (GivesBudget period budget) (before_of sched tasks) tasks i z) (sym w)
-          greatest;
+          subst (λ (z : ℕ). IsGreatestResponse (GivesBudget period budget) (before_of sched tasks) tasks i z)
+          (sym same) greatest;
       limit_is = limit;
-      in_limit = omega (arith, w, limit, least.0.in_deadline);
+      in_limit = omega (arith, same, limit, least.0.in_deadline);
       replayed =
-          subst (λ (z : ℕ). IsReplayOf sched tasks period budget i z row.replay) (sym w)
-          (subst (IsReplayOf sched tasks period budget i worst) (sym r) replayed);
+          replay_told sched tasks period budget i row.worst
+          (subst (λ (z : ℕ). ShowsResponse (before_of sched tasks) tasks (worst_slot period budget) budget z i z)
+          (sym same) shown) row.replay told;
     }
-
--- a run as long as the longest response that may be replayed shows the replay of each task
-pub seen_is_replay : (sched : Sched) → sched ≢ Edf → (tasks : List SporadicTask) → AreConstrained tasks
-    → (period budget : ℕ) → 1 ≤ period → budget ≤ period → (i worst longest : ℕ) → i < length tasks
-    → IsLeastHit (ranks_above sched tasks) tasks (sbf period budget) i worst → longest ≤ 1000000 - budget
-    → (worst ≤ 1000000 - budget → worst ≤ longest) → (seen : Option ℕ)
-    → MatchOption seen (longest < worst) (λ u. (u ≡ worst) × (worst ≤ longest))
-    → IsReplayOf sched tasks period budget i worst seen
-seen_is_replay sched fixed tasks fits period budget some in_period i worst longest l least most reached None late =
-    elim (cases_lt (1000000 - budget) worst) [
-      | inl past ↦ omega (arith, past, least.0.some_slots)
-      | inr within ↦ absurd (omega (arith, late, reached within))
-    ]
-seen_is_replay sched fixed tasks fits period budget some in_period i worst longest l least most reached (Some u)
-    (same, fit) = (
-      omega (arith, fit, most, least.0.some_slots),
-      same,
-      subst
-          (λ (z : ℕ). ShowsResponse (before_of sched tasks) tasks (worst_slot period budget) budget worst i z)
-          (sym same)
-          (shows_least sched fixed tasks fits (periodic_laws period budget some in_period) i worst l least),
-    )
 
 -- what is answered of what was read is answered of the part
 read_answer : (sys : SystemView) (budgets : List ℕ) (q i : ℕ) (sched : Sched) (tasks : List SporadicTask)

@@ -1,17 +1,17 @@
-ghost use Rattle.std.specs.Prelude.{◌≡◌, ◌≢◌, ◌<◌, ◌≤◌, ◌++◌, true, ℕ, List, length, slice_index_or, IfOk, OnOk};
+ghost use Rattle.std.specs.Prelude.{◌≡◌, ◌≢◌, ◌+◌, ◌<◌, ◌≤◌, ◌++◌, true, ℕ, List, length, slice_index_or, IfOk, OnOk, MatchOption};
 ghost use Rattle.slot_model.specs.Task.{sporadic_tasks, room_of, task_at};
 ghost use Rattle.slot_model.specs.Bound.{sbf, Passes};
 ghost use Rattle.slot_model.specs.Order.{before_of, ranks_above};
-ghost use Rattle.slot_model.specs.Supply.{GivesBudget};
+ghost use Rattle.slot_model.specs.Supply.{GivesBudget, worst_slot};
 ghost use Rattle.fp_test.specs.Hits.{IsLeastHit};
-ghost use Rattle.response_times.specs.Replay.{seen_at};
+ghost use Rattle.response_times.specs.Replay.{ShowsResponse};
 ghost use Rattle.response_times.specs.Response.{IsGreatestResponse};
 ghost use Rattle.tree_model.specs.System.{part_at};
 ghost use Rattle.tree_model.specs.Admission.{Admitted};
-ghost use Rattle.guest_commands.specs.Responses.{is_fixed_leaf, answered_at, AnswerTasks, AreResponses, IsReplayOf};
+ghost use Rattle.guest_commands.specs.Responses.{is_fixed_leaf, answered_at, AnswerTasks, AreResponses};
 
 use fp_request::{RankedLevel, room_at};
-use response_times::{replay_tasks, response_in};
+use response_times::response_in;
 use rt_report::Response;
 use slot_model::{Sched, Task};
 use std::alloc::{AllocError, Global};
@@ -19,7 +19,7 @@ use supply_bound::{Periodic, Supply};
 use tree_model::{MAX_TASKS, Part, Plan, System, own_tasks_in};
 use window_terms::Term;
 
-/// The longest run that is replayed, in slots.
+/// The longest run whose replay is told, in slots.
 const MOST_SLOTS: u64 = 1_000_000;
 
 /// The responses of the tasks of all leaves under a fixed priority, in file order.
@@ -88,9 +88,8 @@ fn respond_leaf(
     };
     let sched = part.sched();
     let worst = responses(alloc, sched, tasks, terms, &supply)?;
-    let seen = replays(alloc, sched, tasks, &supply, &worst)?;
     for i in 0..tasks.len() {
-        rows.push(row_of(tasks, q, i as u32, worst[i], seen[i]))?;
+        rows.push(row_of(tasks, q, i as u32, worst[i], supply.start()))?;
     }
     Ok(())
 }
@@ -117,6 +116,12 @@ fn responses(
         let conforms = GivesBudget supply.now.period supply.now.budget in
         IfOk result (λ worst. (i : ℕ) → i < length tasks.now →
         IsGreatestResponse conforms (before_of sched T) T i (slice_index_or worst.items i 0)) }
+    // what is seen in the run that ends with it
+    ensures shown { let T = sporadic_tasks tasks.now in
+        let pattern = worst_slot supply.now.period supply.now.budget in
+        IfOk result (λ worst. (i : ℕ) → i < length tasks.now →
+        let t = slice_index_or worst.items i 0 in
+        ShowsResponse (before_of sched T) T pattern supply.now.budget t i t) }
 {
     let level = RankedLevel::gather(sched, tasks, room);
     responses_in(alloc, &level, supply)
@@ -152,61 +157,32 @@ fn responses_in(
     Ok(worst)
 }
 
-/// What the replays of these greatest responses show, and None exactly where one runs past
-/// 1,000,000 slots: all that do not are seen in the one run that ends with the longest of them.
-fn replays(
-    alloc: Global,
-    sched: Sched,
-    tasks: &[Task],
-    supply: &Periodic,
-    worst: &[u64],
-) -> Result<Vec<Option<u64>>, AllocError>
-    requires fixed { sched ≢ Sched.Edf }
-    requires few { length tasks.now ≤ 256 }
-    requires long { length worst.now ≡ length tasks.now }
-    requires least { let T = sporadic_tasks tasks.now in
-        let bound = sbf supply.now.period supply.now.budget in (i : ℕ) → i < length tasks.now →
-        IsLeastHit (ranks_above sched T) T bound i (slice_index_or worst.now i 0) }
-    ensures long { IfOk result (λ seen. length seen.items ≡ length tasks.now) }
-    ensures each { let T = sporadic_tasks tasks.now in
-        IfOk result (λ seen. (i : ℕ) → i < length tasks.now →
-        IsReplayOf sched T supply.now.period supply.now.budget i (slice_index_or worst.now i 0)
-        (seen_at seen.items i)) }
-{
-    let longest = longest_within(worst, MOST_SLOTS.saturating_sub(supply.start()));
-    if longest == 0 {
-        return Ok(vec![in alloc; None; tasks.len()]?);
-    }
-    replay_tasks(alloc, sched, tasks, supply, longest)
-}
-
-/// The greatest of these numbers that are at most `most`, or 0.
-fn longest_within(numbers: &[u64], most: u64) -> u64
-    ensures within { result ≤ most }
-    ensures longest { (i : ℕ) → i < length numbers.now → slice_index_or numbers.now i 0 ≤ most →
-        slice_index_or numbers.now i 0 ≤ result }
-{
-    let mut longest = 0;
-    for number in numbers {
-        if *number <= most && *number > longest {
-            longest = *number;
-        }
-    }
-    longest
-}
-
-/// What is told of task `i` of the guest at place `q`.
-fn row_of(tasks: &[Task], q: u32, i: u32, worst: u64, replay: Option<u64>) -> Response
+/// What is told of task `i` of the guest at place `q`, whose worst case begins at `start`.
+fn row_of(tasks: &[Task], q: u32, i: u32, worst: u64, start: u64) -> Response
     requires { i < length tasks.now }
     ensures of { (result.part ≡ q) × (result.task ≡ i) }
     ensures limit { result.limit ≡ room_of (task_at (sporadic_tasks tasks.now) i) }
-    ensures told { (result.worst ≡ worst) × (result.replay ≡ replay) }
+    ensures worst { result.worst ≡ worst }
+    ensures replay { MatchOption result.replay (1000000 < start + result.worst)
+        (λ t. (start + result.worst ≤ 1000000) × (t ≡ result.worst)) }
 {
     Response {
         part: q,
         task: i,
         worst,
         limit: room_at(tasks, i),
-        replay,
+        replay: replay_of(worst, start),
     }
+}
+
+/// What the replay of a greatest response shows, where the worst case begins at `start`: the same,
+/// or None exactly where it ends past 1,000,000 slots. It is proved, and not run.
+fn replay_of(worst: u64, start: u64) -> Option<u64>
+    ensures { MatchOption result (1000000 < start + worst)
+        (λ t. (start + worst ≤ 1000000) × (t ≡ worst)) }
+{
+    if start.saturating_add(worst) > MOST_SLOTS {
+        return None;
+    }
+    Some(worst)
 }

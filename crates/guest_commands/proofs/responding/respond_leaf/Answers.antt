@@ -1,11 +1,10 @@
-use Rattle.std.proofs.Common.{◌≡◌, ℕ, ◌+◌, ◌<◌, ◌++◌, List, length, get_or, None, arith, sym, ◌∙◌, ap, subst}
+use Rattle.std.proofs.Common.{◌≡◌, ℕ, ◌+◌, ◌<◌, ◌≤◌, ◌++◌, List, length, get_or, MatchOption, arith, sym, ◌∙◌, ap, subst}
 use Rattle.std.proofs.lemmas.List.{get_or_read}
 use Rattle.slot_model.specs.Task.{SporadicTask, sporadic_tasks}
 use Rattle.fp_request.proofs.Parts.{sporadic_tasks-length}
 use Rattle.tree_model.specs.System.{own_tasks, part_at}
 use Rattle.rt_report.specs.declared.responses.Response.{Response}
-use Rattle.response_times.specs.Replay.{seen_at}
-use Rattle.guest_commands.specs.Responses.{AnswerTasks, IsReplayOf, IsResponseOf, places_in}
+use Rattle.guest_commands.specs.Responses.{AnswerTasks, IsResponseOf, places_in}
 use Rattle.miss_witness.proofs.ReplayLeaf.{LeafRead, leaf_read}
 use Rattle.guest_commands.proofs.RespondLeaf.{all_tasks, one_more_task, read_passes, row_is}
 use Rattle.guest_commands.proofs.responding.respond_leaf.Goals as goal
@@ -36,16 +35,13 @@ loop-i-preserved c places before =
     let worst : c.index.result.now ≡ get_or c.in_ok-worst.worst.items i 0
     = get_or_read c.in_ok-worst.worst.items i c.index.result.now (omega (arith, l, c.in_ok-worst.ensures.long))
     c.index.ensures 0 in
-    let seen : c.index-in-loop-i.result.now ≡ seen_at c.in_ok-seen.seen.items i
-    = get_or_read c.in_ok-seen.seen.items i c.index-in-loop-i.result.now (omega (arith, l, c.in_ok-seen.ensures.long))
-    c.index-in-loop-i.ensures None in
     let told : IsResponseOf c.sched-sched.result T supply_period budget i c.row_of.result
     = row_is c.sched-sched.result T supply_period budget i c.row_of.result (get_or c.in_ok-worst.worst.items i 0)
-    (seen_at c.in_ok-seen.seen.items i) (c.in_ok-worst.ensures.least i l) (c.in_ok-worst.ensures.greatest i l)
-    (subst (λ (xs : List ℕ). IsReplayOf c.sched-sched.result T supply_period budget i (get_or xs i 0)
-    (seen_at c.in_ok-seen.seen.items i)) c.deref.ensures.value (c.in_ok-seen.ensures.each i l))
-    c.row_of.ensures.limit (c.row_of.ensures.told.0 ∙ worst)
-    (c.row_of.ensures.told.1 ∙ seen) in
+    (c.in_ok-worst.ensures.least i l) (c.in_ok-worst.ensures.greatest i l) (c.in_ok-worst.ensures.shown i l)
+    c.row_of.ensures.limit (c.row_of.ensures.worst ∙ worst)
+    (subst (λ (start : ℕ). MatchOption c.row_of.result.replay (1000000 < start + c.row_of.result.worst)
+    (λ t. (start + c.row_of.result.worst ≤ 1000000) × (t ≡ c.row_of.result.worst))) c.start.ensures
+    c.row_of.ensures.replay) in
     subst (λ (rows : List Response). AnswerTasks sys plan (places ++ places_in c.args.q (i + 1)) rows)
     (sym c.in_ok-push.ensures.items)
     (one_more_task sys plan c.args.q i c.sched-sched.result _ c.period.result _
