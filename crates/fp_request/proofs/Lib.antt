@@ -8,6 +8,7 @@ mod ReleasedExamples
 mod OrderExamples
 mod Insertion
 mod Aboves
+mod Limits
 pub mod Keyed
 mod KeyExamples
 pub mod Gathered

@@ -1,2 +1,4 @@
 -- What only private functions promise each other.
+pub mod Counted
 pub mod Inserted
+pub mod TermOf

@@ -29,7 +29,7 @@ pub(crate) fn ranks(sched: Sched, tasks: &[Task], i: usize, j: usize) -> bool
 }
 
 /// Whether task `i` of rank `a` ranks above task `j` of rank `b`.
-pub(crate) fn smaller(a: u64, i: usize, b: u64, j: usize) -> bool
+fn smaller(a: u64, i: usize, b: u64, j: usize) -> bool
     ensures { result ≡ (nat_lt a b || (a == b && nat_lt i j)) }
 {
     a < b || (a == b && i < j)
@@ -38,7 +38,8 @@ pub(crate) fn smaller(a: u64, i: usize, b: u64, j: usize) -> bool
 /// What a task ranks by, before its place: the smaller above.
 pub(crate) fn rank_of(sched: Sched, tasks: &[Task], place: usize) -> u64
     requires named { place < length tasks.now }
-    ensures { result ≡ rank_of sched (task_at (sporadic_tasks tasks.now) place) }
+    ensures exact { result ≡ rank_of sched (task_at (sporadic_tasks tasks.now) place) }
+    ensures fits { result ≤ LIMIT }
 {
     match sched {
         Sched::Rm => tasks[place].period,
