@@ -8,7 +8,8 @@ use Rattle.std.proofs.lemmas.List.{drop-drop, drop_all, get_or_append_left, get_
 use Rattle.tree_model.specs.CertificateView.{NodeView}
 use Rattle.cert_reader.specs.CertificateFile.{certificate_of}
 use Rattle.cert_reader.specs.Printed.{AreInRange}
-use Rattle.cert_reader.specs.Text.{behind, listed, node_text, Stands}
+use Rattle.cert_reader.specs.Text.{behind, listed, node_text}
+use Rattle.cert_reader.specs.inner.Text.{Stands}
 use Rattle.cert_reader.proofs.Pieces.{certificate_same}
 use Rattle.cert_reader.proofs.TextBack.{text_spells}
 

@@ -1,5 +1,5 @@
 -- The text of a certificate, piece by piece.
-use Rattle.std.specs.Prelude.{◌≡◌, ◌≤◌, ℕ, Bool, true, false, List, [], ◌∷◌, ◌++◌, codes, decimal, drop, Option, Some, None}
+use Rattle.std.specs.Prelude.{ℕ, Bool, true, false, List, [], ◌∷◌, ◌++◌, codes, decimal, Option, Some, None}
 use Rattle.tree_model.specs.declared.place.Place.{Place}
 use Rattle.tree_model.specs.CertificateView.{NodeView}
 use Rattle.cert_reader.specs.Printed.{kind_text, place_number}
@@ -41,8 +41,3 @@ node_text node =
     (codes "],\"kind\":\"" ++ (place_text node.place node.period ++
     (codes ",\"points\":[" ++ (listed quoted_number node.points ++
     (codes "],\"witness\":" ++ (witness_text node.witness ++ codes "}")))))))))))))
-
--- the bytes between two places are this text
-pub record Stands (bytes : List ℕ) (at to : ℕ) (text : List ℕ) : Type 0 where
-  pub ahead : at ≤ to
-  pub reads : drop at bytes ≡ text ++ drop to bytes

@@ -1,5 +1,6 @@
 ghost use Rattle.std.specs.Prelude.{◌<◌, ℕ, List, length, slice_index_or, IfOk};
-ghost use Rattle.cert_reader.specs.Text.{listed, Stands};
+ghost use Rattle.cert_reader.specs.Text.{listed};
+ghost use Rattle.cert_reader.specs.inner.Text.{Stands};
 
 use crate::not_printed::NotPrinted;
 use crate::numerals::behind_byte;

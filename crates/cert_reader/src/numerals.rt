@@ -1,5 +1,6 @@
 ghost use Rattle.std.specs.Prelude.{◌+◌, ◌<◌, ◌≤◌, [], ◌∷◌, length, decimal, IfSome, IfOk};
-ghost use Rattle.cert_reader.specs.Text.{quoted_number, Stands};
+ghost use Rattle.cert_reader.specs.Text.{quoted_number};
+ghost use Rattle.cert_reader.specs.inner.Text.{Stands};
 
 use crate::not_printed::NotPrinted;
 use crate::read_at::ReadAt;

@@ -2,7 +2,8 @@ ghost use Rattle.std.specs.Prelude.{◌≡◌, ◌<◌, ◌^◌, Ok, IfOk};
 ghost use Rattle.cert_reader.specs.CertificateFile.{certificate_of};
 ghost use Rattle.cert_reader.specs.Document.{spelled_place};
 ghost use Rattle.cert_reader.specs.Printed.{kind_text, place_number, IsBelow};
-ghost use Rattle.cert_reader.specs.Text.{witness_text, flag_text, place_text, Stands};
+ghost use Rattle.cert_reader.specs.Text.{witness_text, flag_text, place_text};
+ghost use Rattle.cert_reader.specs.inner.Text.{Stands};
 
 use crate::kind::Kind;
 use crate::listed::list_at;

@@ -1,5 +1,5 @@
 ghost use Rattle.std.specs.Prelude.{ℕ, List, IfOk};
-ghost use Rattle.cert_reader.specs.Text.{Stands};
+ghost use Rattle.cert_reader.specs.inner.Text.{Stands};
 
 use crate::not_printed::NotPrinted;
 use std::alloc::Global;

@@ -15,7 +15,8 @@ use Rattle.command_steps.specs.declared.answer.Ending.{Ending}
 use Rattle.command_steps.specs.declared.answer.Ending.TheVariants.{Answered, Unread, NoMemory as NoRoom}
 use Rattle.command_steps.specs.CommandSpec.{CommandSpec, IsVerdict}
 use Rattle.command_steps.specs.Answer.{Contents, AreContentsOf, file_at, file_limit, AtContent, AtFile, OnSystem, IfSystem, IsOne, IsReadable, HasSystem}
-use Rattle.command_steps.specs.Steps.{IfAnswered, IsJudged, IsOverOne, IsSaid, IsSpelled, StopsAt}
+use Rattle.command_steps.specs.Steps.{IfAnswered, IsJudged, IsOverOne, IsSaid}
+use Rattle.command_steps.specs.inner.Steps.{IsSpelled, StopsAt}
 use Rattle.command_steps.proofs.AtFile.{more_at, more_on, one_at, one_on, statuses_at, statuses_on}
 use Rattle.command_steps.proofs.CommandLaws.{CommandLaws}
 use Rattle.command_steps.proofs.Statuses.{IsOfJob, job_of_judged}

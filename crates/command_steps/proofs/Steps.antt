@@ -14,7 +14,8 @@ use Rattle.command_steps.specs.declared.status.Status.TheVariants.{BadFile, TooL
 use Rattle.command_steps.specs.Answer.{file_limit, Saying, AtContent, OnSystem}
 use Rattle.command_steps.specs.declared.answer.Ending.{Ending}
 use Rattle.command_steps.specs.declared.answer.Ending.TheVariants.{Answered, Unread, NoMemory as NoRoom}
-use Rattle.command_steps.specs.Steps.{Explains, ExplainsAnswer, ExplainsStep, IfAnswered, IsHeld, IsSpelled, StopsAt, TookHeld}
+use Rattle.command_steps.specs.Steps.{Explains, ExplainsAnswer, IfAnswered}
+use Rattle.command_steps.specs.inner.Steps.{ExplainsStep, IsHeld, IsSpelled, StopsAt, TookHeld}
 
 -- a list of more than n entries
 longer_list : (n : ℕ) → (bytes : List ℕ) × (n < length bytes)

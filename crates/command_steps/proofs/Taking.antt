@@ -13,7 +13,8 @@ use Rattle.command_steps.specs.declared.answer.Ending.TheVariants.{Answered, Unr
 use Rattle.command_steps.specs.CommandSpec.{CommandSpec}
 use Rattle.command_steps.specs.Answer.{file_limit, AtContent, OnSystem}
 use Rattle.command_steps.specs.Reading.{read_of, is_system_file, read_in}
-use Rattle.command_steps.specs.Steps.{IfAnswered, IsSpelled, StopsAt, EndTakes, StepTakes}
+use Rattle.command_steps.specs.Steps.{IfAnswered, EndTakes}
+use Rattle.command_steps.specs.inner.Steps.{IsSpelled, StopsAt, StepTakes}
 
 -- what was taken whole is taken by whatever comes of it
 pub end_takes : (end : Ending) (bytes before after : ℕ) → RoseBy bytes before after → EndTakes end bytes before after

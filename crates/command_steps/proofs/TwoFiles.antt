@@ -14,7 +14,8 @@ use Rattle.command_steps.specs.declared.answer.Ending.TheVariants.{Answered, Unr
 use Rattle.command_steps.specs.CommandSpec.{CommandSpec}
 use Rattle.command_steps.specs.Answer.{Contents, Saying, AreContentsOf, file_at, AtContent, AtFile, OnSystem, IsOne}
 use Rattle.command_steps.specs.TwoFiles.{OnTwoFiles, SpellsSystem}
-use Rattle.command_steps.specs.Steps.{IfAnswered, IsOverTwo, IsSaid, IsSpelled, IsHeld, StopsAt, AnswersTwo}
+use Rattle.command_steps.specs.Steps.{IfAnswered, IsOverTwo, IsSaid}
+use Rattle.command_steps.specs.inner.Steps.{IsSpelled, IsHeld, StopsAt, AnswersTwo}
 use Rattle.command_steps.proofs.AtFile.{more_at, more_on, on_more, one_at, one_on, statuses_at, statuses_on}
 
 -- where one thing is said of each system and bytes, one is said over two files

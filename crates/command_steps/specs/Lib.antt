@@ -7,3 +7,4 @@ pub mod CommandSpec
 pub mod Reading
 pub mod Statuses
 pub mod Steps
+pub mod inner

@@ -3,7 +3,8 @@ ghost use Rattle.outside.specs.Counts.{counts_of};
 ghost use Rattle.system_file.specs.SystemFile.{system_of};
 ghost use Rattle.rt_report.specs.Fault.{fault_text, IsFault};
 ghost use Rattle.command_steps.specs.Answer.{OnSystem};
-ghost use Rattle.command_steps.specs.Steps.{ExplainsStep, FileTakes, IfAnswered, StopsAt, IsSpelled, EndsJudged, TookHeld};
+ghost use Rattle.command_steps.specs.Steps.{IfAnswered, EndsJudged};
+ghost use Rattle.command_steps.specs.inner.Steps.{ExplainsStep, FileTakes, StopsAt, IsSpelled, TookHeld};
 
 use crate::Status;
 use crate::answer::{Answer, Ending};

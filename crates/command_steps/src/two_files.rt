@@ -7,7 +7,8 @@ ghost use Rattle.command_steps.specs.declared.answer.Ending.TheVariants.{NoMemor
 ghost use Rattle.command_steps.specs.Answer.{Saying, file_limit};
 ghost use Rattle.command_steps.specs.CommandSpec.{CommandSpec};
 ghost use Rattle.command_steps.specs.Reading.{read_in};
-ghost use Rattle.command_steps.specs.Steps.{ending_of, IfAnswered, Explains, ExplainsStep, StepTakes, FileTakes, SpecTakes, IsSaid, IsSpelled, HasTaken, HasTakenFile, StopsAt, AnswersTwo, IsOverTwo, EndsJudged};
+ghost use Rattle.command_steps.specs.Steps.{ending_of, IfAnswered, Explains, SpecTakes, IsSaid, HasTaken, IsOverTwo, EndsJudged};
+ghost use Rattle.command_steps.specs.inner.Steps.{ExplainsStep, StepTakes, FileTakes, IsSpelled, HasTakenFile, StopsAt, AnswersTwo};
 
 use crate::answer::{Answer, Ending};
 use crate::file::{hand_on, read_system_file};

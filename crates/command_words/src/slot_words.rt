@@ -3,10 +3,8 @@ ghost use Rattle.command_words.specs.SlotWords.{pattern_of, slot_count};
 
 use crate::numbers::number_from_one;
 use server_sched::Pattern;
+use slot_model::MOST_SLOTS;
 use trace_commands::Slots;
-
-/// The most slots of a run.
-const MOST_SLOTS: u64 = 1_000_000;
 
 /// The pattern that a word names.
 pub fn pattern_of(word: &str) -> Option<Pattern>

@@ -16,7 +16,8 @@ use Rattle.tree_model.specs.Tree.{IsNode, budget_at, node_tasks, node_sched, nod
 use Rattle.tree_model.specs.Admission.{NodePasses, IsGivenOrLeast, BudgetStands, AssignedFrom, Assigned, Admitted, VisitedBefore, visited_from, SettledBefore, refusing_bound, FirstRefusal, FirstUnassigned}
 use Rattle.tree_model.proofs.Parents.{part_tasks_same}
 use Rattle.tree_model.proofs.Unique.{never_both, never_assigned, one_admission}
-use Rattle.compose_tree.specs.Steps.{NodeRefuses, PartsPassFrom, CoresPassTo}
+use Rattle.compose_tree.specs.Steps.{NodeRefuses, PartsPassFrom}
+use Rattle.compose_tree.specs.inner.Steps.{CoresPassTo}
 
 -- what stands and passes does so under budgets that are the same where it matters
 pub stands_same : (sys : SystemView) (b c : List ℕ) (q : ℕ) → budget_at b q ≡ budget_at c q

@@ -13,7 +13,8 @@ use Rattle.tree_model.specs.Admission.{NodePasses, AssignedFrom, visited_from, A
 use Rattle.tree_model.proofs.NodeTasks.{leaf_tasks, inner_tasks}
 use Rattle.tree_model.proofs.Parents.{child_stands, same_servers}
 use Rattle.compose_tree.proofs.Settling.{settled_admits, stands_same, passes_same}
-use Rattle.compose_tree.specs.Steps.{PartsPassFrom, CoresPassTo}
+use Rattle.compose_tree.specs.Steps.{PartsPassFrom}
+use Rattle.compose_tree.specs.inner.Steps.{CoresPassTo}
 use Rattle.compose_tree.specs.Kept.{under, StandsOn, AgreeAt, IsSettledNode, IsKept}
 
 pub same_is : (x y : Place) → same_place x y ≡ true → x ≡ y

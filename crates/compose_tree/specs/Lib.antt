@@ -2,3 +2,4 @@ pub mod Truth
 pub mod Steps
 pub mod Kept
 pub mod Shorts
+pub mod inner

@@ -1,5 +1,5 @@
 -- What is short first of each computed leaf with one slot less than its least budget.
-use Rattle.std.specs.Prelude.{◌≡◌, ℕ, ◌<◌, ◌≤◌, true, List, length, slice_index_or, Option, None}
+use Rattle.std.specs.Prelude.{◌≡◌, ℕ, ◌<◌, true, List, length, slice_index_or, Option, None}
 use Rattle.slot_model.specs.declared.sched.Short.{Short}
 use Rattle.slot_model.specs.Bound.{sbf}
 use Rattle.least_budget.specs.declared.answers.Least.TheVariants.{Budget}
@@ -15,13 +15,6 @@ IsShortOf leaf budget short =
 
 abbrev pub short_at : List (Option Short) → ℕ → Option Short
 short_at shorts q = slice_index_or shorts q None
-
--- of the computed leaves from part k on that have a place
-abbrev pub ShortsFrom : SystemView → List ℕ → List (Option Short) → ℕ → Type 0
-ShortsFrom sys budgets shorts k =
-    (q : ℕ) → k ≤ q → q < length shorts → q < length sys.parts →
-    is_computed_leaf (part_at sys q) ≡ true →
-    IsShortOf (part_at sys q) (budget_at budgets q) (short_at shorts q)
 
 -- each part has a place, and what is short of a computed leaf stands there
 pub record AreShorts (sys : SystemView) (budgets : List ℕ) (shorts : List (Option Short))

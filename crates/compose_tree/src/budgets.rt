@@ -4,8 +4,10 @@ ghost use Rattle.tree_model.specs.System.{IsSystem, is_computed_leaf, part_at};
 ghost use Rattle.tree_model.specs.Tree.{NoLoss};
 ghost use Rattle.tree_model.specs.Admission.{NodePasses, AssignedFrom, Assigned, Admitted, FirstRefusal};
 ghost use Rattle.tree_model.specs.Plans.{IsPlan};
-ghost use Rattle.compose_tree.specs.Shorts.{AreShorts, IsShortOf, ShortsFrom};
-ghost use Rattle.compose_tree.specs.Steps.{RefusesAt, PartsPassFrom, CoresPassTo};
+ghost use Rattle.compose_tree.specs.Shorts.{AreShorts, IsShortOf};
+ghost use Rattle.compose_tree.specs.inner.Shorts.{ShortsFrom};
+ghost use Rattle.compose_tree.specs.Steps.{RefusesAt, PartsPassFrom};
+ghost use Rattle.compose_tree.specs.inner.Steps.{CoresPassTo};
 ghost use Rattle.compose_tree.specs.Truth.{IsTight, RefusalHolds};
 
 use crate::nodes::{Asked, Settled, part_budget, test_node};

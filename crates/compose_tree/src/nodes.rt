@@ -4,7 +4,8 @@ ghost use Rattle.slot_model.specs.Bound.{sbf, TestPasses};
 ghost use Rattle.tree_model.specs.System.{IsPeriod, IsGivenBudget};
 ghost use Rattle.tree_model.specs.Admission.{IsGivenOrLeast, largest_budget};
 ghost use Rattle.least_budget.specs.Answers.{IsLeast, IsShortBelow};
-ghost use Rattle.compose_tree.specs.Steps.{NodeRefuses, IsPartBudget};
+ghost use Rattle.compose_tree.specs.Steps.{NodeRefuses};
+ghost use Rattle.compose_tree.specs.inner.Steps.{IsPartBudget};
 
 use least_budget::{Edge, Least, Tested, budget_edge, least_budget, test};
 use slot_model::{Sched, Short, Task};

@@ -2,3 +2,4 @@
 pub mod Stops
 pub mod Near
 pub mod Digits
+pub mod Errors

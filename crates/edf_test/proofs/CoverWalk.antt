@@ -3,7 +3,7 @@ use Rattle.std.proofs.Common.{◌≡◌, ℕ, zero, suc, ◌+◌, ◌-◌, ◌<�
 use Rattle.slot_model.specs.Task.{SporadicTask, AreConstrained}
 use Rattle.slot_model.specs.Bound.{dbf}
 use Rattle.slot_model.proofs.Demand.{dbf_start}
-use Rattle.edf_test.specs.Back.{IsGivenBy}
+use Rattle.edf_test.specs.inner.Back.{IsGivenBy}
 
 -- a list that begins with the point, and goes on as the walk does
 pub record IsWalk (tasks : List SporadicTask) (bound : ℕ → ℕ) (h point : ℕ) (points : List ℕ) : Type 0 where

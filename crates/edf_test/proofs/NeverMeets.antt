@@ -14,7 +14,7 @@ use Rattle.slot_model.specs.Bound.{demand_of, dbf}
 use Rattle.slot_model.proofs.Demand.{demand_closed}
 use Rattle.edf_demand.specs.Cyclic.{RisesByCycle}
 use Rattle.edf_demand.proofs.Multiples.{quotient_of}
-use Rattle.edf_test.specs.Rates.{task_ahead, ahead_over, behind_over, NeverMeets}
+use Rattle.edf_test.specs.inner.Rates.{task_ahead, ahead_over, behind_over, NeverMeets}
 use Rattle.edf_test.proofs.Lines.{bound_above}
 
 -- over a multiple of its period a task asks for its work once a period

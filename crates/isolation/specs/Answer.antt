@@ -1,19 +1,12 @@
 -- What is answered of a VCPU, and what each answer means.
 use Rattle.std.specs.Prelude.{ℕ, List}
 use Rattle.tree_model.specs.View.{SystemView}
-use Rattle.isolation.specs.declared.ties.Ties.{Ties}
-use Rattle.isolation.specs.declared.ties.Ties.TheVariants.{Open, InFileOrder}
 use Rattle.isolation.specs.declared.isolation.Isolation.{Isolation}
 use Rattle.isolation.specs.declared.isolation.Isolation.TheVariants.{Isolated, ByTies, ByBlock}
 use Rattle.rtds_sim.specs.Demand.{later}
 use Rattle.isolation.specs.Demand.{no_tie, IsLeastBy, AsksTooMuch}
 use Rattle.isolation.specs.Keeping.{KeepsBudget, KeepsOpenly, IsExposed}
 use Rattle.isolation.specs.InTrace.{KeepsInTrace, IsExposedInTrace}
-
--- the slots that a tie costs
-abbrev pub tie_of : Ties → ℕ → ℕ → ℕ
-tie_of Open = no_tie
-tie_of InFileOrder = later
 
 -- isolated by the least number of slots with ties left open, else by the least in the order of the
 -- file, else by none

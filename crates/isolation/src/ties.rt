@@ -1,5 +1,5 @@
 ghost use Rattle.std.specs.Prelude.{◌≡◌};
-ghost use Rattle.isolation.specs.Answer.{tie_of};
+ghost use Rattle.isolation.specs.inner.Ties.{tie_of};
 
 /// How ties are broken between periods that end at once: in any way, or for the VCPU that stands
 /// first in the file.

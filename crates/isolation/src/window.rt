@@ -6,7 +6,7 @@ ghost use Rattle.tree_model.specs.System.{IsSystem, part_at};
 ghost use Rattle.tree_model.specs.Tree.{is_child, budget_at};
 ghost use Rattle.rtds_sim.specs.Demand.{deferrable_demand};
 ghost use Rattle.isolation.specs.Demand.{asked_of, asked, IsLeastBy, AsksTooMuch};
-ghost use Rattle.isolation.specs.Answer.{tie_of};
+ghost use Rattle.isolation.specs.inner.Ties.{tie_of};
 ghost use Rattle.isolation.specs.inner.Neighbours.{AreNeighbours};
 
 use crate::neighbours::Neighbours;

@@ -9,7 +9,7 @@ use Rattle.slot_model.proofs.Sums.{sum_below-lt}
 use Rattle.fp_request.specs.Parts.{part_of}
 use Rattle.fp_test.specs.Hits.{AnswersLeastHit}
 use Rattle.fp_request.specs.Lowest.{IsLowest}
-use Rattle.least_budget.specs.CommonHit.{IsCommon}
+use Rattle.least_budget.specs.inner.CommonHit.{IsCommon}
 
 -- a task asks for its work in every window
 work_asked : (task : SporadicTask) → IsConstrained task → (t : ℕ) → 1 ≤ t → task.work ≤ request_of task t

@@ -10,7 +10,8 @@ use Rattle.slot_model.specs.Order.{before_of, ranks_above}
 use Rattle.slot_model.specs.Bound.{IsHit, IsShortTask, IsFirstShortTask, IsHorizon, DemandFits, dbf, rbf}
 use Rattle.least_budget.specs.declared.answers.Tested.{Tested}
 use Rattle.least_budget.specs.declared.answers.Tested.TheVariants.{Passes as AllPasses, Short as FirstShort, Wide as TestWide}
-use Rattle.least_budget.specs.Answers.{IsTested, Foretells, HasHit}
+use Rattle.least_budget.specs.Answers.{IsTested, Foretells}
+use Rattle.least_budget.specs.inner.Hits.{HasHit}
 use Rattle.edf_demand.specs.Cyclic.{RisesByCycle}
 use Rattle.edf_demand.proofs.Horizons.{rises_of_laws}
 use Rattle.least_budget.proofs.LevelRuns.{level_no_loss, short_misses}

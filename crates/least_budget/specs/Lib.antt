@@ -1,4 +1,3 @@
 pub mod Answers
-pub mod CommonHit
 pub mod Levels
 pub mod inner

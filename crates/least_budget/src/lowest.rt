@@ -1,9 +1,9 @@
 ghost use Rattle.std.specs.Prelude.{◌≢◌, ◌↔◌, ◌^◌, ◌<◌, length, IsTrue, IfSome};
 ghost use Rattle.slot_model.specs.Task.{room_of, sporadic_tasks, task_at};
 ghost use Rattle.slot_model.specs.Order.{ranks_above};
-ghost use Rattle.least_budget.specs.Answers.{HasHit};
+ghost use Rattle.least_budget.specs.inner.Hits.{HasHit};
 ghost use Rattle.fp_request.specs.Lowest.{IsLowest};
-ghost use Rattle.least_budget.specs.CommonHit.{IsCommon};
+ghost use Rattle.least_budget.specs.inner.CommonHit.{IsCommon};
 ghost use Rattle.least_budget.specs.inner.Within.{IsWithin};
 
 use fp_request::{RankedLevel, RankedTask, higher, room_at};

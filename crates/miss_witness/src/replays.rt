@@ -14,14 +14,11 @@ use crate::witnesses::defeat_by;
 use crate::{Defeat, Replay, witness_jobs};
 use compose_tree::Composed;
 use guest_sched::{Keep, ReleasedLevel, pattern_windows};
-use slot_model::{Miss, Sched, Short, Task};
+use slot_model::{MOST_SLOTS, Miss, Sched, Short, Task};
 use span_counts::first_miss_by;
 use std::alloc::{AllocError, Global};
 use supply_bound::Periodic;
 use tree_model::{MAX_TASKS, Plan, System, own_tasks_in};
-
-/// The longest window that is replayed, in slots.
-const MOST_SLOTS: u64 = 1_000_000;
 
 /// The replays of all computed leaves, in file order: what defeats the next smaller budget of each,
 /// and what is seen when that is run. What is short with that budget was asked when the budgets

@@ -6,3 +6,4 @@ pub mod Reading
 pub mod Real
 pub mod Taker
 pub mod Written
+pub mod inner

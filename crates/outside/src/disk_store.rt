@@ -1,5 +1,5 @@
 ghost use Rattle.std.specs.Prelude.{◌≡◌, ◌≢◌, ◌≤◌, None, false};
-ghost use Rattle.outside.specs.Real.{after_refusal};
+ghost use Rattle.outside.specs.inner.Real.{after_refusal};
 
 use crate::{Store, StoreFault};
 use std::io::{ErrorKind, Read};

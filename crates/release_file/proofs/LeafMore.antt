@@ -16,7 +16,7 @@ use Rattle.tree_model.specs.System.{IsPart, own_tasks}
 use Rattle.release_file.specs.declared.fault.ReleaseFault.TheVariants.{OutOfRange, TooEarly}
 use Rattle.release_file.specs.declared.leaf_rows.LeafRows.{LeafRows}
 use Rattle.release_file.specs.ReleaseFile.{comes_too_soon, is_too_early, job_fault, task_names}
-use Rattle.release_file.specs.ReleasesTaken.{IsLast, last_of, follows_too_soon, IsLeaf}
+use Rattle.release_file.specs.inner.ReleasesTaken.{IsLast, last_of, follows_too_soon, IsLeaf}
 
 job_same : (js more : List Job) (i : ℕ) → i < length js → job_at (js ++ more) i ≡ job_at js i
 job_same js more i l = get_or_append_left js more default_job i l

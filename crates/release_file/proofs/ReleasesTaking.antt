@@ -28,7 +28,7 @@ use Rattle.release_file.specs.declared.release_rows.ReleaseRows.{ReleaseRows}
 use Rattle.release_file.specs.declared.release_spelling.ReleaseFields.{ReleaseFields}
 use Rattle.release_file.specs.declared.release_spelling.Version.{Version}
 use Rattle.release_file.specs.ReleaseFile.{all_fields, is_release_row, task_place, Release, release_of, releases_of, jobs_of, release_at, last_slot, part_fault, release_fault, release_rules, header_version, release_rows, SpellsReleases, IsReleasesFault}
-use Rattle.release_file.specs.ReleasesTaken.{IsLast, last_of, fields_in, job_in, IsLeaf, IsLeafOf, HasTakenReleases}
+use Rattle.release_file.specs.inner.ReleasesTaken.{IsLast, last_of, fields_in, job_in, IsLeaf, IsLeafOf, HasTakenReleases}
 
 -- a part without jobs
 pub no_leaf : (leaf : LeafRows) → IsPart leaf.part.now

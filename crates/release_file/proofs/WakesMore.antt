@@ -18,7 +18,7 @@ use Rattle.release_file.specs.declared.workload.WakeKind.TheVariants.{Start}
 use Rattle.release_file.specs.declared.wake_rows.WakeRows.{WakeRows}
 use Rattle.release_file.specs.Workload.{row_at, last_row, is_of, may_follow, IsWorkload}
 use Rattle.release_file.specs.WorkloadFile.{slot_before, is_at, has_row_at, turn_fault, wake_fault}
-use Rattle.release_file.specs.WakesTaken.{last_at, stands_at, IsBehind}
+use Rattle.release_file.specs.inner.WakesTaken.{last_at, stands_at, IsBehind}
 use Rattle.csv_rows.proofs.Last.{same_rows, last_below-no, last_below-suc, last_below-yes, last_below-zero, none_below, some_row}
 use Rattle.release_file.proofs.Rows.{ordered}
 

@@ -9,7 +9,7 @@ use Rattle.release_file.specs.declared.workload.Wake.{Wake}
 use Rattle.release_file.specs.declared.wake_rows.WakeRows.{WakeRows}
 use Rattle.release_file.specs.Workload.{row_at, is_of, IsWorkload}
 use Rattle.release_file.specs.WorkloadFile.{is_wake_row, wake_of, wakes_of, wake_fault, wake_rules, is_wake_header, wake_rows, SpellsWorkload, IsWorkloadFault}
-use Rattle.release_file.specs.WakesTaken.{last_at, IsBehind, HasTakenWakes}
+use Rattle.release_file.specs.inner.WakesTaken.{last_at, IsBehind, HasTakenWakes}
 use Rattle.csv_rows.proofs.Last.{last_below-zero}
 
 pub wakes_more : (sys : SystemView) (rows : List (List (List ℕ))) (row : List (List ℕ))

@@ -3,7 +3,7 @@ ghost use Rattle.csv_rows.specs.Decimal.{number};
 ghost use Rattle.slot_model.specs.Task.{early_job, sporadic_task};
 ghost use Rattle.tree_model.specs.System.{AreDistinct};
 ghost use Rattle.release_file.specs.ReleaseFile.{task_names};
-ghost use Rattle.release_file.specs.ReleasesTaken.{AreNumbers, fits_numbers, follows_too_soon};
+ghost use Rattle.release_file.specs.inner.ReleasesTaken.{AreNumbers, fits_numbers, follows_too_soon};
 
 use crate::ReleaseFault;
 use crate::release_spelling::{ReleaseFields, ReleaseNumbers};
@@ -42,7 +42,7 @@ impl<'s> LeafRows<'s> {
     ghost use Rattle.tree_model.specs.System.{IsPart, own_tasks};
     ghost use Rattle.release_file.specs.declared.fault.ReleaseFault.TheVariants.{NoMemory};
     ghost use Rattle.release_file.specs.ReleaseFile.{part_fault, job_fault};
-    ghost use Rattle.release_file.specs.ReleasesTaken.{AreNumbers, IsLeaf, job_in};
+    ghost use Rattle.release_file.specs.inner.ReleasesTaken.{AreNumbers, IsLeaf, job_in};
 
     /// Before the first row.
     pub fn new(alloc: Global, part: &'s Part) -> Result<LeafRows<'s>, AllocError>

@@ -1,6 +1,6 @@
 ghost use Rattle.std.specs.Prelude.{◌≡◌, IfOk};
 ghost use Rattle.tree_model.specs.System.{IsSystem};
-ghost use Rattle.release_file.specs.ReleasesTaken.{AreEmptyLeaves};
+ghost use Rattle.release_file.specs.inner.ReleasesTaken.{AreEmptyLeaves};
 
 use crate::ReleaseFault;
 use crate::leaf_rows::LeafRows;
@@ -28,7 +28,7 @@ impl<'s> RowRules for ReleaseRows<'s> {
     ghost use Rattle.std.specs.Prelude.{◌≡◌};
     ghost use Rattle.release_file.specs.declared.fault.ReleaseFault.TheVariants.{NoMemory};
     ghost use Rattle.release_file.specs.ReleaseFile.{release_rules};
-    ghost use Rattle.release_file.specs.ReleasesTaken.{HasTakenReleases};
+    ghost use Rattle.release_file.specs.inner.ReleasesTaken.{HasTakenReleases};
 
     type Fault = ReleaseFault;
 
@@ -69,7 +69,7 @@ impl<'s> RowRules for ReleaseRows<'s> {
 impl<'s> ReleaseRows<'s> {
     ghost use Rattle.std.specs.Prelude.{◌≡◌, [], IfOk, map};
     ghost use Rattle.release_file.specs.declared.fault.ReleaseFault.TheVariants.{NoMemory};
-    ghost use Rattle.release_file.specs.ReleasesTaken.{HasTakenReleases};
+    ghost use Rattle.release_file.specs.inner.ReleasesTaken.{HasTakenReleases};
 
     /// Before the first row.
     pub fn new(

@@ -2,7 +2,7 @@ ghost use Rattle.std.specs.Prelude.{◌≡◌, ◌≢◌, ◌-◌, ◌^◌, min,
 ghost use Rattle.csv_rows.specs.Decimal.{is_plain, number};
 ghost use Rattle.csv_rows.specs.Row.{fields_of};
 ghost use Rattle.release_file.specs.ReleaseFile.{all_fields, is_release_row, are_names, header_version};
-ghost use Rattle.release_file.specs.ReleasesTaken.{AreNumbers, fields_in};
+ghost use Rattle.release_file.specs.inner.ReleasesTaken.{AreNumbers, fields_in};
 
 use csv_rows::{Plain, Row, field, is_word, plain_number};
 

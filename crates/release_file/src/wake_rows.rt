@@ -1,6 +1,6 @@
 ghost use Rattle.std.specs.Prelude.{◌≡◌, ◌⊎◌, ◌≤◌, ◌<◌, ◌+◌, ◌∷◌, ◌++◌, [], Option, Some, None, length, OnOk, IfErr};
 ghost use Rattle.release_file.specs.Workload.{is_block, may_follow};
-ghost use Rattle.release_file.specs.WakesTaken.{stands_at};
+ghost use Rattle.release_file.specs.inner.WakesTaken.{stands_at};
 
 use crate::wake_spelling::{SpeltWake, spell_wake};
 use crate::{ReleaseFault, Wake, WakeKind};
@@ -26,7 +26,7 @@ impl<'s> RowRules for WakeRows<'s> {
     ghost use Rattle.std.specs.Prelude.{◌≡◌};
     ghost use Rattle.release_file.specs.declared.fault.ReleaseFault.TheVariants.{NoMemory};
     ghost use Rattle.release_file.specs.WorkloadFile.{wake_rules};
-    ghost use Rattle.release_file.specs.WakesTaken.{HasTakenWakes};
+    ghost use Rattle.release_file.specs.inner.WakesTaken.{HasTakenWakes};
 
     type Fault = ReleaseFault;
 
@@ -59,7 +59,7 @@ impl<'s> WakeRows<'s> {
     ghost use Rattle.release_file.specs.declared.fault.ReleaseFault.TheVariants.{NoMemory};
     ghost use Rattle.csv_rows.specs.Rules.{row_of};
     ghost use Rattle.release_file.specs.WorkloadFile.{turn_fault, wake_fault};
-    ghost use Rattle.release_file.specs.WakesTaken.{HasTakenWakes, IsBehind};
+    ghost use Rattle.release_file.specs.inner.WakesTaken.{HasTakenWakes, IsBehind};
 
     /// Before the first row.
     pub fn new(alloc: Global, sys: &'s System) -> Result<WakeRows<'s>, ReleaseFault>

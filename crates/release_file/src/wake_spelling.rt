@@ -4,7 +4,7 @@ ghost use Rattle.tree_model.specs.System.{IsSystem, part_names};
 ghost use Rattle.release_file.specs.WorkloadFile.{kind_named, is_wake_header};
 ghost use Rattle.trace_file.specs.File.{part_place};
 ghost use Rattle.trace_file.specs.Rules.{is_vcpu};
-ghost use Rattle.release_file.specs.WakeSpelt.{IsSpeltWake, wake_fields};
+ghost use Rattle.release_file.specs.inner.WakeSpelt.{IsSpeltWake, wake_fields};
 
 use crate::{Wake, WakeKind};
 use csv_rows::{Plain, Row, field, is_word, plain_number};

@@ -1,9 +1,9 @@
 -- What is counted of a level's run: the slots that it is given, the jobs that are released, those
 -- that miss, the first miss.
-use Rattle.std.specs.Prelude.{◌≡◌, ◌↔◌, ℕ, ◌-◌, ◌^◌, ◌<◌, nat_lt, min, Bool, List, length, slice_index_or, Option}
+use Rattle.std.specs.Prelude.{◌≡◌, ◌↔◌, ℕ, ◌<◌, nat_lt, min, Bool, List, length, slice_index_or, Option}
 use Rattle.slot_model.specs.declared.job.Job.{Job}
 use Rattle.slot_model.specs.Slots.{count_below, slots_between}
-use Rattle.slot_model.specs.Task.{SporadicTask, job_at, deadline_of}
+use Rattle.slot_model.specs.Task.{SporadicTask, job_at}
 use Rattle.slot_model.specs.Run.{service}
 use Rattle.slot_model.specs.Miss.{NoneMissed, IsFirstMiss, is_missed}
 use Rattle.span_counts.specs.declared.counts.Counts.{Counts}
@@ -12,24 +12,11 @@ use Rattle.span_counts.specs.declared.counts.Counts.{Counts}
 abbrev pub is_early : List Job → ℕ → ℕ → Bool
 is_early jobs n j = nat_lt (job_at jobs j).release n
 
--- the slots that each job gets before its deadline moment, as far as the run goes
-pub record AreServices (tasks : List SporadicTask) (jobs : List Job) (run : List (Option ℕ))
-    (got : List ℕ) : Type 0 where
-  pub long : length got ≡ length jobs
-  pub each : (j : ℕ) → j < length jobs → slice_index_or got j 0 ≡ service run j (min
-      (deadline_of tasks (job_at jobs j)) (length run))
-
 -- the slots that each of n jobs gets before it is due and before m
 pub record ServedTo (due : ℕ → ℕ) (n : ℕ) (run : List (Option ℕ)) (m : ℕ) (got : List ℕ)
     : Type 0 where
   pub long : length got ≡ n
   pub each : (j : ℕ) → j < n → slice_index_or got j 0 ≡ service run j (min (due j) m)
-
--- the deadline moment of each job, or the last moment of all
-pub record AreDues (tasks : List SporadicTask) (jobs : List Job) (dues : List ℕ) : Type 0 where
-  pub long : length dues ≡ length jobs
-  pub each : (j : ℕ) → j < length jobs → slice_index_or dues j 0 ≡ min
-      (deadline_of tasks (job_at jobs j)) (2 ^ 64 - 1)
 
 pub record AreCounts (tasks : List SporadicTask) (jobs : List Job) (slots : List Bool)
     (run : List (Option ℕ)) (counts : Counts) : Type 0 where

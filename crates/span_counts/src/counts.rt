@@ -3,7 +3,8 @@ ghost use Rattle.slot_model.specs.Slots.{count_below, slots_between};
 ghost use Rattle.slot_model.specs.Task.{sporadic_tasks};
 ghost use Rattle.slot_model.specs.Miss.{AreInJitter, AreNamed, HoldsReleased, IsFirstMiss, NoneMissed, is_missed, miss_of};
 ghost use Rattle.guest_sched.specs.Spans.{AreWindows, AreSpans, slots_of, run_of};
-ghost use Rattle.span_counts.specs.Counts.{AreCounts, AreServices, is_early};
+ghost use Rattle.span_counts.specs.Counts.{AreCounts, is_early};
+ghost use Rattle.span_counts.specs.inner.Services.{AreServices};
 
 use crate::services::services_in;
 use guest_sched::{Span, Window};

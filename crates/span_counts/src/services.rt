@@ -4,7 +4,8 @@ ghost use Rattle.slot_model.specs.Order.{before_of};
 ghost use Rattle.slot_model.specs.Miss.{AreInJitter, AreNamed, HoldsReleased, IsFirstMiss};
 ghost use Rattle.guest_sched.specs.Spans.{AreSpans, run_of};
 ghost use Rattle.guest_sched.specs.Levels.{FirstRunOf};
-ghost use Rattle.span_counts.specs.Counts.{AreDues, AreServices, ServedTo};
+ghost use Rattle.span_counts.specs.Counts.{ServedTo};
+ghost use Rattle.span_counts.specs.inner.Services.{AreDues, AreServices};
 
 use crate::counts::{find_missed, slots_before};
 use guest_sched::{Follow, ReleasedLevel, Span, follow_by, follow_spans};

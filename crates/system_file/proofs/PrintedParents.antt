@@ -13,7 +13,8 @@ use Rattle.tree_model.specs.System.{IsSystem, AreDistinct, core_at, part_at, cor
 use Rattle.system_file.specs.declared.fault.Spot.{Spot}
 use Rattle.system_file.specs.Document.{is_named, parent_named, spelled_core}
 use Rattle.system_file.specs.Faults.{core_faults, parent_faults, in_order, has_tasks}
-use Rattle.system_file.specs.Printed.{printed_core, printed_part, parent_name, CoresAreNamed}
+use Rattle.system_file.specs.Printed.{printed_core, printed_part, parent_name}
+use Rattle.system_file.specs.inner.Named.{CoresAreNamed}
 use Rattle.tree_model.proofs.Distinct.{distinct_front, distinct_back, found_at}
 use Rattle.system_file.proofs.PrintedNames.{named_at, place_missed, new_among}
 use Rattle.system_file.proofs.PrintedWalk.{all_faultless, all_spelled, within, stands_at}

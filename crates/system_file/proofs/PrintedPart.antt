@@ -19,7 +19,8 @@ use Rattle.system_file.specs.declared.fault.Spot.{Spot}
 use Rattle.system_file.specs.declared.fault.Spot.TheVariants.{Part}
 use Rattle.system_file.specs.Document.{is_named, array_of, flag_of, given_number, tasks_of, parent_named, spelled_task, spelled_part}
 use Rattle.system_file.specs.Faults.{optional, array_faults, in_order, flag_faults, parent_faults, task_faults, part_keys, part_key_faults, part_faults, has_only, has_tasks, range_faults}
-use Rattle.system_file.specs.Printed.{with_some, number, some_number, true_flag, some_array, sched_word, printed_task, server_members, part_members, printed_part, parent_name, TasksAreNamed, IsPartNamed}
+use Rattle.system_file.specs.Printed.{with_some, number, some_number, true_flag, some_array, sched_word, printed_task, server_members, part_members, printed_part, parent_name}
+use Rattle.system_file.specs.inner.Named.{TasksAreNamed, IsPartNamed}
 use Rattle.system_file.proofs.PrintedMembers.{other_key, own_key, listed_key}
 use Rattle.system_file.proofs.PrintedKeys.{range_ok, new_name_ok, sched_ok, sched_back}
 use Rattle.system_file.proofs.PrintedNames.{new_among}

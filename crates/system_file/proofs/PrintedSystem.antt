@@ -16,7 +16,8 @@ use Rattle.system_file.specs.declared.format.Format.TheVariants.{One, Two}
 use Rattle.system_file.specs.declared.fault.Spot.TheVariants.{Top, Part}
 use Rattle.system_file.specs.Document.{format_of, is_named, is_text, text_of, spelled_part, spelled_system, cores_of, parts_of}
 use Rattle.system_file.specs.Faults.{faults, part_faults, empty_faults, is_parent, in_order, top_faults, core_array_faults}
-use Rattle.system_file.specs.Printed.{printed_core, printed_part, printed, parent_name, IsPartNamed, CoresAreNamed, PartsAreNamed, top_members}
+use Rattle.system_file.specs.Printed.{printed_core, printed_part, printed, parent_name, top_members}
+use Rattle.system_file.specs.inner.Named.{IsPartNamed, CoresAreNamed, PartsAreNamed}
 use Rattle.system_file.specs.SystemFile.{part_has_jitter, needed_format}
 use Rattle.tree_model.proofs.Distinct.{distinct_back}
 use Rattle.system_file.proofs.PrintedNames.{named_any, not_taken, new_among, equals_itself}

@@ -10,7 +10,8 @@ use Rattle.tree_model.specs.declared.pinned_core.Core.{Core as CoreView}
 use Rattle.tree_model.specs.View.{NamedTask, PartView, SystemView}
 use Rattle.tree_model.specs.System.{IsSystem}
 use Rattle.system_file.specs.SystemFile.{system_of, file_format, needed_format}
-use Rattle.system_file.specs.Printed.{printed_core, printed_task, printed_part, printed, top_members, CoresAreNamed, PartsAreNamed}
+use Rattle.system_file.specs.Printed.{printed_core, printed_task, printed_part, printed, top_members}
+use Rattle.system_file.specs.inner.Named.{CoresAreNamed, PartsAreNamed}
 use Rattle.system_file.proofs.Texts.{system_text}
 use Rattle.system_file.proofs.PrintedSystem.{printed_faultless, printed_spelled, printed_format}
 

@@ -1,7 +1,6 @@
 -- The document that is printed for a system, table by table, and what a printer may rest on. It
 -- serves the clauses of private functions alone: what is printed reads back, whatever its layout.
-use Rattle.std.specs.Prelude.{◌≡◌, ℕ, ◌==◌, pos, Bool, true, false, if◌then◌else◌, List, [], ◌∷◌, map, All, codes, Option, Some, None}
-use Rattle.slot_model.specs.Name.{is_name}
+use Rattle.std.specs.Prelude.{ℕ, ◌==◌, pos, Bool, true, false, if◌then◌else◌, List, [], ◌∷◌, map, codes, Option, Some, None}
 use Rattle.slot_model.specs.declared.sched.Sched.{Sched}
 use Rattle.slot_model.specs.declared.sched.Sched.TheVariants.{Edf, Rm, Dm, Listed}
 use Rattle.toml.specs.Data.{Data, string, integer, boolean, array, table, Members, no_members}
@@ -109,17 +108,3 @@ abbrev pub printed : SystemView → Members
 printed sys =
     top_members (needed_format sys) (map printed_core sys.cores)
     (map (printed_part sys) sys.parts)
-
--- all names of a system are names
-abbrev pub TasksAreNamed : List NamedTask → Type 0
-TasksAreNamed tasks = All (λ t. is_name t.name ≡ true) tasks
-
-pub record IsPartNamed (part : PartView) : Type 0 where
-  pub name : is_name part.name ≡ true
-  pub tasks : TasksAreNamed part.tasks
-
-abbrev pub CoresAreNamed : List CoreView → Type 0
-CoresAreNamed cores = All (λ c. is_name c.name ≡ true) cores
-
-abbrev pub PartsAreNamed : List PartView → Type 0
-PartsAreNamed parts = All IsPartNamed parts

@@ -2,3 +2,4 @@
 pub mod Reading
 pub mod Plain
 pub mod Told
+pub mod Named

@@ -13,6 +13,7 @@ use crate::format::Format;
 use crate::{Spot, SystemFault};
 use slot_model::Sched;
 use toml_items::{Entry, Item};
+use tree_model::MAX_CORES;
 
 /// The value at a key.
 pub fn find<'e, 't>(table: &'e [Entry<'t>], key: &str) -> Option<&'e Item<'t>>
@@ -288,7 +289,7 @@ pub fn cores_at<'e, 't>(table: &'e [Entry<'t>]) -> Result<&'e [Item<'t>], System
     if elements.is_empty() {
         return Err(SystemFault::Empty(Spot::Top));
     }
-    if elements.len() > 64 {
+    if elements.len() > MAX_CORES {
         return Err(SystemFault::TooMany(Spot::Top));
     }
     Ok(elements)

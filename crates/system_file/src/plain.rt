@@ -12,7 +12,7 @@ use crate::whole::{Nodes, whole_system};
 use crate::{Spot, SystemFault};
 use std::alloc::Global;
 use toml_items::{Header, array_at, header_again, is_end, top_pairs};
-use tree_model::{Core, Part, System};
+use tree_model::{Core, MAX_CORES, MAX_PARTS, Part, System};
 
 /// The system of a plain text of a format, cores and then parts, which are made while it is read.
 /// It answers a fault where the text is any other, or has faults, of which that need not be the
@@ -101,7 +101,7 @@ fn cores_from<'t>(
 {
     let mut cores = Vec::new(alloc);
     let mut rest = header.rest;
-    'elements: while cores.len() < 64 {
+    'elements: while cores.len() < MAX_CORES {
         let there = core_at(alloc, header, rest, cores.len(), names)?;
         cores.push(there.core)?;
         match header_again(header, there.rest) {
@@ -141,7 +141,7 @@ fn parts_from<'t>(
     let mut parts = Vec::new(alloc);
     let mut tasks = Names::new(alloc);
     let mut rest = header.rest;
-    'elements: while parts.len() < 512 {
+    'elements: while parts.len() < MAX_PARTS {
         let there = part_at(
             alloc, header, rest, format, cores, &parts, names, &mut tasks,
         )?;

@@ -9,7 +9,8 @@ ghost use Rattle.tree_model.specs.System.{IsSystem, IsPart, IsCoreSupply, no_cor
 ghost use Rattle.tree_model.specs.Tree.{place_of, IsNode};
 ghost use Rattle.system_file.specs.SystemFile.{system_of, file_format, part_has_jitter, needed_format as format_needed};
 ghost use Rattle.toml_items.specs.Plain.{insert_member};
-ghost use Rattle.system_file.specs.Printed.{with_some, number, other_number, some_number, true_flag, some_array, sched_word, with_supply, printed_core, printed_task, parent_name, printed_part, printed, TasksAreNamed, IsPartNamed, format_number, CoresAreNamed, PartsAreNamed};
+ghost use Rattle.system_file.specs.Printed.{with_some, number, other_number, some_number, true_flag, some_array, sched_word, with_supply, printed_core, printed_task, parent_name, printed_part, printed, format_number};
+ghost use Rattle.system_file.specs.inner.Named.{TasksAreNamed, IsPartNamed, CoresAreNamed, PartsAreNamed};
 
 use crate::format::Format;
 use slot_model::{Name, Sched};

@@ -22,7 +22,7 @@ use crate::{Spot, SystemFault};
 use std::alloc::Global;
 use std::str;
 use toml_items::{Document, DocumentFault, Entry, Item, read_document, table_entries};
-use tree_model::System;
+use tree_model::{MAX_PARTS, System};
 
 /// The format of a document, and the values of its cores and parts.
 #[derive(Clone, Copy)]
@@ -46,7 +46,7 @@ fn top_of<'e, 't>(table: &'e [Entry<'t>]) -> Result<Top<'e, 't>, SystemFault>
     check_keys(table, &["format", "core", "part"], Spot::Top)?;
     let format = format_at(table)?;
     let cores = cores_at(table)?;
-    let parts = elements_at(table, "part", 512, Spot::Top)?;
+    let parts = elements_at(table, "part", MAX_PARTS, Spot::Top)?;
     Ok(Top {
         format,
         cores,

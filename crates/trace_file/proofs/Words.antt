@@ -2,7 +2,7 @@
 use Rattle.std.proofs.Common.{◌≡◌, ℕ, true, false, List, codes}
 use Rattle.std.proofs.lemmas.Slice.Eq.{bytes_eq-Decides}
 use Rattle.std.specs.Prelude.{bytes_eq}
-use Rattle.trace_file.specs.Spelt.{IsNoWord}
+use Rattle.trace_file.specs.inner.Spelt.{IsNoWord}
 
 pub is_text : (field text : List ℕ) → bytes_eq field text ≡ true → field ≡ text
 is_text field text e = (bytes_eq-Decides field text).0 e

@@ -23,14 +23,6 @@ pub record IsBeforeEvent (sys : SystemView) (events : List Event) (event : Event
   pub keep : EventsKeep sys (events ++ event ∷ []) (length (events ++ event ∷ []))
   pub after : IsAfter events (length events) rows
 
--- it was made over a system, and stands before the first row
-pub record IsFresh (sys : SystemView) (r : RowReader) : Type 0 where
-  pub sys_is : r.sys.now ≡ sys
-  pub system : IsSystem sys
-  pub names : AreNames r.sys.now r.names
-  pub row : r.row ≡ 2
-  pub after : IsAfter [] 0 r.rows
-
 -- it stands behind these rows
 pub record IsBehindRows (unit : UnitOfTime) (rows : List (List (List ℕ))) (r : RowReader)
     : Type 0 where

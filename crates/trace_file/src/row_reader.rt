@@ -25,7 +25,8 @@ impl<'s> RowReader<'s> {
     ghost use Rattle.trace_file.specs.Events.{has_ended};
     ghost use Rattle.trace_file.specs.File.{row_rules, is_row, event_of, events_of};
     ghost use Rattle.trace_file.specs.Named.{AreNames};
-    ghost use Rattle.trace_file.specs.Given.{IsBehindRows, IsFresh};
+    ghost use Rattle.trace_file.specs.Given.{IsBehindRows};
+    ghost use Rattle.trace_file.specs.inner.Fresh.{IsFresh};
 
     /// Before the first row.
     pub fn new(alloc: Global, sys: &'s System) -> Result<RowReader<'s>, AllocError>

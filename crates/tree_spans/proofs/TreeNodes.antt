@@ -23,7 +23,8 @@ use Rattle.tree_spans.specs.NodeView.{NodeView, TreeView, counts_of}
 use Rattle.tree_spans.specs.TreeCounts.{no_counts, counts_at, AreTreeCounts}
 use Rattle.tree_spans.specs.Shares.{AreShare, share_at}
 use Rattle.tree_model.specs.Releases.{jobs_at}
-use Rattle.tree_spans.specs.TreeSpans.{given_at, no_node, node_at, runs_of, supplies_of, IsServerNode, IsPartNode, AreCoreNodes, ArePartNodes, GivesShares, CoresGive, parent_of, AreTreeSpans}
+use Rattle.tree_spans.specs.TreeSpans.{given_at, no_node, node_at, runs_of, supplies_of, IsServerNode, IsPartNode, parent_of, AreTreeSpans}
+use Rattle.tree_spans.specs.inner.Nodes.{AreCoreNodes, ArePartNodes, GivesShares, CoresGive}
 
 abbrev nothing : NodeView
 nothing = no_node

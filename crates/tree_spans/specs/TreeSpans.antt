@@ -80,31 +80,6 @@ pub record IsPartNode (sys : SystemView) (budgets : List ℕ) (n q : ℕ) (jobs 
   pub inner : is_leaf_at sys q ≡ false → IsServerNode sys budgets n (Part q) slots node
   pub leaf : is_leaf_at sys q ≡ true → IsLeafNode sys n q jobs slots node
 
--- the nodes of the first m cores, and of the first m parts
-pub record AreCoreNodes (sys : SystemView) (budgets : List ℕ) (n : ℕ)
-    (given : List (List Window)) (m : ℕ) (nodes : List NodeView) : Type 0 where
-  pub long : length nodes ≡ m
-  pub each : (c : ℕ) → c < m →
-      IsServerNode sys budgets n (Core c) (slots_of (given_at given c) n) (node_at nodes c)
-
-pub record ArePartNodes (sys : SystemView) (budgets : List ℕ) (n : ℕ) (jobs : List (List Job))
-    (cores : List NodeView) (m : ℕ) (nodes : List NodeView) : Type 0 where
-  pub long : length nodes ≡ m
-  pub each : (q : ℕ) → q < m → IsPartNode sys budgets n q (jobs_at jobs q)
-      (supply_of sys budgets n (runs_of cores) (runs_of nodes) q) (node_at nodes q)
-
--- what each child gets of a core or an inner part
-pub record GivesShares (sys : SystemView) (budgets : List ℕ) (n : ℕ) (place : Place)
-    (node : NodeView) : Type 0 where
-  pub spans : AreSpans node.spans n
-  pub shares : AreShares (server_jobs sys budgets place n) (run_of node.spans) n
-      (length (server_tasks sys budgets place)) node.shares
-
-pub record CoresGive (sys : SystemView) (budgets : List ℕ) (n : ℕ)
-    (cores : List NodeView) : Type 0 where
-  pub long : length cores ≡ length sys.cores
-  pub each : (c : ℕ) → c < length sys.cores → GivesShares sys budgets n (Core c) (node_at cores c)
-
 -- the place of a part's parent
 abbrev pub parent_of : SystemView → ℕ → Place
 parent_of sys q = place_of (part_at sys q).parent

@@ -2,7 +2,7 @@
 use Rattle.std.specs.Prelude.{◌≡◌, ℕ, ◌^◌, ◌<◌, ◌≤◌, true, List, length, take, drop}
 use Rattle.std.specs.Char.{is_ascii_digit}
 use Rattle.std.specs.List.{list_all}
-use Rattle.csv_rows.specs.Decimal.{digits_after, number}
+use Rattle.csv_rows.specs.Decimal.{digits_after, number, is_plain}
 use Rattle.csv_rows.specs.declared.decimal.Front.{Front}
 
 -- so many bytes at the front of a field are digits, and this is their number
@@ -11,3 +11,7 @@ pub record IsFront (field : List ℕ) (front : Front) : Type 0 where
   pub are_digits : list_all is_ascii_digit (take front.digits field) ≡ true
   pub so_far : number field ≡ digits_after front.number (drop front.digits field)
   pub few : front.number < 10 ^ front.digits
+
+-- a field of few bytes is a plain number where these are digits
+abbrev pub IsShort : List ℕ → Type 0
+IsShort field = (length field ≤ 15) × (list_all is_ascii_digit field ≡ true → is_plain field ≡ true)

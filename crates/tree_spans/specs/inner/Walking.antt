@@ -6,7 +6,7 @@ use Rattle.tree_model.specs.declared.place.Place.{Place}
 use Rattle.tree_model.specs.declared.place.Place.TheVariants.{Core, Part}
 use Rattle.tree_model.specs.View.{SystemView}
 use Rattle.tree_spans.specs.NodeView.{NodeView}
-use Rattle.tree_spans.specs.TreeSpans.{AreCoreNodes, ArePartNodes, CoresGive}
+use Rattle.tree_spans.specs.inner.Nodes.{AreCoreNodes, ArePartNodes, CoresGive}
 use Rattle.tree_spans.specs.KeptNodes.{IsKeptAt, AreKept, ran_of_core, ran_of_part}
 
 -- kept of the first m cores, and of all of them

@@ -1,6 +1,6 @@
 use Rattle.std.proofs.Common.{ℕ, List, ◌+◌, ◌∷◌, [], decimal, arith, sym, ap, ◌∙◌, subst, ◌≡◌}
 use Rattle.std.proofs.lemmas.Fmt.{decimal_digit}
-use Rattle.cert_reader.specs.Text.{Stands}
+use Rattle.cert_reader.specs.inner.Text.{Stands}
 use Rattle.cert_reader.proofs.numerals.number_at.Goals as goal
 
 pub returns-then-first-eq0 : goal.returns-then-first-eq0

@@ -1,7 +1,7 @@
 use Rattle.std.proofs.Common.{◌≡◌, ℕ, suc, ◌+◌, ◌-◌, ◌*◌, ◌<◌, ◌^◌, List, arith, sym, subst}
 use Rattle.std.proofs.Math.Nat.{pow-suc}
 use Rattle.std.proofs.lemmas.Fmt.{decimal_digit}
-use Rattle.cert_reader.specs.Text.{Stands}
+use Rattle.cert_reader.specs.inner.Text.{Stands}
 use Rattle.cert_reader.proofs.Standing.{digit_more, more_fits}
 use Rattle.cert_reader.proofs.numerals.short_digits.Goals as goal
 use Rattle.cert_reader.proofs.numerals.short_digits.Goals.{In-Some}

@@ -1,5 +1,5 @@
 use Rattle.std.proofs.Common.{◌≤◌, ◌<◌, ◌-◌, ◌^◌, length, decimal}
-use Rattle.cert_reader.specs.Text.{Stands}
+use Rattle.cert_reader.specs.inner.Text.{Stands}
 use Rattle.cert_reader.proofs.numerals.short_digits.Given as goal
 
 abbrev pub invariant-loop-to : goal.invariant-loop-to

@@ -1,5 +1,5 @@
 use Rattle.std.proofs.Common.{◌∙◌}
-use Rattle.command_steps.specs.Steps.{IsHeld}
+use Rattle.command_steps.specs.inner.Steps.{IsHeld}
 use Rattle.command_steps.proofs.Steps.{all_held, system_spelled, system_refused, system_explained}
 use Rattle.command_steps.proofs.Taking.{step_takes}
 use Rattle.command_steps.proofs.file.read_system_file.Goals as goal

@@ -3,7 +3,8 @@ use Rattle.outside.specs.Files.{Files, file_named}
 use Rattle.slot_model.proofs.HandedOn.{err_is}
 use Rattle.command_steps.specs.declared.answer.Ending.{Ending}
 use Rattle.command_steps.specs.Reading.{read_in}
-use Rattle.command_steps.specs.Steps.{ending_of, AnswersTwo, EndTakes, IfAnswered, IsSaid}
+use Rattle.command_steps.specs.Steps.{ending_of, EndTakes, IfAnswered, IsSaid}
+use Rattle.command_steps.specs.inner.Steps.{AnswersTwo}
 use Rattle.command_steps.proofs.OneFile.{is_system}
 use Rattle.command_steps.proofs.TwoFiles.{ends_read, stop_said, two_said}
 use Rattle.command_steps.proofs.Taking.{end_takes, two_take}

@@ -1,7 +1,8 @@
 use Rattle.std.proofs.Common.{Option, subst, ◌∙◌}
 use Rattle.slot_model.proofs.HandedOn.{err_is, handed_on}
 use Rattle.outside.specs.Files.{Files}
-use Rattle.command_steps.specs.Steps.{IfAnswered, StopsAt}
+use Rattle.command_steps.specs.Steps.{IfAnswered}
+use Rattle.command_steps.specs.inner.Steps.{StopsAt}
 use Rattle.command_steps.proofs.TwoFiles.{ends_at_first, ends_at_second}
 use Rattle.command_steps.proofs.Taking.{ends_first, ends_second, both_taken}
 use Rattle.command_steps.proofs.two_files.take_two.Goals as goal

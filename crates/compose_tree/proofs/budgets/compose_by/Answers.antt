@@ -2,7 +2,8 @@ use Rattle.std.proofs.Common.{◌≡◌, ℕ, List, ◌++◌, length, take, drop
 use Rattle.tree_model.specs.View.{SystemView}
 use Rattle.tree_model.specs.Admission.{Assigned, Admitted}
 use Rattle.tree_model.proofs.InRange.{assigned_is_plan}
-use Rattle.compose_tree.specs.Steps.{PartsPassFrom, CoresPassTo}
+use Rattle.compose_tree.specs.Steps.{PartsPassFrom}
+use Rattle.compose_tree.specs.inner.Steps.{CoresPassTo}
 use Rattle.compose_tree.proofs.Settling.{written_back, assigned_back, settled_admits}
 use Rattle.compose_tree.proofs.budgets.compose_by.Goals as goal
 

@@ -1,5 +1,5 @@
 use Rattle.tree_model.specs.Admission.{AssignedFrom}
-use Rattle.compose_tree.specs.Shorts.{ShortsFrom}
+use Rattle.compose_tree.specs.inner.Shorts.{ShortsFrom}
 use Rattle.compose_tree.specs.Steps.{PartsPassFrom}
 use Rattle.compose_tree.proofs.budgets.settle_parts.Given as goal
 

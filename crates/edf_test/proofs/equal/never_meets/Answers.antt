@@ -3,7 +3,7 @@ use Rattle.slot_model.specs.Task.{SporadicTask, sporadic_tasks}
 use Rattle.slot_model.specs.Bound.{IsCommonMultiple}
 use Rattle.slot_model.proofs.Constrained.{are_constrained}
 use Rattle.edf_demand.proofs.Horizons.{rises_of_laws}
-use Rattle.edf_test.specs.Rates.{NeverMeets, behind_over}
+use Rattle.edf_test.specs.inner.Rates.{NeverMeets, behind_over}
 use Rattle.edf_test.proofs.Lines.{amount_within}
 use Rattle.edf_test.proofs.NeverMeets.{never_catches_up, far_apart}
 use Rattle.edf_test.proofs.equal.never_meets.Goals as goal

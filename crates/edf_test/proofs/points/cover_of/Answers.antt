@@ -1,7 +1,7 @@
 use Rattle.std.proofs.Common.{◌≡◌, ℕ, ◌-◌, List, [], ◌∷◌, ◌++◌, reverse, sym, subst, arith}
 use Rattle.std.proofs.lemmas.List.{reverse-append}
 use Rattle.slot_model.specs.Task.{SporadicTask, sporadic_tasks}
-use Rattle.edf_test.specs.Back.{IsGivenBy}
+use Rattle.edf_test.specs.inner.Back.{IsGivenBy}
 use Rattle.slot_model.proofs.Constrained.{are_constrained}
 use Rattle.slot_model.specs.Points.{CoversShow}
 use Rattle.slot_model.proofs.Covers.{covers_show}

@@ -1,6 +1,6 @@
 use Rattle.std.proofs.Common.{◌≡◌, ◌<◌, List, length, get_or, arith, ap}
 use Rattle.tree_model.specs.View.{PartView}
-use Rattle.isolation.specs.Answer.{tie_of}
+use Rattle.isolation.specs.inner.Ties.{tie_of}
 use Rattle.isolation.proofs.Least.{asked_by, asked_none, asked_next, asked_with}
 use Rattle.isolation.proofs.window.asked_in.Goals as goal
 

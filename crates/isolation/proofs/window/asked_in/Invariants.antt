@@ -2,7 +2,7 @@ use Rattle.std.proofs.Common.{◌≡◌, ◌<◌, ◌≤◌, ◌*◌, ◌-◌, t
 use Rattle.slot_model.specs.declared.task.TheConstants.{LIMIT}
 use Rattle.tree_model.specs.declared.place.Place.TheVariants.{Core}
 use Rattle.tree_model.specs.Tree.{is_child}
-use Rattle.isolation.specs.Answer.{tie_of}
+use Rattle.isolation.specs.inner.Ties.{tie_of}
 use Rattle.isolation.proofs.Least.{asked_by}
 use Rattle.isolation.proofs.window.asked_in.Given as goal
 

@@ -1,6 +1,6 @@
 use Rattle.std.proofs.Common.{ℕ, List, sym, subst}
 use Rattle.tree_model.specs.Tree.{budget_at}
-use Rattle.isolation.specs.Answer.{tie_of}
+use Rattle.isolation.specs.inner.Ties.{tie_of}
 use Rattle.isolation.proofs.Least.{TooFewBelow, few_first, few_more}
 use Rattle.isolation.proofs.window.least_window.Goals as goal
 

@@ -1,5 +1,5 @@
 use Rattle.std.proofs.Common.{◌+◌, ◌-◌}
-use Rattle.isolation.specs.Answer.{tie_of}
+use Rattle.isolation.specs.inner.Ties.{tie_of}
 use Rattle.isolation.proofs.Least.{TooFewBelow}
 use Rattle.isolation.proofs.window.least_window.Given as goal
 

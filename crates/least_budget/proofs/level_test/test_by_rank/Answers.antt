@@ -3,7 +3,7 @@ use Rattle.std.proofs.Common.{ℕ, arith}
 use Rattle.slot_model.specs.Task.{sporadic_tasks}
 use Rattle.slot_model.specs.Order.{ranks_above}
 use Rattle.fp_request.proofs.Parts.{sporadic_tasks-length}
-use Rattle.least_budget.specs.Answers.{HasHit}
+use Rattle.least_budget.specs.inner.Hits.{HasHit}
 use Rattle.least_budget.proofs.Testing.{fixed_passes, first_without_hit}
 use Rattle.least_budget.proofs.level_test.test_by_rank.Goals as goal
 

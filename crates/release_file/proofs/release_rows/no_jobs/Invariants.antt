@@ -1,6 +1,6 @@
 use Rattle.std.proofs.Common.{◌≡◌, ◌<◌, ℕ, [], length, get_or}
 use Rattle.release_file.specs.declared.leaf_rows.LeafRows.{LeafRows}
-use Rattle.release_file.specs.ReleasesTaken.{IsLeafOf}
+use Rattle.release_file.specs.inner.ReleasesTaken.{IsLeafOf}
 use Rattle.release_file.proofs.release_rows.no_jobs.Given as goal
 
 -- the parts so far

@@ -3,7 +3,8 @@ use Rattle.slot_model.specs.Slots.{count_below, slots_between}
 use Rattle.slot_model.specs.Task.{sporadic_tasks}
 use Rattle.guest_sched.specs.Spans.{slots_of, run_of}
 use Rattle.guest_sched.proofs.Given.{slots-long}
-use Rattle.span_counts.specs.Counts.{AreServices, is_early}
+use Rattle.span_counts.specs.Counts.{is_early}
+use Rattle.span_counts.specs.inner.Services.{AreServices}
 use Rattle.span_counts.proofs.counts.count_level.Goals as goal
 
 pub returns : goal.returns

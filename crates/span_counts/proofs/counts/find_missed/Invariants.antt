@@ -3,7 +3,7 @@ use Rattle.slot_model.specs.Slots.{count_below}
 use Rattle.slot_model.specs.Task.{sporadic_tasks}
 use Rattle.slot_model.specs.Miss.{is_missed}
 use Rattle.slot_model.proofs.FirstMiss.{FirstMissTo}
-use Rattle.span_counts.specs.Counts.{AreServices}
+use Rattle.span_counts.specs.inner.Services.{AreServices}
 use Rattle.span_counts.proofs.counts.find_missed.Given as goal
 
 abbrev pub invariant-loop-place : goal.invariant-loop-place

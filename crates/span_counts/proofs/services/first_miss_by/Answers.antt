@@ -1,7 +1,7 @@
 use Rattle.std.proofs.Common.{◌≡◌, length, arith, sym, ◌∙◌, subst}
 use Rattle.slot_model.specs.Task.{sporadic_tasks}
 use Rattle.guest_sched.proofs.Given.{slots-long}
-use Rattle.span_counts.specs.Counts.{AreServices, AreDues}
+use Rattle.span_counts.specs.inner.Services.{AreServices, AreDues}
 use Rattle.span_counts.proofs.Following.{are_services}
 use Rattle.span_counts.proofs.services.first_miss_by.Goals as goal
 

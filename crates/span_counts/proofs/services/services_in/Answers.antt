@@ -1,7 +1,7 @@
 use Rattle.std.proofs.Common.{arith, sym, subst}
 use Rattle.slot_model.specs.Task.{sporadic_tasks}
 use Rattle.guest_sched.specs.Spans.{run_of}
-use Rattle.span_counts.specs.Counts.{AreDues}
+use Rattle.span_counts.specs.inner.Services.{AreDues}
 use Rattle.span_counts.proofs.Following.{all_taken, are_services}
 use Rattle.span_counts.proofs.services.services_in.Goals as goal
 

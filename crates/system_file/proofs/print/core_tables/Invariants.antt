@@ -1,6 +1,7 @@
 use Rattle.std.proofs.Common.{◌≡◌, map, take}
 use Rattle.toml.specs.View.{view}
-use Rattle.system_file.specs.Printed.{printed_core, CoresAreNamed}
+use Rattle.system_file.specs.Printed.{printed_core}
+use Rattle.system_file.specs.inner.Named.{CoresAreNamed}
 use Rattle.system_file.proofs.print.core_tables.Given as goal
 
 abbrev pub invariant-loop-core : goal.invariant-loop-core

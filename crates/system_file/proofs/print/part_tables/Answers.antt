@@ -1,7 +1,7 @@
 use Rattle.std.proofs.Common.{subst, arith}
 use Rattle.std.proofs.lemmas.Grind.{common_steps}
 use Rattle.std.proofs.lemmas.List.Elements.{All-more}
-use Rattle.system_file.specs.Printed.{IsPartNamed}
+use Rattle.system_file.specs.inner.Named.{IsPartNamed}
 use Rattle.system_file.proofs.print.part_tables.Goals as goal
 
 pub loop-part-preserved : goal.loop-part-preserved

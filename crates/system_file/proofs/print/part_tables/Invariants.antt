@@ -1,6 +1,7 @@
 use Rattle.std.proofs.Common.{◌≡◌, map, take}
 use Rattle.toml.specs.View.{view}
-use Rattle.system_file.specs.Printed.{printed_part, PartsAreNamed}
+use Rattle.system_file.specs.Printed.{printed_part}
+use Rattle.system_file.specs.inner.Named.{PartsAreNamed}
 use Rattle.system_file.proofs.print.part_tables.Given as goal
 
 abbrev pub invariant-loop-part : goal.invariant-loop-part

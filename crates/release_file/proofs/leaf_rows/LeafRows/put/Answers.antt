@@ -7,7 +7,7 @@ use Rattle.slot_model.specs.declared.job.Job.{Job}
 use Rattle.release_file.specs.declared.fault.ReleaseFault.TheVariants.{TooEarly}
 use Rattle.tree_model.specs.System.{own_tasks}
 use Rattle.release_file.specs.ReleaseFile.{is_too_early, job_fault}
-use Rattle.release_file.specs.ReleasesTaken.{IsLast, last_of}
+use Rattle.release_file.specs.inner.ReleasesTaken.{IsLast, last_of}
 use Rattle.release_file.proofs.LeafMore.{fits_named, job_fault_is, leaf_more}
 use Rattle.release_file.proofs.leaf_rows.LeafRows.put.Goals as goal
 use Rattle.release_file.proofs.leaf_rows.LeafRows.put.Goals.{After-follows_too_soon}

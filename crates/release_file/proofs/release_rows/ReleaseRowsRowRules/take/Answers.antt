@@ -5,7 +5,7 @@ use Rattle.csv_rows.specs.Row.{fields_of}
 use Rattle.csv_rows.specs.Rules.{row_of}
 use Rattle.slot_model.specs.declared.task.TheConstants.{LIMIT}
 use Rattle.release_file.specs.declared.release_rows.ReleaseRows.{ReleaseRows}
-use Rattle.release_file.specs.ReleasesTaken.{HasTakenReleases}
+use Rattle.release_file.specs.inner.ReleasesTaken.{HasTakenReleases}
 use Rattle.release_file.proofs.LeafMore.{is_told}
 use Rattle.release_file.proofs.ReleasesTaking.{IsInOrder, rules_of_part, took_release}
 use Rattle.release_file.proofs.release_rows.ReleaseRowsRowRules.take.Goals as goal

@@ -1,0 +1,3 @@
+-- What only private functions promise each other.
+pub mod Back
+pub mod Rates

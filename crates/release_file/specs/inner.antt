@@ -1,0 +1,4 @@
+-- What only private functions promise each other.
+pub mod ReleasesTaken
+pub mod WakeSpelt
+pub mod WakesTaken
