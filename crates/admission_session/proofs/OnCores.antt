@@ -23,7 +23,8 @@ use Rattle.compose_tree.specs.Steps.{NodeRefuses, RefusesAt}
 use Rattle.compose_tree.specs.Kept.{IsKept, IsSettledNode}
 use Rattle.compose_tree.proofs.Settling.{before_part, node_refuses}
 use Rattle.compose_tree.proofs.Ways.{assigned_later, pass_later, kept_up}
-use Rattle.admission_session.specs.Leaves.{on_parent, with_guest, with_changed, moved_to}
+use Rattle.admission_session.specs.Leaves.{on_parent, with_guest, with_changed}
+use Rattle.admission_session.specs.inner.Undone.{moved_to}
 use Rattle.admission_session.specs.Edits.{IsNewLeaf}
 use Rattle.admission_session.specs.Answers.{HasRefusal, IsRefusedOnAll, IsPutOn}
 use Rattle.admission_session.specs.inner.Shares.{share, shares}

@@ -3,7 +3,8 @@ use Rattle.std.proofs.Common.{◌≡◌, ℕ, ◌-◌, ◌<◌, ◌≤◌, true,
 use Rattle.tree_model.specs.declared.place.Parent.TheVariants.{Core as on_core}
 use Rattle.tree_model.specs.View.{PartView, SystemView}
 use Rattle.tree_model.specs.System.{IsSystem, part_at, is_leaf_at}
-use Rattle.admission_session.specs.Leaves.{on_parent, with_leaf, with_guest, with_changed, fallen_part, without_leaf, without_last, with_leaf_back}
+use Rattle.admission_session.specs.Leaves.{on_parent, with_leaf, with_guest, with_changed, fallen_part, without_leaf}
+use Rattle.admission_session.specs.inner.Undone.{without_last, with_leaf_back}
 use Rattle.admission_session.proofs.KeptByEdits.{changed_here, removed_length}
 use Rattle.admission_session.proofs.Undone.{last_off, last_is, some_part, changed_back, leaf_back}
 

@@ -9,7 +9,8 @@ use Rattle.tree_model.specs.declared.place.Parent.{Parent}
 use Rattle.tree_model.specs.declared.place.Parent.TheVariants.{Core as on_core, Part as on_part}
 use Rattle.tree_model.specs.View.{PartView, SystemView}
 use Rattle.tree_model.specs.System.{IsSystem, Stands, part_at, no_part, is_leaf_at}
-use Rattle.admission_session.specs.Leaves.{on_parent, with_leaf, with_changed, fallen, fallen_part, without_leaf, without_last, risen, risen_part, CanRise, with_leaf_back}
+use Rattle.admission_session.specs.Leaves.{on_parent, with_leaf, with_changed, fallen, fallen_part, without_leaf}
+use Rattle.admission_session.specs.inner.Undone.{without_last, risen, risen_part, CanRise, with_leaf_back}
 use Rattle.admission_session.proofs.KeptByEdits.{fallen_before, fallen_behind, not_on_leaf}
 
 -- the last part is taken off again

@@ -1,6 +1,7 @@
 ghost use Rattle.std.specs.Prelude.{◌≡◌, ◌-◌, ◌<◌, ◌≤◌, All, length, map, IfOk, IfErr, vec_capacity, vec_len};
 ghost use Rattle.tree_model.specs.System.{IsSystem, part_at};
-ghost use Rattle.admission_session.specs.Leaves.{CanRise, fallen_part, moved_to, risen, risen_part, with_changed, with_leaf, with_leaf_back, without_last, without_leaf};
+ghost use Rattle.admission_session.specs.Leaves.{fallen_part, with_changed, with_leaf, without_leaf};
+ghost use Rattle.admission_session.specs.inner.Undone.{CanRise, moved_to, risen, risen_part, with_leaf_back, without_last};
 
 use crate::copies::fallen;
 use std::mem;

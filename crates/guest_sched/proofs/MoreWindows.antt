@@ -6,7 +6,8 @@ use Rattle.std.proofs.lemmas.List.Folds.{list_any_at, list_any-append}
 use Rattle.guest_sched.specs.Spans.{Window, is_within, is_given, window_at, AreWindows}
 use Rattle.guest_sched.proofs.Given.{all_given, inside, before_it}
 use Rattle.std.specs.List.{list_any}
-use Rattle.guest_sched.specs.MoreWindows.{EndsAt, AddsWindow}
+use Rattle.guest_sched.specs.MoreWindows.{AddsWindow}
+use Rattle.guest_sched.specs.inner.LastWindow.{EndsAt}
 
 abbrev nowhere : Window
 nowhere = record { from = 0; until = 0 }

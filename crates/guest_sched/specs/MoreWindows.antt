@@ -1,10 +1,6 @@
 -- Windows as they are made, one after the other.
-use Rattle.std.specs.Prelude.{◌≡◌, ℕ, ◌+◌, ◌<◌, ◌≤◌, true, List, length}
-use Rattle.guest_sched.specs.Spans.{Window, is_given, window_at, AreWindows}
-
--- the last window ends here
-abbrev pub EndsAt : List Window → ℕ → Type 0
-EndsAt windows x = (i : ℕ) × (i + 1 ≡ length windows) × ((window_at windows i).until ≡ x)
+use Rattle.std.specs.Prelude.{◌≡◌, ℕ, ◌<◌, ◌≤◌, true, List}
+use Rattle.guest_sched.specs.Spans.{Window, is_given, AreWindows}
 
 -- windows with the slots from `from` on below `until` too
 pub record AddsWindow (old : List Window) (from until : ℕ) (new : List Window) : Type 0 where

@@ -5,3 +5,5 @@ pub mod Releases
 pub mod Places
 pub mod Keep
 pub mod Ready
+pub mod LastWindow
+pub mod LastSpan

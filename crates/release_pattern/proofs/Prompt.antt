@@ -6,7 +6,8 @@ use Rattle.slot_model.specs.declared.job.Job.{Job}
 use Rattle.slot_model.specs.Task.{SporadicTask, AreConstrained, plain_job, task_at}
 use Rattle.slot_model.specs.Release.{LegalRelease, push_if, begins_now, staggered_at, staggered, start_at, synchronous}
 use Rattle.slot_model.proofs.Staggered.{staggered_at_zero, legal_staggered}
-use Rattle.release_pattern.specs.Multiples.{at_multiples, ArePrompt, prompt_task, prompt_tasks}
+use Rattle.release_pattern.specs.Multiples.{at_multiples, ArePrompt}
+use Rattle.release_pattern.specs.inner.Prompt.{prompt_task, prompt_tasks}
 use Rattle.release_pattern.proofs.FewJobs.{synchronous-few}
 
 -- where no task has jitter, both are one list

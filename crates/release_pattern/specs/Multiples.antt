@@ -1,7 +1,7 @@
 -- The jobs at each multiple of the periods.
-use Rattle.std.specs.Prelude.{◌≡◌, ℕ, ◌<◌, List, [], length, map}
+use Rattle.std.specs.Prelude.{◌≡◌, ℕ, ◌<◌, List, [], length}
 use Rattle.slot_model.specs.declared.job.Job.{Job}
-use Rattle.slot_model.specs.Task.{SporadicTask, plain_task, task_at}
+use Rattle.slot_model.specs.Task.{SporadicTask, task_at}
 use Rattle.slot_model.specs.Release.{staggered}
 
 -- each task a job of its whole work at every multiple of its period below n, released as it
@@ -12,10 +12,3 @@ at_multiples tasks n = staggered tasks [] n
 -- the tasks have no jitter
 abbrev pub ArePrompt : List SporadicTask → Type 0
 ArePrompt tasks = (i : ℕ) → i < length tasks → (task_at tasks i).jitter ≡ 0
-
--- a task of the same numbers without jitter
-abbrev pub prompt_task : SporadicTask → SporadicTask
-prompt_task task = plain_task task.period task.deadline task.work
-
-abbrev pub prompt_tasks : List SporadicTask → List SporadicTask
-prompt_tasks tasks = map prompt_task tasks

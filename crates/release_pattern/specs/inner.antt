@@ -1,2 +1,3 @@
 -- What only private functions promise each other.
 pub mod Due
+pub mod Prompt

@@ -1,7 +1,8 @@
 ghost use Rattle.std.specs.Prelude.{◌≡◌, ◌^◌, ◌<◌, length, IfOk};
 ghost use Rattle.slot_model.specs.Task.{sporadic_task, sporadic_tasks};
 ghost use Rattle.slot_model.specs.Release.{LegalRelease, synchronous};
-ghost use Rattle.release_pattern.specs.Multiples.{at_multiples, ArePrompt, prompt_task, prompt_tasks};
+ghost use Rattle.release_pattern.specs.Multiples.{at_multiples, ArePrompt};
+ghost use Rattle.release_pattern.specs.inner.Prompt.{prompt_task, prompt_tasks};
 
 use crate::synchronous_jobs;
 use slot_model::{Job, Task};

@@ -8,7 +8,7 @@ use Rattle.slot_model.specs.Miss.{HoldsReleased}
 use Rattle.slot_model.proofs.MissedJobs.{service-before_release}
 use Rattle.span_counts.specs.declared.pending.Wait.{Wait}
 use Rattle.span_counts.specs.Pending.{HasWorkFrom, WaitsTo}
-use Rattle.response_times.specs.Replay.{AnswersResponse}
+use Rattle.response_times.specs.inner.Answered.{AnswersResponse}
 
 -- a job has no work before its release, so it has all of it later
 pub ends_from : (jobs : List Job) (run : List (Option ℕ)) (j slots x : ℕ) (wait : Wait) → HoldsReleased jobs run

@@ -16,7 +16,8 @@ use Rattle.fp_test.specs.Hits.{IsLeastHit}
 use Rattle.fp_test.proofs.Answer.{answer_in_time, answer_late}
 use Rattle.guest_sched.specs.Spans.{slots_of, Window}
 use Rattle.guest_sched.proofs.Given.{slots-long}
-use Rattle.response_times.specs.Replay.{AnswersResponse, IsFirstJob, IsWorstRun, ShowsAnswer, ShowsResponse}
+use Rattle.response_times.specs.Replay.{IsFirstJob, IsWorstRun, ShowsAnswer, ShowsResponse}
+use Rattle.response_times.specs.inner.Answered.{AnswersResponse}
 use Rattle.response_times.specs.Response.{IsResponse}
 use Rattle.fp_request.proofs.Strict.{order_strict}
 use Rattle.response_times.proofs.Responses.{in_run, one_response, responds_from_start}

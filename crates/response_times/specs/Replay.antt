@@ -58,8 +58,3 @@ ShowsAnswer before tasks pattern start span i seen =
 -- what is seen at a place of a list of answers; past its end nothing
 abbrev pub seen_at : List (Option ℕ) → ℕ → Option ℕ
 seen_at seen i = slice_index_or seen i None
-
--- the response of job j in a run, or none where it lacks work at the end
-abbrev pub AnswersResponse : List Job → List (Option ℕ) → ℕ → Option ℕ → Type 0
-AnswersResponse jobs run j answer =
-    MatchOption answer (service run j (length run) < (job_at jobs j).work) (IsResponse jobs run j)

@@ -4,7 +4,8 @@ ghost use Rattle.slot_model.specs.Order.{before_of};
 ghost use Rattle.slot_model.specs.Miss.{HoldsReleased};
 ghost use Rattle.guest_sched.specs.Levels.{FirstRunOf};
 ghost use Rattle.span_counts.specs.Pending.{AreWaitsTo};
-ghost use Rattle.response_times.specs.Replay.{AnswersResponse, seen_at};
+ghost use Rattle.response_times.specs.Replay.{seen_at};
+ghost use Rattle.response_times.specs.inner.Answered.{AnswersResponse};
 
 use guest_sched::ReleasedLevel;
 use slot_model::{Job, Sched};

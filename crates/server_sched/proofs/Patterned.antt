@@ -13,7 +13,8 @@ use Rattle.guest_sched.specs.MoreWindows.{AddsWindow}
 use Rattle.guest_sched.proofs.Given.{slots-long}
 use Rattle.guest_sched.proofs.Spelled.{Spells, then_none, then_all}
 use Rattle.server_sched.specs.declared.supplies.Pattern.{Pattern}
-use Rattle.server_sched.specs.Patterns.{cyclic_slot, pattern_slot, pattern_slots, pattern_supplies}
+use Rattle.server_sched.specs.Patterns.{pattern_slot, pattern_slots, pattern_supplies}
+use Rattle.server_sched.specs.inner.Cyclic.{cyclic_slot}
 use Rattle.tree_spans.specs.TreeSpans.{given_at, supplies_of}
 
 -- the slots of period k, by their place in it

@@ -1,5 +1,5 @@
 -- The patterns of a core's supply: which slots it has, slot by slot.
-use Rattle.std.specs.Prelude.{ℕ, ◌+◌, ◌-◌, ◌%◌, ◌&&◌, nat_le, nat_lt, Bool, true, List, map, Option, Some, None}
+use Rattle.std.specs.Prelude.{ℕ, ◌-◌, ◌%◌, nat_le, nat_lt, Bool, true, List, map, Option, Some, None}
 use Rattle.std.specs.List.{range_with_len}
 use Rattle.slot_model.specs.Supply.{worst_slot}
 use Rattle.tree_model.specs.declared.pinned_core.Core.{Core}
@@ -13,11 +13,6 @@ early_slot period budget x = nat_lt (x % period) budget
 
 abbrev pub late_slot : ℕ → ℕ → ℕ → Bool
 late_slot period budget x = nat_le (period - budget) (x % period)
-
--- the budget from slot `first` of each period on
-abbrev pub cyclic_slot : ℕ → ℕ → ℕ → ℕ → Bool
-cyclic_slot period first budget x =
-    nat_le first (x % period) && nat_lt (x % period) (first + budget)
 
 -- whether slot x is given: of a full core every slot
 abbrev pub pattern_slot : Pattern → Option (ℕ × ℕ) → ℕ → Bool

@@ -2,3 +2,4 @@
 pub mod Kept
 pub mod SlotCounts
 pub mod Serving
+pub mod Cyclic

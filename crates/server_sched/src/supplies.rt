@@ -4,7 +4,8 @@ ghost use Rattle.guest_sched.specs.Spans.{AreWindows, slots_of};
 ghost use Rattle.tree_model.specs.System.{IsCoreSupply, core_at};
 ghost use Rattle.tree_model.specs.Tree.{CoreConforms};
 ghost use Rattle.tree_spans.specs.TreeSpans.{AreSupplies, supplies_of};
-ghost use Rattle.server_sched.specs.Patterns.{cyclic_slot, pattern_slot, pattern_supplies};
+ghost use Rattle.server_sched.specs.Patterns.{pattern_slot, pattern_supplies};
+ghost use Rattle.server_sched.specs.inner.Cyclic.{cyclic_slot};
 
 use guest_sched::{Window, add_window, pattern_windows};
 use std::alloc::{AllocError, Global};

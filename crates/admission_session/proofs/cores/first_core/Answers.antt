@@ -2,7 +2,7 @@ use Rattle.std.proofs.Common.{rules, ◌≡◌, ℕ, List, set, sym, subst}
 use Rattle.tree_model.specs.declared.place.Place.TheVariants.{Core, Part}
 use Rattle.compose_tree.specs.Steps.{RefusesAt}
 use Rattle.compose_tree.specs.Kept.{IsKept, IsSettledNode}
-use Rattle.admission_session.specs.Leaves.{moved_to}
+use Rattle.admission_session.specs.inner.Undone.{moved_to}
 use Rattle.admission_session.proofs.OnCores.{kept_on_core, refused_on_core, leaf_place}
 use Rattle.admission_session.proofs.cores.first_core.Goals as goal
 use Rattle.admission_session.proofs.cores.first_core.Goals.{After-deref}

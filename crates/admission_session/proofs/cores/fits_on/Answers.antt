@@ -3,7 +3,7 @@ use Rattle.tree_model.specs.declared.pinned_core.Core.{Core as CoreView}
 use Rattle.tree_model.specs.View.{SystemView}
 use Rattle.tree_model.specs.System.{core_at}
 use Rattle.tree_model.proofs.NodeTasks.{core_here}
-use Rattle.admission_session.specs.Leaves.{moved_to}
+use Rattle.admission_session.specs.inner.Undone.{moved_to}
 use Rattle.admission_session.proofs.OnCores.{moved_again}
 use Rattle.admission_session.proofs.PastAll.{past_all_refuses}
 use Rattle.admission_session.proofs.cores.fits_on.Goals as goal

@@ -1,6 +1,6 @@
 use Rattle.std.proofs.Common.{List, length, arith, ◌∙◌, ap}
 use Rattle.tree_model.specs.declared.pinned_core.Core.{Core as CoreView}
-use Rattle.admission_session.specs.Leaves.{moved_to}
+use Rattle.admission_session.specs.inner.Undone.{moved_to}
 use Rattle.admission_session.proofs.OnCores.{asked_with, refused_more, trial_plan, tried_budget, tried_share}
 use Rattle.admission_session.proofs.cores.seek_core.Goals as goal
 

@@ -1,5 +1,5 @@
 use Rattle.std.proofs.Common.{◌≡◌, ℕ, ◌<◌}
-use Rattle.admission_session.specs.Leaves.{moved_to}
+use Rattle.admission_session.specs.inner.Undone.{moved_to}
 use Rattle.admission_session.specs.Answers.{HasRefusal}
 use Rattle.admission_session.proofs.cores.seek_core.Given as goal
 

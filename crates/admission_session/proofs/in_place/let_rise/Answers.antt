@@ -1,7 +1,7 @@
 use Rattle.std.proofs.Common.{sym, ◌∙◌, set, ap}
 use Rattle.std.proofs.lemmas.List.Edits.{map_over_more}
 use Rattle.tree_model.specs.View.{PartView}
-use Rattle.admission_session.specs.Leaves.{risen_part}
+use Rattle.admission_session.specs.inner.Undone.{risen_part}
 use Rattle.admission_session.proofs.Undone.{risen_written}
 use Rattle.admission_session.proofs.in_place.let_rise.Goals as goal
 

@@ -1,6 +1,6 @@
 use Rattle.std.proofs.Common.{List, arith, subst}
 use Rattle.guest_sched.specs.Spans.{Window}
-use Rattle.guest_sched.specs.MoreWindows.{EndsAt}
+use Rattle.guest_sched.specs.inner.LastWindow.{EndsAt}
 use Rattle.guest_sched.proofs.MoreWindows.{longer_read}
 use Rattle.guest_sched.proofs.windows.add_window.Goals as goal
 

@@ -1,6 +1,6 @@
 use Rattle.std.proofs.Common.{◌≡◌, take}
 use Rattle.slot_model.specs.Task.{sporadic_tasks}
-use Rattle.release_pattern.specs.Multiples.{prompt_tasks}
+use Rattle.release_pattern.specs.inner.Prompt.{prompt_tasks}
 use Rattle.release_pattern.proofs.multiples.without_jitter.Given as goal
 
 -- the tasks so far

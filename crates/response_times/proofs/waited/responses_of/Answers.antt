@@ -1,7 +1,8 @@
 use Rattle.std.proofs.Common.{ℕ, ◌+◌, ◌<◌, List, length, Option, None, arith, ap, refl, sym, subst}
 use Rattle.std.proofs.lemmas.List.{length_push}
 use Rattle.slot_model.proofs.Places.{each_pushed}
-use Rattle.response_times.specs.Replay.{AnswersResponse, seen_at}
+use Rattle.response_times.specs.Replay.{seen_at}
+use Rattle.response_times.specs.inner.Answered.{AnswersResponse}
 use Rattle.span_counts.specs.Pending.{wait_at}
 use Rattle.response_times.proofs.Seen.{ends_from, wait_tells}
 use Rattle.response_times.proofs.waited.responses_of.Goals as goal

@@ -1,6 +1,7 @@
 use Rattle.std.proofs.Common.{◌≡◌, ℕ, ◌<◌, List, Option, length}
 use Rattle.span_counts.specs.Pending.{AreWaitsTo}
-use Rattle.response_times.specs.Replay.{AnswersResponse, seen_at}
+use Rattle.response_times.specs.Replay.{seen_at}
+use Rattle.response_times.specs.inner.Answered.{AnswersResponse}
 use Rattle.response_times.proofs.waited.responses_of.Given as goal
 
 -- an answer for each job so far

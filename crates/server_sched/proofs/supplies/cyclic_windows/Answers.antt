@@ -1,5 +1,5 @@
 use Rattle.std.proofs.Common.{arith}
-use Rattle.server_sched.specs.Patterns.{cyclic_slot}
+use Rattle.server_sched.specs.inner.Cyclic.{cyclic_slot}
 use Rattle.guest_sched.proofs.Spelled.{spelled_follows}
 use Rattle.server_sched.proofs.Patterned.{one_period_more, all_cyclic}
 use Rattle.server_sched.proofs.supplies.cyclic_windows.Goals as goal
