@@ -13,9 +13,8 @@ use Rattle.admission_session.specs.Answers.{IsAdmitted, IsAnswered}
 use Rattle.admission_session.specs.History.{AreAnswered}
 use Rattle.admission_session.proofs.History.{history_more, one_each}
 use Rattle.script_file.specs.declared.fault.ScriptFault.{ScriptFault}
-use Rattle.script_file.specs.Script.{edit_of, edits_of, script_rules, is_script_header}
-use Rattle.script_file.specs.Spelt.{IsSpelt}
-use Rattle.script_file.proofs.RowsTaking.{behind_header, edits_more, keeps}
+use Rattle.script_file.specs.Script.{edit_in, edit_of, edits_of, script_rules, is_script_header}
+use Rattle.script_file.proofs.RowsTaking.{behind_header, edit_is, edits_more, keeps}
 use Rattle.rt_report.specs.Session.{answer_line, answer_lines, plan_lines, IsToldAnswer}
 use Rattle.rt_report.proofs.AnswerLines.{lines_more}
 use Rattle.host_commands.specs.declared.editing.Editing.{Editing}
@@ -72,13 +71,13 @@ edited_more start before after rows row edit number h is n next =
 -- a row is answered
 pub took_edit : {A : Type 0} (start before after : Editing) (rows : List (List (List ℕ))) (row : List (List ℕ))
     (edit : Edit) (number : ℕ) (result : Result A ScriptFault) → HasEdited start before rows
-    → number ≡ length rows + 2 → IsSpelt row (Some edit)
+    → number ≡ length rows + 2 → Some edit ≡ edit_in row
     → OnOk result ((answer : Answer) × IsAnswered before.session edit answer after.session
     × (string_bytes after.text ≡ string_bytes before.text ++ answer_line (number - 1) answer))
     → OnOk result ((script_rules rows row ≡ None) × HasEdited start after (rows ++ row ∷ []))
 took_edit start before after rows row edit number (Ok done) has n spelt next = (
-  keeps rows row spelt.0,
-  edited_more start before after rows row edit (number - 1) has spelt.1 (omega (arith, n)) next,
+  keeps rows row edit spelt,
+  edited_more start before after rows row edit (number - 1) has (edit_is row edit spelt) (omega (arith, n)) next,
 )
 took_edit start before after rows row edit number (Err fault) has n spelt next = tt
 

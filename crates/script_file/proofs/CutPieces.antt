@@ -1,8 +1,8 @@
 -- The first piece of a text, and those behind it.
-use Rattle.std.proofs.Common.{◌≡◌, ◌≢◌, ℕ, zero, suc, ◌+◌, ◌-◌, ◌<◌, ◌≤◌, List, [], ◌∷◌, length, take, drop, get_or, refl, sym, ◌∙◌, ap, arith, add-one, Bool, true, false, cond, inl, inr}
+use Rattle.std.proofs.Common.{◌≡◌, ◌≢◌, ℕ, zero, suc, ◌+◌, ◌-◌, ◌<◌, ◌≤◌, List, [], ◌∷◌, ◌++◌, length, take, drop, get_or, refl, sym, ◌∙◌, ap, arith, add-one, Bool, true, false, cond, inl, inr}
 use Rattle.std.proofs.lemmas.Bool.{cases_eq, eq-eqb, ne_eqb}
 use Rattle.std.proofs.lemmas.List.{take_all, length-drop}
-use Rattle.script_file.specs.Pieces.{joined_by, pieces, put_front}
+use Rattle.script_file.specs.Pieces.{pieces, put_front}
 
 -- a first byte at which the text is not cut
 not_cut : (at b : ℕ) (text : List ℕ) → b ≢ at → pieces at (b ∷ text) ≡ put_front b (pieces at text)
@@ -53,7 +53,12 @@ cut_at at text i l e before =
     let h : length (drop (i + 1) text) ≡ length text - (i + 1) = length-drop (i + 1) text in
     omega (arith, h))))
 
--- the pieces with the byte between each two are the text again
+-- pieces with the byte between each two
+abbrev pub joined_by : ℕ → List (List ℕ) → List ℕ
+joined_by at [] = []
+joined_by at (last ∷ []) = last
+joined_by at (piece ∷ later) = piece ++ at ∷ joined_by at later
+
 joined_put : (at b : ℕ) (ps : List (List ℕ)) → 1 ≤ length ps → joined_by at (put_front b ps) ≡ b ∷ joined_by at ps
 joined_put at b [] l = absurd (omega (arith, l))
 joined_put at b (p ∷ []) l = refl
@@ -63,6 +68,7 @@ joined_empty : (at : ℕ) (ps : List (List ℕ)) → 1 ≤ length ps → joined_
 joined_empty at [] l = absurd (omega (arith, l))
 joined_empty at (p ∷ ps) l = refl
 
+-- those of a text are the text again
 pub pieces_joined : (at : ℕ) (text : List ℕ) → joined_by at (pieces at text) ≡ text
 pieces_joined at [] = refl
 pieces_joined at (b ∷ bytes) = elim (cases_eq b at) [

@@ -4,3 +4,4 @@ pub mod OneScript
 mod GuestsAdded
 pub mod OneGuests
 mod ScriptExamples
+mod AllThere

@@ -1,5 +1,6 @@
 -- Rows of scripts, on which the rules are computed.
 use Rattle.std.proofs.Common.{◌≡◌, ℕ, List, Option, Some, None, true, false, [], ◌∷◌, codes, refl}
+use Rattle.std.specs.Prelude.{is_some}
 use Rattle.slot_model.specs.declared.sched.Sched.TheVariants.{Edf, Listed}
 use Rattle.slot_model.specs.Task.{jittery_task}
 use Rattle.tree_model.specs.declared.place.Parent.TheVariants.{Core}
@@ -8,7 +9,7 @@ use Rattle.admission_session.specs.declared.edit.Edit.TheVariants.{Add, Remove, 
 use Rattle.admission_session.specs.LeafView.{LeafView}
 use Rattle.script_file.specs.declared.fault.ScriptFault.TheVariants.{BadHeader}
 use Rattle.script_file.specs.Pieces.{pieces}
-use Rattle.script_file.specs.Script.{edit_of, is_script_header, is_task, is_row, are_tasks, script_rows, task_of, IsScriptFault}
+use Rattle.script_file.specs.Script.{edit_of, is_script_header, is_row, script_rows, task_in, tasks_in, IsScriptFault}
 use Rattle.script_file.specs.Guests.{guest_of, is_guest}
 
 cut_at_each_place : pieces 59 (codes ";a;;bc;") ≡ [] ∷ codes "a" ∷ [] ∷ codes "bc" ∷ [] ∷ []
@@ -17,19 +18,19 @@ cut_at_each_place = refl
 an_empty_text_is_one_piece : pieces 59 [] ≡ [] ∷ []
 an_empty_text_is_one_piece = refl
 
-a_task : is_task (codes "t:100:90:5:11") ≡ true
+a_task : is_some (task_in (codes "t:100:90:5:11")) ≡ true
 a_task = refl
 
-four_numbers_make_a_task : is_task (codes "t:100:100:11") ≡ false
+four_numbers_make_a_task : task_in (codes "t:100:100:11") ≡ None
 four_numbers_make_a_task = refl
 
-jitter_and_work_past_the_deadline : is_task (codes "t:100:90:80:11") ≡ false
+jitter_and_work_past_the_deadline : task_in (codes "t:100:90:80:11") ≡ None
 jitter_and_work_past_the_deadline = refl
 
-an_empty_list_has_no_tasks : are_tasks [] ≡ true
+an_empty_list_has_no_tasks : tasks_in [] ≡ Some []
 an_empty_list_has_no_tasks = refl
 
-a_semicolon_at_the_end : are_tasks (codes "t:10:10:0:1;") ≡ false
+a_semicolon_at_the_end : tasks_in (codes "t:10:10:0:1;") ≡ None
 a_semicolon_at_the_end = refl
 
 a_removal : is_row (codes "remove" ∷ codes "B" ∷ [] ∷ [] ∷ [] ∷ [] ∷ [] ∷ []) ≡ true
@@ -56,32 +57,33 @@ six_fields : is_row (codes "remove" ∷ codes "B" ∷ [] ∷ [] ∷ [] ∷ [] �
 six_fields = refl
 
 -- the numbers of a task stand as period, deadline, jitter and work
-a_task_that_is_spelled : task_of (codes "t:100:90:5:11") ≡ record { name = codes "t"; task = jittery_task 100 90 11 5 }
+a_task_that_is_spelled : task_in (codes "t:100:90:5:11")
+    ≡ Some (record { name = codes "t"; task = jittery_task 100 90 11 5 })
 a_task_that_is_spelled = refl
 
 -- all that its deadline leaves past its jitter, a deadline of its period, and the longest period
-the_most_work : is_task (codes "t:100:90:79:11") ≡ true
+the_most_work : is_some (task_in (codes "t:100:90:79:11")) ≡ true
 the_most_work = refl
 
-one_slot_of_work_too_many : is_task (codes "t:100:90:79:12") ≡ false
+one_slot_of_work_too_many : task_in (codes "t:100:90:79:12") ≡ None
 one_slot_of_work_too_many = refl
 
-no_work : is_task (codes "t:100:90:5:0") ≡ false
+no_work : task_in (codes "t:100:90:5:0") ≡ None
 no_work = refl
 
-a_deadline_at_the_period : is_task (codes "t:100:100:0:1") ≡ true
+a_deadline_at_the_period : is_some (task_in (codes "t:100:100:0:1")) ≡ true
 a_deadline_at_the_period = refl
 
-a_deadline_past_the_period : is_task (codes "t:100:101:0:1") ≡ false
+a_deadline_past_the_period : task_in (codes "t:100:101:0:1") ≡ None
 a_deadline_past_the_period = refl
 
-the_longest_period : is_task (codes "t:1000000000:1:0:1") ≡ true
+the_longest_period : is_some (task_in (codes "t:1000000000:1:0:1")) ≡ true
 the_longest_period = refl
 
-one_slot_longer : is_task (codes "t:1000000001:1:0:1") ≡ false
+one_slot_longer : task_in (codes "t:1000000001:1:0:1") ≡ None
 one_slot_longer = refl
 
-a_task_without_a_name : is_task (codes ":100:90:5:11") ≡ false
+a_task_without_a_name : task_in (codes ":100:90:5:11") ≡ None
 a_task_without_a_name = refl
 
 -- what rows spell: an addition on a parent and on none, a change, which has no parent, and a

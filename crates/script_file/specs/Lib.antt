@@ -1,5 +1,4 @@
 pub mod Pieces
 pub mod Script
-pub mod Spelt
 pub mod Guests
 pub mod inner

@@ -1,5 +1,5 @@
 -- A text that is cut at each place of a byte.
-use Rattle.std.specs.Prelude.{ℕ, ◌==◌, if◌then◌else◌, List, [], ◌∷◌, ◌++◌}
+use Rattle.std.specs.Prelude.{ℕ, ◌==◌, if◌then◌else◌, List, [], ◌∷◌}
 
 -- a byte more in front of the first piece
 abbrev pub put_front : ℕ → List (List ℕ) → List (List ℕ)
@@ -10,9 +10,3 @@ put_front b (piece ∷ later) = (b ∷ piece) ∷ later
 abbrev pub pieces : ℕ → List ℕ → List (List ℕ)
 pieces at [] = [] ∷ []
 pieces at (b ∷ bytes) = if b == at then [] ∷ pieces at bytes else put_front b (pieces at bytes)
-
--- pieces with the byte between each two
-abbrev pub joined_by : ℕ → List (List ℕ) → List ℕ
-joined_by at [] = []
-joined_by at (last ∷ []) = last
-joined_by at (piece ∷ later) = piece ++ at ∷ joined_by at later

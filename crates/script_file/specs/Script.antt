@@ -1,9 +1,8 @@
 -- The edits that the records of a script spell. A record is a list of fields, and a field
 -- a list of bytes.
-use Rattle.std.specs.Prelude.{◌≡◌, ℕ, ◌+◌, Bool, true, false, not, ◌&&◌, ◌||◌, nat_le, nat_lt, if◌then◌else◌, List, [], ◌∷◌, length, map, Option, Some, None, is_some, unwrap_or, codes, bytes_eq}
-use Rattle.std.specs.List.{list_all}
+use Rattle.std.specs.Prelude.{◌≡◌, ℕ, ◌+◌, Bool, true, false, not, ◌&&◌, nat_le, nat_lt, if◌then◌else◌, List, [], ◌∷◌, length, map, Option, Some, None, is_some, unwrap_or, option_map, codes, bytes_eq}
+use Rattle.std.specs.Option.{option_zip}
 use Rattle.slot_model.specs.declared.sched.Sched.{Sched}
-use Rattle.slot_model.specs.declared.sched.Sched.TheVariants.{Edf}
 use Rattle.slot_model.specs.declared.task.TheConstants.{LIMIT}
 use Rattle.slot_model.specs.Name.{is_name}
 use Rattle.slot_model.specs.Task.{SporadicTask, jittery_task}
@@ -26,9 +25,18 @@ abbrev pub is_empty : List ℕ → Bool
 is_empty [] = true
 is_empty (b ∷ bytes) = false
 
--- a plain decimal number of 64 bits
-abbrev pub is_number : List ℕ → Bool
-is_number field = is_plain field && nat_lt (number field) 18446744073709551616
+-- what a field may say, and leaves open where it is empty
+abbrev pub optional : {A : Type 0} → (List ℕ → Option A) → List ℕ → Option (Option A)
+optional reads field = if is_empty field then Some None else option_map Some (reads field)
+
+-- a name, and a plain decimal number of 64 bits
+abbrev pub name_in : List ℕ → Option (List ℕ)
+name_in field = if is_name field then Some field else None
+
+abbrev pub number_in : List ℕ → Option ℕ
+number_in field =
+    if is_plain field && nat_lt (number field) 18446744073709551616 then Some (number field)
+    else None
 
 -- numbers that make a task
 abbrev pub is_sound : SporadicTask → Bool
@@ -36,40 +44,41 @@ is_sound task =
     nat_le 1 task.work && nat_le (task.work + task.jitter) task.deadline
     && nat_le task.deadline task.period && nat_le task.period LIMIT
 
--- a task is spelled NAME:PERIOD:DEADLINE:JITTER:WORK
-abbrev pub numbers_of : List (List ℕ) → SporadicTask
-numbers_of (name ∷ period ∷ deadline ∷ jitter ∷ work ∷ []) =
-    jittery_task (number period) (number deadline) (number work) (number jitter)
-numbers_of _ = jittery_task 0 0 0 0
+abbrev pub sound_task : SporadicTask → Option SporadicTask
+sound_task task = if is_sound task then Some task else None
 
-abbrev pub are_task_numbers : List (List ℕ) → Bool
-are_task_numbers (name ∷ period ∷ deadline ∷ jitter ∷ work ∷ []) =
-    is_number period && is_number deadline && is_number jitter && is_number work
-    && is_sound (numbers_of (name ∷ period ∷ deadline ∷ jitter ∷ work ∷ []))
-are_task_numbers _ = false
+-- the task of a period, a deadline, jitter and work, where all are there and make one
+abbrev pub task_of : Option ℕ → Option ℕ → Option ℕ → Option ℕ → Option SporadicTask
+task_of (Some period) (Some deadline) (Some jitter) (Some work) =
+    sound_task (jittery_task period deadline work jitter)
+task_of _ _ _ _ = None
+
+abbrev pub named_task : Option SporadicTask → Option (List ℕ) → Option NamedTask
+named_task (Some task) (Some name) = Some (record { name = name; task = task })
+named_task _ _ = None
+
+-- a task is spelled NAME:PERIOD:DEADLINE:JITTER:WORK
+abbrev pub numbers_in : List (List ℕ) → Option SporadicTask
+numbers_in (name ∷ period ∷ deadline ∷ jitter ∷ work ∷ []) =
+    task_of (number_in period) (number_in deadline) (number_in jitter) (number_in work)
+numbers_in _ = None
 
 abbrev pub first_field : List (List ℕ) → List ℕ
 first_field [] = []
 first_field (field ∷ later) = field
 
-abbrev pub is_task : List ℕ → Bool
-is_task text =
-    are_task_numbers (pieces 58 text) && is_name (first_field (pieces 58 text))
-
-abbrev pub task_of : List ℕ → NamedTask
-task_of text =
-    record { name = first_field (pieces 58 text); task = numbers_of (pieces 58 text) }
+abbrev pub task_in : List ℕ → Option NamedTask
+task_in text = named_task (numbers_in (pieces 58 text)) (name_in (first_field (pieces 58 text)))
 
 -- tasks are joined by semicolons, and an empty list has none
-abbrev pub list_of : List ℕ → List (List ℕ)
-list_of [] = []
-list_of (b ∷ bytes) = pieces 59 (b ∷ bytes)
+abbrev pub all_there : {A : Type 0} → List (Option A) → Option (List A)
+all_there [] = Some []
+all_there (None ∷ later) = None
+all_there (Some x ∷ later) = option_map (λ xs. x ∷ xs) (all_there later)
 
-abbrev pub are_tasks : List ℕ → Bool
-are_tasks field = list_all is_task (list_of field)
-
-abbrev pub tasks_of : List ℕ → List NamedTask
-tasks_of field = map task_of (list_of field)
+abbrev pub tasks_in : List ℕ → Option (List NamedTask)
+tasks_in [] = Some []
+tasks_in (b ∷ bytes) = all_there (map task_in (pieces 59 (b ∷ bytes)))
 
 -- the three words
 abbrev pub op_named : List ℕ → Option Op
@@ -79,73 +88,55 @@ op_named word =
     else if bytes_eq word (codes "change") then Some Changes
     else None
 
--- a scheduler as a system file names it, a period, and a budget that may be left to be computed
-abbrev pub is_served : List ℕ → List ℕ → List ℕ → Bool
-is_served sched period budget =
-    is_some (sched_named sched) && is_number period && (is_empty budget || is_number budget)
+-- a leaf: a scheduler as a system file names it, a period, a budget that may be left to be
+-- computed, tasks and a name
+abbrev pub leaf_of
+    : Option (Sched × (ℕ × Option ℕ)) → Option (List NamedTask) → Option (List ℕ)
+    → Option LeafView
+leaf_of (Some (sched, (period, budget))) (Some tasks) (Some name) =
+    Some (record { name = name; sched = sched; period = period; budget = budget; tasks = tasks })
+leaf_of _ _ _ = None
 
-abbrev pub sched_of : List ℕ → Sched
-sched_of field = unwrap_or (sched_named field) Edf
+abbrev pub served_in : List ℕ → List ℕ → List ℕ → Option (Sched × (ℕ × Option ℕ))
+served_in sched period budget =
+    option_zip (sched_named sched) (option_zip (number_in period) (optional number_in budget))
 
-abbrev pub budget_of : List ℕ → Option ℕ
-budget_of [] = None
-budget_of (b ∷ bytes) = Some (number (b ∷ bytes))
-
--- the fields of a leaf: its name, how it is served, and its tasks
-abbrev pub is_leaf : List ℕ → List ℕ → List ℕ → List ℕ → List ℕ → Bool
-is_leaf part sched period budget tasks =
-    is_served sched period budget && are_tasks tasks && is_name part
-
-abbrev pub leaf_of : List ℕ → List ℕ → List ℕ → List ℕ → List ℕ → LeafView
-leaf_of part sched period budget tasks =
-    record {
-      name = part;
-      sched = sched_of sched;
-      period = number period;
-      budget = budget_of budget;
-      tasks = tasks_of tasks;
-    }
+abbrev pub leaf_in : List ℕ → List ℕ → List ℕ → List ℕ → List ℕ → Option LeafView
+leaf_in part sched period budget tasks =
+    leaf_of (served_in sched period budget) (tasks_in tasks) (name_in part)
 
 abbrev pub is_bare : List ℕ → List ℕ → List ℕ → List ℕ → List ℕ → Bool
 is_bare parent sched period budget tasks =
     is_empty parent && is_empty sched && is_empty period && is_empty budget && is_empty tasks
 
--- what may be filled beside the operation: of an addition all but parent, budget and tasks has to
--- be, of a change the parent may not be, and of a removal the part is all
-abbrev pub is_row_of
-    : Option Op → List ℕ → List ℕ → List ℕ → List ℕ → List ℕ → List ℕ → Bool
-is_row_of None part parent sched period budget tasks = false
-is_row_of (Some Adds) part parent sched period budget tasks =
-    (is_empty parent || is_name parent) && is_leaf part sched period budget tasks
-is_row_of (Some Removes) part parent sched period budget tasks =
-    is_bare parent sched period budget tasks && is_name part
-is_row_of (Some Changes) part parent sched period budget tasks =
-    is_empty parent && is_leaf part sched period budget tasks
+abbrev pub addition : Option (Option (List ℕ)) → Option LeafView → Option Edit
+addition (Some parent) (Some leaf) = Some (Add leaf parent)
+addition _ _ = None
 
-abbrev pub parent_of : List ℕ → Option (List ℕ)
-parent_of [] = None
-parent_of (b ∷ bytes) = Some (b ∷ bytes)
-
+-- what the fields beside the operation spell: of an addition all but parent, budget and tasks has
+-- to be filled, of a change the parent may not be, and of a removal the part is all
 abbrev pub edit_of_op
-    : Option Op → List ℕ → List ℕ → List ℕ → List ℕ → List ℕ → List ℕ → Edit
-edit_of_op None part parent sched period budget tasks = Remove part
+    : Option Op → List ℕ → List ℕ → List ℕ → List ℕ → List ℕ → List ℕ → Option Edit
+edit_of_op None part parent sched period budget tasks = None
 edit_of_op (Some Adds) part parent sched period budget tasks =
-    Add (leaf_of part sched period budget tasks) (parent_of parent)
-edit_of_op (Some Removes) part parent sched period budget tasks = Remove part
+    addition (optional name_in parent) (leaf_in part sched period budget tasks)
+edit_of_op (Some Removes) part parent sched period budget tasks =
+    if is_bare parent sched period budget tasks then option_map Remove (name_in part) else None
 edit_of_op (Some Changes) part parent sched period budget tasks =
-    Change (leaf_of part sched period budget tasks)
+    if is_empty parent then option_map Change (leaf_in part sched period budget tasks) else None
 
--- a row has seven fields
-abbrev pub is_row : List (List ℕ) → Bool
-is_row (op ∷ part ∷ parent ∷ sched ∷ period ∷ budget ∷ tasks ∷ []) =
-    is_row_of (op_named op) part parent sched period budget tasks
-is_row _ = false
-
--- what such a row spells
-abbrev pub edit_of : List (List ℕ) → Edit
-edit_of (op ∷ part ∷ parent ∷ sched ∷ period ∷ budget ∷ tasks ∷ []) =
+-- the edit that a record spells, which has seven fields
+abbrev pub edit_in : List (List ℕ) → Option Edit
+edit_in (op ∷ part ∷ parent ∷ sched ∷ period ∷ budget ∷ tasks ∷ []) =
     edit_of_op (op_named op) part parent sched period budget tasks
-edit_of _ = Remove []
+edit_in _ = None
+
+-- a row spells one
+abbrev pub is_row : List (List ℕ) → Bool
+is_row fields = is_some (edit_in fields)
+
+abbrev pub edit_of : List (List ℕ) → Edit
+edit_of fields = unwrap_or (edit_in fields) (Remove [])
 
 abbrev pub edits_of : List (List (List ℕ)) → List Edit
 edits_of rows = map edit_of rows

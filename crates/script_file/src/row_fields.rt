@@ -1,7 +1,7 @@
 ghost use Rattle.std.specs.Prelude.{◌≡◌, ◌≢◌, length, MatchOption};
 ghost use Rattle.csv_rows.specs.Row.{fields_of};
 ghost use Rattle.script_file.specs.Script.{is_script_header};
-ghost use Rattle.script_file.specs.Spelt.{row_fields};
+ghost use Rattle.script_file.specs.inner.Fields.{row_fields};
 
 use csv_rows::{Row, field, is_word};
 

@@ -1,10 +1,8 @@
-ghost use Rattle.std.specs.Prelude.{◌≡◌, true, false, Some, IfOk, MatchOption};
+ghost use Rattle.std.specs.Prelude.{◌≡◌, Some, option_map, IfOk};
 ghost use Rattle.csv_rows.specs.Row.{fields_of};
-ghost use Rattle.csv_rows.specs.Decimal.{number};
 ghost use Rattle.system_file.specs.Document.{sched_named};
-ghost use Rattle.script_file.specs.Script.{budget_of, is_bare, is_leaf, is_served, leaf_of, op_named, sched_of};
-ghost use Rattle.script_file.specs.Spelt.{IsSpelt, row_fields};
-ghost use Rattle.admission_session.specs.declared.edit.Edit.TheVariants.{Add};
+ghost use Rattle.script_file.specs.Script.{addition, edit_in, is_bare, leaf_in, op_named, served_in};
+ghost use Rattle.script_file.specs.inner.Fields.{row_fields};
 
 use crate::numbers::number;
 use crate::row_fields::{RowFields, seven_fields};
@@ -59,11 +57,8 @@ struct Served {
 
 /// What the fields of a row say of how a leaf is served, where they say it.
 fn spell_served(f: &RowFields) -> Option<Served>
-    ensures { let g = f.now in MatchOption result
-        (is_served g.sched.now g.period.now g.budget.now ≡ false)
-        (λ s. (is_served g.sched.now g.period.now g.budget.now ≡ true)
-        × (s.sched ≡ sched_of g.sched.now) × (s.period ≡ number g.period.now)
-        × (s.budget ≡ budget_of g.budget.now)) }
+    ensures { option_map (λ s. (s.sched, (s.period, s.budget))) result
+        ≡ served_in f.now.sched.now f.now.period.now f.now.budget.now }
 {
     let sched = sched_named(f.sched)?;
     let period = number(f.period)?;
@@ -84,10 +79,8 @@ fn spell_served(f: &RowFields) -> Option<Served>
 
 /// The leaf that the fields of a row spell, where they spell one.
 fn spell_leaf(alloc: Global, f: &RowFields) -> Result<Option<Leaf>, AllocError>
-    ensures { let g = f.now in IfOk result (λ made. MatchOption made
-        (is_leaf g.part.now g.sched.now g.period.now g.budget.now g.tasks.now ≡ false)
-        (λ leaf. (is_leaf g.part.now g.sched.now g.period.now g.budget.now g.tasks.now ≡ true)
-        × (leaf ≡ leaf_of g.part.now g.sched.now g.period.now g.budget.now g.tasks.now))) }
+    ensures { let g = f.now in IfOk result (λ made.
+        made ≡ leaf_in g.part.now g.sched.now g.period.now g.budget.now g.tasks.now) }
 {
     let Some(served) = spell_served(f) else {
         return Ok(None);
@@ -113,11 +106,8 @@ fn spell_added(
     f: &RowFields,
     parent: Option<Name>,
 ) -> Result<Option<Edit>, AllocError>
-    ensures { let g = f.now in IfOk result (λ made. MatchOption made
-        (is_leaf g.part.now g.sched.now g.period.now g.budget.now g.tasks.now ≡ false)
-        (λ edit. (is_leaf g.part.now g.sched.now g.period.now g.budget.now g.tasks.now ≡ true)
-        × (edit ≡ Add
-        (leaf_of g.part.now g.sched.now g.period.now g.budget.now g.tasks.now) parent))) }
+    ensures { let g = f.now in IfOk result (λ made. made ≡ addition (Some parent)
+        (leaf_in g.part.now g.sched.now g.period.now g.budget.now g.tasks.now)) }
 {
     match spell_leaf(alloc, f)? {
         None => Ok(None),
@@ -127,7 +117,7 @@ fn spell_added(
 
 fn spell_addition(alloc: Global, f: &RowFields) -> Result<Option<Edit>, AllocError>
     requires { op_named f.now.op.now ≡ Some Op.Add }
-    ensures { IfOk result (IsSpelt (row_fields f.now)) }
+    ensures { IfOk result (λ made. made ≡ edit_in (row_fields f.now)) }
 {
     if f.parent.is_empty() {
         return spell_added(alloc, f, None);
@@ -140,7 +130,7 @@ fn spell_addition(alloc: Global, f: &RowFields) -> Result<Option<Edit>, AllocErr
 
 fn spell_change(alloc: Global, f: &RowFields) -> Result<Option<Edit>, AllocError>
     requires { op_named f.now.op.now ≡ Some Op.Change }
-    ensures { IfOk result (IsSpelt (row_fields f.now)) }
+    ensures { IfOk result (λ made. made ≡ edit_in (row_fields f.now)) }
 {
     if !f.parent.is_empty() {
         return Ok(None);
@@ -165,7 +155,7 @@ fn is_bare(f: &RowFields) -> bool
 
 fn spell_removal(alloc: Global, f: &RowFields) -> Result<Option<Edit>, AllocError>
     requires { op_named f.now.op.now ≡ Some Op.Remove }
-    ensures { IfOk result (IsSpelt (row_fields f.now)) }
+    ensures { IfOk result (λ made. made ≡ edit_in (row_fields f.now)) }
 {
     if !is_bare(f) {
         return Ok(None);
@@ -178,7 +168,7 @@ fn spell_removal(alloc: Global, f: &RowFields) -> Result<Option<Edit>, AllocErro
 
 /// The edit that seven fields spell, where they spell one.
 fn spell_fields(alloc: Global, f: &RowFields) -> Result<Option<Edit>, AllocError>
-    ensures { IfOk result (IsSpelt (row_fields f.now)) }
+    ensures { IfOk result (λ made. made ≡ edit_in (row_fields f.now)) }
 {
     match op_named(f.op) {
         None => Ok(None),
@@ -190,7 +180,7 @@ fn spell_fields(alloc: Global, f: &RowFields) -> Result<Option<Edit>, AllocError
 
 /// The edit that a record spells, where it spells one.
 pub fn spell_edit(alloc: Global, row: &Row) -> Result<Option<Edit>, AllocError>
-    ensures { IfOk result (IsSpelt (fields_of row.now)) }
+    ensures { IfOk result (λ made. made ≡ edit_in (fields_of row.now)) }
 {
     match seven_fields(row) {
         None => Ok(None),

@@ -1,9 +1,8 @@
-ghost use Rattle.std.specs.Prelude.{◌≡◌, ◌≢◌, ◌≤◌, ◌∷◌, [], true, false, length, map, IfOk, MatchOption};
-ghost use Rattle.std.specs.List.{list_all};
+ghost use Rattle.std.specs.Prelude.{◌≡◌, ◌≢◌, ◌≤◌, ◌∷◌, [], length, map, option_map, IfOk, MatchOption};
 ghost use Rattle.slot_model.specs.Task.{sporadic_task};
 ghost use Rattle.script_file.specs.Pieces.{pieces};
-ghost use Rattle.script_file.specs.Script.{are_task_numbers, are_tasks, is_task, numbers_of, task_of, tasks_of};
-ghost use Rattle.script_file.specs.Spelt.{task_fields};
+ghost use Rattle.script_file.specs.Script.{all_there, numbers_in, task_in, tasks_in};
+ghost use Rattle.script_file.specs.inner.Fields.{task_fields};
 
 use crate::cutting::cut;
 use crate::numbers::number;
@@ -68,10 +67,7 @@ fn five_fields(text: &[u8]) -> Option<TaskFields<'_>>
 
 /// The task of four numbers, where they make one.
 fn spell_numbers(f: &TaskFields) -> Option<Task>
-    ensures { MatchOption result
-        (are_task_numbers (task_fields f.now) ≡ false)
-        (λ task. (are_task_numbers (task_fields f.now) ≡ true)
-        × (sporadic_task task ≡ numbers_of (task_fields f.now))) }
+    ensures { option_map sporadic_task result ≡ numbers_in (task_fields f.now) }
 {
     let period = number(f.period)?;
     let deadline = number(f.deadline)?;
@@ -82,9 +78,7 @@ fn spell_numbers(f: &TaskFields) -> Option<Task>
 
 /// The task that a text spells, where it spells one.
 fn spell_task(alloc: Global, text: &[u8]) -> Result<Option<Named>, AllocError>
-    ensures { IfOk result (λ made. MatchOption made
-        (is_task text.now ≡ false)
-        (λ named. (is_task text.now ≡ true) × (named ≡ task_of text.now))) }
+    ensures { IfOk result (λ made. made ≡ task_in text.now) }
 {
     let Some(fields) = five_fields(text) else {
         return Ok(None);
@@ -99,11 +93,10 @@ fn spell_task(alloc: Global, text: &[u8]) -> Result<Option<Named>, AllocError>
 }
 
 /// The tasks of a list that is not empty, where each spells one.
+#[tactic(auto, using(crate::proofs::AllThere::none_yet))]
 fn spell_some(alloc: Global, list: &[u8]) -> Result<Option<Vec<Named>>, AllocError>
-    ensures { IfOk result (λ made. MatchOption made
-        (list_all is_task (pieces 59 list.now) ≡ false)
-        (λ tasks. (list_all is_task (pieces 59 list.now) ≡ true)
-        × (tasks.items ≡ map task_of (pieces 59 list.now)))) }
+    ensures { IfOk result (λ made. option_map (λ tasks. tasks.items) made
+        ≡ all_there (map task_in (pieces 59 list.now))) }
 {
     let mut tasks = Vec::new(alloc);
     let mut left = list;
@@ -122,9 +115,7 @@ fn spell_some(alloc: Global, list: &[u8]) -> Result<Option<Vec<Named>>, AllocErr
 
 /// The tasks of a list, where each spells one. An empty one has none.
 pub fn spell_tasks(alloc: Global, list: &[u8]) -> Result<Option<Vec<Named>>, AllocError>
-    ensures { IfOk result (λ made. MatchOption made
-        (are_tasks list.now ≡ false)
-        (λ tasks. (are_tasks list.now ≡ true) × (tasks.items ≡ tasks_of list.now))) }
+    ensures { IfOk result (λ made. option_map (λ tasks. tasks.items) made ≡ tasks_in list.now) }
 {
     if list.is_empty() {
         return Ok(Some(Vec::new(alloc)));
