@@ -4,7 +4,7 @@ ghost use Rattle.slot_model.specs.Release.{LegalRelease};
 ghost use Rattle.slot_model.specs.Run.{server, FirstRun, PermittedRun};
 ghost use Rattle.release_pattern.specs.Multiples.{at_multiples};
 
-use guest_sched::{Keep, ReleasedLevel, run_spans, windows_of, written};
+use guest_sched::{Keep, run_slots};
 use release_pattern::jobs_at_multiples;
 use slot_model::{Job, Order, Task};
 use std::alloc::{AllocError, Global};
@@ -41,14 +41,5 @@ pub fn run_servers<O: Order>(
         IfOk result (λ run. (other : List (Option ℕ)) →
         FirstRun server goes T jobs.now given.now other → other ≡ run.items) }
 {
-    let windows = windows_of(alloc, given)?;
-    let level = ReleasedLevel {
-        keep: Keep::UntilDeadline,
-        tasks,
-        jobs,
-        given: &windows,
-        slots: given.len() as u64,
-    };
-    let spans = run_spans(alloc, &level, order)?;
-    written(alloc, &spans)
+    run_slots(alloc, Keep::UntilDeadline, tasks, jobs, order, given)
 }
