@@ -237,10 +237,8 @@ not_refused sys is edit makes fault answer now told e =
     = subst (λ (a : Answer). IsAnswered sys edit a now) e told in
     no_first sys edit (faults_of edit) fault (no_fault sys is edit makes.0 makes.1 makes.2) refused.1
 
--- of the same edit, said in two ways
-pub never_refused : {X : Type 0} (sys : SystemView) → IsSystem sys → (edit same : Edit) → edit ≡ same
-    → (given : Result Answer X) (left : SystemView) → IfOk given (λ a. IsAnswered sys same a left)
-    → (fault : EditFault) → MakesSystem sys edit → IfOk given (λ a. a ≢ Refused fault)
-never_refused sys is edit same e given left h fault makes =
-    IfOk-weaker given _ _
-    (λ a told. not_refused sys is same (subst (MakesSystem sys) e makes) fault a left told) h
+pub never_refused : {X : Type 0} (sys : SystemView) → IsSystem sys → (edit : Edit) (given : Result Answer X)
+    (left : SystemView) → IfOk given (λ a. IsAnswered sys edit a left) → (fault : EditFault) → MakesSystem sys edit
+    → IfOk given (λ a. a ≢ Refused fault)
+never_refused sys is edit given left h fault makes =
+    IfOk-weaker given _ _ (λ a told. not_refused sys is edit makes fault a left told) h
