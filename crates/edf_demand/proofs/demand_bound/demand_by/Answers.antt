@@ -11,32 +11,27 @@ use Rattle.edf_demand.specs.Terms.{IsGathered}
 use Rattle.edf_demand.proofs.Demands.{dbf_small, dbf_split}
 use Rattle.edf_demand.proofs.demand_bound.demand_by.Goals as goal
 
--- for each task a window asks for no more slots than it has
-at_most : (gathered : Gathered) (terms : List Term) (tasks : List Task) (t : ℕ) → IsGathered gathered terms tasks
-    → asked_by (take gathered.terms terms) t ≤ gathered.tasks * t
-at_most gathered terms tasks t g =
+-- for each task a window asks for no more slots than a window has that is as long at the least
+at_most : (gathered : Gathered) (terms : List Term) (tasks : List Task) (t most : ℕ) → t ≤ most
+    → IsGathered gathered terms tasks → asked_by (take gathered.terms terms) t ≤ gathered.tasks * most
+at_most gathered terms tasks t most within g =
     omega (
       arith,
       g.same t,
       dbf_small (take gathered.tasks tasks) t,
       ap (λ (n : ℕ). n * t) (length-take-le gathered.tasks tasks g.in_tasks),
+      mul-le-mul_left gathered.tasks within,
     )
 
 pub asked-first-requires-clause-near_fits : goal.asked-first-requires-clause-near_fits
 asked-first-requires-clause-near_fits c l =
-    omega (
-      arith,
-      at_most c.args.gathered c.args.terms.now c.args.tasks.now c.args.t c.requires,
-      mul-le-mul_left c.args.gathered.tasks l,
-      c.requires.fits,
-    )
+    omega (arith, at_most c.args.gathered c.args.terms.now c.args.tasks.now c.args.t _ l c.requires, c.requires.fits)
 
 pub asked-first-requires-clause-fits : goal.asked-first-requires-clause-fits
 asked-first-requires-clause-fits c =
     omega (
       arith,
-      at_most c.args.gathered c.args.terms.now c.args.tasks.now c.args.t c.requires,
-      mul-le-mul_left c.args.gathered.tasks (let small : c.args.t ≤ 2 ^ 64 - 1 = omega arith in small),
+      at_most c.args.gathered c.args.terms.now c.args.tasks.now c.args.t (2 ^ 64 - 1) (omega arith) c.requires,
     )
 
 pub returns-in_err-demand : goal.returns-in_err-demand

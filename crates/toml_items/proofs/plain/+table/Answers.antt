@@ -1,9 +1,10 @@
-use Rattle.std.proofs.Common.{Ok, ap, le_refl, rules, arith}
+use Rattle.std.proofs.Common.{ℕ, Ok, ap, le_refl, rules, arith}
 use Rattle.toml_items.specs.Item.{list_view, entries_view}
-use Rattle.toml_items.specs.Plain.{path_of}
+use Rattle.toml_items.specs.Plain.{path_of, ReadsArray}
 use Rattle.toml_items.proofs.Items.{item_view-List, item_view-Table, list_view-push}
-use Rattle.toml_items.proofs.Going.{no_elements, one_more_element, last_element, one_more_array}
+use Rattle.toml_items.proofs.Going.{no_elements, next_element, last_element, one_more_array}
 use Rattle.toml_items.proofs.plain.+table.Goals as goal
+use Rattle.toml_items.proofs.plain.+table.Goals.{array-In_ok-push}
 
 pub array-elements-init : goal.array-elements-init
 array-elements-init t c = record {
@@ -13,29 +14,10 @@ array-elements-init t c = record {
       (no_elements (path_of c.args.header.parent) c.args.header.key.now c.args.header.rest.now);
 }
 
-pub array-elements-preserved : goal.array-elements-preserved
-array-elements-preserved t c =
-    let l = c.elements in
-    let header = c.args.header in
-    let found = c.in-Some.found in
-    let behind = c.in-Some-header_again.after in
-    let reads = rw c.in-Some.is at c.in_ok-found.ensures.reads in
-    let within = rw c.in-Some.is at c.in_ok-found.ensures.within in
-    record {
-      is_text = search rules;
-      within = omega (arith, l.invariant.within, within, c.in-Some-header_again.ensures.shorter);
-      reads = rw (
-        c.in_ok-push.ensures.items,
-        list_view-push l.items.items,
-        item_view-Table found.entries,
-      )
-          (one_more_element (path_of header.parent) header.key.now header.rest.now l.rest.now
-          found.rest.now behind.now (list_view l.items.items) (entries_view found.entries.items)
-          l.invariant.reads reads c.in-Some-header_again.ensures.line);
-    }
-
-pub array-returns-in-None-clause-reads : goal.array-returns-in-None-clause-reads
-array-returns-in-None-clause-reads t c =
+-- the array so far, with the element that was found
+array_read : (t : ℕ) (c : array-In_ok-push t) → ReadsArray (path_of c.args.header.parent) c.args.header.key.now
+    c.args.header.rest.now (list_view c.push.new.self.items) c.in-Some.found.rest.now
+array_read t c =
     let l = c.elements in
     let header = c.args.header in
     let found = c.in-Some.found in
@@ -43,6 +25,20 @@ array-returns-in-None-clause-reads t c =
     rw (c.in_ok-push.ensures.items, list_view-push l.items.items, item_view-Table found.entries)
     (last_element (path_of header.parent) header.key.now header.rest.now l.rest.now found.rest.now
     (list_view l.items.items) (entries_view found.entries.items) l.invariant.reads reads)
+
+pub array-elements-preserved : goal.array-elements-preserved
+array-elements-preserved t c =
+    let within = rw c.in-Some.is at c.in_ok-found.ensures.within in
+    record {
+      is_text = search rules;
+      within = omega (arith, c.elements.invariant.within, within, c.in-Some-header_again.ensures.shorter);
+      reads = next_element _ _ _ c.in-Some.found.rest.now c.in-Some-header_again.after.now _
+          (array_read t (goal.at.array-elements-preserved t c).In_ok-push) c.in-Some-header_again.ensures.line;
+    }
+
+pub array-returns-in-None-clause-reads : goal.array-returns-in-None-clause-reads
+array-returns-in-None-clause-reads t c =
+    array_read t (goal.at.array-returns-in-None-clause-reads t c).In_ok-push
 
 pub element-returns-in-None-clause-reads : goal.element-returns-in-None-clause-reads
 element-returns-in-None-clause-reads t c = rw c.in-None.is c.table.ensures.reads
