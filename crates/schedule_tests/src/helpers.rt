@@ -13,6 +13,33 @@ use tree_model::{Plan, System};
 
 pub const MEMORY: &str = "out of memory";
 
+/// A, with extra time, and B on cpu0, 3 and 4 slots in every 10, and C on cpu1, 1 in every 4.
+pub const HOST: &str = "format = 1
+core = [{name = 'cpu0', sched = 'edf'}, {name = 'cpu1', sched = 'edf'}]
+[[part]]
+name = 'A'
+parent = 'cpu0'
+sched = 'edf'
+period = 10
+budget = 3
+extra = true
+task = [{name = 't', period = 100, work = 1}]
+[[part]]
+name = 'B'
+parent = 'cpu0'
+sched = 'edf'
+period = 10
+budget = 4
+task = [{name = 't', period = 100, work = 1}]
+[[part]]
+name = 'C'
+parent = 'cpu1'
+sched = 'edf'
+period = 4
+budget = 1
+task = [{name = 't', period = 100, work = 1}]
+";
+
 /// The system of a file.
 pub fn system_of(rt: &impl Abort, alloc: Global, text: &str) -> System {
     read_system(alloc, text.as_bytes()).expect(rt, "a system file")

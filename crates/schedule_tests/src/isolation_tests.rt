@@ -1,6 +1,6 @@
 ghost use Rattle.tree_model.specs.Plans.{IsPlan};
 
-use crate::helpers::{planned, system_of};
+use crate::helpers::{HOST, planned, system_of};
 use isolation::{Isolation, isolation_on};
 use std::process::Abort;
 use tree_model::{Place, Plan, System};
@@ -61,28 +61,10 @@ fn ties_decide_for_the_first_and_the_second_is_exposed(rt: HostRuntime) {
     assert_eq!(rt; isolation_in(&rt, &sys, &plan, 1), Isolation::ByBlock);
 }
 
-/// Budgets of one period that fit on a core: whoever wakes late, 4 slots and 3 fit in 7.
-const EQUAL: &str = "format = 1
-core = [{name = 'cpu0', sched = 'edf'}]
-[[part]]
-name = 'A'
-parent = 'cpu0'
-sched = 'edf'
-period = 10
-budget = 4
-task = [{name = 't', period = 100, work = 1}]
-[[part]]
-name = 'B'
-parent = 'cpu0'
-sched = 'edf'
-period = 10
-budget = 3
-task = [{name = 't', period = 100, work = 1}]
-";
-
+/// Budgets of one period that fit on a core: whoever wakes late, 3 slots and 4 fit in 7.
 #[test]
 fn equal_periods_are_isolated(rt: HostRuntime) {
-    let sys = system_of(&rt, rt.alloc(), EQUAL);
+    let sys = system_of(&rt, rt.alloc(), HOST);
     let plan = planned(&rt, rt.alloc(), &sys);
     assert_eq!(rt;
         isolation_in(&rt, &sys, &plan, 0),

@@ -1,7 +1,9 @@
 //! Tests of schedules: one level, of its jobs or of servers, and what is counted of its spans;
-//! trees, the scheduler after Xen's RTDS, and the generated host.
+//! trees, the scheduler after Xen's RTDS, the verdict on traces, and the generated host.
 #![tactic(auto)]
 
+#[cfg(test)]
+mod auditor_tests;
 #[cfg(test)]
 mod bulk_host_tests;
 #[cfg(test)]

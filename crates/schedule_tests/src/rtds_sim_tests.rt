@@ -2,7 +2,7 @@ ghost use Rattle.std.specs.Prelude.{◌≤◌, IfOk};
 ghost use Rattle.release_file.specs.Workload.{IsWorkload};
 ghost use Rattle.trace_file.specs.Rules.{Kept};
 
-use crate::helpers::{MEMORY, planned, system_of};
+use crate::helpers::{HOST, MEMORY, planned, system_of};
 use release_file::{Wake, read_workload};
 use rtds_sim::{RtdsFault, print_rtds, run_rtds};
 use std::alloc::{AllocError, Global};
@@ -11,33 +11,6 @@ use std::process::Abort;
 use trace_file::{Trace, check_events, read_trace};
 use trace_printer::print_trace;
 use tree_model::System;
-
-/// A, with extra time, and B on cpu0, 3 and 4 slots in every 10, and C on cpu1, 1 in every 4.
-const HOST: &str = "format = 1
-core = [{name = 'cpu0', sched = 'edf'}, {name = 'cpu1', sched = 'edf'}]
-[[part]]
-name = 'A'
-parent = 'cpu0'
-sched = 'edf'
-period = 10
-budget = 3
-extra = true
-task = [{name = 't', period = 100, work = 1}]
-[[part]]
-name = 'B'
-parent = 'cpu0'
-sched = 'edf'
-period = 10
-budget = 4
-task = [{name = 't', period = 100, work = 1}]
-[[part]]
-name = 'C'
-parent = 'cpu1'
-sched = 'edf'
-period = 4
-budget = 1
-task = [{name = 't', period = 100, work = 1}]
-";
 
 /// The workload of a text.
 fn workload(rt: &impl Abort, alloc: Global, sys: &System, rows: &str) -> Vec<Wake>

@@ -5,8 +5,6 @@
 #[cfg(test)]
 mod admission_session_tests;
 #[cfg(test)]
-mod auditor_tests;
-#[cfg(test)]
 mod certificate_tests;
 #[cfg(test)]
 mod compose_tree_tests;

@@ -1,5 +1,5 @@
 use Rattle.std.proofs.Common.{[]}
-use Rattle.system_tests.proofs.auditor_tests.found_in_two.Goals as goal
+use Rattle.schedule_tests.proofs.auditor_tests.found_in_two.Goals as goal
 
 pub loop-piece-init : goal.loop-piece-init
 loop-piece-init c = ([], c.in_ok-audit.ensures)

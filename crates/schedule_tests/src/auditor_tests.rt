@@ -1,32 +1,12 @@
 ghost use Rattle.std.specs.Prelude.{◌≤◌, length};
 ghost use Rattle.tree_model.specs.Plans.{IsPlan};
 
-use crate::helpers::{MEMORY, planned, system_of};
+use crate::helpers::{HOST, MEMORY, planned, system_of};
 use auditor::{Audit, Finding, Tally, audit, audit_bytes, tally_bytes};
 use std::alloc::{AllocError, Global};
 use std::process::Abort;
 use trace_file::{TraceCheck, TraceFault, check_bytes, read_trace};
 use tree_model::{Plan, System};
-
-/// A, with extra time, and B, without, on one full core, 3 and 4 slots in every 10.
-const HOST: &str = "format = 1
-core = [{name = 'cpu0', sched = 'edf'}]
-[[part]]
-name = 'A'
-parent = 'cpu0'
-sched = 'edf'
-period = 10
-budget = 3
-extra = true
-task = [{name = 't', period = 100, work = 1}]
-[[part]]
-name = 'B'
-parent = 'cpu0'
-sched = 'edf'
-period = 10
-budget = 4
-task = [{name = 't', period = 100, work = 1}]
-";
 
 /// B has 3 of its 4 slots.
 const SHORT: Finding = Finding::Short {
@@ -131,6 +111,16 @@ fn a_text_is_audited_in_any_pieces(rt: HostRuntime) {
     }
 }
 
+/// The tally of C, which never starts.
+const UNSTARTED: Tally = Tally {
+    begun: 0,
+    judged: 0,
+    short: 0,
+    over: 0,
+    least: None,
+    most: None,
+};
+
 /// The tally of one judged period, in which the VCPU got this time.
 const fn counted(short: u64, time: u64) -> Tally {
     Tally {
@@ -150,5 +140,6 @@ fn what_is_counted_of_a_text(rt: HostRuntime) {
     let told = tally_bytes(rt.alloc(), &sys, &plan, TOO_FEW.as_bytes());
     let tallied = told.ok().expect(&rt, "a trace");
     assert!(rt; tallied.finding == SHORT);
-    assert!(rt; tallied.vcpus.as_slice() == [counted(0, 7000), counted(1, 3000)].as_slice());
+    let wanted = [counted(0, 7000), counted(1, 3000), UNSTARTED];
+    assert!(rt; tallied.vcpus.as_slice() == wanted.as_slice());
 }
