@@ -4,7 +4,8 @@ use Rattle.std.proofs.lemmas.Bool.{cases_eq, cases_lt}
 use Rattle.slot_model.specs.Task.{SporadicTask, task_at}
 use Rattle.slot_model.specs.Release.{releases_now, release_of, releases_at}
 use Rattle.slot_model.specs.declared.job.Job.{Job}
-use Rattle.release_pattern.specs.Due.{IsNext, AreDue, AreFirsts, NoneRelease}
+use Rattle.release_pattern.specs.Due.{IsNext, NoneRelease}
+use Rattle.release_pattern.specs.inner.Due.{AreDue, AreFirsts}
 use Rattle.release_pattern.proofs.Moments.{one_releases, one_waits, some_wait}
 
 -- a moment later, where the task does not release

@@ -2,7 +2,8 @@ ghost use Rattle.std.specs.Prelude.{◌≡◌, ◌⊎◌, ℕ, ◌+◌, ◌*◌,
 ghost use Rattle.slot_model.specs.Task.{sporadic_tasks, task_at};
 ghost use Rattle.slot_model.specs.Release.{LegalRelease, releases_now, release_of, releases_at, synchronous};
 ghost use Rattle.slot_model.specs.declared.job.Job.{Job as AnyJob};
-ghost use Rattle.release_pattern.specs.Due.{IsNext, AreDue, IsDue, NoneRelease, first_room};
+ghost use Rattle.release_pattern.specs.Due.{IsNext, NoneRelease};
+ghost use Rattle.release_pattern.specs.inner.Due.{AreDue, IsDue, first_room};
 
 use slot_model::{Job, Task};
 use std::alloc::{AllocError, Global};

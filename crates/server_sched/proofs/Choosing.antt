@@ -1,7 +1,7 @@
 -- The server that goes first, among more and more of them.
 use Rattle.std.proofs.Common.{◌≡◌, ℕ, ◌<◌, List, Option, Some, None}
 use Rattle.server_sched.specs.declared.serving.Server.{Server}
-use Rattle.server_sched.specs.Serving.{server_at, goes_first}
+use Rattle.server_sched.specs.inner.Serving.{server_at, goes_first}
 
 -- the one of the first m
 abbrev pub ChosenTo : List Server → ℕ → Option ℕ → Type 0

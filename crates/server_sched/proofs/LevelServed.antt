@@ -17,8 +17,8 @@ use Rattle.span_counts.specs.Counts.{is_early, AreCounts}
 use Rattle.server_sched.specs.declared.level.Level.{Level}
 use Rattle.server_sched.specs.declared.tally.Late.{Late}
 use Rattle.tree_spans.specs.Shares.{AreShares}
-use Rattle.server_sched.specs.CountedTree.{KeptView}
-use Rattle.server_sched.specs.Serving.{AreServerTasks, AtRest, AreSharesTo, Tallies, is_late, IsUnderway, IsServed, told_of}
+use Rattle.server_sched.specs.inner.Kept.{KeptView}
+use Rattle.server_sched.specs.inner.Serving.{AreServerTasks, AtRest, AreSharesTo, Tallies, is_late, IsUnderway, IsServed, told_of}
 use Rattle.server_sched.proofs.Releasing.{in_moments}
 use Rattle.tree_spans.proofs.Sharing.{all_shared}
 use Rattle.server_sched.proofs.Tallying.{all_late, rest_late, first_missed, none_missed}

@@ -12,7 +12,7 @@ use Rattle.release_pattern.specs.Due.{IsNext, NoneRelease}
 use Rattle.release_pattern.proofs.Moments.{one_waits, released_next, up_to_next}
 use Rattle.release_pattern.proofs.Dues.{later}
 use Rattle.server_sched.specs.declared.serving.Server.{Server}
-use Rattle.server_sched.specs.Serving.{IsServerTask, AreServerTasks, server_at, no_server, IsKeyed, HasJob, IsActive, AtMoment, AtRest}
+use Rattle.server_sched.specs.inner.Serving.{IsServerTask, AreServerTasks, server_at, no_server, IsKeyed, HasJob, IsActive, AtMoment, AtRest}
 use Rattle.server_sched.proofs.Releasing.{come_by, come_more, comes_at}
 
 -- a server's job as it is released

@@ -15,7 +15,7 @@ use Rattle.fp_request.specs.Ranks.{order_laws, ranks_is_rank}
 use Rattle.guest_sched.proofs.Steady.{Steady, service_span}
 use Rattle.release_pattern.specs.Due.{IsNext}
 use Rattle.server_sched.specs.declared.serving.Server.{Server}
-use Rattle.server_sched.specs.Serving.{server_at, no_server, IsKeyed, goes_first, IsChosen, HasJob, IsActive, AtRest}
+use Rattle.server_sched.specs.inner.Serving.{server_at, no_server, IsKeyed, goes_first, IsChosen, HasJob, IsActive, AtRest}
 use Rattle.server_sched.proofs.Releasing.{more_moments, later_jobs}
 
 -- at rest, the jobs that are released have come

@@ -21,9 +21,9 @@ use Rattle.span_counts.specs.Counts.{AreCounts}
 use Rattle.tree_spans.specs.NodeView.{NodeView}
 use Rattle.tree_spans.specs.Shares.{AreShares, share_at}
 use Rattle.tree_spans.specs.KeptNodes.{IsKeptOf}
-use Rattle.server_sched.specs.CountedTree.{KeptView, kept_of, IsStillKept}
+use Rattle.server_sched.specs.inner.Kept.{KeptView, kept_of, IsStillKept}
 use Rattle.tree_spans.specs.Levels.{IsServerLevel}
-use Rattle.server_sched.specs.Serving.{IsServerTask, AreServerTasks, IsServed}
+use Rattle.server_sched.specs.inner.Serving.{IsServerTask, AreServerTasks, IsServed}
 use Rattle.tree_spans.proofs.Nodes.{run_long}
 
 -- servers release as their jobs arrive, and are due at the end of their period

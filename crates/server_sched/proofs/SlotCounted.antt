@@ -20,7 +20,7 @@ use Rattle.span_counts.specs.Counts.{AreCounts}
 use Rattle.tree_spans.specs.TreeCounts.{no_counts, AreTreeCounts}
 use Rattle.tree_spans.specs.TreeSpans.{parent_of}
 use Rattle.server_sched.specs.Shapes.{RunHolds, TreeHolds}
-use Rattle.server_sched.specs.SlotCounts.{OfTree, ParentHolds, HasRun, AreCoreCounts, IsPartCount, ArePartCounts}
+use Rattle.server_sched.specs.inner.SlotCounts.{OfTree, ParentHolds, HasRun, AreCoreCounts, IsPartCount, ArePartCounts}
 
 -- the parent of a part is a node of servers, which has its run
 pub record IsParent (sys : SystemView) (budgets : List ℕ) (core_runs part_runs : List (List (Option ℕ))) (node : Place)

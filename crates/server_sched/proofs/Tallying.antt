@@ -16,7 +16,7 @@ use Rattle.slot_model.proofs.MissedJobs.{none_passes, missed_where_tested, teste
 use Rattle.slot_model.proofs.Synchronous.{early_at-le, legal_synchronous, synchronous_early, synchronous_whole}
 use Rattle.server_sched.specs.declared.serving.Server.{Server}
 use Rattle.server_sched.specs.declared.tally.Late.{Late}
-use Rattle.server_sched.specs.Serving.{AreServerTasks, server_at, HasJob, AtRest, is_late, IsFirstLate, Tallies}
+use Rattle.server_sched.specs.inner.Serving.{AreServerTasks, server_at, HasJob, AtRest, is_late, IsFirstLate, Tallies}
 use Rattle.server_sched.proofs.Releasing.{later_jobs, more_moments}
 
 -- one more that passes

@@ -24,7 +24,7 @@ use Rattle.server_sched.specs.declared.serving.Come.{Come}
 use Rattle.server_sched.specs.declared.tally.Tally.{Tally}
 use Rattle.server_sched.specs.declared.level.Level.{Level}
 use Rattle.tree_spans.specs.Shares.{share_at}
-use Rattle.server_sched.specs.Serving.{AreServerTasks, no_server, server_at, IsChosen, AtMoment, AtRest, AreSharesTo, Tallies, is_late, IsUnderway}
+use Rattle.server_sched.specs.inner.Serving.{AreServerTasks, no_server, server_at, IsChosen, AtMoment, AtRest, AreSharesTo, Tallies, is_late, IsUnderway}
 use Rattle.tree_spans.proofs.Sharing.{SharedTo, none_shared, idle_shared, task_shared}
 use Rattle.server_sched.proofs.ServedRuns.{chosen_entry, idle_entry, steady_rest, rest_idle, rest_given, given_to, in_jobs}
 use Rattle.server_sched.proofs.Tallying.{tallies_longer, none_late}

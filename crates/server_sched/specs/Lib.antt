@@ -1,5 +1,4 @@
 pub mod Patterns
 pub mod Shapes
-pub mod SlotCounts
 pub mod CountedTree
-pub mod Serving
+pub mod inner

@@ -2,7 +2,8 @@ ghost use Rattle.std.specs.Prelude.{◌≡◌, ℕ, ◌^◌, ◌<◌, map, IfOk}
 ghost use Rattle.tree_model.specs.Plans.{IsPlan};
 ghost use Rattle.tree_model.specs.Releases.{AreReleases};
 ghost use Rattle.tree_spans.specs.TreeSpans.{AreSupplies, AreFewJobs, supplies_of};
-ghost use Rattle.server_sched.specs.CountedTree.{kept_of, AreFirstCounts};
+ghost use Rattle.server_sched.specs.CountedTree.{AreFirstCounts};
+ghost use Rattle.server_sched.specs.inner.Kept.{kept_of};
 
 use crate::level::MOST_ROOM;
 use crate::served::serve_level;
@@ -24,7 +25,7 @@ pub struct Kept {
 
 impl Model for Kept {
     ghost use Rattle.std.specs.Prelude.{map};
-    ghost use Rattle.server_sched.specs.CountedTree.{KeptView};
+    ghost use Rattle.server_sched.specs.inner.Kept.{KeptView};
 
     ghost Value = { KeptView };
 
@@ -34,7 +35,7 @@ impl Model for Kept {
 /// It keeps no run, and the windows of a child until that has run.
 impl KeptNode for Kept {
     ghost use Rattle.std.specs.Prelude.{◌^◌, ◌<◌};
-    ghost use Rattle.server_sched.specs.CountedTree.{IsStillKept};
+    ghost use Rattle.server_sched.specs.inner.Kept.{IsStillKept};
 
     ghost takes = { λ slots. slots < 2 ^ 63 };
 

@@ -3,7 +3,7 @@ ghost use Rattle.guest_sched.specs.Spans.{AreWindows, slots_of, window_at};
 ghost use Rattle.slot_model.specs.declared.sched.Sched.{Sched as AnySched};
 ghost use Rattle.slot_model.specs.Task.{SporadicTask, AreConstrained, sporadic_tasks};
 ghost use Rattle.slot_model.specs.Release.{synchronous};
-ghost use Rattle.server_sched.specs.Serving.{AreServerTasks, CanServe, IsUnderway};
+ghost use Rattle.server_sched.specs.inner.Serving.{AreServerTasks, CanServe, IsUnderway};
 
 use crate::serving::{Come, Server, choose, first_after, renew};
 use crate::tally::{Tally, close};

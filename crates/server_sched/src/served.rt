@@ -4,7 +4,7 @@ ghost use Rattle.slot_model.specs.declared.sched.Sched.{Sched as AnySched};
 ghost use Rattle.slot_model.specs.Miss.{is_missed};
 ghost use Rattle.slot_model.specs.Release.{synchronous};
 ghost use Rattle.slot_model.specs.Task.{sporadic_tasks};
-ghost use Rattle.server_sched.specs.Serving.{AreServerTasks, Tallies, IsUnderway, IsServed, told_of};
+ghost use Rattle.server_sched.specs.inner.Serving.{AreServerTasks, Tallies, IsUnderway, IsServed, told_of};
 
 use crate::counted_tree::Kept;
 use crate::level::Level;

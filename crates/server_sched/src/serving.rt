@@ -2,7 +2,7 @@ ghost use Rattle.std.specs.Prelude.{◌≡◌, ℕ, ◌+◌, ◌-◌, ◌<◌, �
 ghost use Rattle.slot_model.specs.Task.{sporadic_tasks, sporadic_task};
 ghost use Rattle.slot_model.specs.Release.{synchronous};
 ghost use Rattle.slot_model.specs.Miss.{HoldsReleased};
-ghost use Rattle.server_sched.specs.Serving.{AreServerTasks, server_at, IsKeyed, goes_first, IsChosen, AtMoment, AtRest};
+ghost use Rattle.server_sched.specs.inner.Serving.{AreServerTasks, server_at, IsKeyed, goes_first, IsChosen, AtMoment, AtRest};
 
 use slot_model::{Sched, Task};
 

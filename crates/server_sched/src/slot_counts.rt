@@ -13,7 +13,7 @@ ghost use Rattle.tree_model.specs.Tree.{IsNode, node_tasks, server_tasks, server
 ghost use Rattle.tree_spans.specs.TreeSpans.{AreFewJobs};
 ghost use Rattle.tree_spans.specs.TreeCounts.{AreTreeCounts};
 ghost use Rattle.server_sched.specs.Shapes.{RunHolds, TreeHolds};
-ghost use Rattle.server_sched.specs.SlotCounts.{OfTree, ParentHolds, HasRun, AreCoreCounts, IsPartCount, ArePartCounts};
+ghost use Rattle.server_sched.specs.inner.SlotCounts.{OfTree, ParentHolds, HasRun, AreCoreCounts, IsPartCount, ArePartCounts};
 
 use guest_sched::{spans_of, windows_of};
 use release_pattern::synchronous_jobs;

@@ -2,7 +2,7 @@ ghost use Rattle.std.specs.Prelude.{◌≡◌, ◌⊎◌, ℕ, ◌-◌, ◌^◌,
 ghost use Rattle.slot_model.specs.declared.sched.Sched.{Sched as AnySched};
 ghost use Rattle.slot_model.specs.Task.{sporadic_tasks};
 ghost use Rattle.slot_model.specs.Release.{synchronous};
-ghost use Rattle.server_sched.specs.Serving.{AreServerTasks, IsChosen, AtRest, is_late, Tallies};
+ghost use Rattle.server_sched.specs.inner.Serving.{AreServerTasks, IsChosen, AtRest, is_late, Tallies};
 
 use crate::serving::Server;
 use slot_model::{Miss, Task};

@@ -1,5 +1,5 @@
 use Rattle.std.proofs.Common.{◌≡◌, ◌-◌, ◌^◌, min, take}
-use Rattle.release_pattern.specs.Due.{first_room}
+use Rattle.release_pattern.specs.inner.Due.{first_room}
 use Rattle.release_pattern.proofs.jobs.releases_of.Given as goal
 
 -- the room of the tasks so far

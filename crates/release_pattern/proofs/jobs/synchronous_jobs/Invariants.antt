@@ -1,7 +1,7 @@
 use Rattle.std.proofs.Common.{◌≡◌, ◌-◌, min}
 use Rattle.slot_model.specs.Task.{sporadic_tasks}
 use Rattle.slot_model.specs.Release.{synchronous}
-use Rattle.release_pattern.specs.Due.{IsDue}
+use Rattle.release_pattern.specs.inner.Due.{IsDue}
 use Rattle.release_pattern.proofs.jobs.synchronous_jobs.Given as goal
 
 -- the jobs of the moments so far

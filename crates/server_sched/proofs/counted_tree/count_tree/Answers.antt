@@ -6,7 +6,8 @@ use Rattle.tree_spans.specs.NodeView.{counts_of}
 use Rattle.tree_spans.specs.TreeSpans.{runs_of, supplies_of}
 use Rattle.tree_spans.specs.KeptNodes.{AreKept, ran_of_core, ran_of_part, IsTreeKept}
 use Rattle.tree_spans.proofs.TreeNodes.{tree_counted}
-use Rattle.server_sched.specs.CountedTree.{KeptView, IsStillKept, AreFirstCounts}
+use Rattle.server_sched.specs.CountedTree.{AreFirstCounts}
+use Rattle.server_sched.specs.inner.Kept.{KeptView, IsStillKept}
 use Rattle.server_sched.proofs.counted_tree.count_tree.Goals as goal
 
 pub returns : goal.returns

@@ -2,7 +2,7 @@ use Rattle.std.proofs.Common.{◌≡◌, ℕ, ◌<◌, length, subst, sym, ap, �
 use Rattle.std.proofs.lemmas.Bool.{cases_eq}
 use Rattle.slot_model.specs.Task.{sporadic_tasks}
 use Rattle.guest_sched.specs.Spans.{slots_of, window_at}
-use Rattle.server_sched.specs.Serving.{IsUnderway, IsServed}
+use Rattle.server_sched.specs.inner.Serving.{IsUnderway, IsServed}
 use Rattle.server_sched.proofs.Underway.{sound_in}
 use Rattle.server_sched.proofs.served.serve_level.Goals as goal
 

@@ -1,7 +1,7 @@
 use Rattle.std.proofs.Common.{◌≡◌, ℕ, ◌<◌, ◌≤◌, length}
 use Rattle.slot_model.specs.Task.{sporadic_tasks}
 use Rattle.guest_sched.specs.Spans.{slots_of, window_at}
-use Rattle.server_sched.specs.Serving.{IsUnderway}
+use Rattle.server_sched.specs.inner.Serving.{IsUnderway}
 use Rattle.server_sched.proofs.served.serve_level.Given as goal
 
 -- the first run over the first so many windows

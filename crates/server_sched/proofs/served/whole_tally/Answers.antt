@@ -3,7 +3,7 @@ use Rattle.slot_model.specs.Task.{sporadic_tasks}
 use Rattle.slot_model.specs.Release.{synchronous}
 use Rattle.slot_model.proofs.Constrained.{are_constrained}
 use Rattle.server_sched.specs.declared.serving.Server.{Server}
-use Rattle.server_sched.specs.Serving.{IsChosen, AtRest, Tallies, is_late}
+use Rattle.server_sched.specs.inner.Serving.{IsChosen, AtRest, Tallies, is_late}
 use Rattle.server_sched.proofs.LevelServed.{late_at_end, late_before_next}
 use Rattle.server_sched.proofs.served.whole_tally.Goals as goal
 

@@ -7,7 +7,7 @@ use Rattle.slot_model.proofs.Constrained.{are_constrained}
 use Rattle.slot_model.proofs.LegalJobs.{task_at-read}
 use Rattle.server_sched.specs.declared.serving.Come.{Come}
 use Rattle.server_sched.specs.declared.serving.Server.{Server}
-use Rattle.server_sched.specs.Serving.{server_at, no_server, IsKeyed, AtMoment}
+use Rattle.server_sched.specs.inner.Serving.{server_at, no_server, IsKeyed, AtMoment}
 use Rattle.server_sched.proofs.Renewing.{one_renewed, one_waiting, all_renewed}
 use Rattle.server_sched.proofs.serving.renew.Goals as goal
 use Rattle.server_sched.proofs.serving.renew.Goals.{After-min, then-servers-i, else-servers-i}

@@ -2,7 +2,7 @@ use Rattle.std.proofs.Common.{◌≡◌, ℕ, ◌+◌, ◌<◌, ◌≤◌, List,
 use Rattle.slot_model.specs.Task.{sporadic_tasks}
 use Rattle.slot_model.specs.Release.{synchronous}
 use Rattle.slot_model.specs.Miss.{HoldsReleased}
-use Rattle.server_sched.specs.Serving.{server_at, AtMoment}
+use Rattle.server_sched.specs.inner.Serving.{server_at, AtMoment}
 use Rattle.server_sched.proofs.serving.renew.Given as goal
 
 -- the first servers have released what they release now

@@ -7,7 +7,7 @@ use Rattle.tree_model.specs.declared.place.Place.TheVariants.{Core}
 use Rattle.tree_model.specs.declared.pinned_core.Core.{Core as PinnedCore}
 use Rattle.tree_model.specs.Tree.{run_at, server_tasks, server_jobs}
 use Rattle.server_sched.specs.Shapes.{RunHolds}
-use Rattle.server_sched.specs.SlotCounts.{AreCoreCounts}
+use Rattle.server_sched.specs.inner.SlotCounts.{AreCoreCounts}
 use Rattle.tree_spans.proofs.Lists.{list_read, servers_in_reach, slot_lists}
 use Rattle.server_sched.proofs.SlotCounted.{one_core_counted}
 use Rattle.server_sched.proofs.slot_counts.core_counts.Goals as goal

@@ -1,5 +1,5 @@
 use Rattle.std.proofs.Common.{◌≤◌, length, map}
-use Rattle.server_sched.specs.SlotCounts.{AreCoreCounts}
+use Rattle.server_sched.specs.inner.SlotCounts.{AreCoreCounts}
 use Rattle.server_sched.proofs.slot_counts.core_counts.Given as goal
 
 -- the counts of the cores so far

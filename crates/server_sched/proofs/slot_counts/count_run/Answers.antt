@@ -2,7 +2,7 @@ use Rattle.std.proofs.Common.{ℕ, ◌<◌, [], List, length, get_or, sym, subst
 use Rattle.tree_model.specs.declared.place.Place.TheVariants.{Core}
 use Rattle.tree_model.specs.Tree.{server_jobs, run_at}
 use Rattle.server_sched.specs.Shapes.{RunHolds}
-use Rattle.server_sched.specs.SlotCounts.{AreCoreCounts, ArePartCounts}
+use Rattle.server_sched.specs.inner.SlotCounts.{AreCoreCounts, ArePartCounts}
 use Rattle.tree_spans.proofs.Lists.{few_in_reach, slot_lists, job_lists}
 use Rattle.server_sched.proofs.SlotCounted.{all_counted}
 use Rattle.server_sched.proofs.slot_counts.count_run.Goals as goal

@@ -3,7 +3,7 @@ use Rattle.slot_model.specs.declared.job.Job.{Job}
 use Rattle.span_counts.specs.declared.counts.Counts.{Counts}
 use Rattle.tree_model.specs.View.{PartView}
 use Rattle.tree_model.specs.Tree.{run_at, supply_of}
-use Rattle.server_sched.specs.SlotCounts.{IsPartCount, ArePartCounts}
+use Rattle.server_sched.specs.inner.SlotCounts.{IsPartCount, ArePartCounts}
 use Rattle.tree_spans.proofs.Lists.{list_read, job_lists}
 use Rattle.server_sched.proofs.SlotCounted.{parent_holds, one_part_counted}
 use Rattle.server_sched.proofs.slot_counts.part_counts.Goals as goal

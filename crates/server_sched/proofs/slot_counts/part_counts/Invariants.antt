@@ -1,5 +1,5 @@
 use Rattle.std.proofs.Common.{◌≤◌, length, map}
-use Rattle.server_sched.specs.SlotCounts.{ArePartCounts}
+use Rattle.server_sched.specs.inner.SlotCounts.{ArePartCounts}
 use Rattle.server_sched.proofs.slot_counts.part_counts.Given as goal
 
 -- the counts of the parts so far

@@ -10,7 +10,7 @@ use Rattle.tree_model.specs.System.{part_at}
 use Rattle.tree_model.specs.Tree.{IsNode, place_of, run_of, server_tasks, server_jobs, node_tasks}
 use Rattle.tree_model.proofs.NodeTasks.{part_here}
 use Rattle.tree_spans.specs.TreeSpans.{parent_of}
-use Rattle.server_sched.specs.SlotCounts.{HasRun}
+use Rattle.server_sched.specs.inner.SlotCounts.{HasRun}
 use Rattle.server_sched.proofs.SlotCounted.{IsParent, is_parent}
 use Rattle.server_sched.proofs.slot_counts.part_slots.Goals as goal
 use Rattle.server_sched.proofs.slot_counts.part_slots.Goals.{After-place-parent, After-write_tasks-count}

@@ -8,7 +8,7 @@ use Rattle.slot_model.specs.Release.{synchronous}
 use Rattle.slot_model.proofs.Constrained.{are_constrained}
 use Rattle.slot_model.proofs.LegalJobs.{task_at-read}
 use Rattle.server_sched.specs.declared.tally.Tally.{Tally}
-use Rattle.server_sched.specs.Serving.{IsChosen, Tallies, is_late}
+use Rattle.server_sched.specs.inner.Serving.{IsChosen, Tallies, is_late}
 use Rattle.server_sched.proofs.Tallying.{one_in_time, all_in_time, one_late}
 use Rattle.server_sched.proofs.tally.close.Goals as goal
 use Rattle.server_sched.proofs.tally.close.Goals.{then-server-moment+then-server-gt0, else-server-moment, else-server-moment-via-then-server-moment+else-server-gt0, else-server-moment-via-else-server-moment}

@@ -2,7 +2,7 @@ use Rattle.std.proofs.Common.{ℕ, ◌+◌, ◌≤◌, List, Option}
 use Rattle.slot_model.specs.declared.sched.Sched.{Sched}
 use Rattle.slot_model.specs.Task.{sporadic_tasks}
 use Rattle.slot_model.specs.Release.{synchronous}
-use Rattle.server_sched.specs.Serving.{IsChosen, AtRest, Tallies, is_late}
+use Rattle.server_sched.specs.inner.Serving.{IsChosen, AtRest, Tallies, is_late}
 use Rattle.server_sched.proofs.tally.close.Given as goal
 
 -- the late ones of the first so many servers

@@ -2,7 +2,7 @@ use Rattle.std.proofs.Common.{◌≡◌, ◌+◌, [], List, map, set, sym, ◌�
 use Rattle.std.proofs.lemmas.List.{map-set}
 use Rattle.span_counts.specs.declared.counts.Counts.{Counts}
 use Rattle.guest_sched.specs.Spans.{Window}
-use Rattle.server_sched.specs.CountedTree.{KeptView, IsStillKept}
+use Rattle.server_sched.specs.inner.Kept.{KeptView, IsStillKept}
 use Rattle.server_sched.proofs.ServerKept.{still_kept}
 use Rattle.server_sched.proofs.counted_tree.KeptKeptNode.let_go.Goals as goal
 

@@ -2,7 +2,7 @@ use Rattle.std.proofs.Common.{sym, subst}
 use Rattle.slot_model.specs.Task.{sporadic_tasks}
 use Rattle.tree_spans.specs.Levels.{IsGuestLevel}
 use Rattle.tree_spans.specs.KeptNodes.{IsKeptOf}
-use Rattle.server_sched.specs.CountedTree.{KeptView, IsStillKept}
+use Rattle.server_sched.specs.inner.Kept.{KeptView, IsStillKept}
 use Rattle.server_sched.proofs.ServerKept.{guests_kept}
 use Rattle.server_sched.proofs.counted_tree.KeptKeptNode.of_guests.Goals as goal
 

@@ -1,6 +1,6 @@
 use Rattle.std.proofs.Common.{sym, subst}
 use Rattle.slot_model.specs.Task.{sporadic_tasks}
-use Rattle.server_sched.specs.Serving.{AreServerTasks}
+use Rattle.server_sched.specs.inner.Serving.{AreServerTasks}
 use Rattle.server_sched.proofs.ServerKept.{are_servers, server_kept}
 use Rattle.server_sched.proofs.counted_tree.KeptKeptNode.of_servers.Goals as goal
 

@@ -2,7 +2,7 @@ use Rattle.std.proofs.Common.{◌≡◌, ℕ, [], List, length, replicate, arith
 use Rattle.std.proofs.lemmas.List.{length-map}
 use Rattle.slot_model.specs.Task.{sporadic_task, sporadic_tasks}
 use Rattle.guest_sched.specs.Spans.{Window}
-use Rattle.server_sched.specs.Serving.{no_server}
+use Rattle.server_sched.specs.inner.Serving.{no_server}
 use Rattle.server_sched.proofs.Underway.{begun}
 use Rattle.server_sched.proofs.level.Level.new.Goals as goal
 

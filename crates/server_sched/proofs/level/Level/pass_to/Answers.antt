@@ -6,7 +6,7 @@ use Rattle.slot_model.proofs.Constrained.{are_constrained}
 use Rattle.guest_sched.specs.Spans.{Window, AreWindows, slots_of, window_at}
 use Rattle.guest_sched.proofs.Given.{AreOver}
 use Rattle.server_sched.specs.declared.level.Level.{Level}
-use Rattle.server_sched.specs.Serving.{AreServerTasks, IsUnderway}
+use Rattle.server_sched.specs.inner.Serving.{AreServerTasks, IsUnderway}
 use Rattle.server_sched.proofs.Underway.{sound, may_turn, gap_passed}
 use Rattle.server_sched.proofs.level.Level.pass_to.Goals as goal
 

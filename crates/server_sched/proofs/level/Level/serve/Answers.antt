@@ -4,7 +4,7 @@ use Rattle.slot_model.specs.Task.{sporadic_tasks}
 use Rattle.slot_model.proofs.Constrained.{are_constrained}
 use Rattle.guest_sched.specs.Spans.{Window, slots_of, window_at}
 use Rattle.guest_sched.proofs.Given.{slot_at, all_given}
-use Rattle.server_sched.specs.Serving.{IsUnderway}
+use Rattle.server_sched.specs.inner.Serving.{IsUnderway}
 use Rattle.server_sched.proofs.Underway.{sound_in, may_turn}
 use Rattle.server_sched.proofs.level.Level.serve.Goals as goal
 

@@ -5,7 +5,7 @@ use Rattle.guest_sched.specs.Spans.{Window, AreWindows}
 use Rattle.guest_sched.specs.MoreWindows.{AddsWindow}
 use Rattle.server_sched.specs.declared.level.Level.{Level}
 use Rattle.server_sched.specs.declared.serving.Server.{Server}
-use Rattle.server_sched.specs.Serving.{server_at, no_server, IsChosen}
+use Rattle.server_sched.specs.inner.Serving.{server_at, no_server, IsChosen}
 use Rattle.server_sched.proofs.Underway.{no_job, job_served}
 use Rattle.server_sched.proofs.level.Level.step.Goals as goal
 use Rattle.tree_spans.proofs.Lists.{share_read}

@@ -7,7 +7,7 @@ use Rattle.slot_model.specs.Miss.{HoldsReleased}
 use Rattle.slot_model.proofs.Constrained.{are_constrained}
 use Rattle.server_sched.specs.declared.level.Level.{Level}
 use Rattle.server_sched.specs.declared.serving.Server.{Server}
-use Rattle.server_sched.specs.Serving.{AtRest, AtMoment, IsChosen, Tallies, is_late, IsUnderway}
+use Rattle.server_sched.specs.inner.Serving.{AtRest, AtMoment, IsChosen, Tallies, is_late, IsUnderway}
 use Rattle.server_sched.proofs.Underway.{made_released, at_moment}
 use Rattle.server_sched.proofs.Tallying.{next_late}
 use Rattle.server_sched.proofs.level.Level.turn.Goals as goal

@@ -17,7 +17,7 @@ use Rattle.server_sched.specs.declared.level.Level.{Level}
 use Rattle.server_sched.specs.declared.serving.Server.{Server}
 use Rattle.server_sched.specs.declared.tally.Late.{Late}
 use Rattle.tree_spans.specs.Shares.{share_at, AreShares}
-use Rattle.server_sched.specs.CountedTree.{KeptView}
+use Rattle.server_sched.specs.inner.Kept.{KeptView}
 
 -- tasks of servers: a job is released as it arrives, and due at the end of its period
 pub record IsServerTask (task : SporadicTask) : Type 0 where

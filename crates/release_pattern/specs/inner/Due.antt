@@ -1,0 +1,32 @@
+-- The next releases of all tasks, as they are kept, and the room for jobs that is made at first.
+use Rattle.std.specs.Prelude.{ℕ, ◌≡◌, ◌+◌, ◌*◌, ◌/◌, ◌<◌, ◌≤◌, List, length, slice_index, sum_by}
+use Rattle.slot_model.specs.declared.task.Task.{Task}
+use Rattle.slot_model.specs.Task.{SporadicTask, task_at}
+use Rattle.release_pattern.specs.declared.jobs.Due.{Due}
+use Rattle.release_pattern.specs.Due.{IsNext}
+
+-- the next release of each task: of the first p after x, of the others from x on
+pub record AreDue (tasks : List SporadicTask) (p x : ℕ) (due : List ℕ) : Type 0 where
+  pub one_each : length due ≡ length tasks
+  pub past : (i : ℕ) → i < p → i < length tasks →
+      IsNext (task_at tasks i) (x + 1) (slice_index due i)
+  pub to_come : (i : ℕ) → p ≤ i → i < length tasks → IsNext (task_at tasks i) x (slice_index due i)
+
+-- no task of a group releases before its moment, which is after x in the first g groups, and x or
+-- later in the others
+pub record AreFirsts (due groups : List ℕ) (g x : ℕ) : Type 0 where
+  pub past : (h : ℕ) → h < g → h < length groups → x < slice_index groups h
+  pub to_come : (h : ℕ) → g ≤ h → h < length groups → x ≤ slice_index groups h
+  pub first : (h i : ℕ) → h < length groups → 8 * h ≤ i → i < 8 * h + 8 → i < length due →
+      slice_index groups h ≤ slice_index due i
+
+-- between two moments at which tasks release
+pub record IsDue (tasks : List SporadicTask) (x : ℕ) (due : Due) : Type 0 where
+  pub each : AreDue tasks 0 x due.tasks.items
+  pub firsts : AreFirsts due.tasks.items due.groups.items 0 x
+  pub all : length tasks < 8 * length due.groups.items
+  pub no_more : 8 * length due.groups.items ≤ length tasks + 8
+
+-- for each task one job at the start, and one for every whole period within `span` slots
+abbrev pub first_room : List Task → ℕ → ℕ
+first_room tasks span = sum_by (λ task. span / task.period + 1) tasks
