@@ -19,7 +19,7 @@ use Rattle.bulk_host.proofs.LeafBudgets.{tasks_of}
 use Rattle.bulk_host.proofs.Servers.{budget_here, guests_on, core_servers, rank_here, servers_here}
 use Rattle.bulk_host.proofs.Systems.{core_here, guest_here, cores-many, guests-many}
 use Rattle.bulk_run.specs.Summary.{bulk_slots, bulk_supplies, bulk_jobs, misses_in, core_misses, guest_misses, guest_pending}
-use Rattle.bulk_run.specs.Steps.{HostFirstRun}
+use Rattle.bulk_run.specs.inner.Steps.{HostFirstRun}
 use Rattle.bulk_run.proofs.HostRun.{leaf_here, own_here, jobs_here, supply_here}
 
 -- core c of the host of n guests has as many guests as the host of k guests, and its run and those

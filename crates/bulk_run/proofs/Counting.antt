@@ -26,7 +26,7 @@ use Rattle.bulk_host.proofs.Servers.{budget_here}
 use Rattle.bulk_host.proofs.Systems.{cores-many, guests-many}
 use Rattle.bulk_run.specs.declared.counts.BulkCounts.{BulkCounts}
 use Rattle.bulk_run.specs.Summary.{bulk_slots, bulk_supplies, bulk_jobs, misses_in, core_misses, guest_misses, guest_pending}
-use Rattle.bulk_run.specs.Steps.{IsGuestRun, AreGuestRuns}
+use Rattle.bulk_run.specs.inner.Steps.{IsGuestRun, AreGuestRuns}
 use Rattle.bulk_run.proofs.HostRun.{leaf_here, few_here, host_few, jobs-many}
 
 -- a sum of terms that are each at most m

@@ -19,7 +19,7 @@ use Rattle.bulk_host.proofs.Systems.{cores-many, guests-many}
 use Rattle.bulk_host.proofs.Admitting.{host_is_admitted}
 use Rattle.bulk_run.specs.declared.counts.BulkCounts.{BulkCounts}
 use Rattle.bulk_run.specs.Summary.{bulk_slots, bulk_supplies, bulk_jobs, core_misses, guest_misses, guest_pending, counts_in, AreBulkCounts}
-use Rattle.bulk_run.specs.Steps.{HostFirstRun, AreHostCounts, times, plus}
+use Rattle.bulk_run.specs.inner.Steps.{HostFirstRun, AreHostCounts, times, plus}
 use Rattle.bulk_run.proofs.HostRun.{leaf_here}
 use Rattle.bulk_run.proofs.Counting.{budgets_by_guest, jobs_by_guest, same_counts}
 use Rattle.bulk_run.proofs.Blocks.{in_blocks}

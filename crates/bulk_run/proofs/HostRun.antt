@@ -30,7 +30,7 @@ use Rattle.bulk_host.proofs.LeafBudgets.{tasks_of, constrained_of}
 use Rattle.bulk_host.proofs.Systems.{core_here, guest_here, cores-many, guests-many, host_is_system}
 use Rattle.bulk_host.proofs.Admitting.{host_is_admitted}
 use Rattle.bulk_run.specs.Summary.{bulk_slots, bulk_supplies, bulk_jobs}
-use Rattle.bulk_run.specs.Steps.{IsGuestRun, AreGuestRuns}
+use Rattle.bulk_run.specs.inner.Steps.{IsGuestRun, AreGuestRuns}
 
 pub host_plan : (n : ℕ) → 1 ≤ n → n ≤ 256 → IsPlan (bulk_host n) (bulk_budgets n)
 host_plan n some few =

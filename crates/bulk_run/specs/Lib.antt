@@ -1,2 +1,2 @@
 pub mod Summary
-pub mod Steps
+pub mod inner

@@ -6,7 +6,7 @@ ghost use Rattle.tree_model.specs.Releases.{jobs_at};
 ghost use Rattle.tree_spans.specs.TreeSpans.{node_at, runs_of, AreTreeSpans};
 ghost use Rattle.bulk_host.specs.Host.{bulk_host, bulk_budgets};
 ghost use Rattle.bulk_run.specs.Summary.{bulk_slots, bulk_supplies, bulk_jobs as jobs_of_host, counts_in, AreBulkCounts};
-ghost use Rattle.bulk_run.specs.Steps.{IsGuestRun, AreGuestRuns, AreHostCounts, AreBelow, times, plus};
+ghost use Rattle.bulk_run.specs.inner.Steps.{IsGuestRun, AreGuestRuns, AreHostCounts, AreBelow, times, plus};
 
 use bulk_host::{bulk_jobs, make_bulk};
 use compose_tree::compose;
@@ -188,8 +188,9 @@ fn number_of_jobs(jobs: &[Vec<Job>]) -> u64
 
 /// The jobs that miss at some nodes, in sum.
 fn misses_of(nodes: &[NodeSpans]) -> u64
-    requires { sum_by (λ node. node.counts.missed) nodes.now < 2 ^ 64 }
-    ensures { result ≡ sum_by (λ node. node.counts.missed) nodes.now }
+    requires few { sum_by (λ node. node.counts.missed) nodes.now < 2 ^ 48 }
+    ensures sum { result ≡ sum_by (λ node. node.counts.missed) nodes.now }
+    ensures few { result < 2 ^ 48 }
 {
     nodes.iter().map(|node| node.counts().missed).sum()
 }

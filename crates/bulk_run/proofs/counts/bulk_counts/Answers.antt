@@ -1,7 +1,7 @@
 use Rattle.std.proofs.Common.{◌≡◌, ◌%◌, sym, ◌∙◌, ap, arith, subst}
 use Rattle.std.proofs.lemmas.Result.{IfOk-weaker}
 use Rattle.bulk_run.specs.declared.counts.BulkCounts.{BulkCounts}
-use Rattle.bulk_run.specs.Steps.{AreHostCounts, plus}
+use Rattle.bulk_run.specs.inner.Steps.{AreHostCounts, plus}
 use Rattle.bulk_run.proofs.HostOfCores.{host_of_cores, host_of_full_cores, admitted_counts}
 use Rattle.bulk_run.proofs.counts.bulk_counts.Goals as goal
 

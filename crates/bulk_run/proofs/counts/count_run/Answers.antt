@@ -1,4 +1,4 @@
-use Rattle.std.proofs.Common.{◌≡◌, ℕ, ◌+◌, ◌^◌, ◌<◌, List, Vec, Global, length, map, refl, sym, ◌∙◌, ap, arith, subst}
+use Rattle.std.proofs.Common.{◌≡◌, ℕ, List, Vec, Global, length, map, refl, sym, ◌∙◌, ap, arith, subst}
 use Rattle.std.specs.Prelude.{sum, sum_by}
 use Rattle.std.proofs.lemmas.List.{length-map}
 use Rattle.slot_model.specs.declared.job.Job.{Job}
@@ -12,7 +12,7 @@ use Rattle.tree_spans.specs.TreeSpans.{node_at}
 use Rattle.bulk_host.specs.Host.{bulk_host, bulk_budgets}
 use Rattle.bulk_host.proofs.Systems.{cores-many}
 use Rattle.bulk_run.specs.Summary.{bulk_jobs}
-use Rattle.bulk_run.specs.Steps.{AreGuestRuns}
+use Rattle.bulk_run.specs.inner.Steps.{AreGuestRuns}
 use Rattle.bulk_run.proofs.HostRun.{jobs-many, guest_runs}
 use Rattle.bulk_run.proofs.Counting.{budgets_bounded, jobs_bounded, cores_missed, guests_missed, few_at_cores, few_at_parts, guests_pending, jobs_in_all, same_counts}
 use Rattle.bulk_run.proofs.counts.count_run.Goals as goal
@@ -78,21 +78,6 @@ jobs_told c =
 cores_told : (c : goal.In_ok-pending) → length c.cores-pinned.result.now ≡ length (bulk_host c.args.n).cores
 cores_told c = ap length c.cores-pinned.ensures.cores ∙ ap (λ (s : SystemView). length s.cores) c.requires.host
 
-few_missed : (c : goal.In_ok-pending) → c.misses_of-at_cores.result + c.misses_of-at_parts.result < 2 ^ 49
-few_missed c =
-    omega (
-      arith,
-      c.misses_of-at_cores.ensures,
-      c.misses_of-at_parts.ensures,
-      few_at_cores c.args.n c.requires.some c.requires.most c.args.tree.now c.requires.tree c.cores.result.now
-          c.cores.ensures,
-      few_at_parts c.args.n c.requires.most c.args.tree.now c.requires.tree c.parts-guests.result.now
-          c.parts-guests.ensures,
-    )
-
-pub overflow_add-result : goal.overflow_add-result
-overflow_add-result c = record { fits = omega (arith, few_missed c) }
-
 pub returns-clause-counts : goal.returns-clause-counts
 returns-clause-counts c =
     let n = c.args.n in
@@ -100,8 +85,8 @@ returns-clause-counts c =
     same_counts _ _ _ _ _ _ _ _ _ _ _ _ refl (cores_told c) (budgets_told c) (jobs_told c)
     (omega (
       arith,
-      c.misses_of-at_cores.ensures,
-      c.misses_of-at_parts.ensures,
+      c.misses_of-at_cores.ensures.sum,
+      c.misses_of-at_parts.ensures.sum,
       cores_missed n (bulk_budgets n) tree c.requires.tree c.cores.result.now c.cores.ensures,
       guests_missed n (bulk_budgets n) tree c.requires.tree c.parts-guests.result.now c.parts-guests.ensures,
     ))
@@ -120,7 +105,7 @@ returns-clause-few c = record {
   cores = omega (arith, cores_told c, cores-many c.args.n, c.requires.most);
   budgets = omega (arith, budgets_told c, budgets_bounded c.args.n c.requires.most);
   jobs = omega (arith, jobs_told c, jobs_bounded c.args.n c.requires.most);
-  missed = omega (arith, few_missed c);
+  missed = omega (arith, c.misses_of-at_cores.ensures.few, c.misses_of-at_parts.ensures.few);
   pending =
       omega (
         arith,
