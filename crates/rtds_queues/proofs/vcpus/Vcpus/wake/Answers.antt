@@ -1,0 +1,14 @@
+use Rattle.std.proofs.Common.{List, length, refl, ap, arith}
+use Rattle.rtds_queues.specs.declared.account.Account.{Account}
+use Rattle.rtds_queues.specs.declared.account.Change.TheVariants.{Wake}
+use Rattle.rtds_queues.proofs.Setting.{change_kept}
+use Rattle.rtds_queues.proofs.vcpus.Vcpus.wake.Goals as goal
+
+pub invariant_of-self : goal.invariant_of-self
+invariant_of-self c =
+    let in_it = c.self.inside in
+    change_kept in_it.accounts in_it.queue in_it.by_end.items c.self.invariant c.args.v
+    (omega (arith, c.requires, ap (λ (xs : List Account). length xs) c.self.view_is))
+    Wake c.deref_mut.result.now c.deref_mut.ensures.value c.change.new.accounts
+    (omega (arith, c.change.auto.accounts, c.deref_mut.ensures.len)) c.change.ensures.accounts
+    c.change.new.self c.change.ensures.are c.change.ensures.inside refl
