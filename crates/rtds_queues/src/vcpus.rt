@@ -36,7 +36,8 @@ impl Vcpus {
     ghost use Rattle.std.specs.Prelude.{◌≡◌, ℕ, suc, ◌<◌, ◌≤◌, ◌+◌, ◌^◌, ◌≢◌, Some, None, length, slice_set, IfOk};
     ghost use Rattle.slot_model.specs.declared.task.TheConstants.{LIMIT};
     ghost use Rattle.tree_model.specs.declared.system.TheConstants.{MAX_PARTS};
-    ghost use Rattle.rtds_queues.specs.Accounts.{account_at, starting, waking, blocking, had_slots, begun};
+    ghost use Rattle.rtds_queues.specs.declared.account.Change.TheVariants.{HadBudget};
+    ghost use Rattle.rtds_queues.specs.Accounts.{account_at, end_at, starting, waking, blocking, changed, had_slots, begun};
     ghost use Rattle.rtds_queues.specs.Vcpus.{HavePeriods, IsChoice, IsFirstEnd, IsPlaceOf, NoEndBefore, NoneStarted};
     ghost use Rattle.rtds_queues.specs.inner.Vcpus.{BeginsOne};
 
@@ -112,7 +113,7 @@ impl Vcpus {
         requires { v < length self.old }
         ensures { self.new ≡ slice_set self.old v (waking (account_at self.old v)) }
     {
-        self.queue.change(&mut self.accounts, v, Change::Wake);
+        self.change(v, Change::Wake);
     }
 
     /// VCPU `v` blocks.
@@ -120,7 +121,7 @@ impl Vcpus {
         requires { v < length self.old }
         ensures { self.new ≡ slice_set self.old v (blocking (account_at self.old v)) }
     {
-        self.queue.change(&mut self.accounts, v, Change::Block);
+        self.change(v, Change::Block);
     }
 
     /// Counts some slots, which VCPU `v` had.
@@ -133,8 +134,19 @@ impl Vcpus {
         if slots < self.accounts[v as usize].left {
             self.accounts[v as usize].use_slots(slots);
         } else {
-            self.queue.change(&mut self.accounts, v, Change::HadBudget);
+            self.change(v, Change::HadBudget);
         }
+    }
+
+    /// Changes the account of VCPU `v`, whose period ends as before.
+    #[inline(always)]
+    fn change(&mut self, v: u32, change: Change)
+        requires is_vcpu { v < length self.old }
+        requires few { change ≡ HadBudget → (account_at self.old v).level + 1 < 2 ^ 64 }
+        requires ends { (changed change (account_at self.old v)).until ≡ end_at self.old v }
+        ensures { self.new ≡ slice_set self.old v (changed change (account_at self.old v)) }
+    {
+        self.queue.change(&mut self.accounts, v, change);
     }
 
     /// Begins the periods that begin at slot `at`.
