@@ -8,7 +8,7 @@ use Rattle.slot_model.specs.declared.task.TheConstants.{LIMIT}
 use Rattle.slot_model.specs.Slots.{count_below}
 use Rattle.rtds_queues.specs.declared.account.Account.{Account}
 use Rattle.rtds_queues.specs.Accounts.{account_at, end_at, renewed, begun}
-use Rattle.rtds_queues.specs.inner.Queues.{place_at, with_numbers}
+use Rattle.rtds_queues.specs.inner.Queues.{place_at}
 use Rattle.rtds_queues.specs.inner.ByEnd.{InOrder, AreByEnd}
 use Rattle.rtds_queues.specs.Vcpus.{HavePeriods, NoEndBefore, IsFirstEnd}
 use Rattle.rtds_queues.specs.inner.Vcpus.{BeginsOne}
@@ -114,12 +114,6 @@ behind_kept accounts list h a j k l m n =
         ap (λ (z : Account). z.until)
         (account_there accounts (place_at list 0) (place_at list i) a
         (λ e. omega (arith, some, h.all.once i 0 in_list (omega (arith, some, in_list)) e)))
-
--- a period that begins changes the numbers alone
-pub renewed_same : (a b r : Account) (end : ℕ) → b ≡ a → r ≡ renewed b end → with_numbers a r ≡ r
-renewed_same a b r end e is =
-    ap (with_numbers a) (is ∙ ap (λ (z : Account). renewed z end) e)
-    ∙ sym (is ∙ ap (λ (z : Account). renewed z end) e)
 
 -- one of them begins its period
 module _ (at : ℕ) (old new : List Account) (one : BeginsOne at old new) (periods : HavePeriods old) where

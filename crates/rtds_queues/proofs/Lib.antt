@@ -4,7 +4,7 @@ pub mod Listing
 pub mod Walking
 pub mod Queueing
 pub mod Membership
-pub mod Sinking
+pub mod Turning
 pub mod Firsts
 pub mod Setting
 pub mod Beginning

@@ -4,10 +4,11 @@ use Rattle.std.specs.Vec.{with_items}
 use Rattle.std.proofs.lemmas.Bool.{cases_eq}
 use Rattle.std.proofs.lemmas.List.{get_or-set_same, get_or-set_other, length-set, with_items_is}
 use Rattle.rtds_queues.specs.declared.account.Account.{Account}
+use Rattle.rtds_queues.specs.declared.account.Change.{Change}
 use Rattle.rtds_queues.specs.declared.queue.Queue.{Queue}
-use Rattle.rtds_queues.specs.Accounts.{no_account, account_at, end_at, account_eligible}
+use Rattle.rtds_queues.specs.Accounts.{no_account, account_at, end_at, account_eligible, changed}
 use Rattle.rtds_queues.specs.inner.Queues.{place_at, stands_in, AreQueued}
-use Rattle.rtds_queues.specs.inner.ByEnd.{AreAll, InOrder, AreByEnd}
+use Rattle.rtds_queues.specs.inner.ByEnd.{AreAll, InOrder, InOrderBut, AreByEnd}
 use Rattle.rtds_queues.specs.Vcpus.{NoneStarted}
 use Rattle.rtds_queues.specs.inner.Vcpus.{AreVcpus}
 use Rattle.rtds_queues.proofs.Firsts.{order_kept}
@@ -46,6 +47,16 @@ module _ (accounts : List Account) (queue : Queue) (by_end : List ℕ) (h : AreV
       all = subst (λ (n : ℕ). AreAll n by_end) (sym (length-set accounts v a)) h.ends.all;
       order = order_kept accounts new by_end 0 (λ i l. ends_same e (place_at by_end i)) h.ends.order;
     }
+
+    -- all but that one stand in the order of their ends still
+    pub others_kept : InOrderBut new v by_end
+    others_kept j k l in_list nj nk =
+        omega (
+          arith,
+          h.ends.order j k (omega arith) l in_list,
+          ap (λ (z : Account). z.until) (account_there accounts v (place_at by_end j) a nj),
+          ap (λ (z : Account). z.until) (account_there accounts v (place_at by_end k) a nk),
+        )
 
     module _ (now : List Account) (is : now ≡ new) where
       -- the queue has those that are eligible, and the list of ends is in order
@@ -106,18 +117,54 @@ module _ (accounts : List Account) (queue : Queue) (by_end : List ℕ) (h : AreV
               vcpus_ordered by_end h.ends.all
               (subst (λ (xs : List Account). InOrder xs by_end 0) (sym is) (same_by_end e).order)
 
--- the accounts were written as a slice, and so was the list of ends
+-- the accounts were written as a slice
 pub accounts_written : (own : Vec Account Global) (accounts : List Account) (queue : Queue) (by_end : List ℕ)
     → length accounts ≡ own.len → AreVcpus accounts queue by_end
     → AreVcpus (with_items own accounts).items queue by_end
 accounts_written own accounts queue by_end long =
     subst (λ (xs : List Account). AreVcpus xs queue by_end) (sym (with_items_is own accounts long))
 
-pub ends_written : (own : Vec ℕ Global) (accounts : List Account) (queue : Queue) (by_end : List ℕ)
-    → length by_end ≡ own.len → AreVcpus accounts queue by_end
-    → AreVcpus accounts queue (with_items own by_end).items
-ends_written own accounts queue by_end long =
-    subst (AreVcpus accounts queue) (sym (with_items_is own by_end long))
+-- an account of the slice has changed
+pub change_is : (accounts slice now : List Account) (v : ℕ) (change : Change) → slice ≡ accounts
+    → now ≡ set slice v (changed change (account_at slice v))
+    → now ≡ set accounts v (changed change (account_at accounts v))
+change_is accounts slice now v change value is =
+    is ∙ ap (λ (xs : List Account). set xs v (changed change (account_at xs v))) value
+
+-- and the queue with it
+module _ (own : Vec Account Global) (queue : Queue) (by_end : List ℕ) (h : AreVcpus own.items queue by_end) (v : ℕ)
+    (lv : v < length own.items) (change : Change) (slice : List Account) (value : slice ≡ own.items)
+    (now : List Account) (long : length now ≡ own.len)
+    (is : now ≡ set slice v (changed change (account_at slice v)))
+    (after : Queue) (queued : AreQueued now after)
+    (inside : after.inside ≡ set queue.inside v (account_eligible (changed change (account_at slice v))))
+  where
+    abbrev its_new : Account
+    its_new = changed change (account_at own.items v)
+
+    new_is : now ≡ set own.items v its_new
+    new_is = change_is own.items slice now v change value is
+
+    its_inside : after.inside ≡ set queue.inside v (account_eligible its_new)
+    its_inside =
+        inside
+        ∙ ap (λ (xs : List Account). set queue.inside v (account_eligible (changed change (account_at xs v)))) value
+
+    -- its period ends as before
+    pub change_kept : its_new.until ≡ end_at own.items v → AreVcpus (with_items own now).items after by_end
+    change_kept e =
+        accounts_written own now after by_end long
+        (vcpus_kept own.items queue by_end h v lv its_new now new_is after queued its_inside e)
+
+    -- or the list of ends was put in order, as a slice
+    pub change_ordered : (ends : Vec ℕ Global) (list : List ℕ) → length list ≡ ends.len → AreAll (length own.items) list
+        → (accounts : List Account) → accounts ≡ (with_items own now).items → InOrder accounts list 0
+        → AreVcpus (with_items own now).items after (with_items ends list).items
+    change_ordered ends list as_long all accounts read order =
+        accounts_written own now after (with_items ends list).items long
+        (subst (AreVcpus now after) (sym (with_items_is ends list as_long))
+        (vcpus_ordered own.items queue by_end h v lv its_new now new_is after queued its_inside list all
+        (subst (λ (xs : List Account). InOrder xs list 0) (read ∙ with_items_is own now long) order)))
 
 -- where none is started, any list is in order
 pub none_started : (accounts : List Account) (queue : Queue) (by_end : List ℕ) → NoneStarted accounts

@@ -1,6 +1,8 @@
 -- A VCPU of a core: its numbers, and what is kept of it between two events.
-use Rattle.std.specs.Prelude.{ℕ, suc, ◌+◌, ◌-◌, ◌==◌, Bool, false, not, ◌&&◌, ◌||◌, nat_lt, if◌then◌else◌, List, slice_index_or}
+use Rattle.std.specs.Prelude.{ℕ, suc, ◌+◌, ◌-◌, ◌==◌, Bool, true, false, not, ◌&&◌, ◌||◌, nat_lt, if◌then◌else◌, List, slice_index_or}
 use Rattle.rtds_queues.specs.declared.account.Account.{Account}
+use Rattle.rtds_queues.specs.declared.account.Change.{Change}
+use Rattle.rtds_queues.specs.declared.account.Change.TheVariants.{Start, Wake, Block, Begin, HadBudget}
 use Rattle.rtds_queues.specs.declared.account.TheConstants.{PAST_ALL}
 use Rattle.rtds_queues.specs.Keys.{goes_first}
 
@@ -36,7 +38,25 @@ using account slots = record account { left = account.left - slots }
 abbrev pub had_budget : Account → Account
 had_budget account = record account { level = suc account.level; left = account.budget }
 
--- either of them, by how many slots were left
+-- an account whose VCPU starts, in a period that ends at slot `end`, wakes, or blocks
+abbrev pub starting : Account → ℕ → Account
+starting account end = renewed (record account { started = true; blocked = false }) end
+
+abbrev pub waking : Account → Account
+waking account = record account { blocked = false }
+
+abbrev pub blocking : Account → Account
+blocking account = record account { blocked = true }
+
+-- an account after a change
+abbrev pub changed : Change → Account → Account
+changed (Start end) account = starting account end
+changed Wake account = waking account
+changed Block account = blocking account
+changed (Begin end) account = renewed account end
+changed HadBudget account = had_budget account
+
+-- an account whose VCPU has had some slots, which were its budget once more or left some of it
 abbrev pub had_slots : Account → ℕ → Account
 had_slots account slots =
     if nat_lt slots account.left then using account slots else had_budget account

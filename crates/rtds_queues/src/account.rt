@@ -1,5 +1,6 @@
 ghost use Rattle.std.specs.Prelude.{◌≡◌, ◌≤◌, ◌<◌, ◌+◌, ◌^◌};
-ghost use Rattle.rtds_queues.specs.Accounts.{no_account, renewed, using, had_budget, account_eligible, goes_ahead};
+ghost use Rattle.rtds_queues.specs.declared.account.Change.TheVariants.{HadBudget};
+ghost use Rattle.rtds_queues.specs.Accounts.{no_account, renewed, using, changed, account_eligible, goes_ahead};
 
 use slot_model::LIMIT;
 
@@ -26,6 +27,19 @@ pub struct Account {
     pub left: u64,
 }
 
+/// What changes an account.
+#[derive(Clone, Copy)]
+pub enum Change {
+    /// Its VCPU starts, in a period that ends at this slot.
+    Start(u64),
+    Wake,
+    Block,
+    /// A period begins that ends at this slot.
+    Begin(u64),
+    /// Its VCPU has had its budget once more.
+    HadBudget,
+}
+
 impl Account {
     /// Before its start.
     pub fn new(part: u32, period: u64, budget: u64, extra: bool) -> Account
@@ -45,42 +59,45 @@ impl Account {
         }
     }
 
-    /// Where a period of it begins that ends at slot `end`.
+    /// Has it have some slots, where more are left.
     #[inline(always)]
-    pub fn renewed(self, end: u64) -> Account
-        ensures { result ≡ renewed self end }
+    pub fn use_slots(&mut self, slots: u64)
+        requires { slots ≤ self.old.left }
+        ensures { self.new ≡ using self.old slots }
     {
-        Account {
-            until: end,
-            level: 0,
-            left: self.budget,
-            ..self
+        self.left -= slots;
+    }
+
+    /// Changes it.
+    #[inline(always)]
+    pub fn change(&mut self, change: Change)
+        requires { change ≡ HadBudget → self.old.level + 1 < 2 ^ 64 }
+        ensures { self.new ≡ changed change self.old }
+    {
+        match change {
+            Change::Start(end) => {
+                self.started = true;
+                self.blocked = false;
+                self.begin(end);
+            }
+            Change::Wake => self.blocked = false,
+            Change::Block => self.blocked = true,
+            Change::Begin(end) => self.begin(end),
+            Change::HadBudget => {
+                self.level += 1;
+                self.left = self.budget;
+            }
         }
     }
 
-    /// Once it has had some slots, where more are left.
+    /// Begins a period of it that ends at slot `end`.
     #[inline(always)]
-    pub fn using(self, slots: u64) -> Account
-        requires { slots ≤ self.left }
-        ensures { result ≡ using self slots }
+    fn begin(&mut self, end: u64)
+        ensures { self.new ≡ renewed self.old end }
     {
-        Account {
-            left: self.left - slots,
-            ..self
-        }
-    }
-
-    /// Once it has had its budget once more.
-    #[inline(always)]
-    pub fn had_budget(self) -> Account
-        requires { self.level + 1 < 2 ^ 64 }
-        ensures { result ≡ had_budget self }
-    {
-        Account {
-            level: self.level + 1,
-            left: self.budget,
-            ..self
-        }
+        self.until = end;
+        self.level = 0;
+        self.left = self.budget;
     }
 
     /// Whether it is started and not blocked, and has budget left or extra time.

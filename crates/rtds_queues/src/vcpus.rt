@@ -1,9 +1,9 @@
 ghost use Rattle.std.specs.Prelude.{◌≡◌, ℕ, ◌<◌, length, IfOk};
 ghost use Rattle.rtds_queues.specs.inner.Queues.{place_at};
 
-use crate::account::Account;
-use crate::by_end::{first_end, settle, sort};
-use crate::queue::{Queue, put_numbers};
+use crate::account::{Account, Change};
+use crate::by_end::{first_end, put_in_order, settle};
+use crate::queue::Queue;
 use slot_model::LIMIT;
 use std::alloc::{AllocError, Global};
 use std::marker::Model;
@@ -36,7 +36,8 @@ impl Vcpus {
     ghost use Rattle.std.specs.Prelude.{◌≡◌, ℕ, suc, ◌<◌, ◌≤◌, ◌+◌, ◌^◌, ◌≢◌, Some, None, length, slice_set, IfOk};
     ghost use Rattle.slot_model.specs.declared.task.TheConstants.{LIMIT};
     ghost use Rattle.tree_model.specs.declared.system.TheConstants.{MAX_PARTS};
-    ghost use Rattle.rtds_queues.specs.Accounts.{account_at, had_slots, begun};
+    ghost use Rattle.rtds_queues.specs.declared.account.Change.TheVariants.{HadBudget};
+    ghost use Rattle.rtds_queues.specs.Accounts.{account_at, end_at, starting, waking, blocking, changed, had_slots, begun};
     ghost use Rattle.rtds_queues.specs.Vcpus.{HavePeriods, IsChoice, IsFirstEnd, IsPlaceOf, NoEndBefore, NoneStarted};
     ghost use Rattle.rtds_queues.specs.inner.Vcpus.{BeginsOne};
 
@@ -94,13 +95,33 @@ impl Vcpus {
         first_end(&self.by_end, &self.accounts)
     }
 
-    /// Sets what is kept of VCPU `v`.
-    pub fn set(&mut self, v: u32, account: Account)
-        requires { v < length self.old }
-        ensures { self.new ≡ slice_set self.old v account }
+    /// VCPU `v` starts, and a period of it begins, at slot `at`.
+    pub fn start(&mut self, v: u32, at: u64)
+        requires is_vcpu { v < length self.old }
+        requires in_limit { at ≤ LIMIT }
+        requires period { (account_at self.old v).period ≤ LIMIT }
+        ensures { self.new ≡ slice_set self.old v
+            (starting (account_at self.old v) (at + (account_at self.old v).period)) }
     {
-        self.queue.set(&mut self.accounts, v, account);
-        sort(&mut self.by_end, &self.accounts);
+        let end = at + self.accounts[v as usize].period;
+        self.queue.change(&mut self.accounts, v, Change::Start(end));
+        put_in_order(&mut self.by_end, &self.accounts, v);
+    }
+
+    /// VCPU `v` wakes.
+    pub fn wake(&mut self, v: u32)
+        requires { v < length self.old }
+        ensures { self.new ≡ slice_set self.old v (waking (account_at self.old v)) }
+    {
+        self.change(v, Change::Wake);
+    }
+
+    /// VCPU `v` blocks.
+    pub fn block(&mut self, v: u32)
+        requires { v < length self.old }
+        ensures { self.new ≡ slice_set self.old v (blocking (account_at self.old v)) }
+    {
+        self.change(v, Change::Block);
     }
 
     /// Counts some slots, which VCPU `v` had.
@@ -110,13 +131,22 @@ impl Vcpus {
         requires few { (account_at self.old v).level + 1 < 2 ^ 64 }
         ensures { self.new ≡ slice_set self.old v (had_slots (account_at self.old v) slots) }
     {
-        let account = self.accounts[v as usize];
-        if slots < account.left {
-            put_numbers(&mut self.accounts, v, account.using(slots));
+        if slots < self.accounts[v as usize].left {
+            self.accounts[v as usize].use_slots(slots);
         } else {
-            self.queue
-                .set_numbers(&mut self.accounts, v, account.had_budget());
+            self.change(v, Change::HadBudget);
         }
+    }
+
+    /// Changes the account of VCPU `v`, whose period ends as before.
+    #[inline(always)]
+    fn change(&mut self, v: u32, change: Change)
+        requires is_vcpu { v < length self.old }
+        requires few { change ≡ HadBudget → (account_at self.old v).level + 1 < 2 ^ 64 }
+        requires ends { (changed change (account_at self.old v)).until ≡ end_at self.old v }
+        ensures { self.new ≡ slice_set self.old v (changed change (account_at self.old v)) }
+    {
+        self.queue.change(&mut self.accounts, v, change);
     }
 
     /// Begins the periods that begin at slot `at`.
@@ -143,8 +173,8 @@ impl Vcpus {
         ensures { BeginsOne at self.old self.new }
     {
         let v = self.by_end[0];
-        let account = self.accounts[v as usize];
-        self.queue.set_numbers(&mut self.accounts, v, account.renewed(at + account.period));
+        let end = at + self.accounts[v as usize].period;
+        self.queue.change(&mut self.accounts, v, Change::Begin(end));
         settle(&mut self.by_end, &self.accounts);
     }
 }

@@ -1,12 +1,13 @@
-ghost use Rattle.std.specs.Prelude.{◌≡◌, ◌<◌, length, map, IfOk};
+ghost use Rattle.std.specs.Prelude.{◌≡◌, ◌<◌, ◌≤◌, ◌+◌, length, map, slice_set, IfOk};
+ghost use Rattle.slot_model.specs.declared.task.TheConstants.{LIMIT};
 ghost use Rattle.slot_model.specs.Slots.{places_where};
 ghost use Rattle.tree_model.specs.declared.place.Place.TheVariants.{Core};
 ghost use Rattle.tree_model.specs.Tree.{is_child};
 ghost use Rattle.tree_model.specs.Plans.{IsPlan};
-ghost use Rattle.rtds_sim.specs.inner.Accounts.{new_account};
+ghost use Rattle.rtds_queues.specs.Accounts.{account_at};
+ghost use Rattle.rtds_sim.specs.inner.Accounts.{new_account, row_taken};
 
-use crate::account::taking;
-use release_file::Wake;
+use release_file::{Wake, WakeKind};
 use rtds_queues::{Account, Vcpus};
 use slot_model::LIMIT;
 use std::alloc::{AllocError, Global};
@@ -55,9 +56,7 @@ impl HostCore {
         ensures holder { self.new.holder ≡ self.old.holder }
     {
         if let Some(v) = self.vcpus.place_of(row.vcpu) {
-            let account = self.vcpus.account(v);
-            self.vcpus
-                .set(v, taking(account, row.what, row.at + account.period));
+            take_row(&mut self.vcpus, v, row);
         }
     }
 
@@ -70,6 +69,21 @@ impl HostCore {
             Some(v) => self.vcpus.account(v).blocked,
             None => false,
         }
+    }
+}
+
+/// Has VCPU `v` take a row.
+fn take_row(vcpus: &mut Vcpus, v: u32, row: Wake)
+    requires is_vcpu { v < length vcpus.old }
+    requires in_limit { row.at ≤ LIMIT }
+    requires period { (account_at vcpus.old v).period ≤ LIMIT }
+    ensures { vcpus.new ≡ slice_set vcpus.old v (row_taken row.what
+        (row.at + (account_at vcpus.old v).period) (account_at vcpus.old v)) }
+{
+    match row.what {
+        WakeKind::Start => vcpus.start(v, row.at),
+        WakeKind::Wake => vcpus.wake(v),
+        WakeKind::Block => vcpus.block(v),
     }
 }
 

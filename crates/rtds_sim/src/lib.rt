@@ -2,7 +2,6 @@
 //! by itself, and the trace that a workload gives.
 #![tactic(auto)]
 
-mod account;
 mod fault;
 mod host;
 mod host_core;

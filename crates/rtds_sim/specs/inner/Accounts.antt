@@ -13,7 +13,7 @@ use Rattle.release_file.specs.declared.workload.WakeKind.{WakeKind}
 use Rattle.release_file.specs.declared.workload.WakeKind.TheVariants.{Start, Wake, Block}
 use Rattle.release_file.specs.Workload.{row_at, started_after, blocked_after}
 use Rattle.rtds_queues.specs.declared.account.Account.{Account}
-use Rattle.rtds_queues.specs.Accounts.{no_account, account_at, renewed, had_slots}
+use Rattle.rtds_queues.specs.Accounts.{no_account, account_at, renewed, starting, waking, blocking, had_slots}
 use Rattle.rtds_queues.specs.Vcpus.{IsPlaceOf, NoEndBefore}
 use Rattle.rtds_sim.specs.declared.host_core.HostCore.{HostCore}
 use Rattle.rtds_sim.specs.declared.host.Host.{Host}
@@ -58,10 +58,9 @@ InTurn accounts = (u v : ℕ) → u < v → v < length accounts →
 
 -- an account after a row of its VCPU, at which a period would begin that ends at slot `end`
 abbrev pub row_taken : WakeKind → ℕ → Account → Account
-row_taken Start end account =
-    renewed (record account { started = true; blocked = false }) end
-row_taken Wake end account = record account { blocked = false }
-row_taken Block end account = record account { blocked = true }
+row_taken Start end account = starting account end
+row_taken Wake end account = waking account
+row_taken Block end account = blocking account
 
 -- a row is taken by the VCPU that is its part
 pub record TakesRow (row : Row) (old new : List Account) : Type 0 where

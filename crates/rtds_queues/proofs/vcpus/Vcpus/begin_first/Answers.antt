@@ -2,16 +2,16 @@ use Rattle.std.proofs.Common.{◌≡◌, ◌<◌, ◌+◌, ℕ, List, length, se
 use Rattle.std.specs.Vec.{with_items}
 use Rattle.std.proofs.lemmas.List.{get_or_default, with_items_is}
 use Rattle.rtds_queues.specs.declared.account.Account.{Account}
+use Rattle.rtds_queues.specs.declared.account.Change.TheVariants.{Begin}
 use Rattle.rtds_queues.specs.Accounts.{no_account, account_at, end_at, renewed}
-use Rattle.rtds_queues.specs.inner.Queues.{with_numbers}
 use Rattle.rtds_queues.specs.inner.ByEnd.{AreAll, InOrder}
 use Rattle.rtds_queues.specs.inner.Queues.{place_at}
 use Rattle.rtds_queues.specs.Vcpus.{HavePeriods, IsFirstEnd}
 use Rattle.rtds_queues.specs.inner.Vcpus.{BeginsOne}
-use Rattle.rtds_queues.proofs.Beginning.{FirstIn, first_in, behind_kept, renewed_same}
-use Rattle.rtds_queues.proofs.Setting.{vcpus_ordered, accounts_written, ends_written}
+use Rattle.rtds_queues.proofs.Beginning.{FirstIn, first_in, behind_kept}
+use Rattle.rtds_queues.proofs.Setting.{change_is, change_ordered}
 use Rattle.rtds_queues.proofs.vcpus.Vcpus.begin_first.Goals as goal
-use Rattle.rtds_queues.proofs.vcpus.Vcpus.begin_first.Goals.{After-index-v, After-index-account, After-set_numbers, After-settle}
+use Rattle.rtds_queues.proofs.vcpus.Vcpus.begin_first.Goals.{After-index-v, After-index, After-change}
 
 pub index-v-requires : goal.index-v-requires
 index-v-requires c =
@@ -37,42 +37,35 @@ is_first c = c.index-v.ensures ∙ get_or_default c.self.inside.by_end.items 0 _
 room : (c : After-index-v) → c.index-v.result.now < length c.self.inside.accounts.items
 room c = omega (arith, is_first c, (first c).within)
 
-read : (c : After-index-account)
-    → c.index-account.result.now ≡ account_at c.self.inside.accounts.items c.index-v.result.now
+read : (c : After-index)
+    → c.index.result.now ≡ account_at c.self.inside.accounts.items c.index-v.result.now
 read c =
-    c.index-account.ensures
+    c.index.ensures
     ∙ get_or_default c.self.inside.accounts.items c.index-v.result.now _ no_account
-    (room (goal.at.After-index-account c).After-index-v)
+    (room (goal.at.After-index c).After-index-v)
 
-pub index-account-requires : goal.index-account-requires
-index-account-requires c =
-    omega (arith, room (goal.at.index-account-requires c).After-index-v, c.self.inside.accounts.ok.0)
+pub index-requires : goal.index-requires
+index-requires c =
+    omega (arith, room (goal.at.index-requires c).After-index-v, c.self.inside.accounts.ok.0)
 
-pub overflow_add-at : goal.overflow_add-at
-overflow_add-at c =
+pub overflow_add-end : goal.overflow_add-end
+overflow_add-end c =
     let in_it = c.self.inside in
     omega (
       arith,
       c.requires.in_limit,
-      (first (goal.at.overflow_add-at c).After-index-v).in_limit,
-      ap (λ (v : ℕ). (account_at in_it.accounts.items v).period) (is_first (goal.at.overflow_add-at c).After-index-v),
-      ap (λ (a : Account). a.period) (read (goal.at.overflow_add-at c).After-index-account),
+      (first (goal.at.overflow_add-end c).After-index-v).in_limit,
+      ap (λ (v : ℕ). (account_at in_it.accounts.items v).period) (is_first (goal.at.overflow_add-end c).After-index-v),
+      ap (λ (a : Account). a.period) (read (goal.at.overflow_add-end c).After-index),
     )
 
-pub set_numbers-requires-clause-is_vcpu : goal.set_numbers-requires-clause-is_vcpu
-set_numbers-requires-clause-is_vcpu c =
+pub change-requires-clause-is_vcpu : goal.change-requires-clause-is_vcpu
+change-requires-clause-is_vcpu c =
     omega (
       arith,
-      room (goal.at.set_numbers-requires-clause-is_vcpu c).After-index-v,
+      room (goal.at.change-requires-clause-is_vcpu c).After-index-v,
       ap (λ (xs : List Account). length xs) c.deref_mut.ensures.value,
     )
-
-pub set_numbers-requires-clause-same : goal.set_numbers-requires-clause-same
-set_numbers-requires-clause-same c =
-    ap (λ (xs : List Account). with_numbers (account_at xs c.index-v.result.now) c.renewed.result)
-    c.deref_mut.ensures.value
-    ∙ renewed_same (account_at c.self.inside.accounts.items c.index-v.result.now) c.index-account.result.now
-    c.renewed.result _ (read (goal.at.set_numbers-requires-clause-same c).After-index-account) c.renewed.ensures
 
 pub settle-requires-clause-some : goal.settle-requires-clause-some
 settle-requires-clause-some c =
@@ -83,45 +76,47 @@ settle-requires-clause-some c =
     )
 
 -- the accounts now
-long : (c : After-set_numbers) → length c.set_numbers.new.accounts ≡ c.self.inside.accounts.len
-long c = omega (arith, c.set_numbers.auto.accounts, c.deref_mut.ensures.len)
+long : (c : After-change) → length c.change.new.accounts ≡ c.self.inside.accounts.len
+long c = omega (arith, c.change.auto.accounts, c.deref_mut.ensures.len)
 
-accounts_are : (c : After-set_numbers)
-    → c.set_numbers.new.accounts ≡ set c.self.inside.accounts.items c.index-v.result.now c.renewed.result
+accounts_are : (c : After-change)
+    → c.change.new.accounts
+    ≡ set c.self.inside.accounts.items c.index-v.result.now
+    (renewed (account_at c.self.inside.accounts.items c.index-v.result.now) (c.args.at + c.index.result.now.period))
 accounts_are c =
-    c.set_numbers.ensures.accounts
-    ∙ ap (λ (xs : List Account). set xs c.index-v.result.now c.renewed.result) c.deref_mut.ensures.value
+    change_is c.self.inside.accounts.items c.deref_mut.result.now c.change.new.accounts c.index-v.result.now
+    (Begin (c.args.at + c.index.result.now.period)) c.deref_mut.ensures.value c.change.ensures.accounts
 
 pub settle-requires-clause-behind : goal.settle-requires-clause-behind
 settle-requires-clause-behind c =
     let in_it = c.self.inside in
     let at = goal.at.settle-requires-clause-behind c in
-    let is : c.deref.result.now ≡ set in_it.accounts.items (place_at in_it.by_end.items 0) c.renewed.result
+    let end : ℕ = c.args.at + c.index.result.now.period in
+    let begun : ℕ → Account = λ v. renewed (account_at in_it.accounts.items v) end in
+    let next : Account = begun (place_at in_it.by_end.items 0) in
+    let is : c.deref.result.now ≡ set in_it.accounts.items (place_at in_it.by_end.items 0) next
     = c.deref.ensures.value
-    ∙ (with_items_is in_it.accounts c.set_numbers.new.accounts (long at.After-set_numbers)
-    ∙ (accounts_are at.After-set_numbers
-    ∙ ap (λ (v : ℕ). set in_it.accounts.items v c.renewed.result) (is_first at.After-index-v))) in
+    ∙ (with_items_is in_it.accounts c.change.new.accounts (long at.After-change)
+    ∙ (accounts_are at.After-change
+    ∙ ap (λ (v : ℕ). set in_it.accounts.items v (begun v)) (is_first at.After-index-v))) in
     subst (λ (xs : List Account). InOrder xs c.deref_mut-2.result.now 1) (sym is)
-    (subst (λ (xs : List ℕ). InOrder (set in_it.accounts.items (place_at in_it.by_end.items 0) c.renewed.result) xs 1)
+    (subst (λ (xs : List ℕ). InOrder (set in_it.accounts.items (place_at in_it.by_end.items 0) next) xs 1)
     (sym c.deref_mut-2.ensures.value)
-    (behind_kept in_it.accounts.items in_it.by_end.items c.self.invariant.ends c.renewed.result))
+    (behind_kept in_it.accounts.items in_it.by_end.items c.self.invariant.ends next))
 
 pub invariant_of-self : goal.invariant_of-self
 invariant_of-self c =
     let in_it = c.self.inside in
     let at = goal.at.invariant_of-self c in
-    let accounts : List Account = in_it.accounts.items in
-    let now : List Account = c.set_numbers.new.accounts in
-    accounts_written in_it.accounts now c.set_numbers.new.self _ (long at.After-set_numbers)
-    (ends_written in_it.by_end now c.set_numbers.new.self c.settle.new.vcpus
+    change_ordered in_it.accounts in_it.queue in_it.by_end.items c.self.invariant c.index-v.result.now
+    (room at.After-index-v) (Begin (c.args.at + c.index.result.now.period))
+    c.deref_mut.result.now c.deref_mut.ensures.value c.change.new.accounts
+    (long at.After-change) c.change.ensures.accounts c.change.new.self c.change.ensures.are c.change.ensures.inside
+    in_it.by_end c.settle.new.vcpus
     (omega (arith, c.settle.auto.vcpus, c.deref_mut-2.ensures.len))
-    (vcpus_ordered accounts in_it.queue in_it.by_end.items c.self.invariant c.index-v.result.now
-    (room at.After-index-v) c.renewed.result now (accounts_are at.After-set_numbers)
-    c.set_numbers.new.self c.set_numbers.ensures.are c.set_numbers.ensures.inside c.settle.new.vcpus
-    (c.settle.ensures.all (length accounts)
-    (subst (AreAll (length accounts)) (sym c.deref_mut-2.ensures.value) c.self.invariant.ends.all))
-    (subst (λ (xs : List Account). InOrder xs c.settle.new.vcpus 0)
-    (c.deref.ensures.value ∙ with_items_is in_it.accounts now (long at.After-set_numbers)) c.settle.ensures.order)))
+    (c.settle.ensures.all (length in_it.accounts.items)
+    (subst (AreAll (length in_it.accounts.items)) (sym c.deref_mut-2.ensures.value) c.self.invariant.ends.all))
+    c.deref.result.now c.deref.ensures.value c.settle.ensures.order
 
 pub returns : goal.returns
 returns c =
@@ -129,17 +124,16 @@ returns c =
     let at = goal.at.returns c in
     let accounts : List Account = in_it.accounts.items in
     let v : ℕ = c.index-v.result.now in
-    let next : c.renewed.result ≡ renewed (account_at accounts v) (c.args.at + (account_at accounts v).period)
-    = c.renewed.ensures
-    ∙ ap (λ (a : Account). renewed a (c.args.at + a.period)) (read at.After-index-account) in
     subst
-    (λ (xs : List Account). BeginsOne c.args.at xs (with_items in_it.accounts c.set_numbers.new.accounts).items)
+    (λ (xs : List Account). BeginsOne c.args.at xs (with_items in_it.accounts c.change.new.accounts).items)
     c.self.view_is
     (record {
       vcpu = v;
       is_vcpu = room at.After-index-v;
       ended = ap (end_at accounts) (is_first at.After-index-v) ∙ (first at.After-index-v).ended;
       set_is =
-          with_items_is in_it.accounts c.set_numbers.new.accounts (long at.After-set_numbers)
-          ∙ (accounts_are at.After-set_numbers ∙ ap (set accounts v) next);
+          with_items_is in_it.accounts c.change.new.accounts (long at.After-change)
+          ∙ (accounts_are at.After-change
+          ∙ ap (λ (a : Account). set accounts v (renewed (account_at accounts v) (c.args.at + a.period)))
+          (read at.After-index));
     })

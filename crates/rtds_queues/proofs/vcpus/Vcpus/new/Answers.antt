@@ -1,5 +1,5 @@
 use Rattle.std.proofs.Common.{◌≡◌, length, arith}
-use Rattle.rtds_queues.proofs.Sinking.{in_turn_all}
+use Rattle.rtds_queues.proofs.Turning.{in_turn_all}
 use Rattle.rtds_queues.proofs.Setting.{none_started}
 use Rattle.rtds_queues.proofs.vcpus.Vcpus.new.Goals as goal
 
