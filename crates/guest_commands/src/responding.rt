@@ -13,14 +13,11 @@ ghost use Rattle.guest_commands.specs.Responses.{is_fixed_leaf, answered_at, Ans
 use fp_request::{RankedLevel, room_at};
 use response_times::response_in;
 use rt_report::Response;
-use slot_model::{Sched, Task};
+use slot_model::{MOST_SLOTS, Sched, Task};
 use std::alloc::{AllocError, Global};
 use supply_bound::{Periodic, Supply};
 use tree_model::{MAX_TASKS, Part, Plan, System, own_tasks_in};
 use window_terms::Term;
-
-/// The longest run whose replay is told, in slots.
-const MOST_SLOTS: u64 = 1_000_000;
 
 /// The responses of the tasks of all leaves under a fixed priority, in file order.
 pub fn respond_all(alloc: Global, sys: &System, plan: &Plan) -> Result<Vec<Response>, AllocError>
