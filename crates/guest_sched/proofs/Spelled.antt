@@ -1,5 +1,5 @@
 -- Windows that spell a pattern of slots, as far as they were made.
-use Rattle.std.proofs.Common.{◌≡◌, ℕ, ◌<◌, ◌≤◌, Bool, true, false, List, [], ◌∷◌, ◌++◌, Some, None, length, get_or, sym, ◌∙◌, arith, inl, inr}
+use Rattle.std.proofs.Common.{◌≡◌, ℕ, ◌-◌, ◌<◌, ◌≤◌, Bool, true, false, List, [], ◌∷◌, ◌++◌, Option, Some, None, length, get_or, sym, subst, ◌∙◌, arith, inl, inr}
 use Rattle.std.proofs.lemmas.Bool.{cases_lt}
 use Rattle.std.proofs.lemmas.List.{ext_get_or}
 use Rattle.slot_model.specs.Supply.{Follows}
@@ -70,7 +70,7 @@ only_list pattern n windows given made follows long =
     (λ i l. made i l ∙ sym (follows i (omega (arith, slots-long windows n))))
 
 -- the next window of the pattern, and none more
-pub one_next_more : (pattern : ℕ → Bool) (from n : ℕ) (window : Window) (windows : List Window)
+one_next_more : (pattern : ℕ → Bool) (from n : ℕ) (window : Window) (windows : List Window)
     → Spells pattern from windows → IsNextWindow pattern from n (Some window)
     → Spells pattern window.until (windows ++ window ∷ [])
 one_next_more pattern from n window windows h next =
@@ -79,6 +79,41 @@ one_next_more pattern from n window windows h next =
     then_all pattern window.from window.until windows (windows ++ window ∷ []) up_to
     (one_window windows window.from window.until up_to.fit next.some) next.every
 
-pub no_next_more : (pattern : ℕ → Bool) (from n : ℕ) (windows : List Window) → from ≤ n → Spells pattern from windows
+no_next_more : (pattern : ℕ → Bool) (from n : ℕ) (windows : List Window) → from ≤ n → Spells pattern from windows
     → IsNextWindow pattern from n None → Spells pattern n windows
 no_next_more pattern from n windows l h none = then_none pattern from n windows h l none
+
+-- the windows up to m, and the next one among n slots
+pub record SpellsToNext (pattern : ℕ → Bool) (n : ℕ) (windows : List Window) (next : Option Window) : Type 0 where
+  pub m : ℕ
+  pub spells : Spells pattern m windows
+  pub in_slots : m ≤ n
+  pub is_next : IsNextWindow pattern m n next
+
+-- how many slots are left from the begin of the next window on
+abbrev pub left_from : ℕ → Option Window → ℕ
+left_from n None = 0
+left_from n (Some window) = n - window.from
+
+pub fewer_left : (pattern : ℕ → Bool) (m n : ℕ) (window : Window) (next : Option Window)
+    → IsNextWindow pattern m n (Some window) → IsNextWindow pattern window.until n next
+    → left_from n next < n - window.from
+fewer_left pattern m n window None h g = omega (arith, h.some, h.in_slots)
+fewer_left pattern m n window (Some w) h g = omega (arith, h.some, h.in_slots, g.not_before, g.some, g.in_slots)
+
+pub one_more_spelled : (pattern : ℕ → Bool) (n : ℕ) (windows : List Window) (next after : Option Window)
+    (window : Window) → SpellsToNext pattern n windows next → next ≡ Some window
+    → IsNextWindow pattern window.until n after → SpellsToNext pattern n (windows ++ window ∷ []) after
+one_more_spelled pattern n windows next after window h e g =
+    let is : IsNextWindow pattern h.m n (Some window) = subst (IsNextWindow pattern h.m n) e h.is_next in
+    record {
+      m = window.until;
+      spells = one_next_more pattern h.m n window windows h.spells is;
+      in_slots = is.in_slots;
+      is_next = g;
+    }
+
+pub all_spelled : (pattern : ℕ → Bool) (n : ℕ) (windows : List Window) (next : Option Window)
+    → SpellsToNext pattern n windows next → next ≡ None → Spells pattern n windows
+all_spelled pattern n windows next h e = no_next_more pattern h.m n windows h.in_slots h.spells
+    (subst (IsNextWindow pattern h.m n) e h.is_next)

@@ -36,10 +36,10 @@ pub fn pattern_windows<F: Supply>(
 {
     let cycles = slots / supply.cycle().max(1);
     let mut windows = Vec::with_capacity(alloc, cycles.min(FIRST_ROOM) as usize + 1)?;
-    let mut from = 0;
-    while let Some(window) = supply.next_window(from, slots) {
+    let mut next = supply.next_window(0, slots);
+    while let Some(window) = next {
         windows.push(window)?;
-        from = window.until;
+        next = supply.window_after(window, slots);
     }
     Ok(windows)
 }

@@ -112,6 +112,22 @@ fn next_windows(rt: HostRuntime) {
 }
 
 #[test]
+fn windows_after(rt: HostRuntime) {
+    let part = periodic(&rt, 5, 2);
+    for (from, below, after) in [
+        (0, 20, window(8, 10)),
+        (2, 20, window(13, 15)),
+        (9, 14, window(13, 14)),
+        (9, 13, None),
+        (2, 9, None),
+    ] {
+        if let Some(last) = part.next_window(from, below) {
+            expect_at(&rt, (from, below), part.window_after(last, below), after);
+        }
+    }
+}
+
+#[test]
 fn supplies_of_nodes(rt: HostRuntime) {
     let part = NodeSupply::Periodic(periodic(&rt, 5, 2));
     expect(&rt, (part.cycle(), part.budget(), part.start()), (5, 2, 2));

@@ -7,7 +7,7 @@ use Rattle.slot_model.proofs.WorstPattern.{slot_by_at, slot_by_gap}
 use Rattle.supply_bound.specs.declared.next_window.Window.{Window}
 use Rattle.supply_bound.specs.NextWindow.{IsFirstStretch, IsNextWindow}
 
-clash : (b : Bool) → b ≡ true → b ≡ false → ⊥
+pub clash : (b : Bool) → b ≡ true → b ≡ false → ⊥
 clash b t f = absurd (cc)
 
 one_from : (pattern : ℕ → Bool) (from below : ℕ) (a b : Window) → IsFirstStretch pattern from below a
@@ -62,7 +62,7 @@ and_none : (a b : Bool) → b ≡ false → (a && b) ≡ false
 and_none a b e = grind arith
 
 -- the pattern of a deadline by period and place: none past the first budget in its period
-first_it : (period budget deadline x : ℕ) → x < budget → worst_slot_by period budget deadline x ≡ true
+pub first_it : (period budget deadline x : ℕ) → x < budget → worst_slot_by period budget deadline x ≡ true
 first_it period budget deadline x l = or_left (ltb x budget)
     (leb period x && (leb (deadline - budget) (x % period) && ltb (x % period) deadline)) (lt-ltb x budget l)
 
@@ -74,14 +74,14 @@ at_place period budget deadline k x m n l u =
     ap (worst_slot_by period budget deadline) (let e : x ≡ suc k * period + (x - suc k * period) = omega arith in e)
     ∙ slot_by_at period budget deadline k (x - suc k * period) m n (omega arith)
 
-before_it : (period budget deadline k x : ℕ) → budget ≤ deadline → deadline ≤ period → suc k * period ≤ x
+pub before_it : (period budget deadline k x : ℕ) → budget ≤ deadline → deadline ≤ period → suc k * period ≤ x
     → x < suc k * period + (deadline - budget) → worst_slot_by period budget deadline x ≡ false
 before_it period budget deadline k x m n l u =
     at_place period budget deadline k x m n l (omega arith)
     ∙ ap (λ (b : Bool). b && ltb (x - suc k * period) deadline)
     (lt-leb (deadline - budget) (x - suc k * period) (omega arith))
 
-within_it : (period budget deadline k x : ℕ) → budget ≤ deadline → deadline ≤ period
+pub within_it : (period budget deadline k x : ℕ) → budget ≤ deadline → deadline ≤ period
     → suc k * period + (deadline - budget) ≤ x → x < suc k * period + deadline
     → worst_slot_by period budget deadline x ≡ true
 within_it period budget deadline k x m n l u =
@@ -89,7 +89,7 @@ within_it period budget deadline k x m n l u =
     ∙ and_from _ _ (le-leb (deadline - budget) (x - suc k * period) (omega arith))
     (lt-ltb (x - suc k * period) deadline (omega arith))
 
-behind_it : (period budget deadline k x : ℕ) → budget ≤ deadline → deadline ≤ period → suc k * period + deadline ≤ x
+pub behind_it : (period budget deadline k x : ℕ) → budget ≤ deadline → deadline ≤ period → suc k * period + deadline ≤ x
     → x < suc (suc k) * period → worst_slot_by period budget deadline x ≡ false
 behind_it period budget deadline k x m n l u =
     at_place period budget deadline k x m n (omega arith) u

@@ -50,6 +50,13 @@ impl Supply for NodeSupply {
         }
     }
 
+    fn window_after(&self, last: Window, below: u64) -> Option<Window> {
+        match self {
+            NodeSupply::Full => Full.window_after(last, below),
+            NodeSupply::Periodic(s) => s.window_after(last, below),
+        }
+    }
+
     fn start(&self) -> u64 {
         match self {
             NodeSupply::Full => Full.start(),

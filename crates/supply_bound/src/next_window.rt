@@ -1,6 +1,6 @@
-ghost use Rattle.std.specs.Prelude.{◌≡◌, ◌+◌, ◌-◌, ◌*◌, ◌^◌, ◌/◌, ◌%◌, ◌<◌, ◌≤◌, min, true};
+ghost use Rattle.std.specs.Prelude.{◌≡◌, ◌+◌, ◌-◌, ◌*◌, ◌^◌, ◌/◌, ◌%◌, ◌<◌, ◌≤◌, ◌≢◌, min, true};
 ghost use Rattle.slot_model.specs.Supply.{worst_slot_by};
-ghost use Rattle.supply_bound.specs.NextWindow.{IsNextWindow};
+ghost use Rattle.supply_bound.specs.NextWindow.{IsFirstStretch, IsNextWindow};
 
 /// The slots x with from <= x < until.
 #[derive(Clone, Copy, Debug, PartialEq, Eq)]
@@ -36,6 +36,47 @@ pub fn next_window_by(
         });
     }
     later_window(period, budget, deadline, from, below)
+}
+
+/// The next window of that pattern after a window that it has below `below`. It needs no division:
+/// where more follow, that window ends with the budget of a period.
+pub fn window_after_by(
+    period: u64,
+    budget: u64,
+    deadline: u64,
+    last: Window,
+    below: u64,
+) -> Option<Window>
+    requires some_deadline { 1 ≤ deadline }
+    requires in_deadline { budget ≤ deadline }
+    requires in_period { deadline ≤ period }
+    requires is_window { let pattern = worst_slot_by period budget deadline in
+        IsFirstStretch pattern last.from below last }
+    ensures { IsNextWindow (worst_slot_by period budget deadline) last.until below result }
+{
+    if below <= last.until {
+        return None;
+    }
+    let from = first_after(period, budget, deadline, last.until);
+    if below <= from {
+        return None;
+    }
+    let until = from.saturating_add(budget).min(below);
+    Some(Window { from, until })
+}
+
+/// Where the budget begins that follows one that ends at `end`, as far as 64 bits tell it.
+fn first_after(period: u64, budget: u64, deadline: u64, end: u64) -> u64
+    requires in_deadline { budget ≤ deadline }
+    requires in_period { deadline ≤ period }
+    ensures second { end ≡ budget → result ≡ min (period + (deadline - budget)) (2 ^ 64 - 1) }
+    ensures later { end ≢ budget → result ≡ min (end + (period - budget)) (2 ^ 64 - 1) }
+{
+    if end == budget {
+        period.saturating_add(deadline - budget)
+    } else {
+        end.saturating_add(period - budget)
+    }
 }
 
 /// The next window of the pattern that has every slot.

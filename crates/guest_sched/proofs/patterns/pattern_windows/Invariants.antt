@@ -1,10 +1,9 @@
-use Rattle.std.proofs.Common.{◌-◌, ◌≤◌}
-use Rattle.guest_sched.proofs.Spelled.{Spells}
+use Rattle.guest_sched.proofs.Spelled.{SpellsToNext, left_from}
 use Rattle.guest_sched.proofs.patterns.pattern_windows.Given as goal
 
--- the windows of the places so far
-abbrev pub invariant-loop-window : goal.invariant-loop-window
-invariant-loop-window g l = Spells (g.F.Supply.pattern l.supply) l.from l.windows.items × (l.from ≤ l.slots)
+-- the windows before the next one
+abbrev pub invariant-loop-next : goal.invariant-loop-next
+invariant-loop-next g l = SpellsToNext (g.F.Supply.pattern l.supply) l.slots l.windows.items l.next
 
-abbrev pub decreases-loop-window : goal.decreases-loop-window
-decreases-loop-window g l = l.slots - l.from
+abbrev pub decreases-loop-next : goal.decreases-loop-next
+decreases-loop-next g l = left_from l.slots l.next
