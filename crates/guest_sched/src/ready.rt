@@ -106,6 +106,7 @@ impl Ready {
         self.released < self.releases.len() && self.releases[self.released].release <= self.time
     }
 
+    #[inline(never)]
     fn admit_next(&mut self) -> Result<(), AllocError>
         requires state { IsReady self.old }
         requires some { self.old.released < length self.old.releases.items }
