@@ -1,8 +1,9 @@
-ghost use Rattle.std.specs.Prelude.{◌≡◌, ℕ, ◌+◌, ◌*◌, ◌-◌, ◌^◌, ◌<◌, ◌≤◌, min, MatchOption, IfSome, All, length, take};
+ghost use Rattle.std.specs.Prelude.{◌≡◌, ◌↔◌, ℕ, ◌+◌, ◌*◌, ◌-◌, ◌^◌, ◌<◌, ◌≤◌, min, MatchOption, IfSome, IsTrue, All, length, take};
 ghost use Rattle.slot_model.specs.Bound.{demand_of};
 ghost use Rattle.slot_model.specs.Task.{sporadic_task};
 ghost use Rattle.window_terms.specs.Asked.{asked_by, IsNear};
 ghost use Rattle.edf_demand.specs.Terms.{IsGathered};
+ghost use Rattle.edf_demand.specs.inner.Exchanged.{Serves};
 
 use slot_model::Task;
 use window_terms::{Term, near, room_of};
@@ -19,7 +20,8 @@ pub struct Gathered {
 /// Writes the terms of as many of the first tasks as `into` has places for: a run of neighbouring
 /// tasks of one period and one room (the deadline less the jitter) has one term. The slack is what
 /// that room leaves of the period.
-pub(crate) fn gather(tasks: &[Task], into: &mut [Term]) -> Gathered
+pub fn gather(tasks: &[Task], into: &mut [Term]) -> Gathered
+    ensures long { length into.new ≡ length into.old }
     ensures stand { IsGathered result into.new tasks.now }
     ensures room { min (length into.old) (length tasks.now) ≤ result.tasks }
 {
@@ -51,7 +53,8 @@ fn counted(terms: &[Term], tasks: usize) -> Gathered
 /// Adds a task to so many terms: to the last of them, or as one of its own. How many they are then.
 fn add(task: &Task, terms: usize, into: &mut [Term]) -> Option<usize>
     requires { terms ≤ length into.old }
-    ensures { MatchOption result
+    ensures long { length into.new ≡ length into.old }
+    ensures more { MatchOption result
         ((into.new ≡ into.old) × (terms ≡ length into.old))
         (λ more. (more ≤ terms + 1) × (more ≤ length into.new) × ((t : ℕ) →
         asked_by (take more into.new) t
@@ -78,10 +81,17 @@ fn joined(term: Term, task: &Task) -> Option<Term>
         × (term.period ≡ task.now.period)
         × (term.slack ≡ task.now.period - (task.now.deadline - task.now.jitter))) }
 {
-    if term.period != task.period || term.slack != slack_of(task) {
+    if !serves(&term, task) {
         return None;
     }
     term.with(task.work)
+}
+
+/// Whether a term has the period and the slack of a task.
+pub(crate) fn serves(term: &Term, task: &Task) -> bool
+    ensures { IsTrue result ↔ Serves term.now task.now }
+{
+    term.period == task.period && term.slack == slack_of(task)
 }
 
 /// What the room of a task leaves of its period.

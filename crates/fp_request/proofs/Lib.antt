@@ -8,6 +8,7 @@ mod ReleasedExamples
 mod OrderExamples
 mod Insertion
 mod Aboves
+mod InPlace
 mod Limits
 pub mod Keyed
 mod KeyExamples

@@ -4,11 +4,13 @@
 #![tactic(auto)]
 
 mod by_terms;
+mod exchange;
 mod fixed;
 mod rank;
 mod ranked;
 mod request_bound;
 
+pub use exchange::{rank_all, set_ranked};
 pub use fixed::Fixed;
 pub use rank::{higher, room_at};
 pub use ranked::{RankedLevel, RankedTask};

@@ -4,7 +4,7 @@ ghost use Rattle.slot_model.specs.declared.sched.Sched.TheVariants.{Edf};
 ghost use Rattle.slot_model.specs.Task.{sporadic_tasks};
 ghost use Rattle.slot_model.specs.Order.{ranks_above};
 ghost use Rattle.window_terms.specs.declared.TheConstants.{KEPT};
-ghost use Rattle.fp_request.specs.Terms.{AreRankedTo, IsAbove};
+ghost use Rattle.fp_request.specs.Terms.{AreRanked, AreRankedTo, IsAbove};
 
 use crate::by_terms::{Above, above_among, rank_terms, request_by};
 use slot_model::{Sched, Task};
@@ -62,6 +62,21 @@ impl<'a> RankedLevel<'a> {
             sched,
             tasks,
             terms,
+        }
+    }
+
+    /// The level by terms that stand for its tasks already.
+    pub fn of(sched: Sched, tasks: &'a [Task], terms: &'a [Term]) -> RankedLevel<'a>
+        requires fixed { sched ≢ Sched.Edf }
+        requires ranked { AreRanked sched tasks.now terms.now }
+        ensures level { (result.sched ≡ sched) × (result.tasks.now ≡ tasks.now) }
+        ensures kept { length terms.now ≡ length tasks.now → length tasks.now ≤ KEPT →
+            length result.terms.now ≡ length tasks.now }
+    {
+        RankedLevel {
+            sched,
+            tasks,
+            terms: if KEPT < tasks.len() { &[] } else { terms },
         }
     }
 
