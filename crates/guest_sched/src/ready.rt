@@ -77,8 +77,8 @@ impl Ready {
         self.time
     }
 
-    /// Lets the jobs come that are released by now, and gives those up that end by then. It is a part
-    /// of the loop over spans, since at most of them no job comes and none ends.
+    /// Lets the jobs come that are released by now, and gives those up that end by then. It is a
+    /// part of the loop over spans, since at most of them no job comes and none ends.
     #[inline(always)]
     pub fn catch_up(&mut self) -> Result<(), AllocError>
         requires state { IsReady self.old }
