@@ -77,7 +77,9 @@ impl Ready {
         self.time
     }
 
-    /// Lets the jobs come that are released by now, and gives those up that end by then.
+    /// Lets the jobs come that are released by now, and gives those up that end by then. It is a
+    /// part of the loop over spans, since at most of them no job comes and none ends.
+    #[inline(always)]
     pub fn catch_up(&mut self) -> Result<(), AllocError>
         requires state { IsReady self.old }
         requires come { HaveCome self.old self.old.time }
@@ -106,6 +108,7 @@ impl Ready {
         self.released < self.releases.len() && self.releases[self.released].release <= self.time
     }
 
+    /// Lets the next job come.
     #[inline(never)]
     fn admit_next(&mut self) -> Result<(), AllocError>
         requires state { IsReady self.old }
