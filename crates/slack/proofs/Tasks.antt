@@ -1,6 +1,6 @@
--- The tasks as the code holds them: one of them is changed and put back, and whether all pass.
+-- The tasks as the code holds them: another one is tried in a place, and whether all pass.
 use Rattle.std.proofs.Common.{◌≡◌, ℕ, ◌<◌, List, length, set, get_or, refl, sym, ◌∙◌, ap}
-use Rattle.std.proofs.lemmas.List.{map-set, set-get_or, set-set}
+use Rattle.std.proofs.lemmas.List.{map-set, set-set}
 use Rattle.slot_model.specs.declared.sched.Sched.{Sched}
 use Rattle.slot_model.specs.declared.task.Task.{Task}
 use Rattle.slot_model.specs.Task.{SporadicTask, jittery_task, sporadic_task, sporadic_tasks, task_at}
@@ -12,18 +12,13 @@ use Rattle.least_budget.specs.declared.answers.Tested.TheVariants.{Passes as All
 use Rattle.least_budget.specs.Answers.{IsTested}
 use Rattle.slack.specs.inner.Steps.{tasks_with}
 
-pub put_back : (tasks : List Task) (i : ℕ) (changed task : Task) → task ≡ get_or tasks i task
-    → set (set tasks i changed) i task ≡ tasks
-put_back tasks i changed task e =
-    set-set tasks i changed task ∙ (ap (λ (t : Task). set tasks i t) e ∙ set-get_or tasks i task)
-
 same_numbers : (p d w j q e v k : ℕ) → p ≡ q → d ≡ e → w ≡ v → j ≡ k → jittery_task p d w j ≡ jittery_task q e v k
 same_numbers p d w j q e v k a b c f =
     ap (λ (x : ℕ). jittery_task x d w j) a
     ∙ (ap (λ (x : ℕ). jittery_task q x w j) b
     ∙ (ap (λ (x : ℕ). jittery_task q e x j) c ∙ ap (λ (x : ℕ). jittery_task q e v x) f))
 
-pub changed_tasks : (tasks : List Task) (i : ℕ) (task changed : Task) (work : ℕ) → i < length tasks
+changed_tasks : (tasks : List Task) (i : ℕ) (task changed : Task) (work : ℕ) → i < length tasks
     → task ≡ get_or tasks i task
     → (changed.period ≡ task.period) × (changed.deadline ≡ task.deadline) × (changed.work ≡ work)
     × (changed.jitter ≡ task.jitter)
@@ -36,6 +31,21 @@ changed_tasks tasks i task changed work h e n =
     (same_numbers changed.period changed.deadline changed.work changed.jitter t.period t.deadline work t.jitter
     (n.0 ∙ ap (λ (x : SporadicTask). x.period) read) (n.1 ∙ ap (λ (x : SporadicTask). x.deadline) read) n.2
     (n.3 ∙ ap (λ (x : SporadicTask). x.jitter) read))
+
+-- another one was tried there before
+pub tried_tasks : (now first : List Task) (i : ℕ) (task tried : Task) (work : ℕ) → i < length first
+    → set now i task ≡ first → task ≡ get_or first i task
+    → (tried.period ≡ task.period) × (tried.deadline ≡ task.deadline) × (tried.work ≡ work)
+    × (tried.jitter ≡ task.jitter)
+    → sporadic_tasks (set now i tried) ≡ tasks_with (sporadic_tasks first) i work
+tried_tasks now first i task tried work h back e n =
+    ap sporadic_tasks
+    (sym (set-set now i task tried) ∙ ap (λ (ts : List Task). set ts i tried) back)
+    ∙ changed_tasks first i task tried work h e n
+
+pub back_again : (now first : List Task) (i : ℕ) (task tried : Task) → set now i task ≡ first
+    → set (set now i tried) i task ≡ first
+back_again now first i task tried back = set-set now i tried task ∙ back
 
 -- what is told to fall short or to be wide passes not
 pub tested_not : (sched : Sched) (tasks : List SporadicTask) (bound : ℕ → ℕ) (cycle : ℕ) (told : Tested)
