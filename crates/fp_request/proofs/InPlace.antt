@@ -10,15 +10,14 @@ use Rattle.slot_model.specs.Slots.{sum_below}
 use Rattle.slot_model.specs.Task.{SporadicTask, default_task, sporadic_task, sporadic_tasks, task_at}
 use Rattle.slot_model.specs.Order.{IsRank, ranks_above}
 use Rattle.slot_model.specs.Bound.{request_of}
-use Rattle.slot_model.proofs.Sums.{cond_at_most_one, sum_below-lt, sum_below-same, sum_below-suc}
+use Rattle.slot_model.proofs.Sums.{cond_at_most_one, sum_below-same, sum_below-suc}
 use Rattle.window_terms.specs.declared.term.Term.{Term}
 use Rattle.window_terms.specs.Asked.{asked_by}
 use Rattle.window_terms.proofs.Written.{asked_of}
 use Rattle.fp_request.specs.Keys.{rank_of}
 use Rattle.fp_request.specs.Parts.{part_of}
-use Rattle.fp_request.specs.Terms.{AreRankedTo, works_above, tasks_above}
-use Rattle.fp_request.specs.inner.TermOf.{IsTermOf}
-use Rattle.fp_request.proofs.Aboves.{counts_less, first_and_term, more_above, sum_at_most}
+use Rattle.fp_request.specs.Terms.{AreRankedTo, IsTermOf, tasks_above}
+use Rattle.fp_request.proofs.Aboves.{fewer_yet, first_and_term, more_above, place_within, sum_at_most}
 use Rattle.fp_request.proofs.Limits.{by_rank}
 use Rattle.fp_request.proofs.Parts.{task_at-is}
 
@@ -58,16 +57,6 @@ ranks_stay sched tasks i task l same k j =
       | inr ne ↦ ap (rank_of sched) (there tasks i k task ne)
     ]
 
--- fewer rank above a task than there are
-pub place_within : (above : ℕ → ℕ → Bool) → IsRank above → (i n : ℕ) → i < n → tasks_above above i n < n
-place_within above r i n l =
-    omega (
-      arith,
-      sum_below-lt (λ k. cond {A = ℕ} (above k i) 1 0) (λ k. 1) i n 1 (λ k m. cond_at_most_one (above k i)) l
-          (omega (arith, cond-false {A = ℕ} (above i i) 1 0 (r.not_itself i))),
-      sum_at_most (λ k. 1) 1 n (λ k m. omega arith),
-    )
-
 -- a sum of which one number is another
 one_changed : (f g : ℕ → ℕ) (i n : ℕ) → i < n → ((k : ℕ) → k ≢ i → g k ≡ f k)
     → sum_below g n + f i ≡ sum_below f n + g i
@@ -90,43 +79,115 @@ one_changed f g i (suc n) l same = elim (cases_eq n i) [
   )
 ]
 
+-- a number that is counted or not, in two parts
+in_parts : (p : Bool) (x a b : ℕ) → x ≡ a + b → cond p x 0 ≡ cond p a 0 + cond p b 0
+in_parts true x a b e = e
+in_parts false x a b e = refl
+
 -- the first terms with another one among them, or past them
-changed_among : (terms : List Term) (c place t : ℕ) (old new : Term) → c ≤ length terms → place < c
-    → old ≡ get_or terms place old
-    → asked_by (take c (set terms place new)) t + asked_of old t ≡ asked_by (take c terms) t + asked_of new t
-changed_among terms c place t old new l m is =
+changed_terms : (p : Bool) (terms : List Term) (c place t : ℕ) (new d : Term) → c ≤ length terms
+    → (p ≡ true → place < c) → (p ≡ false → c ≤ place)
+    → asked_by (take c (set terms place new)) t + cond p (asked_of (get_or terms place d) t) 0
+    ≡ asked_by (take c terms) t + cond p (asked_of new t) 0
+changed_terms true terms c place t new d l among past =
     omega (
       arith,
-      ap (λ (xs : List Term). asked_by xs t) (take-set-lt c terms place new m),
-      sum_by-set (λ x. asked_of x t) (take c terms) place new old (omega (arith, m, length-take-le c terms l)),
-      ap (λ (x : Term). asked_of x t) (is ∙ sym (get_or-take c terms place old m)),
+      ap (λ (xs : List Term). asked_by xs t) (take-set-lt c terms place new (among refl)),
+      sum_by-set (λ x. asked_of x t) (take c terms) place new d
+          (omega (arith, among refl, length-take-le c terms l)),
+      ap (λ (x : Term). asked_of x t) (get_or-take c terms place d (among refl)),
     )
+changed_terms false terms c place t new d l among past =
+    ap (λ (xs : List Term). asked_by xs t + 0) (take-set-le c terms place new (past refl))
 
 -- the terms stand as the tasks rank
 pub exchanged_ranked : (above after : ℕ → ℕ → Bool) → IsRank above → ((k j : ℕ) → after k j ≡ above k j)
-    → (tasks : List Task) (i place n : ℕ) (terms : List Term) (old new : Term) (before task : Task) → i < n
-    → i < length tasks → place ≡ tasks_above after i n → before ≡ get_or tasks i before → old ≡ get_or terms place old
-    → IsTermOf old before → IsTermOf new task → AreRankedTo above (sporadic_tasks tasks) n terms
-    → AreRankedTo after (sporadic_tasks (set tasks i task)) n (set terms place new)
-exchanged_ranked above after r same tasks i place n terms old new before task li lt at read is first second ranked =
+    → (tasks : List Task) (i place : ℕ) (terms : List Term) (new : Term) (task : Task) → i < length tasks
+    → place ≡ tasks_above after i (length tasks) → IsTermOf new (sporadic_task task)
+    → AreRankedTo above (sporadic_tasks tasks) (length tasks) terms
+    → AreRankedTo after (sporadic_tasks (set tasks i task)) (length tasks) (set terms place new)
+exchanged_ranked above after r same tasks i place terms new task l at of_task ranked =
     record {
       in_terms = omega (arith, ranked.in_terms, length-set terms place new);
-      each = λ j t. go j t (above i j) refl;
+      own = λ j d m. elim (cases_eq j i) [
+        | inl e ↦ subst (λ (k : ℕ). IsTermOf (get_or (set terms place new) (tasks_above after k n) d) (task_at N k))
+            (sym e) (its_own d)
+        | inr ne ↦ others j d ne m
+      ];
+      each = λ j t. omega (
+        arith,
+        ranked.each j t,
+        ap (λ (c : ℕ). asked_by (take c (set terms place new)) t) (as_many j),
+        sum_changed (λ s. s.work) j,
+        sum_changed (λ s. request_of s (t + 1)) j,
+        in_parts (above i j) (request_of (sporadic_task before) (t + 1)) before.work (asked_of old t)
+            (first_and_term old before t was),
+        in_parts (above i j) (request_of (sporadic_task task) (t + 1)) task.work (asked_of new t)
+            (first_and_term new task t of_task),
+        changed_terms (above i j) terms (tasks_above above j n) place t new new
+            (omega (arith, place_at_most j, ranked.in_terms))
+            (λ up. omega (arith, is_place, fewer_yet above r i j n l up))
+            (λ down. omega (arith, is_place, more_above above r i j n down)),
+      );
     }
   where
+    n : ℕ
+    n = length tasks
+
     T : List SporadicTask
     T = sporadic_tasks tasks
 
     N : List SporadicTask
     N = sporadic_tasks (set tasks i task)
 
+    before : Task
+    before = get_or tasks i task
+
+    old : Term
+    old = get_or terms place new
+
     as_many : (j : ℕ) → tasks_above after j n ≡ tasks_above above j n
     as_many j =
         sum_below-same (λ k. cond {A = ℕ} (after k j) 1 0) (λ k. cond {A = ℕ} (above k j) 1 0) n
-        (λ k l. ap (λ (b : Bool). cond {A = ℕ} b 1 0) (same k j))
+        (λ k m. ap (λ (b : Bool). cond {A = ℕ} b 1 0) (same k j))
 
-    few : (j : ℕ) → tasks_above above j n ≤ n
-    few j = omega (arith, sum_at_most (λ k. cond {A = ℕ} (above k j) 1 0) 1 n (λ k l. cond_at_most_one (above k j)))
+    is_place : place ≡ tasks_above above i n
+    is_place = at ∙ as_many i
+
+    place_at_most : (j : ℕ) → tasks_above above j n ≤ n
+    place_at_most j =
+        omega (arith, sum_at_most (λ k. cond {A = ℕ} (above k j) 1 0) 1 n (λ k m. cond_at_most_one (above k j)))
+
+    was : IsTermOf old (sporadic_task before)
+    was =
+        subst (λ (s : SporadicTask). IsTermOf old s) (task_at-is tasks i task l)
+        (subst (λ (c : ℕ). IsTermOf (get_or terms c new) (task_at T i)) (sym is_place) (ranked.own i new l))
+
+    its_own : (d : Term) → IsTermOf (get_or (set terms place new) (tasks_above after i n) d) (task_at N i)
+    its_own d =
+        subst (λ (c : ℕ). IsTermOf (get_or (set terms place new) c d) (task_at N i)) at
+        (subst (λ (x : Term). IsTermOf x (task_at N i))
+        (sym (get_or-set_same terms place new d (omega (
+          arith,
+          is_place,
+          place_within above r i n l,
+          ranked.in_terms,
+        ))))
+        (subst (IsTermOf new) (sym (here tasks i task l)) of_task))
+
+    elsewhere : (j : ℕ) → j ≢ i → j < n → tasks_above after j n ≢ place
+    elsewhere j ne m e = elim (r.one_way j i ne) [
+      | inl up ↦ absurd (omega (arith, e, is_place, as_many j, fewer_yet above r j i n m up))
+      | inr up ↦ absurd (omega (arith, e, is_place, as_many j, fewer_yet above r i j n l up))
+    ]
+
+    others : (j : ℕ) (d : Term) → j ≢ i → j < n
+        → IsTermOf (get_or (set terms place new) (tasks_above after j n) d) (task_at N j)
+    others j d ne m =
+        subst (λ (x : Term). IsTermOf x (task_at N j))
+        (sym (get_or-set_other terms place (tasks_above after j n) new d (elsewhere j ne m)
+        ∙ ap (λ (c : ℕ). get_or terms c d) (as_many j)))
+        (subst (IsTermOf (get_or terms (tasks_above above j n) d)) (sym (there tasks i j task ne)) (ranked.own j d m))
 
     sum_changed : (x : SporadicTask → ℕ) (j : ℕ)
         → sum_below (λ k. cond (after k j) (x (task_at N k)) 0) n + cond (above i j) (x (sporadic_task before)) 0
@@ -134,58 +195,10 @@ exchanged_ranked above after r same tasks i place n terms old new before task li
     sum_changed x j =
         omega (
           arith,
-          one_changed (λ k. cond (above k j) (x (task_at T k)) 0) (λ k. cond (after k j) (x (task_at N k)) 0) i n li
+          one_changed (λ k. cond (above k j) (x (task_at T k)) 0) (λ k. cond (after k j) (x (task_at N k)) 0) i n l
               (λ k ne. ap (λ (b : Bool). cond b (x (task_at N k)) 0) (same k j)
               ∙ ap (λ (s : SporadicTask). cond (above k j) (x s) 0) (there tasks i k task ne)),
           ap (λ (b : Bool). cond b (x (task_at N i)) 0) (same i j),
-          ap (λ (s : SporadicTask). cond (above i j) (x s) 0) (here tasks i task lt),
-          ap (λ (s : SporadicTask). cond (above i j) (x s) 0)
-              (task_at-is tasks i before lt ∙ ap sporadic_task (sym read)),
-        )
-
-    go : (j t : ℕ) (up : Bool) → above i j ≡ up
-        → works_above after N j n + asked_by (take (tasks_above after j n) (set terms place new)) t
-        ≡ sum_below (part_of after N j (t + 1)) n
-    go j t true up =
-        omega (
-          arith,
-          ranked.each j t,
-          ap (λ (c : ℕ). asked_by (take c (set terms place new)) t) (as_many j),
-          sum_changed (λ s. s.work) j,
-          sum_changed (λ s. request_of s (t + 1)) j,
-          cond-true {A = ℕ} (above i j) before.work 0 up,
-          cond-true {A = ℕ} (above i j) task.work 0 up,
-          cond-true {A = ℕ} (above i j) (request_of (sporadic_task before) (t + 1)) 0 up,
-          cond-true {A = ℕ} (above i j) (request_of (sporadic_task task) (t + 1)) 0 up,
-          first_and_term old before t first,
-          first_and_term new task t second,
-          changed_among terms (tasks_above above j n) place t old new (omega (arith, few j, ranked.in_terms))
-              (omega (
-                arith,
-                at,
-                as_many i,
-                sum_below-lt (λ k. cond {A = ℕ} (above k i) 1 0) (λ k. cond {A = ℕ} (above k j) 1 0) i n 1
-                    (λ k l. counts_less (above k i) (above k j) (λ h. r.in_turn k i j h up)) li
-                    (omega (
-                      arith,
-                      cond-false {A = ℕ} (above i i) 1 0 (r.not_itself i),
-                      cond-true {A = ℕ} (above i j) 1 0 up,
-                    )),
-              ))
-              is,
-        )
-    go j t false up =
-        omega (
-          arith,
-          ranked.each j t,
-          ap (λ (c : ℕ). asked_by (take c (set terms place new)) t) (as_many j),
-          sum_changed (λ s. s.work) j,
-          sum_changed (λ s. request_of s (t + 1)) j,
-          cond-false {A = ℕ} (above i j) before.work 0 up,
-          cond-false {A = ℕ} (above i j) task.work 0 up,
-          cond-false {A = ℕ} (above i j) (request_of (sporadic_task before) (t + 1)) 0 up,
-          cond-false {A = ℕ} (above i j) (request_of (sporadic_task task) (t + 1)) 0 up,
-          ap (λ (xs : List Term). asked_by xs t)
-              (take-set-le (tasks_above above j n) terms place new
-              (omega (arith, at, as_many i, more_above above r i j n up))),
+          ap (λ (s : SporadicTask). cond (above i j) (x s) 0) (here tasks i task l),
+          ap (λ (s : SporadicTask). cond (above i j) (x s) 0) (task_at-is tasks i task l),
         )

@@ -1,4 +1,3 @@
 -- What only private functions promise each other.
 pub mod Counted
 pub mod Inserted
-pub mod TermOf
