@@ -50,8 +50,7 @@ impl Gathering {
         }
     }
 
-    /// Puts another task in place `i`. Where it differs in its work alone one term is written, and
-    /// else all.
+    /// Puts another task in place `i`. Where it differs in its work alone one term is written.
     pub fn set_task(self, tasks: &mut [Task], terms: &mut [Term], i: usize, task: Task) -> Gathering
         requires stand { Stand self terms.old tasks.old }
         requires i_named { i < length tasks.old }
@@ -60,23 +59,14 @@ impl Gathering {
         ensures long { length terms.new ≡ length terms.old }
         ensures stand { Stand result terms.new tasks.new }
     {
-        let alone = match self {
-            Gathering::ByWindows(gathered) => set_gathered(tasks, terms, gathered, i, task),
-            Gathering::ByRank(sched) => set_ranked(sched, tasks, terms, i, task),
-        };
-        if alone {
-            self
-        } else {
-            Gathering::gather(self.sched(), tasks, terms)
-        }
-    }
-
-    fn sched(self) -> Sched
-        ensures { result ≡ sched_by self }
-    {
         match self {
-            Gathering::ByWindows(_) => Sched::Edf,
-            Gathering::ByRank(sched) => sched,
+            Gathering::ByWindows(gathered) => {
+                Gathering::ByWindows(set_gathered(tasks, terms, gathered, i, task))
+            }
+            Gathering::ByRank(sched) => {
+                set_ranked(sched, tasks, terms, i, task);
+                self
+            }
         }
     }
 }

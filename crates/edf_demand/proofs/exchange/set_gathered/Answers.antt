@@ -3,8 +3,8 @@ use Rattle.std.proofs.lemmas.List.{length-take-le}
 use Rattle.edf_demand.proofs.InPlace.{exchanged_stands}
 use Rattle.edf_demand.proofs.exchange.set_gathered.Goals as goal
 
-pub returns-in-Some-clause-stand : goal.returns-in-Some-clause-stand
-returns-in-Some-clause-stand c on =
+pub returns-clause-stand : goal.returns-clause-stand
+returns-clause-stand c =
     exchanged_stands c.args.gathered c.args.terms.now c.args.tasks.now c.args.i c.in-Some.place c.in-Some.term
     c.index-tasks-i.result c.args.task c.requires.stand (omega arith)
     (omega (
