@@ -121,9 +121,8 @@ fn windows_after(rt: HostRuntime) {
         (9, 13, None),
         (2, 9, None),
     ] {
-        if let Some(last) = part.next_window(from, below) {
-            expect_at(&rt, (from, below), part.window_after(last, below), after);
-        }
+        let last = part.next_window(from, below).expect(&rt, "a window");
+        expect_at(&rt, (from, below), part.window_after(last, below), after);
     }
 }
 
