@@ -35,7 +35,7 @@ ready_are : (level : Level) (tasks : List SporadicTask) (jobs : List Job) (state
     → AreReleases jobs state.releases.items → IsReady state → HaveCome state state.time → AreToCome state state.time
     → IsLeft jobs run state.time state.left.items
     → AreEnds level tasks jobs state.ends.items → state.time < state.soonest → state.time < 2 ^ 64 - 1
-    → AreReady level tasks jobs run state.time state.ready.items
+    → AreReady level tasks jobs run state.time state.ready
 ready_are level tasks jobs state run by h come later lacks ends soon early = record {
   pending = λ j s.
       let c : HasCome state.releases.items state.released j = h.come j s in
@@ -182,7 +182,7 @@ pub record Serves (before : Job → Job → Bool) (jobs : List Job) (came : Read
   where
     pub from : span.from ≡ came.time
     pub some : came.time < span.until
-    pub served : IsServed before jobs came.ready.items true span.job
+    pub served : IsServed before jobs came.ready true span.job
     pub steady : IsSteady came span.until
     pub enough : (p : ℕ) → span.job ≡ Some p → span.until - came.time ≤ get_or came.left.items p 0
     pub left : after.left.items ≡ left_after came.left.items span.job (span.until - came.time)
@@ -207,7 +207,7 @@ steady_span : (level : Level) (before : Job → Job → Bool) (tasks : List Spor
     (windows : List Window) (n : ℕ) (run : List (Option ℕ)) (state : Ready) (span : Span) (after : Ready)
     → AreReleases jobs state.releases.items → AreEnds level tasks jobs state.ends.items
     → IsLeft jobs run state.time state.left.items → length state.left.items ≡ length jobs → IsCurrent state
-    → AreReady level tasks jobs run state.time state.ready.items
+    → AreReady level tasks jobs run state.time state.ready
     → AreGiven (slots_of windows n) state.time span.until → Serves before jobs state span after
     → Steady level tasks jobs (slots_of windows n) run state.time (span.until - state.time) true span.job
 steady_span level before tasks jobs windows n run state span after by ends lacks long now are same v = record {
@@ -228,10 +228,10 @@ steady_span level before tasks jobs windows n run state span after by ends lacks
             ))
       ];
   still_open = λ j x p l.
-      let s : StandsIn state.ready.items j = are.all j p in
+      let s : StandsIn state.ready j = are.all j p in
       (ends.each j p.is_job).stays x (omega (arith, v.some, v.steady.none_ends, now.is_state.soon j s));
   enough = λ j e.
-      let s : StandsIn state.ready.items j = served_stands before jobs state.ready.items true span.job j v.served e in
+      let s : StandsIn state.ready j = served_stands before jobs state.ready true span.job j v.served e in
       omega (arith, v.enough j e, lacks j (are.pending j s).is_job);
 }
 
@@ -244,12 +244,12 @@ span_more : (level : Level) (before : Job → Job → Bool) (tasks : List Sporad
     → FirstRunTo level before tasks jobs (slots_of windows n) (state.time + (span.until - state.time))
     (run ++ replicate (span.until - state.time) span.job)
 span_more level before tasks jobs windows n run state span after f by ends lacks long now same v =
-    let are : AreReady level tasks jobs run state.time state.ready.items
+    let are : AreReady level tasks jobs run state.time state.ready
     = ready_are level tasks jobs state run by now.is_state now.come now.to_come lacks ends now.none_over
     now.early in
     span_run level before tasks jobs (slots_of windows n) true span.job (span.until - state.time) state.time run f
     (steady_span level before tasks jobs windows n run state span after by ends lacks long now are same v)
-    (served_entry level before tasks jobs run state.time state.ready.items are true span.job v.served)
+    (served_entry level before tasks jobs run state.time state.ready are true span.job v.served)
 
 -- after one span more: `came` is the state when the jobs have come, and `after` the state when one
 -- is served
@@ -281,9 +281,9 @@ kept_more level before tasks jobs windows n run more state came after span k now
     let left : IsLeft jobs (run ++ replicate (span.until - came.time) span.job) (came.time + (span.until - came.time))
     (left_after came.left.items span.job (span.until - came.time))
     = left_more jobs run came.time (span.until - came.time) came.left.items span.job so_far.long lacks (λ p q. (
-      ready_in came.releases.items came.released came.keys.all.items came.left.items came.ends.items came.ready.items
+      ready_in came.releases.items came.released came.keys.all.items came.left.items came.ends.items came.ready
           came.soonest came.time
-          now.is_state p (served_stands before jobs came.ready.items true span.job p v.served q),
+          now.is_state p (served_stands before jobs came.ready true span.job p v.served q),
       v.enough p q,
     )) in
     record {

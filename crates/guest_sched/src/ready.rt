@@ -9,6 +9,7 @@ ghost use Rattle.guest_sched.specs.inner.Ready.{IsReady, HaveCome, AreToCome, Ha
 use crate::choice::first_unbeaten;
 use crate::keep::{Keep, end_moment};
 use crate::keys::Keys;
+use crate::queue::Queue;
 use crate::releases::{Release, releases};
 use crate::spans::Span;
 use slot_model::{Job, Order, Task};
@@ -30,7 +31,7 @@ pub struct Ready {
     /// The keys of the jobs.
     keys: Keys,
     /// The places of the jobs that have come, lack slots and are kept, by their keys.
-    ready: Vec<u32>,
+    ready: Queue,
     /// No ready job ends before this moment.
     soonest: u64,
 }
@@ -66,7 +67,7 @@ impl Ready {
             left: jobs.iter().map(|job| job.work).collect(alloc)?,
             ends: ends(alloc, keep, tasks, jobs)?,
             keys: Keys::new(alloc, order, tasks, jobs)?,
-            ready: Vec::with_capacity(alloc, jobs.len())?,
+            ready: Queue::new(alloc, jobs.len())?,
             soonest: u64::MAX,
         })
     }
@@ -122,7 +123,7 @@ impl Ready {
         ensures keys { self.new.keys ≡ self.old.keys }
     {
         let place = self.releases[self.released].place;
-        let at = self.keys.count_before(&self.ready, place);
+        let at = self.keys.count_before(self.ready.as_slice(), place);
         self.ready.insert(at, place)?;
         self.released += 1;
         self.soonest = self.soonest.min(self.ends[place as usize]);
@@ -145,10 +146,10 @@ impl Ready {
         if self.time < self.soonest {
             return;
         }
-        while let Some(at) = find_ended(&self.ends, &self.ready, self.time) {
+        while let Some(at) = find_ended(&self.ends, self.ready.as_slice(), self.time) {
             self.ready.remove(at);
         }
-        self.soonest = soonest_end(&self.ends, &self.ready);
+        self.soonest = soonest_end(&self.ends, self.ready.as_slice());
     }
 
     /// The next span where all slots up to `until` are given: the job that has its slots, if there
@@ -169,7 +170,7 @@ impl Ready {
         ensures time { self.new.time ≡ result.until }
         ensures in_time { result.until ≤ until }
         ensures served { let before = O.goes order.now (sporadic_tasks tasks.now) in
-            IsServed before jobs.now self.old.ready.items true result.job }
+            IsServed before jobs.now self.old.ready true result.job }
         ensures steady { IsSteady self.old result.until }
         ensures enough { IfSome result.job (λ j.
             result.until - self.old.time ≤ slice_index self.old.left.items j) }
@@ -222,37 +223,41 @@ impl Ready {
 
     /// Where the first of the ready jobs stands that no ready job goes before.
     fn choose<O: Order>(&self, order: &O, tasks: &[Task], jobs: &[Job]) -> Option<usize>
-        requires in_jobs { All (λ p. p < length jobs.now) self.now.ready.items }
+        requires in_jobs { All (λ p. p < length jobs.now) self.now.ready }
         requires named { All (λ a. a.task < length tasks.now) jobs.now }
         requires in_jitter { let T = sporadic_tasks tasks.now in
             All (λ a. a.early ≤ (task_at T a.task).jitter) jobs.now }
         requires keys { let before = O.goes order.now (sporadic_tasks tasks.now) in
             HasKeys before jobs.now self.now }
-        requires by_key { AreByKey self.now.keys.all.items self.now.ready.items }
+        requires by_key { AreByKey self.now.keys.all.items self.now.ready }
         ensures { let before = O.goes order.now (sporadic_tasks tasks.now) in
-            let ready = self.now.ready.items in
+            let ready = self.now.ready in
             MatchOption result (length ready ≡ 0) (λ i. (i < length ready) ×
             GoesFirst before jobs.now ready (slice_index ready i)) }
     {
         if !self.keys.are_told {
-            return first_unbeaten(order, tasks, jobs, &self.ready);
+            return first_unbeaten(order, tasks, jobs, self.ready.as_slice());
         }
-        if self.ready.is_empty() { None } else { Some(0) }
+        if self.ready.as_slice().is_empty() {
+            None
+        } else {
+            Some(0)
+        }
     }
 
     /// Gives the slots up to `until` to the ready job at `at`, as far as it lacks them.
     fn give(&mut self, at: usize, until: u64) -> Span
         requires state { IsReady self.old }
-        requires is_ready { at < length self.old.ready.items }
+        requires is_ready { at < length self.old.ready }
         requires some { self.old.time < until }
         ensures from { result.from ≡ self.old.time }
         ensures some { self.old.time < result.until }
         ensures time { self.new.time ≡ result.until }
         ensures in_time { result.until ≤ until }
-        ensures job { result.job ≡ Some (slice_index self.old.ready.items at) }
-        ensures enough { let place = slice_index self.old.ready.items at in
+        ensures job { result.job ≡ Some (slice_index self.old.ready at) }
+        ensures enough { let place = slice_index self.old.ready at in
             result.until - self.old.time ≤ slice_index self.old.left.items place }
-        ensures left { let place = slice_index self.old.ready.items at in
+        ensures left { let place = slice_index self.old.ready at in
             self.new.left.items ≡ left_after self.old.left.items (Some place)
             (result.until - self.old.time) }
         ensures state { IsReady self.new }
@@ -261,7 +266,7 @@ impl Ready {
         ensures ends { self.new.ends ≡ self.old.ends }
         ensures keys { self.new.keys ≡ self.old.keys }
     {
-        let place = self.ready[at];
+        let place = self.ready.get(at);
         let from = self.time;
         let lacks = self.left[place as usize];
         let slots = lacks.min(until - from);

@@ -3,7 +3,7 @@ ghost use Rattle.slot_model.specs.Task.{sporadic_tasks, task_at};
 ghost use Rattle.slot_model.specs.Release.{LegalRelease, releases_now, release_of, releases_at, synchronous};
 ghost use Rattle.slot_model.specs.declared.job.Job.{Job as AnyJob};
 ghost use Rattle.release_pattern.specs.Due.{IsNext, NoneRelease};
-ghost use Rattle.release_pattern.specs.inner.Due.{AreDue, IsDue, first_room};
+ghost use Rattle.release_pattern.specs.inner.Due.{AreDue, IsDue, IsSoonest, first_room};
 
 use slot_model::{Job, Task};
 use std::alloc::{AllocError, Global};
@@ -102,15 +102,15 @@ impl Due {
             IfOk result (λ next. NoneRelease T (after + 1) next) }
         ensures due { IfOk result (λ next. IsDue (sporadic_tasks tasks.now) next self.new) }
     {
-        let mut next = u64::MAX;
-        for group in 0..self.groups.len() {
-            if self.groups[group] == after {
-                let first = self.push_group(jobs, tasks, group, start, after)?;
-                self.groups[group] = first;
-            }
-            next = next.min(self.groups[group]);
+        let groups = self.groups.len();
+        let mut turn = soonest(&self.groups, 0, groups);
+        while turn.moment == after {
+            let group = turn.place;
+            let next = self.push_group(jobs, tasks, group, start, after)?;
+            self.groups[group] = next;
+            turn = soonest(&self.groups, 0, groups);
         }
-        Ok(next)
+        Ok(turn.moment)
     }
 
     /// Adds what the tasks of a group release at a moment, and tells the next release of the group.
@@ -142,15 +142,41 @@ impl Due {
     {
         let from = GROUP * group;
         let until = from + GROUP.min(tasks.len() - from);
-        let mut next = u64::MAX;
-        for place in from..until {
-            if self.tasks[place] == after {
-                self.tasks[place] = push_release(jobs, tasks, place, start, after)?;
-            }
-            next = next.min(self.tasks[place]);
+        let mut turn = soonest(&self.tasks, from, until);
+        while turn.moment == after {
+            let place = turn.place;
+            let next = push_release(jobs, tasks, place, start, after)?;
+            self.tasks[place] = next;
+            turn = soonest(&self.tasks, from, until);
         }
-        Ok(next)
+        Ok(turn.moment)
     }
+}
+
+/// The least of some moments, and the first place where it stands.
+#[derive(Clone, Copy)]
+pub struct Turn {
+    pub moment: u64,
+    pub place: usize,
+}
+
+/// The least moment from one place to another, or the last of all where there is none.
+fn soonest(moments: &[u64], from: usize, until: usize) -> Turn
+    requires in_order { from ≤ until }
+    requires in_moments { until ≤ length moments.now }
+    ensures { IsSoonest moments.now from until result }
+{
+    let mut turn = Turn {
+        moment: u64::MAX,
+        place: from,
+    };
+    for place in from..until {
+        let moment = moments[place];
+        if moment < turn.moment {
+            turn = Turn { moment, place };
+        }
+    }
+    turn
 }
 
 /// Adds the job that the task at `place` releases at a moment, and tells its next release.

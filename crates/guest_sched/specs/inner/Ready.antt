@@ -39,7 +39,7 @@ pub record IsState (releases : List Release) (n : ℕ) (keys : List Key) (left e
 abbrev pub IsReady : Ready → Type 0
 IsReady state =
     IsState state.releases.items state.released state.keys.all.items state.left.items
-    state.ends.items state.ready.items state.soonest state.time
+    state.ends.items state.ready state.soonest state.time
 
 -- the jobs that have come are released by x
 abbrev pub HaveCome : Ready → ℕ → Type 0

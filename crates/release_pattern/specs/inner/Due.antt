@@ -1,8 +1,9 @@
 -- The next releases of all tasks, as they are kept, and the room for jobs that is made at first.
-use Rattle.std.specs.Prelude.{ℕ, ◌≡◌, ◌+◌, ◌*◌, ◌/◌, ◌<◌, ◌≤◌, List, length, slice_index, sum_by}
+use Rattle.std.specs.Prelude.{ℕ, ◌≡◌, ◌+◌, ◌-◌, ◌*◌, ◌/◌, ◌^◌, ◌<◌, ◌≤◌, List, length, slice_index, sum_by}
 use Rattle.slot_model.specs.declared.task.Task.{Task}
 use Rattle.slot_model.specs.Task.{SporadicTask, task_at}
 use Rattle.release_pattern.specs.declared.jobs.Due.{Due}
+use Rattle.release_pattern.specs.declared.jobs.Turn.{Turn}
 use Rattle.release_pattern.specs.Due.{IsNext}
 
 -- the next release of each task: of the first p after x, of the others from x on
@@ -26,6 +27,14 @@ pub record IsDue (tasks : List SporadicTask) (x : ℕ) (due : Due) : Type 0 wher
   pub firsts : AreFirsts due.tasks.items due.groups.items 0 x
   pub all : length tasks < 8 * length due.groups.items
   pub no_more : 8 * length due.groups.items ≤ length tasks + 8
+
+-- of the moments from one place to another the least, and the first place where it stands; the last
+-- moment of all where there is none
+pub record IsSoonest (moments : List ℕ) (from until : ℕ) (turn : Turn) : Type 0 where
+  pub least : (i : ℕ) → from ≤ i → i < until → turn.moment ≤ slice_index moments i
+  pub stands : turn.moment < 2 ^ 64 - 1 → (from ≤ turn.place) × (turn.place < until) ×
+      (slice_index moments turn.place ≡ turn.moment)
+  pub first : (i : ℕ) → from ≤ i → i < turn.place → turn.moment < slice_index moments i
 
 -- for each task one job at the start, and one for every whole period within `span` slots
 abbrev pub first_room : List Task → ℕ → ℕ

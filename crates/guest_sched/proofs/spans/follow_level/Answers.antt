@@ -129,10 +129,10 @@ serve-span-requires-clause-keys g c = keys_come g (goal.at.serve-span-requires-c
 
 -- a job that is served has a place
 has_place : (before : Job → Job → Bool) (jobs : List Job) (came : Ready) (entry : Option ℕ) (j : ℕ) → IsReady came
-    → IsServed before jobs came.ready.items true entry → entry ≡ Some j → j < length came.left.items
+    → IsServed before jobs came.ready true entry → entry ≡ Some j → j < length came.left.items
 has_place before jobs came entry j h served e =
-    ready_in came.releases.items came.released came.keys.all.items came.left.items came.ends.items came.ready.items
-    came.soonest came.time h j (served_stands before jobs came.ready.items true entry j served e)
+    ready_in came.releases.items came.released came.keys.all.items came.left.items came.ends.items came.ready
+    came.soonest came.time h j (served_stands before jobs came.ready true entry j served e)
 
 pub add-requires-clause-is_taken : goal.add-requires-clause-is_taken
 add-requires-clause-is_taken g c =

@@ -18,8 +18,8 @@ count_before-at-requires-clause-in_keys c k d l =
     omega (
       arith,
       c.requires.state.same_keys,
-      all_in_jobs s.releases.items s.released s.keys.all.items s.left.items s.ends.items s.ready.items s.soonest s.time
-          c.deref.result.now c.requires.state c.deref.ensures.value k d l,
+      all_in_jobs s.releases.items s.released s.keys.all.items s.left.items s.ends.items s.ready s.soonest s.time
+          c.as_slice.result.now c.requires.state c.as_slice.ensures k d l,
     )
 
 -- the place, the end and the new state as the code reads them
@@ -50,12 +50,12 @@ returns-clause-state c =
     let keys = s.keys.all.items in
     let place = c.index.result.now.place in
     let at = c.count_before-at.result in
-    comes s.releases.items s.released keys s.left.items s.ends.items s.ready.items s.soonest s.time
-    c.insert.new.self.items c.index.result.now c.index-2.result.now c.min-self.result at c.requires.state
+    comes s.releases.items s.released keys s.left.items s.ends.items s.ready s.soonest s.time
+    c.insert.new.self c.index.result.now c.index-2.result.now c.min-self.result at c.requires.state
     c.requires.some c.index.ensures c.index-2.ensures
-    (subst (λ (z : List ℕ). at ≤ length z) c.deref.ensures.value c.count_before-at.ensures.within)
-    (subst (λ (z : List ℕ). (k : ℕ) → k < at → goes_by_key keys (get_or z k 0) place ≡ true) c.deref.ensures.value
+    (subst (λ (z : List ℕ). at ≤ length z) c.as_slice.ensures c.count_before-at.ensures.within)
+    (subst (λ (z : List ℕ). (k : ℕ) → k < at → goes_by_key keys (get_or z k 0) place ≡ true) c.as_slice.ensures
     c.count_before-at.ensures.before)
     (subst (λ (z : List ℕ). (k : ℕ) → at ≤ k → k < length z → goes_by_key keys (get_or z k 0) place ≡ false)
-    c.deref.ensures.value c.count_before-at.ensures.behind)
-    c.in_ok-insert.ensures.items c.min-self.ensures
+    c.as_slice.ensures c.count_before-at.ensures.behind)
+    c.in_ok-insert.ensures c.min-self.ensures

@@ -8,38 +8,36 @@ use Rattle.guest_sched.specs.inner.Ready.{IsState}
 use Rattle.guest_sched.proofs.InOrder.{remove_removes}
 use Rattle.guest_sched.proofs.State.{ready_in, one_stays, one_done}
 use Rattle.guest_sched.proofs.ready.Ready.give.Goals as goal
-use Rattle.guest_sched.proofs.ready.Ready.give.Goals.{After-index-place}
+use Rattle.guest_sched.proofs.ready.Ready.give.Goals.{After-get-place}
 
 -- the place of the job as the code reads it
-place_is : (c : After-index-place) → get_or c.args.self.now.ready.items c.args.at 0 ≡ c.index-place.result.now
-place_is c =
-    sym (get_or_read c.args.self.now.ready.items c.args.at c.index-place.result.now c.requires.is_ready
-    c.index-place.ensures 0)
+place_is : (c : After-get-place) → get_or c.args.self.now.ready c.args.at 0 ≡ c.get-place.result
+place_is c = sym c.get-place.ensures
 
-stands : (c : After-index-place) → StandsIn c.args.self.now.ready.items c.index-place.result.now
+stands : (c : After-get-place) → StandsIn c.args.self.now.ready c.get-place.result
 stands c = (c.args.at, c.requires.is_ready, place_is c)
 
-in_left : (c : After-index-place) → c.index-place.result.now < length c.args.self.now.left.items
+in_left : (c : After-get-place) → c.get-place.result < length c.args.self.now.left.items
 in_left c =
     let s = c.args.self.now in
-    ready_in s.releases.items s.released s.keys.all.items s.left.items s.ends.items s.ready.items s.soonest s.time
-    c.requires.state c.index-place.result.now (stands c)
+    ready_in s.releases.items s.released s.keys.all.items s.left.items s.ends.items s.ready s.soonest s.time
+    c.requires.state c.get-place.result (stands c)
 
 pub index-lacks-requires : goal.index-lacks-requires
-index-lacks-requires c = omega (arith, in_left (goal.at.index-lacks-requires c).After-index-place)
+index-lacks-requires c = omega (arith, in_left (goal.at.index-lacks-requires c).After-get-place)
 
 pub index_mut-requires : goal.index_mut-requires
-index_mut-requires c = omega (arith, in_left (goal.at.index_mut-requires c).After-index-place)
+index_mut-requires c = omega (arith, in_left (goal.at.index_mut-requires c).After-get-place)
 
 -- the slots are no more than it lacks
-enough : (c : After-index-place) (lacks slots : ℕ)
-    → lacks ≡ get_or c.args.self.now.left.items c.index-place.result.now lacks → slots ≤ lacks
-    → slots ≤ get_or c.args.self.now.left.items (get_or c.args.self.now.ready.items c.args.at 0) 0
+enough : (c : After-get-place) (lacks slots : ℕ)
+    → lacks ≡ get_or c.args.self.now.left.items c.get-place.result lacks → slots ≤ lacks
+    → slots ≤ get_or c.args.self.now.left.items (get_or c.args.self.now.ready c.args.at 0) 0
 enough c lacks slots e l =
     let left = c.args.self.now.left.items in
     omega (
       arith,
-      get_or_read left c.index-place.result.now lacks (in_left c) e 0,
+      get_or_read left c.get-place.result lacks (in_left c) e 0,
       ap (λ (z : ℕ). get_or left z 0) (place_is c),
     )
 
@@ -47,7 +45,7 @@ pub returns-then-slots-lacks-clause-enough : goal.returns-then-slots-lacks-claus
 returns-then-slots-lacks-clause-enough c =
     omega (
       arith,
-      enough (goal.at.returns-then-slots-lacks-clause-enough c).After-index-place c.index-lacks.result.now
+      enough (goal.at.returns-then-slots-lacks-clause-enough c).After-get-place c.index-lacks.result.now
           c.min-slots.result c.index-lacks.ensures (omega (arith, c.min-slots.ensures)),
     )
 
@@ -55,7 +53,7 @@ pub returns-else-slots-lacks-clause-enough : goal.returns-else-slots-lacks-claus
 returns-else-slots-lacks-clause-enough c =
     omega (
       arith,
-      enough (goal.at.returns-else-slots-lacks-clause-enough c).After-index-place c.index-lacks.result.now
+      enough (goal.at.returns-else-slots-lacks-clause-enough c).After-get-place c.index-lacks.result.now
           c.min-slots.result c.index-lacks.ensures (omega (arith, c.min-slots.ensures)),
     )
 
@@ -81,29 +79,29 @@ done releases n keys left ends ready soonest now p lacks k later new h s e l aft
     (one_done releases n keys left ends ready soonest now p k later new h after s (omega arith) removes)
 
 -- what is left of the ready jobs without it
-removed : (c : After-index-place)
-    → RemovesPlace c.args.self.now.keys.all.items c.args.self.now.ready.items c.index-place.result.now
-    (remove c.args.self.now.ready.items c.args.at)
+removed : (c : After-get-place)
+    → RemovesPlace c.args.self.now.keys.all.items c.args.self.now.ready c.get-place.result
+    (remove c.args.self.now.ready c.args.at)
 removed c =
     let s = c.args.self.now in
-    subst (λ (z : ℕ). RemovesPlace s.keys.all.items s.ready.items z (remove s.ready.items c.args.at)) (place_is c)
-    (remove_removes s.keys.all.items s.ready.items c.args.at c.requires.state.by_key c.requires.is_ready)
+    subst (λ (z : ℕ). RemovesPlace s.keys.all.items s.ready z (remove s.ready c.args.at)) (place_is c)
+    (remove_removes s.keys.all.items s.ready c.args.at c.requires.state.by_key c.requires.is_ready)
 
 pub returns-then-slots-lacks-clause-state : goal.returns-then-slots-lacks-clause-state
 returns-then-slots-lacks-clause-state c =
     let s = c.args.self.now in
-    let p = (goal.at.returns-then-slots-lacks-clause-state c).After-index-place in
-    let place = c.index-place.result.now in
-    done s.releases.items s.released s.keys.all.items s.left.items s.ends.items s.ready.items s.soonest s.time place
-    c.index-lacks.result.now c.min-slots.result (s.time + c.min-slots.result) c.remove.new.self.items
+    let p = (goal.at.returns-then-slots-lacks-clause-state c).After-get-place in
+    let place = c.get-place.result in
+    done s.releases.items s.released s.keys.all.items s.left.items s.ends.items s.ready s.soonest s.time place
+    c.index-lacks.result.now c.min-slots.result (s.time + c.min-slots.result) c.remove.new.self
     c.requires.state (stands p) c.index-lacks.ensures c.if-slots-lacks.true (omega arith)
-    (subst (RemovesPlace s.keys.all.items s.ready.items place) (sym c.remove.ensures.items) (removed p))
+    (subst (RemovesPlace s.keys.all.items s.ready place) (sym c.remove.ensures) (removed p))
 
 pub returns-else-slots-lacks-clause-state : goal.returns-else-slots-lacks-clause-state
 returns-else-slots-lacks-clause-state c =
     let s = c.args.self.now in
-    let p = (goal.at.returns-else-slots-lacks-clause-state c).After-index-place in
-    stays s.releases.items s.released s.keys.all.items s.left.items s.ends.items s.ready.items s.soonest s.time
-    c.index-place.result.now c.index-lacks.result.now c.min-slots.result (s.time + c.min-slots.result)
+    let p = (goal.at.returns-else-slots-lacks-clause-state c).After-get-place in
+    stays s.releases.items s.released s.keys.all.items s.left.items s.ends.items s.ready s.soonest s.time
+    c.get-place.result c.index-lacks.result.now c.min-slots.result (s.time + c.min-slots.result)
     c.requires.state (stands p) c.index-lacks.ensures
     (omega (arith, c.min-slots.ensures, c.if-slots-lacks.false)) (omega arith)

@@ -10,11 +10,11 @@ choose-requires-clause-in_jobs g c k d l =
     omega (
       arith,
       c.requires.all_jobs,
-      all_in_jobs s.releases.items s.released s.keys.all.items s.left.items s.ends.items s.ready.items s.soonest s.time
-          s.ready.items c.requires.state refl k d l,
+      all_in_jobs s.releases.items s.released s.keys.all.items s.left.items s.ends.items s.ready s.soonest s.time
+          s.ready c.requires.state refl k d l,
     )
 
 pub returns-in-Some-clause-served : goal.returns-in-Some-clause-served
 returns-in-Some-clause-served g c =
     subst (λ (o : Option ℕ). IsServed (g.O.Order.goes c.args.order.now (sporadic_tasks c.args.tasks.now))
-    c.args.jobs.now c.args.self.now.ready.items true o) (sym c.give.ensures.job) c.in-Some.ensures.1
+    c.args.jobs.now c.args.self.now.ready true o) (sym c.give.ensures.job) c.in-Some.ensures.1

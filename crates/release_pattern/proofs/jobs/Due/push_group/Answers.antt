@@ -1,82 +1,69 @@
-use Rattle.std.proofs.Common.{◌≡◌, ◌∙◌, ℕ, ◌+◌, ◌*◌, ◌<◌, ◌≤◌, min, List, length, get_or, arith, subst, sym, ap, length-set}
-use Rattle.std.proofs.lemmas.List.{length-map, get_or_read}
-use Rattle.slot_model.specs.declared.job.Job.{Job}
+use Rattle.std.proofs.Common.{◌≡◌, ℕ, ◌+◌, ◌*◌, ◌≤◌, List, length, arith, subst, ap, ◌∙◌}
+use Rattle.std.proofs.lemmas.List.{length-map}
 use Rattle.slot_model.specs.Release.{releases_at}
-use Rattle.slot_model.specs.Task.{sporadic_task, sporadic_tasks}
-use Rattle.release_pattern.specs.declared.jobs.Due.{Due}
-use Rattle.release_pattern.proofs.Dues.{GroupTo, group_releases, group_waits, past_last}
+use Rattle.slot_model.specs.Task.{SporadicTask, sporadic_task, sporadic_tasks}
+use Rattle.release_pattern.specs.inner.Due.{IsSoonest}
+use Rattle.release_pattern.proofs.Dues.{GroupTo, next_turn, next_later, group_over, shrinks, past_last}
 use Rattle.release_pattern.proofs.jobs.Due.push_group.Goals as goal
-use Rattle.release_pattern.proofs.jobs.Due.push_group.Goals.{then-index-after+in_ok-self, else-index-after}
 
-pub loop-place-preserved : goal.loop-place-preserved
-loop-place-preserved c =
-    let T = sporadic_tasks c.args.tasks.now in
-    let p = c.loop-place.place in
-    let old = c.loop-place.self.tasks.items in
-    let h = c.loop-place.invariant.so_far in
-    let inside : p < length T
-    = omega (arith, length-map c.args.tasks.now sporadic_task, c.loop-place-test.true, c.min.ensures) in
-    let from = 8 * c.args.group in
-    let here : get_or old p 0 ≡ c.index.result.now
-    = sym (get_or_read old p c.index.result.now (omega (arith, inside, h.each.one_each)) c.index.ensures 0) in
-    let Least : Due → Type 0 = λ (s : Due). c.min-next.result ≡ min c.loop-place.next (get_or s.tasks.items p 0) in
-    let Next : Due → List Job → Type 0
-    = λ (s : Due) jobs. GroupTo T c.args.start c.args.after from (p + 1) c.min-next.result
-    c.args.self.now.tasks.items s.tasks.items c.args.jobs.now.items jobs in
-    let long : length c.if-index-after.self.tasks.items ≡ length old
-    = elim c.if-index-after.branch [
-      | then-index-after+in_ok-self w ↦
-          ap (λ (s : Due). length s.tasks.items) w.self-is
-          ∙ length-set old p w.in_ok-self.field-0
-      | else-index-after w ↦
-          ap (λ (s : Due). length s.tasks.items) w.self-is
-    ] in
-    let begun : from ≤ p = omega (arith, c.loop-place.auto.place) in
-    let least : Least c.if-index-after.self
-    = omega (
+pub loop-turn-preserved : goal.loop-turn-preserved
+loop-turn-preserved c =
+    let T : List SporadicTask = sporadic_tasks c.args.tasks.now in
+    let from : ℕ = 8 * c.args.group in let until : ℕ = from + c.min.result in
+    let inside : until ≤ length T
+    = omega (arith, length-map c.args.tasks.now sporadic_task, c.min.ensures, c.requires.in_tasks) in
+    record {
+      so_far =
+          next_turn T c.args.start c.args.after from until c.in_ok-next.next c.args.self.now.tasks.items
+          c.loop-turn.self.tasks.items c.args.jobs.now.items c.loop-turn.jobs.items c.push_release.new.jobs.items
+          c.loop-turn.turn c.soonest-turn-in-loop-turn.result inside (omega (arith, c.requires.in_time))
+          c.loop-turn-test.true c.loop-turn.invariant.so_far c.in_ok-next.ensures.next c.in_ok-next.ensures.job
+          (subst (λ (z : List ℕ). IsSoonest z from until c.soonest-turn-in-loop-turn.result)
+          c.deref-in-loop-turn.ensures.value c.soonest-turn-in-loop-turn.ensures);
+      groups = c.loop-turn.invariant.groups;
+    }
+
+pub loop-turn-smaller : goal.loop-turn-smaller
+loop-turn-smaller c =
+    let T : List SporadicTask = sporadic_tasks c.args.tasks.now in
+    let from : ℕ = 8 * c.args.group in let until : ℕ = from + c.min.result in
+    let inside : until ≤ length T
+    = omega (arith, length-map c.args.tasks.now sporadic_task, c.min.ensures, c.requires.in_tasks) in
+    let turn = c.loop-turn.turn in let next = c.soonest-turn-in-loop-turn.result in
+    shrinks turn.moment next.moment c.args.after turn.place next.place until c.loop-turn-test.true
+    (omega (
       arith,
-      c.min-next.ensures,
-      get_or_read c.if-index-after.self.tasks.items p c.index-in-loop-place.result.now
-          (omega (arith, long, inside, h.each.one_each)) c.index-in-loop-place.ensures 0,
-    ) in
-    elim c.if-index-after.branch [
-      | then-index-after+in_ok-self w ↦ record {
-        so_far = subst (λ (s : Due). Least s → Next s c.if-index-after.jobs.items) (sym w.self-is)
-            (λ e. group_releases T c.args.start c.args.after from p c.loop-place.next c.min-next.result
-            w.in_ok-self.field-0 c.args.self.now.tasks.items old c.args.jobs.now.items c.loop-place.jobs.items
-            c.if-index-after.jobs.items begun inside (omega (arith, c.requires.in_time)) h
-            (omega (arith, here, w.if-index-after.true)) w.in_ok-self.ensures.next
-            (ap (λ v. v.items) w.jobs-is ∙ w.in_ok-self.ensures.job) e)
-            least;
-        groups = ap (λ (s : Due). s.groups) w.self-is ∙ c.loop-place.invariant.groups;
-      }
-      | else-index-after w ↦ record {
-        so_far = subst (λ (s : Due). Least s → Next s c.if-index-after.jobs.items) (sym w.self-is)
-            (λ e. subst (Next c.loop-place.self) (sym (ap (λ v. v.items) w.jobs-is))
-            (group_waits T c.args.start c.args.after from p c.loop-place.next c.min-next.result
-            c.args.self.now.tasks.items old c.args.jobs.now.items c.loop-place.jobs.items begun inside h
-            (λ q. w.if-index-after.false (sym here ∙ q)) e))
-            least;
-        groups = ap (λ (s : Due). s.groups) w.self-is ∙ c.loop-place.invariant.groups;
-      }
-    ]
+      (c.loop-turn.invariant.so_far.turn_is.stands (omega (arith, c.loop-turn-test.true, c.requires.in_time))).1,
+    ))
+    (next_later T c.args.start c.args.after from until c.in_ok-next.next c.args.self.now.tasks.items
+    c.loop-turn.self.tasks.items c.args.jobs.now.items c.loop-turn.jobs.items c.push_release.new.jobs.items turn next
+    inside (omega (arith, c.requires.in_time)) c.loop-turn-test.true c.loop-turn.invariant.so_far
+    c.in_ok-next.ensures.next c.in_ok-next.ensures.job
+    (subst (λ (z : List ℕ). IsSoonest z from until next) c.deref-in-loop-turn.ensures.value
+    c.soonest-turn-in-loop-turn.ensures))
 
 pub returns-clause-jobs : goal.returns-clause-jobs
 returns-clause-jobs c =
-    λ earlier e. c.loop-place.invariant.so_far.jobs_so_far earlier e
-    ∙ ap (λ (z : ℕ). releases_at (sporadic_tasks c.args.tasks.now) c.args.start c.args.after z earlier)
-    (omega (
-      arith,
-      length-map c.args.tasks.now sporadic_task,
-      c.loop-place-test.false,
-      c.loop-place.auto,
-      c.min.ensures,
-      c.requires.in_tasks,
-    ))
+    let T : List SporadicTask = sporadic_tasks c.args.tasks.now in
+    let from : ℕ = 8 * c.args.group in let until : ℕ = from + c.min.result in
+    let long : length T ≡ length c.args.tasks.now = length-map c.args.tasks.now sporadic_task in
+    λ earlier e. (group_over T c.args.start c.args.after from until c.args.self.now.tasks.items
+    c.loop-turn.self.tasks.items c.args.jobs.now.items c.loop-turn.jobs.items c.loop-turn.turn
+    (omega (arith, long, c.min.ensures, c.requires.in_tasks)) (omega (arith, c.requires.in_time))
+    c.loop-turn-test.false c.loop-turn.invariant.so_far).jobs_so_far earlier e
+    ∙ ap (λ (z : ℕ). releases_at T c.args.start c.args.after z earlier)
+    (omega (arith, long, c.min.ensures, c.requires.in_tasks))
 
 pub returns-clause-due : goal.returns-clause-due
 returns-clause-due c =
-    past_last (sporadic_tasks c.args.tasks.now) c.loop-place.place (8 * c.args.group + 8) c.args.after
-    c.loop-place.self.tasks.items c.loop-place.invariant.so_far.each (omega
-    (arith, length-map c.args.tasks.now sporadic_task, c.loop-place-test.false, c.min.ensures, c.requires.in_tasks))
-    (omega (arith, c.loop-place-test.false, c.min.ensures))
+    let T : List SporadicTask = sporadic_tasks c.args.tasks.now in
+    let from : ℕ = 8 * c.args.group in let until : ℕ = from + c.min.result in
+    let long : length T ≡ length c.args.tasks.now = length-map c.args.tasks.now sporadic_task in
+    let over : GroupTo T c.args.start c.args.after from until c.args.self.now.tasks.items c.loop-turn.self.tasks.items
+    c.args.jobs.now.items c.loop-turn.jobs.items
+    = group_over T c.args.start c.args.after from until c.args.self.now.tasks.items c.loop-turn.self.tasks.items
+    c.args.jobs.now.items c.loop-turn.jobs.items c.loop-turn.turn
+    (omega (arith, long, c.min.ensures, c.requires.in_tasks)) (omega (arith, c.requires.in_time))
+    c.loop-turn-test.false c.loop-turn.invariant.so_far in
+    past_last T until (8 * c.args.group + 8) c.args.after c.loop-turn.self.tasks.items over.each
+    (omega (arith, long, c.min.ensures, c.requires.in_tasks)) (omega (arith, c.min.ensures))

@@ -1,0 +1,6 @@
+use Rattle.release_pattern.specs.inner.Due.{IsSoonest}
+use Rattle.release_pattern.proofs.jobs.soonest.Given as goal
+
+-- the soonest so far
+abbrev pub invariant-loop-place : goal.invariant-loop-place
+invariant-loop-place l = IsSoonest l.moments l.from l.place l.turn
