@@ -1,12 +1,12 @@
 -- The next releases of tasks as those of one moment are made.
-use Rattle.std.proofs.Common.{◌≡◌, ◌≢◌, ◌⊎◌, ℕ, zero, suc, min, cond, eqb, eq-eqb, ne_eqb, ◌+◌, ◌-◌, ◌*◌, ◌/◌, ◌^◌, ◌<◌, ◌≤◌, true, false, List, [], ◌∷◌, ◌++◌, length, get_or, set, sym, ◌∙◌, ap, arith, subst, inl, inr, length-set, get_or-set_same, get_or-set_other}
+use Rattle.std.proofs.Common.{◌≡◌, ◌≢◌, ◌⊎◌, ℕ, zero, suc, min, cond, eqb, eq-eqb, ne_eqb, ◌+◌, ◌-◌, ◌*◌, ◌/◌, ◌^◌, ◌<◌, ◌≤◌, true, false, List, [], ◌∷◌, ◌++◌, length, get_or, set, refl, sym, ◌∙◌, ap, arith, subst, inl, inr, length-set, get_or-set_same, get_or-set_other}
 use Rattle.std.proofs.lemmas.Bool.{cases_eq, cases_lt, cond-true, cond-false}
 use Rattle.slot_model.specs.Task.{SporadicTask, task_at}
 use Rattle.slot_model.specs.Release.{releases_now, release_of, releases_at}
 use Rattle.slot_model.specs.declared.job.Job.{Job}
 use Rattle.release_pattern.specs.Due.{IsNext, NoneRelease}
 use Rattle.release_pattern.specs.declared.jobs.Turn.{Turn}
-use Rattle.release_pattern.specs.inner.Due.{AreDue, AreFirsts, IsSoonest}
+use Rattle.release_pattern.specs.inner.Due.{AreDue, AreFirsts, IsSoonest, turn_of}
 use Rattle.release_pattern.proofs.Moments.{one_releases, some_wait}
 
 -- a moment later, where the task does not release
@@ -106,9 +106,8 @@ to_come : (tasks : List SporadicTask) (start x from until : ℕ) (old due : List
     → (t : GroupTurn tasks start x from until old due before jobs turn) → t.place ≤ turn.place
 to_come tasks start x from until old due before jobs turn l m e t = elim (cases_lt turn.place t.place) [
   | inl passed ↦
-      let s : (from ≤ turn.place) × (turn.place < until) × (get_or due turn.place 0 ≡ turn.moment)
-      = t.turn_is.stands (omega (arith, e)) in
-      absurd (omega (arith, s.2, e, (t.so_far.each.past turn.place passed (omega (arith, s.1))).from))
+      let s : (turn.place < until) × (get_or due turn.place 0 ≡ turn.moment) = t.turn_is.stands (omega (arith, e)) in
+      absurd (omega (arith, s.1, e, (t.so_far.each.past turn.place passed (omega (arith, s.0))).from))
   | inr later_place ↦ later_place
 ]
 
@@ -120,8 +119,12 @@ pub up_to_turn : (tasks : List SporadicTask) (start x from until : ℕ) (old due
 up_to_turn tasks start x from until old due before jobs turn l m e t =
     group_waits tasks start x from t.place turn.place old due before jobs
     (to_come tasks start x from until old due before jobs turn l m e t)
-    (omega (arith, (t.turn_is.stands (omega (arith, e))).1)) t.so_far
-    (λ i a b. omega (arith, e, t.turn_is.first i (omega (arith, t.begun)) b))
+    (omega (arith, (t.turn_is.stands (omega (arith, e))).0)) t.so_far
+    (λ i a b. omega (
+      arith,
+      e,
+      t.turn_is.first i (omega (arith, t.begun)) (omega (arith, b, (t.turn_is.stands (omega (arith, e))).0)) b,
+    ))
 
 -- so it releases
 pub turn_releases : (tasks : List SporadicTask) (start x from until : ℕ) (old due : List ℕ) (before jobs : List Job)
@@ -129,10 +132,9 @@ pub turn_releases : (tasks : List SporadicTask) (start x from until : ℕ) (old 
     → GroupTurn tasks start x from until old due before jobs turn
     → releases_now (task_at tasks turn.place) x ≡ true
 turn_releases tasks start x from until old due before jobs turn l m e t =
-    let s : (from ≤ turn.place) × (turn.place < until) × (get_or due turn.place 0 ≡ turn.moment)
-    = t.turn_is.stands (omega (arith, e)) in
+    let s : (turn.place < until) × (get_or due turn.place 0 ≡ turn.moment) = t.turn_is.stands (omega (arith, e)) in
     is_due tasks turn.place x due (up_to_turn tasks start x from until old due before jobs turn l m e t).each
-    (omega (arith, s.1)) (s.2 ∙ e) m
+    (omega (arith, s.0)) (s.1 ∙ e) m
 
 pub next_turn : (tasks : List SporadicTask) (start x from until n : ℕ) (old due : List ℕ) (before jobs added : List Job)
     (turn next : Turn) → until ≤ length tasks → x < 2 ^ 64 - 1 → turn.moment ≡ x
@@ -140,15 +142,15 @@ pub next_turn : (tasks : List SporadicTask) (start x from until n : ℕ) (old du
     → added ≡ jobs ++ release_of tasks start x turn.place ∷ [] → IsSoonest (set due turn.place n) from until next
     → GroupTurn tasks start x from until old (set due turn.place n) before added next
 next_turn tasks start x from until n old due before jobs added turn next l m e t is add soonest =
-    let s : (from ≤ turn.place) × (turn.place < until) × (get_or due turn.place 0 ≡ turn.moment)
-    = t.turn_is.stands (omega (arith, e)) in
+    let s : (turn.place < until) × (get_or due turn.place 0 ≡ turn.moment) = t.turn_is.stands (omega (arith, e)) in
     record {
       place = turn.place + 1;
-      begun = omega (arith, s.0);
-      within = omega (arith, s.1);
+      begun = omega (arith, t.turn_is.past);
+      within = omega (arith, s.0);
       so_far =
-          group_releases tasks start x from turn.place n old due before jobs added s.0 (omega (arith, s.1)) m
-          (up_to_turn tasks start x from until old due before jobs turn l m e t) (s.2 ∙ e) is add;
+          group_releases tasks start x from turn.place n old due before jobs added t.turn_is.past
+          (omega (arith, s.0)) m (up_to_turn tasks start x from until old due before jobs turn l m e t) (s.1 ∙ e) is
+          add;
       turn_is = soonest;
     }
 
@@ -170,10 +172,10 @@ later_turn : (x p from until : ℕ) (tasks : List SporadicTask) (due : List ℕ)
     → x < 2 ^ 64 - 1 → AreDue tasks p x due → IsSoonest due from until turn → turn.moment ≢ x → x < turn.moment
 later_turn x p from until tasks due turn l m h is ne = elim (cases_lt turn.moment (2 ^ 64 - 1)) [
   | inl fits ↦
-      (let s : (from ≤ turn.place) × (turn.place < until) × (get_or due turn.place 0 ≡ turn.moment) = is.stands fits in
+      (let s : (turn.place < until) × (get_or due turn.place 0 ≡ turn.moment) = is.stands fits in
       elim (cases_lt turn.place p) [
-        | inl passed ↦ omega (arith, s.2, (h.past turn.place passed (omega (arith, s.1))).from)
-        | inr comes ↦ omega (arith, s.2, (h.to_come turn.place comes (omega (arith, s.1))).from, ne)
+        | inl passed ↦ omega (arith, s.1, (h.past turn.place passed (omega (arith, s.0))).from)
+        | inr comes ↦ omega (arith, s.1, (h.to_come turn.place comes (omega (arith, s.0))).from, ne)
       ])
   | inr most ↦ omega arith
 ]
@@ -223,57 +225,84 @@ past_last tasks p q x due h l m =
     record
     { one_each = h.one_each; past = λ i a b. h.past i (omega arith) b; to_come = λ i a b. h.to_come i (omega arith) b }
 
+-- a turn among moments that are the same there
+same_soonest : (old new : List ℕ) (from until : ℕ) (turn now : Turn) → IsSoonest old from until turn
+    → now.moment ≡ turn.moment → now.place ≡ turn.place
+    → ((i : ℕ) → from ≤ i → i < until → get_or new i 0 ≡ get_or old i 0) → IsSoonest new from until now
+same_soonest old new from until turn now h moment place same = record {
+  past = omega (arith, h.past, place);
+  least = λ i a b. omega (arith, moment, h.least i a b, same i a b);
+  stands =
+      λ l. let s : (turn.place < until) × (get_or old turn.place 0 ≡ turn.moment)
+      = h.stands (omega (arith, l, moment)) in (
+        omega (arith, s.0, place),
+        ap (λ (z : ℕ). get_or new z 0) place ∙ (same turn.place h.past s.0 ∙ (s.1 ∙ sym moment)),
+      );
+  first = λ i a b c. omega (arith, moment, h.first i a b (omega (arith, c, place)), same i a b);
+}
+
 -- the groups so far
-pub record MomentTo (tasks : List SporadicTask) (start x g : ℕ) (before jobs : List Job) (due groups : List ℕ) :
+pub record MomentTo (tasks : List SporadicTask) (start x g : ℕ) (before jobs : List Job) (due groups offsets : List ℕ) :
     Type 0 where
   pub jobs_so_far : jobs ≡ releases_at tasks start x (min (8 * g) (length tasks)) before
   pub each : AreDue tasks (8 * g) x due
-  pub firsts : AreFirsts due groups g x
+  pub firsts : AreFirsts due groups offsets g x
 
-moment_group : (tasks : List SporadicTask) (start x g first : ℕ) (before jobs added : List Job)
-    (due new groups : List ℕ)
-    → g < length groups → 8 * g ≤ length tasks → MomentTo tasks start x g before jobs due groups
+moment_group : (tasks : List SporadicTask) (start x g : ℕ) (next : Turn) (before jobs added : List Job)
+    (due new groups offsets : List ℕ) → g < length groups → 8 * g ≤ length tasks
+    → MomentTo tasks start x g before jobs due groups offsets
     → added ≡ releases_at tasks start x (min (8 * g + 8) (length tasks)) before → AreDue tasks (8 * g + 8) x new
     → ((i : ℕ) → (i < 8 * g) ⊎ (8 * g + 8 ≤ i) → get_or new i 0 ≡ get_or due i 0)
-    → x < first → ((i : ℕ) → 8 * g ≤ i → i < 8 * g + 8 → i < length tasks → first ≤ get_or new i 0)
-    → MomentTo tasks start x (g + 1) before added new (set groups g first)
-moment_group tasks start x g first before jobs added due new groups l in_tasks h add each same after least_due =
-    let here : get_or (set groups g first) g 0 ≡ first = get_or-set_same groups g first 0 l in
+    → x < next.moment → IsSoonest new (8 * g) (min (8 * g + 8) (length tasks)) next
+    → MomentTo tasks start x (g + 1) before added new (set groups g next.moment) (set offsets g (next.place - 8 * g))
+moment_group tasks start x g next before jobs added due new groups offsets l in_tasks h add each same after is =
+    let marks : List ℕ = set groups g next.moment in
+    let places : List ℕ = set offsets g (next.place - 8 * g) in
+    let here : get_or marks g 0 ≡ next.moment = get_or-set_same groups g next.moment 0 l in
+    let there : get_or places g 0 ≡ next.place - 8 * g
+    = get_or-set_same offsets g (next.place - 8 * g) 0 (omega (arith, h.firsts.one_each)) in
     let next_group : 8 * g + 8 ≡ 8 * (g + 1) = omega arith in
     record {
       jobs_so_far = add ∙ ap (λ (z : ℕ). releases_at tasks start x (min z (length tasks)) before) next_group;
       each = subst (λ (z : ℕ). AreDue tasks z x new) next_group each;
       firsts = record {
+        one_each =
+            omega (
+              arith,
+              h.firsts.one_each,
+              length-set groups g next.moment,
+              length-set offsets g (next.place - 8 * g),
+            );
         past = λ k a b. elim (cases_eq k g) [
-          | inl e ↦ omega (arith, ap (λ (z : ℕ). get_or (set groups g first) z 0) e)
+          | inl e ↦ omega (arith, ap (λ (z : ℕ). get_or marks z 0) e)
           | inr ne ↦
               omega (
                 arith,
-                get_or-set_other groups g k first 0 ne,
-                h.firsts.past k (omega arith) (omega (arith, length-set groups g first)),
+                get_or-set_other groups g k next.moment 0 ne,
+                h.firsts.past k (omega arith) (omega (arith, length-set groups g next.moment)),
               )
         ];
         to_come =
             λ k a b. omega (
               arith,
-              get_or-set_other groups g k first 0 (λ e. omega arith),
-              h.firsts.to_come k (omega arith) (omega (arith, length-set groups g first)),
+              get_or-set_other groups g k next.moment 0 (λ e. omega arith),
+              h.firsts.to_come k (omega arith) (omega (arith, length-set groups g next.moment)),
             );
-        first = λ k i a b c d. elim (cases_eq k g) [
+        first = λ k a. elim (cases_eq k g) [
           | inl e ↦
-              omega (
-                arith,
-                ap (λ (z : ℕ). get_or (set groups g first) z 0) e,
-                least_due i (omega arith) (omega arith) (omega (arith, each.one_each)),
-              )
+              subst (λ (z : ℕ). IsSoonest new (8 * z) (min (8 * z + 8) (length new)) (turn_of marks places z)) (sym e)
+              (same_soonest new new (8 * g) (min (8 * g + 8) (length new)) next (turn_of marks places g)
+              (subst (λ (z : ℕ). IsSoonest new (8 * g) (min (8 * g + 8) z) next) (sym each.one_each) is) here
+              (omega (arith, there, is.past)) (λ i b c. refl))
           | inr ne ↦
-              omega (
-                arith,
-                get_or-set_other groups g k first 0 ne,
-                h.firsts.first k i (omega (arith, length-set groups g first)) b c
-                    (omega (arith, each.one_each, h.each.one_each)),
-                same i (apart k i ne b c),
-              )
+              same_soonest due new (8 * k) (min (8 * k + 8) (length new)) (turn_of groups offsets k)
+              (turn_of marks places k)
+              (subst (λ (z : ℕ). IsSoonest due (8 * k) (min (8 * k + 8) z) (turn_of groups offsets k))
+              (h.each.one_each ∙ sym each.one_each)
+              (h.firsts.first k (omega (arith, a, length-set groups g next.moment))))
+              (get_or-set_other groups g k next.moment 0 ne)
+              (omega (arith, get_or-set_other offsets g k (next.place - 8 * g) 0 ne))
+              (λ i b c. same i (apart k i ne b (omega (arith, c))))
         ];
       };
     }
@@ -281,22 +310,38 @@ moment_group tasks start x g first before jobs added due new groups l in_tasks h
     apart : (k i : ℕ) → k ≢ g → 8 * k ≤ i → i < 8 * k + 8 → (i < 8 * g) ⊎ (8 * g + 8 ≤ i)
     apart k i ne b c = elim (cases_lt k g) [ inl m ↦ inl (omega arith) | inr m ↦ inr (omega (arith, ne)) ]
 
-moment_waits : (tasks : List SporadicTask) (start x g : ℕ) (before jobs : List Job) (due groups : List ℕ)
-    → g < length groups → 8 * g ≤ length tasks → MomentTo tasks start x g before jobs due groups
-    → x < get_or groups g 0 → MomentTo tasks start x (g + 1) before jobs due groups
-moment_waits tasks start x g before jobs due groups l in_tasks h past =
+-- no task of a group releases before its turn
+pub no_sooner : (tasks : List SporadicTask) (start x g : ℕ) (before jobs : List Job) (due groups offsets : List ℕ)
+    → MomentTo tasks start x g before jobs due groups offsets → (k i : ℕ) → k < length groups → 8 * k ≤ i
+    → i < 8 * k + 8 → i < length tasks → get_or groups k 0 ≤ get_or due i 0
+no_sooner tasks start x g before jobs due groups offsets h k i l a b c =
+    (h.firsts.first k l).least i a (omega (arith, h.each.one_each, b, c))
+
+moment_waits : (tasks : List SporadicTask) (start x g : ℕ) (before jobs : List Job) (due groups offsets : List ℕ)
+    → g < length groups → 8 * g ≤ length tasks → MomentTo tasks start x g before jobs due groups offsets
+    → x < get_or groups g 0 → MomentTo tasks start x (g + 1) before jobs due groups offsets
+moment_waits tasks start x g before jobs due groups offsets l in_tasks h past =
     let k : ℕ = min (8 * (g + 1)) (length tasks) - 8 * g in
     let end : 8 * g + k ≡ min (8 * (g + 1)) (length tasks) = omega arith in
     let begin : min (8 * g) (length tasks) ≡ 8 * g = omega arith in
     record {
       jobs_so_far = h.jobs_so_far ∙ ap (λ (z : ℕ). releases_at tasks start x z before) begin
           ∙ sym (some_wait tasks start x (8 * g) k before (λ j a b. waits tasks (8 * g) x j due h.each a (omega arith)
-          (omega (arith, past, h.firsts.first g j l a (omega arith) (omega (arith, h.each.one_each))))))
+          (omega (
+            arith,
+            past,
+            no_sooner tasks start x g before jobs due groups offsets h g j l a (omega arith) (omega arith),
+          ))))
           ∙ ap (λ (z : ℕ). releases_at tasks start x z before) end;
       each =
           waiting_pass tasks (8 * g) (8 * (g + 1)) x due h.each (omega arith)
-          (λ i a b c. omega (arith, past, h.firsts.first g i l a (omega arith) (omega (arith, h.each.one_each))));
+          (λ i a b c. omega (
+            arith,
+            past,
+            no_sooner tasks start x g before jobs due groups offsets h g i l a (omega arith) c,
+          ));
       firsts = record {
+        one_each = h.firsts.one_each;
         past =
             λ k a b. elim (cases_eq k g) [
               | inl e ↦
@@ -308,137 +353,192 @@ moment_waits tasks start x g before jobs due groups l in_tasks h past =
       };
     }
 
-moments_wait : (tasks : List SporadicTask) (start x g k : ℕ) (before jobs : List Job) (due groups : List ℕ)
-    → g + k ≤ length groups → 8 * length groups ≤ length tasks + 8
-    → MomentTo tasks start x g before jobs due groups
-    → ((h : ℕ) → g ≤ h → h < g + k → x < get_or groups h 0) → MomentTo tasks start x (g + k) before jobs due groups
-moments_wait tasks start x g zero before jobs due groups l no_more h past =
-    subst (λ (z : ℕ). MomentTo tasks start x z before jobs due groups) (let e : g ≡ g + 0 = omega arith in e) h
-moments_wait tasks start x g (suc k) before jobs due groups l no_more h past =
-    subst (λ (z : ℕ). MomentTo tasks start x z before jobs due groups)
+moments_wait : (tasks : List SporadicTask) (start x g k : ℕ) (before jobs : List Job) (due groups offsets : List ℕ)
+    → g + k ≤ length groups → 8 * length groups ≤ length tasks + 7
+    → MomentTo tasks start x g before jobs due groups offsets
+    → ((h : ℕ) → g ≤ h → h < g + k → x < get_or groups h 0)
+    → MomentTo tasks start x (g + k) before jobs due groups offsets
+moments_wait tasks start x g zero before jobs due groups offsets l no_more h past =
+    subst (λ (z : ℕ). MomentTo tasks start x z before jobs due groups offsets)
+    (let e : g ≡ g + 0 = omega arith in e) h
+moments_wait tasks start x g (suc k) before jobs due groups offsets l no_more h past =
+    subst (λ (z : ℕ). MomentTo tasks start x z before jobs due groups offsets)
     (let e : (g + k) + 1 ≡ g + suc k = omega arith in e)
-    (moment_waits tasks start x (g + k) before jobs due groups (omega arith) (omega arith)
-    (moments_wait tasks start x g k before jobs due groups (omega arith) no_more h
+    (moment_waits tasks start x (g + k) before jobs due groups offsets (omega arith) (omega arith)
+    (moments_wait tasks start x g k before jobs due groups offsets (omega arith) no_more h
     (λ i a b. past i a (omega arith)))
     (past (g + k) (omega arith) (omega arith)))
 
 -- a moment before one of its turns: some groups have passed
-pub record MomentTurn (tasks : List SporadicTask) (start x : ℕ) (before jobs : List Job) (due groups : List ℕ)
-    (turn : Turn) : Type 0 where
+pub record MomentTurn (tasks : List SporadicTask) (start x : ℕ) (before jobs : List Job)
+    (due groups offsets : List ℕ) (turn : Turn) : Type 0 where
   pub group : ℕ
   pub within : group ≤ length groups
-  pub so_far : MomentTo tasks start x group before jobs due groups
-  pub no_more : 8 * length groups ≤ length tasks + 8
+  pub so_far : MomentTo tasks start x group before jobs due groups offsets
+  pub no_more : 8 * length groups ≤ length tasks + 7
   pub turn_is : IsSoonest groups 0 (length groups) turn
 
 -- a group that is due has not passed yet
-pub group_to_come : (tasks : List SporadicTask) (start x : ℕ) (before jobs : List Job) (due groups : List ℕ)
+group_to_come : (tasks : List SporadicTask) (start x : ℕ) (before jobs : List Job) (due groups offsets : List ℕ)
     (turn : Turn) → x < 2 ^ 64 - 1 → turn.moment ≡ x
-    → (t : MomentTurn tasks start x before jobs due groups turn) → t.group ≤ turn.place
-group_to_come tasks start x before jobs due groups turn m e t = elim (cases_lt turn.place t.group) [
+    → (t : MomentTurn tasks start x before jobs due groups offsets turn) → t.group ≤ turn.place
+group_to_come tasks start x before jobs due groups offsets turn m e t = elim (cases_lt turn.place t.group) [
   | inl passed ↦
-      let s : (0 ≤ turn.place) × (turn.place < length groups) × (get_or groups turn.place 0 ≡ turn.moment)
+      let s : (turn.place < length groups) × (get_or groups turn.place 0 ≡ turn.moment)
       = t.turn_is.stands (omega (arith, e)) in
-      absurd (omega (arith, s.2, e, t.so_far.firsts.past turn.place passed s.1))
+      absurd (omega (arith, s.1, e, t.so_far.firsts.past turn.place passed s.0))
   | inr later_place ↦ later_place
 ]
 
-pub up_to_group : (tasks : List SporadicTask) (start x : ℕ) (before jobs : List Job) (due groups : List ℕ)
-    (turn : Turn) → x < 2 ^ 64 - 1 → turn.moment ≡ x → MomentTurn tasks start x before jobs due groups turn
-    → MomentTo tasks start x turn.place before jobs due groups
-up_to_group tasks start x before jobs due groups turn m e t =
-    let s : (0 ≤ turn.place) × (turn.place < length groups) × (get_or groups turn.place 0 ≡ turn.moment)
+pub up_to_group : (tasks : List SporadicTask) (start x : ℕ) (before jobs : List Job) (due groups offsets : List ℕ)
+    (turn : Turn) → x < 2 ^ 64 - 1 → turn.moment ≡ x → MomentTurn tasks start x before jobs due groups offsets turn
+    → MomentTo tasks start x turn.place before jobs due groups offsets
+up_to_group tasks start x before jobs due groups offsets turn m e t =
+    let s : (turn.place < length groups) × (get_or groups turn.place 0 ≡ turn.moment)
     = t.turn_is.stands (omega (arith, e)) in
     let k : ℕ = turn.place - t.group in
-    let end : t.group + k ≡ turn.place = omega (arith, group_to_come tasks start x before jobs due groups turn m e t) in
-    subst (λ (z : ℕ). MomentTo tasks start x z before jobs due groups) end
-    (moments_wait tasks start x t.group k before jobs due groups (omega (arith, s.1, end)) t.no_more t.so_far
-    (λ h a b. omega (arith, e, t.turn_is.first h (omega arith) (omega (arith, b, end)))))
+    let end : t.group + k ≡ turn.place
+    = omega (arith, group_to_come tasks start x before jobs due groups offsets turn m e t) in
+    subst (λ (z : ℕ). MomentTo tasks start x z before jobs due groups offsets) end
+    (moments_wait tasks start x t.group k before jobs due groups offsets (omega (arith, s.0, end)) t.no_more t.so_far
+    (λ h a b. omega (
+      arith,
+      e,
+      t.turn_is.first h (omega arith) (omega (arith, b, end, s.0)) (omega (arith, b, end)),
+    )))
 
-pub next_group : (tasks : List SporadicTask) (start x first : ℕ) (before jobs added : List Job)
-    (due new groups : List ℕ) (turn next : Turn) → x < 2 ^ 64 - 1 → turn.moment ≡ x
-    → MomentTurn tasks start x before jobs due groups turn
+-- the first turn of that group
+pub group_turn : (tasks : List SporadicTask) (start x : ℕ) (before jobs : List Job) (due groups offsets : List ℕ)
+    (turn first : Turn) → x < 2 ^ 64 - 1 → turn.moment ≡ x
+    → MomentTurn tasks start x before jobs due groups offsets turn → first.moment ≡ x
+    → first.place ≡ 8 * turn.place + get_or offsets turn.place 0
+    → IsSoonest due (8 * turn.place) (min (8 * turn.place + 8) (length tasks)) first
+group_turn tasks start x before jobs due groups offsets turn first m e t moment place =
+    let s : (turn.place < length groups) × (get_or groups turn.place 0 ≡ turn.moment)
+    = t.turn_is.stands (omega (arith, e)) in
+    same_soonest due due (8 * turn.place) (min (8 * turn.place + 8) (length tasks))
+    (turn_of groups offsets turn.place) first
+    (subst (λ (z : ℕ). IsSoonest due (8 * turn.place) (min (8 * turn.place + 8) z) (turn_of groups offsets turn.place))
+    t.so_far.each.one_each (t.so_far.firsts.first turn.place s.0))
+    (omega (arith, moment, e, s.1)) place (λ i a b. refl)
+
+pub next_group : (tasks : List SporadicTask) (start x : ℕ) (before jobs added : List Job)
+    (due new groups offsets : List ℕ) (turn first next : Turn) → x < 2 ^ 64 - 1 → turn.moment ≡ x
+    → MomentTurn tasks start x before jobs due groups offsets turn
     → added ≡ releases_at tasks start x (min (8 * turn.place + 8) (length tasks)) before
     → AreDue tasks (8 * turn.place + 8) x new
-    → ((i : ℕ) → (i < 8 * turn.place) ⊎ (8 * turn.place + 8 ≤ i) → get_or new i 0 ≡ get_or due i 0) → x < first
-    → ((i : ℕ) → 8 * turn.place ≤ i → i < 8 * turn.place + 8 → i < length tasks → first ≤ get_or new i 0)
-    → IsSoonest (set groups turn.place first) 0 (length groups) next
-    → MomentTurn tasks start x before added new (set groups turn.place first) next
-next_group tasks start x first before jobs added due new groups turn next m e t add each same after least soonest =
-    let s : (0 ≤ turn.place) × (turn.place < length groups) × (get_or groups turn.place 0 ≡ turn.moment)
+    → ((i : ℕ) → (i < 8 * turn.place) ⊎ (8 * turn.place + 8 ≤ i) → get_or new i 0 ≡ get_or due i 0)
+    → x < first.moment → IsSoonest new (8 * turn.place) (min (8 * turn.place + 8) (length tasks)) first
+    → IsSoonest (set groups turn.place first.moment) 0 (length groups) next
+    → MomentTurn tasks start x before added new (set groups turn.place first.moment)
+    (set offsets turn.place (first.place - 8 * turn.place)) next
+next_group tasks start x before jobs added due new groups offsets turn first next m e t add each same after is soonest =
+    let s : (turn.place < length groups) × (get_or groups turn.place 0 ≡ turn.moment)
     = t.turn_is.stands (omega (arith, e)) in
-    let long : length (set groups turn.place first) ≡ length groups = length-set groups turn.place first in
+    let long : length (set groups turn.place first.moment) ≡ length groups
+    = length-set groups turn.place first.moment in
     record {
       group = turn.place + 1;
-      within = omega (arith, long, s.1);
+      within = omega (arith, long, s.0);
       so_far =
-          moment_group tasks start x turn.place first before jobs added due new groups s.1
-          (omega (arith, s.1, t.no_more)) (up_to_group tasks start x before jobs due groups turn m e t) add each same
-          after least;
+          moment_group tasks start x turn.place first before jobs added due new groups offsets s.0
+          (omega (arith, s.0, t.no_more)) (up_to_group tasks start x before jobs due groups offsets turn m e t) add
+          each same after is;
       no_more = omega (arith, long, t.no_more);
-      turn_is = subst (λ (z : ℕ). IsSoonest (set groups turn.place first) 0 z next) (sym long) soonest;
+      turn_is =
+          subst (λ (z : ℕ). IsSoonest (set groups turn.place first.moment) 0 z next) (sym long) soonest;
     }
 
+-- a turn after it is of a later group
+pub next_group_later : (tasks : List SporadicTask) (start x : ℕ) (before jobs added : List Job)
+    (due new groups offsets : List ℕ) (turn first next : Turn) → x < 2 ^ 64 - 1 → turn.moment ≡ x
+    → MomentTurn tasks start x before jobs due groups offsets turn
+    → added ≡ releases_at tasks start x (min (8 * turn.place + 8) (length tasks)) before
+    → AreDue tasks (8 * turn.place + 8) x new
+    → ((i : ℕ) → (i < 8 * turn.place) ⊎ (8 * turn.place + 8 ≤ i) → get_or new i 0 ≡ get_or due i 0)
+    → x < first.moment → IsSoonest new (8 * turn.place) (min (8 * turn.place + 8) (length tasks)) first
+    → IsSoonest (set groups turn.place first.moment) 0 (length groups) next → next.moment ≡ x
+    → turn.place < next.place
+unfolding next_group
+next_group_later tasks start x before jobs added due new groups offsets turn first next m e t add each same after is
+    soonest f =
+    let past : turn.place + 1 ≤ next.place
+    = group_to_come tasks start x before added new (set groups turn.place first.moment)
+    (set offsets turn.place (first.place - 8 * turn.place)) next m f
+    (next_group tasks start x before jobs added due new groups offsets turn first next m e t add each same after is
+    soonest) in
+    omega (arith, past)
+
 -- the moment is over
-pub moment_later : (tasks : List SporadicTask) (start x : ℕ) (before jobs : List Job) (due groups : List ℕ)
-    (turn : Turn) → x < 2 ^ 64 - 1 → turn.moment ≢ x → MomentTurn tasks start x before jobs due groups turn
+pub moment_later : (tasks : List SporadicTask) (start x : ℕ) (before jobs : List Job) (due groups offsets : List ℕ)
+    (turn : Turn) → x < 2 ^ 64 - 1 → turn.moment ≢ x → MomentTurn tasks start x before jobs due groups offsets turn
     → x < turn.moment
-moment_later tasks start x before jobs due groups turn m ne t = elim (cases_lt turn.moment (2 ^ 64 - 1)) [
+moment_later tasks start x before jobs due groups offsets turn m ne t = elim (cases_lt turn.moment (2 ^ 64 - 1)) [
   | inl fits ↦
-      (let s : (0 ≤ turn.place) × (turn.place < length groups) × (get_or groups turn.place 0 ≡ turn.moment)
-      = t.turn_is.stands fits in
+      (let s : (turn.place < length groups) × (get_or groups turn.place 0 ≡ turn.moment) = t.turn_is.stands fits in
       elim (cases_lt turn.place t.group) [
-        | inl passed ↦ omega (arith, s.2, t.so_far.firsts.past turn.place passed s.1)
-        | inr comes ↦ omega (arith, s.2, t.so_far.firsts.to_come turn.place comes s.1, ne)
+        | inl passed ↦ omega (arith, s.1, t.so_far.firsts.past turn.place passed s.0)
+        | inr comes ↦ omega (arith, s.1, t.so_far.firsts.to_come turn.place comes s.0, ne)
       ])
   | inr most ↦ omega arith
 ]
 
-pub moment_over : (tasks : List SporadicTask) (start x : ℕ) (before jobs : List Job) (due groups : List ℕ)
-    (turn : Turn) → x < 2 ^ 64 - 1 → turn.moment ≢ x → MomentTurn tasks start x before jobs due groups turn
-    → MomentTo tasks start x (length groups) before jobs due groups
-moment_over tasks start x before jobs due groups turn m ne t =
+pub moment_over : (tasks : List SporadicTask) (start x : ℕ) (before jobs : List Job) (due groups offsets : List ℕ)
+    (turn : Turn) → x < 2 ^ 64 - 1 → turn.moment ≢ x → MomentTurn tasks start x before jobs due groups offsets turn
+    → MomentTo tasks start x (length groups) before jobs due groups offsets
+moment_over tasks start x before jobs due groups offsets turn m ne t =
     let k : ℕ = length groups - t.group in
     let end : t.group + k ≡ length groups = omega (arith, t.within) in
-    subst (λ (z : ℕ). MomentTo tasks start x z before jobs due groups) end
-    (moments_wait tasks start x t.group k before jobs due groups (omega (arith, end)) t.no_more t.so_far
+    subst (λ (z : ℕ). MomentTo tasks start x z before jobs due groups offsets) end
+    (moments_wait tasks start x t.group k before jobs due groups offsets (omega (arith, end)) t.no_more t.so_far
     (λ h a b. omega (
       arith,
-      moment_later tasks start x before jobs due groups turn m ne t,
+      moment_later tasks start x before jobs due groups offsets turn m ne t,
       t.turn_is.least h (omega arith) (omega (arith, b, end)),
     )))
 
 -- the group of a task, and when it releases next
-in_group : (tasks : List SporadicTask) (start x next : ℕ) (before jobs : List Job) (due groups : List ℕ)
-    → MomentTo tasks start x (length groups) before jobs due groups → length tasks < 8 * length groups
-    → ((h : ℕ) → h < length groups → next ≤ get_or groups h 0) → (i : ℕ) → i < length tasks → next ≤ get_or due i 0
-in_group tasks start x next before jobs due groups h all least i l =
+in_group : (tasks : List SporadicTask) (start x : ℕ) (before jobs : List Job) (due groups offsets : List ℕ)
+    (turn : Turn) → x < 2 ^ 64 - 1 → turn.moment ≢ x → MomentTurn tasks start x before jobs due groups offsets turn
+    → length tasks ≤ 8 * length groups → (i : ℕ) → i < length tasks → turn.moment ≤ get_or due i 0
+in_group tasks start x before jobs due groups offsets turn m ne t all i l =
     omega (
       arith,
-      least (i / 8) (omega arith),
-      h.firsts.first (i / 8) i (omega arith) (omega arith) (omega arith) (omega (arith, h.each.one_each)),
+      t.turn_is.least (i / 8) (omega arith) (omega arith),
+      no_sooner tasks start x (length groups) before jobs due groups offsets
+          (moment_over tasks start x before jobs due groups offsets turn m ne t) (i / 8) i (omega arith) (omega arith)
+          (omega arith) l,
     )
 
-pub none_before_next : (tasks : List SporadicTask) (start x next : ℕ) (before jobs : List Job) (due groups : List ℕ)
-    → MomentTo tasks start x (length groups) before jobs due groups → length tasks < 8 * length groups
-    → ((h : ℕ) → h < length groups → next ≤ get_or groups h 0) → NoneRelease tasks (x + 1) next
-none_before_next tasks start x next before jobs due groups h all least i y l a b =
-    (h.each.past i (omega arith) l).none y a
-    (omega (arith, in_group tasks start x next before jobs due groups h all least i l))
+pub none_before_next : (tasks : List SporadicTask) (start x : ℕ) (before jobs : List Job)
+    (due groups offsets : List ℕ) (turn : Turn) → x < 2 ^ 64 - 1 → turn.moment ≢ x
+    → MomentTurn tasks start x before jobs due groups offsets turn → length tasks ≤ 8 * length groups
+    → NoneRelease tasks (x + 1) turn.moment
+none_before_next tasks start x before jobs due groups offsets turn m ne t all i y l a b =
+    ((moment_over tasks start x before jobs due groups offsets turn m ne t).each.past i (omega arith) l).none y a
+    (omega (arith, in_group tasks start x before jobs due groups offsets turn m ne t all i l))
 
-pub due_next : (tasks : List SporadicTask) (start x next : ℕ) (before jobs : List Job) (due groups : List ℕ) → x < next
-    → MomentTo tasks start x (length groups) before jobs due groups → length tasks < 8 * length groups
-    → ((h : ℕ) → h < length groups → next ≤ get_or groups h 0) → AreDue tasks 0 next due
-due_next tasks start x next before jobs due groups after h all least = record {
-  one_each = h.each.one_each;
-  past = λ i a. absurd (omega arith);
-  to_come =
-      λ i a l. later (task_at tasks i) (x + 1) next (get_or due i 0) (h.each.past i (omega arith) l) (omega arith)
-      (in_group tasks start x next before jobs due groups h all least i l);
+pub due_next : (tasks : List SporadicTask) (start x : ℕ) (before jobs : List Job) (due groups offsets : List ℕ)
+    (turn : Turn) → x < 2 ^ 64 - 1 → turn.moment ≢ x → MomentTurn tasks start x before jobs due groups offsets turn
+    → length tasks ≤ 8 * length groups → AreDue tasks 0 turn.moment due
+due_next tasks start x before jobs due groups offsets turn m ne t all =
+    let over : MomentTo tasks start x (length groups) before jobs due groups offsets
+    = moment_over tasks start x before jobs due groups offsets turn m ne t in
+    record {
+      one_each = over.each.one_each;
+      past = λ i a. absurd (omega arith);
+      to_come =
+          λ i a l. later (task_at tasks i) (x + 1) turn.moment (get_or due i 0) (over.each.past i (omega arith) l)
+          (omega (arith, moment_later tasks start x before jobs due groups offsets turn m ne t))
+          (in_group tasks start x before jobs due groups offsets turn m ne t all i l);
+    }
+
+pub firsts_next : (tasks : List SporadicTask) (start x : ℕ) (before jobs : List Job) (due groups offsets : List ℕ)
+    (turn : Turn) → MomentTurn tasks start x before jobs due groups offsets turn
+    → AreFirsts due groups offsets 0 turn.moment
+firsts_next tasks start x before jobs due groups offsets turn t = record {
+  one_each = t.so_far.firsts.one_each;
+  past = λ k a. absurd (omega arith);
+  to_come = λ k a b. t.turn_is.least k (omega arith) b;
+  first = t.so_far.firsts.first;
 }
-
-pub firsts_next : (tasks : List SporadicTask) (start x next : ℕ) (before jobs : List Job) (due groups : List ℕ)
-    → MomentTo tasks start x (length groups) before jobs due groups
-    → ((h : ℕ) → h < length groups → next ≤ get_or groups h 0) → AreFirsts due groups 0 next
-firsts_next tasks start x next before jobs due groups h least =
-    record { past = λ k a. absurd (omega arith); to_come = λ k a b. least k b; first = h.firsts.first }

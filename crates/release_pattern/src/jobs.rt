@@ -69,8 +69,12 @@ fn releases_of(tasks: &[Task], span: u64) -> u64
 pub struct Due {
     /// The next release of each task.
     tasks: Vec<u64>,
-    /// No task of a group releases before this moment.
+    /// The first of these in each group.
     groups: Vec<u64>,
+    /// The first place within each group where that stands.
+    offsets: Vec<usize>,
+    /// The first of all, and the first group that has it.
+    next: Turn,
 }
 
 impl Due {
@@ -78,9 +82,14 @@ impl Due {
     fn new(alloc: Global, tasks: &[Task]) -> Result<Due, AllocError>
         ensures { IfOk result (λ due. IsDue (sporadic_tasks tasks.now) 0 due) }
     {
+        let count = tasks.len().div_ceil(GROUP);
+        let groups = vec![in alloc; 0; count]?;
+        let next = soonest(&groups, 0, count);
         Ok(Due {
             tasks: vec![in alloc; 0; tasks.len()]?,
-            groups: vec![in alloc; 0; tasks.len() / GROUP + 1]?,
+            groups,
+            offsets: vec![in alloc; 0; count]?,
+            next,
         })
     }
 
@@ -103,29 +112,39 @@ impl Due {
         ensures due { IfOk result (λ next. IsDue (sporadic_tasks tasks.now) next self.new) }
     {
         let groups = self.groups.len();
-        let mut turn = soonest(&self.groups, 0, groups);
+        let mut turn = self.next;
         while turn.moment == after {
             let group = turn.place;
-            let next = self.push_group(jobs, tasks, group, start, after)?;
-            self.groups[group] = next;
+            let first = Turn {
+                moment: after,
+                place: GROUP * group + self.offsets[group],
+            };
+            let next = self.push_group(jobs, tasks, group, first, start, after)?;
+            self.groups[group] = next.moment;
+            self.offsets[group] = next.place - GROUP * group;
             turn = soonest(&self.groups, 0, groups);
         }
+        self.next = turn;
         Ok(turn.moment)
     }
 
-    /// Adds what the tasks of a group release at a moment, and tells the next release of the group.
+    /// Adds what the tasks of a group release at a moment, and tells the next turn of the group.
+    /// `first` is its turn so far.
     fn push_group(
         &mut self,
         jobs: &mut Vec<Job>,
         tasks: &[Task],
         group: usize,
+        first: Turn,
         start: u64,
         after: u64,
-    ) -> Result<u64, AllocError>
+    ) -> Result<Turn, AllocError>
         requires few { length tasks.now < 2 ^ 32 }
         requires in_time { start + after < 2 ^ 64 - 1 }
         requires in_tasks { 8 * group ≤ length tasks.now }
         requires due { AreDue (sporadic_tasks tasks.now) (8 * group) after self.old.tasks.items }
+        requires first { let until = min (8 * group + 8) (length tasks.now) in
+            IsSoonest self.old.tasks.items (8 * group) until first }
         ensures jobs { let T = sporadic_tasks tasks.now in
             (earlier : List AnyJob) →
             jobs.old.items ≡ releases_at T start after (8 * group) earlier →
@@ -136,20 +155,21 @@ impl Due {
         ensures same { OnOk result ((i : ℕ) → (i < 8 * group) ⊎ (8 * group + 8 ≤ i) →
             slice_index self.new.tasks.items i ≡ slice_index self.old.tasks.items i) }
         ensures groups { self.new.groups ≡ self.old.groups }
-        ensures later { IfOk result (λ next. after < next) }
-        ensures first { IfOk result (λ next. (i : ℕ) → 8 * group ≤ i → i < 8 * group + 8 →
-            i < length tasks.now → next ≤ slice_index self.new.tasks.items i) }
+        ensures offsets { self.new.offsets ≡ self.old.offsets }
+        ensures later { IfOk result (λ next. after < next.moment) }
+        ensures next { let until = min (8 * group + 8) (length tasks.now) in
+            IfOk result (λ next. IsSoonest self.new.tasks.items (8 * group) until next) }
     {
         let from = GROUP * group;
         let until = from + GROUP.min(tasks.len() - from);
-        let mut turn = soonest(&self.tasks, from, until);
+        let mut turn = first;
         while turn.moment == after {
             let place = turn.place;
             let next = push_release(jobs, tasks, place, start, after)?;
             self.tasks[place] = next;
             turn = soonest(&self.tasks, from, until);
         }
-        Ok(turn.moment)
+        Ok(turn)
     }
 }
 

@@ -16,11 +16,12 @@ loop-turn-preserved c =
       so_far =
           next_turn T c.args.start c.args.after from until c.in_ok-next.next c.args.self.now.tasks.items
           c.loop-turn.self.tasks.items c.args.jobs.now.items c.loop-turn.jobs.items c.push_release.new.jobs.items
-          c.loop-turn.turn c.soonest-turn-in-loop-turn.result inside (omega (arith, c.requires.in_time))
+          c.loop-turn.turn c.soonest-turn.result inside (omega (arith, c.requires.in_time))
           c.loop-turn-test.true c.loop-turn.invariant.so_far c.in_ok-next.ensures.next c.in_ok-next.ensures.job
-          (subst (λ (z : List ℕ). IsSoonest z from until c.soonest-turn-in-loop-turn.result)
-          c.deref-in-loop-turn.ensures.value c.soonest-turn-in-loop-turn.ensures);
+          (subst (λ (z : List ℕ). IsSoonest z from until c.soonest-turn.result)
+          c.deref.ensures.value c.soonest-turn.ensures);
       groups = c.loop-turn.invariant.groups;
+      offsets = c.loop-turn.invariant.offsets;
     }
 
 pub loop-turn-smaller : goal.loop-turn-smaller
@@ -29,18 +30,18 @@ loop-turn-smaller c =
     let from : ℕ = 8 * c.args.group in let until : ℕ = from + c.min.result in
     let inside : until ≤ length T
     = omega (arith, length-map c.args.tasks.now sporadic_task, c.min.ensures, c.requires.in_tasks) in
-    let turn = c.loop-turn.turn in let next = c.soonest-turn-in-loop-turn.result in
+    let turn = c.loop-turn.turn in let next = c.soonest-turn.result in
     shrinks turn.moment next.moment c.args.after turn.place next.place until c.loop-turn-test.true
     (omega (
       arith,
-      (c.loop-turn.invariant.so_far.turn_is.stands (omega (arith, c.loop-turn-test.true, c.requires.in_time))).1,
+      (c.loop-turn.invariant.so_far.turn_is.stands (omega (arith, c.loop-turn-test.true, c.requires.in_time))).0,
     ))
     (next_later T c.args.start c.args.after from until c.in_ok-next.next c.args.self.now.tasks.items
     c.loop-turn.self.tasks.items c.args.jobs.now.items c.loop-turn.jobs.items c.push_release.new.jobs.items turn next
     inside (omega (arith, c.requires.in_time)) c.loop-turn-test.true c.loop-turn.invariant.so_far
     c.in_ok-next.ensures.next c.in_ok-next.ensures.job
-    (subst (λ (z : List ℕ). IsSoonest z from until next) c.deref-in-loop-turn.ensures.value
-    c.soonest-turn-in-loop-turn.ensures))
+    (subst (λ (z : List ℕ). IsSoonest z from until next) c.deref.ensures.value
+    c.soonest-turn.ensures))
 
 pub returns-clause-jobs : goal.returns-clause-jobs
 returns-clause-jobs c =

@@ -8,6 +8,7 @@ invariant-loop-turn l = record {
   so_far : GroupTurn (sporadic_tasks l.tasks) l.start l.after l.from l.until l.fn.self.tasks.items
       l.self.tasks.items l.fn.jobs.items l.jobs.items l.turn;
   groups : l.self.groups ≡ l.fn.self.groups;
+  offsets : l.self.offsets ≡ l.fn.self.offsets;
 }
 
 abbrev pub decreases-loop-turn : goal.decreases-loop-turn

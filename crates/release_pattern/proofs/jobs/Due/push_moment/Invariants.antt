@@ -6,7 +6,7 @@ use Rattle.release_pattern.proofs.jobs.Due.push_moment.Given as goal
 abbrev pub invariant-loop-turn : goal.invariant-loop-turn
 invariant-loop-turn l = record {
   so_far : MomentTurn (sporadic_tasks l.tasks) l.start l.after l.fn.jobs.items l.jobs.items
-      l.self.tasks.items l.self.groups.items l.turn;
+      l.self.tasks.items l.self.groups.items l.self.offsets.items l.turn;
   as_many : length l.self.groups.items ≡ length l.fn.self.groups.items;
 }
 
