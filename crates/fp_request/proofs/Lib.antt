@@ -6,6 +6,7 @@ pub mod Ceiling
 pub mod Parts
 mod ReleasedExamples
 mod OrderExamples
+mod RankedExamples
 mod Insertion
 mod Aboves
 mod InPlace
