@@ -431,13 +431,14 @@ pub next_group : (tasks : List SporadicTask) (start x : ℕ) (before jobs added 
     → x < first.moment → IsSoonest new (8 * turn.place) (min (8 * turn.place + 8) (length tasks)) first
     → IsSoonest (set groups turn.place first.moment) 0 (length groups) next
     → MomentTurn tasks start x before added new (set groups turn.place first.moment)
-    (set offsets turn.place (first.place - 8 * turn.place)) next
+    (set offsets turn.place (first.place - 8 * turn.place)) next × (next.moment ≡ x → turn.place < next.place)
 next_group tasks start x before jobs added due new groups offsets turn first next m e t add each same after is soonest =
     let s : (turn.place < length groups) × (get_or groups turn.place 0 ≡ turn.moment)
     = t.turn_is.stands (omega (arith, e)) in
     let long : length (set groups turn.place first.moment) ≡ length groups
     = length-set groups turn.place first.moment in
-    record {
+    let t' : MomentTurn tasks start x before added new (set groups turn.place first.moment)
+    (set offsets turn.place (first.place - 8 * turn.place)) next = record {
       group = turn.place + 1;
       within = omega (arith, long, s.0);
       so_far =
@@ -447,27 +448,13 @@ next_group tasks start x before jobs added due new groups offsets turn first nex
       no_more = omega (arith, long, t.no_more);
       turn_is =
           subst (λ (z : ℕ). IsSoonest (set groups turn.place first.moment) 0 z next) (sym long) soonest;
-    }
-
--- a turn after it is of a later group
-pub next_group_later : (tasks : List SporadicTask) (start x : ℕ) (before jobs added : List Job)
-    (due new groups offsets : List ℕ) (turn first next : Turn) → x < 2 ^ 64 - 1 → turn.moment ≡ x
-    → MomentTurn tasks start x before jobs due groups offsets turn
-    → added ≡ releases_at tasks start x (min (8 * turn.place + 8) (length tasks)) before
-    → AreDue tasks (8 * turn.place + 8) x new
-    → ((i : ℕ) → (i < 8 * turn.place) ⊎ (8 * turn.place + 8 ≤ i) → get_or new i 0 ≡ get_or due i 0)
-    → x < first.moment → IsSoonest new (8 * turn.place) (min (8 * turn.place + 8) (length tasks)) first
-    → IsSoonest (set groups turn.place first.moment) 0 (length groups) next → next.moment ≡ x
-    → turn.place < next.place
-unfolding next_group
-next_group_later tasks start x before jobs added due new groups offsets turn first next m e t add each same after is
-    soonest f =
-    let past : turn.place + 1 ≤ next.place
-    = group_to_come tasks start x before added new (set groups turn.place first.moment)
-    (set offsets turn.place (first.place - 8 * turn.place)) next m f
-    (next_group tasks start x before jobs added due new groups offsets turn first next m e t add each same after is
-    soonest) in
-    omega (arith, past)
+    } in (
+      t',
+      λ f. let past : turn.place + 1 ≤ next.place
+          = group_to_come tasks start x before added new (set groups turn.place first.moment)
+          (set offsets turn.place (first.place - 8 * turn.place)) next m f t' in
+          omega (arith, past),
+    )
 
 -- the moment is over
 pub moment_later : (tasks : List SporadicTask) (start x : ℕ) (before jobs : List Job) (due groups offsets : List ℕ)
