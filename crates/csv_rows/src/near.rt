@@ -1,11 +1,11 @@
-ghost use Rattle.std.specs.Prelude.{◌≡◌, ◌≢◌, ℕ, ◌+◌, ◌<◌, ◌≤◌, [], Some, length, drop, IfSome, OnOk};
+ghost use Rattle.std.specs.Prelude.{◌≡◌, ◌≢◌, ◌==◌, ℕ, ◌+◌, ◌<◌, ◌≤◌, false, [], Some, length, drop, slice_index, IfSome, OnOk};
 ghost use Rattle.std.specs.Int.{bit_at};
 ghost use Rattle.csv.specs.Machine.{next_record};
 ghost use Rattle.csv.specs.Reading.{default_config};
 ghost use Rattle.csv.specs.declared.parser.State.TheVariants as st;
 ghost use Rattle.csv_rows.specs.PlainText.{IsPlainText};
 ghost use Rattle.csv_rows.specs.Row.{texts_of};
-ghost use Rattle.csv_rows.specs.inner.Near.{AreMarked, IsNearLine, Marks};
+ghost use Rattle.csv_rows.specs.inner.Near.{AreMarked, IsFirstMark, IsNearLine, IsWithout, Marks};
 
 use std::alloc::AllocError;
 use std::simd::prelude::*;
@@ -26,7 +26,14 @@ struct ThreePlaces {
 }
 
 /// How many bytes are looked at at once.
-const LANES: usize = 32;
+pub const LANES: usize = 32;
+
+/// The first place that is marked, and the marks of all others.
+#[derive(Clone, Copy)]
+struct FirstMark {
+    place: usize,
+    others: u64,
+}
 
 /// Which of the first bytes of a text are this one, the first byte lowest.
 #[inline(always)]
@@ -43,22 +50,22 @@ fn places_of(text: &[u8], byte: u8) -> u64
 #[inline(always)]
 fn lowest(marks: u64) -> usize
     requires { marks ≢ 0 }
-    ensures bound { result < 64 }
-    ensures set { bit_at marks result ≡ 1 }
-    ensures below { (k : ℕ) → k < result → bit_at marks k ≡ 0 }
+    ensures { IsFirstMark marks result }
 {
     marks.trailing_zeros() as usize
 }
 
-/// The marks of all places but this one.
+/// Splits the first mark off.
 #[inline(always)]
-fn without(marks: u64, place: usize) -> u64
-    requires { place < 64 }
-    ensures kept { (k : ℕ) → k < 64 → k ≢ place → bit_at result k ≡ bit_at marks k }
-    ensures gone { bit_at result place ≡ 0 }
-    ensures no_more { (k : ℕ) → bit_at result k ≡ 1 → bit_at marks k ≡ 1 }
+fn first_mark(marks: u64) -> FirstMark
+    requires { marks ≢ 0 }
+    ensures first { IsFirstMark marks result.place }
+    ensures others { IsWithout marks result.place result.others }
 {
-    marks & !(1 << place)
+    FirstMark {
+        place: lowest(marks),
+        others: marks & (marks - 1),
+    }
 }
 
 /// The marks of the places before this one.
@@ -69,6 +76,15 @@ fn before(marks: u64, place: usize) -> u64
     ensures no_more { (k : ℕ) → bit_at result k ≡ 1 → (k < place) × (bit_at marks k ≡ 1) }
 {
     marks & ((1 << place) - 1)
+}
+
+/// Whether this byte is one of the first bytes of a text.
+#[inline(always)]
+pub fn is_near(text: &[u8], byte: u8) -> bool
+    requires { 32 ≤ length text.now }
+    ensures { result ≡ false → (k : ℕ) → k < 32 → (slice_index text.now k == byte) ≡ false }
+{
+    places_of(text, byte) != 0
 }
 
 /// Where the first line ends, if that is among the first bytes and the line is not empty.
@@ -98,24 +114,22 @@ fn three_places(marks: u64) -> Option<ThreePlaces>
     if marks == 0 {
         return None;
     }
-    let first = lowest(marks);
-    let others = without(marks, first);
-    if others == 0 {
+    let first = first_mark(marks);
+    if first.others == 0 {
         return None;
     }
-    let second = lowest(others);
-    let last = without(others, second);
-    if last == 0 {
+    let second = first_mark(first.others);
+    if second.others == 0 {
         return None;
     }
-    let third = lowest(last);
-    if without(last, third) != 0 {
+    let third = first_mark(second.others);
+    if third.others != 0 {
         return None;
     }
     Some(ThreePlaces {
-        first,
-        second,
-        third,
+        first: first.place,
+        second: second.place,
+        third: third.place,
     })
 }
 
@@ -157,10 +171,10 @@ pub fn split_line<'b>(
     let mut from = 0;
     let mut commas = before(places_of(text, b','), end);
     while commas != 0 {
-        let at = lowest(commas);
-        fields.push(&text[from..at])?;
-        from = at + 1;
-        commas = without(commas, at);
+        let comma = first_mark(commas);
+        fields.push(&text[from..comma.place])?;
+        from = comma.place + 1;
+        commas = comma.others;
     }
     fields.push(&text[from..end])?;
     Ok(())

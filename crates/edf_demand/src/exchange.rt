@@ -1,4 +1,4 @@
-ghost use Rattle.std.specs.Prelude.{◌≡◌, ◌↔◌, ◌⊎◌, ◌+◌, ◌^◌, ◌<◌, ◌≤◌, All, length, min, MatchOption, slice_index_or, slice_set};
+ghost use Rattle.std.specs.Prelude.{◌≡◌, ◌⊎◌, ◌+◌, ◌^◌, ◌<◌, ◌≤◌, All, length, min, MatchOption, slice_index_or, slice_set};
 ghost use Rattle.edf_demand.specs.Terms.{IsGathered};
 ghost use Rattle.edf_demand.specs.inner.Exchanged.{CanExchange, IsExchanged};
 

@@ -1,5 +1,5 @@
--- The document that is printed for a system, table by table, and what a printer may rest on. It
--- serves the clauses of private functions alone: what is printed reads back, whatever its layout.
+-- The document that is printed for a system, table by table, and what a printer may rest on. What
+-- is printed reads back, whatever its layout.
 use Rattle.std.specs.Prelude.{ℕ, ◌==◌, pos, Bool, true, false, if◌then◌else◌, List, [], ◌∷◌, map, codes, Option, Some, None}
 use Rattle.slot_model.specs.declared.sched.Sched.{Sched}
 use Rattle.slot_model.specs.declared.sched.Sched.TheVariants.{Edf, Rm, Dm, Listed}

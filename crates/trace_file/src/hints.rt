@@ -12,16 +12,17 @@ const ENDS: usize = 1024;
 
 /// A number for the last three bytes of a name. Where these are digits it is their own, moved, so
 /// that numbered names have different ends.
+#[inline(always)]
 fn end_of(name: &[u8]) -> usize
     ensures { result < ENDS }
 {
     let mixed = match name {
-        [] => 0,
-        [last] => usize::from(*last),
-        [before, last] => 10 * usize::from(*before) + usize::from(*last),
         [.., first, before, last] => {
             100 * usize::from(*first) + 10 * usize::from(*before) + usize::from(*last)
         }
+        [before, last] => 10 * usize::from(*before) + usize::from(*last),
+        [last] => usize::from(*last),
+        [] => 0,
     };
     mixed % ENDS
 }

@@ -8,6 +8,18 @@ pub record Marks (text : List ℕ) (byte marks : ℕ) : Type 0 where
   pub each : (k : ℕ) → k < 32 → slice_index text k ≡ byte → bit_at marks k ≡ 1
   pub only : (k : ℕ) → bit_at marks k ≡ 1 → (k < 32) × (slice_index text k ≡ byte)
 
+-- the first place that is marked
+pub record IsFirstMark (marks place : ℕ) : Type 0 where
+  pub bound : place < 64
+  pub set : bit_at marks place ≡ 1
+  pub below : (k : ℕ) → k < place → bit_at marks k ≡ 0
+
+-- the others are the marks of all places but this one
+pub record IsWithout (marks place others : ℕ) : Type 0 where
+  pub kept : (k : ℕ) → k < 64 → k ≢ place → bit_at others k ≡ bit_at marks k
+  pub gone : bit_at others place ≡ 0
+  pub no_more : (k : ℕ) → bit_at others k ≡ 1 → bit_at marks k ≡ 1
+
 -- the first line of a text is not empty and ends here, among the first 32 bytes
 pub record IsNearLine (text : List ℕ) (end : ℕ) : Type 0 where
   pub room : 32 ≤ length text

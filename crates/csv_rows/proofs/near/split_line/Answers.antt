@@ -25,11 +25,12 @@ pub loop-commas-preserved : goal.loop-commas-preserved
 loop-commas-preserved c =
     let text = c.args.text.now in
     let l = c.loop-commas in
-    let at = c.lowest-at.result in
-    let low = c.lowest-at.ensures in
+    let comma = c.first_mark-comma.result in
+    let at = comma.place in
+    let low = c.first_mark-comma.ensures.first in
     let here = l.invariant.only at low.set in
     let fields = texts_of l.fields.items in
-    let rest = c.without-commas.ensures in
+    let rest = c.first_mark-comma.ensures.others in
     record {
       order = omega (arith, here.1);
       front =
@@ -52,7 +53,7 @@ loop-commas-preserved c =
       only =
           λ k set. let was = rest.no_more k set in
           let stood = l.invariant.only k was in (
-            behind at k (bit_at l.commas) (bit_at c.without-commas.result) low.below rest.gone was set,
+            behind at k (bit_at l.commas) (bit_at comma.others) low.below rest.gone was set,
             stood.1,
             stood.2,
           );

@@ -1,6 +1,6 @@
 use Rattle.std.proofs.Common.{◌∙◌, ℕ, ◌+◌, ◌*◌, drop, ap, arith}
 use Rattle.csv_rows.specs.Decimal.{digits_after}
-use Rattle.csv_rows.proofs.decimal.front_of.Goals as goal
+use Rattle.csv_rows.proofs.decimal.front_of_long.Goals as goal
 
 pub returns : goal.returns
 returns c =
@@ -8,7 +8,7 @@ returns c =
     let high = c.four_digits-high in
     let low = c.four_digits-low in
     record {
-      within = omega (arith, c.if-field-lt-EIGHT.false);
+      within = omega (arith, c.requires);
       are_digits = c.are_digits_first.ensures c.if-not-are_digits_first.false;
       so_far =
           high.ensures.value 0
