@@ -15,9 +15,11 @@ impl Key {
     pub fn is_less(&self, other: &Key) -> bool
         ensures { result ≡ key_less self.now other.now }
     {
-        if self.rank != other.rank {
-            return self.rank < other.rank;
+        if self.rank < other.rank {
+            return true;
         }
-        self.place < other.place || (self.place == other.place && self.arrival < other.arrival)
+        self.rank == other.rank
+            && (self.place < other.place
+                || self.place == other.place && self.arrival < other.arrival)
     }
 }
