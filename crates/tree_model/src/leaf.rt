@@ -12,7 +12,7 @@ pub fn leaf_named(sys: &System, name: &str) -> Option<usize>
         (λ q. IsLeafNamed sys.now name.now q) }
 {
     for (q, part) in sys.parts().iter().enumerate() {
-        if part.is_leaf() && part.name().as_str() == name {
+        if part.is_leaf() && part.name().is_text(name) {
             return Some(q);
         }
     }
