@@ -1,4 +1,4 @@
-ghost use Rattle.std.specs.Prelude.{◌≡◌, ◌≢◌, ◌==◌, ℕ, ◌+◌, ◌<◌, ◌≤◌, false, [], Some, length, drop, slice_index, IfSome, OnOk};
+ghost use Rattle.std.specs.Prelude.{◌≡◌, ◌≢◌, ℕ, ◌+◌, ◌<◌, ◌≤◌, [], Some, length, drop, IfSome, OnOk};
 ghost use Rattle.std.specs.Int.{bit_at};
 ghost use Rattle.csv.specs.Machine.{next_record};
 ghost use Rattle.csv.specs.Reading.{default_config};
@@ -26,7 +26,7 @@ struct ThreePlaces {
 }
 
 /// How many bytes are looked at at once.
-pub const LANES: usize = 32;
+const LANES: usize = 32;
 
 /// The first place that is marked, and the marks of all others.
 #[derive(Clone, Copy)]
@@ -76,15 +76,6 @@ fn before(marks: u64, place: usize) -> u64
     ensures no_more { (k : ℕ) → bit_at result k ≡ 1 → (k < place) × (bit_at marks k ≡ 1) }
 {
     marks & ((1 << place) - 1)
-}
-
-/// Whether this byte is one of the first bytes of a text.
-#[inline(always)]
-pub fn is_near(text: &[u8], byte: u8) -> bool
-    requires { 32 ≤ length text.now }
-    ensures { result ≡ false → (k : ℕ) → k < 32 → (slice_index text.now k == byte) ≡ false }
-{
-    places_of(text, byte) != 0
 }
 
 /// Where the first line ends, if that is among the first bytes and the line is not empty.

@@ -5,7 +5,7 @@ ghost use Rattle.csv.specs.declared.parser.State.TheVariants as st;
 ghost use Rattle.csv_rows.specs.PlainText.{IsPlainText};
 ghost use Rattle.csv_rows.specs.Row.{texts_of};
 
-use crate::near::{LANES, is_near, near_line, split_line};
+use crate::near::{near_line, split_line};
 use crate::stops::next_stop;
 use memchr::memchr2;
 use std::alloc::AllocError;
@@ -24,21 +24,6 @@ pub fn is_plain_text(text: &[u8]) -> bool
 
 /// Whether a text has no quote and no carriage return.
 pub fn has_no_quote(text: &[u8]) -> bool
-    ensures { IsTrue result → IsPlainText text.now }
-{
-    let mut at = 0;
-    while text.len() - at >= LANES {
-        let near = &text[at..];
-        if is_near(near, b'"') || is_near(near, b'\r') {
-            return false;
-        }
-        at += LANES;
-    }
-    has_no_quote_in(&text[at..])
-}
-
-/// The same of a short text.
-fn has_no_quote_in(text: &[u8]) -> bool
     ensures { IsTrue result → IsPlainText text.now }
 {
     memchr2(b'"', b'\r', text).is_none()
