@@ -1,4 +1,4 @@
-ghost use Rattle.std.specs.Prelude.{List, ℕ};
+ghost use Rattle.std.specs.Prelude.{◌≡◌, List, ℕ};
 ghost use Rattle.outside.specs.Counts.{counts_of};
 ghost use Rattle.tree_model.specs.View.{SystemView};
 ghost use Rattle.tree_model.specs.System.{IsSystem};
@@ -40,6 +40,7 @@ pub fn over_one<S: Store, J: JudgeOne>(
         IsSaid (J.spec judge.now file.now) (S.files store.old) a.status a.text.items) }
     ensures explained { let counts = counts_of S.faults S.absences S.taken in
         Explains (ending_of result) (counts store.old) (counts store.new) }
+    ensures same_files { S.files store.new ≡ S.files store.old }
     ensures taken { SpecTakes (J.spec judge.now file.now) (S.files store.old)
         (ending_of result) (S.taken store.old) (S.taken store.new) }
 {

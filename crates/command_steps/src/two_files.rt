@@ -69,6 +69,7 @@ pub fn over_pieces<'s, S: Store, J: JudgePieces<'s>>(
         IsSaid spec (S.files store.old) a.status a.text.items) }
     ensures explained { let counts = counts_of S.faults S.absences S.taken in
         Explains (ending_of result) (counts store.old) (counts store.new) }
+    ensures same_files { S.files store.new ≡ S.files store.old }
     ensures taken { let spec = J.spec judge.now first.now second.now in
         SpecTakes spec (S.files store.old) (ending_of result)
         (S.taken store.old) (S.taken store.new) }
@@ -96,6 +97,7 @@ fn take_two<'s, S: Store, J: JudgePieces<'s>>(
         a.status a.text.items)) }
     ensures explained { let counts = counts_of S.faults S.absences S.taken in
         ExplainsStep result (counts store.old) (counts store.new) }
+    ensures same_files { S.files store.new ≡ S.files store.old }
     ensures taken { (files : Files) → S.files store.old ≡ Some files
         → StepTakes result
         (read_in (file_named first.now files ∷ file_named second.now files ∷ []))
@@ -122,6 +124,7 @@ fn take_second<'s, S: Store, J: JudgePieces<'s>>(
         StopsAt 2 (S.files store.old) second.now (λ _ _ _. ⊥) a.status a.text.items)) }
     ensures explained { let counts = counts_of S.faults S.absences S.taken in
         ExplainsStep result (counts store.old) (counts store.new) }
+    ensures same_files { S.files store.new ≡ S.files store.old }
     ensures taken { FileTakes result (S.files store.old) second.now
         (S.taken store.old) (S.taken store.new) }
 {
@@ -163,6 +166,7 @@ pub fn over_two<S: Store, J: JudgeTwo>(
         IsSaid spec (S.files store.old) a.status a.text.items) }
     ensures explained { let counts = counts_of S.faults S.absences S.taken in
         Explains (ending_of result) (counts store.old) (counts store.new) }
+    ensures same_files { S.files store.new ≡ S.files store.old }
     ensures taken { let spec = J.spec judge.now first.now second.now in
         SpecTakes spec (S.files store.old) (ending_of result)
         (S.taken store.old) (S.taken store.new) }

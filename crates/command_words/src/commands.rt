@@ -163,6 +163,7 @@ pub fn answer<S: Store>(alloc: Global, command: Option<Command<'_>>, store: &mut
         (S.files store.old) a.status a.text.items) }
     ensures explained { let counts = counts_of S.faults S.absences S.taken in
         Explains result (counts store.old) (counts store.new) }
+    ensures same_files { S.files store.new ≡ S.files store.old }
     ensures untouched { NamesNoFile (option_map command_told command.entry)
         → store.new ≡ store.old }
     ensures read { NamesNoFile (option_map command_told command.entry)

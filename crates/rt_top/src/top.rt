@@ -35,6 +35,8 @@ pub fn run<S: Store, K: Sink>(alloc: Global, words: &[String], store: &mut S, ou
     ensures too_long { result ≡ Status.TooLong
         → RoseBeyond 67108864 (S.taken store.old) (S.taken store.new) }
     ensures write_fault { result ≡ Status.WriteFault → Rose (K.faults out.old) (K.faults out.new) }
+    // no file is changed
+    ensures same_files { S.files store.new ≡ S.files store.old }
     // words that name no file leave the store as it was, whatever it would refuse
     ensures untouched { NamesNoFile (command_of (map string_bytes words.now))
         → store.new ≡ store.old }
