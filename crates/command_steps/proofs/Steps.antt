@@ -101,7 +101,7 @@ bad_explained bytes (Answered a) before after quiet bad read =
     subst (λ (s : Status). ExplainsAnswer s before after) (sym (bad_status (system_of bytes) a.status a.text.items bad))
     quiet
 bad_explained bytes Unread before after quiet bad read = absurd (read refl)
-bad_explained bytes NoRoom before after quiet bad read = tt
+bad_explained bytes NoRoom before after quiet bad read = quiet.faults
 
 pub system_explained : (bytes : List ℕ) (result : Result SystemView Ending) (before after : Counts)
     → IsQuiet before after

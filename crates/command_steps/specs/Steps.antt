@@ -34,7 +34,8 @@ ending_of (Err ending) = ending
 
 -- how the counts explain an answer
 abbrev pub ExplainsAnswer : Status → Counts → Counts → Type 0
-ExplainsAnswer Absent before after = Rose before.absences after.absences
+ExplainsAnswer Absent before after =
+    (after.faults ≡ before.faults) × Rose before.absences after.absences
 ExplainsAnswer TooLong before after =
     IsQuiet before after × RoseBeyond file_limit before.taken after.taken
 ExplainsAnswer _ before after = IsQuiet before after
@@ -42,8 +43,9 @@ ExplainsAnswer _ before after = IsQuiet before after
 -- how the counts explain that a command ended so
 abbrev pub Explains : Ending → Counts → Counts → Type 0
 Explains (Answered answer) before after = ExplainsAnswer answer.status before after
-Explains Unread before after = Rose before.faults after.faults
-Explains NoRoom before after = ⊤
+Explains Unread before after =
+    Rose before.faults after.faults × (after.absences ≡ before.absences)
+Explains NoRoom before after = after.faults ≡ before.faults
 
 -- what a command that ends so took of the store: so many bytes, and no more where it has no answer
 abbrev pub EndTakes : Ending → ℕ → ℕ → ℕ → Type 0

@@ -5,9 +5,9 @@ use Rattle.std.specs.Prelude.{◌≡◌, ℕ, ◌+◌, ◌-◌, ◌^◌, ◌≤�
 abbrev pub raised : ℕ → ℕ → ℕ
 raised count n = min (count + n) (2 ^ 64 - 1)
 
--- the count rose, or stands at its last value
+-- the count rose by one, or stands at its last value
 abbrev pub Rose : ℕ → ℕ → Type 0
-Rose before after = raised before 1 ≤ after
+Rose before after = after ≡ raised before 1
 
 -- the count rose by n, or by less to its last value
 abbrev pub RoseBy : ℕ → ℕ → ℕ → Type 0

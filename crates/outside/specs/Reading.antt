@@ -17,6 +17,7 @@ pub record IsWhole (files : Option Files) (name : List ℕ) (limit : ℕ) (befor
 pub record IsAbsent (files : Option Files) (name : List ℕ) (before after : Counts) : Type 0 where
   pub not_there : Told files name (λ file. file ≡ None)
   pub counted : Rose before.absences after.absences
+  pub none_failed : after.faults ≡ before.faults
   pub none_taken : after.taken ≡ before.taken
 
 -- the file is there and is longer than the limit

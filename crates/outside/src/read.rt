@@ -75,6 +75,8 @@ pub fn read_pieces<S: Store, T: ByteTaker>(
         → IsAbsent (S.files store.old) name.now (counts store.old) (counts store.new) }
     ensures failed { IsErrOf result ReadFault.Failed
         → Rose (S.faults store.old) (S.faults store.new) }
+    ensures failed_absences { IsErrOf result ReadFault.Failed
+        → S.absences store.new ≡ S.absences store.old }
     ensures too_long { let counts = counts_of S.faults S.absences S.taken in
         IsErrOf result ReadFault.TooLong
         → IsTooLong (S.files store.old) name.now limit (counts store.old) (counts store.new) }
@@ -123,6 +125,8 @@ pub fn read_all<S: Store>(
         → IsAbsent (S.files store.old) name.now (counts store.old) (counts store.new) }
     ensures failed { IsErrOf result ReadFault.Failed
         → Rose (S.faults store.old) (S.faults store.new) }
+    ensures failed_absences { IsErrOf result ReadFault.Failed
+        → S.absences store.new ≡ S.absences store.old }
     ensures too_long { let counts = counts_of S.faults S.absences S.taken in
         IsErrOf result ReadFault.TooLong
         → IsTooLong (S.files store.old) name.now limit (counts store.old) (counts store.new) }

@@ -54,8 +54,12 @@ pub trait Store {
             → absences self.new ≡ absences self.old }
         ensures failed { IsErrOf result StoreFault.Failed
             → Rose (faults self.old) (faults self.new) }
+        ensures failed_absences { IsErrOf result StoreFault.Failed
+            → absences self.new ≡ absences self.old }
         ensures missing { IsErrOf result StoreFault.Missing
             → Rose (absences self.old) (absences self.new) }
+        ensures missing_faults { IsErrOf result StoreFault.Missing
+            → faults self.new ≡ faults self.old }
         ensures faults_last { faults self.old ≤ faults self.new }
         ensures absences_last { absences self.old ≤ absences self.new };
 
@@ -77,6 +81,8 @@ pub trait Store {
         ensures ok_absences { OnOk result (absences self.new ≡ absences self.old) }
         ensures failed { IsErrOf result StoreFault.Failed
             → Rose (faults self.old) (faults self.new) }
+        ensures failed_absences { IsErrOf result StoreFault.Failed
+            → absences self.new ≡ absences self.old }
         ensures never_missing { IsErrOf result StoreFault.Missing → ⊥ }
         ensures never_memory { IsErrOf result StoreFault.NoMemory → ⊥ }
         ensures faults_last { faults self.old ≤ faults self.new }

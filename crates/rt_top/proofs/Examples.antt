@@ -13,7 +13,7 @@ use Rattle.command_steps.specs.Answer.{Contents, IfSystem}
 use Rattle.command_steps.specs.Budgets.{IsTrulyOverfull}
 use Rattle.admit_commands.specs.Admit.{AdmitMeans, KeepsDeadlines}
 use Rattle.rt_top.specs.Report.{IsAnswer, Reported}
-use Rattle.rt_top.specs.Causes.{IsOfQuietStore, IsJudgeable, Stays}
+use Rattle.rt_top.specs.Causes.{HasNoAbsence, IsJudgeable, Stays}
 
 -- after a failed read and without memory nothing is written; a fault of the output cuts an answer
 nothing_is_written : (command : Option Command) (files : Option Files) (old new : Option (List ℕ))
@@ -43,10 +43,10 @@ the_usage_line_is_written : (files : Option Files) (old new : Option (List ℕ))
     → Appends old new usage_line
 the_usage_line_is_written files old new h = subst (λ (t : List ℕ). Appends old new t) h.answer.answers.1 h.written
 
--- six answers say that the store refused nothing
-six_are_of_a_quiet_store : IsOfQuietStore Yes × IsOfQuietStore No × IsOfQuietStore Usage × IsOfQuietStore BadFile
-    × IsOfQuietStore Wide × IsOfQuietStore TooLong
-six_are_of_a_quiet_store = (tt, tt, tt, tt, tt, tt)
+-- behind seven answers no name was missing
+seven_have_no_absence : HasNoAbsence Yes × HasNoAbsence No × HasNoAbsence Usage × HasNoAbsence BadFile
+    × HasNoAbsence Wide × HasNoAbsence TooLong × HasNoAbsence ReadFault
+seven_have_no_absence = (tt, tt, tt, tt, tt, tt, tt)
 
 -- a file of just so many bytes is judged
 a_file_of_the_limit_is_judged : (name : List ℕ) (files : Files) (bytes : List ℕ) → file_named name files ≡ Some bytes

@@ -2,18 +2,18 @@
 use Rattle.std.specs.Prelude.{◌≡◌, ℕ, ◌-◌, ◌^◌, ◌<◌, Option, Some, ⊤}
 use Rattle.outside.specs.Files.{Files}
 use Rattle.command_steps.specs.declared.status.Status.{Status}
-use Rattle.command_steps.specs.declared.status.Status.TheVariants.{Absent, ReadFault, WriteFault, NoMemory}
+use Rattle.command_steps.specs.declared.status.Status.TheVariants.{Absent, WriteFault, NoMemory}
 use Rattle.command_words.specs.Commands.{Command, spec_of}
 use Rattle.command_words.specs.Reading.{contents_of}
 use Rattle.command_steps.specs.Answer.{Contents}
 
--- an answer that neither a failed call nor a name that is not there explains
-abbrev pub IsOfQuietStore : Status → Type 0
-IsOfQuietStore Absent = ⊥
-IsOfQuietStore ReadFault = ⊥
-IsOfQuietStore WriteFault = ⊥
-IsOfQuietStore NoMemory = ⊥
-IsOfQuietStore _ = ⊤
+-- a status before which each name was there: behind the others a missing file may stand, since its
+-- answer may fail to be written, or to be made for want of memory
+abbrev pub HasNoAbsence : Status → Type 0
+HasNoAbsence Absent = ⊥
+HasNoAbsence WriteFault = ⊥
+HasNoAbsence NoMemory = ⊥
+HasNoAbsence _ = ⊤
 
 -- a command that can be judged by what its files hold: they are there, short enough and well formed
 abbrev pub CanJudge : Command → Contents → Type 0

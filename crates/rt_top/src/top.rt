@@ -5,7 +5,7 @@ ghost use Rattle.outside.specs.Files.{Files};
 ghost use Rattle.outside.specs.Written.{AppendsProperPrefix};
 ghost use Rattle.command_words.specs.Commands.{command_of};
 ghost use Rattle.rt_top.specs.Report.{Reported, HasOneAnswer};
-ghost use Rattle.rt_top.specs.Causes.{IsOfQuietStore, IsJudgeable, IsVerdictOf, Stays};
+ghost use Rattle.rt_top.specs.Causes.{HasNoAbsence, IsJudgeable, IsVerdictOf, Stays};
 ghost use Rattle.command_words.specs.Reading.{bytes_to_read, NamesNoFile};
 ghost use Rattle.rt_top.specs.Reading.{Takes, EndsWithoutFile};
 
@@ -27,8 +27,9 @@ pub fn run<S: Store, K: Sink>(alloc: Global, words: &[String], store: &mut S, ou
     ensures only { (files : Files) → HasOneAnswer (command_of (map string_bytes words.now)) files }
 
     // why, over any store and sink
-    ensures quiet_faults { IsOfQuietStore result → S.faults store.new ≡ S.faults store.old }
-    ensures quiet_absences { IsOfQuietStore result → S.absences store.new ≡ S.absences store.old }
+    ensures quiet_faults { result ≢ Status.ReadFault → S.faults store.new ≡ S.faults store.old }
+    ensures quiet_absences { HasNoAbsence result → S.absences store.new ≡ S.absences store.old }
+    ensures quiet_writes { result ≢ Status.WriteFault → K.faults out.new ≡ K.faults out.old }
     ensures absent { result ≡ Status.Absent → Rose (S.absences store.old) (S.absences store.new) }
     ensures read_fault { result ≡ Status.ReadFault
         → Rose (S.faults store.old) (S.faults store.new) }
@@ -67,6 +68,8 @@ fn finish<K: Sink>(out: &mut K, status: Status, text: &[u8]) -> Status
     ensures which { (result ≡ status) ⊎ (result ≡ Status.WriteFault) }
     ensures whole { status ≢ Status.WriteFault → result ≡ status
         → Appends (K.written out.old) (K.written out.new) text.now }
+    ensures quiet { status ≢ Status.WriteFault → result ≡ status
+        → K.faults out.new ≡ K.faults out.old }
     ensures front { status ≢ Status.WriteFault → result ≡ Status.WriteFault
         → AppendsProperPrefix (K.written out.old) (K.written out.new) text.now }
     ensures failed { status ≢ Status.WriteFault → result ≡ Status.WriteFault

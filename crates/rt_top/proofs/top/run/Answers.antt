@@ -79,7 +79,7 @@ returns-in-Answered-clause-complete g c =
 
 pub returns-in-Unread-clause-complete : goal.returns-in-Unread-clause-complete
 returns-in-Unread-clause-complete g c =
-    λ can store_stays out_stays. absurd (stays_not_rose _ _ store_stays c.in-Unread.ensures.explained)
+    λ can store_stays out_stays. absurd (stays_not_rose _ _ store_stays c.in-Unread.ensures.explained.0)
 
 pub returns-in-Answered-clause-only : goal.returns-in-Answered-clause-only
 returns-in-Answered-clause-only g c = one_answer _ (lawful c.parse.result _ c.parse.ensures)
