@@ -1,5 +1,5 @@
 -- Rows of scripts, on which the rules are computed.
-use Rattle.std.proofs.Common.{◌≡◌, ℕ, List, Option, Some, None, true, false, [], ◌∷◌, codes, refl}
+use Rattle.std.proofs.Common.{◌≡◌, ℕ, List, Option, Some, None, true, false, [], ◌∷◌, codes, take, drop, ◌++◌, suc, refl}
 use Rattle.std.specs.Prelude.{is_some}
 use Rattle.slot_model.specs.declared.sched.Sched.TheVariants.{Edf, Listed}
 use Rattle.slot_model.specs.Task.{jittery_task}
@@ -9,7 +9,7 @@ use Rattle.admission_session.specs.declared.edit.Edit.TheVariants.{Add, Remove, 
 use Rattle.admission_session.specs.LeafView.{LeafView}
 use Rattle.script_file.specs.declared.fault.ScriptFault.TheVariants.{BadHeader}
 use Rattle.script_file.specs.Pieces.{pieces}
-use Rattle.script_file.specs.Script.{edit_of, is_script_header, is_row, script_rows, task_in, tasks_in, IsScriptFault}
+use Rattle.script_file.specs.Script.{edit_of, is_script_header, is_row, number_in, script_rows, task_in, tasks_in, IsScriptFault}
 use Rattle.script_file.specs.Guests.{guest_of, is_guest}
 
 cut_at_each_place : pieces 59 (codes ";a;;bc;") ≡ [] ∷ codes "a" ∷ [] ∷ codes "bc" ∷ [] ∷ []
@@ -23,6 +23,10 @@ a_task = refl
 
 four_numbers_make_a_task : task_in (codes "t:100:100:11") ≡ None
 four_numbers_make_a_task = refl
+
+-- a task has five fields
+six_fields_make_no_task : task_in (codes "t:100:100:0:1:9") ≡ None
+six_fields_make_no_task = refl
 
 jitter_and_work_past_the_deadline : task_in (codes "t:100:90:80:11") ≡ None
 jitter_and_work_past_the_deadline = refl
@@ -38,6 +42,19 @@ a_removal = refl
 
 a_removal_with_a_parent : is_row (codes "remove" ∷ codes "B" ∷ codes "cpu0" ∷ [] ∷ [] ∷ [] ∷ [] ∷ []) ≡ false
 a_removal_with_a_parent = refl
+
+-- a removal has no more than a part: no scheduler, no period, no budget and no tasks
+a_removal_with_a_scheduler : is_row (codes "remove" ∷ codes "B" ∷ [] ∷ codes "edf" ∷ [] ∷ [] ∷ [] ∷ []) ≡ false
+a_removal_with_a_scheduler = refl
+
+a_removal_with_a_period : is_row (codes "remove" ∷ codes "B" ∷ [] ∷ [] ∷ codes "10" ∷ [] ∷ [] ∷ []) ≡ false
+a_removal_with_a_period = refl
+
+a_removal_with_a_budget : is_row (codes "remove" ∷ codes "B" ∷ [] ∷ [] ∷ [] ∷ codes "5" ∷ [] ∷ []) ≡ false
+a_removal_with_a_budget = refl
+
+a_removal_with_tasks : is_row (codes "remove" ∷ codes "B" ∷ [] ∷ [] ∷ [] ∷ [] ∷ codes "t:10:10:0:1" ∷ []) ≡ false
+a_removal_with_tasks = refl
 
 a_change_with_a_parent : is_row (codes "change" ∷ codes "B" ∷ codes "cpu0" ∷ codes "edf" ∷ codes "10" ∷ [] ∷ [] ∷ [])
     ≡ false
@@ -55,6 +72,38 @@ a_period_past_64_bits = refl
 
 six_fields : is_row (codes "remove" ∷ codes "B" ∷ [] ∷ [] ∷ [] ∷ [] ∷ []) ≡ false
 six_fields = refl
+
+-- also where the field more is empty
+eight_fields : is_row (codes "remove" ∷ codes "B" ∷ [] ∷ [] ∷ [] ∷ [] ∷ [] ∷ [] ∷ []) ≡ false
+eight_fields = refl
+
+an_addition_of_eight_fields : is_row
+    (codes "add" ∷ codes "B" ∷ [] ∷ codes "edf" ∷ codes "10" ∷ [] ∷ codes "t:10:10:0:1" ∷ [] ∷ []) ≡ false
+an_addition_of_eight_fields = refl
+
+-- a field that may be empty is read where it is not: what is no budget is no open one, and what is
+-- no name is no missing parent
+a_budget_that_is_no_number : is_row (codes "add" ∷ codes "B" ∷ [] ∷ codes "edf" ∷ codes "10" ∷ codes "x" ∷ [] ∷ [])
+    ≡ false
+a_budget_that_is_no_number = refl
+
+a_changed_budget_that_is_no_number : is_row
+    (codes "change" ∷ codes "B" ∷ [] ∷ codes "edf" ∷ codes "10" ∷ codes "05" ∷ [] ∷ []) ≡ false
+a_changed_budget_that_is_no_number = refl
+
+a_parent_that_is_no_name : is_row (codes "add" ∷ codes "B" ∷ codes "0c" ∷ codes "edf" ∷ codes "10" ∷ [] ∷ [] ∷ [])
+    ≡ false
+a_parent_that_is_no_name = refl
+
+-- the greatest number of a field, and one more
+the_greatest_number : number_in (codes "18446744073709551615") ≡ Some 18446744073709551615
+the_greatest_number = refl
+
+one_number_too_great : number_in (codes "18446744073709551616") ≡ None
+one_number_too_great = refl
+
+no_number_in_an_empty_field : number_in [] ≡ None
+no_number_in_an_empty_field = refl
 
 -- the numbers of a task stand as period, deadline, jitter and work
 a_task_that_is_spelled : task_in (codes "t:100:90:5:11")
@@ -138,6 +187,50 @@ a_header_in_another_order : is_script_header
     (codes "part" ∷ codes "op" ∷ codes "parent" ∷ codes "sched" ∷ codes "period" ∷ codes "budget" ∷ codes "tasks" ∷ [])
     ≡ false
 a_header_in_another_order = refl
+
+-- each column has its own name, which no other word stands for
+abbrev with_column : ℕ → List ℕ → List (List ℕ)
+with_column place word = take place header ++ word ∷ drop (suc place) header
+
+the_header_by_its_columns : is_script_header (with_column 3 (codes "sched")) ≡ true
+the_header_by_its_columns = refl
+
+another_word_for_op : is_script_header (with_column 0 (codes "what")) ≡ false
+another_word_for_op = refl
+
+another_word_for_part : is_script_header (with_column 1 (codes "leaf")) ≡ false
+another_word_for_part = refl
+
+another_word_for_parent : is_script_header (with_column 2 (codes "core")) ≡ false
+another_word_for_parent = refl
+
+another_word_for_sched : is_script_header (with_column 3 (codes "scheduler")) ≡ false
+another_word_for_sched = refl
+
+another_word_for_period : is_script_header (with_column 4 (codes "Period")) ≡ false
+another_word_for_period = refl
+
+another_word_for_budget : is_script_header (with_column 5 (codes "work")) ≡ false
+another_word_for_budget = refl
+
+another_word_for_tasks : is_script_header (with_column 6 (codes "task")) ≡ false
+another_word_for_tasks = refl
+
+-- two numbers beside each other that would be read for one another
+budget_before_period : is_script_header
+    (codes "op" ∷ codes "part" ∷ codes "parent" ∷ codes "sched" ∷ codes "budget" ∷ codes "period" ∷ codes "tasks" ∷ [])
+    ≡ false
+budget_before_period = refl
+
+a_header_of_eight_columns : is_script_header (header ++ codes "extra" ∷ []) ≡ false
+a_header_of_eight_columns = refl
+
+a_header_of_six_columns : is_script_header (take 6 header) ≡ false
+a_header_of_six_columns = refl
+
+-- a file of such a header has no rows, and its fault is that of the header
+no_rows_behind_another_header : IsScriptFault (script_rows (with_column 4 (codes "budget") ∷ [])) BadHeader
+no_rows_behind_another_header = refl
 
 no_record_is_no_script : IsScriptFault (script_rows []) BadHeader
 no_record_is_no_script = refl
