@@ -7,3 +7,4 @@ pub mod TextBack
 pub mod Pieces
 pub mod Standing
 mod Examples
+mod FaultExamples

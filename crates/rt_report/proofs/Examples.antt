@@ -37,7 +37,7 @@ use Rattle.rt_report.specs.Place.{unplaced_text}
 use Rattle.rt_report.specs.Responses.{responses_text}
 use Rattle.rt_report.specs.Session.{session_text}
 use Rattle.rt_report.specs.Slack.{slack_text}
-use Rattle.rt_report.specs.Tally.{tally_text}
+use Rattle.rt_report.specs.Tally.{tally_text, tally_words}
 use Rattle.rt_report.specs.Unread.{absent_text, too_long_text}
 use Rattle.rt_report.specs.Words.{served_name}
 
@@ -213,6 +213,13 @@ a_generated_host : bulk_text (record { guests = 1; cores = 1; budgets = 53; jobs
 unfolding digits
 a_generated_host = refl
 
+-- six counts that differ, each behind its own word
+nine_guests_on_two_cores : bulk_text
+    (record { guests = 9; cores = 2; budgets = 53; jobs = 15; missed = 4; pending = 130 })
+    ≡ codes "verdict=yes\nguests=9 cores=2 budgets=53 jobs=15 missed=4 pending=130\n"
+unfolding digits
+nine_guests_on_two_cores = refl
+
 -- a script and its guests, of which a row is told, and a guest that fits on no core
 faults_of_scripts : (fault_text (Script NoScript) 2 ≡ codes "fault=BadHeader row=1 file=2\n")
     × (fault_text (Script (ScriptBadRow 3)) 2 ≡ codes "fault=BadRow row=3 file=2\n")
@@ -262,3 +269,10 @@ what_a_tally_tells : tally_text tree (30 ∷ 2 ∷ 28 ∷ 40 ∷ []) (Yes 3)
     "verdict=yes\nperiods=3\nvcpu mid begun=4 judged=3 short=0 over=0 least_ns=30000 most_ns=31000\nvcpu net begun=0 judged=0 short=0 over=0 least_ns=- most_ns=-\n"
 unfolding digits
 what_a_tally_tells = refl
+
+-- six numbers that differ, each behind its own word
+a_line_of_a_tally : tally_words (codes "net")
+    (record { begun = 5; judged = 4; short = 2; over = 1; least = Some 1900; most = Some 2100 })
+    ≡ codes "vcpu net begun=5 judged=4 short=2 over=1 least_ns=1900 most_ns=2100\n"
+unfolding digits
+a_line_of_a_tally = refl
