@@ -114,6 +114,42 @@ a_falling_slot = refl
 another_word : wake_rules host [] (codes "0" ∷ codes "A" ∷ codes "run" ∷ []) ≡ Some (BadRow 2)
 another_word = refl
 
+-- a slot is a plain number, without a leading zero; and a row has no field less or more
+no_slots : (wake_rules host [] (codes "x" ∷ codes "A" ∷ codes "start" ∷ []) ≡ Some (BadRow 2))
+    × (wake_rules host [] (codes "01" ∷ codes "A" ∷ codes "start" ∷ []) ≡ Some (BadRow 2))
+    × (wake_rules host [] ([] ∷ codes "A" ∷ codes "start" ∷ []) ≡ Some (BadRow 2))
+no_slots = (refl, refl, refl)
+
+two_and_four_fields : (wake_rules host [] (codes "0" ∷ codes "A" ∷ []) ≡ Some (BadRow 2))
+    × (wake_rules host [] (codes "0" ∷ codes "A" ∷ codes "start" ∷ [] ∷ []) ≡ Some (BadRow 2))
+two_and_four_fields = (refl, refl)
+
+-- the longest period is the last slot
+a_start_at_the_longest_period : wake_rules host [] (codes "1000000000" ∷ codes "A" ∷ codes "start" ∷ []) ≡ None
+unfolding last_below
+a_start_at_the_longest_period = refl
+
+-- rows that break two rules: no row goes before a slot past the limit, that before the name, a slot
+-- that falls before the name, and the name before what may follow
+another_word_past_the_longest_period : wake_rules host [] (codes "1000000001" ∷ codes "A" ∷ codes "run" ∷ [])
+    ≡ Some (BadRow 2)
+another_word_past_the_longest_period = refl
+
+no_vcpu_past_the_longest_period : wake_rules host [] (codes "1000000001" ∷ codes "C" ∷ codes "start" ∷ [])
+    ≡ Some (OutOfRange 2)
+no_vcpu_past_the_longest_period = refl
+
+a_wake_past_the_longest_period : wake_rules host [] (codes "1000000001" ∷ codes "A" ∷ codes "wake" ∷ [])
+    ≡ Some (OutOfRange 2)
+a_wake_past_the_longest_period = refl
+
+no_vcpu_at_a_falling_slot :
+    wake_rules host (a_starts ∷ a_blocks ∷ []) (codes "2" ∷ codes "C" ∷ codes "start" ∷ []) ≡ Some (BadOrder 4)
+no_vcpu_at_a_falling_slot = refl
+
+a_wake_of_no_vcpu : wake_rules host [] (codes "0" ∷ codes "C" ∷ codes "wake" ∷ []) ≡ Some (Unknown 2)
+a_wake_of_no_vcpu = refl
+
 a_header_of_three_fields : wake_rows ((codes "at" ∷ codes "vcpu" ∷ codes "what" ∷ []) ∷ a_starts ∷ [])
     ≡ Some (a_starts ∷ [])
 a_header_of_three_fields = refl
@@ -255,6 +291,61 @@ no_such_task = refl
 
 five_fields_under_version_1 : release_rules host First [] late_at_0 ≡ Some (BadRow 2)
 five_fields_under_version_1 = refl
+
+-- each number of a row is a plain one
+no_plain_numbers : (release_rules host First [] (first_of (codes "01") (codes "A") (codes "t1") (codes "7"))
+    ≡ Some (BadRow 2))
+    × (release_rules host First [] (first_of (codes "0") (codes "A") (codes "t1") (codes "x")) ≡ Some (BadRow 2))
+    × (release_rules host Second [] (second_of (codes "x") (codes "7") (codes "5")) ≡ Some (BadRow 2))
+    × (release_rules host Second [] (second_of (codes "0") (codes "07") (codes "5")) ≡ Some (BadRow 2))
+    × (release_rules host Second [] (second_of (codes "0") (codes "7") (codes "x")) ≡ Some (BadRow 2))
+    × (release_rules host Second [] (second_of (codes "0") (codes "7") (codes "01")) ≡ Some (BadRow 2))
+no_plain_numbers = (refl, refl, refl, refl, refl, refl)
+
+four_fields_under_version_2 : release_rules host Second [] t1_at_0 ≡ Some (BadRow 2)
+four_fields_under_version_2 = refl
+
+-- the longest period is the last slot, and a job may ask for one slot and come by its whole jitter
+-- before its release
+a_slot_at_the_longest_period : release_rules host First []
+    (first_of (codes "1000000000") (codes "A") (codes "t1") (codes "7")) ≡ None
+a_slot_at_the_longest_period = refl
+
+the_least_work : release_rules host First [] (first_of (codes "0") (codes "A") (codes "t1") (codes "1")) ≡ None
+the_least_work = refl
+
+the_whole_jitter : release_rules host Second [] late_at_0 ≡ None
+the_whole_jitter = refl
+
+-- rows that break two rules: no row goes before a slot past the limit, that before the name, a slot
+-- that falls before the name, the name before the work, and the work before the arrival
+no_number_past_the_longest_period : release_rules host First []
+    (first_of (codes "1000000001") (codes "A") (codes "t1") (codes "07")) ≡ Some (BadRow 2)
+no_number_past_the_longest_period = refl
+
+no_task_past_the_longest_period : release_rules host First []
+    (first_of (codes "1000000001") (codes "A") (codes "t3") (codes "7")) ≡ Some (OutOfRange 2)
+no_task_past_the_longest_period = refl
+
+no_task_at_a_falling_slot : release_rules host First (first_of (codes "5") (codes "A") (codes "t1") (codes "7") ∷ [])
+    (first_of (codes "4") (codes "A") (codes "t3") (codes "7")) ≡ Some (BadOrder 3)
+no_task_at_a_falling_slot = refl
+
+no_work_at_a_falling_slot : release_rules host First (first_of (codes "5") (codes "A") (codes "t1") (codes "7") ∷ [])
+    (first_of (codes "4") (codes "A") (codes "t2") (codes "0")) ≡ Some (BadOrder 3)
+no_work_at_a_falling_slot = refl
+
+no_work_of_no_task : release_rules host First [] (first_of (codes "0") (codes "A") (codes "t3") (codes "0"))
+    ≡ Some (Unknown 2)
+no_work_of_no_task = refl
+
+more_than_the_work_too_early : release_rules host First (t1_at_0 ∷ [])
+    (first_of (codes "49") (codes "A") (codes "t1") (codes "8")) ≡ Some (OutOfRange 3)
+more_than_the_work_too_early = refl
+
+past_the_jitter_too_early : release_rules host Second (late_at_0 ∷ []) (second_of (codes "44") (codes "7") (codes "6"))
+    ≡ Some (OutOfRange 3)
+past_the_jitter_too_early = refl
 
 headers : release_rows ((codes "at" ∷ codes "part" ∷ codes "task" ∷ codes "work" ∷ []) ∷ t1_at_0 ∷ [])
     ≡ Some (First, t1_at_0 ∷ [])

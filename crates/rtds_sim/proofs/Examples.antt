@@ -45,7 +45,7 @@ row at vcpu what = record { at = at; vcpu = vcpu; what = what }
 abbrev event : ℕ → What → Event
 event at what = record { at = at; core = 0; what = what }
 
-abbrev A : Option ℕ
+abbrev pub A : Option ℕ
 A = Some 0
 
 abbrev pub B : Option ℕ

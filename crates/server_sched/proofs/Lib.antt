@@ -9,4 +9,5 @@ mod ServerKept
 pub mod Counted
 mod Conforming
 mod Patterned
+mod PatternExamples
 mod SlotCounted
