@@ -1,4 +1,5 @@
-ghost use Rattle.std.specs.Prelude.{◌≡◌, [], false, IsTrue, IfOk, IfSome, option_map};
+ghost use Rattle.std.specs.Prelude.{◌≡◌, ◌≤◌, ◌==◌, [], false, IsTrue, IfOk, IfSome, length, map, option_map, take};
+ghost use Rattle.std.specs.Simd.Lanes.{mask_l};
 ghost use Rattle.csv.specs.Machine.{next_record};
 ghost use Rattle.csv.specs.Reading.{default_config, strip_bom};
 ghost use Rattle.csv.specs.declared.parser.State.TheVariants as st;
@@ -9,6 +10,7 @@ use crate::near::{near_line, split_line};
 use crate::stops::next_stop;
 use memchr::memchr2;
 use std::alloc::AllocError;
+use std::simd::prelude::*;
 
 /// The first byte of a byte order mark.
 pub const MARK: u8 = 0xEF;
@@ -22,8 +24,47 @@ pub fn is_plain_text(text: &[u8]) -> bool
     has_no_quote(text) && !may_have_mark(text)
 }
 
+/// How many bytes are looked at at once.
+const LANES: usize = 64;
+
+/// Which of the first bytes of a text are this one, the first byte lowest.
+#[inline(always)]
+fn places_of(text: &[u8], byte: u8) -> u64
+    requires { 64 ≤ length text.now }
+    ensures { result ≡ mask_l (map (λ b. b == byte) (take 64 text.now)) }
+{
+    u8x64::from_slice(text)
+        .simd_eq(u8x64::splat(byte))
+        .to_bitmask()
+}
+
+/// Whether the first bytes of a text have no quote and no carriage return.
+#[inline(always)]
+fn begins_plain(text: &[u8]) -> bool
+    requires { 64 ≤ length text.now }
+    ensures { IsTrue result → IsPlainText (take 64 text.now) }
+{
+    let quotes = places_of(text, b'"');
+    let returns = places_of(text, b'\r');
+    quotes == 0 && returns == 0
+}
+
 /// Whether a text has no quote and no carriage return.
 pub fn has_no_quote(text: &[u8]) -> bool
+    ensures { IsTrue result → IsPlainText text.now }
+{
+    let mut at = 0;
+    while text.len() - at >= LANES {
+        if !begins_plain(&text[at..]) {
+            return false;
+        }
+        at += LANES;
+    }
+    is_plain_end(&text[at..])
+}
+
+/// The same of a few bytes.
+fn is_plain_end(text: &[u8]) -> bool
     ensures { IsTrue result → IsPlainText text.now }
 {
     memchr2(b'"', b'\r', text).is_none()

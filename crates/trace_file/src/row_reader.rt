@@ -1,9 +1,8 @@
 use crate::names::Names;
 use crate::rows::Rows;
-use crate::spelling::{Spelt, spell};
+use crate::spelling::{FourFields, Spelt, spell};
 use crate::unit::Unit;
 use crate::{Event, TraceFault};
-use csv_rows::Row;
 use std::alloc::{AllocError, Global};
 use tree_model::System;
 
@@ -20,13 +19,13 @@ pub struct RowReader<'s> {
 
 impl<'s> RowReader<'s> {
     ghost use Rattle.std.specs.Prelude.{◌≡◌, List, ℕ, length, IfOk, IfErr, Some, None, true, false};
-    ghost use Rattle.csv_rows.specs.Row.{fields_of};
     ghost use Rattle.tree_model.specs.System.{IsSystem};
     ghost use Rattle.trace_file.specs.Events.{has_ended};
     ghost use Rattle.trace_file.specs.File.{row_rules, is_row, event_of, events_of};
     ghost use Rattle.trace_file.specs.Named.{AreNames};
     ghost use Rattle.trace_file.specs.Given.{IsBehindRows};
     ghost use Rattle.trace_file.specs.inner.Fresh.{IsFresh};
+    ghost use Rattle.trace_file.specs.inner.Spelt.{AreFieldsOf};
 
     /// Before the first row.
     pub fn new(alloc: Global, sys: &'s System) -> Result<RowReader<'s>, AllocError>
@@ -42,16 +41,16 @@ impl<'s> RowReader<'s> {
 
     /// The event of the next row, or the first rule that this row breaks.
     #[inline(always)]
-    pub fn judged(&self, unit: Unit, fields: &Row) -> Result<Event, TraceFault>
+    pub fn judged(&self, unit: Unit, fields: Option<FourFields>) -> Result<Event, TraceFault>
         requires system { IsSystem self.now.sys.now }
         requires names { AreNames self.now.sys.now self.now.names }
-        ensures event { (rows : List (List (List ℕ))) → IsBehindRows unit rows self.now
-            → let row = fields_of fields.now in IfOk result (λ event.
-            (row_rules self.now.sys.now unit rows row ≡ None)
+        ensures event { (row : List (List ℕ)) → AreFieldsOf row fields
+            → (rows : List (List (List ℕ))) → IsBehindRows unit rows self.now
+            → IfOk result (λ event. (row_rules self.now.sys.now unit rows row ≡ None)
             × (event ≡ event_of self.now.sys.now unit row)) }
-        ensures fault { (rows : List (List (List ℕ))) → IsBehindRows unit rows self.now
-            → IfErr result (λ fault. row_rules self.now.sys.now unit rows
-            (fields_of fields.now) ≡ Some fault) }
+        ensures fault { (row : List (List ℕ)) → AreFieldsOf row fields
+            → (rows : List (List (List ℕ))) → IsBehindRows unit rows self.now
+            → IfErr result (λ fault. row_rules self.now.sys.now unit rows row ≡ Some fault) }
     {
         let event = match self.spelled(unit, fields) {
             Ok(event) => event,
@@ -65,15 +64,16 @@ impl<'s> RowReader<'s> {
 
     /// The event of the next row, where it is one and no end came before it.
     #[inline(always)]
-    fn spelled(&self, unit: Unit, fields: &Row) -> Result<Event, TraceFault>
+    fn spelled(&self, unit: Unit, fields: Option<FourFields>) -> Result<Event, TraceFault>
         requires { AreNames self.now.sys.now self.now.names }
-        ensures event { (rows : List (List (List ℕ))) → IsBehindRows unit rows self.now
-            → let row = fields_of fields.now in IfOk result (λ event.
+        ensures event { (row : List (List ℕ)) → AreFieldsOf row fields
+            → (rows : List (List (List ℕ))) → IsBehindRows unit rows self.now
+            → IfOk result (λ event.
             (has_ended (events_of self.now.sys.now unit rows) (length rows) ≡ false)
             × (is_row row ≡ true) × (event ≡ event_of self.now.sys.now unit row)) }
-        ensures fault { (rows : List (List (List ℕ))) → IsBehindRows unit rows self.now
-            → IfErr result (λ fault. row_rules self.now.sys.now unit rows
-            (fields_of fields.now) ≡ Some fault) }
+        ensures fault { (row : List (List ℕ)) → AreFieldsOf row fields
+            → (rows : List (List (List ℕ))) → IsBehindRows unit rows self.now
+            → IfErr result (λ fault. row_rules self.now.sys.now unit rows row ≡ Some fault) }
     {
         if self.rows.ended() {
             return Err(TraceFault::AfterEnd(self.row));

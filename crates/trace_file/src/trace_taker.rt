@@ -1,6 +1,6 @@
 use crate::row_reader::RowReader;
 use crate::rows::Rows;
-use crate::spelling::unit_of;
+use crate::spelling::{FourFields, four_fields, says_run, unit_of};
 use crate::unit::Unit;
 use crate::{EventWatcher, TraceFault};
 use csv_rows::{RecordTaker, Row};
@@ -44,7 +44,7 @@ impl<'s, W: EventWatcher + Drop> RecordTaker for TraceTaker<'s, W> {
                 self.take_header(row);
                 Ok(())
             }
-            Stage::Rows(unit) => self.take_row(unit, row),
+            Stage::Rows(unit) => self.take_row(unit, four_fields(row)),
             Stage::Broken(_) => Ok(()),
         }
     }
@@ -56,6 +56,7 @@ impl<'s, W: EventWatcher + Drop> TraceTaker<'s, W> {
     ghost use Rattle.tree_model.specs.View.{SystemView};
     ghost use Rattle.trace_file.specs.File.{IsFileFault, rows_of};
     ghost use Rattle.trace_file.specs.Given.{HasTaken, HasWatched};
+    ghost use Rattle.trace_file.specs.inner.Spelt.{AreFieldsOf};
     ghost use Rattle.trace_file.specs.declared.trace_taker.Stage.TheVariants.{Header as at_header, Rows as at_rows};
 
     /// Takes the header.
@@ -72,21 +73,56 @@ impl<'s, W: EventWatcher + Drop> TraceTaker<'s, W> {
         };
     }
 
-    /// Takes a row behind the header.
+    /// Takes a row behind the header, of these four fields. Most rows say `run`, so the steps of
+    /// these stand apart.
     #[inline(always)]
-    fn take_row(&mut self, unit: Unit, row: &Row) -> Result<(), AllocError>
+    fn take_row(&mut self, unit: Unit, fields: Option<FourFields>) -> Result<(), AllocError>
         requires stage { self.old.stage ≡ at_rows unit }
+        requires read { (row : List (List ℕ)) × AreFieldsOf row fields }
         requires taken { (sys : SystemView) × (start : W) × (records : List (List (List ℕ)))
             × HasTaken W.has_seen sys start records self.old }
-        ensures { (sys : SystemView) (start : W) (records : List (List (List ℕ)))
+        ensures { (row : List (List ℕ)) → AreFieldsOf row fields
+            → (sys : SystemView) (start : W) (records : List (List (List ℕ)))
             → HasTaken W.has_seen sys start records self.old
-            → OnOk result
-            (HasTaken W.has_seen sys start (records ++ fields_of row.now ∷ []) self.new) }
+            → OnOk result (HasTaken W.has_seen sys start (records ++ row ∷ []) self.new) }
+    {
+        if says_run(fields) {
+            return self.take_any_row(unit, fields);
+        }
+        self.take_other_row(unit, fields)
+    }
+
+    /// Takes a row behind the header that does not say `run`.
+    #[inline(never)]
+    fn take_other_row(&mut self, unit: Unit, fields: Option<FourFields>) -> Result<(), AllocError>
+        requires stage { self.old.stage ≡ at_rows unit }
+        requires read { (row : List (List ℕ)) × AreFieldsOf row fields }
+        requires taken { (sys : SystemView) × (start : W) × (records : List (List (List ℕ)))
+            × HasTaken W.has_seen sys start records self.old }
+        ensures { (row : List (List ℕ)) → AreFieldsOf row fields
+            → (sys : SystemView) (start : W) (records : List (List (List ℕ)))
+            → HasTaken W.has_seen sys start records self.old
+            → OnOk result (HasTaken W.has_seen sys start (records ++ row ∷ []) self.new) }
+    {
+        self.take_any_row(unit, fields)
+    }
+
+    /// Takes a row behind the header, whatever it says.
+    #[inline(always)]
+    fn take_any_row(&mut self, unit: Unit, fields: Option<FourFields>) -> Result<(), AllocError>
+        requires stage { self.old.stage ≡ at_rows unit }
+        requires read { (row : List (List ℕ)) × AreFieldsOf row fields }
+        requires taken { (sys : SystemView) × (start : W) × (records : List (List (List ℕ)))
+            × HasTaken W.has_seen sys start records self.old }
+        ensures { (row : List (List ℕ)) → AreFieldsOf row fields
+            → (sys : SystemView) (start : W) (records : List (List (List ℕ)))
+            → HasTaken W.has_seen sys start records self.old
+            → OnOk result (HasTaken W.has_seen sys start (records ++ row ∷ []) self.new) }
     {
         if self.reader.row == u64::MAX {
             return Err(AllocError);
         }
-        match self.reader.judged(unit, row) {
+        match self.reader.judged(unit, fields) {
             Ok(event) => {
                 let sys = self.reader.sys;
                 self.watcher.see(sys, &self.reader.rows, event)?;
