@@ -44,11 +44,11 @@ impl<'s> RowReader<'s> {
     pub fn judged(&self, unit: Unit, fields: Option<FourFields>) -> Result<Event, TraceFault>
         requires system { IsSystem self.now.sys.now }
         requires names { AreNames self.now.sys.now self.now.names }
-        ensures event { (row : List (List ℕ)) → AreFieldsOf row fields
+        ensures event { (row : List (List ℕ)) → AreFieldsOf row fields.entry
             → (rows : List (List (List ℕ))) → IsBehindRows unit rows self.now
             → IfOk result (λ event. (row_rules self.now.sys.now unit rows row ≡ None)
             × (event ≡ event_of self.now.sys.now unit row)) }
-        ensures fault { (row : List (List ℕ)) → AreFieldsOf row fields
+        ensures fault { (row : List (List ℕ)) → AreFieldsOf row fields.entry
             → (rows : List (List (List ℕ))) → IsBehindRows unit rows self.now
             → IfErr result (λ fault. row_rules self.now.sys.now unit rows row ≡ Some fault) }
     {
@@ -66,12 +66,12 @@ impl<'s> RowReader<'s> {
     #[inline(always)]
     fn spelled(&self, unit: Unit, fields: Option<FourFields>) -> Result<Event, TraceFault>
         requires { AreNames self.now.sys.now self.now.names }
-        ensures event { (row : List (List ℕ)) → AreFieldsOf row fields
+        ensures event { (row : List (List ℕ)) → AreFieldsOf row fields.entry
             → (rows : List (List (List ℕ))) → IsBehindRows unit rows self.now
             → IfOk result (λ event.
             (has_ended (events_of self.now.sys.now unit rows) (length rows) ≡ false)
             × (is_row row ≡ true) × (event ≡ event_of self.now.sys.now unit row)) }
-        ensures fault { (row : List (List ℕ)) → AreFieldsOf row fields
+        ensures fault { (row : List (List ℕ)) → AreFieldsOf row fields.entry
             → (rows : List (List (List ℕ))) → IsBehindRows unit rows self.now
             → IfErr result (λ fault. row_rules self.now.sys.now unit rows row ≡ Some fault) }
     {

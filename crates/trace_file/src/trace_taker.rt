@@ -81,7 +81,7 @@ impl<'s, W: EventWatcher + Drop> TraceTaker<'s, W> {
         requires read { (row : List (List ℕ)) × AreFieldsOf row fields }
         requires taken { (sys : SystemView) × (start : W) × (records : List (List (List ℕ)))
             × HasTaken W.has_seen sys start records self.old }
-        ensures { (row : List (List ℕ)) → AreFieldsOf row fields
+        ensures { (row : List (List ℕ)) → AreFieldsOf row fields.entry
             → (sys : SystemView) (start : W) (records : List (List (List ℕ)))
             → HasTaken W.has_seen sys start records self.old
             → OnOk result (HasTaken W.has_seen sys start (records ++ row ∷ []) self.new) }
@@ -99,7 +99,7 @@ impl<'s, W: EventWatcher + Drop> TraceTaker<'s, W> {
         requires read { (row : List (List ℕ)) × AreFieldsOf row fields }
         requires taken { (sys : SystemView) × (start : W) × (records : List (List (List ℕ)))
             × HasTaken W.has_seen sys start records self.old }
-        ensures { (row : List (List ℕ)) → AreFieldsOf row fields
+        ensures { (row : List (List ℕ)) → AreFieldsOf row fields.entry
             → (sys : SystemView) (start : W) (records : List (List (List ℕ)))
             → HasTaken W.has_seen sys start records self.old
             → OnOk result (HasTaken W.has_seen sys start (records ++ row ∷ []) self.new) }
@@ -114,7 +114,7 @@ impl<'s, W: EventWatcher + Drop> TraceTaker<'s, W> {
         requires read { (row : List (List ℕ)) × AreFieldsOf row fields }
         requires taken { (sys : SystemView) × (start : W) × (records : List (List (List ℕ)))
             × HasTaken W.has_seen sys start records self.old }
-        ensures { (row : List (List ℕ)) → AreFieldsOf row fields
+        ensures { (row : List (List ℕ)) → AreFieldsOf row fields.entry
             → (sys : SystemView) (start : W) (records : List (List (List ℕ)))
             → HasTaken W.has_seen sys start records self.old
             → OnOk result (HasTaken W.has_seen sys start (records ++ row ∷ []) self.new) }

@@ -8,4 +8,4 @@ returns-in-Header g c start records taken = c.take_header.ensures start.reader.s
 pub returns-in-Rows : goal.returns-in-Rows
 returns-in-Rows g c =
     took_on g.W.EventWatcher.has_seen c.take_row.result c.args.self.now c.take_row.new.self
-    (fields_of c.args.row.now) c.take_row.ensures
+    (fields_of c.args.row.now) (c.take_row.ensures (fields_of c.args.row.now) c.four_fields.ensures)
