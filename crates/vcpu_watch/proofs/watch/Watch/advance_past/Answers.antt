@@ -9,16 +9,11 @@ returns-clause-tells c runs blocks f st t =
     let to = c.args.to in
     let first = c.pass.ensures in
     let second = c.close.ensures in
-    let third = c.skip_to.ensures in
     let end = c.requires.goes_on in
     let t2
     = first.tells runs blocks f (stays_in runs blocks s from to from _ (omega arith) (omega (arith, end)) st) t in
     let t3
     = second.tells s runs blocks f
     (stays_in runs blocks s from to _ _ (omega (arith, first.now, end)) (omega (arith, first.now, end)) st) t2 in
-    let t4
-    = third.tells runs blocks f
-    (stays_in runs blocks s from to _ _ (omega (arith, first.now, second.now, end)) third.now st) t3 in
-    c.pass-2.ensures.tells runs blocks f
-    (stays_in runs blocks s from to _ to (omega (arith, first.now, second.now, third.goes_on, end)) (omega arith) st)
-    t4
+    c.advance_new.ensures.tells runs blocks f
+    (stays_in runs blocks s from to _ to (omega (arith, first.now, second.now, end)) (omega arith) st) t3
