@@ -1,6 +1,5 @@
 ghost use Rattle.std.specs.Prelude.{◌≡◌, ◌≤◌, if◌then◌else◌};
 ghost use Rattle.trace_file.specs.declared.event.TheConstants.{LAST_MOMENT};
-ghost use Rattle.vcpu_watch.specs.Watch.{lesser, greater};
 
 use crate::watch::Breach;
 
@@ -29,29 +28,9 @@ pub fn number_if(holds: bool, number: u64) -> u64
     if holds { number } else { 0 }
 }
 
-/// The lesser of a time and of the least so far.
-fn lesser(least: Option<u64>, got: u64) -> u64
-    ensures { result ≡ lesser least got }
-{
-    match least {
-        None => got,
-        Some(time) => { if got < time { got } else { time } }
-    }
-}
-
-/// The greater of a time and of the greatest so far.
-fn greater(most: Option<u64>, got: u64) -> u64
-    ensures { result ≡ greater most got }
-{
-    match most {
-        None => got,
-        Some(time) => { if time < got { got } else { time } }
-    }
-}
-
 impl Tally {
-    ghost use Rattle.std.specs.Prelude.{◌≡◌, ◌≤◌, ◌+◌};
-    ghost use Rattle.vcpu_watch.specs.Watch.{counted, least_if, AreAtMost, no_tally};
+    ghost use Rattle.std.specs.Prelude.{◌≡◌, ◌≤◌, ◌+◌, Some};
+    ghost use Rattle.vcpu_watch.specs.Watch.{counted, lesser, greater, AreAtMost, no_tally};
 
     /// Of no periods.
     pub fn new() -> Tally
@@ -67,14 +46,37 @@ impl Tally {
         }
     }
 
-    /// The least time, where one more period is judged or is not.
-    fn least_if(self, judged: bool, got: u64) -> Option<u64>
-        ensures { result ≡ least_if judged self.least got }
+    /// Counts so many judged periods more, in each of which the VCPU got this time.
+    #[inline(always)]
+    fn count_judged(&mut self, many: u64, got: u64)
+        requires room { self.old.judged ≤ LAST_MOMENT }
+        requires few { many ≤ LAST_MOMENT }
+        ensures { let old = self.old in self.new ≡ record old {
+          judged = old.judged + many;
+          least = Some (lesser old.least got);
+        } }
     {
-        if judged {
-            return Some(lesser(self.least, got));
+        self.judged += many;
+        if let Some(time) = self.least {
+            if time <= got {
+                return;
+            }
         }
-        self.least
+        self.least = Some(got);
+    }
+
+    /// Notes that a VCPU got this time, where it is the most so far.
+    #[inline(always)]
+    fn note_most(&mut self, got: u64)
+        ensures { let old = self.old in
+            self.new ≡ record old { most = Some (greater old.most got) } }
+    {
+        if let Some(time) = self.most {
+            if got <= time {
+                return;
+            }
+        }
+        self.most = Some(got);
     }
 
     /// Counts so many periods more, in each of which the VCPU got this time.
@@ -83,12 +85,11 @@ impl Tally {
         requires few { many ≤ LAST_MOMENT }
         ensures { self.new ≡ counted self.old many judged got breach }
     {
-        let least = self.least_if(judged, got);
-        let most = Some(greater(self.most, got));
         self.begun += many;
-        self.judged += number_if(judged, many);
-        self.least = least;
-        self.most = most;
+        if judged {
+            self.count_judged(many, got);
+        }
+        self.note_most(got);
         match breach {
             Some(Breach::Short) => self.short += many,
             Some(Breach::Over) => self.over += many,
