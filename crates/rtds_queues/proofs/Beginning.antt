@@ -31,7 +31,7 @@ count_ending at accounts = count_below (λ u. nat_eq (end_at accounts u) at) (le
 begun_here : (a : Account) (at : ℕ) → a.until ≡ at → begun a at ≡ renewed a (at + a.period)
 begun_here a at e = ap (λ (q : Bool). cond q (renewed a (at + a.period)) a) (eq-eqb at a.until (sym e))
 
-begun_not : (a : Account) (at : ℕ) → a.until ≢ at → a ≡ begun a at
+pub begun_not : (a : Account) (at : ℕ) → a.until ≢ at → a ≡ begun a at
 begun_not a at ne =
     sym (ap (λ (q : Bool). cond q (renewed a (at + a.period)) a) (not_same at a.until (λ e. ne (sym e))))
   where

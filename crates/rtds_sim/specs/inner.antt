@@ -3,4 +3,5 @@ pub mod Accounts
 pub mod Lists
 pub mod Running
 pub mod Soonest
+pub mod Switching
 pub mod Telling

@@ -1,7 +1,8 @@
-ghost use Rattle.std.specs.Prelude.{◌≡◌, ◌≤◌, ◌<◌};
+ghost use Rattle.std.specs.Prelude.{◌≡◌, ◌≤◌, ◌<◌, if◌then◌else◌, [], ◌∷◌, ◌++◌, OnOk};
 ghost use Rattle.slot_model.specs.declared.task.TheConstants.{LIMIT};
 ghost use Rattle.tree_model.specs.declared.system.TheConstants.{MAX_CORES};
-ghost use Rattle.rtds_sim.specs.Printed.{on_core_at, switch_to};
+ghost use Rattle.rtds_sim.specs.Printed.{on_at};
+ghost use Rattle.rtds_sim.specs.inner.Switching.{stays, going_to};
 
 use crate::host_core::HostCore;
 use crate::moment::moment_of_slot;
@@ -9,37 +10,49 @@ use slot_model::LIMIT;
 use std::alloc::AllocError;
 use trace_file::{Event, What};
 
-/// What is to be told where a core goes from one VCPU to another, if anything.
-fn switch_to(holder: Option<u32>, next: Option<u32>) -> Option<What>
-    ensures { result ≡ switch_to holder next }
+/// Whether the VCPU that has a core keeps it, or none has it before and after.
+#[inline(always)]
+fn stays(holder: Option<u32>, next: Option<u32>) -> bool
+    ensures { result ≡ stays holder next }
 {
     match (holder, next) {
-        (None, None) => None,
-        (Some(_), None) => Some(What::Stop),
-        (None, Some(v)) => Some(What::Run(v)),
-        (Some(u), Some(v)) if u == v => None,
-        (Some(_), Some(v)) => Some(What::Run(v)),
+        (None, None) => true,
+        (Some(u), Some(v)) => u == v,
+        (Some(_), None) | (None, Some(_)) => false,
     }
 }
 
-/// The event of it on core `core` at slot `at`.
-fn switch_event(core: usize, at: u64, holder: Option<u32>, next: Option<u32>) -> Option<Event>
+/// Tells a switch of core `core` at slot `at` to a VCPU, by its part, or to none, but where it
+/// stays. Which of both it is can hardly be foretold, so the event is added before that is asked.
+#[inline(always)]
+fn tell_switch(
+    told: &mut Vec<Event>,
+    core: usize,
+    at: u64,
+    next: Option<u32>,
+    stays: bool,
+) -> Result<(), AllocError>
     requires few { core < MAX_CORES }
     requires in_limit { at ≤ LIMIT }
-    ensures { result ≡ on_core_at core at (switch_to holder next) }
+    ensures { OnOk result (told.new.items
+        ≡ (if stays then told.old.items
+        else told.old.items ++ on_at core at (going_to next) ∷ [])) }
 {
-    match switch_to(holder, next) {
-        Some(what) => Some(Event {
-            at: moment_of_slot(at),
-            core: core as u32,
-            what,
-        }),
-        None => None,
-    }
+    let what = match next {
+        Some(part) => What::Run(part),
+        None => What::Stop,
+    };
+    told.push(Event {
+        at: moment_of_slot(at),
+        core: core as u32,
+        what,
+    })?;
+    told.truncate(told.len() - stays as usize);
+    Ok(())
 }
 
 impl HostCore {
-    ghost use Rattle.std.specs.Prelude.{◌≡◌, ℕ, ◌≤◌, ◌<◌, ◌+◌, ◌-◌, List, Option, Some, length, OnOk};
+    ghost use Rattle.std.specs.Prelude.{◌≡◌, ℕ, suc, ◌≤◌, ◌<◌, ◌+◌, ◌-◌, List, Option, Some, length, OnOk};
     ghost use Rattle.slot_model.specs.Run.{holds};
     ghost use Rattle.slot_model.specs.declared.task.TheConstants.{LIMIT};
     ghost use Rattle.tree_model.specs.declared.system.TheConstants.{MAX_CORES};
@@ -47,13 +60,14 @@ impl HostCore {
     ghost use Rattle.tree_model.specs.Plans.{IsPlan};
     ghost use Rattle.release_file.specs.declared.workload.Wake.{Wake as RowView};
     ghost use Rattle.rtds_sim.specs.Printed.{push_some, on_core_at, switch_to};
-    ghost use Rattle.rtds_queues.specs.Accounts.{account_at};
-    ghost use Rattle.rtds_queues.specs.Vcpus.{IsChoice, NoEndBefore};
+    ghost use Rattle.rtds_queues.specs.Accounts.{account_at, begun};
+    ghost use Rattle.rtds_queues.specs.Vcpus.{HavePeriods, IsChoice, IsFirstEnd, NoEndBefore};
     ghost use Rattle.rtds_sim.specs.inner.Accounts.{part_of, gone_on, used_more, IsReady};
     ghost use Rattle.rtds_sim.specs.inner.Running.{IsUnderway, HasRun};
 
     /// Runs core `core` by itself from slot `from` to a later one, before which no row comes, and
     /// tells its switches.
+    #[inline(never)]
     pub fn run_to(
         &mut self,
         core: usize,
@@ -73,10 +87,11 @@ impl HostCore {
             told.new.items) }
     {
         let mut at = from;
+        let mut end = self.vcpus.first_end();
         while at < to {
             self.switch(core, at, told)?;
-            let next = self.next_change(at, to);
-            self.bring(at, next);
+            let next = self.next_change(at, to.min(end));
+            end = self.bring(at, next, end);
             at = next;
         }
         Ok(())
@@ -107,47 +122,67 @@ impl HostCore {
         ensures vcpus { OnOk result (self.new.vcpus ≡ self.old.vcpus) }
     {
         let next = self.vcpus.first_of();
-        let event = switch_event(core, at, self.part_of(self.holder), self.part_of(next));
+        let stays = stays(self.holder, next);
         self.holder = next;
-        if let Some(event) = event {
-            told.push(event)?;
-        }
-        Ok(())
+        tell_switch(told, core, at, self.part_of(next), stays)
     }
 
-    /// The slot at which something may change next: a period ends, its VCPU has had its budget once
-    /// more, or slot `to` has come.
+    /// The slot at which something may change next: its VCPU has had its budget once more, or slot
+    /// `to` has come.
     fn next_change(&self, at: u64, to: u64) -> u64
-        requires ready { IsReady at self.now }
-        requires in_limit { to ≤ LIMIT }
+        requires holder { (v : ℕ) → self.now.holder ≡ Some v → v < length self.now.vcpus }
+        requires some_left { (v : ℕ) → self.now.holder ≡ Some v
+            → 1 ≤ (account_at self.now.vcpus v).left }
         requires in_time { at < to }
         ensures in_time { result ≤ to }
-        ensures ends { NoEndBefore self.now.vcpus result }
         ensures budget { (v : ℕ) → self.now.holder ≡ Some v
             → result ≤ at + (account_at self.now.vcpus v).left }
         ensures later { at < result }
     {
-        let end = to.min(self.vcpus.first_end());
         match self.holder {
-            Some(v) => at + self.vcpus.account(v).left.min(end - at),
-            None => end,
+            Some(v) => at + self.vcpus.account(v).left.min(to - at),
+            None => to,
         }
     }
 
-    /// Brings the accounts from slot `from` to a later one, before which nothing changes.
-    fn bring(&mut self, from: u64, to: u64)
+    /// Brings the accounts from slot `from` to a later one, before which nothing changes, where the
+    /// first period ends at slot `end`. Returns where the first one ends then.
+    fn bring(&mut self, from: u64, to: u64, end: u64) -> u64
         requires ready { IsReady from self.old }
         requires later { from < to }
         requires in_limit { to ≤ LIMIT }
-        requires ends { NoEndBefore self.old.vcpus to }
+        requires first { IsFirstEnd self.old.vcpus end }
+        requires ends { to ≤ end }
         ensures ready { IsReady to self.new }
         ensures one_each { length self.new.vcpus ≡ length self.old.vcpus }
         ensures gone { (v : ℕ) → v < length self.old.vcpus → account_at self.new.vcpus v
             ≡ gone_on (account_at self.old.vcpus v) (holds self.old.holder v) (to - from) to }
         ensures holder { self.new.holder ≡ self.old.holder }
+        ensures first { IsFirstEnd self.new.vcpus result }
     {
         self.use_slots(to - from);
-        self.vcpus.begin_periods(to);
+        self.begin_periods(to, end)
+    }
+
+    /// Begins the periods that begin at slot `at`, where the first one ends at slot `end`. Returns
+    /// where the first one ends then, which is looked up only where one begins.
+    fn begin_periods(&mut self, at: u64, end: u64) -> u64
+        requires in_limit { at ≤ LIMIT }
+        requires periods { HavePeriods self.old.vcpus }
+        requires first { IsFirstEnd self.old.vcpus end }
+        requires ends { at ≤ end }
+        ensures one_each { length self.new.vcpus ≡ length self.old.vcpus }
+        ensures begun { (v : ℕ) → v < length self.old.vcpus
+            → account_at self.new.vcpus v ≡ begun (account_at self.old.vcpus v) at }
+        ensures ends { NoEndBefore self.new.vcpus (suc at) }
+        ensures holder { self.new.holder ≡ self.old.holder }
+        ensures first { IsFirstEnd self.new.vcpus result }
+    {
+        if at < end {
+            return end;
+        }
+        self.vcpus.begin_periods(at);
+        self.vcpus.first_end()
     }
 
     /// Counts some slots, which the VCPU of the core had.

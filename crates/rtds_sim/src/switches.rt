@@ -86,18 +86,16 @@ fn next_moment(events: &[Event], told: usize) -> u64
     }
 }
 
-/// The moments of the first events.
-fn first_moments(lists: &[Vec<Event>]) -> [u64; MAX_CORES]
-    requires { length lists.now ≤ MAX_CORES }
-    ensures room { length result ≡ MAX_CORES }
+/// Sets the moments of the cores to those of their first events.
+fn set_first_moments(moments: &mut [u64], lists: &[Vec<Event>])
+    requires { length lists.now ≤ length moments.old }
+    ensures room { length moments.new ≡ length moments.old }
     ensures moments { (c : ℕ) → c < length lists.now
-        → slice_index result c ≡ next_moment (list_at lists.now c) 0 }
+        → slice_index moments.new c ≡ next_moment (list_at lists.now c) 0 }
 {
-    let mut moments = [NEVER; MAX_CORES];
     for c in 0..lists.len() {
         moments[c] = next_moment(list_of(lists, c), 0);
     }
-    moments
 }
 
 /// The first core, of the first `cores`, whose next event is soonest, if any has one.
@@ -125,7 +123,8 @@ fn tell_all<T: EventTaker>(lists: &[Vec<Event>], events: &mut T) -> Result<(), A
         → Took T.has_taken events.old events.new (told_by f x (length lists.now) m)) }
 {
     let mut told = [0usize; MAX_CORES];
-    let mut moments = first_moments(lists);
+    let mut moments = [NEVER; MAX_CORES];
+    set_first_moments(&mut moments, lists);
     while let Some(core) = soonest(&moments, lists.len()) {
         let list = list_of(lists, core);
         let place = told[core];

@@ -13,9 +13,9 @@ use Rattle.rtds_sim.proofs.switches.tell_all.Goals.{In-Some}
 pub loop-core-init : goal.loop-core-init
 loop-core-init g c = record {
   room = refl;
-  room_too = c.first_moments-moments.ensures.room;
+  room_too = c.set_first_moments.ensures.room;
   moments =
-      λ d l. c.first_moments-moments.ensures.moments d l
+      λ d l. c.set_first_moments.ensures.moments d l
       ∙ sym (ap (next_moment (list_at c.args.lists.now d)) (alike {X = ℕ} 64 d 0));
   so_far =
       λ f x m at_slots are. told_none g.T.EventTaker.has_taken c.args.events.now f x m (length c.args.lists.now)

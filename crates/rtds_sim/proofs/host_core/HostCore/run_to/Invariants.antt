@@ -2,6 +2,7 @@ use Rattle.std.proofs.Common.{ℕ, ◌-◌, ◌≤◌, List, Option}
 use Rattle.tree_model.specs.View.{SystemView}
 use Rattle.tree_model.specs.Plans.{IsPlan}
 use Rattle.release_file.specs.declared.workload.Wake.{Wake as Row}
+use Rattle.rtds_queues.specs.Vcpus.{IsFirstEnd}
 use Rattle.rtds_sim.specs.inner.Accounts.{IsReady}
 use Rattle.rtds_sim.specs.inner.Running.{IsUnderway}
 use Rattle.rtds_sim.proofs.CoreRuns.{StandsAt}
@@ -14,6 +15,7 @@ invariant-loop-at l = record {
       → IsUnderway sys budgets rows n l.core run l.from l.to k l.initial.self
       → StandsAt sys budgets rows l.core run l.from l.to k l.at l.self l.initial.told.items l.told.items;
   ready : IsReady l.at l.self;
+  first : IsFirstEnd l.self.vcpus l.end;
   since : l.from ≤ l.at;
   in_time : l.at ≤ l.to;
 }
