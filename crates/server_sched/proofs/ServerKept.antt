@@ -4,12 +4,13 @@ use Rattle.std.proofs.lemmas.Bool.{cases_eq}
 use Rattle.std.proofs.lemmas.List.{get_or-map, length-map, get_or_append_left, get_or_push, length_push}
 use Rattle.std.proofs.lemmas.List.Concat.{flat_map-append}
 use Rattle.std.proofs.lemmas.Option.{same_Some}
+use Rattle.slot_model.specs.declared.job.Job.{Job}
 use Rattle.slot_model.specs.declared.sched.Sched.{Sched}
 use Rattle.slot_model.specs.Task.{SporadicTask, default_task}
 use Rattle.slot_model.specs.Slots.{places_where}
 use Rattle.slot_model.specs.Order.{before_of}
 use Rattle.slot_model.specs.Release.{synchronous}
-use Rattle.slot_model.specs.Run.{server, FirstRun}
+use Rattle.slot_model.specs.Run.{guest, server, FirstRun}
 use Rattle.guest_sched.specs.declared.spans.Span.{Span}
 use Rattle.guest_sched.specs.Spans.{Window, AreSpans, span_at, entries_of, end_of, run_of, slots_of}
 use Rattle.guest_sched.proofs.SpanByOne.{no_spans}
@@ -17,12 +18,13 @@ use Rattle.guest_sched.proofs.Grown.{grown_spans, grown_run}
 use Rattle.tree_model.specs.declared.place.Place.{Place}
 use Rattle.tree_model.specs.View.{SystemView}
 use Rattle.tree_model.specs.Tree.{server_task, server_tasks, is_child}
+use Rattle.span_counts.specs.declared.counts.Counts.{Counts}
 use Rattle.span_counts.specs.Counts.{AreCounts}
 use Rattle.tree_spans.specs.NodeView.{NodeView}
 use Rattle.tree_spans.specs.Shares.{AreShares, share_at}
 use Rattle.tree_spans.specs.KeptNodes.{IsKeptOf}
-use Rattle.server_sched.specs.inner.Kept.{KeptView, kept_of, IsStillKept}
-use Rattle.tree_spans.specs.Levels.{IsServerLevel}
+use Rattle.server_sched.specs.inner.Kept.{KeptView, IsStillKept}
+use Rattle.tree_spans.specs.Levels.{IsServerLevel, IsGuestLevel}
 use Rattle.server_sched.specs.inner.Serving.{IsServerTask, AreServerTasks, IsServed}
 use Rattle.tree_spans.proofs.Nodes.{run_long}
 
@@ -177,15 +179,26 @@ server_kept sched T given n kept h =
       kept = record { counts = refl; one_each = refl; later = λ m l. refl; gone = λ m l. absurd (omega (arith, l)) };
     }
 
--- and so is what is kept of a run of a leaf's jobs
-pub guests_kept : (Is : NodeView → Type 0) (node : NodeView)
-    → IsKeptOf (λ (one : NodeView) (of : NodeView) (k : ℕ). one ≡ of) Is node
-    → IsKeptOf IsStillKept Is (kept_of node)
-guests_kept Is node h = record {
-  node = node;
-  is_node = subst Is (sym h.kept) h.is_node;
-  kept = record { counts = refl; one_each = refl; later = λ m l. refl; gone = λ m l. absurd (omega (arith, l)) };
-}
+-- and so is what is counted of a run of a leaf's jobs
+pub guests_kept : (sched : Sched) (T : List SporadicTask) (jobs : List Job) (given : List Window) (n : ℕ)
+    (counts : Counts) (run : List (Option ℕ)) → FirstRun guest (before_of sched T) T jobs (slots_of given n) run
+    → AreCounts T jobs (slots_of given n) run counts
+    → IsKeptOf IsStillKept (IsGuestLevel sched T jobs given n) (record { shares = []; counts = counts })
+guests_kept sched T jobs given n counts run first counted =
+    let s = spans_for run in
+    let long : length run ≡ n = run_long guest (before_of sched T) T jobs given n run first in
+    record {
+      node = record { spans = s.spans; shares = []; counts = counts };
+      is_node = record {
+        spans = subst (AreSpans s.spans) long s.are;
+        first =
+            subst (λ (r : List (Option ℕ)). FirstRun guest (before_of sched T) T jobs (slots_of given n) r)
+            (sym s.same) first;
+        no_shares = refl;
+        counts = subst (λ (r : List (Option ℕ)). AreCounts T jobs (slots_of given n) r counts) (sym s.same) counted;
+      };
+      kept = record { counts = refl; one_each = refl; later = λ m l. refl; gone = λ m l. absurd (omega (arith, l)) };
+    }
 
 -- once one child more has run
 pub still_kept : (kept : KeptView) (node : NodeView) (k : ℕ) → IsStillKept kept node k → k < length kept.shares

@@ -3,17 +3,16 @@ ghost use Rattle.tree_model.specs.Plans.{IsPlan};
 ghost use Rattle.tree_model.specs.Releases.{AreReleases};
 ghost use Rattle.tree_spans.specs.TreeSpans.{AreSupplies, AreFewJobs, supplies_of};
 ghost use Rattle.server_sched.specs.CountedTree.{AreFirstCounts};
-ghost use Rattle.server_sched.specs.inner.Kept.{kept_of};
 
 use crate::level::MOST_ROOM;
 use crate::served::serve_level;
-use guest_sched::Window;
+use guest_sched::{Keep, ReleasedLevel, Window};
 use slot_model::{Job, Sched, Task};
-use span_counts::Counts;
+use span_counts::{Counts, counts_by};
 use std::alloc::{AllocError, Global};
 use std::marker::Model;
 use tree_model::{Plan, System};
-use tree_spans::{KeptNode, KeptTree, NodeSpans, TreeCounts, counts_kept, walk_tree};
+use tree_spans::{KeptNode, KeptTree, TreeCounts, counts_kept, walk_tree};
 
 /// What is kept of the run of a node once it is counted: the windows that each child gets of it,
 /// one list a child in file order, and its counts.
@@ -32,7 +31,7 @@ impl Model for Kept {
     ghost view = { λ k. record { shares = map (λ s. s.items) k.shares.items; counts = k.counts } };
 }
 
-/// It keeps no run, and the windows of a child until that has run.
+/// It keeps no run and no span of one, and the windows of a child until that has run.
 impl KeptNode for Kept {
     ghost use Rattle.std.specs.Prelude.{◌^◌, ◌<◌};
     ghost use Rattle.server_sched.specs.inner.Kept.{IsStillKept};
@@ -60,8 +59,18 @@ impl KeptNode for Kept {
         given: &[Window],
         slots: u64,
     ) -> Result<Kept, AllocError> {
-        let node = NodeSpans::of_guests(alloc, sched, tasks, jobs, given, slots)?;
-        Ok(kept_of(node))
+        let level = ReleasedLevel {
+            keep: Keep::UntilDone,
+            tasks,
+            jobs,
+            given,
+            slots,
+        };
+        let counts = counts_by(alloc, &level, sched)?;
+        Ok(Kept {
+            shares: Vec::new(alloc),
+            counts,
+        })
     }
 
     fn share(&self, k: usize) -> &[Window] {
@@ -77,18 +86,9 @@ impl KeptNode for Kept {
     }
 }
 
-fn kept_of(node: NodeSpans) -> Kept
-    ensures { result ≡ kept_of node }
-{
-    Kept {
-        shares: node.shares,
-        counts: node.counts,
-    }
-}
-
 /// What is counted of the one first run of the tree over `slots` slots, of which each core has
-/// those of its windows. No run is kept once it is counted, and no windows once their part has run:
-/// its memory is that of one node's run and of the windows of the parts that are still to run.
+/// those of its windows. No run is kept, and no windows once their part has run: its memory is that
+/// of one leaf's jobs and of the windows of the parts that are still to run.
 pub fn count_tree(
     alloc: Global,
     sys: &System,

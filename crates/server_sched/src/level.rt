@@ -33,7 +33,9 @@ pub struct Level {
 }
 
 impl Level {
-    /// Where the next jobs come now, gives the old ones up and lets the new ones come.
+    /// Where the next jobs come now, gives the old ones up and lets the new ones come. It is a part
+    /// of the loops over events, since at most of them no job comes.
+    #[inline(always)]
     pub fn turn(&mut self, sched: Sched, tasks: &[Task])
         requires tasks { AreServerTasks (sporadic_tasks tasks.now) }
         requires few_tasks { length tasks.now < 2 ^ 32 }
@@ -53,8 +55,30 @@ impl Level {
         if self.come.next != self.time {
             return;
         }
+        self.renew_now(sched, tasks);
+    }
+
+    /// The same where the next jobs come now.
+    #[inline(never)]
+    fn renew_now(&mut self, sched: Sched, tasks: &[Task])
+        requires tasks { AreServerTasks (sporadic_tasks tasks.now) }
+        requires few_tasks { length tasks.now < 2 ^ 32 }
+        requires one_each { length self.old.servers.items ≡ length tasks.now }
+        requires in_time { self.old.time < 2 ^ 63 }
+        requires released { self.old.come.released < 2 ^ 32 }
+        requires missed { self.old.tally.missed < 2 ^ 32 }
+        requires now { self.old.come.next ≡ self.old.time }
+        ensures slots { self.new.slots ≡ self.old.slots }
+        ensures time { self.new.time ≡ self.old.time }
+        ensures run { (slots : List Bool) → self.old.time < self.old.slots →
+            IsUnderway sched (sporadic_tasks tasks.now) slots self.old →
+            IsUnderway sched (sporadic_tasks tasks.now) slots self.new }
+        ensures next { (slots : List Bool) → self.old.time < self.old.slots →
+            IsUnderway sched (sporadic_tasks tasks.now) slots self.old →
+            self.new.time < self.new.come.next }
+    {
         let late = self.servers.as_slice();
-        self.tally = close(self.tally, self.best, late, tasks, self.time);
+        close(&mut self.tally, self.best, late, tasks, self.time);
         self.come = renew(
             &mut self.servers,
             tasks,

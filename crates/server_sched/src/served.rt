@@ -77,7 +77,9 @@ fn whole_tally(level: &Level, tasks: &[Task]) -> Tally
         (is_missed T (synchronous T 0 level.now.slots) h.run) result.missed result.first }
 {
     if level.come.next == level.slots {
-        close(level.tally, level.best, &level.servers, tasks, level.slots)
+        let mut tally = level.tally;
+        close(&mut tally, level.best, &level.servers, tasks, level.slots);
+        tally
     } else {
         level.tally
     }

@@ -45,31 +45,30 @@ fn goes_before(old: Late, late: Late) -> bool
         || (old.miss.deadline == late.miss.deadline && old.place <= late.place)
 }
 
-/// The tally with the jobs that are late at a moment: those that are due then, and lack slots.
-/// There are none where no server goes first, since then no job lacks any.
+/// Adds the jobs that are late at a moment: those that are due then, and lack slots. There are none
+/// where no server goes first, since then no job lacks any.
 pub fn close(
-    tally: Tally,
+    tally: &mut Tally,
     best: Option<usize>,
     servers: &[Server],
     tasks: &[Task],
     moment: u64,
-) -> Tally
+)
     requires tasks { AreServerTasks (sporadic_tasks tasks.now) }
     requires one_each { length servers.now ≡ length tasks.now }
     requires few_tasks { length tasks.now < 2 ^ 32 }
-    requires few { tally.missed < 2 ^ 32 }
+    requires few { tally.old.missed < 2 ^ 32 }
     ensures { let T = sporadic_tasks tasks.now in
         (sched : AnySched) (n : ℕ) (run : List (Option ℕ)) (released : ℕ) → moment ≤ n →
         IsChosen servers.now best → AtRest sched T n run moment released moment servers.now →
         Tallies T (synchronous T 0 n) run (is_late T (synchronous T 0 n) run moment 0)
-        tally.missed tally.first →
+        tally.old.missed tally.old.first →
         Tallies T (synchronous T 0 n) run (is_late T (synchronous T 0 n) run moment (length T))
-        result.missed result.first }
+        tally.new.missed tally.new.first }
 {
     if best.is_none() {
-        return tally;
+        return;
     }
-    let mut tally = tally;
     for i in 0..servers.len() {
         let server = servers[i];
         if server.next == moment && server.left > 0 {
@@ -78,7 +77,6 @@ pub fn close(
             tally.missed += 1;
         }
     }
-    tally
 }
 
 /// What is told of the job of a server where it is late.

@@ -1,14 +1,16 @@
 ghost use Rattle.std.specs.Prelude.{◌≡◌, ◌↔◌, ℕ, ◌+◌, ◌-◌, ◌^◌, ◌≤◌, ◌<◌, min, true, false, List, Option, length, IfOk, MatchOption};
 ghost use Rattle.slot_model.specs.Slots.{count_below, slots_between};
 ghost use Rattle.slot_model.specs.Task.{sporadic_tasks};
+ghost use Rattle.slot_model.specs.Order.{before_of};
 ghost use Rattle.slot_model.specs.Miss.{AreInJitter, AreNamed, HoldsReleased, IsFirstMiss, NoneMissed, is_missed, miss_of};
 ghost use Rattle.guest_sched.specs.Spans.{AreWindows, AreSpans, slots_of, run_of};
+ghost use Rattle.guest_sched.specs.Levels.{FirstRunOf};
 ghost use Rattle.span_counts.specs.Counts.{AreCounts, is_early};
 ghost use Rattle.span_counts.specs.inner.Services.{AreServices};
 
-use crate::services::services_in;
-use guest_sched::{Span, Window};
-use slot_model::{Job, Miss, Task, deadline_moment, earlier_miss};
+use crate::services::{services_by, services_in};
+use guest_sched::{ReleasedLevel, Span, Window};
+use slot_model::{Job, Miss, Sched, Task, deadline_moment, earlier_miss};
 use std::alloc::{AllocError, Global};
 
 /// What is counted of a level's run: the slots that it is given, its jobs that are released before
@@ -42,13 +44,38 @@ pub fn count_level(
         (run_of spans.now) counts) }
 {
     let got = services_in(alloc, tasks, jobs, spans)?;
-    let missed = find_missed(tasks, jobs, slots, &got);
-    Ok(Counts {
+    Ok(counts_of(tasks, jobs, given, slots, &got))
+}
+
+/// The counts of the schedule of a level by a scheduler, counted as it is made. No span of it is
+/// kept.
+pub fn counts_by(alloc: Global, level: &ReleasedLevel, sched: Sched) -> Result<Counts, AllocError>
+    ensures { let T = sporadic_tasks level.now.tasks.now in
+        IfOk result (λ counts. (run : List (Option ℕ))
+        × FirstRunOf level.now (before_of sched T) run × AreCounts T level.now.jobs.now
+        (slots_of level.now.given.now level.now.slots) run counts) }
+{
+    let got = services_by(alloc, level, sched)?;
+    Ok(counts_of(level.tasks, level.jobs, level.given, level.slots, &got))
+}
+
+/// The counts of a run in which each job gets these slots before its deadline moment.
+fn counts_of(tasks: &[Task], jobs: &[Job], given: &[Window], slots: u64, got: &[u64]) -> Counts
+    requires named { AreNamed (sporadic_tasks tasks.now) jobs.now }
+    requires in_jitter { AreInJitter (sporadic_tasks tasks.now) jobs.now }
+    requires windows { AreWindows given.now slots }
+    requires long { length got.now ≡ length jobs.now }
+    ensures { let T = sporadic_tasks tasks.now in
+        (run : List (Option ℕ)) → length run ≡ slots → AreServices T jobs.now run got.now →
+        AreCounts T jobs.now (slots_of given.now slots) run result }
+{
+    let missed = find_missed(tasks, jobs, slots, got);
+    Counts {
         given: slots_given(given),
         released: jobs_before(jobs, slots),
         missed: missed.count,
         first: missed.first,
-    })
+    }
 }
 
 /// The number of jobs that miss in a run of spans: their deadline moment is within the run, and

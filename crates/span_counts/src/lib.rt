@@ -6,6 +6,6 @@ mod counts;
 mod pending;
 mod services;
 
-pub use counts::{Counts, count_level, first_miss, misses, slots_given};
+pub use counts::{Counts, count_level, counts_by, first_miss, misses, slots_given};
 pub use pending::{Wait, Waits, count_pending, waits_by};
 pub use services::{Services, first_miss_by};

@@ -90,6 +90,25 @@ pub(crate) fn services_in(
     Ok(services.got)
 }
 
+/// The slots that each job gets before its deadline moment in the schedule of a level by a
+/// scheduler. No span of the run is kept.
+pub(crate) fn services_by(
+    alloc: Global,
+    level: &ReleasedLevel,
+    sched: Sched,
+) -> Result<Vec<u64>, AllocError>
+    ensures long { IfOk result (λ got. length got.items ≡ length level.now.jobs.now) }
+    ensures served { let T = sporadic_tasks level.now.tasks.now in
+        IfOk result (λ got. (run : List (Option ℕ)) × FirstRunOf level.now (before_of sched T) run
+        × (length run ≡ level.now.slots) × AreServices T level.now.jobs.now run got.items) }
+{
+    let mut services = Services::new(alloc, level.tasks, level.jobs)?;
+    follow_by(alloc, level, sched, &mut services)?;
+    // the slots of a level fit into 64 bits
+    let _slots = level.slots;
+    Ok(services.got)
+}
+
 /// The first miss of the schedule of a level by a scheduler: the missed job with the earliest
 /// deadline moment, and of several the first in the list. No span of the run is kept.
 pub fn first_miss_by(
@@ -101,7 +120,6 @@ pub fn first_miss_by(
         IfOk result (λ miss. (run : List (Option ℕ)) × FirstRunOf level.now (before_of sched T) run
         × IsFirstMiss T level.now.jobs.now run miss) }
 {
-    let mut services = Services::new(alloc, level.tasks, level.jobs)?;
-    follow_by(alloc, level, sched, &mut services)?;
-    Ok(find_missed(level.tasks, level.jobs, level.slots, &services.got).first)
+    let got = services_by(alloc, level, sched)?;
+    Ok(find_missed(level.tasks, level.jobs, level.slots, &got).first)
 }

@@ -10,9 +10,6 @@ pub record KeptView : Type 0 where
   pub shares : List (List Window)
   pub counts : Counts
 
-abbrev pub kept_of : NodeView → KeptView
-kept_of node = record { shares = node.shares; counts = node.counts }
-
 -- once the first k children of a node have run: its counts, the windows of the later children, and
 -- none of those that have run
 pub record IsStillKept (kept : KeptView) (node : NodeView) (k : ℕ) : Type 0 where

@@ -21,8 +21,8 @@ returns-then-level c = λ sched slots h end next.
     level.tally.first
     = subst (λ (z : ℕ). Tallies T (synchronous T 0 n) h.run (is_late T (synchronous T 0 n) h.run z 0)
     level.tally.missed level.tally.first) at h.tallied in
-    late_at_end sched T (are_constrained c.args.tasks.now) slots level h end c.close.result.missed c.close.result.first
-    (c.close.ensures sched n h.run level.come.released (omega arith)
+    late_at_end sched T (are_constrained c.args.tasks.now) slots level h end c.close.new.tally.missed
+    c.close.new.tally.first (c.close.ensures sched n h.run level.come.released (omega arith)
     (subst (λ (s : List Server). IsChosen s level.best) (sym c.deref.ensures.value) h.chosen)
     (subst (λ (s : List Server). AtRest sched T n h.run n level.come.released n s) (sym c.deref.ensures.value) rest)
     tallied)

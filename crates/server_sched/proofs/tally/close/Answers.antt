@@ -72,8 +72,8 @@ returns-then-is_none c = λ sched n run released m chosen h t.
     let T = sporadic_tasks c.args.tasks.now in
     all_in_time sched T (are_constrained c.args.tasks.now) c.requires.tasks n run c.args.moment released
     c.args.servers.now m h (subst (IsChosen c.args.servers.now)
-    (no_best c.args.best c.is_none.result c.is_none.ensures c.if-is_none.true) chosen) c.args.tally.missed
-    c.args.tally.first (length T) (omega arith) t
+    (no_best c.args.best c.is_none.result c.is_none.ensures c.if-is_none.true) chosen) c.args.tally.now.missed
+    c.args.tally.now.first (length T) (omega arith) t
 
 pub returns : goal.returns
 returns c = λ sched n run released m chosen h t.

@@ -11,10 +11,10 @@ invariant-loop-i l = record {
   tallied : (sched : Sched) (n : ℕ) (run : List (Option ℕ)) (released : ℕ) → l.moment ≤ n → IsChosen l.servers l.fn.best
       → AtRest sched (sporadic_tasks l.tasks) n run l.moment released l.moment l.servers
       → Tallies (sporadic_tasks l.tasks) (synchronous (sporadic_tasks l.tasks) 0 n) run
-      (is_late (sporadic_tasks l.tasks) (synchronous (sporadic_tasks l.tasks) 0 n) run l.moment 0) l.fn.tally.missed
-      l.fn.tally.first
+      (is_late (sporadic_tasks l.tasks) (synchronous (sporadic_tasks l.tasks) 0 n) run l.moment 0)
+      l.initial.tally.missed l.initial.tally.first
       → Tallies (sporadic_tasks l.tasks) (synchronous (sporadic_tasks l.tasks) 0 n) run
       (is_late (sporadic_tasks l.tasks) (synchronous (sporadic_tasks l.tasks) 0 n) run l.moment l.i) l.tally.missed
       l.tally.first;
-  few : l.tally.missed ≤ l.fn.tally.missed + l.i;
+  few : l.tally.missed ≤ l.initial.tally.missed + l.i;
 }

@@ -10,7 +10,7 @@ use Rattle.server_sched.specs.declared.serving.Server.{Server}
 use Rattle.server_sched.specs.inner.Serving.{AtRest, AtMoment, IsChosen, Tallies, is_late, IsUnderway}
 use Rattle.server_sched.proofs.Underway.{made_released, at_moment}
 use Rattle.server_sched.proofs.Tallying.{next_late}
-use Rattle.server_sched.proofs.level.Level.turn.Goals as goal
+use Rattle.server_sched.proofs.level.Level.renew_now.Goals as goal
 
 -- the moment's rest, where the next jobs come now
 at_rest : (sched : Sched) (tasks : List SporadicTask) (slots : List Bool) (level : Level)
@@ -37,7 +37,7 @@ renewed sched tasks slots level before after released next same e m h of_any =
 
 pub returns-clause-run : goal.returns-clause-run
 returns-clause-run c = λ slots m h.
-    let e : c.args.self.now.come.next ≡ c.args.self.now.time = omega (arith, c.if-self.false) in
+    let e : c.args.self.now.come.next ≡ c.args.self.now.time = c.requires.now in
     let T = sporadic_tasks c.args.tasks.now in
     let level = c.args.self.now in
     let jobs = synchronous T 0 level.slots in
@@ -45,7 +45,7 @@ returns-clause-run c = λ slots m h.
     = subst (λ (z : ℕ). Tallies T jobs h.run (is_late T jobs h.run z 0) level.tally.missed level.tally.first) e
     h.tallied in
     let closed
-    = c.close-self.ensures c.args.sched level.slots h.run level.come.released (omega (arith, m))
+    = c.close.ensures c.args.sched level.slots h.run level.come.released (omega (arith, m))
     (subst (λ (s : List Server). IsChosen s level.best) (sym c.as_slice-late.ensures.value) h.chosen)
     (subst (λ (s : List Server). AtRest c.args.sched T level.slots h.run level.time level.come.released
     level.time s) (sym c.as_slice-late.ensures.value) (at_rest c.args.sched T slots level e h)) tallied in
@@ -66,11 +66,11 @@ returns-clause-run c = λ slots m h.
       tallied =
           next_late c.args.sched T (are_constrained c.args.tasks.now) c.requires.tasks level.slots h.run level.time
           c.renew-self.result.released c.renew-self.result.next c.renew-self.new.servers now.1 now.0
-          c.close-self.result.missed c.close-self.result.first closed;
+          c.close.new.tally.missed c.close.new.tally.first closed;
     }
 
 pub returns-clause-next : goal.returns-clause-next
 returns-clause-next c = λ slots m h.
     (renewed c.args.sched (sporadic_tasks c.args.tasks.now) slots c.args.self.now c.deref_mut.result.now
-    c.renew-self.new.servers _ _ c.deref_mut.ensures.value (omega (arith, c.if-self.false)) m h
+    c.renew-self.new.servers _ _ c.deref_mut.ensures.value c.requires.now m h
     c.renew-self.ensures.rest).1
