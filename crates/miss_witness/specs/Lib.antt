@@ -1,2 +1,3 @@
 pub mod Defeat
 pub mod Replay
+pub mod inner

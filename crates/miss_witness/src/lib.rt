@@ -3,6 +3,7 @@
 #![tactic(auto)]
 
 mod defeat;
+mod due_last;
 mod jobs;
 mod replay;
 mod replays;

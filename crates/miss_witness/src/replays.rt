@@ -3,13 +3,16 @@ ghost use Rattle.slot_model.specs.declared.task.TheConstants.{LIMIT};
 ghost use Rattle.slot_model.specs.Task.{sporadic_tasks};
 ghost use Rattle.slot_model.specs.Supply.{worst_slot};
 ghost use Rattle.slot_model.specs.Order.{before_of};
+ghost use Rattle.slot_model.specs.Bound.{sbf};
 ghost use Rattle.slot_model.specs.Miss.{MissesFromStart, WorstList};
 ghost use Rattle.tree_model.specs.System.{part_at, is_computed_leaf};
 ghost use Rattle.tree_model.specs.Tree.{budget_at};
 ghost use Rattle.tree_model.specs.Admission.{Admitted};
 ghost use Rattle.compose_tree.specs.Shorts.{AreShorts, IsShortOf};
+ghost use Rattle.miss_witness.specs.Defeat.{IsShortWindow};
 ghost use Rattle.miss_witness.specs.Replay.{AreReplays, IsReplay, IsReplayed};
 
+use crate::due_last::miss_at_end;
 use crate::witnesses::defeat_by;
 use crate::{Defeat, Replay, witness_jobs};
 use compose_tree::Composed;
@@ -106,6 +109,9 @@ fn seen_miss(
     requires some_period { 1 ≤ period }
     requires in_limit { period ≤ LIMIT }
     requires in_period { defeat.now.budget ≤ period }
+    requires at_start { defeat.now.start ≡ defeat.now.budget }
+    requires short { let bound = sbf period defeat.now.budget in
+        IsShortWindow sched (sporadic_tasks tasks.now) bound defeat.now.span defeat.now.task }
     requires misses { (slots : List Bool) →
         WorstList (worst_slot period defeat.now.budget) defeat.now.start defeat.now.span slots →
         MissesFromStart (worst_slot period defeat.now.budget) defeat.now.start defeat.now.span
@@ -116,6 +122,34 @@ fn seen_miss(
     let Some(slots) = window_end(defeat) else {
         return Ok(None);
     };
+    match sched {
+        Sched::Edf => Ok(Some(miss_at_end(tasks, period, defeat, slots - defeat.start))),
+        _ => run_defeat(alloc, sched, tasks, period, defeat, slots),
+    }
+}
+
+/// The first miss when they are run up to `slots`, where the window ends.
+fn run_defeat(
+    alloc: Global,
+    sched: Sched,
+    tasks: &[Task],
+    period: u64,
+    defeat: &Defeat,
+    slots: u64,
+) -> Result<Option<Miss>, AllocError>
+    requires few { length tasks.now ≤ 256 }
+    requires some_period { 1 ≤ period }
+    requires in_limit { period ≤ LIMIT }
+    requires in_period { defeat.now.budget ≤ period }
+    requires end { slots ≡ defeat.now.start + defeat.now.span }
+    requires in_reach { slots ≤ 1000000 }
+    requires misses { (slots : List Bool) →
+        WorstList (worst_slot period defeat.now.budget) defeat.now.start defeat.now.span slots →
+        MissesFromStart (worst_slot period defeat.now.budget) defeat.now.start defeat.now.span
+        (before_of sched (sporadic_tasks tasks.now)) (sporadic_tasks tasks.now) slots }
+    ensures { IfOk result
+        (λ miss. IsReplayed sched (sporadic_tasks tasks.now) period defeat.now miss) }
+{
     let supply = Periodic {
         period,
         budget: defeat.budget,

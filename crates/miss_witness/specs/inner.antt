@@ -1,0 +1,2 @@
+-- What only private functions promise each other.
+pub mod DueLast
