@@ -5,6 +5,7 @@ use Rattle.tree_model.specs.Lists.{first_of}
 use Rattle.tree_model.proofs.Lists.{first_here, first_later, none_both}
 use Rattle.slot_model.proofs.HandedOn.{handed_on}
 use Rattle.system_file.specs.Faults.{core_keys, core_key_faults, table_faults}
+use Rattle.system_file.proofs.ListedKeys.{unknown_first}
 use Rattle.system_file.proofs.cores.core_of.Goals as goal
 use Rattle.system_file.proofs.cores.core_of.Goals.{In_ok-check_keys}
 
@@ -14,6 +15,12 @@ judged : (c : In_ok-check_keys) (earlier : List Data)
     (table (entries_view c.args.table.now))
     ≡ core_key_faults c.args.spot earlier (table (entries_view c.args.table.now))
 judged c earlier = rw c.in_ok-check_keys.ensures.ok refl
+
+pub returns-in_err-check_keys-clause-fault : goal.returns-in_err-check_keys-clause-fault
+returns-in_err-check_keys-clause-fault c =
+    let step = c.from_residual in
+    handed_on step.result _ _ step.ensures.1 (λ memory earlier have.
+    unknown_first c.args.spot core_keys (entries_view c.args.table.now) _ _ c.in_err-check_keys.ensures.fault)
 
 pub returns-in_err-name-clause-fault : goal.returns-in_err-name-clause-fault
 returns-in_err-name-clause-fault c =

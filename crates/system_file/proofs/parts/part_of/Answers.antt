@@ -10,6 +10,7 @@ use Rattle.system_file.specs.declared.fault.Spot.TheVariants.{Part}
 use Rattle.system_file.specs.Document.{tasks_of}
 use Rattle.system_file.specs.Faults.{has_only, in_order, part_faults, part_keys, part_key_faults, task_faults}
 use Rattle.system_file.specs.inner.Reading.{Known}
+use Rattle.system_file.proofs.ListedKeys.{unknown_first}
 use Rattle.system_file.proofs.Places.{as_many}
 use Rattle.system_file.proofs.parts.part_of.Goals as goal
 
@@ -21,6 +22,14 @@ judged : {cores before later : List Data} {members : Members} {count : ℕ} {nam
     ≡ part_key_faults (Part (length earlier)) cores before (table members)
     ++ in_order (task_faults format (length earlier)) [] (tasks_of (table members))
 judged format listed known = rw (as_many known, listed) refl
+
+pub returns-in_err-check_keys-clause-fault : goal.returns-in_err-check_keys-clause-fault
+returns-in_err-check_keys-clause-fault c =
+    let step = c.from_residual in
+    handed_on step.result _ _ step.ensures.1 (λ memory cores before later known.
+    rw (as_many known)
+    (unknown_first (Part (length c.args.earlier.now)) part_keys (entries_view c.args.table.now) _ _
+    c.in_err-check_keys.ensures.fault))
 
 pub returns-in_err-name-clause-fault : goal.returns-in_err-name-clause-fault
 returns-in_err-name-clause-fault c =
