@@ -5,6 +5,7 @@ pub mod Named
 pub mod Fits
 pub mod WrittenKinds
 pub mod Laws
+mod ListedKeys
 pub mod Systems
 pub mod Texts
 pub mod Found

@@ -7,16 +7,16 @@ ghost use Rattle.system_file.specs.Document.{spelled_core, spelled_task};
 ghost use Rattle.system_file.specs.Faults.{core_faults, task_faults};
 ghost use Rattle.system_file.specs.inner.Plain.{ReadsElement, ReadsList, ReadsPart, ReadsServer};
 
-use crate::cores::read_core;
+use crate::cores::core_of;
 use crate::format::Format;
 use crate::keys::find;
 use crate::names::{Names, new_name};
-use crate::parts::read_part;
+use crate::parts::part_of;
 use crate::tasks::task_of;
 use crate::told::told_task;
 use crate::{Spot, SystemFault};
 use std::alloc::Global;
-use toml_items::{Entry, Header, Item, element, header_again, header_in, pairs, pairs_into};
+use toml_items::{Entry, Header, element, header_again, header_in, pairs, pairs_into};
 use tree_model::{Core, Named, Part};
 
 /// A core, and the text behind it.
@@ -42,8 +42,7 @@ pub fn core_at<'t>(
     let Some(found) = element(alloc, header, text)? else {
         return Err(SystemFault::NotToml);
     };
-    let value = Item::Table(found.entries);
-    let core = read_core(alloc, &value, Spot::Core(place as u32), names)?;
+    let core = core_of(alloc, &found.entries, Spot::Core(place as u32), names)?;
     Ok(CoreThere {
         core,
         rest: found.rest,
@@ -209,8 +208,7 @@ fn server_at<'t>(
     if !is_left_out(&found.entries, "task") {
         return Err(SystemFault::NotToml);
     }
-    let value = Item::Table(found.entries);
-    let part = read_part(alloc, &value, format, cores, earlier, names, tasks)?;
+    let part = part_of(alloc, &found.entries, format, cores, earlier, names, tasks)?;
     Ok(PartThere {
         part,
         rest: found.rest,

@@ -1,5 +1,5 @@
 ghost use Rattle.std.specs.Prelude.{◌≡◌, ◌≢◌, ◌≤◌, List, [], ◌∷◌, ◌++◌, length, map, codes, IfOk, IfErr};
-ghost use Rattle.toml.specs.Data.{Data, get_member};
+ghost use Rattle.toml.specs.Data.{Data, get_member, table as toml_table};
 ghost use Rattle.toml_items.specs.Item.{item_view, entries_view};
 ghost use Rattle.tree_model.specs.Lists.{first_of};
 ghost use Rattle.system_file.specs.declared.fault.SystemFault.TheVariants.{NoMemory};
@@ -40,7 +40,7 @@ fn supply_at(table: &[Entry<'_>], spot: Spot) -> Result<Option<(u64, u64)>, Syst
 }
 
 /// A core, whose name is put behind the names of the cores before it.
-pub fn read_core<'t>(
+fn read_core<'t>(
     alloc: Global,
     value: &Item<'t>,
     spot: Spot,
@@ -57,6 +57,25 @@ pub fn read_core<'t>(
         first_of (table_faults spot core_keys (core_key_faults spot earlier d) d) ≡ Some fault) }
 {
     let table = table_of(value, spot)?;
+    core_of(alloc, table, spot, names)
+}
+
+/// The core of a table, whose name is put behind the names of the cores before it.
+pub fn core_of<'t>(
+    alloc: Global,
+    table: &[Entry<'t>],
+    spot: Spot,
+    names: &mut Names<'t>,
+) -> Result<Core, SystemFault>
+    ensures ok { IfOk result (λ core. (earlier : List Data) → HaveNames earlier names.old →
+        let d = toml_table (entries_view table.now) in
+        (table_faults spot core_keys (core_key_faults spot earlier d) d ≡ [])
+        × (core ≡ spelled_core d) × HaveNames (earlier ++ d ∷ []) names.new) }
+    ensures fault { IfErr result (λ fault. fault ≢ NoMemory → (earlier : List Data) →
+        HaveNames earlier names.old →
+        let d = toml_table (entries_view table.now) in
+        first_of (table_faults spot core_keys (core_key_faults spot earlier d) d) ≡ Some fault) }
+{
     check_keys(
         table,
         &["name", "sched", "supply_period", "supply_budget"],

@@ -5,9 +5,9 @@ ghost use Rattle.toml_items.specs.Item.{item_view, entries_view};
 ghost use Rattle.tree_model.specs.System.{IsGivenBudget};
 ghost use Rattle.tree_model.specs.Lists.{first_of};
 ghost use Rattle.system_file.specs.declared.fault.SystemFault.TheVariants.{NoMemory};
-ghost use Rattle.system_file.specs.Document.{flag_of, given_number, number_of, parent_at as parent_in, parent_named, spelled_part, tasks_of};
+ghost use Rattle.system_file.specs.Document.{flag_of, given_number, number_of, parent_at as parent_in, parent_named, sched_at as sched_in, spelled_part, tasks_of};
 ghost use Rattle.system_file.specs.Faults.{in_order, parent_faults, part_faults, required, server_faults, text_faults};
-ghost use Rattle.system_file.specs.inner.Reading.{HaveNames, Known, has_child, is_empty_part, part_in, ParentsAmong};
+ghost use Rattle.system_file.specs.inner.Reading.{HaveNames, Known, has_child, is_empty_part, part_in, ParentsAmong, placed_faults};
 
 use crate::format::Format;
 use crate::keys::{
@@ -16,7 +16,7 @@ use crate::keys::{
 use crate::names::{Names, name_at};
 use crate::tasks::read_tasks;
 use crate::{Spot, SystemFault};
-use slot_model::LIMIT;
+use slot_model::{LIMIT, Sched};
 use std::alloc::{AllocError, Global};
 use toml_items::{Entry, Item};
 use tree_model::{Parent, Part};
@@ -119,9 +119,62 @@ fn served_at<'e, 't>(table: &'e [Entry<'t>], spot: Spot) -> Result<Served<'e, 't
     })
 }
 
+/// Where a part stands, and how it is served.
+#[derive(Clone, Copy)]
+struct Placed<'e, 't> {
+    parent: Parent,
+    sched: Sched,
+    served: Served<'e, 't>,
+}
+
+/// What the keys of a part say but its name, which stands behind those of the cores and the parts
+/// before it.
+fn placed_at<'e, 't>(
+    table: &'e [Entry<'t>],
+    names: &Names,
+    cores: usize,
+    earlier: &[Part],
+    spot: Spot,
+) -> Result<Placed<'e, 't>, SystemFault>
+    requires few_cores { cores ≤ 64 }
+    requires few_parts { length earlier.now < 512 }
+    requires names { length names.now ≡ cores + (length earlier.now + 1) }
+    ensures parent { IfOk result (λ placed. (core_elements before later : List Data) →
+        (known : List (List ℕ)) (own : List ℕ) → names.now ≡ known ++ own ∷ [] →
+        Known core_elements before later cores known earlier.now →
+        let d = toml_table (entries_view table.now) in
+        (placed_faults spot core_elements before d ≡ [])
+        × (placed.parent ≡ parent_in core_elements (before ++ later) d)) }
+    ensures sched { IfOk result (λ placed.
+        placed.sched ≡ sched_in (toml_table (entries_view table.now))) }
+    ensures served { IfOk result (λ placed. let d = toml_table (entries_view table.now) in
+        (placed.served.period ≡ number_of (get (codes "period") d))
+        × (placed.served.budget ≡ given_number (get (codes "budget") d))
+        × (placed.served.extra ≡ flag_of (get (codes "extra") d))
+        × (map item_view placed.served.tasks.now ≡ tasks_of d)) }
+    ensures range { IfOk result (λ placed.
+        (1 ≤ placed.served.period) × (placed.served.period ≤ LIMIT)
+        × IsGivenBudget placed.served.period placed.served.budget
+        × (length placed.served.tasks.now ≤ 256)) }
+    ensures fault { IfErr result (λ fault. (core_elements before later : List Data) →
+        (known : List (List ℕ)) (own : List ℕ) → names.now ≡ known ++ own ∷ [] →
+        Known core_elements before later cores known earlier.now →
+        first_of (placed_faults spot core_elements before (toml_table (entries_view table.now)))
+        ≡ Some fault) }
+{
+    let parent = parent_at(table, names, cores, earlier, spot)?;
+    let sched = sched_at(table, spot)?;
+    let served = served_at(table, spot)?;
+    Ok(Placed {
+        parent,
+        sched,
+        served,
+    })
+}
+
 /// A part, whose name is put behind the names of the cores and the parts before it. `tasks` is a
 /// set for the names of its tasks.
-pub fn read_part<'t>(
+fn read_part<'t>(
     alloc: Global,
     value: &Item<'t>,
     format: Format,
@@ -146,9 +199,39 @@ pub fn read_part<'t>(
         Known core_elements before (item_view value.now ∷ later) cores names.old earlier.now →
         first_of (part_faults format core_elements before (item_view value.now)) ≡ Some fault) }
 {
+    let table = table_of(value, Spot::Part(earlier.len() as u32))?;
+    part_of(alloc, table, format, cores, earlier, names, tasks)
+}
+
+/// The part of a table, whose name is put behind the names of the cores and the parts before it.
+/// `tasks` is a set for the names of its tasks.
+pub fn part_of<'t>(
+    alloc: Global,
+    table: &[Entry<'t>],
+    format: Format,
+    cores: usize,
+    earlier: &[Part],
+    names: &mut Names<'t>,
+    tasks: &mut Names<'t>,
+) -> Result<Part, SystemFault>
+    requires few_cores { cores ≤ 64 }
+    requires few_parts { length earlier.now < 512 }
+    requires names { length names.old ≡ cores + length earlier.now }
+    ensures named { OnOk result (length names.new ≡ length names.old + 1) }
+    ensures ok { IfOk result (λ part. (core_elements before later : List Data) →
+        let d = toml_table (entries_view table.now) in
+        Known core_elements before (d ∷ later) cores names.old earlier.now →
+        (part_faults format core_elements before d ≡ [])
+        × (part ≡ spelled_part core_elements (before ++ d ∷ later) d)
+        × HaveNames (core_elements ++ (before ++ d ∷ [])) names.new) }
+    ensures fault { IfErr result (λ fault. fault ≢ NoMemory →
+        (core_elements before later : List Data) →
+        let d = toml_table (entries_view table.now) in
+        Known core_elements before (d ∷ later) cores names.old earlier.now →
+        first_of (part_faults format core_elements before d) ≡ Some fault) }
+{
     let place = earlier.len() as u32;
     let spot = Spot::Part(place);
-    let table = table_of(value, spot)?;
     check_keys(
         table,
         &[
@@ -157,14 +240,13 @@ pub fn read_part<'t>(
         spot,
     )?;
     let name = name_at(alloc, table, names, spot)?;
-    let parent = parent_at(table, names, cores, earlier, spot)?;
-    let sched = sched_at(table, spot)?;
-    let served = served_at(table, spot)?;
+    let placed = placed_at(table, names, cores, earlier, spot)?;
+    let served = placed.served;
     let tasks = read_tasks(alloc, served.tasks, format, place, tasks)?;
     Ok(Part {
         name,
-        parent,
-        sched,
+        parent: placed.parent,
+        sched: placed.sched,
         period: served.period,
         budget: served.budget,
         extra: served.extra,

@@ -8,7 +8,9 @@ use Rattle.tree_model.specs.declared.pinned_core.Core.{Core as CoreView}
 use Rattle.tree_model.specs.View.{PartView}
 use Rattle.tree_model.specs.System.{is_leaf, no_part}
 use Rattle.system_file.specs.Document.{cores_of, format_of, parts_of, spelled_core, spelled_part}
-use Rattle.system_file.specs.Faults.{core_faults, in_order, part_faults, top_faults}
+use Rattle.system_file.specs.declared.fault.Spot.{Spot}
+use Rattle.system_file.specs.declared.fault.SystemFault.{SystemFault}
+use Rattle.system_file.specs.Faults.{core_faults, in_order, parent_faults, part_faults, required, sched_faults, server_faults, text_faults, top_faults}
 
 -- these elements have these names, one each
 abbrev pub HaveNames : List Data → List (List ℕ) → Type 0
@@ -22,6 +24,13 @@ pub record Known (cores earlier later : List Data) (core_count : ℕ) (names : L
   pub counted : length cores ≡ core_count
   pub named : HaveNames (cores ++ earlier) names
   pub spelled : parts ≡ map (spelled_part cores (earlier ++ later)) earlier
+
+-- the faults of the keys of a part behind its name
+abbrev pub placed_faults : Spot → List Data → List Data → Data → List SystemFault
+placed_faults spot cores earlier d =
+    required spot (text_faults spot (parent_faults spot cores earlier)) (get (codes "parent") d) ++
+    (required spot (text_faults spot (sched_faults spot)) (get (codes "sched") d) ++
+    server_faults spot d)
 
 -- part q is the parent of one of these parts
 abbrev pub is_on : ℕ → Parent → Bool

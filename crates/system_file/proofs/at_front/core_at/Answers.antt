@@ -1,11 +1,10 @@
 use Rattle.toml_items.specs.Item.{entries_view}
-use Rattle.toml_items.proofs.Items.{item_view-Table}
 use Rattle.system_file.proofs.at_front.core_at.Goals as goal
 
 pub returns : goal.returns
 returns c =
     let found = c.in-Some.found in
-    let ok = rw (item_view-Table found.entries) at c.in_ok-core.ensures.ok in
+    let ok = rw c.deref.ensures.value at c.in_ok-core.ensures.ok in
     record {
       members = entries_view found.entries.items;
       reads = rw c.in-Some.is at c.in_ok-found.ensures.reads;

@@ -6,6 +6,7 @@ use Rattle.tree_model.proofs.Lists.{first_here, first_later, none_both}
 use Rattle.slot_model.proofs.HandedOn.{handed_on}
 use Rattle.system_file.specs.declared.fault.SystemFault.{SystemFault}
 use Rattle.system_file.specs.Faults.{table_faults, task_keys}
+use Rattle.system_file.proofs.ListedKeys.{unknown_first}
 use Rattle.system_file.proofs.tasks.task_of.Goals as goal
 use Rattle.system_file.proofs.tasks.task_of.Goals.{In_ok-check_keys}
 
@@ -13,6 +14,13 @@ use Rattle.system_file.proofs.tasks.task_of.Goals.{In_ok-check_keys}
 judged : (c : In_ok-check_keys) (at_keys : List SystemFault)
     → table_faults c.args.spot (task_keys c.args.format) at_keys (table (entries_view c.args.table.now)) ≡ at_keys
 judged c at_keys = rw (← c.task_keys.ensures, c.in_ok-check_keys.ensures.ok) refl
+
+pub returns-in_err-check_keys-clause-fault : goal.returns-in_err-check_keys-clause-fault
+returns-in_err-check_keys-clause-fault c =
+    let step = c.from_residual in
+    handed_on step.result _ _ step.ensures.1 (λ memory earlier have.
+    unknown_first c.args.spot (task_keys c.args.format) (entries_view c.args.table.now) _ _
+    (rw c.task_keys.ensures at c.in_err-check_keys.ensures.fault))
 
 pub returns-in_err-name-clause-fault : goal.returns-in_err-name-clause-fault
 returns-in_err-name-clause-fault c =
