@@ -18,6 +18,7 @@ pub mod PrintedCore
 pub mod PrintedNames
 pub mod PrintedWalk
 mod Examples
+mod FaultExamples
 pub mod PrintedPart
 pub mod PrintedParents
 pub mod PrintedSystem
