@@ -1,7 +1,8 @@
 -- What the answers to one system mean, taken apart. A definition that says less breaks one of
 -- these.
-use Rattle.std.proofs.Common.{◌≡◌, ℕ, ◌<◌, Bool, List, Option, Some, arith, subst}
-use Rattle.std.specs.Prelude.{Ok, slice_get, slice_index}
+use Rattle.std.proofs.Common.{◌≡◌, ℕ, ◌<◌, Bool, List, Option, Some, arith, refl, subst}
+use Rattle.std.specs.Prelude.{Ok, Err, codes, slice_get, slice_index}
+use Rattle.std.specs.Fmt.{digits}
 use Rattle.tree_model.specs.View.{SystemView}
 use Rattle.tree_model.specs.Tree.{NoLoss, budget_at}
 use Rattle.slot_model.specs.declared.sched.Short.{Short}
@@ -20,12 +21,17 @@ use Rattle.miss_witness.specs.Defeat.{Defeats}
 use Rattle.miss_witness.specs.Replay.{AreReplays, AllDefeat}
 use Rattle.rt_report.specs.Admit.{admit_text}
 use Rattle.rt_report.specs.Refusal.{refusal_text}
-use Rattle.command_steps.specs.declared.status.Status.TheVariants.{Yes, No}
+use Rattle.command_steps.specs.declared.status.Status.TheVariants.{Yes, No, BadFile}
 use Rattle.admit_commands.specs.Admit.{MeansOfSystem}
 use Rattle.tree_model.specs.CertificateView.{NodeView}
 use Rattle.cert_reader.specs.CertificateFile.{certificate_of}
 use Rattle.cert_verify.specs.Proves.{budgets_of, Proves}
 use Rattle.admit_commands.specs.Certify.{IsProof, CertificateMeans}
+use Rattle.admit_commands.specs.Check.{spelling, ChecksNodes}
+use Rattle.cert_reader.specs.declared.fault.CertFault.TheVariants.{NotJson, TooMany}
+use Rattle.rt_report.specs.Check.{check_text}
+use Rattle.cert_verify.specs.declared.flaw.Flaw.{Flaw}
+use Rattle.cert_verify.specs.Flaws.{FirstFlaw}
 
 -- a yes tells budgets that admit the system, that lose no job, and that can't be smaller at a
 -- computed leaf
@@ -87,3 +93,17 @@ what_a_proof_says : (sys : SystemView) (nodes : List NodeView) → IsProof sys n
     → Proves sys nodes × Admitted sys (budgets_of sys nodes) × NoLoss sys (budgets_of sys nodes)
     × IsTight sys (budgets_of sys nodes)
 what_a_proof_says sys nodes proof = (proof.proves, proof.admitted, proof.no_loss, proof.tight)
+
+-- `check`: a fault of the certificate is told of the second file, and a flaw by its own line
+faults_of_the_certificate : (bytes : List ℕ) →
+    ((spelling bytes).status_of NotJson ≡ BadFile)
+    × ((spelling bytes).text_of NotJson ≡ codes "fault=NotJson file=2\n")
+    × ((spelling bytes).text_of TooMany ≡ codes "fault=TooMany file=2\n")
+unfolding digits
+faults_of_the_certificate bytes = (refl, refl, refl)
+
+what_checking_tells : (sys : SystemView) (nodes : List NodeView) (text : List ℕ) →
+    (ChecksNodes sys nodes Yes text → Proves sys nodes × (text ≡ codes "verdict=yes\n"))
+    × (ChecksNodes sys nodes No text
+    → (flaw : Flaw) × FirstFlaw sys nodes flaw × (text ≡ check_text sys (Err flaw)))
+what_checking_tells sys nodes text = (λ h. h, λ h. (h.flaw, h.first, h.told))

@@ -32,6 +32,15 @@ another_format : certificate_of (codes "{\"format\":2,\"nodes\":[]}") ≡ Err Ba
 unfolding serde_json_on_literals is_utf8 chars certificate_of
 another_format = refl
 
+-- in any order and with spaces, and of a key that stands twice the last value
+keys_in_any_order : certificate_of (codes "{ \"nodes\" : [ ] , \"format\" : 1 }\n") ≡ Ok []
+unfolding serde_json_on_literals is_utf8 chars certificate_of
+keys_in_any_order = refl
+
+the_last_value_counts : certificate_of (codes "{\"format\":2,\"nodes\":[],\"format\":1}") ≡ Ok []
+unfolding serde_json_on_literals is_utf8 chars certificate_of
+the_last_value_counts = refl
+
 a_key_more : certificate_of (codes "{\"format\":1,\"nodes\":[],\"more\":[]}") ≡ Err WrongShape
 unfolding serde_json_on_literals is_utf8 chars certificate_of
 a_key_more = refl

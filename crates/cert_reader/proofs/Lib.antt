@@ -8,3 +8,4 @@ pub mod Pieces
 pub mod Standing
 mod Examples
 mod FaultExamples
+mod PrintedExamples

@@ -18,6 +18,7 @@ use Rattle.tree_model.specs.declared.place.Place.TheVariants.{Core}
 use Rattle.command_steps.specs.TwoFiles.{OnTwoFiles}
 use Rattle.std.proofs.lemmas.Bool.{cond-true, cond-false, le-leb}
 use Rattle.command_steps.specs.Reading.{read_of, is_system_file, read_in}
+use Rattle.command_steps.specs.Statuses.{status_number}
 
 -- files count from 1, and past the last there is none
 files_count_from_one : (a b : Option (List ℕ))
@@ -97,6 +98,13 @@ the_first_is_absent second text status Says h = h
 -- the statuses of refusals
 statuses_of_refusals : (refusal_status (Overfull (Core 0) (At 20)) ≡ No) × (refusal_status (TooWide (Core 0)) ≡ Wide)
 statuses_of_refusals = (refl, refl)
+
+-- the number with which the program ends
+numbers_of_statuses : (status_number Yes ≡ 0) × (status_number No ≡ 1) × (status_number Usage ≡ 2)
+    × (status_number BadFile ≡ 3) × (status_number Wide ≡ 4) × (status_number Absent ≡ 5)
+    × (status_number ReadFault ≡ 6) × (status_number TooLong ≡ 7) × (status_number WriteFault ≡ 8)
+    × (status_number NoMemory ≡ 9)
+numbers_of_statuses = (refl, refl, refl, refl, refl, refl, refl, refl, refl, refl)
 
 -- neither a status nor a text alone is one answer
 two_statuses_are_not_one : IsOne (λ (status : Status) (text : List ℕ). text ≡ []) → ⊥

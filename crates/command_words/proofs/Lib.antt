@@ -1,3 +1,4 @@
 pub mod Laws
 mod Taking
 mod WordExamples
+mod CommandExamples

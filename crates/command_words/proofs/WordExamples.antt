@@ -3,7 +3,9 @@ use Rattle.std.proofs.Common.{◌≡◌, ℕ, List, [], ◌∷◌, Some, None, r
 use Rattle.std.specs.Prelude.{codes, bytes_eq, option_map, option_and_then, if◌then◌else◌}
 use Rattle.command_words.specs.Numbers.{guest_number}
 use Rattle.command_words.specs.PeriodWords.{range_of}
-use Rattle.command_words.specs.Commands.{admit, certify, check, audit, bulk, interface, choose, session, place, isolate, slack, tally, responses, one_word, two_words, rtds_of, simulate_of, interface_of, choose_of, version_of, command_of, usage_line}
+use Rattle.command_words.specs.SlotWords.{slot_count, pattern_of}
+use Rattle.command_words.specs.Commands.{admit, certify, check, rtds, audit, simulate, bulk, interface, choose, session, place, isolate, slack, tally, responses, version, one_word, two_words, rtds_of, simulate_of, interface_of, choose_of, version_of, command_of, usage_line}
+use Rattle.server_sched.specs.declared.supplies.Pattern.TheVariants.{Early, Late, Worst}
 
 -- `admit` and one file, and nothing else
 a_file_to_admit : command_of (codes "admit" ∷ codes "host.toml" ∷ []) ≡ Some (admit (codes "host.toml"))
@@ -33,6 +35,37 @@ no_deadline :
     × (command_of (codes "interface" ∷ codes "a" ∷ codes "ctl" ∷ codes "07" ∷ []) ≡ None)
     × (command_of (codes "interface" ∷ codes "a" ∷ codes "ctl" ∷ []) ≡ None)
 no_deadline = (refl, refl, refl, refl)
+
+-- a run over slots: the files in the order of the words, then the pattern, and last the slots
+words_of_a_run :
+    (command_of (codes "rtds" ∷ codes "a" ∷ codes "b" ∷ codes "50" ∷ []) ≡ Some (rtds (codes "a") (codes "b") 50))
+    × (command_of (codes "simulate" ∷ codes "a" ∷ codes "b" ∷ codes "early" ∷ codes "50" ∷ [])
+    ≡ Some (simulate (codes "a") (codes "b") Early 50))
+    × (command_of (codes "simulate" ∷ codes "a" ∷ codes "b" ∷ codes "50" ∷ codes "early" ∷ []) ≡ None)
+    × (command_of (codes "simulate" ∷ codes "a" ∷ codes "b" ∷ codes "50" ∷ []) ≡ None)
+    × (command_of (codes "rtds" ∷ codes "a" ∷ codes "b" ∷ codes "late" ∷ codes "50" ∷ []) ≡ None)
+words_of_a_run = (refl, refl, refl, refl, refl)
+
+patterns : (pattern_of (codes "early") ≡ Some Early) × (pattern_of (codes "late") ≡ Some Late)
+    × (pattern_of (codes "worst") ≡ Some Worst) × (pattern_of (codes "Worst") ≡ None) × (pattern_of [] ≡ None)
+patterns = (refl, refl, refl, refl, refl)
+
+-- from 1 to 1,000,000 slots, and from 1 to 256 guests
+numbers_of_slots : (slot_count (codes "0") ≡ None) × (slot_count (codes "1") ≡ Some 1)
+    × (slot_count (codes "1000000") ≡ Some 1000000) × (slot_count (codes "1000001") ≡ None)
+    × (slot_count (codes "050") ≡ None) × (slot_count (codes "+50") ≡ None) × (slot_count [] ≡ None)
+numbers_of_slots = (refl, refl, refl, refl, refl, refl, refl)
+
+numbers_of_guests : (command_of (codes "bulk" ∷ codes "0" ∷ []) ≡ None)
+    × (command_of (codes "bulk" ∷ codes "1" ∷ []) ≡ Some (bulk 1))
+    × (command_of (codes "bulk" ∷ codes "256" ∷ []) ≡ Some (bulk 256))
+    × (command_of (codes "bulk" ∷ codes "257" ∷ []) ≡ None)
+    × (command_of (codes "bulk" ∷ []) ≡ None) × (command_of (codes "bulk" ∷ codes "8" ∷ codes "8" ∷ []) ≡ None)
+numbers_of_guests = (refl, refl, refl, refl, refl, refl)
+
+the_version_alone :
+    (command_of (codes "version" ∷ []) ≡ Some version) × (command_of (codes "version" ∷ codes "a" ∷ []) ≡ None)
+the_version_alone = (refl, refl)
 
 -- as many as 10,000 periods, and no range that falls
 a_range_of_periods :

@@ -1,6 +1,6 @@
 -- Worked texts: each is spelled out by hand, and what defines it comes to just this.
 use Rattle.slot_model.specs.Task.{plain_task}
-use Rattle.std.proofs.Common.{◌≡◌, ℕ, false, List, [], ◌∷◌, Option, Some, None, refl}
+use Rattle.std.proofs.Common.{◌≡◌, ℕ, false, List, [], ◌∷◌, ◌++◌, Option, Some, None, refl}
 use Rattle.std.specs.Prelude.{codes, Ok, Err}
 use Rattle.std.specs.Fmt.{digits}
 use Rattle.slot_model.specs.declared.sched.Sched.TheVariants.{Edf, Rm}
@@ -39,6 +39,8 @@ use Rattle.rt_report.specs.Session.{session_text}
 use Rattle.rt_report.specs.Slack.{slack_text}
 use Rattle.rt_report.specs.Tally.{tally_text, tally_words}
 use Rattle.rt_report.specs.Unread.{absent_text, too_long_text}
+use Rattle.rt_report.specs.Version.{version_text}
+use Rattle.rt_report.specs.declared.version.TheConstants.{VERSION}
 use Rattle.rt_report.specs.Words.{served_name}
 
 abbrev task : List ℕ → ℕ → ℕ → NamedTask
@@ -174,6 +176,29 @@ faults_of_certificates = (refl, refl, refl, refl)
 a_core_that_is_not_rtds : not_rtds_text tree 0 ≡ codes "fault=NotRtds core=cpu0 file=1\n"
 unfolding digits
 a_core_that_is_not_rtds = refl
+
+-- of two cores each is told by its own name, and serves its own children
+abbrev two_cores : SystemView
+two_cores = record {
+  cores =
+      record { name = codes "little"; sched = Edf; supply = None }
+      ∷ record { name = codes "big"; sched = Rm; supply = Some (10, 4) } ∷ [];
+  parts =
+      part (codes "a") (on_core 0) 40 (Some 2) (task (codes "t") 80 1 ∷ [])
+      ∷ part (codes "b") (on_core 1) 40 (Some 2) (task (codes "t") 80 1 ∷ [])
+      ∷ part (codes "c") (on_core 1) 50 (Some 2) (task (codes "t") 80 1 ∷ []) ∷ [];
+}
+
+the_second_core : (not_rtds_text two_cores 1 ≡ codes "fault=NotRtds core=big file=1\n")
+    × (refusal_text two_cores (Wide (Core 1)) ≡ codes "verdict=wide\nwide core big\n")
+    × (refusal_text two_cores (Overfull (Core 1) (Task 1)) ≡ codes "verdict=no\noverfull core big task=c\n")
+    × (check_text two_cores (Err (Cover (Core 1))) ≡ codes "verdict=no\nflaw=Cover core big\n")
+unfolding digits
+the_second_core = (refl, refl, refl, refl)
+
+-- the line of the version, whichever it is
+the_version_is_told : version_text ≡ codes "rtadmit " ++ (VERSION.now ++ codes "\n")
+the_version_is_told = refl
 
 words_that_fit_no_leaf : (fault_text NoSuchLeaf 1 ≡ codes "fault=NoSuchLeaf file=1\n")
     × (fault_text BadDeadline 1 ≡ codes "fault=BadDeadline file=1\n")

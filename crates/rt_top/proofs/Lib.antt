@@ -4,3 +4,4 @@ mod Examples
 mod AuditExamples
 mod MeansExamples
 mod ReadingExamples
+mod EndExamples

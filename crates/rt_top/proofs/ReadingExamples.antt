@@ -2,7 +2,7 @@
 -- wrong definition breaks one of them.
 use Rattle.std.proofs.Common.{◌≡◌, ℕ, List, [], ◌∷◌, Some, None, refl, arith, inl, inr}
 use Rattle.outside.specs.Files.{Files, file_named}
-use Rattle.command_steps.specs.declared.status.Status.TheVariants.{Yes, No, Usage, BadFile, ReadFault, WriteFault, NoMemory}
+use Rattle.command_steps.specs.declared.status.Status.TheVariants.{Yes, No, Usage, BadFile, Wide, Absent, TooLong, ReadFault, WriteFault, NoMemory}
 use Rattle.command_words.specs.Commands.{admit, check, bulk}
 use Rattle.command_steps.specs.Reading.{read_in}
 use Rattle.command_words.specs.Reading.{bytes_to_read, NamesNoFile}
@@ -15,6 +15,17 @@ the_files_of_the_command file cert files = refl
 -- a byte more is refused, and so is one less of an answer
 just_these_bytes : (Takes BadFile 10 5 16 → ⊥) × (Takes BadFile 10 5 14 → ⊥) × Takes BadFile 10 5 15
 just_these_bytes = (λ took. omega (arith, took), λ took. omega (arith, took), (omega arith, omega arith))
+
+no_less_for_any_answer : (Takes Yes 10 5 14 → ⊥) × (Takes No 10 5 14 → ⊥) × (Takes Wide 10 5 14 → ⊥)
+    × (Takes Absent 10 5 14 → ⊥) × (Takes TooLong 10 5 14 → ⊥) × (Takes WriteFault 10 5 14 → ⊥)
+no_less_for_any_answer = (
+  λ took. omega (arith, took),
+  λ took. omega (arith, took),
+  λ took. omega (arith, took),
+  λ took. omega (arith, took),
+  λ took. omega (arith, took),
+  λ took. omega (arith, took),
+)
 
 no_more_after_a_failed_read : (Takes ReadFault 10 5 16 → ⊥) × (Takes NoMemory 10 5 16 → ⊥) × Takes ReadFault 10 5 7
 no_more_after_a_failed_read = (λ took. omega (arith, took), λ took. omega (arith, took), omega arith)

@@ -19,6 +19,7 @@ pub mod PrintedCore
 pub mod PrintedNames
 pub mod PrintedWalk
 mod Examples
+mod FaultExamples
 pub mod PrintedPart
 pub mod PrintedParents
 pub mod PrintedSystem

@@ -1,0 +1,102 @@
+-- By which files a command can be judged, and how it ends then: of the commands about one leaf, of
+-- those that edit a system, and of the tally. A wrong definition breaks one of them.
+use Rattle.std.proofs.Common.{◌≡◌, ℕ, ◌≤◌, List, [], ◌∷◌, length, Some, refl}
+use Rattle.std.specs.Prelude.{IsOk, Ok}
+use Rattle.csv_rows.specs.Reading.{records_of}
+use Rattle.tree_model.specs.View.{PartView, SystemView}
+use Rattle.system_file.specs.SystemFile.{system_of}
+use Rattle.trace_file.specs.declared.event.Event.{Event}
+use Rattle.trace_file.specs.File.{Spells}
+use Rattle.admission_session.specs.declared.edit.Edit.{Edit}
+use Rattle.script_file.specs.Script.{SpellsScript}
+use Rattle.script_file.specs.Guests.{SpellsGuests}
+use Rattle.command_steps.specs.declared.status.Status.TheVariants.{Usage, BadFile, Absent, TooLong, ReadFault, WriteFault}
+use Rattle.command_words.specs.Commands.{Command, responses, interface, choose, session, place, isolate, slack, tally, version}
+use Rattle.command_steps.specs.Answer.{Contents, IsReadable}
+use Rattle.host_commands.specs.Place.{SpellsBadGuest}
+use Rattle.trace_commands.specs.Rtds.{HasOtherCore}
+use Rattle.rt_top.specs.Causes.{CanJudge, EndsAs}
+
+-- a system file is all that these ask for
+one_file_is_enough : (file part one : List ℕ) (n m : ℕ) → length one ≤ 67108864 → IsOk (system_of one) →
+    CanJudge (responses file) (Some one ∷ []) × CanJudge (interface file part n) (Some one ∷ [])
+    × CanJudge (choose file part n m) (Some one ∷ []) × CanJudge (slack file part) (Some one ∷ [])
+    × CanJudge (isolate file) (Some one ∷ [])
+one_file_is_enough file part one n m short good =
+    let there : IsReadable 1 (Some one ∷ []) (λ bytes. IsOk (system_of bytes))
+    = record { bytes = one; there = refl; short = short; good = good } in
+    (there, there, there, there, there)
+
+-- and these ask for a second file that is well formed
+two_files_are_enough : (file other one two : List ℕ) (sys : SystemView) (edits : List Edit) (guests : List PartView)
+    (events : List Event) → length one ≤ 67108864 → length two ≤ 67108864 → system_of one ≡ Ok sys →
+    (SpellsScript (records_of two) edits → CanJudge (session file other) (Some one ∷ Some two ∷ []))
+    × (SpellsGuests (records_of two) guests → CanJudge (place file other) (Some one ∷ Some two ∷ []))
+    × (Spells sys (records_of two) events → CanJudge (tally file other) (Some one ∷ Some two ∷ []))
+two_files_are_enough file other one two sys edits guests events short shorter spelled =
+    let first : IsReadable 1 (Some one ∷ Some two ∷ []) (λ bytes. system_of bytes ≡ Ok sys)
+    = record { bytes = one; there = refl; short = short; good = spelled } in (
+      (λ good. record {
+        sys = sys;
+        spelled = record {
+          first = first;
+          second =
+              record { bytes = two; there = refl; short = shorter; good = record { edits = edits; spelled = good } };
+        };
+      }),
+      (λ good. record {
+        sys = sys;
+        spelled = record {
+          first = first;
+          second =
+              record { bytes = two; there = refl; short = shorter; good = record { guests = guests; spelled = good } };
+        };
+      }),
+      (λ good. record {
+        sys = sys;
+        spelled = record {
+          first = first;
+          second =
+              record { bytes = two; there = refl; short = shorter; good = record { events = events; spelled = good } };
+        };
+      }),
+    )
+
+no_file_is_enough : CanJudge version []
+no_file_is_enough = tt
+
+-- then none of them ends as over files that are not there, too long or not read, or over other words
+abbrev IsJudged : Command → Contents → Type 0
+IsJudged command contents =
+    (EndsAs command contents Usage → ⊥) × (EndsAs command contents Absent → ⊥) × (EndsAs command contents TooLong → ⊥)
+    × (EndsAs command contents ReadFault → ⊥) × (EndsAs command contents WriteFault → ⊥)
+
+each_of_one_file_is_judged : (file part : List ℕ) (n m : ℕ) (contents : Contents) →
+    IsJudged (responses file) contents × IsJudged (interface file part n) contents
+    × IsJudged (choose file part n m) contents × IsJudged (slack file part) contents
+    × IsJudged (isolate file) contents
+each_of_one_file_is_judged file part n m contents = (
+  (λ h. h, λ h. h, λ h. h, λ h. h, λ h. h),
+  (λ h. h, λ h. h, λ h. h, λ h. h, λ h. h),
+  (λ h. h, λ h. h, λ h. h, λ h. h, λ h. h),
+  (λ h. h, λ h. h, λ h. h, λ h. h, λ h. h),
+  (λ h. h, λ h. h, λ h. h, λ h. h, λ h. h),
+)
+
+each_of_two_files_is_judged : (file other : List ℕ) (contents : Contents) →
+    IsJudged (session file other) contents × IsJudged (place file other) contents
+    × IsJudged (tally file other) contents × IsJudged version contents
+each_of_two_files_is_judged file other contents = (
+  (λ h. h, λ h. h, λ h. h, λ h. h, λ h. h),
+  (λ h. h, λ h. h, λ h. h, λ h. h, λ h. h),
+  (λ h. h, λ h. h, λ h. h, λ h. h, λ h. h),
+  (λ h. h, λ h. h, λ h. h, λ h. h, λ h. h),
+)
+
+-- a file is refused for a guest that can be no leaf, or for a core; by these for nothing
+who_refuses_a_file : (file other : List ℕ) (contents : Contents) →
+    (EndsAs (place file other) contents BadFile → SpellsBadGuest contents)
+    × (EndsAs (isolate file) contents BadFile → HasOtherCore contents)
+    × (EndsAs (responses file) contents BadFile → ⊥) × (EndsAs (session file other) contents BadFile → ⊥)
+    × (EndsAs (tally file other) contents BadFile → ⊥) × (EndsAs version contents BadFile → ⊥)
+who_refuses_a_file file other contents = (λ h. h, λ h. h, λ h. h, λ h. h, λ h. h, λ h. h)
