@@ -6,6 +6,7 @@ pub mod Fits
 pub mod WrittenKinds
 pub mod Laws
 mod ListedKeys
+mod ManyNames
 pub mod Systems
 pub mod Texts
 pub mod Found

@@ -1,4 +1,4 @@
-use Rattle.std.proofs.Common.{◌≡◌, ℕ, true, List, [], ◌∷◌, ◌++◌, codes, length, Some, refl, ap, ◌∙◌, append_assoc}
+use Rattle.std.proofs.Common.{◌≡◌, ℕ, true, List, [], ◌∷◌, ◌++◌, codes, length, Some, refl, ap, ◌∙◌, ◌+◌, append_assoc, arith, length-append}
 use Rattle.toml.specs.Data.{Data, Members, table, get}
 use Rattle.toml_items.specs.Item.{entries_view}
 use Rattle.tree_model.specs.Lists.{first_of}
@@ -22,6 +22,15 @@ judged : {cores before later : List Data} {members : Members} {count : ℕ} {nam
     ≡ part_key_faults (Part (length earlier)) cores before (table members)
     ++ in_order (task_faults format (length earlier)) [] (tasks_of (table members))
 judged format listed known = rw (as_many known, listed) refl
+
+pub placed_at-requires-clause-names : goal.placed_at-requires-clause-names
+placed_at-requires-clause-names c =
+    let put : length c.name_at.new.names ≡ length c.args.names.now + 1
+    = ap length c.in_ok-name.ensures.put ∙ length-append c.args.names.now _ in
+    omega (arith, put, c.requires.names)
+
+pub returns-clause-named : goal.returns-clause-named
+returns-clause-named c = ap length c.in_ok-name.ensures.put ∙ length-append c.args.names.now _
 
 pub returns-in_err-check_keys-clause-fault : goal.returns-in_err-check_keys-clause-fault
 returns-in_err-check_keys-clause-fault c =

@@ -33,7 +33,12 @@ pub returns-clause-sched : goal.returns-clause-sched
 returns-clause-sched c = c.in_ok-sched.ensures.ok.1
 
 pub returns-clause-served : goal.returns-clause-served
-returns-clause-served c = (c.in_ok-served.ensures.ok.1, c.in_ok-served.ensures.ok.2, c.in_ok-served.ensures.ok.3, c.in_ok-served.ensures.ok.4)
+returns-clause-served c = (
+  c.in_ok-served.ensures.ok.1,
+  c.in_ok-served.ensures.ok.2,
+  c.in_ok-served.ensures.ok.3,
+  c.in_ok-served.ensures.ok.4,
+)
 
 pub returns-clause-range : goal.returns-clause-range
 returns-clause-range c = c.in_ok-served.ensures.range

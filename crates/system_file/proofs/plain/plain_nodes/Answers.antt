@@ -1,8 +1,18 @@
-use Rattle.std.proofs.Common.{◌≡◌, length, arith}
+use Rattle.std.proofs.Common.{◌≡◌, length, ap, ◌∙◌, arith}
 use Rattle.std.proofs.lemmas.Grind.{common_steps}
 use Rattle.toml_parser.specs.Lexical.{skip_blank}
+use Rattle.tree_model.proofs.Lists.{length_map}
+use Rattle.system_file.specs.Document.{elements_of, spelled_core}
+use Rattle.system_file.proofs.ManyNames.{as_many_names}
 use Rattle.system_file.proofs.OneWalk.{read_to_the_end}
 use Rattle.system_file.proofs.plain.plain_nodes.Goals as goal
+
+pub parts_from-requires-clause-names : goal.parts_from-requires-clause-names
+parts_from-requires-clause-names c =
+    let read = c.in_ok-cores.ensures in
+    let named = as_many_names (elements_of read.items) c.cores_from.new.names read.named in
+    let spelled = ap length read.spelled ∙ length_map spelled_core (elements_of read.items) in
+    omega (arith, named, spelled)
 
 pub returns : goal.returns
 returns c =

@@ -11,7 +11,8 @@ pub core_table-requires : goal.core_table-requires
 core_table-requires c = record {
   supply =
       subst (λ (core : Core). IsCoreSupply core.supply)
-      (sym (get_or_read c.args.cores.now c.loop-core.core-index c.core-item.result (omega arith) c.core-item.is no_core))
+      (sym (get_or_read c.args.cores.now c.loop-core.core-index c.core-item.result (omega arith) c.core-item.is
+      no_core))
       (c.requires.supplies c.loop-core.core-index (omega arith));
 }
 

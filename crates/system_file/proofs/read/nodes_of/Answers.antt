@@ -1,18 +1,9 @@
-use Rattle.std.proofs.Common.{◌≡◌, ℕ, List, map, length, codes, Some, sym, ap, ◌∙◌}
-use Rattle.toml.specs.Data.{Data, string, get}
+use Rattle.std.proofs.Common.{map, ◌∙◌}
 use Rattle.toml_items.specs.Item.{item_view}
 use Rattle.tree_model.proofs.Lists.{first_here, first_later, length_map}
 use Rattle.slot_model.proofs.HandedOn.{handed_on}
-use Rattle.system_file.specs.inner.Reading.{HaveNames}
+use Rattle.system_file.proofs.ManyNames.{as_many_names}
 use Rattle.system_file.proofs.read.nodes_of.Goals as goal
-
--- there are as many names as elements that have them
-as_many_names : (elements : List Data) (names : List (List ℕ)) → HaveNames elements names
-    → length names ≡ length elements
-as_many_names elements names have =
-    sym (length_map (λ (name : List ℕ). Some (string name)) names)
-    ∙ sym (ap length have)
-    ∙ length_map (λ (d : Data). get (codes "name") d) elements
 
 pub read_parts-requires-clause-names : goal.read_parts-requires-clause-names
 read_parts-requires-clause-names c =
