@@ -1,5 +1,5 @@
--- The text of a certificate worked out by the checker, byte by byte: that of a part of budget 3 in 10
--- slots and of a part of budget 4 under a fixed rank, each on a full core.
+-- The text of a certificate worked out by the checker, byte by byte: that of a part under earliest
+-- deadline first with its core, that of a part under a fixed rank, and that of no nodes.
 use Rattle.std.specs.Prelude.{◌≡◌, codes, [], ◌∷◌, List, Some, None, true, false, refl}
 use Rattle.std.specs.Fmt.{digits}
 use Rattle.serde_json.proofs.OnLiterals.{serde_json_on_literals}

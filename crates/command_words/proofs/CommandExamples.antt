@@ -22,13 +22,14 @@ use Rattle.host_commands.specs.Place.{PlaceMeans}
 use Rattle.command_words.specs.Commands.{Command, admit, certify, check, rtds, audit, simulate, bulk, responses, interface, choose, session, place, isolate, slack, tally, version, spec_of, file_names}
 
 -- the system file is read first, whichever stands behind it
-files_in_the_order_of_the_words : (file other part : List ℕ) (pattern : Pattern) (n m : ℕ) →
+files_in_the_order_of_the_words : (file other : List ℕ) (pattern : Pattern) (n : ℕ) →
     (file_names (admit file) ≡ file ∷ []) × (file_names (certify file) ≡ file ∷ [])
     × (file_names (check file other) ≡ file ∷ other ∷ []) × (file_names (rtds file other n) ≡ file ∷ other ∷ [])
-    × (file_names (audit file other) ≡ file ∷ other ∷ []) × (file_names (simulate file other pattern n) ≡ file ∷ other ∷ [])
+    × (file_names (audit file other) ≡ file ∷ other ∷ [])
+    × (file_names (simulate file other pattern n) ≡ file ∷ other ∷ [])
     × (file_names (session file other) ≡ file ∷ other ∷ []) × (file_names (place file other) ≡ file ∷ other ∷ [])
     × (file_names (tally file other) ≡ file ∷ other ∷ [])
-files_in_the_order_of_the_words file other part pattern n m =
+files_in_the_order_of_the_words file other pattern n =
     (refl, refl, refl, refl, refl, refl, refl, refl, refl)
 
 -- a leaf is no file, and neither a number of guests nor the version asks for one

@@ -2,18 +2,14 @@
 -- those that edit a system, and of the tally. A wrong definition breaks one of them.
 use Rattle.std.proofs.Common.{◌≡◌, ℕ, ◌≤◌, List, [], ◌∷◌, length, Some, refl}
 use Rattle.std.specs.Prelude.{IsOk, Ok}
-use Rattle.csv_rows.specs.Reading.{records_of}
-use Rattle.tree_model.specs.View.{PartView, SystemView}
+use Rattle.tree_model.specs.View.{SystemView}
 use Rattle.system_file.specs.SystemFile.{system_of}
-use Rattle.trace_file.specs.declared.event.Event.{Event}
-use Rattle.trace_file.specs.File.{Spells}
-use Rattle.admission_session.specs.declared.edit.Edit.{Edit}
-use Rattle.script_file.specs.Script.{SpellsScript}
-use Rattle.script_file.specs.Guests.{SpellsGuests}
 use Rattle.command_steps.specs.declared.status.Status.TheVariants.{Usage, BadFile, Absent, TooLong, ReadFault, WriteFault}
 use Rattle.command_words.specs.Commands.{Command, responses, interface, choose, session, place, isolate, slack, tally, version}
 use Rattle.command_steps.specs.Answer.{Contents, IsReadable}
-use Rattle.host_commands.specs.Place.{SpellsBadGuest}
+use Rattle.host_commands.specs.Session.{IsScript}
+use Rattle.host_commands.specs.Place.{AreGuests, SpellsBadGuest}
+use Rattle.trace_commands.specs.Audit.{IsTrace}
 use Rattle.trace_commands.specs.Rtds.{HasOtherCore}
 use Rattle.rt_top.specs.Causes.{CanJudge, EndsAs}
 
@@ -28,44 +24,35 @@ one_file_is_enough file part one n m short good =
     (there, there, there, there, there)
 
 -- and these ask for a second file that is well formed
-two_files_are_enough : (file other one two : List ℕ) (sys : SystemView) (edits : List Edit) (guests : List PartView)
-    (events : List Event) → length one ≤ 67108864 → length two ≤ 67108864 → system_of one ≡ Ok sys →
-    (SpellsScript (records_of two) edits → CanJudge (session file other) (Some one ∷ Some two ∷ []))
-    × (SpellsGuests (records_of two) guests → CanJudge (place file other) (Some one ∷ Some two ∷ []))
-    × (Spells sys (records_of two) events → CanJudge (tally file other) (Some one ∷ Some two ∷ []))
-two_files_are_enough file other one two sys edits guests events short shorter spelled =
+two_files_are_enough : (file other one two : List ℕ) (sys : SystemView) → length one ≤ 67108864 → length two ≤ 67108864
+    → system_of one ≡ Ok sys →
+    (IsScript sys two → CanJudge (session file other) (Some one ∷ Some two ∷ []))
+    × (AreGuests sys two → CanJudge (place file other) (Some one ∷ Some two ∷ []))
+    × (IsTrace sys two → CanJudge (tally file other) (Some one ∷ Some two ∷ []))
+two_files_are_enough file other one two sys short shorter spelled =
     let first : IsReadable 1 (Some one ∷ Some two ∷ []) (λ bytes. system_of bytes ≡ Ok sys)
     = record { bytes = one; there = refl; short = short; good = spelled } in (
       (λ good. record {
         sys = sys;
-        spelled = record {
-          first = first;
-          second =
-              record { bytes = two; there = refl; short = shorter; good = record { edits = edits; spelled = good } };
-        };
+        spelled =
+            record { first = first; second = record { bytes = two; there = refl; short = shorter; good = good } };
       }),
       (λ good. record {
         sys = sys;
-        spelled = record {
-          first = first;
-          second =
-              record { bytes = two; there = refl; short = shorter; good = record { guests = guests; spelled = good } };
-        };
+        spelled =
+            record { first = first; second = record { bytes = two; there = refl; short = shorter; good = good } };
       }),
       (λ good. record {
         sys = sys;
-        spelled = record {
-          first = first;
-          second =
-              record { bytes = two; there = refl; short = shorter; good = record { events = events; spelled = good } };
-        };
+        spelled =
+            record { first = first; second = record { bytes = two; there = refl; short = shorter; good = good } };
       }),
     )
 
 no_file_is_enough : CanJudge version []
 no_file_is_enough = tt
 
--- then none of them ends as over files that are not there, too long or not read, or over other words
+-- then none of them ends as over files that are not there, too long or not read
 abbrev IsJudged : Command → Contents → Type 0
 IsJudged command contents =
     (EndsAs command contents Usage → ⊥) × (EndsAs command contents Absent → ⊥) × (EndsAs command contents TooLong → ⊥)

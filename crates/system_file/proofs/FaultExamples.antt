@@ -1,6 +1,6 @@
--- Faults of system files worked out by the checker: of two neighbouring keys with faults that of the
--- earlier one is told, and each fault with its own place.
-use Rattle.std.specs.Prelude.{◌≡◌, codes, [], ◌∷◌, List, ℕ, zero, suc, pos, true, false, Result, Err, Some, refl}
+-- Faults of system files worked out by the checker: of two neighbouring keys with faults that of
+-- the earlier one is told, and each fault with its own place.
+use Rattle.std.specs.Prelude.{◌≡◌, codes, List, ℕ, zero, suc, pos, true, false, Result, Err, Some, refl}
 use Rattle.toml.specs.Data.{Data, string, integer, boolean, array, table, Items, no_items, item, Members, no_members, member}
 use Rattle.tree_model.specs.View.{SystemView}
 use Rattle.system_file.specs.declared.fault.Spot.TheVariants.{Top, Core, Part, Task}
