@@ -1,8 +1,34 @@
-use Rattle.std.proofs.Common.{◌≡◌, ℕ, List, ◌++◌, ◌∙◌, ap, subst, codes, decimal}
+use Rattle.std.proofs.Common.{◌≡◌, ℕ, List, ◌++◌, ◌∙◌, Result, Ok, Err, ap, subst, codes, decimal}
+use Rattle.std.specs.Prelude.{OnOk, IsErr}
 use Rattle.tree_model.specs.CertificateView.{NodeView}
 use Rattle.cert_reader.specs.Text.{listed, quoted_number, flag_text, place_text, witness_text, node_text}
 use Rattle.certificate.proofs.Listing.{then}
 use Rattle.certificate.proofs.text.write_node.Goals as goal
+
+-- what is said of an Ok where there is none
+on_err : {T E : Type 0} → (r : Result T E) (Said : Type 0) → IsErr r → OnOk r Said
+on_err (Ok x) Said h = cc
+on_err (Err y) Said h = tt
+
+pub returns-in_err-write_witness-clause-text : goal.returns-in_err-write_witness-clause-text
+returns-in_err-write_witness-clause-text c =
+    let step = c.from_residual-in_err-write_witness in
+    on_err step.result _ step.ensures.0
+
+pub returns-in_err-write_witness-clause-in_range : goal.returns-in_err-write_witness-clause-in_range
+returns-in_err-write_witness-clause-in_range c =
+    let step = c.from_residual-in_err-write_witness in
+    on_err step.result _ step.ensures.0
+
+pub returns-in_err-push-clause-text : goal.returns-in_err-push-clause-text
+returns-in_err-push-clause-text c =
+    let step = c.from_residual-in_err-push in
+    on_err step.result _ step.ensures.0
+
+pub returns-in_err-push-clause-in_range : goal.returns-in_err-push-clause-in_range
+returns-in_err-push-clause-in_range c =
+    let step = c.from_residual-in_err-push in
+    on_err step.result _ step.ensures.0
 
 pub returns-clause-text : goal.returns-clause-text
 returns-clause-text c =
