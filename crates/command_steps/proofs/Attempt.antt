@@ -29,6 +29,18 @@ one_attempt {Value} {Refusal} attempt Says decided one = λ s t x y p q. elim p 
   ]
 ]
 
+-- a refusal is what is told, whatever would be said of a value
+pub refused_first : {Value Refusal : Type 0} (attempt : Attempt Value Refusal) (Says : Value → Status → List ℕ → Type 0)
+    → IsDecided attempt → (refusal : Refusal) → attempt.Refuses refusal → (status : Status) (text : List ℕ)
+    → OnAttempt attempt Says status text → (status ≡ attempt.status_of refusal) × (text ≡ attempt.text_of refusal)
+refused_first attempt Says decided refusal refuses status text h = elim h [
+  | inl a ↦ absurd (decided.never_both a.value refusal a.gives refuses)
+  | inr a ↦
+      (
+      let same : a.refusal ≡ refusal = decided.one_refusal a.refusal refusal a.refuses refuses in
+      (a.status_is ∙ ap attempt.status_of same, a.told ∙ ap attempt.text_of same))
+]
+
 pub statuses_attempt : {Value Refusal : Type 0} (P : Status → Type 0) (attempt : Attempt Value Refusal)
     (Says : Value → Status → List ℕ → Type 0) (status : Status) (text : List ℕ)
     → ((r : Refusal) → attempt.Refuses r → P (attempt.status_of r)) → ((x : Value) → Says x status text → P status)

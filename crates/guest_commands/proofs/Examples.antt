@@ -1,18 +1,26 @@
 -- What the answers about one leaf mean, taken apart, and which files are refused. A definition that
 -- says less breaks one of these.
-use Rattle.std.proofs.Common.{◌≡◌, ◌⊎◌, ℕ, ◌<◌, ◌≤◌, true, List, length}
-use Rattle.std.specs.Prelude.{Ok, slice_index_or}
+use Rattle.std.proofs.Common.{◌≡◌, ◌⊎◌, ℕ, ◌+◌, ◌<◌, ◌≤◌, true, false, List, [], ◌∷◌, length, Some, None, refl, arith, inl, inr}
+use Rattle.std.specs.Prelude.{Ok, IsOk, codes, slice_index_or}
+use Rattle.std.specs.Fmt.{digits}
 use Rattle.slot_model.specs.declared.sched.Short.{Short}
+use Rattle.slot_model.specs.declared.sched.Short.TheVariants.{At, Task}
 use Rattle.slot_model.specs.declared.sched.Sched.{Sched}
-use Rattle.slot_model.specs.Task.{SporadicTask, room_of, task_at}
-use Rattle.slot_model.specs.Supply.{GivesBudget, GivesByDeadline}
+use Rattle.slot_model.specs.declared.sched.Sched.TheVariants.{Edf, Rm, Dm, Listed}
+use Rattle.slot_model.specs.Task.{SporadicTask, plain_task, room_of, task_at}
+use Rattle.slot_model.specs.Supply.{GivesBudget, GivesByDeadline, worst_slot}
 use Rattle.slot_model.specs.Order.{before_of}
 use Rattle.slot_model.specs.Miss.{NoJobLost, MustMiss}
+use Rattle.least_budget.specs.declared.answers.Least.TheVariants.{Budget, Over, Wide as LeastWide}
+use Rattle.period_choice.specs.declared.choice.Choice.TheVariants.{Best, Nothing}
 use Rattle.period_choice.specs.Choice.{is_over, IsBest, IsNothing}
 use Rattle.response_times.specs.Response.{IsGreatestResponse}
+use Rattle.response_times.specs.Replay.{ShowsResponse}
 use Rattle.tree_model.specs.declared.place.Place.TheVariants.{Part}
-use Rattle.tree_model.specs.declared.plan.Refusal.TheVariants.{Overfull}
-use Rattle.tree_model.specs.View.{SystemView}
+use Rattle.tree_model.specs.declared.place.Parent.{Parent}
+use Rattle.tree_model.specs.declared.place.Parent.TheVariants.{Core as on_core, Part as on_part}
+use Rattle.tree_model.specs.declared.plan.Refusal.TheVariants.{Overfull, Wide as NodeWide}
+use Rattle.tree_model.specs.View.{NamedTask, PartView, SystemView}
 use Rattle.tree_model.specs.System.{part_at, own_tasks_at}
 use Rattle.tree_model.specs.Tree.{NoLoss}
 use Rattle.tree_model.specs.Admission.{Admitted}
@@ -25,13 +33,16 @@ use Rattle.rt_report.specs.Interface.{interface_text}
 use Rattle.rt_report.specs.Refusal.{refusal_text}
 use Rattle.rt_report.specs.Responses.{responses_text}
 use Rattle.rt_report.specs.Slack.{slack_text}
+use Rattle.command_steps.specs.declared.status.Status.{Status}
 use Rattle.command_steps.specs.declared.status.Status.TheVariants.{Yes, No, Wide, BadFile}
 use Rattle.command_steps.specs.Answer.{Contents, IsReadable}
 use Rattle.command_steps.specs.Budgets.{IsTrulyOverfull}
-use Rattle.guest_commands.specs.Interface.{InterfaceTells, the_interface}
-use Rattle.guest_commands.specs.Choose.{ChoiceTells, the_choose}
-use Rattle.guest_commands.specs.Slack.{SlackTells, the_slack}
-use Rattle.guest_commands.specs.Responses.{AreResponses, IsReplayOf, IsResponseOf, ResponsesMean}
+use Rattle.command_steps.specs.CommandSpec.{IsVerdict}
+use Rattle.command_steps.specs.NamedLeaf.{HasNoLeaf, OnLeaf}
+use Rattle.guest_commands.specs.Interface.{AtDeadline, InterfacesSystem, InterfaceTells, IsInterface, least_status, least_text, the_interface}
+use Rattle.guest_commands.specs.Choose.{ChoiceTells, ChoosesSystem, IsChosen, choice_status, the_choose}
+use Rattle.guest_commands.specs.Slack.{SlackensLeaf, SlackensSystem, SlackTells, the_slack}
+use Rattle.guest_commands.specs.Responses.{AreResponses, IsReplayOf, IsResponseOf, ResponsesMean, answered_tasks, the_responses}
 
 -- `interface`: with the budget that is told no job of the leaf is lost, and with each smaller one
 -- it must miss; or with each up to the deadline
@@ -130,3 +141,101 @@ what_a_response_gives sched tasks period budget i row of = (of.greatest, of.limi
 
 what_no_responses_give : (sys : SystemView) (text : List ℕ) → ResponsesMean sys No text → IsTrulyOverfull sys text
 what_no_responses_give sys text over = over
+
+-- a name of no leaf is told before anything else is asked: of `interface` the deadline, of `slack`
+-- whether the system is admitted
+no_leaf_is_told : (sys : SystemView) (part : List ℕ) (Says : ℕ → Status → List ℕ → Type 0) (status : Status)
+    (text : List ℕ) → HasNoLeaf sys part → OnLeaf sys part Says status text
+    → (status ≡ BadFile) × (text ≡ codes "fault=NoSuchLeaf file=1\n")
+unfolding digits
+no_leaf_is_told sys part Says status text none said = elim said [
+  | inl given ↦ absurd (none given.value given.gives)
+  | inr refused ↦ (refused.status_is, refused.told)
+]
+
+a_name_of_no_leaf : (sys : SystemView) (part : List ℕ) (deadline low high : ℕ) (status : Status) (text : List ℕ)
+    → HasNoLeaf sys part
+    → InterfacesSystem part deadline sys status text ⊎ (ChoosesSystem part low high sys status text
+    ⊎ SlackensSystem part sys status text)
+    → (status ≡ BadFile) × (text ≡ codes "fault=NoSuchLeaf file=1\n")
+a_name_of_no_leaf sys part deadline low high status text none said = elim said [
+  | inl of_interface ↦ no_leaf_is_told sys part (AtDeadline sys deadline) status text none of_interface
+  | inr other ↦ elim other [
+    | inl of_choose ↦ no_leaf_is_told sys part (IsChosen sys low high) status text none of_choose
+    | inr of_slack ↦ no_leaf_is_told sys part (SlackensLeaf sys) status text none of_slack
+  ]
+]
+
+-- a deadline past the period is told, also where the leaf is wide; one at its end has an interface
+a_deadline_past_the_period : (sys : SystemView) (q deadline : ℕ) (status : Status) (text : List ℕ)
+    → (part_at sys q).period < deadline → AtDeadline sys deadline q status text
+    → (status ≡ BadFile) × (text ≡ codes "fault=BadDeadline file=1\n")
+unfolding digits
+a_deadline_past_the_period sys q deadline status text past told = told.past past
+
+a_deadline_at_the_period : (sys : SystemView) (q : ℕ) (status : Status) (text : List ℕ)
+    → AtDeadline sys (part_at sys q).period q status text
+    → IsInterface sys q (part_at sys q).period status text
+a_deadline_at_the_period sys q status text told = told.within (omega arith)
+
+statuses_of_leaves : (least_status (Budget 27) ≡ Yes) × (least_status (Over (At 20)) ≡ No)
+    × (least_status LeastWide ≡ Wide) × (choice_status (Best 7 2) ≡ Yes) × (choice_status (Nothing 3 1) ≡ No)
+statuses_of_leaves = (refl, refl, refl, refl, refl)
+
+a_leaf_that_is_wide : (sys : SystemView) (q deadline : ℕ)
+    → least_text sys q deadline LeastWide ≡ refusal_text sys (NodeWide (Part q))
+a_leaf_that_is_wide sys q deadline = refl
+
+-- which tasks have a line: those of each leaf that is not under earliest deadline first, in file
+-- order
+abbrev part : Parent → Sched → List NamedTask → PartView
+part parent sched tasks =
+    record {
+      name = codes "p";
+      parent = parent;
+      sched = sched;
+      period = 10;
+      budget = None;
+      extra = false;
+      tasks = tasks;
+    }
+
+abbrev tasks_of : List NamedTask
+tasks_of =
+    record { name = codes "t"; task = plain_task 10 10 1 } ∷ record { name = codes "u"; task = plain_task 20 20 1 } ∷ []
+
+abbrev one_of_each : SystemView
+one_of_each = record {
+  cores = record { name = codes "c"; sched = Edf; supply = None } ∷ [];
+  parts =
+      part (on_core 0) Rm [] ∷ part (on_part 0) Edf tasks_of ∷ part (on_part 0) Rm tasks_of
+      ∷ part (on_core 0) Dm tasks_of ∷ part (on_core 0) Listed tasks_of ∷ [];
+}
+
+who_has_a_line : answered_tasks one_of_each ≡ (2, 0) ∷ (2, 1) ∷ (3, 0) ∷ (3, 1) ∷ (4, 0) ∷ (4, 1) ∷ []
+who_has_a_line = refl
+
+-- a replay of 1,000,000 slots is told, and a longer one is skipped
+the_longest_replay : (sched : Sched) (tasks : List SporadicTask) (period i : ℕ)
+    → (IsReplayOf sched tasks period 4 i 999996 None → ⊥) × IsReplayOf sched tasks period 4 i 999997 None
+the_longest_replay sched tasks period i = (λ skipped. omega (arith, skipped), omega arith)
+
+what_a_replay_tells : (sched : Sched) (tasks : List SporadicTask) (period budget i worst t : ℕ)
+    → IsReplayOf sched tasks period budget i worst (Some t)
+    → (budget + worst ≤ 1000000) × (t ≡ worst)
+    × ShowsResponse (before_of sched tasks) tasks (worst_slot period budget) budget worst i t
+what_a_replay_tells sched tasks period budget i worst t told = told
+
+-- a file of a system lets each be judged, and `responses` gets its verdict
+a_file_that_is_judged : (file word : List ℕ) (deadline low high : ℕ) (bytes : List ℕ) → length bytes ≤ 67108864
+    → IsOk (system_of bytes)
+    → (the_responses file).CanJudge (Some bytes ∷ []) × (the_interface file word deadline).CanJudge (Some bytes ∷ [])
+    × (the_choose file word low high).CanJudge (Some bytes ∷ []) × (the_slack file word).CanJudge (Some bytes ∷ [])
+a_file_that_is_judged file word deadline low high bytes short good =
+    let read : IsReadable 1 (Some bytes ∷ []) (λ b. IsOk (system_of b))
+    = record { bytes = bytes; there = refl; short = short; good = good } in
+    (read, read, read, read)
+
+responses_end_with_a_verdict : (file : List ℕ) (contents : Contents) (status : Status)
+    → (the_responses file).EndsAs contents status → IsVerdict status
+responses_end_with_a_verdict file contents status ends = ends

@@ -1,10 +1,16 @@
 -- What the answers of a session, of a placement and of a generated host mean, taken apart. A
 -- definition that says less breaks one of these.
-use Rattle.std.proofs.Common.{◌≡◌, ◌⊎◌, ℕ, ◌<◌, List, length, take, Option, Some}
-use Rattle.std.specs.Prelude.{slice_get, Ok}
+use Rattle.std.proofs.Common.{◌≡◌, ◌⊎◌, ℕ, ◌<◌, ◌≤◌, List, [], ◌∷◌, length, take, Option, Some, refl}
+use Rattle.std.specs.Prelude.{slice_get, Ok, codes}
+use Rattle.std.specs.Fmt.{digits}
+use Rattle.slot_model.specs.declared.sched.Short.TheVariants.{At}
+use Rattle.csv_rows.specs.Reading.{records_of}
 use Rattle.csv_rows.specs.Rules.{row_of}
+use Rattle.tree_model.specs.declared.place.Place.TheVariants.{Core}
 use Rattle.tree_model.specs.declared.plan.Refusal.{Refusal}
+use Rattle.tree_model.specs.declared.plan.Refusal.TheVariants.{Overfull, Wide as NodeWide}
 use Rattle.tree_model.specs.View.{PartView, SystemView}
+use Rattle.tree_model.specs.System.{IsSystem}
 use Rattle.tree_model.specs.Tree.{NoLoss}
 use Rattle.tree_model.specs.FirstTree.{FirstTree}
 use Rattle.tree_model.specs.Admission.{Admitted, FirstRefusal}
@@ -19,17 +25,33 @@ use Rattle.admission_session.specs.declared.answer.Answer.TheVariants.{Denied}
 use Rattle.admission_session.specs.declared.edit.Edit.{Edit}
 use Rattle.admission_session.specs.History.{AreAnswered}
 use Rattle.admission_session.specs.Leaves.{with_guest}
+use Rattle.placement.specs.declared.fault.PlaceFault.TheVariants.{Refused, BadGuest as NoGuest, Unplaced}
 use Rattle.placement.specs.Placement.{IsPlaced}
 use Rattle.placement.specs.Answers.{IsBadGuest, StopsAt, guest_at}
-use Rattle.rt_report.specs.declared.fault.FileFault.TheVariants.{BadGuest}
+use Rattle.script_file.specs.declared.fault.ScriptFault.{ScriptFault}
+use Rattle.script_file.specs.declared.fault.ScriptFault.TheVariants.{BadHeader, BadRow}
+use Rattle.script_file.specs.declared.guests.GuestFault.{GuestFault}
+use Rattle.script_file.specs.declared.guests.GuestFault.TheVariants.{Script as NoScript, Other}
+use Rattle.script_file.specs.Script.{SpellsScript, IsScriptFault, script_rows}
+use Rattle.script_file.specs.Guests.{SpellsGuests, IsGuestFault}
+use Rattle.rt_report.specs.declared.fault.FileFault.TheVariants.{BadGuest, Script}
 use Rattle.rt_report.specs.Fault.{fault_text}
 use Rattle.rt_report.specs.Place.{unplaced_text}
 use Rattle.rt_report.specs.Session.{session_text}
-use Rattle.command_steps.specs.Budgets.{IsTrulyOverfull}
-use Rattle.command_steps.specs.declared.status.Status.TheVariants.{Yes, No, BadFile}
-use Rattle.host_commands.specs.Session.{MeansOfEdits}
-use Rattle.host_commands.specs.Place.{MeansOfPlaces, TellsUnplaced}
+use Rattle.rt_report.specs.Refusal.{refusal_text}
+use Rattle.command_steps.specs.Answer.{Contents, IsReadable}
+use Rattle.command_steps.specs.Budgets.{IsTrulyOverfull, composing, refusal_status}
+use Rattle.command_steps.specs.CommandSpec.{IsVerdict}
+use Rattle.command_steps.specs.TwoFiles.{SpellsSystem}
+use Rattle.command_steps.specs.declared.status.Status.{Status}
+use Rattle.command_steps.specs.declared.status.Status.TheVariants.{Yes, No, Usage, BadFile, Wide, Absent, TooLong, ReadFault, WriteFault}
+use Rattle.command_steps.proofs.Attempt.{refused_first}
+use Rattle.command_steps.proofs.Budgets.{composing_decided}
+use Rattle.host_commands.specs.Session.{EditsBytes, EditsSystem, IsSession, MeansOfEdits, scripting, the_session}
+use Rattle.host_commands.specs.Place.{IsSystemText, MeansOfPlaces, PlacesBytes, PlacesGuests, TellsUnplaced, guesting, guests_fault_text, place_fault_text, place_status, placing, the_place}
 use Rattle.host_commands.specs.Bulk.{HostKeepsDeadlines}
+use Rattle.host_commands.proofs.Laws.Session.{scripting_decided}
+use Rattle.host_commands.proofs.Laws.Place.{guesting_decided, placing_decided}
 
 -- a yes tells the answer to each row, of which the refusal of each denied row holds, and budgets
 -- that admit the system that is left, lose no job, and can't be smaller at a computed leaf
@@ -95,3 +117,108 @@ what_a_generated_host_gives : (n : ℕ) → HostKeepsDeadlines n
     × ((counts : BulkCounts) → AreBulkCounts n counts → counts.missed ≡ 0)
 what_a_generated_host_gives n host =
     (host.budgets, host.admitted, host.no_loss, host.none_misses, host.none_counted)
+
+-- a fault of the second file goes before what the system is refused for
+a_script_with_a_fault : (sys : SystemView) (bytes : List ℕ) (fault : ScriptFault) (status : Status) (text : List ℕ)
+    → IsScriptFault (script_rows (records_of bytes)) fault → EditsBytes sys bytes status text
+    → (status ≡ BadFile) × (text ≡ fault_text (Script fault) 2)
+a_script_with_a_fault sys bytes fault status text wrong said =
+    refused_first (scripting bytes) (EditsSystem sys) (scripting_decided bytes) fault wrong status text said
+
+guests_with_a_fault : (sys : SystemView) (bytes : List ℕ) (fault : GuestFault) (status : Status) (text : List ℕ)
+    → IsGuestFault (records_of bytes) fault → PlacesBytes sys bytes status text
+    → (status ≡ BadFile) × (text ≡ guests_fault_text fault)
+guests_with_a_fault sys bytes fault status text wrong said =
+    refused_first (guesting bytes) (PlacesGuests sys) (guesting_decided bytes) fault wrong status text said
+
+faults_of_guests :
+    (guests_fault_text (NoScript BadHeader) ≡ codes "fault=BadHeader row=1 file=2\n")
+    × (guests_fault_text (NoScript (BadRow 3)) ≡ codes "fault=BadRow row=3 file=2\n")
+    × (guests_fault_text (Other 4) ≡ codes "fault=BadGuest row=4 file=2\n")
+unfolding digits
+faults_of_guests = (refl, refl, refl)
+
+-- and a system that is refused goes before its rows, and before its guests
+a_refused_session : (sys : SystemView) → IsSystem sys → (edits : List Edit) (refusal : Refusal) (status : Status)
+    (text : List ℕ) → FirstRefusal sys refusal → EditsSystem sys edits status text
+    → (status ≡ refusal_status refusal) × (text ≡ refusal_text sys refusal)
+a_refused_session sys is edits refusal status text first said =
+    refused_first (composing sys) (λ budgets. IsSession sys edits) (composing_decided sys is) refusal first status text
+    said
+
+a_refused_placement : (sys : SystemView) → IsSystem sys → (guests : List PartView) (refusal : Refusal)
+    (status : Status) (text : List ℕ) → FirstRefusal sys refusal → PlacesGuests sys guests status text
+    → (status ≡ refusal_status refusal) × (text ≡ refusal_text sys refusal)
+a_refused_placement sys is guests refusal status text first said =
+    refused_first (placing sys guests) IsSystemText (placing_decided sys is guests) (Refused refusal)
+    (record { real = λ e. cc; fails = first; refused = tt }) status text said
+
+-- why guests are not placed, in statuses and in words: guests count from 0, and rows from 2
+statuses_of_placements : (place_status (Refused (Overfull (Core 0) (At 20))) ≡ No)
+    × (place_status (Refused (NodeWide (Core 0))) ≡ Wide) × (place_status (NoGuest 3) ≡ BadFile)
+    × (place_status (Unplaced 3) ≡ No)
+statuses_of_placements = (refl, refl, refl, refl)
+
+words_of_placements : (sys : SystemView) (first second : PartView) (refusal : Refusal) →
+    (place_fault_text sys (first ∷ second ∷ []) (NoGuest 0) ≡ codes "fault=BadGuest row=2 file=2\n")
+    × (place_fault_text sys (first ∷ second ∷ []) (NoGuest 8) ≡ codes "fault=BadGuest row=10 file=2\n")
+    × (place_fault_text sys (first ∷ second ∷ []) (Unplaced 1) ≡ unplaced_text second.name)
+    × (place_fault_text sys (first ∷ second ∷ []) (Refused refusal) ≡ refusal_text sys refusal)
+unfolding digits
+words_of_placements sys first second refusal = (refl, refl, refl, refl)
+
+-- files that are there, short enough and spell what they have to are judged
+files_that_are_judged : (file other one two : List ℕ) (sys : SystemView) (edits : List Edit) (guests : List PartView)
+    → length one ≤ 67108864 → length two ≤ 67108864 → system_of one ≡ Ok sys
+    → (SpellsScript (records_of two) edits → (the_session file other).CanJudge (Some one ∷ Some two ∷ []))
+    × (SpellsGuests (records_of two) guests → (the_place file other).CanJudge (Some one ∷ Some two ∷ []))
+files_that_are_judged file other one two sys edits guests short shorter is =
+    let first : IsReadable 1 (Some one ∷ Some two ∷ []) (λ bytes. system_of bytes ≡ Ok sys)
+    = record { bytes = one; there = refl; short = short; good = is } in (
+      (λ good. record {
+        sys = sys;
+        spelled =
+            record {
+              first = first;
+              second =
+                  record {
+                    bytes = two;
+                    there = refl;
+                    short = shorter;
+                    good = record { edits = edits; spelled = good };
+                  };
+            };
+      }),
+      (λ good. record {
+        sys = sys;
+        spelled =
+            record {
+              first = first;
+              second =
+                  record {
+                    bytes = two;
+                    there = refl;
+                    short = shorter;
+                    good = record { guests = guests; spelled = good };
+                  };
+            };
+      }),
+    )
+
+-- `session` gets its verdict; `place` may refuse a file for a guest that can be no leaf, and for
+-- nothing else
+a_session_ends_with_a_verdict : (file script : List ℕ) (contents : Contents) (status : Status)
+    → (the_session file script).EndsAs contents status → IsVerdict status
+a_session_ends_with_a_verdict file script contents status ends = ends
+
+what_refuses_a_guest : (file guests : List ℕ) (contents : Contents) → (the_place file guests).EndsAs contents BadFile
+    → (sys : SystemView) × (placed : List PartView) × (guest : ℕ)
+    × SpellsSystem contents sys (λ bytes. SpellsGuests (records_of bytes) placed)
+    × StopsAt sys placed guest IsBadGuest
+what_refuses_a_guest file guests contents ends = (ends.sys, ends.guests, ends.guest, ends.spelled, ends.stops)
+
+no_other_end_of_a_placement : (file guests : List ℕ) (contents : Contents) →
+    ((the_place file guests).EndsAs contents Usage → ⊥) × ((the_place file guests).EndsAs contents Absent → ⊥)
+    × ((the_place file guests).EndsAs contents TooLong → ⊥) × ((the_place file guests).EndsAs contents ReadFault → ⊥)
+    × ((the_place file guests).EndsAs contents WriteFault → ⊥)
+no_other_end_of_a_placement file guests contents = (λ h. h, λ h. h, λ h. h, λ h. h, λ h. h)

@@ -23,6 +23,10 @@ use Rattle.isolation.specs.Demand.{no_tie, asked, IsIsolatedBy}
 use Rattle.isolation.specs.Open.{goes_sooner, OpenEntry, OpenRun}
 use Rattle.isolation.specs.Keeping.{got_in, IsAwakeLast, KeepsBudget, KeepsOpenly}
 use Rattle.isolation.specs.InTrace.{IsRunLength, IsAwakeInTrace, KeepsInTrace}
+use Rattle.isolation.specs.declared.isolation.Isolation.{Isolation}
+use Rattle.isolation.specs.declared.isolation.Isolation.TheVariants.{Isolated, ByTies, ByBlock}
+use Rattle.isolation.specs.declared.vcpus.PartIsolation.{PartIsolation}
+use Rattle.isolation.specs.Answers.{own_core, vcpus_of, are_isolated}
 use Rattle.trace_file.specs.declared.event.Event.{Event}
 use Rattle.trace_file.specs.declared.event.What.{What}
 use Rattle.trace_file.specs.declared.event.What.TheVariants.{Start as Starts, Wake as Wakes, Block as Blocks, End}
@@ -255,3 +259,23 @@ what_is_kept_in_traces : (sys : SystemView) (budgets : List ℕ) (v t : ℕ) →
     → IsRtdsTrace sys budgets rows slots events → IsAwakeInTrace sys events v f k t
     → budget_of budgets v ≤ got_in_trace sys events v f k
 what_is_kept_in_traces sys budgets v t keeps = keeps
+
+-- each part on a core has an answer, in file order and on its own core, and a part of a part none
+abbrev spread : SystemView
+spread = system (server (on_core 1) 4 2 false ∷ server (on_part 0) 4 2 false ∷ server (on_core 0) 4 3 false ∷ [])
+
+who_is_answered : vcpus_of spread ≡ 0 ∷ 2 ∷ []
+who_is_answered = refl
+
+on_its_own_core : (own_core spread 0 ≡ 1) × (own_core spread 2 ≡ 0)
+on_its_own_core = (refl, refl)
+
+-- who is isolated by ties alone is not isolated however they are broken; of no parts each is
+abbrev keeps : ℕ → Isolation → PartIsolation
+keeps part isolation = record { part = part; isolation = isolation }
+
+whether_each_is_isolated :
+    (are_isolated (keeps 0 (Isolated 3) ∷ keeps 2 (Isolated 4) ∷ []) ≡ true)
+    × (are_isolated (keeps 0 (Isolated 3) ∷ keeps 2 (ByTies 4) ∷ []) ≡ false)
+    × (are_isolated (keeps 0 ByBlock ∷ keeps 2 (Isolated 4) ∷ []) ≡ false) × (are_isolated [] ≡ true)
+whether_each_is_isolated = (refl, refl, refl, refl)

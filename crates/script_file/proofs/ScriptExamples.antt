@@ -1,15 +1,17 @@
 -- Rows of scripts, on which the rules are computed.
-use Rattle.std.proofs.Common.{◌≡◌, ℕ, List, Option, Some, None, true, false, [], ◌∷◌, codes, take, drop, ◌++◌, suc, refl}
+use Rattle.std.proofs.Common.{◌≡◌, ℕ, Bool, List, Option, Some, None, true, false, [], ◌∷◌, codes, take, drop, ◌++◌, suc, refl}
 use Rattle.std.specs.Prelude.{is_some}
-use Rattle.slot_model.specs.declared.sched.Sched.TheVariants.{Edf, Listed}
+use Rattle.slot_model.specs.declared.sched.Sched.{Sched}
+use Rattle.slot_model.specs.declared.sched.Sched.TheVariants.{Edf, Rm, Dm, Listed}
 use Rattle.slot_model.specs.Task.{jittery_task}
 use Rattle.tree_model.specs.declared.place.Parent.TheVariants.{Core}
 use Rattle.csv_rows.specs.Rules.{row_of}
+use Rattle.admission_session.specs.declared.edit.Edit.{Edit}
 use Rattle.admission_session.specs.declared.edit.Edit.TheVariants.{Add, Remove, Change}
 use Rattle.admission_session.specs.LeafView.{LeafView}
-use Rattle.script_file.specs.declared.fault.ScriptFault.TheVariants.{BadHeader}
+use Rattle.script_file.specs.declared.fault.ScriptFault.TheVariants.{BadHeader, BadRow}
 use Rattle.script_file.specs.Pieces.{pieces}
-use Rattle.script_file.specs.Script.{edit_of, is_script_header, is_row, number_in, script_rows, task_in, tasks_in, IsScriptFault}
+use Rattle.script_file.specs.Script.{edit_of, is_script_header, is_row, number_in, script_rows, script_rules, task_in, tasks_in, IsScriptFault}
 use Rattle.script_file.specs.Guests.{guest_of, is_guest}
 
 cut_at_each_place : pieces 59 (codes ";a;;bc;") ≡ [] ∷ codes "a" ∷ [] ∷ codes "bc" ∷ [] ∷ []
@@ -152,6 +154,9 @@ spelled = record {
       ∷ record { name = codes "u"; task = jittery_task 40 30 3 0 } ∷ [];
 }
 
+abbrev by : Sched → LeafView
+by sched = record { name = codes "B"; sched = sched; period = 10; budget = None; tasks = [] }
+
 abbrev bare : Option ℕ → LeafView
 bare budget = record { name = codes "B"; sched = Edf; period = 10; budget = budget; tasks = [] }
 
@@ -174,6 +179,34 @@ rows_that_are_none : (is_row (codes "Add" ∷ codes "B" ∷ [] ∷ codes "edf" �
     × (is_row (codes "add" ∷ [] ∷ [] ∷ codes "edf" ∷ codes "10" ∷ [] ∷ [] ∷ []) ≡ false)
     × (is_row (codes "add" ∷ codes "B" ∷ [] ∷ codes "edf" ∷ [] ∷ [] ∷ [] ∷ []) ≡ false)
 rows_that_are_none = (refl, refl, refl, refl)
+
+-- a row says a leaf that may be none: a period of 0 or past the longest, a budget past its period,
+-- no tasks, and two of one name. The edit is refused, and not the row
+abbrev spells : List ℕ → List ℕ → List ℕ → Bool
+spells period budget tasks =
+    is_row (codes "add" ∷ codes "B" ∷ codes "c" ∷ codes "edf" ∷ period ∷ budget ∷ tasks ∷ [])
+
+rows_of_what_is_no_leaf : (spells (codes "0") [] (codes "t:10:10:0:1") ≡ true)
+    × (spells (codes "1000000001") [] (codes "t:10:10:0:1") ≡ true)
+    × (spells (codes "10") (codes "11") (codes "t:10:10:0:1") ≡ true)
+    × (spells (codes "10") (codes "0") (codes "t:10:10:0:1") ≡ true) × (spells (codes "10") [] [] ≡ true)
+    × (spells (codes "10") [] (codes "t:10:10:0:1;t:20:20:0:1") ≡ true)
+rows_of_what_is_no_leaf = (refl, refl, refl, refl, refl, refl)
+
+-- one bad task of several, wherever it stands, and a text that is none
+lists_with_a_bad_task : (tasks_in (codes "t:10:10:0:1;u:10:10:0") ≡ None)
+    × (tasks_in (codes "t:10:10:0;u:10:10:0:1") ≡ None) × (tasks_in (codes ";t:10:10:0:1") ≡ None)
+    × (tasks_in (codes ";") ≡ None) × (tasks_in (codes "t:10:10:0:01") ≡ None)
+    × (tasks_in (codes "t:10::0:1") ≡ None)
+lists_with_a_bad_task = (refl, refl, refl, refl, refl, refl)
+
+-- the four words of schedulers, and a row of each
+abbrev served_by : List ℕ → Edit
+served_by word = edit_of (codes "change" ∷ codes "B" ∷ [] ∷ word ∷ codes "10" ∷ [] ∷ [] ∷ [])
+
+schedulers_in_their_words : (served_by (codes "edf") ≡ Change (by Edf)) × (served_by (codes "rm") ≡ Change (by Rm))
+    × (served_by (codes "dm") ≡ Change (by Dm)) × (served_by (codes "listed") ≡ Change (by Listed))
+schedulers_in_their_words = (refl, refl, refl, refl)
 
 -- the header is row 1, and the first row behind it is row 2
 abbrev header : List (List ℕ)
@@ -238,6 +271,11 @@ no_record_is_no_script = refl
 the_first_row : row_of 0 ≡ 2
 the_first_row = refl
 
+what_a_bad_row_breaks : (script_rules [] (codes "remove" ∷ []) ≡ Some (BadRow 2))
+    × (script_rules (header ∷ header ∷ []) (codes "remove" ∷ []) ≡ Some (BadRow 4))
+    × (script_rules [] (row (codes "add") [] []) ≡ None)
+what_a_bad_row_breaks = (refl, refl, refl)
+
 -- a guest adds a leaf on no parent, which stands on the first core until it is placed
 a_guest : is_guest (edit_of (row (codes "add") [] [])) ≡ true
 a_guest = refl
@@ -247,6 +285,9 @@ no_guest_on_a_parent = refl
 
 no_guest_by_a_change : is_guest (edit_of (row (codes "change") [] [])) ≡ false
 no_guest_by_a_change = refl
+
+no_guest_by_a_removal : is_guest (edit_of (codes "remove" ∷ codes "B" ∷ [] ∷ [] ∷ [] ∷ [] ∷ [] ∷ [])) ≡ false
+no_guest_by_a_removal = refl
 
 the_part_of_a_guest : guest_of (bare (Some 4))
     ≡ record {

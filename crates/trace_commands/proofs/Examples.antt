@@ -1,14 +1,18 @@
 -- Worked cases of what is answered to traces and runs. A wrong definition breaks one of them.
-use Rattle.std.proofs.Common.{◌≡◌, ◌⊎◌, ℕ, Bool, true, false, List, length, Option, refl, ◌<◌}
-use Rattle.std.specs.Prelude.{codes, All, ◌++◌}
+use Rattle.std.proofs.Common.{◌≡◌, ◌⊎◌, ℕ, Bool, true, false, List, [], ◌∷◌, length, Option, Some, refl, ◌<◌, ◌≤◌, inl, inr}
+use Rattle.std.specs.Prelude.{codes, All, ◌++◌, Ok, IsOk}
 use Rattle.std.specs.Fmt.{digits}
+use Rattle.tree_model.specs.declared.plan.Refusal.{Refusal}
 use Rattle.tree_model.specs.View.{SystemView}
+use Rattle.tree_model.specs.System.{IsSystem}
 use Rattle.tree_model.specs.Tree.{run_at}
-use Rattle.tree_model.specs.Admission.{Admitted, Assigned}
+use Rattle.tree_model.specs.Admission.{Admitted, Assigned, FirstRefusal, FirstUnassigned}
 use Rattle.slot_model.specs.Slots.{sum_below}
 use Rattle.command_steps.specs.declared.status.Status.TheVariants.{Yes, No, BadFile}
 use Rattle.trace_file.specs.declared.event.Event.{Event}
+use Rattle.trace_file.specs.declared.fault.TraceFault.{TraceFault}
 use Rattle.trace_file.specs.declared.fault.TraceFault.TheVariants.{BadHeader, TimeFalls}
+use Rattle.trace_file.specs.File.{IsFileFault, rows_of}
 use Rattle.trace_file.specs.Periods.{Satisfied}
 use Rattle.auditor.specs.declared.finding.Finding.TheVariants.{Yes as Kept, Short, Over}
 use Rattle.auditor.specs.Tally.{AreTallies, tally_at}
@@ -18,15 +22,33 @@ use Rattle.isolation.specs.declared.vcpus.PartIsolation.{PartIsolation}
 use Rattle.isolation.specs.Keeping.{KeepsOpenly}
 use Rattle.isolation.specs.InTrace.{KeepsInTrace, IsExposedInTrace}
 use Rattle.isolation.specs.Answers.{own_core, AreIsolations, are_isolated}
+use Rattle.rt_report.specs.declared.fault.FileFault.TheVariants.{Trace, Release}
 use Rattle.rt_report.specs.Audit.{audit_text}
+use Rattle.rt_report.specs.Fault.{fault_text, not_rtds_text}
 use Rattle.rt_report.specs.Isolation.{isolation_text}
+use Rattle.rt_report.specs.Refusal.{refusal_text}
 use Rattle.rt_report.specs.Tally.{tally_lines}
 use Rattle.command_steps.specs.declared.status.Status.{Status}
-use Rattle.command_steps.specs.Budgets.{IsTrulyOverfull}
-use Rattle.rtds_sim.specs.Fault.{AllRtds}
-use Rattle.trace_commands.specs.Audit.{tracing, finding_status, TellsSatisfied}
-use Rattle.trace_commands.specs.Isolate.{IsolationsMean, LineMeans, TellsIsolations}
-use Rattle.trace_commands.specs.Tally.{TellsTally}
+use Rattle.command_steps.specs.Answer.{Contents, IsReadable}
+use Rattle.command_steps.specs.Attempt.{OnAttempt}
+use Rattle.command_steps.specs.Budgets.{IsTrulyOverfull, OnAssigned, assigning, composing, refusal_status}
+use Rattle.command_steps.specs.CommandSpec.{IsVerdict}
+use Rattle.command_steps.proofs.Attempt.{refused_first}
+use Rattle.command_steps.proofs.Budgets.{assigning_decided, composing_decided}
+use Rattle.rtds_sim.specs.Fault.{AllRtds, IsFirstOther}
+use Rattle.system_file.specs.SystemFile.{system_of}
+use Rattle.trace_commands.specs.Audit.{tracing, finding_status, the_audit, AuditsBytes, IsAudited, OnTrace, TellsSatisfied}
+use Rattle.trace_commands.specs.Isolate.{isolating, isolation_status, the_isolate, IsToldIsolation, IsolatesSystem, IsolationsMean, LineMeans, TellsIsolations}
+use Rattle.trace_commands.specs.Simulate.{kept_status, releasing, the_simulate, IsSimulated, SimulatesBytes}
+use Rattle.trace_commands.specs.Tally.{the_tally, IsToldTally, TalliesBytes, TellsTally}
+use Rattle.trace_commands.proofs.Laws.Rtds.{waking_decided}
+use Rattle.trace_commands.proofs.Laws.Simulate.{releasing_decided}
+use Rattle.trace_commands.proofs.Laws.Traced.{tracing_decided}
+use Rattle.release_file.specs.declared.fault.ReleaseFault.{ReleaseFault}
+use Rattle.release_file.specs.declared.fault.ReleaseFault.TheVariants.{BadHeader as NoWorkload, BadOrder, TooEarly}
+use Rattle.release_file.specs.WorkloadFile.{IsWorkloadFault, SpellsWorkload, wake_rows}
+use Rattle.release_file.specs.ReleaseFile.{IsReleasesFault, release_rows}
+use Rattle.server_sched.specs.declared.supplies.Pattern.{Pattern}
 use Rattle.csv_rows.specs.Printing.{text_of}
 use Rattle.csv_rows.specs.Reading.{records_of}
 use Rattle.trace_file.specs.File.{Spells}
@@ -34,7 +56,7 @@ use Rattle.trace_printer.specs.Printing.{printed_rows}
 use Rattle.release_file.specs.declared.workload.Wake.{Wake}
 use Rattle.rtds_sim.specs.Rtds.{RtdsRun}
 use Rattle.rtds_sim.specs.Giving.{AlwaysRunnable, ServersFit, AlwaysServed, GivesBudgets, NeverOver, NoneOver}
-use Rattle.trace_commands.specs.Rtds.{IsTraceOf, TellsRun}
+use Rattle.trace_commands.specs.Rtds.{IsTraceOf, IsTraceText, RunsBytes, TellsRun, running, waking}
 
 -- faults of the trace
 faults_of_the_trace : (sys : SystemView) (bytes : List ℕ) →
@@ -122,3 +144,115 @@ what_a_tally_says : (sys : SystemView) (budgets : List ℕ) (events : List Event
     × (status ≡ Yes → text ≡ audit_text sys budgets (Kept (sum_below (λ v. (tally_at tallies v).judged)
     (length sys.parts))) ++ tally_lines sys 0 tallies)
 what_a_tally_says sys budgets events status text told = (told.tallies, told.satisfied, told.counted, told.on_yes)
+
+-- faults of a workload and of releases, and of a core that is not full or not under earliest
+-- deadline first
+faults_of_second_files : (sys : SystemView) (bytes : List ℕ) →
+    ((waking sys bytes).status_of (BadOrder 3) ≡ BadFile)
+    × ((waking sys bytes).text_of (BadOrder 3) ≡ codes "fault=BadOrder row=3 file=2\n")
+    × ((waking sys bytes).text_of NoWorkload ≡ codes "fault=BadHeader row=1 file=2\n")
+    × ((releasing sys bytes).status_of (TooEarly 4) ≡ BadFile)
+    × ((releasing sys bytes).text_of (TooEarly 4) ≡ codes "fault=TooEarly row=4 file=2\n")
+    × ((releasing sys bytes).text_of NoWorkload ≡ codes "fault=BadHeader row=1 file=2\n")
+unfolding digits
+faults_of_second_files sys bytes = (refl, refl, refl, refl, refl, refl)
+
+another_core : (sys : SystemView) (budgets : List ℕ) (wakes : List Wake) (slots c : ℕ) →
+    ((running sys budgets wakes slots).status_of c ≡ BadFile)
+    × ((running sys budgets wakes slots).text_of c ≡ not_rtds_text sys c)
+    × ((isolating sys budgets).status_of c ≡ BadFile) × ((isolating sys budgets).text_of c ≡ not_rtds_text sys c)
+another_core sys budgets wakes slots c = (refl, refl, refl, refl)
+
+-- yes where no job misses, and where each part is isolated however ties are broken
+statuses_of_runs : (kept_status true ≡ Yes) × (kept_status false ≡ No) × (isolation_status [] ≡ Yes)
+    × (isolation_status (record { part = 0; isolation = Isolated 3 } ∷ []) ≡ Yes)
+    × (isolation_status
+    (record { part = 0; isolation = Isolated 3 } ∷ record { part = 1; isolation = ByTies 4 } ∷ []) ≡ No)
+statuses_of_runs = (refl, refl, refl, refl, refl)
+
+-- a fault of the second file goes before a part that has no budget
+a_trace_with_a_fault : (Says : SystemView → List ℕ → List Event → Status → List ℕ → Type 0) (sys : SystemView)
+    (bytes : List ℕ) (fault : TraceFault) (status : Status) (text : List ℕ)
+    → IsFileFault sys (rows_of (records_of bytes)) fault → OnTrace Says sys bytes status text
+    → (status ≡ BadFile) × (text ≡ fault_text (Trace fault) 2)
+a_trace_with_a_fault Says sys bytes fault status text wrong said =
+    refused_first (tracing sys bytes) (λ events. OnAssigned sys (λ budgets. Says sys budgets events))
+    (tracing_decided sys bytes) fault wrong status text said
+
+what_is_said_of_a_trace : (sys : SystemView) (bytes : List ℕ) (fault : TraceFault) (status : Status) (text : List ℕ)
+    → IsFileFault sys (rows_of (records_of bytes)) fault
+    → AuditsBytes sys bytes status text ⊎ TalliesBytes sys bytes status text
+    → (status ≡ BadFile) × (text ≡ fault_text (Trace fault) 2)
+what_is_said_of_a_trace sys bytes fault status text wrong said = elim said [
+  | inl audited ↦ a_trace_with_a_fault IsAudited sys bytes fault status text wrong audited
+  | inr tallied ↦ a_trace_with_a_fault IsToldTally sys bytes fault status text wrong tallied
+]
+
+a_workload_with_a_fault : (slots : ℕ) (sys : SystemView) (bytes : List ℕ) (fault : ReleaseFault) (status : Status)
+    (text : List ℕ) → IsWorkloadFault sys (wake_rows (records_of bytes)) fault → RunsBytes slots sys bytes status text
+    → (status ≡ BadFile) × (text ≡ fault_text (Release fault) 2)
+a_workload_with_a_fault slots sys bytes fault status text wrong said =
+    refused_first (waking sys bytes)
+    (λ wakes. OnAssigned sys (λ budgets. OnAttempt (running sys budgets wakes slots) (IsTraceText sys)))
+    (waking_decided sys bytes) fault wrong status text said
+
+releases_with_a_fault : (pattern : Pattern) (slots : ℕ) (sys : SystemView) (bytes : List ℕ) (fault : ReleaseFault)
+    (status : Status) (text : List ℕ) → IsReleasesFault sys (release_rows (records_of bytes)) fault
+    → SimulatesBytes pattern slots sys bytes status text
+    → (status ≡ BadFile) × (text ≡ fault_text (Release fault) 2)
+releases_with_a_fault pattern slots sys bytes fault status text wrong said =
+    refused_first (releasing sys bytes) (λ jobs. OnAssigned sys (λ budgets. IsSimulated pattern slots sys jobs budgets))
+    (releasing_decided sys bytes) fault wrong status text said
+
+-- and a part that has no budget, or the first node that refuses, before such a core
+a_workload_without_budgets : (slots : ℕ) (sys : SystemView) → IsSystem sys → (bytes : List ℕ) (wakes : List Wake)
+    (refusal : Refusal) (status : Status) (text : List ℕ) → SpellsWorkload sys (records_of bytes) wakes
+    → FirstUnassigned sys refusal → RunsBytes slots sys bytes status text
+    → (status ≡ refusal_status refusal) × (text ≡ refusal_text sys refusal)
+a_workload_without_budgets slots sys is bytes wakes refusal status text spelled first said = elim said [
+  | inl given ↦
+      refused_first (assigning sys)
+      (λ budgets. OnAttempt (running sys budgets given.value slots) (IsTraceText sys))
+      (assigning_decided sys is) refusal first status text given.said
+  | inr refused ↦ absurd ((waking_decided sys bytes).never_both wakes refused.refusal spelled refused.refuses)
+]
+
+a_refused_isolation : (sys : SystemView) → IsSystem sys → (refusal : Refusal) (status : Status) (text : List ℕ)
+    → FirstRefusal sys refusal → IsolatesSystem sys status text
+    → (status ≡ refusal_status refusal) × (text ≡ refusal_text sys refusal)
+a_refused_isolation sys is refusal status text first said =
+    refused_first (composing sys) (λ budgets. OnAttempt (isolating sys budgets) (IsToldIsolation sys))
+    (composing_decided sys is) refusal first status text said
+
+-- a file that spells a system lets `isolate` be judged, and two that spell a system and a trace
+-- `tally`
+files_that_are_judged : (file other one two : List ℕ) (sys : SystemView) (events : List Event)
+    → length one ≤ 67108864 → length two ≤ 67108864
+    → (IsOk (system_of one) → (the_isolate file).CanJudge (Some one ∷ []))
+    × (system_of one ≡ Ok sys → Spells sys (records_of two) events
+    → (the_tally file other).CanJudge (Some one ∷ Some two ∷ []))
+files_that_are_judged file other one two sys events short shorter = (
+  (λ good. record { bytes = one; there = refl; short = short; good = good }),
+  (λ is good. record {
+    sys = sys;
+    spelled =
+        record {
+          first = record { bytes = one; there = refl; short = short; good = is };
+          second =
+              record { bytes = two; there = refl; short = shorter; good = record { events = events; spelled = good } };
+        };
+  }),
+)
+
+-- all but `rtds` and `isolate` get their verdict, and `isolate` refuses a file for such a core
+-- alone
+they_end_with_a_verdict : (file other : List ℕ) (pattern : Pattern) (slots : ℕ) (contents : Contents) (status : Status)
+    → ((the_audit file other).EndsAs contents status → IsVerdict status)
+    × ((the_tally file other).EndsAs contents status → IsVerdict status)
+    × ((the_simulate file other pattern slots).EndsAs contents status → IsVerdict status)
+they_end_with_a_verdict file other pattern slots contents status = (λ ends. ends, λ ends. ends, λ ends. ends)
+
+what_refuses_an_isolation : (file : List ℕ) (contents : Contents) → (the_isolate file).EndsAs contents BadFile
+    → (sys : SystemView) × IsReadable 1 contents (λ bytes. system_of bytes ≡ Ok sys) × (core : ℕ)
+    × IsFirstOther sys core
+what_refuses_an_isolation file contents ends = (ends.sys, ends.spelled, ends.core, ends.other)

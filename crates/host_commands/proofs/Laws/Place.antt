@@ -31,14 +31,14 @@ use Rattle.command_steps.proofs.Budgets.{refused_status}
 use Rattle.command_steps.proofs.CommandLaws.{CommandLaws}
 use Rattle.command_steps.proofs.ReadSecond.{JudgesRead, is_spelled_system, read_laws, said_of_read}
 
-guesting_decided : (bytes : List ℕ) → IsDecided (guesting bytes)
+pub guesting_decided : (bytes : List ℕ) → IsDecided (guesting bytes)
 guesting_decided bytes = record {
   one_value = one_guests (records_of bytes);
   never_both = no_guest_fault (records_of bytes);
   one_refusal = one_guest_fault (records_of bytes);
 }
 
-placing_decided : (sys : SystemView) → IsSystem sys → (guests : List PartView) → IsDecided (placing sys guests)
+pub placing_decided : (sys : SystemView) → IsSystem sys → (guests : List PartView) → IsDecided (placing sys guests)
 placing_decided sys is guests = record {
   one_value = λ a b p q. one_placed sys guests a b p.is q.is;
   never_both = λ a fault p h. never_placed_fails sys is guests a p.before p.is fault h.real h.fails;

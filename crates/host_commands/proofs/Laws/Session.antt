@@ -31,7 +31,7 @@ use Rattle.command_steps.proofs.Budgets.{composing_decided, refused_status, refu
 use Rattle.command_steps.proofs.CommandLaws.{CommandLaws}
 use Rattle.command_steps.proofs.ReadSecond.{JudgesRead, is_spelled_system, read_laws, said_of_read}
 
-scripting_decided : (bytes : List ℕ) → IsDecided (scripting bytes)
+pub scripting_decided : (bytes : List ℕ) → IsDecided (scripting bytes)
 scripting_decided bytes = record {
   one_value = one_script (records_of bytes);
   never_both = no_script_fault (records_of bytes);

@@ -35,7 +35,7 @@ use Rattle.command_steps.proofs.Budgets.{one_assigned, said_of_assigned, statuse
 use Rattle.command_steps.proofs.CommandLaws.{CommandLaws}
 use Rattle.command_steps.proofs.ReadSecond.{JudgesRead, is_spelled_system, read_laws, said_of_read}
 
-waking_decided : (sys : SystemView) (bytes : List ℕ) → IsDecided (waking sys bytes)
+pub waking_decided : (sys : SystemView) (bytes : List ℕ) → IsDecided (waking sys bytes)
 waking_decided sys bytes = record {
   one_value = one_workload sys (records_of bytes);
   never_both = no_workload_fault sys (records_of bytes);

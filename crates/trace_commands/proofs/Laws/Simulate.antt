@@ -25,7 +25,7 @@ use Rattle.command_steps.proofs.Budgets.{one_assigned, said_of_assigned, statuse
 use Rattle.command_steps.proofs.CommandLaws.{CommandLaws}
 use Rattle.command_steps.proofs.ReadSecond.{JudgesRead, is_spelled_system, read_laws, said_of_read}
 
-releasing_decided : (sys : SystemView) (bytes : List ℕ) → IsDecided (releasing sys bytes)
+pub releasing_decided : (sys : SystemView) (bytes : List ℕ) → IsDecided (releasing sys bytes)
 releasing_decided sys bytes = record {
   one_value = same_jobs sys (records_of bytes);
   never_both = no_release_fault sys (records_of bytes);

@@ -23,7 +23,7 @@ use Rattle.command_steps.proofs.CommandLaws.{CommandLaws}
 use Rattle.command_steps.proofs.ReadSecond.{JudgesRead, is_spelled_system, read_laws, said_of_read}
 use Rattle.trace_commands.specs.Audit.{tracing, finding_status, IsAuditOf, OnTrace, TellsSatisfied, CanAudit, IsTrace}
 
-tracing_decided : (sys : SystemView) (bytes : List ℕ) → IsDecided (tracing sys bytes)
+pub tracing_decided : (sys : SystemView) (bytes : List ℕ) → IsDecided (tracing sys bytes)
 tracing_decided sys bytes = record {
   one_value = same_events sys (records_of bytes);
   never_both = no_fault sys (records_of bytes);
