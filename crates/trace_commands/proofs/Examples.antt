@@ -37,10 +37,10 @@ use Rattle.command_steps.proofs.Attempt.{refused_first}
 use Rattle.command_steps.proofs.Budgets.{assigning_decided, composing_decided}
 use Rattle.rtds_sim.specs.Fault.{AllRtds, IsFirstOther}
 use Rattle.system_file.specs.SystemFile.{system_of}
-use Rattle.trace_commands.specs.Audit.{tracing, finding_status, the_audit, AuditsBytes, OnTrace, TellsSatisfied}
+use Rattle.trace_commands.specs.Audit.{tracing, finding_status, the_audit, AuditsBytes, IsAudited, OnTrace, TellsSatisfied}
 use Rattle.trace_commands.specs.Isolate.{isolating, isolation_status, the_isolate, IsToldIsolation, IsolatesSystem, IsolationsMean, LineMeans, TellsIsolations}
 use Rattle.trace_commands.specs.Simulate.{kept_status, releasing, the_simulate, IsSimulated, SimulatesBytes}
-use Rattle.trace_commands.specs.Tally.{the_tally, TalliesBytes, TellsTally}
+use Rattle.trace_commands.specs.Tally.{the_tally, IsToldTally, TalliesBytes, TellsTally}
 use Rattle.trace_commands.proofs.Laws.Rtds.{waking_decided}
 use Rattle.trace_commands.proofs.Laws.Simulate.{releasing_decided}
 use Rattle.trace_commands.proofs.Laws.Traced.{tracing_decided}
@@ -184,8 +184,8 @@ what_is_said_of_a_trace : (sys : SystemView) (bytes : List ℕ) (fault : TraceFa
     → AuditsBytes sys bytes status text ⊎ TalliesBytes sys bytes status text
     → (status ≡ BadFile) × (text ≡ fault_text (Trace fault) 2)
 what_is_said_of_a_trace sys bytes fault status text wrong said = elim said [
-  | inl audited ↦ a_trace_with_a_fault _ sys bytes fault status text wrong audited
-  | inr tallied ↦ a_trace_with_a_fault _ sys bytes fault status text wrong tallied
+  | inl audited ↦ a_trace_with_a_fault IsAudited sys bytes fault status text wrong audited
+  | inr tallied ↦ a_trace_with_a_fault IsToldTally sys bytes fault status text wrong tallied
 ]
 
 a_workload_with_a_fault : (slots : ℕ) (sys : SystemView) (bytes : List ℕ) (fault : ReleaseFault) (status : Status)

@@ -1,5 +1,5 @@
 -- What is so of each command.
-mod Traced
+pub mod Traced
 pub mod Audit
 pub mod Tally
 pub mod Simulate
