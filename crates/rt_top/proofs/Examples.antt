@@ -1,14 +1,13 @@
 -- Worked cases of what is answered, and of which answers need a cause. A wrong definition breaks
 -- one of them.
 use Rattle.std.proofs.Common.{◌≡◌, ℕ, ◌-◌, ◌^◌, List, [], ◌∷◌, length, Option, Some, None, refl, subst, arith}
-use Rattle.std.specs.Prelude.{IsOk, map}
+use Rattle.std.specs.Prelude.{IsOk}
 use Rattle.std.specs.Io.KnownBytes.{Appends}
 use Rattle.outside.specs.Files.{Files, file_named}
 use Rattle.outside.specs.Written.{AppendsProperPrefix}
 use Rattle.system_file.specs.SystemFile.{system_of}
 use Rattle.command_steps.specs.declared.status.Status.{Status}
-use Rattle.command_steps.specs.declared.status.Status.TheVariants.{Yes, No, Usage, BadFile, Wide, Absent, TooLong, ReadFault, WriteFault, NoMemory}
-use Rattle.command_steps.specs.Statuses.{status_number}
+use Rattle.command_steps.specs.declared.status.Status.TheVariants.{Yes, No, Usage, BadFile, Wide, TooLong, ReadFault, WriteFault, NoMemory}
 use Rattle.command_words.specs.Commands.{Command, admit, usage_line}
 use Rattle.command_steps.specs.Answer.{Contents, IfSystem}
 use Rattle.command_steps.specs.Budgets.{IsTrulyOverfull}
@@ -63,10 +62,3 @@ a_file_of_the_limit_is_judged name files bytes there long spelled = record {
 -- a count that did not rise stays, up to its last value but one
 a_quiet_count_stays : Stays 0 0 × Stays (2 ^ 64 - 2) (2 ^ 64 - 2)
 a_quiet_count_stays = ((omega arith, refl), (omega arith, refl))
-
--- the number with which the program ends
-numbers_of_statuses :
-    map status_number
-    (Yes ∷ No ∷ Usage ∷ BadFile ∷ Wide ∷ Absent ∷ ReadFault ∷ TooLong ∷ WriteFault ∷ NoMemory ∷ [])
-    ≡ 0 ∷ 1 ∷ 2 ∷ 3 ∷ 4 ∷ 5 ∷ 6 ∷ 7 ∷ 8 ∷ 9 ∷ []
-numbers_of_statuses = refl
