@@ -39,12 +39,13 @@ impl<'s, W: EventWatcher + Drop> RecordTaker for TraceTaker<'s, W> {
 
     #[inline(always)]
     fn take(&mut self, row: &Row) -> Result<(), AllocError> {
+        let fields = four_fields(row);
         match self.stage {
             Stage::Header => {
-                self.take_header(row);
+                self.take_header(fields);
                 Ok(())
             }
-            Stage::Rows(unit) => self.take_row(unit, four_fields(row)),
+            Stage::Rows(unit) => self.take_row(unit, fields),
             Stage::Broken(_) => Ok(()),
         }
     }
@@ -59,15 +60,16 @@ impl<'s, W: EventWatcher + Drop> TraceTaker<'s, W> {
     ghost use Rattle.trace_file.specs.inner.Spelt.{AreFieldsOf};
     ghost use Rattle.trace_file.specs.declared.trace_taker.Stage.TheVariants.{Header as at_header, Rows as at_rows};
 
-    /// Takes the header.
-    #[inline(always)]
-    fn take_header(&mut self, row: &Row)
+    /// Takes the header, of these four fields.
+    #[inline(never)]
+    fn take_header(&mut self, fields: Option<FourFields>)
         requires { self.old.stage ≡ at_header }
-        ensures { (sys : SystemView) (start : W) (records : List (List (List ℕ)))
+        ensures { (row : List (List ℕ)) → AreFieldsOf row fields.entry
+            → (sys : SystemView) (start : W) (records : List (List (List ℕ)))
             → HasTaken W.has_seen sys start records self.old
-            → HasTaken W.has_seen sys start (records ++ fields_of row.now ∷ []) self.new }
+            → HasTaken W.has_seen sys start (records ++ row ∷ []) self.new }
     {
-        self.stage = match unit_of(row) {
+        self.stage = match unit_of(fields) {
             Some(unit) => Stage::Rows(unit),
             None => Stage::Broken(TraceFault::BadHeader),
         };
