@@ -1,6 +1,6 @@
 -- What the answers to one system mean, taken apart. A definition that says less breaks one of
 -- these.
-use Rattle.std.proofs.Common.{◌≡◌, ℕ, ◌<◌, Bool, List, Option, Some, arith, refl, subst}
+use Rattle.std.proofs.Common.{◌≡◌, ◌⊎◌, ℕ, ◌<◌, Bool, List, Option, Some, arith, refl, subst, inl, inr}
 use Rattle.std.specs.Prelude.{Ok, Err, codes, slice_get, slice_index}
 use Rattle.std.specs.Fmt.{digits}
 use Rattle.tree_model.specs.View.{SystemView}
@@ -11,22 +11,29 @@ use Rattle.slot_model.specs.Order.{before_of}
 use Rattle.slot_model.specs.Release.{LegalRelease, synchronous}
 use Rattle.slot_model.specs.Run.{guest, PermittedRun}
 use Rattle.slot_model.specs.Miss.{Missed, WorstList}
-use Rattle.tree_model.specs.System.{part_at, own_tasks, computed_leaves}
+use Rattle.tree_model.specs.System.{IsSystem, part_at, own_tasks, computed_leaves}
 use Rattle.tree_model.specs.declared.place.Place.{Place}
 use Rattle.tree_model.specs.Admission.{Admitted, FirstRefusal}
-use Rattle.tree_model.specs.declared.plan.Refusal.TheVariants.{Overfull}
+use Rattle.tree_model.specs.declared.plan.Refusal.{Refusal}
+use Rattle.tree_model.specs.declared.plan.Refusal.TheVariants.{Overfull, Wide as NodeWide}
+use Rattle.tree_model.proofs.Unique.{never_both}
 use Rattle.compose_tree.specs.Truth.{IsTight, RefusalHolds}
 use Rattle.miss_witness.specs.declared.replay.Replay.{Replay}
 use Rattle.miss_witness.specs.Defeat.{Defeats}
 use Rattle.miss_witness.specs.Replay.{AreReplays, AllDefeat}
 use Rattle.rt_report.specs.Admit.{admit_text}
 use Rattle.rt_report.specs.Refusal.{refusal_text}
-use Rattle.command_steps.specs.declared.status.Status.TheVariants.{Yes, No, BadFile}
-use Rattle.admit_commands.specs.Admit.{MeansOfSystem}
+use Rattle.command_steps.specs.declared.status.Status.{Status}
+use Rattle.command_steps.specs.declared.status.Status.TheVariants.{Yes, No, Wide, BadFile}
+use Rattle.command_steps.specs.Budgets.{composing, refusal_status}
+use Rattle.command_steps.proofs.Attempt.{refused_first, said_of_given}
+use Rattle.command_steps.proofs.Budgets.{composing_decided}
+use Rattle.admit_commands.specs.Admit.{AdmitsSystem, IsAdmission, MeansOfSystem}
 use Rattle.tree_model.specs.CertificateView.{NodeView}
 use Rattle.cert_reader.specs.CertificateFile.{certificate_of}
 use Rattle.cert_verify.specs.Proves.{budgets_of, Proves}
-use Rattle.admit_commands.specs.Certify.{IsProof, CertificateMeans}
+use Rattle.admit_commands.specs.Certify.{certifying, IsPrinted, CertifiesSystem, IsProof, CertificateMeans}
+use Rattle.admit_commands.proofs.Laws.Certify.{certifying_decided}
 use Rattle.admit_commands.specs.Check.{spelling, ChecksNodes}
 use Rattle.cert_reader.specs.declared.fault.CertFault.TheVariants.{NotJson, TooMany}
 use Rattle.rt_report.specs.Check.{check_text}
@@ -107,3 +114,38 @@ what_checking_tells : (sys : SystemView) (nodes : List NodeView) (text : List �
     × (ChecksNodes sys nodes No text
     → (flaw : Flaw) × FirstFlaw sys nodes flaw × (text ≡ check_text sys (Err flaw)))
 what_checking_tells sys nodes text = (λ h. h, λ h. (h.flaw, h.first, h.told))
+
+-- a system that budgets admit is answered yes, and so it is certified
+who_is_admitted_is_answered_yes : (sys : SystemView) → IsSystem sys → (budgets : List ℕ) (status : Status)
+    (text : List ℕ) → Admitted sys budgets → AdmitsSystem sys status text ⊎ CertifiesSystem sys status text
+    → status ≡ Yes
+who_is_admitted_is_answered_yes sys is budgets status text admitted said = elim said [
+  | inl of_admit ↦
+      (said_of_given (composing sys) (IsAdmission sys) status text (composing_decided sys is) budgets admitted
+      of_admit).is_yes
+  | inr of_certify ↦ elim of_certify [
+    | inl made ↦ made.said.is_yes
+    | inr refused ↦ absurd (never_both sys is budgets refused.refusal admitted refused.refuses)
+  ]
+]
+
+-- and one that a node refuses is answered no or wide, by that node, also where a certificate was
+-- asked for
+refused_alike : (sys : SystemView) → IsSystem sys → (refusal : Refusal) (status : Status) (text : List ℕ)
+    → FirstRefusal sys refusal → AdmitsSystem sys status text ⊎ CertifiesSystem sys status text
+    → (status ≡ refusal_status refusal) × (text ≡ refusal_text sys refusal)
+refused_alike sys is refusal status text first said = elim said [
+  | inl of_admit ↦
+      refused_first (composing sys) (IsAdmission sys) (composing_decided sys is) refusal first status text of_admit
+  | inr of_certify ↦
+      refused_first (certifying sys) IsPrinted (certifying_decided sys is) refusal first status text of_certify
+]
+
+who_is_refused_is_told_the_node : (sys : SystemView) → IsSystem sys → (node : Place) (short : Short)
+    (status : Status) (text : List ℕ) → AdmitsSystem sys status text ⊎ CertifiesSystem sys status text
+    → (FirstRefusal sys (Overfull node short) → (status ≡ No) × (text ≡ refusal_text sys (Overfull node short)))
+    × (FirstRefusal sys (NodeWide node) → (status ≡ Wide) × (text ≡ refusal_text sys (NodeWide node)))
+who_is_refused_is_told_the_node sys is node short status text said = (
+  λ first. refused_alike sys is (Overfull node short) status text first said,
+  λ first. refused_alike sys is (NodeWide node) status text first said,
+)

@@ -26,7 +26,7 @@ use Rattle.command_steps.proofs.CommandLaws.{CommandLaws}
 use Rattle.command_steps.proofs.OneFile.{system_laws}
 
 -- a system has one certificate or one refusal
-certifying_decided : (sys : SystemView) → IsSystem sys → IsDecided (certifying sys)
+pub certifying_decided : (sys : SystemView) → IsSystem sys → IsDecided (certifying sys)
 certifying_decided sys is = record {
   one_value = one_certificate sys is;
   never_both =
