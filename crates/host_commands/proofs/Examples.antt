@@ -27,7 +27,7 @@ use Rattle.admission_session.specs.History.{AreAnswered}
 use Rattle.admission_session.specs.Leaves.{with_guest}
 use Rattle.placement.specs.declared.fault.PlaceFault.TheVariants.{Refused, BadGuest as NoGuest, Unplaced}
 use Rattle.placement.specs.Placement.{IsPlaced}
-use Rattle.placement.specs.Answers.{IsBadGuest, StopsAt, guest_at}
+use Rattle.placement.specs.Answers.{IsBadGuest, IsNoneWith, StopsAt, guest_at}
 use Rattle.script_file.specs.declared.fault.ScriptFault.{ScriptFault}
 use Rattle.script_file.specs.declared.fault.ScriptFault.TheVariants.{BadHeader, BadRow}
 use Rattle.script_file.specs.declared.guests.GuestFault.{GuestFault}
@@ -102,11 +102,12 @@ what_an_unplaced_guest_gives sys guests text told = (
   (λ c l. let on = told.refused c l in (on.refusal, on.first, on.holds)),
 )
 
--- the row of a guest that can be no leaf
+-- the row of a guest that can be no leaf: with it no core makes a system
 what_a_bad_guest_gives : (sys : SystemView) (guests : List PartView) (text : List ℕ)
     → MeansOfPlaces sys guests BadFile text
     → (guest : ℕ) × (text ≡ fault_text (BadGuest (row_of guest)) 2) × StopsAt sys guests guest IsBadGuest
-what_a_bad_guest_gives sys guests text told = (told.guest, told.told, told.stops)
+    × StopsAt sys guests guest IsNoneWith
+what_a_bad_guest_gives sys guests text told = (told.guest, told.told, told.stops, told.none)
 
 -- a generated host: budgets admit it and lose no job, and none misses in the run that is counted
 what_a_generated_host_gives : (n : ℕ) → HostKeepsDeadlines n
@@ -151,7 +152,7 @@ a_refused_placement : (sys : SystemView) → IsSystem sys → (guests : List Par
     → (status ≡ refusal_status refusal) × (text ≡ refusal_text sys refusal)
 a_refused_placement sys is guests refusal status text first said =
     refused_first (placing sys guests) IsSystemText (placing_decided sys is guests) (Refused refusal)
-    (record { real = λ e. cc; fails = first; refused = tt }) status text said
+    (record { real = λ e. cc; fails = first; refused = tt; none = tt }) status text said
 
 -- why guests are not placed, in statuses and in words: guests count from 0, and rows from 2
 statuses_of_placements : (place_status (Refused (Overfull (Core 0) (At 20))) ≡ No)

@@ -13,7 +13,7 @@ use Rattle.admission_session.specs.Answers.{IsAdmitted}
 use Rattle.placement.specs.declared.fault.PlaceFault.{PlaceFault}
 use Rattle.placement.specs.declared.fault.PlaceFault.TheVariants.{Refused, BadGuest, Unplaced, NoMemory}
 use Rattle.placement.specs.Placement.{IsPlaced}
-use Rattle.placement.specs.Answers.{AreRefused, IsBadGuest, PlaceFails, StopsAt, guest_at}
+use Rattle.placement.specs.Answers.{AreRefused, IsBadGuest, IsNoLeaf, IsNoneWith, PlaceFails, StopsAt, guest_at}
 use Rattle.script_file.specs.declared.guests.GuestFault.{GuestFault}
 use Rattle.script_file.specs.declared.guests.GuestFault.TheVariants.{Script as NoScript, Other}
 use Rattle.script_file.specs.Guests.{SpellsGuests, IsGuestFault}
@@ -56,6 +56,7 @@ pub record IsPlaceFault (sys : SystemView) (guests : List PartView) (fault : Pla
   pub real : fault ≢ NoMemory
   pub fails : PlaceFails sys guests fault
   pub refused : AreRefused sys guests fault
+  pub none : IsNoLeaf sys guests fault
 
 abbrev pub place_status : PlaceFault → Status
 place_status (Refused refusal) = refusal_status refusal
@@ -126,12 +127,14 @@ pub record TellsUnplaced (sys : SystemView) (guests : List PartView) (text : Lis
       IsTrulyRefused (with_guest now (guest_at guests guest) c)
 
 -- a refused file means: the text tells the row of a guest that can be no leaf of the system that
--- the guests before it make, each of which has its first fit there
+-- the guests before it make, each of which has its first fit there; with it that is no system,
+-- whatever core it is put on
 pub record TellsBadGuest (sys : SystemView) (guests : List PartView) (text : List ℕ)
     : Type 0 where
   pub guest : ℕ
   pub told : text ≡ fault_text (BadRow (row_of guest)) 2
   pub stops : StopsAt sys guests guest IsBadGuest
+  pub none : StopsAt sys guests guest IsNoneWith
 
 -- of a wide answer nothing is claimed
 abbrev pub MeansOfPlaces : SystemView → List PartView → Status → List ℕ → Type 0

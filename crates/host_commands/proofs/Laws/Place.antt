@@ -50,7 +50,7 @@ pub placing_refused : (sys : SystemView) (guests : List PartView) (status : Stat
     → IsRefused (composing sys) status text → IsRefused (placing sys guests) status text
 placing_refused sys guests status text h = record {
   refusal = Refused h.refusal;
-  refuses = record { real = λ e. cc; fails = h.refuses; refused = tt };
+  refuses = record { real = λ e. cc; fails = h.refuses; refused = tt; none = tt };
   status_is = h.status_is;
   told = h.told;
 }
@@ -114,7 +114,7 @@ fault_means sys is guests (Refused (Overfull node short)) h =
     })
 fault_means sys is guests (Refused (TooWide node)) h = tt
 fault_means sys is guests (Refused NoRefusal) h = tt
-fault_means sys is guests (BadGuest i) h = record { guest = i; told = refl; stops = h.fails }
+fault_means sys is guests (BadGuest i) h = record { guest = i; told = refl; stops = h.fails; none = h.none }
 fault_means sys is guests (Unplaced i) h = inr (unplaced_means sys is guests i h.refused)
 fault_means sys is guests NoMemory h = tt
 
