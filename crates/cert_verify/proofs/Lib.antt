@@ -4,3 +4,5 @@ pub mod Admits
 pub mod Walked
 pub mod Failing
 pub mod OneFlaw
+pub mod ProvesExamples
+mod FlawExamples

@@ -4,3 +4,4 @@ pub mod Hits
 pub mod Listing
 pub mod OneCertificate
 mod Quotes
+mod MadeExamples

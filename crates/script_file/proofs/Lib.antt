@@ -5,3 +5,4 @@ mod GuestsAdded
 pub mod OneGuests
 mod ScriptExamples
 mod AllThere
+mod FileExamples

@@ -1,9 +1,6 @@
-use Rattle.std.proofs.Common.{◌≡◌, ℕ, ◌≤◌, List, take, Bool, true, false, Option, Some, None, sym, ◌∙◌, ap, subst, arith}
+use Rattle.std.proofs.Common.{◌≡◌, ℕ, ◌≤◌, Bool, true, false, Option, Some, None, sym, ◌∙◌, ap, subst, arith}
 use Rattle.std.specs.Prelude.{MatchResult}
 use Rattle.std.proofs.lemmas.Result.{MatchResult-from_both}
-use Rattle.slot_model.specs.declared.sched.Sched.{Sched}
-use Rattle.slot_model.specs.Task.{SporadicTask, sporadic_tasks}
-use Rattle.supply_bound.specs.NodeSupplies.{bound_of, cycle_of}
 use Rattle.tree_model.specs.CertificateView.{NodeView}
 use Rattle.tree_model.specs.Tree.{IsNode, node_tasks, node_sched, node_bound, node_cycle, given_budget}
 use Rattle.tree_model.proofs.Levels.{of_level, cycle_range, budget_fits}
