@@ -19,11 +19,12 @@ use Rattle.response_times.specs.Replay.{ShowsResponse}
 use Rattle.tree_model.specs.declared.place.Place.TheVariants.{Part}
 use Rattle.tree_model.specs.declared.place.Parent.{Parent}
 use Rattle.tree_model.specs.declared.place.Parent.TheVariants.{Core as on_core, Part as on_part}
+use Rattle.tree_model.specs.declared.plan.Refusal.{Refusal}
 use Rattle.tree_model.specs.declared.plan.Refusal.TheVariants.{Overfull, Wide as NodeWide}
 use Rattle.tree_model.specs.View.{NamedTask, PartView, SystemView}
-use Rattle.tree_model.specs.System.{part_at, own_tasks_at}
+use Rattle.tree_model.specs.System.{IsSystem, part_at, own_tasks_at}
 use Rattle.tree_model.specs.Tree.{NoLoss}
-use Rattle.tree_model.specs.Admission.{Admitted}
+use Rattle.tree_model.specs.Admission.{Admitted, FirstRefusal}
 use Rattle.tree_model.specs.NamedLeaf.{IsLeafNamed}
 use Rattle.slack.specs.MostWork.{AreMostWorks, with_work}
 use Rattle.system_file.specs.SystemFile.{system_of}
@@ -36,13 +37,15 @@ use Rattle.rt_report.specs.Slack.{slack_text}
 use Rattle.command_steps.specs.declared.status.Status.{Status}
 use Rattle.command_steps.specs.declared.status.Status.TheVariants.{Yes, No, Wide, BadFile}
 use Rattle.command_steps.specs.Answer.{Contents, IsReadable}
-use Rattle.command_steps.specs.Budgets.{IsTrulyOverfull}
+use Rattle.command_steps.specs.Budgets.{composing, refusal_status, IsTrulyOverfull}
 use Rattle.command_steps.specs.CommandSpec.{IsVerdict}
 use Rattle.command_steps.specs.NamedLeaf.{HasNoLeaf, OnLeaf}
+use Rattle.command_steps.proofs.Attempt.{refused_first, said_of_given}
+use Rattle.command_steps.proofs.Budgets.{composing_decided}
 use Rattle.guest_commands.specs.Interface.{AtDeadline, InterfacesSystem, InterfaceTells, IsInterface, least_status, least_text, the_interface}
 use Rattle.guest_commands.specs.Choose.{ChoiceTells, ChoosesSystem, IsChosen, choice_status, the_choose}
-use Rattle.guest_commands.specs.Slack.{SlackensLeaf, SlackensSystem, SlackTells, the_slack}
-use Rattle.guest_commands.specs.Responses.{AreResponses, IsReplayOf, IsResponseOf, ResponsesMean, answered_tasks, the_responses}
+use Rattle.guest_commands.specs.Slack.{SlackensLeaf, SlackensSystem, SlackTells, TellsWorks, the_slack}
+use Rattle.guest_commands.specs.Responses.{AreResponses, IsReplayOf, IsResponseOf, IsTold, RespondsSystem, ResponsesMean, answered_tasks, the_responses}
 
 -- `interface`: with the budget that is told no job of the leaf is lost, and with each smaller one
 -- it must miss; or with each up to the deadline
@@ -239,3 +242,28 @@ a_file_that_is_judged file word deadline low high bytes short good =
 responses_end_with_a_verdict : (file : List ℕ) (contents : Contents) (status : Status)
     → (the_responses file).EndsAs contents status → IsVerdict status
 responses_end_with_a_verdict file contents status ends = ends
+
+-- a system that budgets admit is answered yes by `responses`, and by `slack` of a leaf of it
+who_is_admitted_is_answered_yes : (sys : SystemView) → IsSystem sys → (budgets : List ℕ) (leaf : ℕ) (status : Status)
+    (text : List ℕ) → Admitted sys budgets → RespondsSystem sys status text ⊎ SlackensLeaf sys leaf status text
+    → status ≡ Yes
+who_is_admitted_is_answered_yes sys is budgets leaf status text admitted said = elim said [
+  | inl of_responses ↦
+      (said_of_given (composing sys) (IsTold sys) status text (composing_decided sys is) budgets admitted
+      of_responses).is_yes
+  | inr of_slack ↦
+      (said_of_given (composing sys) (λ under. TellsWorks sys leaf) status text (composing_decided sys is) budgets
+      admitted of_slack).is_yes
+]
+
+-- and one that a node refuses is answered as `admit` answers it
+who_is_refused_is_told_the_node : (sys : SystemView) → IsSystem sys → (refusal : Refusal) (leaf : ℕ) (status : Status)
+    (text : List ℕ) → FirstRefusal sys refusal → RespondsSystem sys status text ⊎ SlackensLeaf sys leaf status text
+    → (status ≡ refusal_status refusal) × (text ≡ refusal_text sys refusal)
+who_is_refused_is_told_the_node sys is refusal leaf status text first said = elim said [
+  | inl of_responses ↦
+      refused_first (composing sys) (IsTold sys) (composing_decided sys is) refusal first status text of_responses
+  | inr of_slack ↦
+      refused_first (composing sys) (λ under. TellsWorks sys leaf) (composing_decided sys is) refusal first status
+      text of_slack
+]
