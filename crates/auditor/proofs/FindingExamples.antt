@@ -1,6 +1,6 @@
--- Worked findings: A, with extra time and 1 slot in every 4, and B, with 2 slots in every 4, stand on
--- one core. A slot is 1,000 moments. A trace has one finding (`OneFinding`), so none of these has
--- another.
+-- Worked findings: A, with extra time and 1 slot in every 4, and B, with 2 slots in every 4, stand
+-- on one core. A slot is 1,000 moments. A trace has one finding (`OneFinding`), so none of these
+-- has another.
 use Rattle.std.proofs.Common.{◌≡◌, ℕ, zero, suc, ◌+◌, ◌*◌, ◌<◌, ◌≤◌, Bool, true, false, List, [], ◌∷◌, Some, None, refl, sym, ◌∙◌, subst, arith, inl, inr}
 use Rattle.std.proofs.lemmas.Bool.{true≢false}
 use Rattle.std.proofs.lemmas.Option.{same_Some}
@@ -80,7 +80,9 @@ module _ (events : List Event) (ends : end_of events ≡ 5000) (a_starts : start
   b_first enough broken = record {
     is_broken = broken;
     least = λ w g j b. omega (arith, starts_at w g j (period_in b));
-    first = λ w g j l b. absurd (a_keeps enough g j (subst (λ (w : ℕ). IsBroken host budgets events w g j) (omega (arith, l)) b));
+    first = λ w g j l b.
+        let of_a : w ≡ 0 = omega (arith, l) in
+        absurd (a_keeps enough g j (subst (λ (u : ℕ). IsBroken host budgets events u g j) of_a b));
   }
     where
       period_in : {w g j : ℕ} → IsBroken host budgets events w g j → HasPeriod host events w g j
