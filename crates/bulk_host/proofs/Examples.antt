@@ -1,5 +1,6 @@
 -- Hosts of one and of nine guests, worked out by hand. A wrong definition breaks one of these.
 use Rattle.std.proofs.Common.{◌≡◌, [], ◌∷◌, length, false, None, codes, refl}
+use Rattle.std.specs.Fmt.{digits}
 use Rattle.slot_model.specs.declared.sched.Sched.TheVariants.{Edf, Rm}
 use Rattle.slot_model.specs.Task.{jittery_task, plain_task, plain_job}
 use Rattle.slot_model.specs.Release.{staggered_at, staggered}
@@ -17,19 +18,46 @@ first_tasks : (part_at (bulk_host 1) 0).tasks
     ∷ record { name = codes "b"; task = plain_task 20000 20000 500 } ∷ []
 first_tasks = refl
 
--- the ninth guest stands on the second core, under earliest deadline first, and the second guest
--- on the first, under rate monotonic ranks
-ninth_guest : (part_at (bulk_host 9) 8).parent ≡ Core 1
-ninth_guest = refl
+-- the second guest stands on the first core, under rate monotonic ranks, with a period of 2000
+-- slots
+second_guest : part_at (bulk_host 9) 1
+    ≡ record {
+      name = codes "g1";
+      parent = Core 0;
+      sched = Rm;
+      period = 2000;
+      budget = None;
+      extra = false;
+      tasks =
+          record { name = codes "a"; task = plain_task 20000 20000 500 }
+          ∷ record { name = codes "b"; task = plain_task 40000 40000 1000 } ∷ [];
+    }
+unfolding digits
+second_guest = refl
 
-ninth_rule : (part_at (bulk_host 9) 8).sched ≡ Edf
-ninth_rule = refl
+-- the ninth on the second, under earliest deadline first, as the first guest else
+ninth_guest : part_at (bulk_host 9) 8
+    ≡ record {
+      name = codes "g8";
+      parent = Core 1;
+      sched = Edf;
+      period = 1000;
+      budget = None;
+      extra = false;
+      tasks = (part_at (bulk_host 9) 0).tasks;
+    }
+unfolding digits
+ninth_guest = refl
 
 eighth_guest : (part_at (bulk_host 9) 7).parent ≡ Core 0
 eighth_guest = refl
 
-second_rule : (part_at (bulk_host 9) 1).sched ≡ Rm
-second_rule = refl
+-- both cores are full and run the earliest deadline first
+both_cores : (bulk_host 9).cores
+    ≡ record { name = codes "c0"; sched = Edf; supply = None }
+    ∷ record { name = codes "c1"; sched = Edf; supply = None } ∷ []
+unfolding digits
+both_cores = refl
 
 cores : length (bulk_host 1).cores ∷ length (bulk_host 8).cores ∷ length (bulk_host 9).cores
     ∷ length (bulk_host 256).cores ∷ [] ≡ 1 ∷ 1 ∷ 2 ∷ 32 ∷ []

@@ -5,3 +5,4 @@ mod Copies
 mod HostOfCores
 pub mod OneCount
 pub mod NoMiss
+mod Examples

@@ -3,3 +3,4 @@ pub mod Nodes
 pub mod TreeNodes
 pub mod KeptNodes
 pub mod Lists
+mod CountExamples
