@@ -10,6 +10,7 @@ use Rattle.slot_model.specs.declared.sched.Sched.TheVariants.{Edf, Rm, Dm, Liste
 use Rattle.slot_model.specs.Task.{SporadicTask, plain_task, room_of, task_at}
 use Rattle.slot_model.specs.Supply.{GivesBudget, GivesByDeadline, worst_slot}
 use Rattle.slot_model.specs.Order.{before_of}
+use Rattle.slot_model.specs.Bound.{sbf, TestPasses}
 use Rattle.slot_model.specs.Miss.{NoJobLost, MustMiss}
 use Rattle.least_budget.specs.declared.answers.Least.TheVariants.{Budget, Over, Wide as LeastWide}
 use Rattle.period_choice.specs.declared.choice.Choice.TheVariants.{Best, Nothing}
@@ -94,10 +95,12 @@ what_no_choice_gives : (sys : SystemView) (part : List ℕ) (low high : ℕ) (te
     → ChoiceTells part low high sys No text
     → (leaf : ℕ) × (over : ℕ) × (wide : ℕ) × IsLeafNamed sys part leaf × (text ≡ nothing_text over wide)
     × (nothing : IsNothing (part_at sys leaf).sched (own_tasks_at sys leaf) low high over wide)
+    × ((q b : ℕ) → low ≤ q → q ≤ high → b ≤ q
+    → TestPasses (part_at sys leaf).sched (own_tasks_at sys leaf) (sbf q b) q → ⊥)
     × ((q b : ℕ) → low ≤ q → q ≤ high → is_over (nothing.answer q) ≡ true → b ≤ q →
     MustMiss (GivesBudget q b) (before_of (part_at sys leaf).sched (own_tasks_at sys leaf)) (own_tasks_at sys leaf))
 what_no_choice_gives sys part low high text told =
-    (told.leaf, told.over, told.wide, told.found, told.told, told.nothing, told.misses)
+    (told.leaf, told.over, told.wide, told.found, told.told, told.nothing, told.none, told.misses)
 
 a_choice_is_never_wide : (file part : List ℕ) (low high : ℕ) (contents : Contents)
     → (the_choose file part low high).EndsAs contents Wide → ⊥
@@ -109,15 +112,15 @@ what_refuses_a_choice : (file part : List ℕ) (low high : ℕ) (contents : Cont
     × ((q : ℕ) → IsLeafNamed sys part q → ⊥)
 what_refuses_a_choice file part low high contents ends = (ends.sys, ends.spelled, ends.such)
 
--- `slack`: with each work up to the one that is told no job is lost under budgets that admit the
--- system
+-- `slack`: no job is lost under budgets that admit the system, nor with each work up to the one
+-- that is told
 what_slack_gives : (sys : SystemView) (part text : List ℕ) → SlackTells part sys Yes text
     → (leaf : ℕ) × (budgets : List ℕ) × (works : List ℕ) × IsLeafNamed sys part leaf × Admitted sys budgets
-    × AreMostWorks sys leaf works × (text ≡ slack_text (part_at sys leaf) works)
+    × NoLoss sys budgets × AreMostWorks sys leaf works × (text ≡ slack_text (part_at sys leaf) works)
     × ((i work : ℕ) → i < length (part_at sys leaf).tasks → 1 ≤ work → work ≤ slice_index_or works i 0
     → (under : List ℕ) × Admitted (with_work sys leaf i work) under × NoLoss (with_work sys leaf i work) under)
 what_slack_gives sys part text told =
-    (told.leaf, told.budgets, told.works, told.found, told.admitted, told.most, told.told, told.safe)
+    (told.leaf, told.budgets, told.works, told.found, told.admitted, told.no_loss, told.most, told.told, told.safe)
 
 what_no_slack_gives : (sys : SystemView) (part text : List ℕ) → SlackTells part sys No text → IsTrulyOverfull sys text
 what_no_slack_gives sys part text over = over

@@ -3,6 +3,7 @@
 use Rattle.std.specs.Prelude.{◌≡◌, ℕ, ◌<◌, ◌≤◌, true, List, [], ◌∷◌, ⊤}
 use Rattle.slot_model.specs.Supply.{GivesBudget}
 use Rattle.slot_model.specs.Order.{before_of}
+use Rattle.slot_model.specs.Bound.{sbf, TestPasses}
 use Rattle.slot_model.specs.Miss.{NoJobLost, MustMiss}
 use Rattle.period_choice.specs.declared.choice.Choice.{Choice}
 use Rattle.period_choice.specs.declared.choice.Choice.TheVariants.{Best, Nothing}
@@ -71,6 +72,8 @@ pub record TellsNothing (sys : SystemView) (part : List ℕ) (low high : ℕ) (t
   pub wide : ℕ
   pub told : text ≡ nothing_text over wide
   pub nothing : IsNothing (part_at sys leaf).sched (own_tasks_at sys leaf) low high over wide
+  pub none : (q b : ℕ) → low ≤ q → q ≤ high → b ≤ q →
+      TestPasses (part_at sys leaf).sched (own_tasks_at sys leaf) (sbf q b) q → ⊥
   pub misses : let tasks = own_tasks_at sys leaf in (q b : ℕ) → low ≤ q → q ≤ high →
       is_over (nothing.answer q) ≡ true → b ≤ q →
       MustMiss (GivesBudget q b) (before_of (part_at sys leaf).sched tasks) tasks

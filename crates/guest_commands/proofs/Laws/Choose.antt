@@ -6,6 +6,7 @@ use Rattle.slot_model.specs.declared.sched.Sched.{Sched}
 use Rattle.slot_model.specs.Supply.{GivesBudget}
 use Rattle.slot_model.specs.Order.{before_of}
 use Rattle.slot_model.specs.Miss.{MustMiss}
+use Rattle.slot_model.proofs.Budgets.{larger_passes}
 use Rattle.slot_model.proofs.WorstPattern.{periodic_laws}
 use Rattle.least_budget.specs.declared.answers.Least.{Least}
 use Rattle.least_budget.specs.declared.answers.Least.TheVariants.{Budget, Over, Wide as TooWide}
@@ -100,6 +101,13 @@ choice_tells part low high some sys is q found (Nothing over wide) nothing =
       wide = wide;
       told = refl;
       nothing = nothing;
+      none =
+          λ p b from to within passes. nothing.none p from to
+          (
+            passes.0,
+            larger_passes (part_at sys q).sched (own_tasks_at sys q) p b p (omega (arith, some, from)) within
+            (omega arith) passes.1,
+          );
       misses =
           λ p b from to short within. period_misses (part_at sys q).sched (own_tasks_at sys q) fits p b
           (omega (arith, some, from)) within (nothing.answer p) (nothing.answers p from to) short;

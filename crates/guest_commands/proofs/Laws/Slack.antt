@@ -2,6 +2,7 @@
 use Rattle.std.proofs.Common.{◌≡◌, ℕ, List, sym, ◌∙◌, ap, subst, inl, inr}
 use Rattle.tree_model.specs.View.{SystemView}
 use Rattle.tree_model.specs.System.{IsSystem, part_at}
+use Rattle.compose_tree.proofs.Sound.{admitted_no_loss}
 use Rattle.slack.proofs.OneMost.{one_list_of_works}
 use Rattle.slack.proofs.Grown.{grown_without_loss}
 use Rattle.rt_report.specs.Slack.{slack_text}
@@ -54,6 +55,7 @@ slack_means part sys is status text h = elim h [
           found = found.gives;
           budgets = a.value;
           admitted = a.gives;
+          no_loss = admitted_no_loss sys is a.value a.gives;
           works = a.said.works;
           most = a.said.most;
           safe =
