@@ -10,15 +10,15 @@ use Rattle.tree_model.specs.declared.place.Parent.{Parent}
 use Rattle.tree_model.specs.declared.place.Parent.TheVariants.{Core as on_core, Part as on_part}
 use Rattle.tree_model.specs.View.{NamedTask, PartView, SystemView}
 use Rattle.tree_model.proofs.FewPlaces.{both}
-use Rattle.release_file.specs.declared.fault.ReleaseFault.TheVariants.{BadRow, Unknown, OutOfRange, TooEarly, BadOrder}
+use Rattle.release_file.specs.declared.fault.ReleaseFault.TheVariants.{BadHeader, BadRow, Unknown, OutOfRange, TooEarly, BadOrder}
 use Rattle.release_file.specs.declared.release_spelling.Version.TheVariants.{First, Second}
 use Rattle.trace_file.specs.Rules.{is_vcpu}
 use Rattle.release_file.specs.declared.workload.Wake.{Wake}
 use Rattle.release_file.specs.declared.workload.WakeKind.{WakeKind}
 use Rattle.release_file.specs.declared.workload.WakeKind.TheVariants.{Start, Wake as ToWake, Block}
 use Rattle.release_file.specs.Workload.{row_at, last_row, is_of, is_started_at, is_blocked_at, is_started, start_of, may_follow, IsWorkload}
-use Rattle.release_file.specs.WorkloadFile.{kind_named, wakes_of, wake_rules, wake_rows}
-use Rattle.release_file.specs.ReleaseFile.{jobs_of, releases_of, release_rules, release_rows}
+use Rattle.release_file.specs.WorkloadFile.{kind_named, wakes_of, wake_rules, wake_rows, IsWorkloadFault}
+use Rattle.release_file.specs.ReleaseFile.{jobs_of, releases_of, release_rules, release_rows, IsReleasesFault}
 
 abbrev part : ℕ → Parent → List NamedTask → PartView
 part letter parent tasks =
@@ -104,6 +104,28 @@ a_wake_before_the_start : wake_rules host [] (a_wakes 48) ≡ Some (BadOrder 2)
 unfolding last_below
 a_wake_before_the_start = refl
 
+a_block_before_the_start : wake_rules host [] (codes "0" ∷ codes "A" ∷ codes "block" ∷ []) ≡ Some (BadOrder 2)
+unfolding last_below
+a_block_before_the_start = refl
+
+-- no VCPU starts twice, and one that was woken may block again
+a_second_start : (wake_rules host (a_starts ∷ []) (codes "4" ∷ codes "A" ∷ codes "start" ∷ []) ≡ Some (BadOrder 3))
+    × (wake_rules host (a_starts ∷ a_blocks ∷ a_wakes 53 ∷ []) (codes "6" ∷ codes "A" ∷ codes "start" ∷ [])
+    ≡ Some (BadOrder 5))
+unfolding last_below
+a_second_start = (refl, refl)
+
+a_block_behind_a_wake :
+    wake_rules host (a_starts ∷ a_blocks ∷ a_wakes 53 ∷ []) (codes "6" ∷ codes "A" ∷ codes "block" ∷ []) ≡ None
+unfolding last_below
+a_block_behind_a_wake = refl
+
+-- at one slot another VCPU may have a row too, whatever the first one did
+another_vcpu_at_the_same_slot :
+    wake_rules host (a_starts ∷ a_blocks ∷ []) (codes "3" ∷ codes "B" ∷ codes "start" ∷ []) ≡ None
+unfolding last_below
+another_vcpu_at_the_same_slot = refl
+
 an_inner_parts_child_is_no_vcpu : wake_rules host [] (codes "0" ∷ codes "C" ∷ codes "start" ∷ []) ≡ Some (Unknown 2)
 an_inner_parts_child_is_no_vcpu = refl
 
@@ -156,6 +178,16 @@ a_header_of_three_fields = refl
 
 a_header_of_four_fields_is_none : wake_rows ((codes "at" ∷ codes "vcpu" ∷ codes "what" ∷ codes "why" ∷ []) ∷ []) ≡ None
 a_header_of_four_fields_is_none = refl
+
+-- each of the three words counts, and without a header nothing is a workload
+no_wake_headers : (wake_rows ((codes "slot" ∷ codes "vcpu" ∷ codes "what" ∷ []) ∷ []) ≡ None)
+    × (wake_rows ((codes "at" ∷ codes "dom" ∷ codes "what" ∷ []) ∷ []) ≡ None)
+    × (wake_rows ((codes "at" ∷ codes "vcpu" ∷ codes "why" ∷ []) ∷ []) ≡ None)
+    × (wake_rows ((codes "at" ∷ codes "vcpu" ∷ []) ∷ []) ≡ None) × (wake_rows [] ≡ None)
+no_wake_headers = (refl, refl, refl, refl, refl)
+
+no_wake_header_is_told : IsWorkloadFault host (wake_rows []) BadHeader
+no_wake_header_is_told = refl
 
 -- what such rows are together, and what they are not
 abbrev wake : ℕ → ℕ → WakeKind → Wake
@@ -262,6 +294,16 @@ another_task_at_the_same_slot : release_rules host First (t1_at_0 ∷ [])
     (first_of (codes "0") (codes "A") (codes "t2") (codes "9")) ≡ None
 another_task_at_the_same_slot = refl
 
+-- the task of a name in another part is another one, but the slots rise over all parts
+another_part_at_the_same_slot : release_rules host First (t1_at_0 ∷ [])
+    (first_of (codes "0") (codes "C") (codes "t1") (codes "1")) ≡ None
+another_part_at_the_same_slot = refl
+
+another_part_at_a_falling_slot : release_rules host First
+    (first_of (codes "5") (codes "A") (codes "t1") (codes "7") ∷ [])
+    (first_of (codes "4") (codes "C") (codes "t1") (codes "1")) ≡ Some (BadOrder 3)
+another_part_at_a_falling_slot = refl
+
 -- the first arrived at -5, so the next may arrive at 45
 an_arrival_a_period_after : release_rules host Second (late_at_0 ∷ []) (second_of (codes "45") (codes "7") (codes "0"))
     ≡ None
@@ -358,3 +400,15 @@ headers_of_five_fields :
     × (release_rows ((codes "at" ∷ codes "part" ∷ codes "task" ∷ codes "work" ∷ codes "late" ∷ []) ∷ []) ≡ None)
     × (release_rows ((codes "at" ∷ codes "part" ∷ codes "work" ∷ codes "task" ∷ []) ∷ []) ≡ None)
 headers_of_five_fields = (refl, refl, refl)
+
+-- each word of a header counts, and without a header nothing is a release file
+no_headers : (release_rows ((codes "slot" ∷ codes "part" ∷ codes "task" ∷ codes "work" ∷ []) ∷ []) ≡ None)
+    × (release_rows ((codes "at" ∷ codes "vcpu" ∷ codes "task" ∷ codes "work" ∷ []) ∷ []) ≡ None)
+    × (release_rows ((codes "at" ∷ codes "part" ∷ codes "job" ∷ codes "work" ∷ []) ∷ []) ≡ None)
+    × (release_rows ((codes "at" ∷ codes "part" ∷ codes "task" ∷ codes "wcet" ∷ []) ∷ []) ≡ None)
+    × (release_rows ((codes "slot" ∷ codes "part" ∷ codes "task" ∷ codes "work" ∷ codes "early" ∷ []) ∷ []) ≡ None)
+    × (release_rows ((codes "at" ∷ codes "part" ∷ codes "task" ∷ []) ∷ []) ≡ None) × (release_rows [] ≡ None)
+no_headers = (refl, refl, refl, refl, refl, refl, refl)
+
+no_header_is_told : IsReleasesFault host (release_rows []) BadHeader
+no_header_is_told = refl

@@ -12,11 +12,11 @@ use Rattle.tree_model.specs.View.{PartView, SystemView}
 use Rattle.trace_file.specs.declared.event.Event.{Event}
 use Rattle.trace_file.specs.declared.event.What.{What}
 use Rattle.trace_file.specs.declared.event.What.TheVariants.{Start, Wake, Block, Run, Stop, End}
-use Rattle.trace_file.specs.declared.fault.TraceFault.TheVariants.{TimeFalls, NotRunnable, NotStarted, OutOfRange, Unknown, WrongCore, BadRow, NoEnd, StillRunning, CoreIdle, AfterEnd}
+use Rattle.trace_file.specs.declared.fault.TraceFault.TheVariants.{TimeFalls, NotRunnable, NotStarted, OutOfRange, Unknown, WrongCore, BadHeader, BadRow, NoEnd, StillRunning, CoreIdle, AfterEnd}
 use Rattle.trace_file.specs.declared.unit.Unit.TheVariants.{Microseconds, Nanoseconds}
 use Rattle.trace_file.specs.Events.{holder, has_core, has_core_at}
 use Rattle.trace_file.specs.Rules.{row_fault, Kept, LacksEnd}
-use Rattle.trace_file.specs.File.{is_row, event_of, events_of, unit_of, row_rules, LacksFileEnd}
+use Rattle.trace_file.specs.File.{is_row, event_of, events_of, unit_of, rows_of, row_rules, IsFileFault, LacksFileEnd}
 
 abbrev part_on : Parent → ℕ → PartView
 part_on parent letter =
@@ -93,6 +93,15 @@ headers =
 one_is_a_header : map unit_of headers ≡ Some Microseconds ∷ None ∷ None ∷ None ∷ None ∷ []
 one_is_a_header = refl
 
+-- the rows stand behind it, and a text without one has no rows
+rows_behind_a_header :
+    rows_of (fields (codes "at") (codes "core") (codes "what") (codes "vcpu") ∷ one_of_each) ∷ rows_of one_of_each
+    ∷ rows_of [] ∷ [] ≡ Some (Microseconds, one_of_each) ∷ None ∷ None ∷ []
+rows_behind_a_header = refl
+
+no_header_is_told : IsFileFault pair (rows_of one_of_each) BadHeader
+no_header_is_told = refl
+
 -- a run on one core leaves the other as it was
 abbrev both_run : List Event
 both_run = row 0 0 (Start 0) ∷ row 0 1 (Start 1) ∷ row 0 1 (Run 1) ∷ row 0 0 (Run 0) ∷ row 4 0 Stop ∷ []
@@ -156,6 +165,20 @@ blocked_before_it_starts = refl
 blocked_twice : row_fault pair (row 0 0 (Start 0) ∷ row 0 0 (Block 0) ∷ row 0 0 (Block 0) ∷ []) 2 ≡ Some (NotRunnable 4)
 unfolding last_below
 blocked_twice = refl
+
+-- a VCPU that is blocked may wake, and then run, or be blocked again
+abbrev blocked_and_woken : List Event
+blocked_and_woken = row 0 0 (Start 0) ∷ row 1 0 (Block 0) ∷ row 2 0 (Wake 0) ∷ row 3 0 (Run 0) ∷ []
+
+woken_and_run : row_fault pair blocked_and_woken 1 ∷ row_fault pair blocked_and_woken 2
+    ∷ row_fault pair blocked_and_woken 3 ∷ [] ≡ None ∷ None ∷ None ∷ []
+unfolding last_below
+woken_and_run = refl
+
+woken_and_blocked : row_fault pair
+    (row 0 0 (Start 0) ∷ row 1 0 (Block 0) ∷ row 2 0 (Wake 0) ∷ row 3 0 (Block 0) ∷ []) 3 ≡ None
+unfolding last_below
+woken_and_blocked = refl
 
 -- the end that is missing is told of the row behind the last
 no_end_of_a_file : LacksFileEnd pair Nanoseconds [] (NoEnd 2)
