@@ -137,7 +137,8 @@ three_and_seven_cover = record {
   some_point = omega arith;
   some_slots = omega arith;
   none_before = refl;
-  rising = λ j l. only (λ j. get_or (3 ∷ 7 ∷ []) j 0 < get_or (3 ∷ 7 ∷ []) (j + 1) 0) (omega arith) j (omega (arith, l));
+  rising = λ j l. only (λ j. get_or (3 ∷ 7 ∷ []) j 0 < get_or (3 ∷ 7 ∷ []) (j + 1) 0)
+      (omega arith) j (omega (arith, l));
   steps = λ j l. only
       (λ j. dbf one_in_four (get_or (3 ∷ 7 ∷ []) (j + 1) 0 - 1) ≤ sbf 2 1 (get_or (3 ∷ 7 ∷ []) j 0))
       (omega arith) j (omega (arith, l));
@@ -149,7 +150,8 @@ two_and_four_cover = record {
   some_point = omega arith;
   some_slots = omega arith;
   none_before = refl;
-  rising = λ j l. only (λ j. get_or (2 ∷ 4 ∷ []) j 0 < get_or (2 ∷ 4 ∷ []) (j + 1) 0) (omega arith) j (omega (arith, l));
+  rising = λ j l. only (λ j. get_or (2 ∷ 4 ∷ []) j 0 < get_or (2 ∷ 4 ∷ []) (j + 1) 0)
+      (omega arith) j (omega (arith, l));
   steps = λ j l. only (λ j. dbf two_servers (get_or (2 ∷ 4 ∷ []) (j + 1) 0 - 1) ≤ get_or (2 ∷ 4 ∷ []) j 0)
       (omega arith) j (omega (arith, l));
   past = omega arith;
@@ -161,7 +163,8 @@ unfolding sum_below
 one_to_five_fall = record {
   some_point = omega arith;
   from_one = refl;
-  rising = λ j l. only (λ j. get_or (1 ∷ 5 ∷ []) j 0 < get_or (1 ∷ 5 ∷ []) (j + 1) 0) (omega arith) j (omega (arith, l));
+  rising = λ j l. only (λ j. get_or (1 ∷ 5 ∷ []) j 0 < get_or (1 ∷ 5 ∷ []) (j + 1) 0)
+      (omega arith) j (omega (arith, l));
   steps = λ j l. only
       (λ j. sbf 2 0 (get_or (1 ∷ 5 ∷ []) (j + 1) 0 - 1)
       < rbf (ranks_above Rm one_in_four) one_in_four 0 (get_or (1 ∷ 5 ∷ []) j 0))

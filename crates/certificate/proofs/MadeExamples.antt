@@ -76,7 +76,8 @@ unfolding sum_below
 from_one_to_five = record {
   some_point = omega arith;
   from_one = refl;
-  rising = λ j l. only (λ j. get_or (1 ∷ 5 ∷ []) j 0 < get_or (1 ∷ 5 ∷ []) (j + 1) 0) (omega arith) j (omega (arith, l));
+  rising = λ j l. only (λ j. get_or (1 ∷ 5 ∷ []) j 0 < get_or (1 ∷ 5 ∷ []) (j + 1) 0)
+      (omega arith) j (omega (arith, l));
   steps = λ j l. only
       (λ j. IsNextFall (ranks_above Rm one_in_four) one_in_four (sbf 2 0) 0 (get_or (1 ∷ 5 ∷ []) j 0)
       (get_or (1 ∷ 5 ∷ []) (j + 1) 0))

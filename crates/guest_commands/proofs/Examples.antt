@@ -4,7 +4,7 @@ use Rattle.std.proofs.Common.{◌≡◌, ◌⊎◌, ℕ, ◌+◌, ◌<◌, ◌�
 use Rattle.std.specs.Prelude.{Ok, IsOk, codes, slice_index_or}
 use Rattle.std.specs.Fmt.{digits}
 use Rattle.slot_model.specs.declared.sched.Short.{Short}
-use Rattle.slot_model.specs.declared.sched.Short.TheVariants.{At, Task}
+use Rattle.slot_model.specs.declared.sched.Short.TheVariants.{At}
 use Rattle.slot_model.specs.declared.sched.Sched.{Sched}
 use Rattle.slot_model.specs.declared.sched.Sched.TheVariants.{Edf, Rm, Dm, Listed}
 use Rattle.slot_model.specs.Task.{SporadicTask, plain_task, room_of, task_at}

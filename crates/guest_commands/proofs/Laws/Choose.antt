@@ -102,11 +102,10 @@ choice_tells part low high some sys is q found (Nothing over wide) nothing =
       told = refl;
       nothing = nothing;
       none =
-          λ p b from to within passes. nothing.none p from to
-          (
+          λ p b from to within passes. nothing.none p from to (
             passes.0,
             larger_passes (part_at sys q).sched (own_tasks_at sys q) p b p (omega (arith, some, from)) within
-            (omega arith) passes.1,
+                (omega arith) passes.1,
           );
       misses =
           λ p b from to short within. period_misses (part_at sys q).sched (own_tasks_at sys q) fits p b
