@@ -21,8 +21,10 @@ use Rattle.bulk_run.specs.Summary.{bulk_slots, bulk_supplies, bulk_jobs, AreBulk
 use Rattle.system_file.specs.SystemFile.{system_of}
 use Rattle.compose_tree.specs.Truth.{IsTight, RefusalHolds}
 use Rattle.admission_session.specs.declared.answer.Answer.{Answer}
-use Rattle.admission_session.specs.declared.answer.Answer.TheVariants.{Denied}
+use Rattle.admission_session.specs.declared.answer.Answer.TheVariants.{Refused as NoEdit, Denied}
 use Rattle.admission_session.specs.declared.edit.Edit.{Edit}
+use Rattle.admission_session.specs.declared.fault.EditFault.{EditFault}
+use Rattle.admission_session.specs.Edits.{MakesSystem}
 use Rattle.admission_session.specs.History.{AreAnswered}
 use Rattle.admission_session.specs.Leaves.{with_guest}
 use Rattle.placement.specs.declared.fault.PlaceFault.TheVariants.{Refused, BadGuest as NoGuest, Unplaced}
@@ -53,13 +55,18 @@ use Rattle.host_commands.specs.Bulk.{HostKeepsDeadlines}
 use Rattle.host_commands.proofs.Laws.Session.{scripting_decided}
 use Rattle.host_commands.proofs.Laws.Place.{guesting_decided, placing_decided}
 
--- a yes tells the answer to each row, of which the refusal of each denied row holds, and budgets
--- that admit the system that is left, lose no job, and can't be smaller at a computed leaf
+-- a yes tells the answer to each row, of which the refusal of each denied row holds and each
+-- refused row makes no system of the one that the rows before it leave, and budgets that admit the
+-- system that is left, lose no job, and can't be smaller at a computed leaf
 what_a_session_gives : (sys : SystemView) (edits : List Edit) (text : List ℕ) → MeansOfEdits sys edits Yes text
     → (answers : List Answer) × (last : SystemView) × (budgets : List ℕ)
     × (text ≡ session_text answers last budgets) × AreAnswered sys edits answers last
     × ((k : ℕ) (edited : SystemView) (refusal : Refusal) → slice_get answers k ≡ Some (Denied edited refusal)
-    → RefusalHolds edited refusal) × Admitted last budgets × NoLoss last budgets × IsTight last budgets
+    → RefusalHolds edited refusal)
+    × ((k : ℕ) (fault : EditFault) → slice_get answers k ≡ Some (NoEdit fault)
+    → (edit : Edit) × (now : SystemView) × (slice_get edits k ≡ Some edit)
+    × AreAnswered sys (take k edits) (take k answers) now × (MakesSystem now edit → ⊥))
+    × Admitted last budgets × NoLoss last budgets × IsTight last budgets
 what_a_session_gives sys edits text left = (
   left.answers,
   left.last,
@@ -67,6 +74,7 @@ what_a_session_gives sys edits text left = (
   left.told,
   left.answered,
   left.denials,
+  (λ k fault e. let row = left.refused k fault e in (row.edit, row.now, row.is_row, row.before, row.none)),
   left.admitted,
   left.no_loss,
   left.tight,

@@ -1,5 +1,5 @@
 -- `session FILE SCRIPT`: what it answers, and what its yes and no mean to who runs the host.
-use Rattle.std.specs.Prelude.{◌≡◌, ℕ, List, [], ◌∷◌, slice_get, Some, ⊤}
+use Rattle.std.specs.Prelude.{◌≡◌, ℕ, List, [], ◌∷◌, take, slice_get, Some, ⊤}
 use Rattle.csv_rows.specs.Reading.{records_of}
 use Rattle.tree_model.specs.declared.plan.Refusal.{Refusal}
 use Rattle.tree_model.specs.View.{SystemView}
@@ -7,8 +7,10 @@ use Rattle.tree_model.specs.Tree.{NoLoss}
 use Rattle.tree_model.specs.Admission.{Admitted}
 use Rattle.compose_tree.specs.Truth.{IsTight, RefusalHolds}
 use Rattle.admission_session.specs.declared.answer.Answer.{Answer}
-use Rattle.admission_session.specs.declared.answer.Answer.TheVariants.{Denied}
+use Rattle.admission_session.specs.declared.answer.Answer.TheVariants.{Refused, Denied}
 use Rattle.admission_session.specs.declared.edit.Edit.{Edit}
+use Rattle.admission_session.specs.declared.fault.EditFault.{EditFault}
+use Rattle.admission_session.specs.Edits.{MakesSystem}
 use Rattle.admission_session.specs.History.{AreAnswered}
 use Rattle.script_file.specs.declared.fault.ScriptFault.{ScriptFault}
 use Rattle.script_file.specs.Script.{SpellsScript, IsScriptFault, script_rows}
@@ -60,16 +62,32 @@ DenialsHold answers =
     (k : ℕ) (edited : SystemView) (refusal : Refusal) →
     slice_get answers k ≡ Some (Denied edited refusal) → RefusalHolds edited refusal
 
--- yes means: each row was answered as the rules of an edit say, what a denied row is told holds,
--- and of the system that the rows leave, the budgets that the text tells admit it, no job is lost
--- on any level in any permitted run, whenever each server begins, and every whole budget below a
--- computed leaf budget must miss
+-- the edit of row k makes no system of the one that the rows before it leave
+pub record MakesNoSystem (sys : SystemView) (edits : List Edit) (answers : List Answer) (k : ℕ)
+    : Type 0 where
+  pub edit : Edit
+  pub is_row : slice_get edits k ≡ Some edit
+  pub now : SystemView
+  pub before : AreAnswered sys (take k edits) (take k answers) now
+  pub none : MakesSystem now edit → ⊥
+
+-- so it is of each row that is refused
+abbrev pub RefusedMakeNone : SystemView → List Edit → List Answer → Type 0
+RefusedMakeNone sys edits answers =
+    (k : ℕ) (fault : EditFault) → slice_get answers k ≡ Some (Refused fault) →
+    MakesNoSystem sys edits answers k
+
+-- yes means: each row was answered as the rules of an edit say, what a denied row is told holds, a
+-- refused row would make no system, and of the system that the rows leave, the budgets that the
+-- text tells admit it, no job is lost on any level in any permitted run, whenever each server
+-- begins, and every whole budget below a computed leaf budget must miss
 pub record LeavesDeadlines (sys : SystemView) (edits : List Edit) (text : List ℕ)
     : Type 0 where
   pub answers : List Answer
   pub last : SystemView
   pub answered : AreAnswered sys edits answers last
   pub denials : DenialsHold answers
+  pub refused : RefusedMakeNone sys edits answers
   pub budgets : List ℕ
   pub told : text ≡ session_text answers last budgets
   pub admitted : Admitted last budgets

@@ -1,5 +1,5 @@
 -- What `session` answers: one thing, its statuses, and what it means.
-use Rattle.std.proofs.Common.{◌≡◌, ℕ, zero, suc, List, [], ◌∷◌, length, Some, refl, sym, ◌∙◌, ap, arith, subst, inl, inr}
+use Rattle.std.proofs.Common.{◌≡◌, ℕ, zero, suc, List, [], ◌∷◌, length, Some, Ok, refl, sym, ◌∙◌, ap, arith, subst, inl, inr}
 use Rattle.std.proofs.lemmas.Option.{slice_get_within}
 use Rattle.csv_rows.specs.Reading.{records_of}
 use Rattle.tree_model.specs.declared.plan.Refusal.{Refusal}
@@ -11,11 +11,14 @@ use Rattle.compose_tree.specs.Truth.{RefusalHolds}
 use Rattle.compose_tree.proofs.Refusals.{refusal_holds}
 use Rattle.compose_tree.proofs.Sound.{admitted_no_loss, admitted_tight}
 use Rattle.admission_session.specs.declared.answer.Answer.{Answer}
-use Rattle.admission_session.specs.declared.answer.Answer.TheVariants.{Denied}
+use Rattle.admission_session.specs.declared.answer.Answer.TheVariants.{Refused, Denied}
 use Rattle.admission_session.specs.declared.edit.Edit.{Edit}
+use Rattle.admission_session.specs.declared.fault.EditFault.{EditFault}
+use Rattle.admission_session.specs.Edits.{MakesSystem}
 use Rattle.admission_session.specs.Answers.{IsAnswered}
 use Rattle.admission_session.specs.History.{AreAnswered}
 use Rattle.admission_session.proofs.History.{SameHistory, answered_system, history_system, one_history}
+use Rattle.admission_session.proofs.NoFault.{never_refused}
 use Rattle.script_file.specs.Script.{script_rows}
 use Rattle.script_file.proofs.OneScript.{one_script, no_script_fault, one_script_fault}
 use Rattle.rt_report.specs.Session.{session_text}
@@ -24,7 +27,7 @@ use Rattle.command_steps.specs.declared.status.Status.TheVariants.{Yes, No, Wide
 use Rattle.command_steps.specs.Answer.{Contents, IsOne}
 use Rattle.command_steps.specs.Budgets.{composing}
 use Rattle.command_steps.specs.CommandSpec.{IsVerdict}
-use Rattle.host_commands.specs.Session.{the_session, scripting, IsSession, EditsSystem, Edits, MeansOfEdits, SessionMeans, IsScript, DenialsHold}
+use Rattle.host_commands.specs.Session.{the_session, scripting, IsSession, EditsSystem, Edits, MeansOfEdits, SessionMeans, IsScript, DenialsHold, MakesNoSystem, RefusedMakeNone}
 use Rattle.command_steps.specs.Steps.{IsJudged}
 use Rattle.command_steps.proofs.Attempt.{IsDecided, one_attempt, statuses_attempt}
 use Rattle.command_steps.proofs.Budgets.{composing_decided, refused_status, refused_means}
@@ -87,6 +90,37 @@ denials_hold sys (edit ∷ edits) (answer ∷ answers) last is h zero edited ref
 denials_hold sys (edit ∷ edits) (answer ∷ answers) last is h (suc k) edited refusal e =
     denials_hold h.0 edits answers last (answered_system sys edit answer h.0 is h.1) h.2 k edited refusal e
 
+-- a refused row makes no system
+refused_none : (sys : SystemView) → IsSystem sys → (edit : Edit) (fault : EditFault) (now : SystemView)
+    → IsAnswered sys edit (Refused fault) now → MakesSystem sys edit → ⊥
+refused_none sys is edit fault now h makes =
+    never_refused {X = Unit {0}} sys is edit (Ok (Refused fault)) now h fault makes refl
+
+refused_make_none : (sys : SystemView) (edits : List Edit) (answers : List Answer) (last : SystemView) → IsSystem sys
+    → AreAnswered sys edits answers last → RefusedMakeNone sys edits answers
+refused_make_none sys [] answers last is h k fault e =
+    absurd (omega (arith, slice_get_within answers k (Refused fault) e, ap (λ (z : List Answer). length z) h.0))
+refused_make_none sys (edit ∷ edits) [] last is h k fault e = absurd h
+refused_make_none sys (edit ∷ edits) (answer ∷ answers) last is h zero fault e = record {
+  edit = edit;
+  is_row = refl;
+  now = sys;
+  before = (refl, refl);
+  none =
+      refused_none sys is edit fault h.0
+      (subst (λ (a : Answer). IsAnswered sys edit a h.0) (same_answer answer (Refused fault) e) h.1);
+}
+refused_make_none sys (edit ∷ edits) (answer ∷ answers) last is h (suc k) fault e =
+    let later : MakesNoSystem h.0 edits answers k
+    = refused_make_none h.0 edits answers last (answered_system sys edit answer h.0 is h.1) h.2 k fault e in
+    record {
+      edit = later.edit;
+      is_row = later.is_row;
+      now = later.now;
+      before = (h.0, h.1, later.before);
+      none = later.none;
+    }
+
 -- what it means
 edits_means : (sys : SystemView) → IsSystem sys → (edits : List Edit) (status : Status) (text : List ℕ)
     → EditsSystem sys edits status text → MeansOfEdits sys edits status text
@@ -98,6 +132,7 @@ edits_means sys is edits status text h = elim h [
         last = a.said.last;
         answered = a.said.answered;
         denials = denials_hold sys edits a.said.answers a.said.last is a.said.answered;
+        refused = refused_make_none sys edits a.said.answers a.said.last is a.said.answered;
         budgets = a.said.budgets;
         told = a.said.told;
         admitted = a.said.admitted;
