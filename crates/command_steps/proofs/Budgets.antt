@@ -1,6 +1,6 @@
 -- The steps that assign budgets and that admit a system: each gives one list of budgets or one
 -- refusal, of a node of the system; and what a refusal means.
-use Rattle.std.proofs.Common.{◌≡◌, List, ℕ, refl, sym, subst}
+use Rattle.std.proofs.Common.{◌≡◌, List, ℕ, refl, sym, subst, inl, inr}
 use Rattle.tree_model.specs.declared.plan.Refusal.{Refusal}
 use Rattle.tree_model.specs.declared.plan.Refusal.TheVariants.{Overfull, Wide as TooWide, NoMemory as NoRefusal}
 use Rattle.tree_model.specs.View.{SystemView}
@@ -8,13 +8,14 @@ use Rattle.tree_model.specs.System.{IsSystem}
 use Rattle.tree_model.specs.Admission.{Assigned, FirstRefusal, FirstUnassigned}
 use Rattle.tree_model.proofs.Unique.{one_assignment, never_assigned, one_unassigned, one_admission, never_both, one_refusal}
 use Rattle.compose_tree.specs.Truth.{RefusalHolds}
-use Rattle.compose_tree.proofs.Refusals.{refusal_holds}
+use Rattle.compose_tree.proofs.Refusals.{refusal_holds, unassigned_holds}
 use Rattle.rt_report.specs.Refusal.{refusal_text, IsRefusalOf}
 use Rattle.command_steps.specs.declared.status.Status.{Status}
 use Rattle.command_steps.specs.declared.status.Status.TheVariants.{No, Wide}
-use Rattle.command_steps.specs.Answer.{IsOne}
-use Rattle.command_steps.specs.Budgets.{assigning, composing, refusal_status, IsTrulyOverfull, OnAssigned}
+use Rattle.command_steps.specs.Answer.{IsOne, IfNo}
+use Rattle.command_steps.specs.Budgets.{assigning, composing, refusal_status, IsTrulyOverfull, OnAssigned, IsTrulyUnassigned, AssignedOrNone}
 use Rattle.command_steps.proofs.Attempt.{IsDecided, one_attempt, said_of_given, statuses_attempt}
+use Rattle.command_steps.proofs.Statuses.{if_no}
 
 pub assigning_decided : (sys : SystemView) → IsSystem sys → IsDecided (assigning sys)
 assigning_decided sys is = record {
@@ -90,3 +91,42 @@ pub refused_means : (Tells : SystemView → Status → List ℕ → Type 0) (sys
 refused_means Tells sys is at_no at_wide r first status text is_status told =
     subst (λ (s : Status). Tells sys s text) (sym is_status) (subst (Tells sys (refusal_status r)) (sym told)
     (refusal_means Tells sys at_no at_wide r first (refusal_holds sys is r first)))
+
+-- and so does a part that has no budget
+no_budget_means : (Tells : SystemView → Status → List ℕ → Type 0) (sys : SystemView)
+    → ((text : List ℕ) → IsTrulyUnassigned sys text → Tells sys No text) → ((text : List ℕ) → Tells sys Wide text)
+    → (r : Refusal) → FirstUnassigned sys r → RefusalHolds sys r → Tells sys (refusal_status r) (refusal_text sys r)
+no_budget_means Tells sys at_no at_wide (Overfull node short) first holds =
+    at_no _ (record { node = node; short = short; told = refl; first = first; holds = holds })
+no_budget_means Tells sys at_no at_wide (TooWide node) first holds = at_wide _
+no_budget_means Tells sys at_no at_wide NoRefusal first holds = absurd first
+
+pub unassigned_means : (Tells : SystemView → Status → List ℕ → Type 0) (sys : SystemView) → IsSystem sys
+    → ((text : List ℕ) → IsTrulyUnassigned sys text → Tells sys No text) → ((text : List ℕ) → Tells sys Wide text)
+    → (r : Refusal) → FirstUnassigned sys r → (status : Status) (text : List ℕ) → status ≡ refusal_status r
+    → text ≡ refusal_text sys r → Tells sys status text
+unassigned_means Tells sys is at_no at_wide r first status text is_status told =
+    subst (λ (s : Status). Tells sys s text) (sym is_status) (subst (Tells sys (refusal_status r)) (sym told)
+    (no_budget_means Tells sys at_no at_wide r first (unassigned_holds sys is r first)))
+
+-- so a no, where budgets that are assigned are answered otherwise
+pub no_without_budgets : (sys : SystemView) → IsSystem sys → (Says : List ℕ → Status → List ℕ → Type 0)
+    (status : Status) (text : List ℕ)
+    → ((budgets : List ℕ) → Says budgets status text → IfNo status (IsTrulyUnassigned sys text))
+    → OnAssigned sys Says status text → IfNo status (IsTrulyUnassigned sys text)
+no_without_budgets sys is Says status text said h = elim h [
+  | inl a ↦ said a.value a.said
+  | inr a ↦
+      unassigned_means (λ s t u. IfNo t (IsTrulyUnassigned s u)) sys is (λ t none. none) (λ t. tt) a.refusal a.refuses
+      status text a.status_is a.told
+]
+
+-- and any no
+pub no_of_assigned : (sys : SystemView) → IsSystem sys → (Says : List ℕ → Status → List ℕ → Type 0)
+    (status : Status) (text : List ℕ) → OnAssigned sys Says status text → IfNo status (AssignedOrNone sys text)
+no_of_assigned sys is Says status text h = elim h [
+  | inl a ↦ if_no status (inl (record { budgets = a.value; assigned = a.gives }))
+  | inr a ↦
+      unassigned_means (λ s t u. IfNo t (AssignedOrNone s u)) sys is (λ t none. inr none) (λ t. tt) a.refusal a.refuses
+      status text a.status_is a.told
+]

@@ -45,6 +45,12 @@ pub record AnswersSystem (Says Tells : SystemView → Status → List ℕ → Ty
       → Tells sys status text
   pub long : (sys : SystemView) (text : List ℕ) → Tells sys TooLong text
 
+-- what is said of a system means this
+pub record MeansSystem (Says Tells : SystemView → Status → List ℕ → Type 0) : Type 0 where
+  pub means : (sys : SystemView) → IsSystem sys → (status : Status) (text : List ℕ) → Says sys status text
+      → Tells sys status text
+  pub long : (sys : SystemView) (text : List ℕ) → Tells sys TooLong text
+
 -- what is said of the system that the file spells ends the command so
 pub record EndsSystem (Says : SystemView → Status → List ℕ → Type 0) (EndsAs : Contents → Status → Type 0) : Type 0
   where
@@ -67,14 +73,14 @@ long_tells : (Tells : SystemView → Status → List ℕ → Type 0) (spelled : 
 long_tells Tells (Ok sys) text long = long sys text
 long_tells Tells (Err fault) text long = tt
 
-spelled_tells : (Says Tells : SystemView → Status → List ℕ → Type 0) (bytes : List ℕ) → AnswersSystem Says Tells
+spelled_tells : (Says Tells : SystemView → Status → List ℕ → Type 0) (bytes : List ℕ) → MeansSystem Says Tells
     → (spelled : Result SystemView SystemFault) → system_of bytes ≡ spelled → (status : Status) (text : List ℕ)
     → OnSystem spelled Says status text → IfOk spelled (λ sys. Tells sys status text)
 spelled_tells Says Tells bytes judges (Ok sys) is status text h =
     judges.means sys (read_is_spelled bytes sys is).system status text h
 spelled_tells Says Tells bytes judges (Err fault) is status text h = tt
 
-content_tells : (Says Tells : SystemView → Status → List ℕ → Type 0) → AnswersSystem Says Tells
+pub content_tells : (Says Tells : SystemView → Status → List ℕ → Type 0) → MeansSystem Says Tells
     → (content : Option (List ℕ)) (status : Status) (text : List ℕ)
     → AtContent 1 content (λ bytes. OnSystem (system_of bytes) Says) status text
     → IfSome content (λ bytes. IfOk (system_of bytes) (λ sys. Tells sys status text))
@@ -113,7 +119,8 @@ pub ending_laws : (name : List ℕ) (Says Tells : SystemView → Status → List
 ending_laws name Says Tells EndsAs answers ends = record {
   one_answer =
       λ contents. one_at 1 (λ bytes. OnSystem (system_of bytes) Says) (one_on Says answers.one) (file_at 1 contents);
-  means = λ contents. content_tells Says Tells answers (file_at 1 contents);
+  means = λ contents.
+      content_tells Says Tells (record { means = answers.means; long = answers.long }) (file_at 1 contents);
   of_job = λ contents status text h. statuses_at IsOfJob tt tt 1 (λ bytes. OnSystem (system_of bytes) Says) status text
       (λ bytes. statuses_on IsOfJob tt Says status text
       (λ sys said. job_of_judged status (answers.judged sys status text said)) (system_of bytes))

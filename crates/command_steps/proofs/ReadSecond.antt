@@ -8,13 +8,15 @@ use Rattle.system_file.specs.SystemFile.{system_of}
 use Rattle.system_file.proofs.Laws.{read_is_spelled}
 use Rattle.command_steps.specs.declared.status.Status.{Status}
 use Rattle.command_steps.specs.declared.status.Status.TheVariants.{BadFile, NoMemory}
-use Rattle.command_steps.specs.Answer.{Contents, Saying, IsOne, IsReadable}
+use Rattle.command_steps.specs.Answer.{Contents, Saying, AtFile, IfNo, IfSystem, IsOne, IsReadable, file_at}
 use Rattle.command_steps.specs.Attempt.{Attempt, OnAttempt}
 use Rattle.command_steps.specs.CommandSpec.{CommandSpec}
 use Rattle.command_steps.specs.TwoFiles.{OnTwoFiles, SpellsSystem, AreReadable}
 use Rattle.command_steps.specs.Steps.{IsJudged}
+use Rattle.command_steps.proofs.AtFile.{statuses_at}
 use Rattle.command_steps.proofs.Attempt.{IsDecided, one_attempt, said_of_given, statuses_attempt}
 use Rattle.command_steps.proofs.CommandLaws.{CommandLaws}
+use Rattle.command_steps.proofs.OneFile.{content_tells}
 use Rattle.command_steps.proofs.Statuses.{IsOfJob, job_of_judged}
 use Rattle.command_steps.proofs.TwoFiles.{one_two, said_of_two, statuses_two}
 
@@ -43,6 +45,33 @@ said_of_read reading Says judges contents sys value status text spelled h =
     let bytes = spelled.second.bytes in
     said_of_given (reading sys bytes) (Says sys) status text (judges.decided sys bytes) value spelled.second.good
     (said_of_two contents sys _ (of_read reading Says) status text spelled h)
+
+-- what a no means of the system that the first file spells, whatever stands in the second
+no_of_second : {Value Fault : Type 0} (reading : SystemView → List ℕ → Attempt Value Fault)
+    (Says : SystemView → Value → Status → List ℕ → Type 0) → JudgesRead reading Says
+    → (P : Type 0) (sys : SystemView) (status : Status) (text : List ℕ)
+    → ((value : Value) → Says sys value status text → IfNo status P) → (contents : Contents)
+    → AtFile 2 contents (of_read reading Says sys) status text → IfNo status P
+no_of_second reading Says judges P sys status text means contents h =
+    statuses_at (λ (s : Status). IfNo s P) tt tt 2 (of_read reading Says sys) status text
+    (λ bytes. statuses_attempt (λ (s : Status). IfNo s P) (reading sys bytes) (Says sys) status text
+    (λ fault refuses. subst (λ (s : Status). IfNo s P) (sym (judges.bad_file sys bytes fault)) tt) means)
+    (file_at 2 contents) h
+
+pub no_of_read : {Value Fault : Type 0} (reading : SystemView → List ℕ → Attempt Value Fault)
+    (Says : SystemView → Value → Status → List ℕ → Type 0) → JudgesRead reading Says
+    → (P : SystemView → List ℕ → Type 0)
+    → ((sys : SystemView) → IsSystem sys → (value : Value) (status : Status) (text : List ℕ)
+    → Says sys value status text → IfNo status (P sys text))
+    → (contents : Contents) (status : Status) (text : List ℕ)
+    → OnTwoFiles contents (of_read reading Says) status text
+    → IfSystem contents (λ sys. IfNo status (P sys text))
+no_of_read reading Says judges P means contents status text h =
+    content_tells (λ sys. AtFile 2 contents (of_read reading Says sys)) (λ sys s t. IfNo s (P sys t)) (record {
+      means =
+          λ sys is s t. no_of_second reading Says judges (P sys t) sys s t (λ value. means sys is value s t) contents;
+      long = λ sys t. tt;
+    }) (file_at 1 contents) status text h
 
 pub is_spelled_system : (contents : Contents) (sys : SystemView) (IsGood : List ℕ → Type 0)
     → SpellsSystem contents sys IsGood → IsSystem sys

@@ -2,6 +2,7 @@
 use Rattle.std.specs.Prelude.{⊤}
 use Rattle.command_steps.specs.declared.status.Status.{Status}
 use Rattle.command_steps.specs.declared.status.Status.TheVariants.{Yes, No, Usage, BadFile, Wide, Absent, TooLong, ReadFault, WriteFault, NoMemory}
+use Rattle.command_steps.specs.Answer.{IfNo}
 use Rattle.command_steps.specs.Steps.{IsJudged}
 
 -- the status of an answer to a command
@@ -23,3 +24,16 @@ job_of_judged TooLong judged = absurd judged
 job_of_judged ReadFault judged = absurd judged
 job_of_judged WriteFault judged = absurd judged
 job_of_judged NoMemory judged = absurd judged
+
+-- what holds anyway holds where the answer is no
+pub if_no : {P : Type 0} (status : Status) → P → IfNo status P
+if_no Yes p = tt
+if_no No p = p
+if_no Usage p = tt
+if_no BadFile p = tt
+if_no Wide p = tt
+if_no Absent p = tt
+if_no TooLong p = tt
+if_no ReadFault p = tt
+if_no WriteFault p = tt
+if_no NoMemory p = tt

@@ -8,7 +8,7 @@ use Rattle.rt_report.specs.declared.fault.FileFault.TheVariants.{System}
 use Rattle.rt_report.specs.Fault.{fault_text}
 use Rattle.rt_report.specs.Unread.{absent_text, too_long_text}
 use Rattle.command_steps.specs.declared.status.Status.{Status}
-use Rattle.command_steps.specs.declared.status.Status.TheVariants.{BadFile, Absent, TooLong}
+use Rattle.command_steps.specs.declared.status.Status.TheVariants.{No, BadFile, Absent, TooLong}
 
 -- the most bytes of a file
 abbrev pub file_limit : ℕ
@@ -61,6 +61,11 @@ OnSystem (Err fault) Says status text =
 -- what holds of the system that the first file spells, where it spells one
 abbrev pub IfSystem : Contents → (SystemView → Type 0) → Type 0
 IfSystem contents P = IfSome (file_at 1 contents) (λ bytes. IfOk (system_of bytes) P)
+
+-- what holds where the answer is no
+abbrev pub IfNo : Status → Type 0 → Type 0
+IfNo No P = P
+IfNo _ P = ⊤
 
 -- file k is there, short enough, and good
 pub record IsReadable (k : ℕ) (contents : Contents) (IsGood : List ℕ → Type 0) : Type 0 where

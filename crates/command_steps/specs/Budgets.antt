@@ -1,6 +1,6 @@
 -- The budgets that a command takes for the parts of a system, each as it is given or the least that
 -- passes, tested at every node or not, and what is answered where a node refuses.
-use Rattle.std.specs.Prelude.{◌≡◌, ℕ, List}
+use Rattle.std.specs.Prelude.{◌≡◌, ◌⊎◌, ℕ, List}
 use Rattle.slot_model.specs.declared.sched.Short.{Short}
 use Rattle.tree_model.specs.declared.place.Place.{Place}
 use Rattle.tree_model.specs.declared.plan.Refusal.{Refusal}
@@ -52,3 +52,21 @@ pub record IsTrulyOverfull (sys : SystemView) (text : List ℕ) : Type 0 where
   pub told : text ≡ refusal_text sys (Overfull node short)
   pub first : FirstRefusal sys (Overfull node short)
   pub holds : RefusalHolds sys (Overfull node short)
+
+-- the same where only budgets are asked for: the first part that has none is told, and what is said
+-- of it is true
+pub record IsTrulyUnassigned (sys : SystemView) (text : List ℕ) : Type 0 where
+  pub node : Place
+  pub short : Short
+  pub told : text ≡ refusal_text sys (Overfull node short)
+  pub first : FirstUnassigned sys (Overfull node short)
+  pub holds : RefusalHolds sys (Overfull node short)
+
+-- budgets are assigned to a system
+pub record HasBudgets (sys : SystemView) : Type 0 where
+  pub budgets : List ℕ
+  pub assigned : Assigned sys budgets
+
+-- budgets are assigned, or the text tells the first part that has none
+abbrev pub AssignedOrNone : SystemView → List ℕ → Type 0
+AssignedOrNone sys text = HasBudgets sys ⊎ IsTrulyUnassigned sys text

@@ -57,8 +57,8 @@ commands_over_two_files : (file other text : List ℕ) (pattern : Pattern) (n : 
     (status : Status) →
     (Means (check file other) contents status text → CheckMeans contents status)
     × (Means (rtds file other n) contents status text → RunMeans n contents status text)
-    × (Means (audit file other) contents status text → AuditMeans contents status)
-    × (Means (simulate file other pattern n) contents status text → SimulateMeans pattern n contents status)
+    × (Means (audit file other) contents status text → AuditMeans contents status text)
+    × (Means (simulate file other pattern n) contents status text → SimulateMeans pattern n contents status text)
     × (Means (session file other) contents status text → SessionMeans contents status text)
     × (Means (place file other) contents status text → PlaceMeans contents status text)
     × (Means (tally file other) contents status text → TallyMeans contents status text)

@@ -16,7 +16,7 @@ use Rattle.tree_model.specs.declared.plan.Refusal.TheVariants.{Overfull, Wide, N
 use Rattle.tree_model.specs.View.{SystemView}
 use Rattle.tree_model.specs.System.{IsSystem, IsGivenBudget, core_at, part_at, own_tasks_at, is_leaf_at}
 use Rattle.tree_model.specs.Tree.{is_child, budget_at, core_bound, child_tasks, server_tasks, node_tasks}
-use Rattle.tree_model.specs.Admission.{BudgetStands, largest_budget, FirstRefusal}
+use Rattle.tree_model.specs.Admission.{BudgetStands, largest_budget, FirstRefusal, FirstUnassigned}
 use Rattle.tree_model.proofs.NodeTasks.{leaf_tasks, child_tasks-zero, child_tasks-suc}
 use Rattle.tree_model.proofs.Parents.{servers_constrained, leaf_constrained}
 use Rattle.tree_model.proofs.InRange.{InPeriod, assigned_in_period}
@@ -147,6 +147,16 @@ leaf_choice_fails sys budgets q h (Some given) overfull chosen =
     at_leaf q h (subst (LeafMustMiss sys q) (sym chosen) overfull)
 leaf_choice_fails sys budgets q h None overfull chosen = at_leaf q h (overfull (budget_at budgets q) chosen.1)
 
+-- a leaf that has no budget must miss with every one up to its period
+unassigned_leaf : (sys : SystemView) → IsSystem sys → (q : ℕ) (short : Short)
+    → FirstUnassigned sys (Overfull (Part q) short) → is_leaf_at sys q ≡ true
+    → LeafIsOverfull sys q (part_at sys q).budget
+unassigned_leaf sys is q short first leaf =
+    leaf_overfull sys is q first.is_node (part_at sys q).budget (is.parts q first.is_node).budget short
+    (subst (λ (tasks : List SporadicTask). IsShortfall (part_at sys q).sched tasks
+    (sbf (part_at sys q).period (largest_budget (part_at sys q).budget (part_at sys q).period)) short)
+    (leaf_tasks sys first.budgets q leaf) first.cause.1)
+
 -- what a first refusal says holds
 pub refusal_holds : (sys : SystemView) → IsSystem sys → (r : Refusal) → FirstRefusal sys r → RefusalHolds sys r
 refusal_holds sys is (Overfull (Part q) short) refused = record {
@@ -173,3 +183,15 @@ refusal_holds sys is (Overfull (Core c) short) refused = record {
 }
 refusal_holds sys is (Wide node) refused = tt
 refusal_holds sys is NoMemory refused = tt
+
+-- what is said of the first part that has no budget holds, and no core is refused for want of one
+pub unassigned_holds : (sys : SystemView) → IsSystem sys → (r : Refusal) → FirstUnassigned sys r → RefusalHolds sys r
+unassigned_holds sys is (Overfull (Part q) short) first = record {
+  leaf = λ leaf. unassigned_leaf sys is q short first leaf;
+  choices =
+      λ flat budgets chosen. leaf_choice_fails sys budgets q first.is_node (part_at sys q).budget
+      (unassigned_leaf sys is q short first (flat.parts q first.is_node)) (chosen.each q first.is_node);
+}
+unassigned_holds sys is (Overfull (Core c) short) first = absurd (let e = first.computed in cc)
+unassigned_holds sys is (Wide node) first = tt
+unassigned_holds sys is NoMemory first = tt

@@ -25,16 +25,18 @@ not_fewer_and_not_more :
 not_fewer_and_not_more = (refl, refl, refl, refl)
 
 -- a yes over told files says that the trace is satisfied, and a no that it is not
-what_it_means : (file trace : List ℕ) (files : Files) (contents : Contents) (status : Status)
-    → contents ≡ file_named file files ∷ file_named trace files ∷ [] → AuditMeans contents status
-    → AuditMeans (file_named file files ∷ file_named trace files ∷ []) status
-what_it_means file trace files contents status held means = subst (λ (c : Contents). AuditMeans c status) held means
+what_it_means : (file trace : List ℕ) (files : Files) (contents : Contents) (status : Status) (text : List ℕ)
+    → contents ≡ file_named file files ∷ file_named trace files ∷ [] → AuditMeans contents status text
+    → AuditMeans (file_named file files ∷ file_named trace files ∷ []) status text
+what_it_means file trace files contents status text held means =
+    subst (λ (c : Contents). AuditMeans c status text) held means
 
 a_yes_is_satisfied : (file trace : List ℕ) (files : Files) (old new : Option (List ℕ)) (sys : SystemView)
     (budgets : List ℕ) (events : List Event) → Reported (Some (audit file trace)) (Some files) Yes old new →
     IsAuditOf (file_named file files ∷ file_named trace files ∷ []) sys budgets events → Satisfied sys budgets events
 a_yes_is_satisfied file trace files old new sys budgets events h of =
-    (what_it_means file trace files h.answer.contents Yes h.answer.held h.answer.means sys budgets events of).only refl
+    ((what_it_means file trace files h.answer.contents Yes h.text h.answer.held h.answer.means).tells sys budgets
+    events of).only refl
 
 a_no_is_not : (file trace : List ℕ) (files : Files) (old new : Option (List ℕ)) (sys : SystemView) (budgets : List ℕ)
     (events : List Event) → Reported (Some (audit file trace)) (Some files) No old new →
@@ -43,6 +45,6 @@ a_no_is_not : (file trace : List ℕ) (files : Files) (old new : Option (List �
 a_no_is_not file trace files old new sys budgets events h of satisfied =
     (
     let same : No ≡ Yes
-    = (what_it_means file trace files h.answer.contents No h.answer.held h.answer.means sys budgets events of).always
-    satisfied in
+    = ((what_it_means file trace files h.answer.contents No h.text h.answer.held h.answer.means).tells sys budgets
+    events of).always satisfied in
     cc)

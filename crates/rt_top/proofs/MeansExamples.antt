@@ -30,7 +30,7 @@ use Rattle.command_steps.specs.declared.status.Status.TheVariants.{Yes, No, Usag
 use Rattle.command_words.specs.Commands.{Command, admit, certify, check, rtds, audit, simulate, bulk, version}
 use Rattle.command_steps.specs.Answer.{Contents, file_at, IfSystem, IsReadable}
 use Rattle.command_steps.specs.TwoFiles.{SpellsSystem}
-use Rattle.command_steps.specs.Budgets.{IsTrulyOverfull}
+use Rattle.command_steps.specs.Budgets.{IsTrulyOverfull, IsTrulyUnassigned}
 use Rattle.admit_commands.specs.Certify.{IsProof, TellsCertificate, CertifyMeans}
 use Rattle.admit_commands.specs.Check.{CheckMeans}
 use Rattle.trace_commands.specs.Rtds.{TellsRun, RunMeans, IsRunOf}
@@ -103,18 +103,28 @@ a_yes_to_a_workload : (file workload : List ℕ) (slots : ℕ) (files : Files) (
     (text : List ℕ) × TellsRun sys budgets wakes slots text × Appends old new text
 a_yes_to_a_workload file workload slots files old new sys budgets wakes h spelled assigned = (
   h.text,
-  what_rtds_means file workload slots files h.answer.contents Yes h.text h.answer.held h.answer.means sys budgets
+  (what_rtds_means file workload slots files h.answer.contents Yes h.text h.answer.held h.answer.means).run sys budgets
       wakes (a_run_of_these_files _ sys budgets wakes spelled assigned) refl,
+  h.written,
+)
+
+a_no_to_a_workload : (file workload : List ℕ) (slots : ℕ) (files : Files) (old new : Option (List ℕ))
+    → Reported (Some (rtds file workload slots)) (Some files) No old new →
+    (text : List ℕ) × IfSystem (file_named file files ∷ file_named workload files ∷ [])
+    (λ sys. IsTrulyUnassigned sys text) × Appends old new text
+a_no_to_a_workload file workload slots files old new h = (
+  h.text,
+  (what_rtds_means file workload slots files h.answer.contents No h.text h.answer.held h.answer.means).unassigned,
   h.written,
 )
 
 -- `simulate`: yes says that no job misses in the first run, and no that one does
 what_simulate_means : (pattern : Pattern) (n : ℕ) (file releases : List ℕ) (files : Files) (contents : Contents)
-    (status : Status) → contents ≡ file_named file files ∷ file_named releases files ∷ [] →
-    SimulateMeans pattern n contents status
-    → SimulateMeans pattern n (file_named file files ∷ file_named releases files ∷ []) status
-what_simulate_means pattern n file releases files contents status held means =
-    subst (λ (c : Contents). SimulateMeans pattern n c status) held means
+    (status : Status) (text : List ℕ) → contents ≡ file_named file files ∷ file_named releases files ∷ [] →
+    SimulateMeans pattern n contents status text
+    → SimulateMeans pattern n (file_named file files ∷ file_named releases files ∷ []) status text
+what_simulate_means pattern n file releases files contents status text held means =
+    subst (λ (c : Contents). SimulateMeans pattern n c status text) held means
 
 a_simulation_of_these_files : (pattern : Pattern) (n : ℕ) (contents : Contents) (sys : SystemView)
     (jobs : List (List Job)) (budgets : List ℕ) (core_runs part_runs : List (List (Option ℕ))) →
@@ -130,8 +140,8 @@ a_yes_to_releases : (pattern : Pattern) (n : ℕ) (file releases : List ℕ) (fi
     → IsSimulationOf pattern n (file_named file files ∷ file_named releases files ∷ []) sys jobs budgets core_runs
     part_runs → NoneMisses sys budgets n jobs core_runs part_runs
 a_yes_to_releases pattern n file releases files old new sys jobs budgets core_runs part_runs h of =
-    (what_simulate_means pattern n file releases files h.answer.contents Yes h.answer.held h.answer.means sys jobs
-    budgets core_runs part_runs of).only refl
+    ((what_simulate_means pattern n file releases files h.answer.contents Yes h.text h.answer.held
+    h.answer.means).tells sys jobs budgets core_runs part_runs of).only refl
 
 a_no_to_releases : (pattern : Pattern) (n : ℕ) (file releases : List ℕ) (files : Files) (old new : Option (List ℕ))
     (sys : SystemView) (jobs : List (List Job)) (budgets : List ℕ) (core_runs part_runs : List (List (Option ℕ))) →
@@ -141,8 +151,8 @@ a_no_to_releases : (pattern : Pattern) (n : ℕ) (file releases : List ℕ) (fil
 a_no_to_releases pattern n file releases files old new sys jobs budgets core_runs part_runs h of none =
     (
     let same : No ≡ Yes
-    = (what_simulate_means pattern n file releases files h.answer.contents No h.answer.held h.answer.means sys
-    jobs budgets core_runs part_runs of).always none in
+    = ((what_simulate_means pattern n file releases files h.answer.contents No h.text h.answer.held
+    h.answer.means).tells sys jobs budgets core_runs part_runs of).always none in
     cc)
 
 -- `bulk`: under budgets that admit the host no job is lost

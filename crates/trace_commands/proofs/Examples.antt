@@ -2,11 +2,16 @@
 use Rattle.std.proofs.Common.{◌≡◌, ◌⊎◌, ℕ, Bool, true, false, List, [], ◌∷◌, length, Option, Some, refl, ◌<◌, ◌≤◌, inl, inr}
 use Rattle.std.specs.Prelude.{codes, All, ◌++◌, Ok, IsOk}
 use Rattle.std.specs.Fmt.{digits}
+use Rattle.slot_model.specs.declared.sched.Short.{Short as ShortAt}
+use Rattle.tree_model.specs.declared.place.Place.{Place}
+use Rattle.tree_model.specs.declared.place.Place.TheVariants.{Part}
 use Rattle.tree_model.specs.declared.plan.Refusal.{Refusal}
+use Rattle.tree_model.specs.declared.plan.Refusal.TheVariants.{Overfull}
 use Rattle.tree_model.specs.View.{SystemView}
-use Rattle.tree_model.specs.System.{IsSystem}
+use Rattle.tree_model.specs.System.{IsSystem, is_leaf_at, part_at}
 use Rattle.tree_model.specs.Tree.{run_at}
 use Rattle.tree_model.specs.Admission.{Admitted, Assigned, FirstRefusal, FirstUnassigned}
+use Rattle.compose_tree.specs.Truth.{LeafIsOverfull, RefusalHolds}
 use Rattle.slot_model.specs.Slots.{sum_below}
 use Rattle.command_steps.specs.declared.status.Status.TheVariants.{Yes, No, BadFile}
 use Rattle.trace_file.specs.declared.event.Event.{Event}
@@ -29,18 +34,18 @@ use Rattle.rt_report.specs.Isolation.{isolation_text}
 use Rattle.rt_report.specs.Refusal.{refusal_text}
 use Rattle.rt_report.specs.Tally.{tally_lines}
 use Rattle.command_steps.specs.declared.status.Status.{Status}
-use Rattle.command_steps.specs.Answer.{Contents, IsReadable, Saying}
+use Rattle.command_steps.specs.Answer.{Contents, IfSystem, IsReadable}
 use Rattle.command_steps.specs.Attempt.{OnAttempt}
-use Rattle.command_steps.specs.Budgets.{IsTrulyOverfull, OnAssigned, assigning, composing, refusal_status}
+use Rattle.command_steps.specs.Budgets.{AssignedOrNone, IsTrulyOverfull, IsTrulyUnassigned, OnAssigned, assigning, composing, refusal_status}
 use Rattle.command_steps.specs.CommandSpec.{IsVerdict}
 use Rattle.command_steps.proofs.Attempt.{refused_first}
 use Rattle.command_steps.proofs.Budgets.{assigning_decided, composing_decided}
 use Rattle.rtds_sim.specs.Fault.{AllRtds, IsFirstOther}
 use Rattle.system_file.specs.SystemFile.{system_of}
-use Rattle.trace_commands.specs.Audit.{tracing, finding_status, the_audit, AuditsBytes, IsAudited, OnTrace, TellsSatisfied}
+use Rattle.trace_commands.specs.Audit.{tracing, finding_status, the_audit, AuditMeans, AuditsBytes, IsAudited, OnTrace, TellsSatisfied}
 use Rattle.trace_commands.specs.Isolate.{isolating, isolation_status, the_isolate, IsToldIsolation, IsolatesSystem, IsolationsMean, LineMeans, TellsIsolations}
-use Rattle.trace_commands.specs.Simulate.{kept_status, releasing, the_simulate, IsSimulated, SimulatesBytes}
-use Rattle.trace_commands.specs.Tally.{the_tally, IsToldTally, TalliesBytes, TellsTally}
+use Rattle.trace_commands.specs.Simulate.{kept_status, releasing, the_simulate, IsSimulated, SimulateMeans, SimulatesBytes}
+use Rattle.trace_commands.specs.Tally.{the_tally, IsToldTally, TalliesBytes, TallyMeans, TellsTally}
 use Rattle.trace_commands.proofs.Laws.Rtds.{waking_decided}
 use Rattle.trace_commands.proofs.Laws.Simulate.{releasing_decided}
 use Rattle.trace_commands.proofs.Laws.Traced.{tracing_decided}
@@ -56,7 +61,7 @@ use Rattle.trace_printer.specs.Printing.{printed_rows}
 use Rattle.release_file.specs.declared.workload.Wake.{Wake}
 use Rattle.rtds_sim.specs.Rtds.{RtdsRun}
 use Rattle.rtds_sim.specs.Giving.{AlwaysRunnable, ServersFit, AlwaysServed, GivesBudgets, NeverOver, NoneOver}
-use Rattle.trace_commands.specs.Rtds.{IsTraceOf, IsTraceText, RunsBytes, TellsRun, running, waking}
+use Rattle.trace_commands.specs.Rtds.{IsTraceOf, IsTraceText, RunMeans, RunsBytes, TellsRun, running, waking}
 
 -- faults of the trace
 faults_of_the_trace : (sys : SystemView) (bytes : List ℕ) →
@@ -98,6 +103,32 @@ a_host_that_gives : (sys : SystemView) (budgets : List ℕ) (wakes : List Wake) 
     ((c : ℕ) → c < length sys.cores → AlwaysRunnable sys wakes c) → Satisfied sys budgets told.events
 a_host_that_gives sys budgets wakes slots text told admitted runnable =
     told.satisfied (record { admitted = admitted; runnable = runnable })
+
+-- what a no of `rtds` says of the system that the first file spells, and one of the other three
+a_part_without_a_budget : (sys : SystemView) (text : List ℕ) → IsTrulyUnassigned sys text
+    → (node : Place) × (short : ShortAt) × (text ≡ refusal_text sys (Overfull node short))
+    × FirstUnassigned sys (Overfull node short) × RefusalHolds sys (Overfull node short)
+a_part_without_a_budget sys text none = (none.node, none.short, none.told, none.first, none.holds)
+
+a_leaf_without_a_budget : (sys : SystemView) (q : ℕ) (short : ShortAt) → RefusalHolds sys (Overfull (Part q) short)
+    → is_leaf_at sys q ≡ true → LeafIsOverfull sys q (part_at sys q).budget
+a_leaf_without_a_budget sys q short holds leaf = holds.leaf leaf
+
+what_no_run_says : (slots : ℕ) (contents : Contents) (text : List ℕ) → RunMeans slots contents No text
+    → IfSystem contents (λ sys. IsTrulyUnassigned sys text)
+what_no_run_says slots contents text means = means.unassigned
+
+what_a_no_says : (pattern : Pattern) (n : ℕ) (contents : Contents) (text : List ℕ)
+    → AuditMeans contents No text ⊎ TallyMeans contents No text ⊎ SimulateMeans pattern n contents No text
+    → IfSystem contents (λ sys. AssignedOrNone sys text)
+what_a_no_says pattern n contents text means = elim means [
+  | inl of_audit ↦ of_audit.unassigned
+  | inr others ↦ elim others [ inl of_tally ↦ of_tally.unassigned | inr of_simulate ↦ of_simulate.unassigned ]
+]
+
+budgets_or_a_part : (sys : SystemView) (text : List ℕ) → AssignedOrNone sys text
+    → ((budgets : List ℕ) × Assigned sys budgets) ⊎ IsTrulyUnassigned sys text
+budgets_or_a_part sys text said = elim said [ inl has ↦ inl (has.budgets, has.assigned) | inr none ↦ inr none ]
 
 -- what the lines of `isolate` say
 abbrev AreLinesOf : SystemView → List ℕ → List ℕ → Bool → Type 0

@@ -16,9 +16,9 @@ use Rattle.rt_report.specs.Fault.{fault_text}
 use Rattle.command_steps.specs.declared.status.Status.{Status}
 use Rattle.command_steps.specs.declared.status.Status.TheVariants.{Yes, No, BadFile}
 use Rattle.command_steps.specs.CommandSpec.{CommandSpec, IsVerdict}
-use Rattle.command_steps.specs.Answer.{Contents, Saying}
+use Rattle.command_steps.specs.Answer.{Contents, IfNo, IfSystem, Saying}
 use Rattle.command_steps.specs.Attempt.{Attempt, OnAttempt}
-use Rattle.command_steps.specs.Budgets.{OnAssigned}
+use Rattle.command_steps.specs.Budgets.{OnAssigned, AssignedOrNone}
 use Rattle.command_steps.specs.TwoFiles.{OnTwoFiles, SpellsSystem, AreReadable}
 
 -- the bytes of the second file spell events, or have a first fault
@@ -71,9 +71,17 @@ pub record TellsSatisfied (sys : SystemView) (budgets : List ℕ) (events : List
   pub only : status ≡ Yes → Satisfied sys budgets events
   pub always : Satisfied sys budgets events → status ≡ Yes
 
-abbrev pub AuditMeans : Contents → Status → Type 0
-AuditMeans contents status = (sys : SystemView) (budgets : List ℕ) (events : List Event)
-    → IsAuditOf contents sys budgets events → TellsSatisfied sys budgets events status
+-- what an answer to a trace means, where under the budgets it tells this: no also means that there
+-- are budgets, or that the first part that has none is told
+pub record TraceMeans (Tells : SystemView → List ℕ → List Event → Status → List ℕ → Type 0)
+    (contents : Contents) (status : Status) (text : List ℕ) : Type 0 where
+  pub tells : (sys : SystemView) (budgets : List ℕ) (events : List Event)
+      → IsAuditOf contents sys budgets events → Tells sys budgets events status text
+  pub unassigned : IfSystem contents (λ sys. IfNo status (AssignedOrNone sys text))
+
+abbrev pub AuditMeans : Contents → Status → List ℕ → Type 0
+AuditMeans =
+    TraceMeans (λ sys budgets events status text. TellsSatisfied sys budgets events status)
 
 -- the files are there, short enough, and spell a system and a trace
 pub record IsTrace (sys : SystemView) (bytes : List ℕ) : Type 0 where
@@ -88,7 +96,7 @@ abbrev pub the_audit : List ℕ → List ℕ → CommandSpec
 the_audit file trace = record {
   files = file ∷ trace ∷ [];
   Answers = Audits;
-  Means = λ contents status text. AuditMeans contents status;
+  Means = AuditMeans;
   CanJudge = CanAudit;
   EndsAs = λ contents. IsVerdict;
 }

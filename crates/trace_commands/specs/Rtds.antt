@@ -23,9 +23,9 @@ use Rattle.rt_report.specs.Fault.{fault_text, not_rtds_text}
 use Rattle.command_steps.specs.declared.status.Status.{Status}
 use Rattle.command_steps.specs.declared.status.Status.TheVariants.{Yes, BadFile}
 use Rattle.command_steps.specs.CommandSpec.{CommandSpec, IsVerdict}
-use Rattle.command_steps.specs.Answer.{Contents, IsReadable}
+use Rattle.command_steps.specs.Answer.{Contents, IfNo, IfSystem, IsReadable}
 use Rattle.command_steps.specs.Attempt.{Attempt, OnAttempt}
-use Rattle.command_steps.specs.Budgets.{OnAssigned}
+use Rattle.command_steps.specs.Budgets.{OnAssigned, IsTrulyUnassigned}
 use Rattle.command_steps.specs.TwoFiles.{OnTwoFiles, SpellsSystem, AreReadable}
 
 -- the bytes of the second file spell a workload, or have a first fault
@@ -99,9 +99,13 @@ pub record TellsRun (sys : SystemView) (budgets : List ℕ) (wakes : List Wake) 
   pub served : AlwaysServed sys budgets wakes → Satisfied sys budgets events
   pub satisfied : IsServed sys budgets wakes → Satisfied sys budgets events
 
-abbrev pub RunMeans : ℕ → Contents → Status → List ℕ → Type 0
-RunMeans slots contents status text = (sys : SystemView) (budgets : List ℕ) (wakes : List Wake)
-    → IsRunOf contents sys budgets wakes → status ≡ Yes → TellsRun sys budgets wakes slots text
+-- what an answer means: no means that the first part of the system that has no budget is told, and
+-- that what is said of it is true
+pub record RunMeans (slots : ℕ) (contents : Contents) (status : Status) (text : List ℕ)
+    : Type 0 where
+  pub run : (sys : SystemView) (budgets : List ℕ) (wakes : List Wake)
+      → IsRunOf contents sys budgets wakes → status ≡ Yes → TellsRun sys budgets wakes slots text
+  pub unassigned : IfSystem contents (λ sys. IfNo status (IsTrulyUnassigned sys text))
 
 -- the files are there, short enough, and spell a system and a workload
 pub record IsRunnable (sys : SystemView) (bytes : List ℕ) : Type 0 where

@@ -16,9 +16,9 @@ use Rattle.rt_report.specs.Simulate.{simulate_text}
 use Rattle.command_steps.specs.declared.status.Status.{Status}
 use Rattle.command_steps.specs.declared.status.Status.TheVariants.{Yes, No, BadFile}
 use Rattle.command_steps.specs.CommandSpec.{CommandSpec, IsVerdict}
-use Rattle.command_steps.specs.Answer.{Contents}
+use Rattle.command_steps.specs.Answer.{Contents, IfNo, IfSystem}
 use Rattle.command_steps.specs.Attempt.{Attempt, OnAttempt}
-use Rattle.command_steps.specs.Budgets.{OnAssigned}
+use Rattle.command_steps.specs.Budgets.{OnAssigned, AssignedOrNone}
 use Rattle.command_steps.specs.TwoFiles.{OnTwoFiles, SpellsSystem, AreReadable}
 
 -- the bytes of the second file spell the jobs of each part, or have a first fault
@@ -77,12 +77,15 @@ pub record TellsNoMiss (sys : SystemView) (n : ℕ) (jobs : List (List Job)) (bu
   pub only : status ≡ Yes → NoneMisses sys budgets n jobs core_runs part_runs
   pub always : NoneMisses sys budgets n jobs core_runs part_runs → status ≡ Yes
 
-abbrev pub SimulateMeans : Pattern → ℕ → Contents → Status → Type 0
-SimulateMeans pattern n contents status =
-    (sys : SystemView) (jobs : List (List Job)) (budgets : List ℕ)
-    (core_runs part_runs : List (List (Option ℕ)))
-    → IsSimulationOf pattern n contents sys jobs budgets core_runs part_runs
-    → TellsNoMiss sys n jobs budgets core_runs part_runs status
+-- what an answer means: no also means that there are budgets, or that the first part that has none
+-- is told
+pub record SimulateMeans (pattern : Pattern) (n : ℕ) (contents : Contents) (status : Status)
+    (text : List ℕ) : Type 0 where
+  pub tells : (sys : SystemView) (jobs : List (List Job)) (budgets : List ℕ)
+      (core_runs part_runs : List (List (Option ℕ)))
+      → IsSimulationOf pattern n contents sys jobs budgets core_runs part_runs
+      → TellsNoMiss sys n jobs budgets core_runs part_runs status
+  pub unassigned : IfSystem contents (λ sys. IfNo status (AssignedOrNone sys text))
 
 -- the files are there, short enough, and spell a system and releases
 pub record AreJobs (sys : SystemView) (bytes : List ℕ) : Type 0 where
@@ -97,7 +100,7 @@ abbrev pub the_simulate : List ℕ → List ℕ → Pattern → ℕ → CommandS
 the_simulate file releases pattern slots = record {
   files = file ∷ releases ∷ [];
   Answers = Simulates pattern slots;
-  Means = λ contents status text. SimulateMeans pattern slots contents status;
+  Means = SimulateMeans pattern slots;
   CanJudge = CanSimulate;
   EndsAs = λ contents. IsVerdict;
 }

@@ -16,7 +16,7 @@ use Rattle.command_steps.specs.declared.status.Status.TheVariants.{Yes}
 use Rattle.command_steps.specs.CommandSpec.{CommandSpec, IsVerdict}
 use Rattle.command_steps.specs.Answer.{Contents, Saying}
 use Rattle.command_steps.specs.TwoFiles.{OnTwoFiles}
-use Rattle.trace_commands.specs.Audit.{OnTrace, finding_status, IsAuditOf, TellsSatisfied, CanAudit}
+use Rattle.trace_commands.specs.Audit.{OnTrace, finding_status, TellsSatisfied, TraceMeans, CanAudit}
 
 -- the text tells the finding of an audit, and what is counted of each VCPU
 pub record IsToldTally (sys : SystemView) (budgets : List ℕ) (events : List Event)
@@ -47,8 +47,7 @@ pub record TellsTally (sys : SystemView) (budgets : List ℕ) (events : List Eve
       text ≡ audit_text sys budgets (Kept judged) ++ tally_lines sys 0 tallies
 
 abbrev pub TallyMeans : Contents → Status → List ℕ → Type 0
-TallyMeans contents status text = (sys : SystemView) (budgets : List ℕ) (events : List Event)
-    → IsAuditOf contents sys budgets events → TellsTally sys budgets events status text
+TallyMeans = TraceMeans TellsTally
 
 -- what there is to say of the command
 abbrev pub the_tally : List ℕ → List ℕ → CommandSpec

@@ -25,15 +25,15 @@ use Rattle.rtds_sim.specs.Giving.{AlwaysServed, ServersFit}
 use Rattle.rtds_sim.proofs.RunTraces.{each_gives, each_never_over, trace_of, trace_none_over, trace_satisfied}
 use Rattle.command_steps.specs.declared.status.Status.{Status}
 use Rattle.command_steps.specs.declared.status.Status.TheVariants.{Yes, BadFile}
-use Rattle.command_steps.specs.Answer.{Contents, IsOne, IsReadable}
+use Rattle.command_steps.specs.Answer.{Contents, IfNo, IsOne, IsReadable}
 use Rattle.command_steps.specs.Attempt.{OnAttempt}
-use Rattle.command_steps.specs.Budgets.{OnAssigned}
-use Rattle.trace_commands.specs.Rtds.{the_rtds, waking, running, IsTraceOf, IsTraceText, Runs, IsServed, TellsRun, RunMeans, IsRunnable, IsVerdictOfRun}
+use Rattle.command_steps.specs.Budgets.{IsTrulyUnassigned, OnAssigned}
+use Rattle.trace_commands.specs.Rtds.{the_rtds, waking, running, IsTraceOf, IsTraceText, Runs, IsRunOf, IsServed, TellsRun, RunMeans, IsRunnable, IsVerdictOfRun}
 use Rattle.command_steps.specs.Steps.{IsJudged}
 use Rattle.command_steps.proofs.Attempt.{IsDecided, one_attempt, statuses_attempt}
-use Rattle.command_steps.proofs.Budgets.{one_assigned, said_of_assigned, statuses_assigned}
+use Rattle.command_steps.proofs.Budgets.{no_without_budgets, one_assigned, said_of_assigned, statuses_assigned}
 use Rattle.command_steps.proofs.CommandLaws.{CommandLaws}
-use Rattle.command_steps.proofs.ReadSecond.{JudgesRead, is_spelled_system, read_laws, said_of_read}
+use Rattle.command_steps.proofs.ReadSecond.{JudgesRead, is_spelled_system, no_of_read, read_laws, said_of_read}
 
 pub waking_decided : (sys : SystemView) (bytes : List ℕ) → IsDecided (waking sys bytes)
 waking_decided sys bytes = record {
@@ -158,9 +158,10 @@ printed_tells sys is budgets plan wakes workload slots few status text h told = 
   | inr refused ↦ absurd (let e : Yes ≡ BadFile = sym told ∙ refused.status_is in cc)
 ]
 
-run_means : (slots : ℕ) → slots ≤ 1000000 → (contents : Contents) (status : Status) (text : List ℕ)
-    → Runs slots contents status text → RunMeans slots contents status text
-run_means slots few contents status text h = λ sys budgets wakes of told.
+run_tells : (slots : ℕ) → slots ≤ 1000000 → (contents : Contents) (status : Status) (text : List ℕ)
+    → Runs slots contents status text → (sys : SystemView) (budgets : List ℕ) (wakes : List Wake)
+    → IsRunOf contents sys budgets wakes → status ≡ Yes → TellsRun sys budgets wakes slots text
+run_tells slots few contents status text h = λ sys budgets wakes of told.
     let is : IsSystem sys = is_spelled_system contents sys _ of.spelled in
     let read = of.spelled.second in
     printed_tells sys is budgets (assigned_is_plan sys is budgets of.assigned) wakes
@@ -168,6 +169,24 @@ run_means slots few contents status text h = λ sys budgets wakes of told.
     (said_of_assigned sys is (λ b. OnAttempt (running sys b wakes slots) (IsTraceText sys)) status text budgets
     of.assigned
     (said_of_read waking (RunsWakes slots) (run_reads slots) contents sys wakes status text of.spelled h)) told
+
+-- where budgets are assigned, there is no no
+no_unassigned : (slots : ℕ) (sys : SystemView) → IsSystem sys → (wakes : List Wake) (status : Status) (text : List ℕ)
+    → RunsWakes slots sys wakes status text → IfNo status (IsTrulyUnassigned sys text)
+no_unassigned slots sys is wakes status text h =
+    no_without_budgets sys is (λ budgets. OnAttempt (running sys budgets wakes slots) (IsTraceText sys)) status text
+    (λ budgets. statuses_attempt (λ (s : Status). IfNo s (IsTrulyUnassigned sys text))
+    (running sys budgets wakes slots) (IsTraceText sys) status text (λ c other. tt)
+    (λ events. printed_status (λ (s : Status). IfNo s (IsTrulyUnassigned sys text)) tt sys events status text)) h
+
+run_means : (slots : ℕ) → slots ≤ 1000000 → (contents : Contents) (status : Status) (text : List ℕ)
+    → Runs slots contents status text → RunMeans slots contents status text
+run_means slots few contents status text h = record {
+  run = run_tells slots few contents status text h;
+  unassigned =
+      no_of_read waking (RunsWakes slots) (run_reads slots) IsTrulyUnassigned (no_unassigned slots) contents status
+      text h;
+}
 
 pub rtds_laws : (file workload : List ℕ) (slots : ℕ) → slots ≤ 1000000 → CommandLaws (the_rtds file workload slots)
 rtds_laws file workload slots few =

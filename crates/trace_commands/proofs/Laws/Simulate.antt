@@ -16,14 +16,14 @@ use Rattle.rt_report.proofs.OneCounts.{one_counts}
 use Rattle.command_steps.specs.declared.status.Status.{Status}
 use Rattle.command_steps.specs.declared.status.Status.TheVariants.{Yes, No, Wide}
 use Rattle.command_steps.specs.Answer.{Contents, IsOne}
-use Rattle.command_steps.specs.Budgets.{OnAssigned}
+use Rattle.command_steps.specs.Budgets.{AssignedOrNone, OnAssigned}
 use Rattle.command_steps.specs.CommandSpec.{IsVerdict}
-use Rattle.trace_commands.specs.Simulate.{the_simulate, releasing, RunsFirst, kept_status, IsSimulated, Simulates, TellsNoMiss, SimulateMeans, AreJobs}
+use Rattle.trace_commands.specs.Simulate.{the_simulate, releasing, RunsFirst, kept_status, IsSimulated, IsSimulationOf, Simulates, TellsNoMiss, SimulateMeans, AreJobs}
 use Rattle.command_steps.specs.Steps.{IsJudged}
 use Rattle.command_steps.proofs.Attempt.{IsDecided}
-use Rattle.command_steps.proofs.Budgets.{one_assigned, said_of_assigned, statuses_assigned}
+use Rattle.command_steps.proofs.Budgets.{no_of_assigned, one_assigned, said_of_assigned, statuses_assigned}
 use Rattle.command_steps.proofs.CommandLaws.{CommandLaws}
-use Rattle.command_steps.proofs.ReadSecond.{JudgesRead, is_spelled_system, read_laws, said_of_read}
+use Rattle.command_steps.proofs.ReadSecond.{JudgesRead, is_spelled_system, no_of_read, read_laws, said_of_read}
 
 pub releasing_decided : (sys : SystemView) (bytes : List ℕ) → IsDecided (releasing sys bytes)
 releasing_decided sys bytes = record {
@@ -111,20 +111,33 @@ simulate_reads pattern n = record {
   judged = simulates_status IsJudged tt tt tt pattern n;
 }
 
-simulate_means : (pattern : Pattern) (n : ℕ) (contents : Contents) (status : Status) (text : List ℕ)
-    → Simulates pattern n contents status text → SimulateMeans pattern n contents status
-simulate_means pattern n contents status text h = λ sys jobs budgets core_runs part_runs of.
+simulate_tells : (pattern : Pattern) (n : ℕ) (contents : Contents) (status : Status) (text : List ℕ)
+    → Simulates pattern n contents status text
+    → (sys : SystemView) (jobs : List (List Job)) (budgets : List ℕ) (core_runs part_runs : List (List (Option ℕ)))
+    → IsSimulationOf pattern n contents sys jobs budgets core_runs part_runs
+    → TellsNoMiss sys n jobs budgets core_runs part_runs status
+simulate_tells pattern n contents status text h = λ sys jobs budgets core_runs part_runs of.
     let is : IsSystem sys = is_spelled_system contents sys _ of.spelled in
     simulated_tells pattern n sys is jobs budgets core_runs part_runs of.first status text
     (said_of_assigned sys is (λ b. IsSimulated pattern n sys jobs b) status text budgets of.assigned
     (said_of_read releasing (SimulatesJobs pattern n) (simulate_reads pattern n) contents sys jobs status text
     of.spelled h))
 
+simulate_means : (pattern : Pattern) (n : ℕ) (contents : Contents) (status : Status) (text : List ℕ)
+    → Simulates pattern n contents status text → SimulateMeans pattern n contents status text
+simulate_means pattern n contents status text h = record {
+  tells = simulate_tells pattern n contents status text h;
+  unassigned =
+      no_of_read releasing (SimulatesJobs pattern n) (simulate_reads pattern n) AssignedOrNone
+      (λ sys is jobs s t. no_of_assigned sys is (λ budgets. IsSimulated pattern n sys jobs budgets) s t) contents
+      status text h;
+}
+
 pub simulate_laws : (file releases : List ℕ) (pattern : Pattern) (n : ℕ)
     → CommandLaws (the_simulate file releases pattern n)
 simulate_laws file releases pattern n =
     read_laws file releases releasing (SimulatesJobs pattern n)
-    (λ contents status text. SimulateMeans pattern n contents status) AreJobs (λ contents. IsVerdict)
+    (SimulateMeans pattern n) AreJobs (λ contents. IsVerdict)
     (simulate_reads pattern n) (record {
       means = simulate_means pattern n;
       good = λ sys bytes releases. (releases.jobs, releases.spelled);

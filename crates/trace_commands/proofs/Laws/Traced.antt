@@ -13,15 +13,15 @@ use Rattle.auditor.specs.Finding.{IsFinding}
 use Rattle.command_steps.specs.declared.status.Status.{Status}
 use Rattle.command_steps.specs.declared.status.Status.TheVariants.{Yes, No, Wide}
 use Rattle.command_steps.specs.Answer.{Contents, IsOne}
-use Rattle.command_steps.specs.Budgets.{OnAssigned}
+use Rattle.command_steps.specs.Budgets.{AssignedOrNone, OnAssigned}
 use Rattle.command_steps.specs.CommandSpec.{CommandSpec, IsVerdict}
 use Rattle.command_steps.specs.Steps.{IsJudged}
 use Rattle.command_steps.specs.TwoFiles.{OnTwoFiles}
 use Rattle.command_steps.proofs.Attempt.{IsDecided}
-use Rattle.command_steps.proofs.Budgets.{one_assigned, said_of_assigned, statuses_assigned}
+use Rattle.command_steps.proofs.Budgets.{no_of_assigned, one_assigned, said_of_assigned, statuses_assigned}
 use Rattle.command_steps.proofs.CommandLaws.{CommandLaws}
-use Rattle.command_steps.proofs.ReadSecond.{JudgesRead, is_spelled_system, read_laws, said_of_read}
-use Rattle.trace_commands.specs.Audit.{tracing, finding_status, IsAuditOf, OnTrace, TellsSatisfied, CanAudit, IsTrace}
+use Rattle.command_steps.proofs.ReadSecond.{JudgesRead, is_spelled_system, no_of_read, read_laws, said_of_read}
+use Rattle.trace_commands.specs.Audit.{tracing, finding_status, IsAuditOf, OnTrace, TellsSatisfied, TraceMeans, CanAudit, IsTrace}
 
 pub tracing_decided : (sys : SystemView) (bytes : List ℕ) → IsDecided (tracing sys bytes)
 tracing_decided sys bytes = record {
@@ -79,31 +79,37 @@ module _ (Says Tells : SystemView → List ℕ → List Event → Status → Lis
     judged = λ sys events. events_status IsJudged tt tt tt sys events;
   }
 
-  abbrev Means : Contents → Status → List ℕ → Type 0
-  Means contents status text =
-      (sys : SystemView) (budgets : List ℕ) (events : List Event)
+  tells_trace : (contents : Contents) (status : Status) (text : List ℕ)
+      → OnTwoFiles contents (OnTrace Says) status text
+      → (sys : SystemView) (budgets : List ℕ) (events : List Event)
       → IsAuditOf contents sys budgets events → Tells sys budgets events status text
-
-  means_trace : (contents : Contents) (status : Status) (text : List ℕ)
-      → OnTwoFiles contents (OnTrace Says) status text → Means contents status text
-  means_trace contents status text h = λ sys budgets events of.
+  tells_trace contents status text h = λ sys budgets events of.
       let is : IsSystem sys = is_spelled_system contents sys _ of.spelled in
       told.means sys is budgets events status text
       (said_of_assigned sys is (λ b. Says sys b events) status text budgets of.assigned
       (said_of_read tracing OnEvents reads contents sys events status text of.spelled h))
 
+  means_trace : (contents : Contents) (status : Status) (text : List ℕ)
+      → OnTwoFiles contents (OnTrace Says) status text → TraceMeans Tells contents status text
+  means_trace contents status text h = record {
+    tells = tells_trace contents status text h;
+    unassigned =
+        no_of_read tracing OnEvents reads AssignedOrNone
+        (λ sys is events s t. no_of_assigned sys is (λ budgets. Says sys budgets events) s t) contents status text h;
+  }
+
   abbrev over_trace : List ℕ → List ℕ → CommandSpec
   over_trace file trace = record {
     files = file ∷ trace ∷ [];
     Answers = λ contents. OnTwoFiles contents (OnTrace Says);
-    Means = Means;
+    Means = TraceMeans Tells;
     CanJudge = CanAudit;
     EndsAs = λ contents. IsVerdict;
   }
 
   pub trace_laws : (file trace : List ℕ) → CommandLaws (over_trace file trace)
   trace_laws file trace =
-      read_laws file trace tracing OnEvents Means IsTrace (λ contents. IsVerdict) reads (record {
+      read_laws file trace tracing OnEvents (TraceMeans Tells) IsTrace (λ contents. IsVerdict) reads (record {
         means = means_trace;
         good = λ sys bytes trace. (trace.events, trace.spelled);
         verdict = λ contents sys spelled events. events_status IsVerdict tt tt tt sys events;
