@@ -14,9 +14,18 @@ import load
 
 mutants = load.load("mutants")
 
-# Says of each edit what stands in it behind `says:`, as rt does, and notes that it ran.
+# Says of each edit what stands in it behind `says:`, as rt does, and notes that it ran. A check says of each function what
+# stands in its body behind `says`, or names the first line with `wrong`.
 RT = """#!/bin/sh
 [ "$1" = version ] && { echo "kit 1"; exit 0; }
+if [ "$1" = check ]; then
+    echo "check $(basename "$PWD") $*" >>"$RAN"
+    line=$(sed -n '/wrong/{=;q;}' src/lib.rt)
+    [ -z "$line" ] || { echo "src/lib.rt:$line:5: error[type]: it is wrong"; exit 1; }
+    sed -n "s/.*says \\([a-z]*\\) \\(.*\\)/fn $(basename "$PWD")::\\1: \\2/p" src/lib.rt
+    echo only=1 proved=0
+    exit 1
+fi
 echo "$2 $(ls crates/$2/must-fail | tr '\\n' ' ')" >>"$RAN"
 for edit in crates/$2/must-fail/*.edit; do
     said="$(sed -n 's/^says: //p' "$edit")"
@@ -111,6 +120,51 @@ class Texts(Crates):
         self.assertEqual(mutants.faults_of_texts(load.top)[0], [])
 
 
+class Together(Crates):
+    """Bodies of different functions are tried in one check."""
+
+    SOURCE = "".join(f"fn {name}() -> u32 {{\n    1 // says {name} proved\n}}\n" for name in ("one", "two", "three"))
+
+    def setUp(self):
+        super().setUp()
+        self.write("crates/low/src/lib.rt", self.SOURCE)
+
+    def body(self, name, function, said, says=REFUSED):
+        self.edit(f"mutants/low/{name}.edit", f"file: src/lib.rt\nold: 1 // says {function} proved\nnew: {said}\n", says)
+
+    def checks(self):
+        return [line for line in self.ran.read_text().split("\n") if line.startswith("check")]
+
+    def test_one_check_tells_of_each(self):
+        self.body("a", "one", "2 // says one not proved")
+        self.body("b", "two", "2 // says two proved")
+        status, said = self.try_all()
+        self.assertEqual(status, 1)
+        self.assertIn("low/a: refused\n", said)
+        self.assertIn("1 LET THROUGH: low/b", said)
+        self.assertEqual(self.checks(), ["check low check --jobs 1 --only one --only two"])
+        self.assertEqual((self.room / "crates/low/src/lib.rt").read_text(), self.SOURCE)
+
+    def test_two_of_one_function_are_tried_one_after_the_other(self):
+        for name in ("a", "b"):
+            self.body(name, "one", f"{name} // says one not proved")
+        self.assertEqual(self.try_all()[0], 0)
+        self.assertEqual(len(self.checks()), 2)
+
+    def test_a_body_that_does_not_compile_is_told_and_the_others_are_tried(self):
+        self.body("a", "one", "wrong")
+        self.body("b", "two", "2 // says two not proved")
+        said = self.try_all()[1]
+        self.assertIn("low/a: CANNOT BE APPLIED (BAD EDIT: src/lib.rt:2:5: error[type]: it is wrong)", said)
+        self.assertIn("low/b: refused\n", said)
+
+    def test_a_body_of_which_a_check_says_nothing_is_tried_alone(self):
+        self.body("a", "one", "2")
+        self.body("b", "two", "2 // says two not proved")
+        self.assertEqual(self.try_all()[0], 0)
+        self.assertEqual(self.ran.read_text().split("\n")[1:], ["low a.edit ", ""])
+
+
 class Tries(Crates):
     def test_each_answer_is_told_and_summed_up(self):
         self.edit("mutants/low/one.edit")
@@ -167,12 +221,12 @@ class Tries(Crates):
         self.edit("mutants/high/one.edit")
         self.edit("mutants/low/two.edit")
         self.write("bin/rt", RT.replace('echo "$2', '[ "$2" = high ] || [ -e "$RAN.2" ] || { touch "$RAN.2"; sleep 60; }; echo "$2'))
-        tool = load.top / "tools" / "mutants"
         (self.top / "tools").mkdir()
-        shutil.copy(tool, self.top / "tools/mutants")
+        for name in ("mutants", "bodies.py"):
+            shutil.copy(load.top / "tools" / name, self.top / "tools" / name)
         words = [str(self.top / "tools/mutants"), "--room", str(self.room)]
         started = subprocess.Popen(words, stdout=subprocess.DEVNULL, stderr=subprocess.DEVNULL)
-        while not pathlib.Path(f"{self.ran}.2").exists():
+        while not pathlib.Path(f"{self.ran}.2").exists() and started.poll() is None:
             time.sleep(0.02)
         started.terminate()
         self.assertEqual(started.wait(10), 130)
