@@ -13,7 +13,7 @@ use Rattle.rt_report.specs.Refusal.{refusal_text, IsRefusalOf}
 use Rattle.command_steps.specs.declared.status.Status.{Status}
 use Rattle.command_steps.specs.declared.status.Status.TheVariants.{No, Wide}
 use Rattle.command_steps.specs.Answer.{IsOne, IfNo}
-use Rattle.command_steps.specs.Budgets.{assigning, composing, refusal_status, IsTrulyOverfull, OnAssigned, IsTrulyUnassigned, AssignedOrNone}
+use Rattle.command_steps.specs.Budgets.{assigning, composing, refusal_status, IsTrueNo, IsTrulyOverfull, OnAssigned, IsTrulyUnassigned, AssignedOrNone}
 use Rattle.command_steps.proofs.Attempt.{IsDecided, one_attempt, said_of_given, statuses_attempt}
 use Rattle.command_steps.proofs.Statuses.{if_no}
 
@@ -75,39 +75,39 @@ pub said_of_assigned : (sys : SystemView) → IsSystem sys
 said_of_assigned sys is Says status text budgets assigned h =
     said_of_given (assigning sys) Says status text (assigning_decided sys is) budgets assigned h
 
--- a first refusal means what it is to mean
-refusal_means : (Tells : SystemView → Status → List ℕ → Type 0) (sys : SystemView)
-    → ((text : List ℕ) → IsTrulyOverfull sys text → Tells sys No text) → ((text : List ℕ) → Tells sys Wide text)
-    → (r : Refusal) → FirstRefusal sys r → RefusalHolds sys r → Tells sys (refusal_status r) (refusal_text sys r)
-refusal_means Tells sys at_no at_wide (Overfull node short) first holds =
+-- a first refusal of a node, of those that are asked for, means what it is to mean
+refusal_means : (First : SystemView → Refusal → Type 0) (Tells : SystemView → Status → List ℕ → Type 0)
+    (sys : SystemView)
+    → ((text : List ℕ) → IsTrueNo First sys text → Tells sys No text) → ((text : List ℕ) → Tells sys Wide text)
+    → (r : Refusal) → IsRefusalOf sys r → First sys r → RefusalHolds sys r
+    → Tells sys (refusal_status r) (refusal_text sys r)
+refusal_means First Tells sys at_no at_wide (Overfull node short) is_node first holds =
     at_no _ (record { node = node; short = short; told = refl; first = first; holds = holds })
-refusal_means Tells sys at_no at_wide (TooWide node) first holds = at_wide _
-refusal_means Tells sys at_no at_wide NoRefusal first holds = absurd first
+refusal_means First Tells sys at_no at_wide (TooWide node) is_node first holds = at_wide _
+refusal_means First Tells sys at_no at_wide NoRefusal is_node first holds = absurd is_node
+
+told_as : (Tells : SystemView → Status → List ℕ → Type 0) (sys : SystemView) (r : Refusal)
+    → Tells sys (refusal_status r) (refusal_text sys r) → (status : Status) (text : List ℕ)
+    → status ≡ refusal_status r → text ≡ refusal_text sys r → Tells sys status text
+told_as Tells sys r means status text is_status told =
+    subst (λ (s : Status). Tells sys s text) (sym is_status) (subst (Tells sys (refusal_status r)) (sym told) means)
 
 pub refused_means : (Tells : SystemView → Status → List ℕ → Type 0) (sys : SystemView) → IsSystem sys
     → ((text : List ℕ) → IsTrulyOverfull sys text → Tells sys No text) → ((text : List ℕ) → Tells sys Wide text)
     → (r : Refusal) → FirstRefusal sys r → (status : Status) (text : List ℕ) → status ≡ refusal_status r
     → text ≡ refusal_text sys r → Tells sys status text
-refused_means Tells sys is at_no at_wide r first status text is_status told =
-    subst (λ (s : Status). Tells sys s text) (sym is_status) (subst (Tells sys (refusal_status r)) (sym told)
-    (refusal_means Tells sys at_no at_wide r first (refusal_holds sys is r first)))
+refused_means Tells sys is at_no at_wide r first =
+    told_as Tells sys r (refusal_means FirstRefusal Tells sys at_no at_wide r (refusal_told sys r first) first
+    (refusal_holds sys is r first))
 
 -- and so does a part that has no budget
-no_budget_means : (Tells : SystemView → Status → List ℕ → Type 0) (sys : SystemView)
-    → ((text : List ℕ) → IsTrulyUnassigned sys text → Tells sys No text) → ((text : List ℕ) → Tells sys Wide text)
-    → (r : Refusal) → FirstUnassigned sys r → RefusalHolds sys r → Tells sys (refusal_status r) (refusal_text sys r)
-no_budget_means Tells sys at_no at_wide (Overfull node short) first holds =
-    at_no _ (record { node = node; short = short; told = refl; first = first; holds = holds })
-no_budget_means Tells sys at_no at_wide (TooWide node) first holds = at_wide _
-no_budget_means Tells sys at_no at_wide NoRefusal first holds = absurd first
-
 pub unassigned_means : (Tells : SystemView → Status → List ℕ → Type 0) (sys : SystemView) → IsSystem sys
     → ((text : List ℕ) → IsTrulyUnassigned sys text → Tells sys No text) → ((text : List ℕ) → Tells sys Wide text)
     → (r : Refusal) → FirstUnassigned sys r → (status : Status) (text : List ℕ) → status ≡ refusal_status r
     → text ≡ refusal_text sys r → Tells sys status text
-unassigned_means Tells sys is at_no at_wide r first status text is_status told =
-    subst (λ (s : Status). Tells sys s text) (sym is_status) (subst (Tells sys (refusal_status r)) (sym told)
-    (no_budget_means Tells sys at_no at_wide r first (unassigned_holds sys is r first)))
+unassigned_means Tells sys is at_no at_wide r first =
+    told_as Tells sys r (refusal_means FirstUnassigned Tells sys at_no at_wide r (unassigned_told sys r first) first
+    (unassigned_holds sys is r first))
 
 -- so a no, where budgets that are assigned are answered otherwise
 pub no_without_budgets : (sys : SystemView) → IsSystem sys → (Says : List ℕ → Status → List ℕ → Type 0)

@@ -44,23 +44,23 @@ assigning sys = record {
 abbrev pub OnAssigned : SystemView → (List ℕ → Status → List ℕ → Type 0) → Status → List ℕ → Type 0
 OnAssigned sys Says status text = OnAttempt (assigning sys) Says status text
 
--- no means: the refusal that the text tells is the first, and it is true of every supply and every
--- release
-pub record IsTrulyOverfull (sys : SystemView) (text : List ℕ) : Type 0 where
+-- no means: the refusal that the text tells is the first, of those that are asked for, and it is
+-- true of every supply and every release
+pub record IsTrueNo (First : SystemView → Refusal → Type 0) (sys : SystemView)
+    (text : List ℕ) : Type 0 where
   pub node : Place
   pub short : Short
   pub told : text ≡ refusal_text sys (Overfull node short)
-  pub first : FirstRefusal sys (Overfull node short)
+  pub first : First sys (Overfull node short)
   pub holds : RefusalHolds sys (Overfull node short)
 
--- the same where only budgets are asked for: the first part that has none is told, and what is said
--- of it is true
-pub record IsTrulyUnassigned (sys : SystemView) (text : List ℕ) : Type 0 where
-  pub node : Place
-  pub short : Short
-  pub told : text ≡ refusal_text sys (Overfull node short)
-  pub first : FirstUnassigned sys (Overfull node short)
-  pub holds : RefusalHolds sys (Overfull node short)
+-- the first node of the whole system that does not pass
+abbrev pub IsTrulyOverfull : SystemView → List ℕ → Type 0
+IsTrulyOverfull sys text = IsTrueNo FirstRefusal sys text
+
+-- where only budgets are asked for: the first part that has none
+abbrev pub IsTrulyUnassigned : SystemView → List ℕ → Type 0
+IsTrulyUnassigned sys text = IsTrueNo FirstUnassigned sys text
 
 -- budgets are assigned to a system
 pub record HasBudgets (sys : SystemView) : Type 0 where

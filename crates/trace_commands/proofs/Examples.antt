@@ -19,7 +19,9 @@ use Rattle.trace_file.specs.declared.fault.TraceFault.{TraceFault}
 use Rattle.trace_file.specs.declared.fault.TraceFault.TheVariants.{BadHeader, TimeFalls}
 use Rattle.trace_file.specs.File.{IsFileFault, rows_of}
 use Rattle.trace_file.specs.Periods.{Satisfied}
+use Rattle.auditor.specs.declared.finding.Finding.{Finding}
 use Rattle.auditor.specs.declared.finding.Finding.TheVariants.{Yes as Kept, Short, Over}
+use Rattle.auditor.specs.Finding.{IsFinding}
 use Rattle.auditor.specs.Tally.{AreTallies, tally_at}
 use Rattle.vcpu_watch.specs.declared.tally.Tally.{Tally}
 use Rattle.isolation.specs.declared.isolation.Isolation.TheVariants.{Isolated, ByTies, ByBlock}
@@ -168,13 +170,16 @@ what_a_line_says : (sys : SystemView) (budgets : List ℕ) (c v last : ℕ)
     × (LineMeans sys budgets c v ByBlock → IsExposedInTrace sys budgets c v)
 what_a_line_says sys budgets c v last = (λ h. h, λ h. h, λ h. h)
 
--- what a tally says: what an audit does, and on yes the periods of all VCPUs
+-- what a tally says: what an audit does, whatever it finds, and behind it what is counted; and on
+-- yes the periods of all VCPUs
 what_a_tally_says : (sys : SystemView) (budgets : List ℕ) (events : List Event) (status : Status) (text : List ℕ)
     → TellsTally sys budgets events status text
-    → (tallies : List Tally) × TellsSatisfied sys budgets events status × AreTallies sys budgets events tallies
-    × (status ≡ Yes → text ≡ audit_text sys budgets (Kept (sum_below (λ v. (tally_at tallies v).judged)
-    (length sys.parts))) ++ tally_lines sys 0 tallies)
-what_a_tally_says sys budgets events status text told = (told.tallies, told.satisfied, told.counted, told.on_yes)
+    → (finding : Finding) × (tallies : List Tally) × TellsSatisfied sys budgets events status
+    × IsFinding sys budgets events finding × AreTallies sys budgets events tallies
+    × (text ≡ audit_text sys budgets finding ++ tally_lines sys 0 tallies)
+    × (status ≡ Yes → finding ≡ Kept (sum_below (λ v. (tally_at tallies v).judged) (length sys.parts)))
+what_a_tally_says sys budgets events status text told =
+    (told.finding, told.tallies, told.satisfied, told.found, told.counted, told.told, told.on_yes)
 
 -- faults of a workload and of releases, and of a core that is not full or not under earliest
 -- deadline first

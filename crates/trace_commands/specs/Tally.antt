@@ -35,16 +35,20 @@ TalliesBytes = OnTrace IsToldTally
 abbrev pub Tallies : Contents → Status → List ℕ → Type 0
 Tallies contents = OnTwoFiles contents TalliesBytes
 
--- Yes means what it means after `audit`, and then the periods that the second line counts are those
--- that the lines of the VCPUs tell as judged.
+-- The text is that of an audit, and behind it what is counted of each VCPU. Yes and no mean what
+-- they mean after `audit`; and on yes the periods that the second line counts are those that the
+-- lines of the VCPUs tell as judged.
 pub record TellsTally (sys : SystemView) (budgets : List ℕ) (events : List Event)
     (status : Status) (text : List ℕ) : Type 0 where
   pub satisfied : TellsSatisfied sys budgets events status
+  pub finding : Finding
+  pub found : IsFinding sys budgets events finding
   pub tallies : List Tally
   pub counted : AreTallies sys budgets events tallies
+  pub told : text ≡ audit_text sys budgets finding ++ tally_lines sys 0 tallies
   pub on_yes : status ≡ Yes → let judged = sum_below (λ v. (tally_at tallies v).judged)
       (length sys.parts) in
-      text ≡ audit_text sys budgets (Kept judged) ++ tally_lines sys 0 tallies
+      finding ≡ Kept judged
 
 abbrev pub TallyMeans : Contents → Status → List ℕ → Type 0
 TallyMeans = TraceMeans TellsTally

@@ -1,5 +1,5 @@
 -- What `tally` tells of a trace, and what it means.
-use Rattle.std.proofs.Common.{◌≡◌, ℕ, ◌++◌, List, length, sym, ◌∙◌, ap, subst}
+use Rattle.std.proofs.Common.{◌≡◌, ℕ, List, length, sym, ◌∙◌, ap, subst}
 use Rattle.slot_model.specs.Slots.{sum_below}
 use Rattle.tree_model.specs.View.{SystemView}
 use Rattle.tree_model.specs.System.{IsSystem}
@@ -11,8 +11,7 @@ use Rattle.auditor.specs.Finding.{IsFinding}
 use Rattle.auditor.specs.Tally.{AreTallies, tally_at}
 use Rattle.auditor.proofs.OneFinding.{one_finding}
 use Rattle.auditor.proofs.OneTally.{one_tallies, judged_sum}
-use Rattle.rt_report.specs.Audit.{audit_text}
-use Rattle.rt_report.specs.Tally.{tally_lines, tally_text}
+use Rattle.rt_report.specs.Tally.{tally_text}
 use Rattle.command_steps.specs.declared.status.Status.{Status}
 use Rattle.command_steps.specs.declared.status.Status.TheVariants.{Yes}
 use Rattle.command_steps.specs.Answer.{IsOne}
@@ -36,12 +35,9 @@ one_told sys budgets events = λ s t x y p q.
 on_yes : (sys : SystemView) → IsSystem sys
     → (budgets : List ℕ) (events : List Event) (finding : Finding) (tallies : List Tally)
     → IsFinding sys budgets events finding → AreTallies sys budgets events tallies → finding_status finding ≡ Yes
-    → tally_text sys budgets finding tallies
-    ≡ audit_text sys budgets (Kept (sum_below (λ v. (tally_at tallies v).judged) (length sys.parts)))
-    ++ tally_lines sys 0 tallies
+    → finding ≡ Kept (sum_below (λ v. (tally_at tallies v).judged) (length sys.parts))
 on_yes sys is budgets events (Kept periods) tallies found counted told =
-    ap (λ (z : ℕ). audit_text sys budgets (Kept z) ++ tally_lines sys 0 tallies)
-    (found.1 ∙ sym (judged_sum sys is budgets events tallies counted))
+    ap Kept (found.1 ∙ sym (judged_sum sys is budgets events tallies counted))
 on_yes sys is budgets events (Short v from got) tallies found counted told = absurd (cc)
 on_yes sys is budgets events (Over v from got) tallies found counted told = absurd (cc)
 
@@ -52,9 +48,12 @@ told_tells sys is budgets events status text h = record {
   satisfied =
       subst (λ (z : Status). TellsSatisfied sys budgets events z) (sym h.status_is)
       (finding_tells sys budgets events h.finding h.found);
+  finding = h.finding;
+  found = h.found;
   tallies = h.tallies;
   counted = h.counted;
-  on_yes = λ told. h.told ∙ on_yes sys is budgets events h.finding h.tallies h.found h.counted (sym h.status_is ∙ told);
+  told = h.told;
+  on_yes = λ is_yes. on_yes sys is budgets events h.finding h.tallies h.found h.counted (sym h.status_is ∙ is_yes);
 }
 
 pub tally_laws : (file trace : List ℕ) → CommandLaws (the_tally file trace)
