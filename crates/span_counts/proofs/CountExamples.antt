@@ -14,7 +14,7 @@ abbrev jobs : List Job
 jobs = plain_job 0 0 2 ∷ plain_job 1 3 2 ∷ plain_job 2 6 1 ∷ []
 
 abbrev slots : List Bool
-slots = false ∷ true ∷ false ∷ true ∷ true ∷ false ∷ []
+slots = true ∷ true ∷ false ∷ true ∷ true ∷ true ∷ []
 
 abbrev run : List (Option ℕ)
 run = None ∷ Some 0 ∷ None ∷ None ∷ Some 1 ∷ None ∷ []
@@ -28,9 +28,10 @@ the_first_misses : Missed tasks jobs run 0
 unfolding sum_below
 the_first_misses = record { is_job = omega arith; in_run = omega arith; short = omega arith }
 
--- three slots are given, two jobs are released, and each of them lacks a slot of its two
+-- five slots are given, the first and the last among them, two jobs are released, and each of these
+-- lacks a slot of its two
 two_jobs_miss : AreCounts tasks jobs slots run (record {
-  given = 3;
+  given = 5;
   released = 2;
   missed = 2;
   first = Some (record { task = 0; release = 0; deadline = 4; got = 1; work = 2 });

@@ -1,54 +1,16 @@
 -- What is counted of a tree over one slot, by hand: an inner part with two leaves on a full core.
 -- Both leaves have a job of one slot that is due at its end, and the second gets the slot. A wrong
 -- definition breaks one of these.
-use Rattle.std.proofs.Common.{◌≡◌, ℕ, ◌<◌, Bool, true, false, Option, Some, None, List, [], ◌∷◌, arith, refl}
+use Rattle.std.proofs.Common.{◌≡◌, ℕ, true, false, Option, Some, None, List, [], ◌∷◌, arith, refl}
 use Rattle.slot_model.specs.declared.job.Job.{Job}
-use Rattle.slot_model.specs.declared.sched.Sched.TheVariants.{Edf, Listed}
 use Rattle.slot_model.specs.Slots.{sum_below}
-use Rattle.slot_model.specs.Task.{plain_task, plain_job}
 use Rattle.slot_model.specs.Release.{releases_at, synchronous}
-use Rattle.tree_model.specs.declared.place.Parent.TheVariants.{Core as on_core, Part as on_part}
-use Rattle.tree_model.specs.View.{PartView, SystemView}
+use Rattle.tree_model.proofs.TreeExamples.{tree, ones, supplies, one_job, core_runs, part_runs}
 use Rattle.span_counts.specs.declared.counts.Counts.{Counts}
-use Rattle.tree_spans.specs.TreeCounts.{CountsView, AreTreeCounts, counts_at, no_node_misses}
-
-abbrev leaf : ℕ → PartView
-leaf letter =
-    record {
-      name = letter ∷ [];
-      parent = on_part 0;
-      sched = Listed;
-      period = 2;
-      budget = None;
-      extra = false;
-      tasks = record { name = 116 ∷ []; task = plain_task 2 1 1 } ∷ [];
-    }
-
-abbrev tree : SystemView
-tree = record {
-  cores = record { name = 99 ∷ []; sched = Listed; supply = None } ∷ [];
-  parts =
-      record { name = 109 ∷ []; parent = on_core 0; sched = Edf; period = 2; budget = None; extra = false; tasks = [] }
-      ∷ leaf 97 ∷ leaf 98 ∷ [];
-}
-
-abbrev ones : List ℕ
-ones = 1 ∷ 1 ∷ 1 ∷ []
-
-abbrev supplies : List (List Bool)
-supplies = (true ∷ []) ∷ []
-
-abbrev one_job : List Job
-one_job = plain_job 0 0 1 ∷ []
+use Rattle.tree_spans.specs.TreeCounts.{CountsView, AreTreeCounts, NoneMisses, counts_at, no_node_misses}
 
 abbrev jobs : List (List Job)
 jobs = [] ∷ one_job ∷ one_job ∷ []
-
-abbrev core_runs : List (List (Option ℕ))
-core_runs = (Some 0 ∷ []) ∷ []
-
-abbrev part_runs : List (List (Option ℕ))
-part_runs = (Some 1 ∷ []) ∷ (None ∷ []) ∷ (Some 0 ∷ []) ∷ []
 
 -- slots given, jobs released, and jobs that miss
 record Counted (counts : Counts) (given released missed : ℕ) : Type 0 where
@@ -93,3 +55,32 @@ who_misses : no_node_misses (record { cores = counted 0 ∷ []; parts = counted 
     ∷ no_node_misses (record { cores = counted 0 ∷ counted 1 ∷ []; parts = counted 0 ∷ [] }) ∷ []
     ≡ true ∷ false ∷ false ∷ []
 who_misses = refl
+
+-- one job that misses is enough: one of a leaf that gets no slot,
+a_leaf_misses : NoneMisses tree ones 1 jobs core_runs part_runs → ⊥
+unfolding sum_below
+a_leaf_misses none = none.leaves 1 (omega arith) refl 0 (record { is_job = omega arith; in_run = omega arith; short = omega arith })
+
+-- one of a server of the inner part, which gets none of the two slots of its period,
+abbrev idle : List (Option ℕ)
+idle = None ∷ None ∷ []
+
+abbrev no_jobs : List (List Job)
+no_jobs = [] ∷ [] ∷ [] ∷ []
+
+abbrev second_idle : List (List (Option ℕ))
+second_idle = (Some 0 ∷ None ∷ []) ∷ idle ∷ idle ∷ []
+
+an_inner_server_misses : NoneMisses tree ones 2 no_jobs ((Some 0 ∷ None ∷ []) ∷ []) second_idle → ⊥
+unfolding sum_below releases_at synchronous
+an_inner_server_misses none =
+    none.inner 0 (omega arith) refl 1 (record { is_job = omega arith; in_run = omega arith; short = omega arith })
+
+-- and one of the server of the core
+abbrev both_served : List (List (Option ℕ))
+both_served = (Some 0 ∷ Some 1 ∷ []) ∷ idle ∷ idle ∷ []
+
+the_server_of_the_core_misses : NoneMisses tree ones 2 no_jobs (idle ∷ []) both_served → ⊥
+unfolding sum_below releases_at synchronous
+the_server_of_the_core_misses none =
+    none.cores 0 (omega arith) 0 (record { is_job = omega arith; in_run = omega arith; short = omega arith })
