@@ -1,46 +1,21 @@
 -- Worked findings: A, with extra time and 1 slot in every 4, and B, with 2 slots in every 4, stand
 -- on one core. A slot is 1,000 moments. A trace has one finding (`OneFinding`), so none of these
 -- has another.
-use Rattle.std.proofs.Common.{◌≡◌, ℕ, zero, suc, ◌+◌, ◌*◌, ◌<◌, ◌≤◌, Bool, true, false, List, [], ◌∷◌, Some, None, refl, sym, ◌∙◌, subst, arith, inl, inr}
+use Rattle.std.proofs.Common.{◌≡◌, ℕ, zero, suc, ◌+◌, ◌*◌, ◌<◌, ◌≤◌, true, false, List, [], ◌∷◌, Some, None, refl, sym, ◌∙◌, subst, arith, inl, inr}
 use Rattle.std.proofs.lemmas.Bool.{true≢false}
 use Rattle.std.proofs.lemmas.Option.{same_Some}
 use Rattle.csv_rows.specs.Last.{last_below}
 use Rattle.slot_model.specs.Slots.{sum_below}
-use Rattle.slot_model.specs.Task.{plain_task}
-use Rattle.slot_model.specs.declared.sched.Sched.TheVariants.{Edf}
-use Rattle.tree_model.specs.declared.place.Parent.TheVariants.{Core as on_core}
-use Rattle.tree_model.specs.View.{PartView, SystemView}
 use Rattle.trace_file.specs.declared.event.Event.{Event}
-use Rattle.trace_file.specs.declared.event.What.{What}
 use Rattle.trace_file.specs.declared.event.What.TheVariants.{Start, Run, Stop, End}
 use Rattle.trace_file.specs.Events.{end_of, start_of}
+use Rattle.trace_file.proofs.TraceExamples.{host, row}
 use Rattle.trace_file.specs.Periods.{begins, period_of, blocked, is_judged, got_in, judged_periods, HasPeriod, IsBroken, IsShort, IsOver, IsFirstBroken}
 use Rattle.auditor.specs.declared.finding.Finding.TheVariants.{Yes, Short, Over}
 use Rattle.auditor.specs.Finding.{IsFinding}
 
-abbrev server : ℕ → ℕ → Bool → PartView
-server letter budget extra =
-    record {
-      name = letter ∷ [];
-      parent = on_core 0;
-      sched = Edf;
-      period = 4;
-      budget = Some budget;
-      extra = extra;
-      tasks = record { name = 116 ∷ []; task = plain_task 100 100 budget } ∷ [];
-    }
-
-abbrev host : SystemView
-host = record {
-  cores = record { name = 99 ∷ []; sched = Edf; supply = None } ∷ [];
-  parts = server 65 1 true ∷ server 66 2 false ∷ [];
-}
-
 abbrev budgets : List ℕ
 budgets = 1 ∷ 2 ∷ []
-
-abbrev row : ℕ → What → Event
-row at what = record { at = at; core = 0; what = what }
 
 -- both start at 1000, A has the core up to a moment and B from there up to another, and the trace
 -- ends with their first periods
