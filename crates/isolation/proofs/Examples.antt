@@ -1,6 +1,6 @@
 -- Worked cores: what is asked of the last slots of a period, who is isolated and by how many, and a
 -- run in which one that is not falls short. A definition that says otherwise breaks one of these.
-use Rattle.std.proofs.Common.{◌≡◌, ℕ, zero, suc, nat_lt, ◌<◌, ◌≤◌, true, false, Bool, Option, Some, None, List, [], ◌∷◌, refl, subst, arith, lit<, lit≤}
+use Rattle.std.proofs.Common.{◌≡◌, ℕ, zero, suc, ◌*◌, nat_lt, ◌<◌, ◌≤◌, length, true, false, Bool, Option, Some, None, List, [], ◌∷◌, refl, subst, arith, lit<, lit≤}
 use Rattle.std.proofs.lemmas.Bool.{and_parts, ltb-true}
 use Rattle.std.proofs.lemmas.Bool.Decides.{nat_tests}
 use Rattle.csv_rows.specs.Last.{last_below}
@@ -21,8 +21,8 @@ use Rattle.rtds_sim.proofs.Runs.{better, choice, chosen, is_run}
 use Rattle.rtds_sim.specs.Demand.{deferrable_demand, later}
 use Rattle.isolation.specs.Demand.{no_tie, asked, IsIsolatedBy}
 use Rattle.isolation.specs.Open.{goes_sooner, OpenEntry, OpenRun}
-use Rattle.isolation.specs.Keeping.{got_in, IsAwakeLast, KeepsBudget, KeepsOpenly}
-use Rattle.isolation.specs.InTrace.{IsRunLength, IsAwakeInTrace, KeepsInTrace}
+use Rattle.isolation.specs.Keeping.{got_in, IsAwakeLast, IsBreakable, IsExposed, KeepsBudget, KeepsOpenly}
+use Rattle.isolation.specs.InTrace.{IsRunLength, IsAwakeInTrace, KeepsInTrace, CanBeShort, IsExposedInTrace}
 use Rattle.isolation.specs.declared.isolation.Isolation.{Isolation}
 use Rattle.isolation.specs.declared.isolation.Isolation.TheVariants.{Isolated, ByTies, ByBlock}
 use Rattle.isolation.specs.declared.vcpus.PartIsolation.{PartIsolation}
@@ -30,8 +30,11 @@ use Rattle.isolation.specs.Answers.{own_core, vcpus_of, are_isolated}
 use Rattle.trace_file.specs.declared.event.Event.{Event}
 use Rattle.trace_file.specs.declared.event.What.{What}
 use Rattle.trace_file.specs.declared.event.What.TheVariants.{Start as Starts, Wake as Wakes, Block as Blocks, End}
-use Rattle.trace_file.specs.Periods.{blocked, budget_of, got_in as got_in_trace}
-use Rattle.tree_model.specs.Tree.{budget_at}
+use Rattle.trace_file.specs.Periods.{blocked, budget_of, got_in as got_in_trace, IsShort}
+use Rattle.tree_model.specs.Tree.{budget_at, is_child}
+use Rattle.tree_model.specs.System.{part_at}
+use Rattle.tree_model.specs.declared.place.Place.TheVariants.{Core}
+use Rattle.rtds_sim.specs.Giving.{ServersFit}
 
 abbrev server : Parent → ℕ → ℕ → Bool → PartView
 server parent period budget extra =
@@ -237,9 +240,9 @@ awake_in_its_last_moments = record {
   awake = λ x l m. awake_from_seven_thousand x (omega (arith, l));
 }
 
--- a run of as many slots as `rtds` takes
-the_longest_run : IsRunLength 1000000
-the_longest_run = (lit≤ tt, lit≤ tt)
+-- a run of one slot, and one of as many as `rtds` takes
+the_shortest_and_the_longest_run : IsRunLength 1 × IsRunLength 1000000
+the_shortest_and_the_longest_run = ((lit≤ tt, lit≤ tt), (lit≤ tt, lit≤ tt))
 
 -- what is kept, taken apart: no more is asked of a workload, a run and a period than this
 what_is_kept : (sys : SystemView) (budgets : List ℕ) (c v t : ℕ) → KeepsBudget sys budgets c v t
@@ -259,6 +262,35 @@ what_is_kept_in_traces : (sys : SystemView) (budgets : List ℕ) (v t : ℕ) →
     → IsRtdsTrace sys budgets rows slots events → IsAwakeInTrace sys events v f k t
     → budget_of budgets v ≤ got_in_trace sys events v f k
 what_is_kept_in_traces sys budgets v t keeps = keeps
+
+-- and what is lost: in each run over so many slots, of which there is one, a period of the VCPU in
+-- which it never blocks has fewer slots than its budget
+what_is_lost : (sys : SystemView) (budgets : List ℕ) (c v most : ℕ) → IsBreakable sys budgets c v most
+    → (rows : List Wake) × (slots : ℕ) × (k : ℕ) × IsWorkload sys rows × (slots ≤ most)
+    × IsAwakeLast sys rows slots c v k (part_at sys v).period
+    × ((run : List (Option ℕ)) × CoreRun sys budgets rows slots c run)
+    × ((run : List (Option ℕ)) → CoreRun sys budgets rows slots c run
+    → got_in sys rows run v k < budget_at budgets v)
+what_is_lost sys budgets c v most b =
+    (b.rows, b.slots, b.number, b.is_workload, b.few_slots, b.awake, b.some_run, b.short)
+
+-- where it is: no more is asked of the core and of the longest period than this
+who_loses : (sys : SystemView) (budgets : List ℕ) (c v : ℕ) → IsExposed sys budgets c v
+    → (longest : ℕ) → ServersFit sys budgets c
+    → ((u : ℕ) → u < length sys.parts → is_child sys (Core c) u ≡ true → (part_at sys u).period ≤ longest)
+    → 2 * longest ≤ 1000000000 → IsBreakable sys budgets c v (3 * longest)
+who_loses sys budgets c v exposed = exposed
+
+who_loses_in_traces : (sys : SystemView) (budgets : List ℕ) (c v : ℕ) → IsExposedInTrace sys budgets c v
+    → (longest : ℕ)
+    → ((u : ℕ) → u < length sys.parts → is_child sys (Core c) u ≡ true → (part_at sys u).period ≤ longest)
+    → 3 * longest ≤ 1000000
+    → (rows : List Wake) × (slots : ℕ) × (k : ℕ) × IsWorkload sys rows × IsRunLength slots
+    × ((events : List Event) × IsRtdsTrace sys budgets rows slots events)
+    × ((events : List Event) → IsRtdsTrace sys budgets rows slots events → (f : ℕ) × IsShort sys budgets events v f k)
+who_loses_in_traces sys budgets c v exposed longest up_to room =
+    let b : CanBeShort sys budgets v = exposed longest up_to room in
+    (b.rows, b.slots, b.number, b.is_workload, b.run_length, b.some_trace, b.short)
 
 -- each part on a core has an answer, in file order and on its own core, and a part of a part none
 abbrev spread : SystemView

@@ -1,8 +1,9 @@
 -- Worked rows and events over two cores, on which the rules of a trace and the order in which they
 -- are tried are computed: A stands on the first core, B on the second, and N in A.
-use Rattle.std.proofs.Common.{◌≡◌, ℕ, true, false, Some, None, List, [], ◌∷◌, map, codes, refl, sym, arith}
+use Rattle.std.proofs.Common.{◌≡◌, ℕ, zero, suc, true, false, Some, None, List, [], ◌∷◌, map, codes, refl, sym, arith, inr}
 use Rattle.std.proofs.lemmas.Option.{none-some}
 use Rattle.csv_rows.specs.Last.{last_below}
+use Rattle.csv_rows.specs.Rules.{RowsKeep}
 use Rattle.slot_model.specs.Task.{plain_task}
 use Rattle.slot_model.specs.declared.sched.Sched.TheVariants.{Edf}
 use Rattle.tree_model.specs.declared.pinned_core.Core.{Core as CoreView}
@@ -16,7 +17,7 @@ use Rattle.trace_file.specs.declared.fault.TraceFault.TheVariants.{TimeFalls, No
 use Rattle.trace_file.specs.declared.unit.Unit.TheVariants.{Microseconds, Nanoseconds}
 use Rattle.trace_file.specs.Events.{holder, has_core, has_core_at}
 use Rattle.trace_file.specs.Rules.{row_fault, Kept, LacksEnd}
-use Rattle.trace_file.specs.File.{is_row, event_of, events_of, unit_of, rows_of, row_rules, IsFileFault, LacksFileEnd}
+use Rattle.trace_file.specs.File.{is_row, event_of, events_of, unit_of, rows_of, row_rules, Spells, IsFileFault, LacksFileEnd}
 
 abbrev part_on : Parent → ℕ → PartView
 part_on parent letter =
@@ -102,6 +103,24 @@ rows_behind_a_header = refl
 no_header_is_told : IsFileFault pair (rows_of one_of_each) BadHeader
 no_header_is_told = refl
 
+-- a header and a row of an end spell that end
+an_end_alone : Spells pair
+    (fields (codes "at_ns") (codes "core") (codes "what") (codes "vcpu") ∷ fields (codes "5") [] (codes "end") [] ∷ [])
+    (row 5 0 End ∷ [])
+unfolding last_below
+an_end_alone = record {
+  unit = Nanoseconds;
+  rows = fields (codes "5") [] (codes "end") [] ∷ [];
+  header = refl;
+  keep = keep;
+  ended = refl;
+  events_are = refl;
+}
+  where
+    keep : RowsKeep (row_rules pair Nanoseconds) (fields (codes "5") [] (codes "end") [] ∷ []) 1
+    keep zero l = refl
+    keep (suc i) l = absurd (omega (arith, l))
+
 -- a run on one core leaves the other as it was
 abbrev both_run : List Event
 both_run = row 0 0 (Start 0) ∷ row 0 1 (Start 1) ∷ row 0 1 (Run 1) ∷ row 0 0 (Run 0) ∷ row 4 0 Stop ∷ []
@@ -121,6 +140,10 @@ a_has_none_after_its_stop = refl
 b_has_its_core : has_core (on_core 1) both_run 5 1 ∷ has_core (on_core 0) both_run 5 1 ∷ [] ≡ true ∷ false ∷ []
 unfolding last_below
 b_has_its_core = refl
+
+-- a part of a part has none
+n_has_no_core : has_core (on_part 0) both_run 4 2 ∷ has_core_at (on_part 0) both_run 2 3 ∷ [] ≡ false ∷ false ∷ []
+n_has_no_core = refl
 
 -- a VCPU stands on its own core, and what stands in a part is none
 not_its_core : row_fault pair (row 0 1 (Start 0) ∷ []) 0 ≡ Some (WrongCore 2)
@@ -184,6 +207,9 @@ woken_and_blocked = refl
 no_end_of_a_file : LacksFileEnd pair Nanoseconds [] (NoEnd 2)
 unfolding last_below
 no_end_of_a_file = record { keep = λ i less. absurd (omega arith); no_end = refl; fault_is = refl }
+
+no_end_is_told : IsFileFault pair (Some (Nanoseconds, [])) (NoEnd 2)
+no_end_is_told = inr no_end_of_a_file
 
 -- a start, a block and a wake leave the core to the VCPU that has it
 a_keeps_its_core : holder (row 0 0 (Run 0) ∷ row 1 0 (Start 1) ∷ []) 2 0
