@@ -59,7 +59,8 @@ who_misses = refl
 -- one job that misses is enough: one of a leaf that gets no slot,
 a_leaf_misses : NoneMisses tree ones 1 jobs core_runs part_runs → ⊥
 unfolding sum_below
-a_leaf_misses none = none.leaves 1 (omega arith) refl 0 (record { is_job = omega arith; in_run = omega arith; short = omega arith })
+a_leaf_misses none =
+    none.leaves 1 (omega arith) refl 0 (record { is_job = omega arith; in_run = omega arith; short = omega arith })
 
 -- one of a server of the inner part, which gets none of the two slots of its period,
 abbrev idle : List (Option ℕ)
