@@ -10,7 +10,7 @@ use Rattle.slot_model.specs.declared.sched.Sched.TheVariants.{Edf, Rm, Dm, Liste
 use Rattle.slot_model.specs.Task.{SporadicTask, plain_task, room_of, task_at}
 use Rattle.slot_model.specs.Supply.{GivesBudget, GivesByDeadline, worst_slot}
 use Rattle.slot_model.specs.Order.{before_of}
-use Rattle.slot_model.specs.Bound.{sbf, TestPasses}
+use Rattle.slot_model.specs.Bound.{sbf, sbf_by, IsShortfall, TestPasses}
 use Rattle.slot_model.specs.Miss.{NoJobLost, MustMiss}
 use Rattle.least_budget.specs.declared.answers.Least.TheVariants.{Budget, Over, Wide as LeastWide}
 use Rattle.period_choice.specs.declared.choice.Choice.TheVariants.{Best, Nothing}
@@ -65,9 +65,11 @@ what_an_interface_gives sys part deadline text told =
 what_no_interface_gives : (sys : SystemView) (part : List ℕ) (deadline : ℕ) (text : List ℕ)
     → InterfaceTells part deadline sys No text
     → (leaf : ℕ) × (short : Short) × IsLeafNamed sys part leaf × (text ≡ refusal_text sys (Overfull (Part leaf) short))
+    × IsShortfall (part_at sys leaf).sched (own_tasks_at sys leaf) (sbf_by (part_at sys leaf).period deadline deadline)
+    short
     × ((b : ℕ) → b ≤ deadline → MustMiss (GivesByDeadline (part_at sys leaf).period b deadline)
     (before_of (part_at sys leaf).sched (own_tasks_at sys leaf)) (own_tasks_at sys leaf))
-what_no_interface_gives sys part deadline text told = (told.leaf, told.short, told.found, told.told, told.misses)
+what_no_interface_gives sys part deadline text told = (told.leaf, told.short, told.found, told.told, told.first, told.misses)
 
 -- the file is refused where no leaf has the name, or the deadline passes its period
 what_refuses_a_deadline : (file part : List ℕ) (deadline : ℕ) (contents : Contents)

@@ -2,6 +2,7 @@
 -- guest its budget early in each period.
 use Rattle.std.specs.Prelude.{◌≡◌, ◌⊎◌, ℕ, ◌<◌, ◌≤◌, List, [], ◌∷◌, ⊤}
 use Rattle.slot_model.specs.declared.sched.Short.{Short}
+use Rattle.slot_model.specs.Bound.{sbf_by, IsShortfall}
 use Rattle.slot_model.specs.Supply.{GivesByDeadline}
 use Rattle.slot_model.specs.Order.{before_of}
 use Rattle.slot_model.specs.Miss.{NoJobLost, MustMiss}
@@ -88,13 +89,16 @@ pub record TellsInterface (sys : SystemView) (part : List ℕ) (deadline : ℕ) 
   pub no_loss : KeepsBy sys leaf deadline budget
   pub tight : (b : ℕ) → b < budget → MustMissBy sys leaf deadline b
 
--- no means: with every whole budget up to the deadline the leaf must miss
+-- no means: what the text tells as short is short first where the budget is the whole deadline, and
+-- with every whole budget up to that the leaf must miss
 pub record HasNoInterface (sys : SystemView) (part : List ℕ) (deadline : ℕ) (text : List ℕ)
     : Type 0 where
   pub leaf : ℕ
   pub found : IsLeafNamed sys part leaf
   pub short : Short
   pub told : text ≡ refusal_text sys (Overfull (Part leaf) short)
+  pub first : IsShortfall (part_at sys leaf).sched (own_tasks_at sys leaf)
+      (sbf_by (part_at sys leaf).period deadline deadline) short
   pub misses : (b : ℕ) → b ≤ deadline → MustMissBy sys leaf deadline b
 
 -- what an answer to a system means; of a wide one nothing is claimed

@@ -117,6 +117,7 @@ least_tells part deadline some sys is q found in_period (Over short) least =
       found = found;
       short = short;
       told = refl;
+      first = least.1;
       misses =
           λ b within. smaller_misses (before_of (part_at sys q).sched tasks) tasks
           (λ c. GivesByDeadline period c deadline) deadline b
