@@ -69,7 +69,8 @@ what_no_interface_gives : (sys : SystemView) (part : List ℕ) (deadline : ℕ) 
     short
     × ((b : ℕ) → b ≤ deadline → MustMiss (GivesByDeadline (part_at sys leaf).period b deadline)
     (before_of (part_at sys leaf).sched (own_tasks_at sys leaf)) (own_tasks_at sys leaf))
-what_no_interface_gives sys part deadline text told = (told.leaf, told.short, told.found, told.told, told.first, told.misses)
+what_no_interface_gives sys part deadline text told =
+    (told.leaf, told.short, told.found, told.told, told.first, told.misses)
 
 -- the file is refused where no leaf has the name, or the deadline passes its period
 what_refuses_a_deadline : (file part : List ℕ) (deadline : ℕ) (contents : Contents)
