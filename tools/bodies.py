@@ -11,6 +11,8 @@ IMPL = re.compile(r"^(?:(?:pub )?trait|impl(?:<.*?>)?) (?:(?P<trait>\S+) for )?(
 CLAUSE = re.compile(r"^ *(?:requires|ensures|ghost)\b")
 OF_PROOF = re.compile(r"^(?:note: )?\S+:\d+:\d+: ")
 NAMED = re.compile(r"^(?:note: )?(?:\./)?proofs/.*(?:has no field|is not in scope|has no `|was not admitted)")
+# what says nothing of the body itself: another function that it calls has no proof, or the prover gave up
+UNSURE = re.compile(r"could not tell|no proof: (?:it (?:calls|passes) |the borrow checker's part)")
 ERROR = re.compile(r"^(?:\./)?(src/\S+\.rt):(\d+):\d+: error")
 
 
@@ -179,15 +181,16 @@ def verdicts(name, said):
 
 
 def answer(some, it):
-    """The kind of what a check says of an edit, and its words, or None where it says nothing of a function that the edit changes."""
-    refused = []
+    """The kind of what a check says of an edit, and its words, or None where it can't tell of a function that the edit changes."""
+    refused, unsure = [], False
     for function in it.functions():
         mine = [row for row in some if function.has(row[0])]
         if not mine:
             return None
-        refused += [row for row in mine if not row[1].startswith("proved")]
+        unsure = unsure or any(UNSURE.match(row[1]) for row in mine)
+        refused += [row for row in mine if not row[1].startswith("proved") and not UNSURE.match(row[1])]
     if not refused:
-        return "through", "NOT REFUSED: the changed functions are still proved"
+        return None if unsure else ("through", "NOT REFUSED: the changed functions are still proved")
     told = [line for _, _, above in refused for line in above if OF_PROOF.match(line)]
     other = [line for line in told if not NAMED.match(line)]
     words = f"{refused[0][0]}: {refused[0][1]}"

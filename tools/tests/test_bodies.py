@@ -123,6 +123,11 @@ class Answers(unittest.TestCase):
     def test_of_a_function_of_which_nothing_is_said_nothing_is_known(self):
         self.assertIsNone(self.said("fn c::a::b::added: proved", "fn d::a::b::add: proved"))
 
+    def test_of_a_function_that_the_prover_could_not_tell_or_that_calls_one_without_a_proof_nothing_is_known(self):
+        for said in ("could not tell", "no proof: it calls `c::a::b::sum`, which is not proved"):
+            self.assertIsNone(self.said(f"fn c::a::b::add: {said}"))
+        self.assertEqual(self.said("fn c::a::b::add: not proved; it calls `c::a::b::sum`, which is not proved")[0], "refused")
+
 
 if __name__ == "__main__":
     unittest.main()
