@@ -164,9 +164,9 @@ def budget_of(system, name, program):
     return budget
 
 
-def read_admitted(path, program):
-    """A system, and what `admit` answers to its file. Refused where that is neither yes nor no nor wide."""
-    answer = program.ask("admit", path)
+def read_admitted(path, program, answer=None):
+    """A system, and what `admit` answers, or has answered, to its file. Refused where that is neither yes nor no nor wide."""
+    answer = answer or program.ask("admit", path)
     if answer.status not in (0, 1, 4) or not answer.text.startswith("verdict="):
         raise Refused(path, None, f"the program does not judge it: {answer.shown} (status {answer.status})")
     system = read_system(path)

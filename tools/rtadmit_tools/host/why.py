@@ -202,7 +202,8 @@ class Search:
         return sorted(found, key=share, reverse=True)[:MOST_TRIED]
 
     def offers(self):
-        return [offer for search in (self.budgets, self.orders, self.works, self.periods, self.moves) for offer in search()]
+        searches = (self.budgets, self.orders, self.works, self.periods, self.moves)
+        return [offer for search in counted(searches, "kinds of changes that were tried") for offer in search()]
 
     def known(self):
         """The parts whose change may help, but for stand-ins."""
@@ -354,7 +355,7 @@ def judged(path, program, most, asked=None):
     answer = program.ask("admit", path)
     if answer.status == 3:
         return refused(path, None, None, answer)
-    system, answer = read_admitted(path, program)
+    system, answer = read_admitted(path, program, answer)
     if answer.is_yes:
         return 0, [f"{path}: yes. There is nothing to explain."]
     if answer.status == 4:
