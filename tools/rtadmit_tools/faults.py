@@ -211,7 +211,7 @@ def rule_line(word, rule):
 def told(path, where, found, rule, line):
     """The lines of a fault: where it stands, what is wrong, and the rule."""
     place = f"{path}:{line}: " if line else f"{path}: "
-    where = f"{where}, {found.key}" if found and found.key else where
+    where = ", ".join(filter(None, [where, found and found.key]))
     cause = found.cause if found else "this tool finds no such fault there by its own reading"
     return [f"{place}{where}{': ' if where else ''}{cause}.", *([rule] if rule else [])]
 
@@ -454,7 +454,10 @@ class Certificate:
     """A certificate, as `check` reads it."""
 
     heads, words = ("{",), ("check",)
-    KEYS = ("budget", "computed", "falls", "hits", "kind", "period", "place", "points", "witness")
+    KEYS = {
+        "budget": ("number", 64), "computed": ("truth",), "falls": ("list of number", 64), "hits": ("list of number", 64), "kind": ("word",),
+        "period": ("number", 64), "place": ("number", 32), "points": ("list of text", 128), "witness": ("text or null", 128),
+    }
 
     def __init__(self, text):
         self.text = text
@@ -469,60 +472,47 @@ class Certificate:
             yield Found("NotJson", None, "it begins with a byte order mark", 1)
         try:
             tree = json.loads(self.text.removeprefix("\ufeff"), parse_int=number, parse_float=number, parse_constant=number)
-        except json.JSONDecodeError as fault:
-            yield Found("NotJson", None, f"{fault.msg}, at column {fault.colno}", fault.lineno)
-            return
         except (ValueError, RecursionError) as fault:
-            yield Found("NotJson", None, str(fault))
+            place = (f"{fault.msg}, at column {fault.colno}", fault.lineno) if isinstance(fault, json.JSONDecodeError) else (str(fault), None)
+            yield Found("NotJson", None, *place)
             return
+        yield from self.keys_of("", tree, {"format", "nodes"})
         if not isinstance(tree, dict) or set(tree) != {"format", "nodes"}:
-            yield Found("WrongShape", None, "the top is no object with the two keys format and nodes alone")
             return
-        yield from self.number("format", tree["format"], 2)
+        yield from self.value("format", tree["format"], "number", 64)
         if isinstance(tree["format"], Number) and tree["format"] != "1":
             yield Found("BadNumber", "format", f"{tree['format']} is not 1")
-        if not isinstance(tree["nodes"], list):
-            yield Found("WrongShape", "nodes", "no array")
-        elif len(tree["nodes"]) > 576:
-            yield Found("TooMany", "nodes", f"there are {len(tree['nodes'])}, and there may be 576")
-        else:
-            for place, node in enumerate(tree["nodes"], 1):
-                yield from self.node(f"node {place}", node)
-
-    def node(self, at, node):
-        if not isinstance(node, dict) or set(node) != set(self.KEYS):
-            wrong = sorted(set(self.KEYS) ^ set(node)) if isinstance(node, dict) else ["no object"]
-            yield Found("WrongShape", at, f"it is no object with its nine keys alone: {', '.join(wrong)}")
-            return
-        for key in self.KEYS:
-            value, where = node[key], f"{at}, {key}"
-            if key in ("budget", "period", "place"):
-                yield from self.number(where, value, 2**32 if key == "place" else 2**64)
-            elif key in ("falls", "hits", "points"):
-                if not isinstance(value, list):
-                    yield Found("WrongShape", where, "no array")
-                    continue
-                for place, element in enumerate(value, 1):
-                    test = self.decimal if key == "points" else self.number
-                    yield from test(f"{where} {place}", element, 2**128 if key == "points" else 2**64)
-            elif key == "witness" and value is not None:
-                yield from self.decimal(where, value, 2**128)
-            elif key == "computed" and not isinstance(value, bool) or key == "kind" and value not in ("part", "core"):
-                yield Found("WrongShape", where, f"{shown(value)} stands there")
+        nodes = tree["nodes"] if isinstance(tree["nodes"], list) else []
+        if nodes is not tree["nodes"] or len(nodes) > 576:
+            yield Found("TooMany" if nodes else "WrongShape", "nodes", f"there are {len(nodes)}, and there may be 576" if nodes else "no array")
+        for place, node in enumerate(nodes, 1):
+            yield from self.keys_of(f"node {place}", node, set(self.KEYS))
+            for key, (kind, *bits) in self.KEYS.items() if isinstance(node, dict) else ():
+                if key in node:
+                    yield from self.value(f"node {place}, {key}", node[key], kind, *bits)
 
     @staticmethod
-    def number(where, value, end):
-        if not isinstance(value, Number):
-            yield Found("WrongShape", where, "no number")
-        elif not PLAIN.fullmatch(value) or int(value) >= end:
-            yield Found("BadNumber", where, f"{value} is no whole number below {end}")
+    def keys_of(where, value, keys):
+        if not isinstance(value, dict) or set(value) != keys:
+            wrong = ", ".join(sorted(keys ^ set(value))) if isinstance(value, dict) else "no object"
+            yield Found("WrongShape", where, f"it is no object with its {len(keys)} keys alone: {wrong}")
 
-    @staticmethod
-    def decimal(where, value, end):
-        if not isinstance(value, str) or isinstance(value, Number):
-            yield Found("WrongShape", where, "no text")
-        elif not (PLAIN.fullmatch(value) and int(value) < end):
-            yield Found("BadNumber", where, f"{shown(value)} is no plain decimal number below {end}")
+    def value(self, where, value, kind, bits=0):
+        """The faults of a value: a number or a text of one below a power of two, a list of such, or a word."""
+        if kind.startswith("list of "):
+            if not isinstance(value, list):
+                yield Found("WrongShape", where, "no array")
+            for place, element in enumerate(value if isinstance(value, list) else [], 1):
+                yield from self.value(f"{where} {place}", element, kind.removeprefix("list of "), bits)
+        elif kind in ("number", "text"):
+            if not isinstance(value, str) or isinstance(value, Number) != (kind == "number"):
+                yield Found("WrongShape", where, f"no {kind}")
+            elif not PLAIN.fullmatch(value) or int(value) >= 2**bits:
+                yield Found("BadNumber", where, f"{shown(str(value)) if kind == 'text' else value} is no plain decimal number below 2^{bits}")
+        elif kind == "text or null" and value is not None:
+            yield from self.value(where, value, "text", bits)
+        elif kind == "truth" and not isinstance(value, bool) or kind == "word" and value not in ("part", "core"):
+            yield Found("WrongShape", where, f"{shown(value)} stands there")
 
 
 # The words
