@@ -476,7 +476,7 @@ class Certificate:
             place = (f"{fault.msg}, at column {fault.colno}", fault.lineno) if isinstance(fault, json.JSONDecodeError) else (str(fault), None)
             yield Found("NotJson", None, *place)
             return
-        yield from self.keys_of("", tree, {"format", "nodes"})
+        yield from self.keys_of("the top", tree, {"format", "nodes"})
         if not isinstance(tree, dict) or set(tree) != {"format", "nodes"}:
             return
         yield from self.value("format", tree["format"], "number", 64)

@@ -88,7 +88,7 @@ SECOND = (
     (f"{SCRIPT}add,A,,edf,10,1,t:9:9:0:1\n", "guests", "BadGuest row=2", "2: row 2, part: a core, a part or an earlier guest has the name A"),
     (f"{SCRIPT}add,C,,edf,10,11,t:9:9:0:1\n", "guests", "BadGuest row=2", "2: row 2, budget: 11 is not from 1 to 10"),
     ("{\n  oops}", "certificate", "NotJson", "2: Expecting property name enclosed in double quotes, at column 3"),
-    ('{"format":1}', "certificate", "WrongShape", " the top is no object with the two keys format and nodes alone"),
+    ('{"format":1}', "certificate", "WrongShape", " the top: it is no object with its 2 keys alone: nodes"),
     ('{"format":1.0,"nodes":[]}', "certificate", "BadNumber", " format: 1.0 is no plain decimal number below 2^64"),
     (f'{{"format":1,"nodes":[{TASK}]}}', "certificate", "BadNumber", ' node 1, points 2: "x" is no plain decimal number below 2^128'),
     (f'{{"format":1,"nodes":[{",".join([TASK] * 577)}]}}', "certificate", "TooMany", " nodes: there are 577, and there may be 576"),
