@@ -1,25 +1,20 @@
-#!/usr/bin/env python3
-"""The calls of Xen's `xl` that give each VCPU of a system file the budget with which the file is admitted.
+"""Prints the calls of Xen's `xl` that give each VCPU of a system file the budget with which the file is admitted.
 
-    tools/to-xl FILE [--name DOMAIN=NAME].. [--program WORDS]
-
-It asks the program (`./rtadmit admit FILE`, or the words of --program) and prints a call of `xl sched-rtds` for each part that stands on a
-core, in the order of the file: the part `audio-0` is VCPU 0 of the domain `audio`, and -e says whether it has extra time. It is another
-domain where a comment of the file says so, by a line `# --name DOMAIN=NAME` as tools/from-xl writes it, or by --name, which goes before
-the file. A copy that a tool or the program writes has no comments: give --name again for that. It may be given several times; quote
-a word with a blank: --name 'vm 3=vm3'. A part that stands on a part is a reservation inside its guest, and has no call.
+It asks the program and prints a call of `xl sched-rtds` for each part that stands on a core, in the order of the file: the part `audio-0`
+is VCPU 0 of the domain `audio`, and -e says whether it has extra time. It is another domain where a comment of the file says so, by a line
+`# --name DOMAIN=NAME` as from-xl writes it, or by --name, which goes before the file. A copy that a tool or the program writes has no
+comments: give --name again for that. It may be given several times; quote a word with a blank: --name 'vm 3=vm3'. A part that stands on a
+part is a reservation inside its guest, and has no call.
 
 Refused, with the file and the line, and nothing printed: a file that is not admitted; a part that is not named for a domain and a VCPU's
 number; a comment `# --name` that tells no domain and name, or one of them twice; a period or a budget below the 10 microseconds that
-Xen asks for; a core that is not a whole processor under edf, as RTDS has it. The status is 1 then, and 2 where the words are wrong.
-"""
-import argparse
+Xen asks for; a core that is not a whole processor under edf, as RTDS has it. The status is 1 then, and 2 where the words are wrong."""
 import re
 import shlex
-import sys
 
-sys.dont_write_bytecode = True
-from hostfile import Refused, add_program, admitted, finished, need_full, pairs
+from ..command_line import Refused, pairs
+from ..program import add_program, program_of
+from ..system_file import admitted, need_full
 
 LEAST = 10
 VCPU = re.compile(r"(.+)-(0|[1-9][0-9]*)")
@@ -75,15 +70,12 @@ def calls(path, program, domains):
     return "".join(told)
 
 
-def main():
-    parser = argparse.ArgumentParser(description=__doc__, formatter_class=argparse.RawDescriptionHelpFormatter)
+def add_words(parser):
     parser.add_argument("file", metavar="FILE", help="the system file")
     parser.add_argument("--name", action="append", default=[], metavar="DOMAIN=NAME", help="the domain that a name of the file stands for; may be given several times")
     add_program(parser)
-    words = parser.parse_args()
-    domains = {name: domain for domain, name in pairs(parser, words.name, "--name", "last").items()}
-    return finished(lambda: calls(words.file, words.program, domains))
 
 
-if __name__ == "__main__":
-    sys.exit(main())
+def run(given):
+    domains = {name: domain for domain, name in pairs(given.name, "--name", "last").items()}
+    return calls(given.file, program_of(given.program), domains)

@@ -1,0 +1,115 @@
+"""The command line of tools/host and tools/gate: one way to take words, to refuse, to show progress and to end.
+
+A verb is a module of rtadmit_tools.host or rtadmit_tools.gate, with _ for each - of its name. Its docstring is its help, and begins with
+a line that says what it does. It has `add_words(parser)` and `run(given)`, which answers a status, a text that is printed, or both as a
+pair; no answer is status 0. Where its help tells another status for a refusal than 1, it has that as REFUSED."""
+import argparse
+import ast
+import importlib
+import os
+import pathlib
+import signal
+import sys
+
+TOP = pathlib.Path(__file__).resolve().parents[2]
+USAGE = 2
+
+
+class Refused(Exception):
+    """There is no answer: the file and the line, where there are such, and the cause."""
+
+    def __init__(self, file, line, cause):
+        place = "" if file is None else f"{file}: " if line is None else f"{file}:{line}: "
+        super().__init__(f"{place}{cause}")
+
+
+def verbs(kind):
+    """The verbs of an entry point in order, each with the first line of its help."""
+    found = {}
+    for path in sorted((pathlib.Path(__file__).parent / kind).glob("[!_]*.py")):
+        told = ast.get_docstring(ast.parse(path.read_text()))
+        found[path.stem.replace("_", "-")] = told.split("\n", 1)[0]
+    return found
+
+
+def overview(kind):
+    """The help of an entry point."""
+    package = importlib.import_module(f"rtadmit_tools.{kind}")
+    lines = [f"    {verb:<18}{told}" for verb, told in verbs(kind).items()]
+    return "\n".join([f"tools/{kind} VERB WORDS", "", package.__doc__, "", *lines, "", f"tools/{kind} VERB --help says more of one.", ""])
+
+
+def parser_of(kind, verb, module):
+    parser = argparse.ArgumentParser(
+        prog=f"tools/{kind} {verb}", description=module.__doc__, formatter_class=argparse.RawDescriptionHelpFormatter
+    )
+    module.add_words(parser)
+    return parser
+
+
+def written(text):
+    """Whether a text could be written to standard output."""
+    try:
+        sys.stdout.write(text)
+        sys.stdout.flush()
+    except OSError as fault:
+        print(f"standard output: {fault.strerror}", file=sys.stderr)
+        os.dup2(os.open(os.devnull, os.O_WRONLY), sys.stdout.fileno())
+        return False
+    return True
+
+
+def ended(answer, refused=1):
+    """What an answer of a verb prints, and its status."""
+    try:
+        told = answer()
+    except Refused as cause:
+        print(cause, file=sys.stderr)
+        return refused
+    except OSError as fault:
+        print(f"{fault.filename}: {fault.strerror}" if fault.filename else fault.strerror or fault, file=sys.stderr)
+        return refused
+    except KeyboardInterrupt:
+        return 128 + signal.SIGINT
+    text, status = told if isinstance(told, tuple) else (told, 0) if isinstance(told, str) else ("", told or 0)
+    return status if not text or written(text) else refused
+
+
+def main(kind, arguments=None):
+    """Runs the verb that the words name. The status."""
+    words = sys.argv[1:] if arguments is None else [str(word) for word in arguments]
+    if not words or words[0] in ("-h", "--help"):
+        print(overview(kind), end="", file=sys.stdout if words else sys.stderr)
+        return 0 if words else USAGE
+    if words[0] not in verbs(kind):
+        print(f"tools/{kind}: there is no verb {words[0]}; tools/{kind} --help lists them", file=sys.stderr)
+        return USAGE
+    module = importlib.import_module(f"rtadmit_tools.{kind}.{words[0].replace('-', '_')}")
+    given = parser_of(kind, words[0], module).parse_args(words[1:])
+    return ended(lambda: module.run(given), getattr(module, "REFUSED", 1))
+
+
+def pairs(words, option, order="first"):
+    """The words KEY=VALUE of an option as a map, where neither a key nor a value stands twice; `order` says which = counts."""
+    found = {}
+    for word in words:
+        key, sign, value = word.rpartition("=") if order == "last" else word.partition("=")
+        if not (sign and key and value):
+            raise Refused(None, None, f"{option} {word!r} is not KEY=VALUE")
+        if key in found or value in found.values():
+            raise Refused(None, None, f"{option} {word!r}: {key if key in found else value} stands twice")
+        found[key] = value
+    return found
+
+
+def counted(items, what, whole=None):
+    """The items; meanwhile a terminal's standard error is shown how many of them are done, and nothing elsewhere is."""
+    items = items if hasattr(items, "__len__") or whole is not None else list(items)
+    whole = len(items) if whole is None else whole
+    shown = sys.stderr.isatty()
+    for place, item in enumerate(items):
+        if shown:
+            print(f"\r\033[K{what}: {place} of {whole}", end="", file=sys.stderr, flush=True)
+        yield item
+    if shown:
+        print("\r\033[K", end="", file=sys.stderr, flush=True)

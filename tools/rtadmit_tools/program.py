@@ -1,0 +1,91 @@
+"""The program that a tool asks, and the lines of its answers."""
+import os
+import re
+import shlex
+import subprocess
+from dataclasses import dataclass
+
+from .command_line import TOP, Refused
+
+NO_LINE = re.compile(r"overfull (part|core) (\S+) (?:at=(\d+)|task=(\S+))")
+PART_LINE = re.compile(r"part (\S+) period=(\d+) budget=(\d+) (given|computed)")
+BROKEN_LINE = re.compile(r"(short|over) (\S+) from_ns=(\d+) got_ns=(\d+) of_ns=(\d+)")
+TALLY_LINE = re.compile(r"vcpu (\S+) begun=(\d+) judged=(\d+) short=(\d+) over=(\d+) least_ns=(\d+|-) most_ns=(\d+|-)")
+
+
+@dataclass
+class Answer:
+    """What the program printed, and its status."""
+
+    status: int
+    text: str
+
+    @property
+    def lines(self):
+        return self.text.splitlines()
+
+    @property
+    def is_yes(self):
+        return self.status == 0 and self.lines[:1] == ["verdict=yes"]
+
+    @property
+    def shown(self):
+        return " ".join(self.lines[:2]) or f"status {self.status}"
+
+    def refused_node(self):
+        """On a no the kind and the name of the node that is told, and its window or its task."""
+        return NO_LINE.fullmatch(self.lines[1]) if self.status == 1 and len(self.lines) > 1 else None
+
+    def budgets(self):
+        """The budget of each part that is told, and whether it was given."""
+        found = map(PART_LINE.fullmatch, self.lines)
+        return {line[1]: (int(line[3]), line[4] == "given") for line in found if line}
+
+
+class Program:
+    """A program of rtadmit's words."""
+
+    def __init__(self, words):
+        self.words, self.asked = words, 0
+
+    @property
+    def path(self):
+        return self.words[0]
+
+    def ask(self, command, *words, text=None):
+        """The answer to a command; /dev/stdin as a word stands for the text."""
+        self.asked += 1
+        told = {"stdin": subprocess.DEVNULL} if text is None else {"input": text.encode()}
+        ran = subprocess.run([*self.words, command, *map(str, words)], stdout=subprocess.PIPE, stderr=subprocess.DEVNULL, **told)
+        return Answer(ran.returncode, ran.stdout.decode(errors="replace"))
+
+    def admit(self, system):
+        return self.ask("admit", "/dev/stdin", text=system.text())
+
+
+def is_built(path):
+    """Whether a program stands there, and no script that would build it first."""
+    try:
+        with open(path, "rb") as file:
+            return file.read(4) == b"\x7fELF" and os.access(path, os.X_OK)
+    except OSError:
+        return False
+
+
+def built_program():
+    """The program that was proved in this checkout, or that this release has; or None."""
+    return next((str(path) for path in (TOP / "crates/rtadmit/out/rtadmit", TOP / "rtadmit") if is_built(path)), None)
+
+
+def add_program(parser):
+    parser.add_argument(
+        "--program", metavar="WORDS", help="the program to ask; where none is named, the one that RTADMIT names, or else the proved one of this folder"
+    )
+
+
+def program_of(words=None):
+    """The program that the words name, or that is there without."""
+    found = shlex.split(words or os.environ.get("RTADMIT", "")) or [path for path in [built_program()] if path]
+    if not found:
+        raise Refused(None, None, "no program is built that could be asked: ./rtadmit builds one, or name one by --program")
+    return Program(found)

@@ -1,0 +1,60 @@
+"""What the tests of the tools share: a verb run as on the command line, a folder for files, and programs to ask."""
+import contextlib
+import importlib
+import io
+import os
+import pathlib
+import shlex
+import sys
+import tempfile
+
+sys.dont_write_bytecode = True
+top = pathlib.Path(__file__).resolve().parents[2]
+sys.path.insert(0, str(top / "tools"))
+from rtadmit_tools import command_line
+
+recorded = top / "tools" / "tests" / "recorded"
+
+
+def verb(kind, name):
+    """The module of a verb."""
+    return importlib.import_module(f"rtadmit_tools.{kind}.{name.replace('-', '_')}")
+
+
+def run(kind, *words):
+    """The status of a run of a verb with its words, and what it wrote on both outputs."""
+    out, err = io.StringIO(), io.StringIO()
+    with contextlib.redirect_stdout(out), contextlib.redirect_stderr(err):
+        try:
+            status = command_line.main(kind, words)
+        except SystemExit as ended:
+            status = ended.code
+    return status, out.getvalue(), err.getvalue()
+
+
+def program():
+    """A program to ask, or None: the one that RTADMIT names, or the proved one where it is built."""
+    for path in (os.environ.get("RTADMIT"), top / "crates/rtadmit/out/rtadmit"):
+        if path and os.access(path, os.X_OK):
+            return str(path)
+    return None
+
+
+class Room:
+    """A folder for the files of a test, which goes away with it."""
+
+    def __init__(self, test):
+        held = tempfile.TemporaryDirectory()
+        test.addCleanup(held.cleanup)
+        self.folder = pathlib.Path(held.name)
+
+    def file(self, name, text):
+        path = self.folder / name
+        path.write_text(text)
+        return path
+
+    def answering(self, text, status=0):
+        """The words of a program that reads its file and answers this, whatever it is asked."""
+        path = self.file("program", f"#!/bin/sh\ncat \"$2\" >/dev/null\nprintf %s {shlex.quote(text)}\nexit {status}\n")
+        path.chmod(0o755)
+        return str(path)
