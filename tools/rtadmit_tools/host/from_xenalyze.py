@@ -26,7 +26,7 @@ import re
 import sys
 from dataclasses import dataclass, field
 
-from ..command_line import Refused, WrongWords, pairs, refuse_all
+from ..command_line import Refused, WrongWords, pairs, refuse_all, several
 from ..program import add_program, program_of
 from ..system_file import NAME, budget_of, lines_of, read_system
 
@@ -175,8 +175,8 @@ class Host:
             raise Refused(self.path, None, f"{vcpu.key} never runs, so its processor is not known")
         vcpu.cpu = next(iter(self.cores)) if vcpu.cpu is None else vcpu.cpu
         if not vcpu.on_time:
-            print(f"{self.path}: each replenishment of {vcpu.key} comes with a wake-up, so its periods may begin earlier than its start tells",
-                  file=sys.stderr)
+            late = f"each replenishment of {vcpu.key} comes with a wake-up, so its periods may begin earlier than its start tells"
+            print(f"{self.path}: {late}", file=sys.stderr)
         return (vcpu.on_time or vcpu.starts)[0]
 
     def compare(self, system, program):
@@ -254,8 +254,8 @@ class Host:
 
 def add_words(parser):
     parser.add_argument("dump", metavar="DUMP", help="what `xenalyze --dump-all` prints")
-    parser.add_argument("--cpu", action="append", required=True, metavar="N=CORE", help="a physical processor and its core")
-    parser.add_argument("--vcpu", action="append", required=True, metavar="dDvV=PART", help="a VCPU and its part, as d1v0=audio-0")
+    several(parser, "--cpu", "N=CORE", "a physical processor and its core", required=True)
+    several(parser, "--vcpu", "dDvV=PART", "a VCPU and its part, as d1v0=audio-0", required=True)
     parser.add_argument("--system", metavar="FILE", help="the system file whose budgets the dump has to tell")
     add_program(parser)
 
@@ -271,4 +271,5 @@ def run(given):
                 raise WrongWords(f"{word!r} is no {what}")
     system = read_system(given.system) if given.system else None
     is_open = system and any(part.budget is None for part in system.parts())
-    return Host(given.dump, {int(number): name for number, name in cores.items()}, vcpus).text(system, program_of(given.program) if is_open else None)
+    host = Host(given.dump, {int(number): name for number, name in cores.items()}, vcpus)
+    return host.text(system, program_of(given.program) if is_open else None)
