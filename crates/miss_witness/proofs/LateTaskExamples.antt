@@ -30,7 +30,8 @@ both_pend run (suc (suc j)) l = absurd (omega arith)
 
 -- the one slot is the first job's
 the_slot_is_the_first : (run : List (Option ℕ)) → IsRun run → (o : Option ℕ) → get_or run 0 None ≡ o → o ≡ Some 0
-the_slot_is_the_first run permitted None e = absurd (permitted.idle 0 0 (omega arith) refl e (both_pend run 0 (omega arith)))
+the_slot_is_the_first run permitted None e =
+    absurd (permitted.idle 0 0 (omega arith) refl e (both_pend run 0 (omega arith)))
 the_slot_is_the_first run permitted (Some zero) e = refl
 the_slot_is_the_first run permitted (Some (suc zero)) e =
     absurd (permitted.chosen 0 1 0 (omega arith) e (both_pend run 0 (omega arith)) refl)
