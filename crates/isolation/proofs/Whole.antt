@@ -1,11 +1,11 @@
 -- How far what is asked rises with each slot more: up to the whole budgets of the periods that have
 -- begun.
-use Rattle.std.proofs.Common.{◌≡◌, ℕ, zero, suc, min, ◌⊎◌, ◌+◌, ◌*◌, ◌-◌, ◌/◌, ◌%◌, ◌<◌, ◌≤◌, ◌==◌, Bool, true, false, cond, List, length, arith, ap, inl, inr}
+use Rattle.std.proofs.Common.{◌≡◌, ℕ, zero, suc, min, ◌⊎◌, ◌+◌, ◌*◌, ◌-◌, ◌/◌, ◌%◌, ◌<◌, ◌≤◌, ◌==◌, nat_lt, Bool, true, false, cond, List, length, arith, ap, inl, inr}
 use Rattle.std.proofs.Math.Nat.{mul-le-mul_right}
 use Rattle.std.proofs.lemmas.Nat.{le-div}
-use Rattle.std.proofs.lemmas.Bool.{cases_le, cases_lt, cases_Bool, cond-true, cond-false}
+use Rattle.std.proofs.lemmas.Bool.{cases_lt, cases_Bool, cond-true, cond-false}
 use Rattle.slot_model.specs.Slots.{sum_below}
-use Rattle.slot_model.proofs.Sums.{sum_below-zero, sum_below-suc, sum_below-le, cond_rises}
+use Rattle.slot_model.proofs.Sums.{sum_below-zero, sum_below-suc, sum_below-le, cond_rises, cond_at_most_one}
 use Rattle.tree_model.specs.declared.place.Place.TheVariants.{Core}
 use Rattle.tree_model.specs.View.{SystemView}
 use Rattle.tree_model.specs.System.{part_at}
@@ -15,6 +15,9 @@ use Rattle.rtds_sim.specs.Demand.{deferrable_demand}
 use Rattle.rtds_sim.proofs.Demands.{quotient_is}
 use Rattle.isolation.specs.Demand.{asked_of, asked}
 use Rattle.isolation.specs.inner.Neighbours.{IsNextOn}
+use Rattle.isolation.specs.declared.ties.Ties.{Ties}
+use Rattle.isolation.specs.declared.ties.Ties.TheVariants.{Open, InFileOrder}
+use Rattle.isolation.specs.inner.Ties.{tie_of}
 use Rattle.isolation.specs.inner.Whole.{whole_asked_of, whole_asked}
 use Rattle.isolation.proofs.Asked.{asked-rises, of_itself, of_another}
 use Rattle.isolation.proofs.Least.{part_asks, TooFewBelow, rises}
@@ -51,14 +54,31 @@ taken_or P B t d p =
     elim (cases_lt (s + d) P) [
       | inl m ↦
           let e : (t + d) / P ≡ q = quotient_is q P (s + d) (t + d) m (omega arith) in
-          elim (cases_le (s + d) B) [
-            | inl k ↦ inl (omega (arith, ap (λ (z : ℕ). z * P) e, ap (λ (z : ℕ). z * B) e))
-            | inr k ↦ inr (omega (arith, ap (λ (z : ℕ). z * P) e, ap (λ (z : ℕ). z * B) e))
+          elim (cases_lt B (s + d)) [
+            | inl k ↦ inr (omega (arith, ap (λ (z : ℕ). z * P) e, ap (λ (z : ℕ). z * B) e))
+            | inr k ↦ inl (omega (arith, ap (λ (z : ℕ). z * P) e, ap (λ (z : ℕ). z * B) e))
           ]
       | inr m ↦
           let more : suc q ≤ (t + d) / P = le-div (suc q) (t + d) P p (omega arith) in
           inr (omega (arith, mul-le-mul_right B more))
     ]
+
+-- no more is asked than the whole budgets
+in_whole : (tie : ℕ → ℕ → ℕ) (v u P B t : ℕ) → asked_of tie v u P B t ≤ whole_asked_of tie v u P B t
+in_whole tie v u P B t = elim (cases_Bool (u == v)) [
+  | inl e ↦
+      omega (
+        arith,
+        of_itself tie v u P B t e,
+        cond-true {A = ℕ} (u == v) B (suc ((t - tie v u) / P) * B) e,
+      )
+  | inr e ↦
+      omega (
+        arith,
+        of_another tie v u P B t e,
+        cond-false {A = ℕ} (u == v) B (suc ((t - tie v u) / P) * B) e,
+      )
+]
 
 -- so does another VCPU, of slots that are not lost by a tie, and v asks for all at once
 asked_or : (tie : ℕ → ℕ → ℕ) (v u P B t d : ℕ) → 1 ≤ P → tie v u ≤ t
@@ -94,6 +114,11 @@ cond_or : (on : Bool) (x y z d : ℕ) → (x + d ≤ z) ⊎ (y ≤ z)
     → (cond on x 0 + d ≤ cond on z 0) ⊎ (cond on y 0 ≤ cond on z 0)
 cond_or true x y z d h = h
 cond_or false x y z d h = inr (omega arith)
+
+-- a tie costs one slot at most
+pub one_slot : (ties : Ties) (v u : ℕ) → tie_of ties v u ≤ 1
+one_slot Open v u = omega arith
+one_slot InFileOrder v u = cond_at_most_one (nat_lt v u)
 
 module _ (tie : ℕ → ℕ → ℕ) (sys : SystemView) (budgets : List ℕ) (c v : ℕ) where
   -- what part u takes in the end, if it stands on the core
@@ -149,6 +174,13 @@ module _ (tie : ℕ → ℕ → ℕ) (sys : SystemView) (budgets : List ℕ) (c 
             (whole_asked_of tie v u (part_at sys u).period (budget_at budgets u) t)
             (asked_of tie v u (part_at sys u).period (budget_at budgets u) (t + d)) d
             (asked_or tie v u (part_at sys u).period (budget_at budgets u) t d (some u k) (ties u))
+
+    pub asked-le-whole : (t : ℕ) → asked tie sys budgets c v t ≤ whole_asked tie sys budgets c v t
+    asked-le-whole t =
+        sum_below-le (part_asks tie sys budgets c v t) (part_takes t) (length sys.parts)
+        (λ u k. cond_rises (is_child sys (Core c) u) (asked_of tie v u (part_at sys u).period (budget_at budgets u) t)
+        (whole_asked_of tie v u (part_at sys u).period (budget_at budgets u) t)
+        (in_whole tie v u (part_at sys u).period (budget_at budgets u) t))
 
     -- where t slots are too few, all up to the budgets that have begun are
     pub few_more : (t : ℕ) → ((u : ℕ) → tie v u ≤ t) → t < asked tie sys budgets c v t

@@ -1,4 +1,4 @@
-ghost use Rattle.std.specs.Prelude.{◌≡◌, ◌≤◌};
+ghost use Rattle.std.specs.Prelude.{◌≡◌};
 ghost use Rattle.isolation.specs.inner.Ties.{tie_of};
 
 /// How ties are broken between periods that end at once: in any way, or for the VCPU that stands
@@ -12,8 +12,7 @@ pub enum Ties {
 impl Ties {
     /// By how many slots a period of `u` must end before one of `v`, to go before it.
     pub fn slots(self, v: usize, u: usize) -> u64
-        ensures exact { result ≡ tie_of self v u }
-        ensures few { result ≤ 1 }
+        ensures { result ≡ tie_of self v u }
     {
         match self {
             Ties::Open => 0,
