@@ -1,6 +1,6 @@
 -- How far what is asked rises with each slot more: up to the whole budgets of the periods that have
 -- begun.
-use Rattle.std.proofs.Common.{◌≡◌, ℕ, zero, suc, min, ◌⊎◌, ◌+◌, ◌*◌, ◌-◌, ◌/◌, ◌%◌, ◌<◌, ◌≤◌, ◌==◌, nat_lt, Bool, true, false, cond, List, length, arith, ap, inl, inr}
+use Rattle.std.proofs.Common.{◌≡◌, ℕ, zero, suc, ◌⊎◌, ◌+◌, ◌*◌, ◌-◌, ◌/◌, ◌%◌, ◌<◌, ◌≤◌, ◌==◌, nat_lt, Bool, true, false, cond, List, length, arith, ap, inl, inr}
 use Rattle.std.proofs.Math.Nat.{mul-le-mul_right}
 use Rattle.std.proofs.lemmas.Nat.{le-div}
 use Rattle.std.proofs.lemmas.Bool.{cases_lt, cases_Bool, cond-true, cond-false}
@@ -20,7 +20,7 @@ use Rattle.isolation.specs.declared.ties.Ties.TheVariants.{Open, InFileOrder}
 use Rattle.isolation.specs.inner.Ties.{tie_of}
 use Rattle.isolation.specs.inner.Whole.{whole_asked_of, whole_asked}
 use Rattle.isolation.proofs.Asked.{asked-rises, of_itself, of_another}
-use Rattle.isolation.proofs.Least.{part_asks, TooFewBelow, rises}
+use Rattle.isolation.proofs.Least.{part_asks, TooFewBelow}
 use Rattle.isolation.proofs.Neighbouring.{sum_next}
 
 -- where each term takes d more or comes to what it is in another sum, so does the sum

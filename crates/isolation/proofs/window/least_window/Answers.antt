@@ -1,8 +1,7 @@
-use Rattle.std.proofs.Common.{◌≡◌, ◌<◌, ℕ, List, sym, ap, subst, arith}
+use Rattle.std.proofs.Common.{◌<◌, ℕ, List, sym, ap, subst, arith}
 use Rattle.tree_model.specs.Tree.{budget_at}
 use Rattle.isolation.specs.Demand.{asked}
 use Rattle.isolation.specs.inner.Ties.{tie_of}
-use Rattle.isolation.specs.inner.Whole.{whole_asked}
 use Rattle.isolation.proofs.Least.{TooFewBelow, few_first}
 use Rattle.isolation.proofs.Whole.{one_slot, asked-le-whole, few_more}
 use Rattle.isolation.proofs.window.least_window.Goals as goal
