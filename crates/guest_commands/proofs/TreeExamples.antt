@@ -12,7 +12,7 @@ use Rattle.slot_model.specs.Supply.{IsFull}
 use Rattle.slot_model.specs.Task.{plain_task, plain_job, SporadicTask, job_at, deadline_of}
 use Rattle.slot_model.specs.Order.{before_of}
 use Rattle.slot_model.specs.Release.{LegalRelease, staggered_at, staggered}
-use Rattle.slot_model.specs.Run.{server, guest, Pending, PermittedRun}
+use Rattle.slot_model.specs.Run.{server, guest, Pending}
 use Rattle.tree_model.specs.declared.place.Parent.TheVariants.{Core as on_core}
 use Rattle.tree_model.specs.declared.place.Place.TheVariants.{Core}
 use Rattle.tree_model.specs.View.{PartView, SystemView}
