@@ -21,7 +21,7 @@ from .system_file import LIMIT, NAME, read_system
 
 FAULT = re.compile(r"fault=(\w+)(?: at=(.+?))?(?: row=(\d+))?(?: core=(\S+))? file=([12])")
 KINDS = {key: kind for kind, keys in ((str, "name parent sched"), (bool, "extra"), (list, "core part task")) for key in keys.split()}
-CALLED = {str: "text", bool: "true or false", int: "a whole number", float: "a number with a point", list: "an array", dict: "a table"}
+CALLED = {str: "text", bool: "a truth value", int: "a whole number", float: "a number with a point", list: "an array", dict: "a table"}
 
 
 @dataclass
