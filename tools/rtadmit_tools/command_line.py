@@ -23,6 +23,19 @@ class Refused(Exception):
         super().__init__(f"{place}{cause}")
 
 
+class WrongWords(Refused):
+    """The words of a verb are none that it takes."""
+
+    def __init__(self, cause):
+        super().__init__(None, None, cause)
+
+
+def refuse_all(causes):
+    """Refuses for all these causes at once, a line each, where there are any."""
+    if told := "\n".join(map(str, causes)):
+        raise Refused(None, None, told)
+
+
 def verbs(kind):
     """The verbs of an entry point in order, each with the first line of its help."""
     found = {}
@@ -65,7 +78,7 @@ def ended(answer, refused=1):
         told = answer()
     except Refused as cause:
         print(cause, file=sys.stderr)
-        return refused
+        return USAGE if isinstance(cause, WrongWords) else refused
     except OSError as fault:
         print(f"{fault.filename}: {fault.strerror}" if fault.filename else fault.strerror or fault, file=sys.stderr)
         return refused
@@ -95,9 +108,9 @@ def pairs(words, option, order="first"):
     for word in words:
         key, sign, value = word.rpartition("=") if order == "last" else word.partition("=")
         if not (sign and key and value):
-            raise Refused(None, None, f"{option} {word!r} is not KEY=VALUE")
+            raise WrongWords(f"{option} {word!r} is not KEY=VALUE")
         if key in found or value in found.values():
-            raise Refused(None, None, f"{option} {word!r}: {key if key in found else value} stands twice")
+            raise WrongWords(f"{option} {word!r}: {key if key in found else value} stands twice")
         found[key] = value
     return found
 
