@@ -66,10 +66,15 @@ def written(text):
         sys.stdout.write(text)
         sys.stdout.flush()
     except OSError as fault:
-        print(f"standard output: {fault.strerror}", file=sys.stderr)
-        os.dup2(os.open(os.devnull, os.O_WRONLY), sys.stdout.fileno())
+        unwritten(fault)
         return False
     return True
+
+
+def unwritten(fault):
+    """Tells that standard output takes no more, and keeps Python from trying it again when it ends."""
+    print(f"standard output: {fault.strerror}", file=sys.stderr)
+    os.dup2(os.open(os.devnull, os.O_WRONLY), sys.stdout.fileno())
 
 
 def ended(answer, refused=1):
@@ -79,6 +84,9 @@ def ended(answer, refused=1):
     except Refused as cause:
         print(cause, file=sys.stderr)
         return USAGE if isinstance(cause, WrongWords) else refused
+    except BrokenPipeError as fault:
+        unwritten(fault)
+        return refused
     except OSError as fault:
         print(f"{fault.filename}: {fault.strerror}" if fault.filename else fault.strerror or fault, file=sys.stderr)
         return refused
