@@ -54,7 +54,7 @@ def section(head, *lines):
 
 def banner(tone, lead, told):
     """A sentence at the front of the page, in the colour of yes, no or wide."""
-    return f'<div class="verdict {tone}"><b>{lead}</b> {told}</div>'
+    return f'<div class="verdict {tone}"><b>{lead}</b> {" ".join(told.split())}</div>'
 
 
 def bars(shares, full, colours):

@@ -144,9 +144,9 @@ class Page:
         found = answer.refused_node()
         if not found:
             return banner("no", "No.", code(answer.shown))
-        where = f"{name_of(found[4])} is not served in time"
-        if found[3]:
-            where = f"in a window of {found[3]} slots more is asked for than is sure to come"
+        where = f"in a window of {found[3]} slots more is asked for than is sure to come"
+        if found[4]:
+            where = f"{name_of(found[4])} is not served in time"
         return banner("no", "No.", f"The {found[1]} {name_of(found[2])} is overfull: {where}.")
 
     def sleeping(self):
@@ -155,12 +155,12 @@ class Page:
         if not asked.admit.is_yes or not asked.vcpus:
             return ""
         block, ties = ([name for name, line in asked.isolated.items() if line["by"] == how] for how in ("block", "ties"))
-        taken = [f"others that sleep and wake at the right moments can take from {names_of(block)} what was promised"] if block else []
-        taken += [f"{names_of(ties)} can lose it where periods end at once"] if ties else []
+        taken = [f"Others that sleep and wake at the right moments can take from {names_of(block)} what was promised."] if block else []
+        taken += [f"Others whose periods end at once can take it from {names_of(ties)}."] if ties else []
         if not asked.isolated:
-            tone, lead, told = "wide", "If VCPUs sleep:", marked("nothing is claimed, since `isolate` did not answer.")
+            tone, lead, told = "wide", "If VCPUs sleep: no answer.", marked("Nothing is claimed, since `isolate` did not answer.")
         elif taken:
-            tone, lead, told = "no", f"If VCPUs sleep: {len(block + ties)} of {len(asked.isolated)} exposed.", "; ".join(taken) + "."
+            tone, lead, told = "no", f"If VCPUs sleep: {len(block + ties)} of {len(asked.isolated)} exposed.", " ".join(taken)
         else:
             tone, lead, told = "yes", "If VCPUs sleep: isolated.", ISOLATED
         return banner(tone, lead, f"{told} {RTDS_ONLY if asked.is_linux else ''}".strip())
