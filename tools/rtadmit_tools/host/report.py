@@ -335,7 +335,8 @@ class Page:
         return section("What was asked", *about, table_of(["file", "SHA-256"], [[code(name), code(told)] for name, told in files]), soft(CLAIMS))
 
     def text(self):
-        mark = banner("no", "Unproved.", escape(self.origin.mark)) if self.origin.is_unproved else ""
+        lead, _, cause = self.origin.mark.partition(": ")
+        mark = banner("no", f"{lead}:", escape(cause)) if cause and self.origin.is_asked_for else ""
         parts = [mark, self.verdict(), self.sleeping(), self.audited() if self.asked.trace else ""]
         parts += [self.why() if self.asked.admit.status == 1 else "", section("Cores", *map(self.core, self.system.cores())), self.guests()]
         parts += [self.recording() if self.asked.trace else "", self.curves(), self.foot()]
