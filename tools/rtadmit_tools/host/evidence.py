@@ -32,6 +32,7 @@ from ..program import Answer, Program, add_program, program_of
 from ..sealed import add_origin, archive_of, end_by_signal, origin_of, seal, sum_of
 from ..system_file import read_system
 from . import report
+from .why import is_stand_in
 
 SYSTEM, TRACE, CERTIFICATE = "system.toml", "trace.csv", "certificate.json"
 CLOSING = 20
@@ -80,8 +81,9 @@ class Verdicts:
             self.checked_twice()
         if admitted.is_yes:
             self.ask("responses", SYSTEM)
-            for part in counted([part for part in read_system(SYSTEM).parts() if part.tasks], "slack"):
-                self.ask("slack", SYSTEM, part.name)
+            known = [part.name for part in read_system(SYSTEM).parts() if part.tasks and not is_stand_in(part)]
+            for name in counted(known, "slack"):
+                self.ask("slack", SYSTEM, name)
             self.ask("isolate", SYSTEM)
         for command in ("audit", "tally") if has_trace else ():
             self.ask(command, SYSTEM, TRACE)
