@@ -89,7 +89,7 @@ def file_of(program):
 
 
 def add_origin(parser):
-    parser.add_argument("--gate", metavar="GATE", help="what the gate printed; without it the file GATE beside the program, as in a release")
+    parser.add_argument("--gate", metavar="GATE", help="what the gate printed; without it GATE beside the program, as in a release")
     parser.add_argument("--unproved", action="store_true", help="takes a build without proofs too, and marks each page of it")
 
 

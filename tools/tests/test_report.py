@@ -174,7 +174,7 @@ class Pages(Case):
             ({"isolate) ": isolated}, "If VCPUs sleep: isolated. Each VCPU keeps its budget, whatever the others do"),
             ({"isolate) ": "isolate) echo 'fault=NotRtds core=c file=1'; exit 3; "}, "isolate is refused: fault=NotRtds core=c file=1 (status 3)"),
             ({"audit) ": yes.replace("2", "0")}, "The recording: no verdict. No period is short or over; 0 were judged"),
-            ({"audit) ": yes, "tally) ": "tally) exit 2; "}, "The recording: no verdict on each guest."),
+            ({"audit) ": yes, "tally) ": "tally) exit 2; "}, "2 were judged, of all guests together. Of whom is not told, since tally did not answer."),
             ({"audit) ": yes, "tally) ": tallied(first, second.format(0))},
              "The recording: not of all guests. No period is short or over; 2 were judged, of all guests together. It lacks B ."),
             ({"audit) ": yes, "tally) ": tallied(first, second.format(1))}, "of all guests together. No period of B was judged."),
