@@ -85,7 +85,8 @@ class Made(Case):
         self.evidence()
         told = self.text("verdicts.txt").split("\n\n")
         self.assertEqual([entry.split("\n")[0] for entry in told], [
-            "$ rtadmit admit system.toml", "$ rtadmit certify system.toml >certificate.json", "$ rtadmit check system.toml certificate.json",
+            "$ rtadmit admit system.toml", "$ rtadmit certify system.toml >certificate.json",
+            "$ rtadmit check system.toml certificate.json",
             "$ tools/second-checker system.toml certificate.json", "$ rtadmit responses system.toml", "$ rtadmit slack system.toml leaf",
             "not asked: this program has no `isolate`", "$ rtadmit audit system.toml trace.csv", "$ rtadmit tally system.toml trace.csv"])
         self.assertEqual(told[7], "$ rtadmit audit system.toml trace.csv\nverdict=no\nshort leaf from_ns=0 got_ns=2000 of_ns=3000\nstatus 1")

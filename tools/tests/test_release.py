@@ -122,10 +122,12 @@ class Refusals(Case):
 
     def test_a_gate_that_failed(self):
         line = self.line().strip()
-        no_end, old, changes = "the gate failed, or did not come to its end", "this line of a gate tells no logic", "changes that were not committed"
+        no_end = "the gate failed, or did not come to its end"
         for text, cause in (
-            ("", no_end), ("crate a: proved\n", no_end), (f"{line}\ncrate b: not proved\n", no_end), (line[:-1], no_end), (f"{line} and more\n", no_end),
-            ("program sha256=7 commit=7\n", no_end), (line.partition(" logic=")[0], old), (line.replace(" logic=", "+changes logic="), changes),
+            ("", no_end), ("crate a: proved\n", no_end), (f"{line}\ncrate b: not proved\n", no_end), (line[:-1], no_end),
+            (f"{line} and more\n", no_end), ("program sha256=7 commit=7\n", no_end),
+            (line.partition(" logic=")[0], "this line of a gate tells no logic"),
+            (line.replace(" logic=", "+changes logic="), "changes that were not committed"),
         ):
             with self.subTest(text):
                 self.gate.write_text(text)
