@@ -79,7 +79,7 @@ def line_of_row(path, holds):
 def fault_place(told):
     """The file, the line and the cause that the first line of what is told of a fault has."""
     found = re.match(r"(.+?)(?::(\d+))?: (.*)", told[0])
-    return found[1], found[2] and int(found[2]), found[3]
+    return found[1], found[2] and int(found[2]), found[3].removeprefix(", ")
 
 
 def place_of(line, command, files, answer):
