@@ -132,7 +132,7 @@ class Pages(Case):
         for told in (
             "Yes, while no VCPU sleeps. No deadline is missed on any level", "80.58% in use", "rtadmit 1.2.3",
             "If VCPUs sleep: 2 of 3 exposed. Others that sleep and wake at the right moments can take from video-0 what was promised. "
-            "Others whose periods end at once can take it from audio-0 .",
+            "audio-0 : kept only where, of periods that end at once, the first in the file goes first.", "What runs in Domain-0-0 is not known (stand-in).",
             "The recording: no. audio-0 was over: the period that begins at 0 ns got 600700 ns, more than its budget of 600000 ns. "
             "No period of audio-0 was judged.", "no line of a gate is known that tells the sum of the program",
         ):

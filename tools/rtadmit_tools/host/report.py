@@ -72,7 +72,7 @@ class Asked:
         self.vcpus = [part for core in self.system.cores() for part in core.children]
         for name in self.vcpus:
             self.take(name)
-        self.stand_ins = {part.name for part in self.system.parts() if why.is_stand_in(part)}
+        self.stand_ins = [part.name for part in self.system.parts() if why.is_stand_in(part)]
         self.leaves = [part.name for part in self.system.parts() if part.tasks and part.name not in self.stand_ins]
         self.responses = [line for line in self.lines("response", "responses", path) if line["name"] not in self.stand_ins]
         self.slacks = [line for name in counted(self.leaves, "slack") for line in self.lines("slack", "slack", path, name)]
@@ -137,7 +137,8 @@ class Page:
         """What `admit` says, in a sentence."""
         answer = self.asked.admit
         if answer.is_yes:
-            return banner("yes", "Yes, while no VCPU sleeps.", YES)
+            unknown = f" What runs in {names_of(self.asked.stand_ins)} is not known (stand-in)." if self.asked.stand_ins else ""
+            return banner("yes", "Yes, while no VCPU sleeps.", YES + unknown)
         if answer.status == 4:
             return banner("wide", "Nothing is claimed.", f"The periods share too few factors to be judged: {code(answer.lines[1])}")
         found = answer.refused_node()
@@ -155,7 +156,7 @@ class Page:
             return ""
         block, ties = ([name for name, line in asked.isolated.items() if line.get("by") == how] for how in ("block", "ties"))
         taken = [f"Others that sleep and wake at the right moments can take from {names_of(block)} what was promised."] if block else []
-        taken += [f"Others whose periods end at once can take it from {names_of(ties)}."] if ties else []
+        taken += [f"{names_of(ties)}: kept only where, of periods that end at once, the first in the file goes first."] if ties else []
         if not asked.isolated:
             tone, lead, told = "wide", "If VCPUs sleep: no answer.", marked("Nothing is claimed, since `isolate` did not answer.")
         elif taken:
@@ -205,8 +206,11 @@ class Page:
             "guest": self.guest, "on": lambda part: Cell(name_of(part.parent), "where"), "period": lambda part: str(part.period),
             "budget": self.budget, "share": lambda part: Cell(percent(asked.share(part.name)), "number"),
         }
-        more = {"slack": (asked.slacks, self.slack), "response": (asked.responses, self.response)}
-        more["when others block"] = (asked.isolated, self.isolation)
+        more = {
+            "slack": (asked.slacks, lambda part: self.closest(asked.slacks, part, "work", "most", "→")),
+            "response": (asked.responses, lambda part: self.closest(asked.responses, part, "worst", "limit", "of")),
+            "when others block": (asked.isolated, self.isolation),
+        }
         columns.update({word: cell for word, (told, cell) in more.items() if told})
         rows = [[cell(part) for cell in columns.values()] for part in self.system.parts()]
         about = ["Periods and budgets are slots (µs)."]
@@ -223,12 +227,6 @@ class Page:
         if told is None:
             return Cell("none is enough" if part.budget is None else f"{part.budget} given: too small", "bad")
         return f"{told[0]} {'given' if told[1] else 'computed'}"
-
-    def slack(self, part):
-        return self.closest(self.asked.slacks, part, "work", "most", "→")
-
-    def response(self, part):
-        return self.closest(self.asked.responses, part, "worst", "limit", "of")
 
     @staticmethod
     def closest(lines, part, key, limit, sign):
