@@ -4,7 +4,7 @@ import shlex
 import unittest
 
 import support
-from rtadmit_tools.program import Answer
+from rtadmit_tools.program import ALONE, Answer
 
 try:
     import jsonschema
@@ -118,6 +118,12 @@ class Objects(unittest.TestCase):
                 self.assertEqual(found, {**wanted, **(told if isinstance(told, dict) else {"lines": told})})
                 if schema:
                     schema.validate(found)
+
+    def test_each_kind_is_in_the_schema_and_in_a_row(self):
+        schema = json.loads((support.top / "docs/answer.schema.json").read_text())
+        kinds = {line["properties"]["kind"]["const"] for line in schema["properties"]["lines"]["items"]["anyOf"]}
+        self.assertEqual(kinds, {*ALONE, "usage", "version"})
+        self.assertEqual(kinds, {line["kind"] for *_, told in TEXTS if isinstance(told, list) for line in told})
 
     @unittest.skipUnless(jsonschema, "Python's jsonschema is not installed")
     def test_what_the_schema_refuses(self):
