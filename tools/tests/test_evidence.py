@@ -88,8 +88,8 @@ class Made(Case):
             "$ rtadmit admit system.toml", "$ rtadmit certify system.toml >certificate.json",
             "$ rtadmit check system.toml certificate.json",
             "$ tools/second-checker system.toml certificate.json", "$ rtadmit responses system.toml", "$ rtadmit slack system.toml leaf",
-            "not asked: this program has no `isolate`", "$ rtadmit audit system.toml trace.csv", "$ rtadmit tally system.toml trace.csv"])
-        self.assertEqual(told[7], "$ rtadmit audit system.toml trace.csv\nverdict=no\nshort leaf from_ns=0 got_ns=2000 of_ns=3000\nstatus 1")
+            "$ rtadmit audit system.toml trace.csv", "$ rtadmit tally system.toml trace.csv", "not asked: this program has no `isolate`"])
+        self.assertEqual(told[6], "$ rtadmit audit system.toml trace.csv\nverdict=no\nshort leaf from_ns=0 got_ns=2000 of_ns=3000\nstatus 1")
 
     def test_the_same_twice(self):
         """Under another name, with another mask of rights, of files with other names and times, and a gate beside the program."""

@@ -68,7 +68,7 @@ class Asked:
         self.path, self.trace, self.program = path, trace, program
         self.system, self.admit = read_admitted(path, program)
         self.is_linux = bool(FROM_LINUX.match(pathlib.Path(path).read_text(errors="replace")))
-        self.words, self.notes, self.budgets, self.of_part = [f"admit {path}"], [], {}, {}
+        self.answers, self.notes, self.budgets, self.of_part = [(f"admit {path}", self.admit)], [], {}, {}
         self.vcpus = [part for core in self.system.cores() for part in core.children]
         for name in self.vcpus:
             self.take(name)
@@ -77,10 +77,12 @@ class Asked:
         self.responses = [line for line in self.lines("response", "responses", path) if line["name"] not in self.stand_ins]
         self.slacks = [line for name in counted(self.leaves, "slack") for line in self.lines("slack", "slack", path, name)]
         self.isolated = {line["name"]: line for line in self.lines("isolated exposed", "isolate", path)}
-        self.audit = self.program.ask("audit", path, trace) if trace else None
-        self.broken = next(iter(self.audit.told("short", "over")), None) if trace else None
-        self.tally = self.lines("vcpu", "tally", path, trace, always=True) if trace else []
-        self.words += [f"audit {path} {trace}"] * bool(trace)
+        self.audit, self.broken, self.tally = None, None, []
+        if trace:
+            self.audit = self.program.ask("audit", path, trace)
+            self.answers.append((f"audit {path} {trace}", self.audit))
+            self.broken = next(iter(self.audit.told("short", "over")), None)
+            self.tally = self.lines("vcpu", "tally", path, trace, always=True)
 
     def take(self, name):
         """Takes the budgets of a guest and of all that stands on it: as admitted, or as the program answers for it by itself."""
@@ -104,7 +106,7 @@ class Asked:
         if answer.status == 2:
             self.notes.append(f"not asked: this program has no `{command}`")
             return None
-        self.words.append(" ".join([command, *words]))
+        self.answers.append((" ".join([command, *words]), answer))
         if answer.status > 1:
             self.notes.append(f"`{command}` is refused: {answer.shown} (status {answer.status})")
         return answer
@@ -324,7 +326,7 @@ class Page:
         left = escape(origin.mark)
         if gate:
             left = f"The gate left a program of this sum: commit {code(gate.commit)}, logic {code(gate.logic)}."
-        about = [f"<p>{escape(origin.version)}</p>", f"<p>{left}</p>", listed(code(f"rtadmit {words}") for words in asked.words)]
+        about = [f"<p>{escape(origin.version)}</p>", f"<p>{left}</p>", listed(code(f"rtadmit {words}") for words, _ in asked.answers)]
         sums = table_of(["file", "SHA-256"], [[code(name), code(told)] for name, told in files])
         return section("What was asked", *about, sums, soft(CLAIMS))
 
@@ -335,10 +337,6 @@ class Page:
         parts += [self.why() if self.asked.admit.status == 1 else "", section("Cores", *map(self.core, self.system.cores())), self.guests()]
         parts += [self.recording() if self.asked.trace else "", self.curves(), self.foot()]
         return whole(f"rtadmit: {self.asked.path}", f"Does {self.asked.path} keep its deadlines?", parts)
-
-
-def page_of(path, trace, program, origin):
-    return Page(Asked(path, trace, program), origin).text()
 
 
 def add_files(parser):
@@ -355,5 +353,5 @@ def add_words(parser):
 
 def run(given):
     program = program_of(given.program)
-    page = page_of(given.file, given.trace, program, origin_of(program, given.gate, given.unproved))
+    page = Page(Asked(given.file, given.trace, program), origin_of(program, given.gate, given.unproved)).text()
     pathlib.Path(given.out).write_text(page, encoding="utf-8")
