@@ -1,10 +1,10 @@
 -- Worked cases of the words that spell a command. A wrong definition breaks one of them.
 use Rattle.std.proofs.Common.{◌≡◌, ℕ, List, [], ◌∷◌, Some, None, refl}
-use Rattle.std.specs.Prelude.{codes, bytes_eq, option_map, option_and_then, if◌then◌else◌}
+use Rattle.std.specs.Prelude.{codes, option_map, option_and_then}
 use Rattle.command_words.specs.Numbers.{guest_number}
-use Rattle.command_words.specs.PeriodWords.{range_of}
+use Rattle.command_words.specs.PeriodWords.{period_of, range_of}
 use Rattle.command_words.specs.SlotWords.{slot_count, pattern_of}
-use Rattle.command_words.specs.Commands.{admit, certify, check, rtds, audit, simulate, bulk, interface, choose, session, place, isolate, slack, tally, responses, version, one_word, two_words, rtds_of, simulate_of, interface_of, choose_of, version_of, command_of, usage_line}
+use Rattle.command_words.specs.Commands.{admit, certify, check, rtds, audit, simulate, bulk, interface, choose, session, place, isolate, slack, tally, responses, version, command_of, usage_line}
 use Rattle.server_sched.specs.declared.supplies.Pattern.TheVariants.{Early, Late, Worst}
 
 -- `admit` and one file, and nothing else
@@ -82,26 +82,38 @@ no_form_is_left_open :
     × (command_of (codes "Admit" ∷ codes "a" ∷ []) ≡ None) × (command_of (codes "a" ∷ codes "admit" ∷ []) ≡ None)
 no_form_is_left_open = (refl, refl, refl, refl, refl)
 
--- the table of forms, word for word
-the_words_of_each_command : (word : List ℕ) (rest : List (List ℕ)) → command_of (word ∷ rest) ≡
-    (if bytes_eq word (codes "admit") then option_map admit (one_word rest)
-    else if bytes_eq word (codes "certify") then option_map certify (one_word rest)
-    else if bytes_eq word (codes "check") then option_map (λ names. check names.0 names.1) (two_words rest)
-    else if bytes_eq word (codes "simulate") then simulate_of rest
-    else if bytes_eq word (codes "rtds") then rtds_of rest
-    else if bytes_eq word (codes "audit") then option_map (λ names. audit names.0 names.1) (two_words rest)
-    else if bytes_eq word (codes "bulk") then option_map bulk (option_and_then guest_number (one_word rest))
-    else if bytes_eq word (codes "interface") then interface_of rest
-    else if bytes_eq word (codes "responses") then option_map responses (one_word rest)
-    else if bytes_eq word (codes "choose") then choose_of rest
-    else if bytes_eq word (codes "session") then option_map (λ names. session names.0 names.1) (two_words rest)
-    else if bytes_eq word (codes "place") then option_map (λ names. place names.0 names.1) (two_words rest)
-    else if bytes_eq word (codes "isolate") then option_map isolate (one_word rest)
-    else if bytes_eq word (codes "slack") then option_map (λ names. slack names.0 names.1) (two_words rest)
-    else if bytes_eq word (codes "tally") then option_map (λ names. tally names.0 names.1) (two_words rest)
-    else if bytes_eq word (codes "version") then version_of rest
-    else None)
-the_words_of_each_command word rest = refl
+-- each form: what its words spell, word by word
+the_words_of_each_command : (a b c d : List ℕ) →
+    (command_of (codes "admit" ∷ a ∷ []) ≡ Some (admit a))
+    × (command_of (codes "certify" ∷ a ∷ []) ≡ Some (certify a))
+    × (command_of (codes "check" ∷ a ∷ b ∷ []) ≡ Some (check a b))
+    × (command_of (codes "simulate" ∷ a ∷ b ∷ c ∷ d ∷ [])
+    ≡ option_and_then (λ pattern. option_map (simulate a b pattern) (slot_count d)) (pattern_of c))
+    × (command_of (codes "rtds" ∷ a ∷ b ∷ c ∷ []) ≡ option_map (rtds a b) (slot_count c))
+    × (command_of (codes "audit" ∷ a ∷ b ∷ []) ≡ Some (audit a b))
+    × (command_of (codes "bulk" ∷ a ∷ []) ≡ option_map bulk (guest_number a))
+    × (command_of (codes "interface" ∷ a ∷ b ∷ c ∷ []) ≡ option_map (interface a b) (period_of c))
+    × (command_of (codes "responses" ∷ a ∷ []) ≡ Some (responses a))
+    × (command_of (codes "choose" ∷ a ∷ b ∷ c ∷ d ∷ [])
+    ≡ option_map (λ range. choose a b range.0 range.1) (range_of c d))
+    × (command_of (codes "session" ∷ a ∷ b ∷ []) ≡ Some (session a b))
+    × (command_of (codes "place" ∷ a ∷ b ∷ []) ≡ Some (place a b))
+    × (command_of (codes "isolate" ∷ a ∷ []) ≡ Some (isolate a))
+    × (command_of (codes "slack" ∷ a ∷ b ∷ []) ≡ Some (slack a b))
+    × (command_of (codes "tally" ∷ a ∷ b ∷ []) ≡ Some (tally a b))
+    × (command_of (codes "version" ∷ []) ≡ Some version)
+the_words_of_each_command a b c d =
+    (refl, refl, refl, refl, refl, refl, refl, refl, refl, refl, refl, refl, refl, refl, refl, refl)
+
+-- a command takes no fewer words and no more, whatever they are
+no_other_number_of_words : (a b : List ℕ) (rest : List (List ℕ)) →
+    (command_of (codes "admit" ∷ []) ≡ None) × (command_of (codes "admit" ∷ a ∷ b ∷ rest) ≡ None)
+    × (command_of (codes "check" ∷ a ∷ []) ≡ None) × (command_of (codes "check" ∷ a ∷ b ∷ a ∷ rest) ≡ None)
+    × (command_of (codes "rtds" ∷ a ∷ b ∷ []) ≡ None) × (command_of (codes "rtds" ∷ a ∷ b ∷ a ∷ b ∷ rest) ≡ None)
+    × (command_of (codes "simulate" ∷ a ∷ b ∷ a ∷ []) ≡ None)
+    × (command_of (codes "simulate" ∷ a ∷ b ∷ a ∷ b ∷ a ∷ rest) ≡ None)
+    × (command_of (codes "version" ∷ a ∷ rest) ≡ None)
+no_other_number_of_words a b rest = (refl, refl, refl, refl, refl, refl, refl, refl, refl)
 
 the_usage : usage_line
     ≡ codes

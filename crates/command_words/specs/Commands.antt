@@ -1,11 +1,10 @@
 -- The commands: the words that spell them, and the record of each.
-use Rattle.std.specs.Prelude.{ℕ, List, [], ◌∷◌, ◌++◌, Option, Some, None, option_map, option_and_then, codes, bytes_eq, if◌then◌else◌}
+use Rattle.std.specs.Prelude.{ℕ, List, [], ◌∷◌, ◌++◌, Option, None, option_map, option_and_then, codes, bytes_eq, if◌then◌else◌}
 use Rattle.server_sched.specs.declared.supplies.Pattern.{Pattern}
 use Rattle.command_words.specs.declared.commands.Command.{Command as Parsed}
 use Rattle.command_words.specs.declared.commands.Command.TheVariants.{Admit as ToAdmit, Certify as ToCertify, Check as ToCheck, Rtds as ToRtds, Audit as ToAudit, Simulate as ToSimulate, Bulk as ToBulk, Responses as ToResponses, Interface as ToInterface, Choose as ToChoose, Session as ToSession, Place as ToPlace, Isolate as ToIsolate, Slack as ToSlack, Tally as ToTally, Version as ToVersion}
-use Rattle.command_words.specs.SlotWords.{pattern_of, slot_count}
-use Rattle.command_words.specs.Numbers.{guest_number}
-use Rattle.command_words.specs.PeriodWords.{period_of, range_of}
+use Rattle.command_words.specs.PeriodWords.{range_of}
+use Rattle.command_words.specs.Forms.{Form, form, alone, with_one, with_two, with_three, with_four, any_word, file_word, part_word, trace_word, pattern_word, slots_word, guests_word, deadline_word, four_words}
 use Rattle.command_steps.specs.CommandSpec.{CommandSpec}
 use Rattle.admit_commands.specs.Admit.{the_admit}
 use Rattle.admit_commands.specs.Certify.{the_certify}
@@ -87,88 +86,33 @@ command_told ToVersion = version
 abbrev pub file_names : Command → List (List ℕ)
 file_names command = (spec_of command).files
 
--- the only word, and none where there are fewer or more
-abbrev pub one_word : List (List ℕ) → Option (List ℕ)
-one_word (word ∷ []) = Some word
-one_word _ = None
-
--- the only two words
-abbrev pub two_words : List (List ℕ) → Option (List ℕ × List ℕ)
-two_words (first ∷ second ∷ []) = Some (first, second)
-two_words _ = None
-
--- a command of one file, and of two, or of one and a leaf
-abbrev pub of_one : (List ℕ → Command) → List (List ℕ) → Option Command
-of_one command words = option_map command (one_word words)
-
-abbrev pub of_two : (List ℕ → List ℕ → Command) → List (List ℕ) → Option Command
-of_two command words = option_map (λ names. command names.0 names.1) (two_words words)
-
--- two files and a number of slots
-abbrev pub rtds_of : List (List ℕ) → Option Command
-rtds_of (file ∷ workload ∷ slots ∷ []) = option_map (rtds file workload) (slot_count slots)
-rtds_of _ = None
-
--- two files, a pattern and a number of slots
-abbrev pub over_slots : List ℕ → List ℕ → Option Pattern → Option ℕ → Option Command
-over_slots file releases (Some pattern) (Some slots) =
-    Some (simulate file releases pattern slots)
-over_slots file releases _ _ = None
-
-abbrev pub simulate_of : List (List ℕ) → Option Command
-simulate_of (file ∷ releases ∷ pattern ∷ slots ∷ []) =
-    over_slots file releases (pattern_of pattern) (slot_count slots)
-simulate_of _ = None
-
--- a number of guests
-abbrev pub bulk_of : List (List ℕ) → Option Command
-bulk_of words = option_map bulk (option_and_then guest_number (one_word words))
-
--- a file, a leaf and a deadline
-abbrev pub interface_of : List (List ℕ) → Option Command
-interface_of (file ∷ part ∷ deadline ∷ []) = option_map (interface file part) (period_of deadline)
-interface_of _ = None
-
--- a file, a leaf and a range of periods
+-- a file and a leaf, two numbers that are a range of periods, and what they are to `choose`
 abbrev pub choose_of : List (List ℕ) → Option Command
-choose_of (file ∷ part ∷ low ∷ high ∷ []) =
-    option_map (λ range. choose file part range.0 range.1) (range_of low high)
-choose_of _ = None
-
--- no further word
-abbrev pub version_of : List (List ℕ) → Option Command
-version_of [] = Some version
-version_of (word ∷ rest) = None
-
--- a form of words: a command's own word, what follows it as the usage line shows that, and what
--- the words that follow spell
-pub record Form (Command : Type 0) : Type 0 where
-  pub word : List ℕ
-  pub shown : List ℕ
-  pub spells : List (List ℕ) → Option Command
+choose_of words = option_and_then
+    (λ found. option_map (λ range. choose found.0 found.1 range.0 range.1)
+    (range_of found.2 found.3))
+    (four_words words)
 
 -- the forms of words, in the order of the usage line
-abbrev pub form : List ℕ → List ℕ → (List (List ℕ) → Option Command) → Form Command
-form word shown spells = record { word = word; shown = shown; spells = spells }
-
 abbrev pub forms : List (Form Command)
 forms =
-    form (codes "admit") (codes " FILE") (of_one admit)
-    ∷ form (codes "certify") (codes " FILE") (of_one certify)
-    ∷ form (codes "check") (codes " FILE CERT") (of_two check)
-    ∷ form (codes "simulate") (codes " FILE RELEASES PATTERN SLOTS") simulate_of
-    ∷ form (codes "rtds") (codes " FILE WORKLOAD SLOTS") rtds_of
-    ∷ form (codes "audit") (codes " FILE TRACE") (of_two audit)
-    ∷ form (codes "bulk") (codes " N") bulk_of
-    ∷ form (codes "interface") (codes " FILE PART DEADLINE") interface_of
-    ∷ form (codes "responses") (codes " FILE") (of_one responses)
+    with_one (codes "admit") file_word admit
+    ∷ with_one (codes "certify") file_word certify
+    ∷ with_two (codes "check") file_word (any_word (codes " CERT")) check
+    ∷ with_four (codes "simulate") file_word (any_word (codes " RELEASES")) pattern_word slots_word
+    simulate
+    ∷ with_three (codes "rtds") file_word (any_word (codes " WORKLOAD")) slots_word rtds
+    ∷ with_two (codes "audit") file_word trace_word audit
+    ∷ with_one (codes "bulk") guests_word bulk
+    ∷ with_three (codes "interface") file_word part_word deadline_word interface
+    ∷ with_one (codes "responses") file_word responses
     ∷ form (codes "choose") (codes " FILE PART LOW HIGH") choose_of
-    ∷ form (codes "session") (codes " FILE SCRIPT") (of_two session)
-    ∷ form (codes "place") (codes " FILE GUESTS") (of_two place)
-    ∷ form (codes "isolate") (codes " FILE") (of_one isolate)
-    ∷ form (codes "slack") (codes " FILE PART") (of_two slack)
-    ∷ form (codes "tally") (codes " FILE TRACE") (of_two tally)
-    ∷ form (codes "version") [] version_of
+    ∷ with_two (codes "session") file_word (any_word (codes " SCRIPT")) session
+    ∷ with_two (codes "place") file_word (any_word (codes " GUESTS")) place
+    ∷ with_one (codes "isolate") file_word isolate
+    ∷ with_two (codes "slack") file_word part_word slack
+    ∷ with_two (codes "tally") file_word trace_word tally
+    ∷ alone (codes "version") version
     ∷ []
 
 -- the command that the words spell: its own word, and then its files and numbers

@@ -2,6 +2,7 @@ pub mod Numbers
 pub mod SlotWords
 pub mod PeriodWords
 pub mod Version
+pub mod Forms
 pub mod Commands
 pub mod Reading
 pub mod Steps

@@ -1,7 +1,8 @@
 ghost use Rattle.std.specs.Prelude.{◌≡◌, ◌≢◌, Some, map, option_map, string_bytes, IfOk, IfErr};
 ghost use Rattle.std.specs.Option.{option_copied};
-ghost use Rattle.command_words.specs.Commands.{choose_of, command_of, command_told, forms, interface_of, one_word, rtds_of, simulate_of, spelled_by, two_words, usage_line, version_of};
+ghost use Rattle.command_words.specs.Commands.{command_of, command_told, forms, spelled_by, usage_line};
 ghost use Rattle.command_words.specs.inner.Forms.{forms_from_isolate, forms_from_responses, forms_from_rtds};
+ghost use Rattle.command_words.specs.Forms.{four_words, no_word, one_word, three_words, two_words};
 ghost use Rattle.command_words.specs.Numbers.{guest_number};
 ghost use Rattle.command_words.specs.Reading.{NamesNoFile};
 ghost use Rattle.command_words.specs.Steps.{IsSaidTo, CommandTakes};
@@ -69,80 +70,91 @@ pub fn parse(words: &[String]) -> Option<Command<'_>>
     spelled(word.as_str(), rest)
 }
 
-/// The command of this word, with the words behind it. The forms are looked at in their order, four
-/// by a function.
+/// The command of this word, with the words behind it: an arm a form, in their order, four by a
+/// function.
 fn spelled<'a>(word: &str, rest: &'a [String]) -> Option<Command<'a>>
     ensures { option_map command_told result
         ≡ spelled_by forms word.now (map string_bytes rest.now) }
 {
-    if word == "admit" {
-        Some(Command::Admit(one_word(rest)?))
-    } else if word == "certify" {
-        Some(Command::Certify(one_word(rest)?))
-    } else if word == "check" {
-        let (file, cert) = two_words(rest)?;
-        Some(Command::Check(file, cert))
-    } else if word == "simulate" {
-        simulate_of(rest)
-    } else {
-        spelled_from_rtds(word, rest)
-    }
+    Some(match word {
+        "admit" => Command::Admit(one_word(rest)?),
+        "certify" => Command::Certify(one_word(rest)?),
+        "check" => {
+            let (file, cert) = two_words(rest)?;
+            Command::Check(file, cert)
+        }
+        "simulate" => {
+            let (file, releases, pattern, slots) = four_words(rest)?;
+            Command::Simulate(file, releases, pattern_of(pattern)?, slot_count(slots)?)
+        }
+        _ => return spelled_from_rtds(word, rest),
+    })
 }
 
 fn spelled_from_rtds<'a>(word: &str, rest: &'a [String]) -> Option<Command<'a>>
     ensures { option_map command_told result
         ≡ spelled_by forms_from_rtds word.now (map string_bytes rest.now) }
 {
-    if word == "rtds" {
-        rtds_of(rest)
-    } else if word == "audit" {
-        let (file, trace) = two_words(rest)?;
-        Some(Command::Audit(file, trace))
-    } else if word == "bulk" {
-        Some(Command::Bulk(guest_number(one_word(rest)?)?))
-    } else if word == "interface" {
-        interface_of(rest)
-    } else {
-        spelled_from_responses(word, rest)
-    }
+    Some(match word {
+        "rtds" => {
+            let (file, workload, slots) = three_words(rest)?;
+            Command::Rtds(file, workload, slot_count(slots)?)
+        }
+        "audit" => {
+            let (file, trace) = two_words(rest)?;
+            Command::Audit(file, trace)
+        }
+        "bulk" => Command::Bulk(guest_number(one_word(rest)?)?),
+        "interface" => {
+            let (file, part, deadline) = three_words(rest)?;
+            Command::Interface(file, part, period_of(deadline)?)
+        }
+        _ => return spelled_from_responses(word, rest),
+    })
 }
 
 fn spelled_from_responses<'a>(word: &str, rest: &'a [String]) -> Option<Command<'a>>
     ensures { option_map command_told result
         ≡ spelled_by forms_from_responses word.now (map string_bytes rest.now) }
 {
-    if word == "responses" {
-        Some(Command::Responses(one_word(rest)?))
-    } else if word == "choose" {
-        choose_of(rest)
-    } else if word == "session" {
-        let (file, script) = two_words(rest)?;
-        Some(Command::Session(file, script))
-    } else if word == "place" {
-        let (file, guests) = two_words(rest)?;
-        Some(Command::Place(file, guests))
-    } else {
-        spelled_from_isolate(word, rest)
-    }
+    Some(match word {
+        "responses" => Command::Responses(one_word(rest)?),
+        "choose" => {
+            let (file, part, low, high) = four_words(rest)?;
+            Command::Choose(file, part, range_of(low, high)?)
+        }
+        "session" => {
+            let (file, script) = two_words(rest)?;
+            Command::Session(file, script)
+        }
+        "place" => {
+            let (file, guests) = two_words(rest)?;
+            Command::Place(file, guests)
+        }
+        _ => return spelled_from_isolate(word, rest),
+    })
 }
 
 fn spelled_from_isolate<'a>(word: &str, rest: &'a [String]) -> Option<Command<'a>>
     ensures { option_map command_told result
         ≡ spelled_by forms_from_isolate word.now (map string_bytes rest.now) }
 {
-    if word == "isolate" {
-        Some(Command::Isolate(one_word(rest)?))
-    } else if word == "slack" {
-        let (file, part) = two_words(rest)?;
-        Some(Command::Slack(file, part))
-    } else if word == "tally" {
-        let (file, trace) = two_words(rest)?;
-        Some(Command::Tally(file, trace))
-    } else if word == "version" {
-        version_of(rest)
-    } else {
-        None
-    }
+    Some(match word {
+        "isolate" => Command::Isolate(one_word(rest)?),
+        "slack" => {
+            let (file, part) = two_words(rest)?;
+            Command::Slack(file, part)
+        }
+        "tally" => {
+            let (file, trace) = two_words(rest)?;
+            Command::Tally(file, trace)
+        }
+        "version" => {
+            no_word(rest)?;
+            Command::Version
+        }
+        _ => return None,
+    })
 }
 
 /// The answer to words that spell no command.
@@ -221,55 +233,11 @@ fn usage(alloc: Global) -> Result<Answer, Ending>
     })
 }
 
-/// The command whose own word is `rtds`.
-fn rtds_of(words: &[String]) -> Option<Command<'_>>
-    ensures { option_map command_told result ≡ rtds_of (map string_bytes words.now) }
+fn no_word(words: &[String]) -> Option<()>
+    ensures { result ≡ no_word (map string_bytes words.now) }
 {
     match words {
-        [file, workload, slots] => {
-            let slots = slot_count(slots.as_str())?;
-            Some(Command::Rtds(file.as_str(), workload.as_str(), slots))
-        }
-        _ => None,
-    }
-}
-
-/// The command whose own word is `simulate`.
-fn simulate_of(words: &[String]) -> Option<Command<'_>>
-    ensures { option_map command_told result ≡ simulate_of (map string_bytes words.now) }
-{
-    match words {
-        [file, releases, pattern, slots] => {
-            let pattern = pattern_of(pattern.as_str())?;
-            let slots = slot_count(slots.as_str())?;
-            Some(Command::Simulate(file.as_str(), releases.as_str(), pattern, slots))
-        }
-        _ => None,
-    }
-}
-
-/// The command whose own word is `interface`.
-fn interface_of(words: &[String]) -> Option<Command<'_>>
-    ensures { option_map command_told result ≡ interface_of (map string_bytes words.now) }
-{
-    match words {
-        [file, part, deadline] => {
-            let deadline = period_of(deadline.as_str())?;
-            Some(Command::Interface(file.as_str(), part.as_str(), deadline))
-        }
-        _ => None,
-    }
-}
-
-/// The command whose own word is `choose`.
-fn choose_of(words: &[String]) -> Option<Command<'_>>
-    ensures { option_map command_told result ≡ choose_of (map string_bytes words.now) }
-{
-    match words {
-        [file, part, low, high] => {
-            let periods = range_of(low.as_str(), high.as_str())?;
-            Some(Command::Choose(file.as_str(), part.as_str(), periods))
-        }
+        [] => Some(()),
         _ => None,
     }
 }
@@ -284,7 +252,7 @@ fn one_word(words: &[String]) -> Option<&str>
 }
 
 fn two_words(words: &[String]) -> Option<(&str, &str)>
-    ensures { option_map (λ pair. (pair.0.now, pair.1.now)) result
+    ensures { option_map (λ found. (found.0.now, found.1.now)) result
         ≡ two_words (map string_bytes words.now) }
 {
     match words {
@@ -293,12 +261,27 @@ fn two_words(words: &[String]) -> Option<(&str, &str)>
     }
 }
 
-/// The command whose own word is `version`, which has no further word.
-fn version_of(words: &[String]) -> Option<Command<'_>>
-    ensures { option_map command_told result ≡ version_of (map string_bytes words.now) }
+fn three_words(words: &[String]) -> Option<(&str, &str, &str)>
+    ensures { option_map (λ found. (found.0.now, found.1.now, found.2.now)) result
+        ≡ three_words (map string_bytes words.now) }
 {
     match words {
-        [] => Some(Command::Version),
+        [first, second, third] => Some((first.as_str(), second.as_str(), third.as_str())),
+        _ => None,
+    }
+}
+
+fn four_words(words: &[String]) -> Option<(&str, &str, &str, &str)>
+    ensures { option_map (λ found. (found.0.now, found.1.now, found.2.now, found.3.now)) result
+        ≡ four_words (map string_bytes words.now) }
+{
+    match words {
+        [first, second, third, fourth] => Some((
+            first.as_str(),
+            second.as_str(),
+            third.as_str(),
+            fourth.as_str(),
+        )),
         _ => None,
     }
 }

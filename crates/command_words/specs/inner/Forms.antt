@@ -1,6 +1,7 @@
 -- The forms of words from a command on, as the private functions look at them, four by a function.
 use Rattle.std.specs.Prelude.{List, drop}
-use Rattle.command_words.specs.Commands.{Command, Form, forms}
+use Rattle.command_words.specs.Forms.{Form}
+use Rattle.command_words.specs.Commands.{Command, forms}
 
 abbrev pub forms_from_rtds : List (Form Command)
 forms_from_rtds = drop 4 forms
