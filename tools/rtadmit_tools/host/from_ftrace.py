@@ -42,6 +42,8 @@ from ..trace import LONGEST_LINE, LONGEST_NS, opened, parts_of
 
 # while a recording goes on: how late an event may come, and how long a row may wait to be written
 LATEST_NS, WAITING_NS = 10_000_000, 100_000_000
+# the longest of a kernel, in microseconds
+TICK = 10_000
 SECONDS = re.compile(r"(\d{1,12})(?:\.(\d{1,9}))?")
 COUNTS = re.compile(r"# entries-in-buffer/entries-written: (\d{1,12})/(\d{1,12})")
 LOST = re.compile(r"(?:\S+:\s+)?CPU:(\d{1,12}) (\[.*(?:LOST|DROPPED).*\])|.*\[(\d{1,12})\]\s+\d+\.\d+:\s+(PERF_RECORD_LOST.*)")
@@ -109,25 +111,21 @@ class Event:
 
 @dataclass(slots=True)
 class Vcpu:
-    """What is known of a thread of the map so far. Its state is "asleep", "ready", "running", or None where it is not known."""
+    """What is known of a thread of the map so far. Its state is "asleep", "ready", "running", or None where it is not known. Its server has
+    its period and the longest time that its deadline may be away."""
 
     name: str
     period: int | None = None
-    budget: int | None = None
+    owed: int | None = None
     pid: int | None = None
     cpu: int | None = None
     state: str | None = None
     since: Event | None = None
-    longest_run: int = 0
     longest_sleep: int = 0
     # where its budget comes anew, by the timer that was started when it was used up, and from when on a wake-up begins a period
     due: int | None = None
     fresh: int | None = None
     started: bool = False
-
-    def owed(self):
-        """The longest time for which its budgets may be used up at once, by a run over them; None where that is not known."""
-        return self.period * (1 + self.longest_run // self.budget) if self.budget else None
 
 
 # Reading
@@ -245,7 +243,7 @@ def fields(event, forms):
 
 @dataclass
 class Map:
-    """What the words say: the cores by processor, the VCPUs by thread, and their servers by name, in nanoseconds."""
+    """What the words say: the cores by processor, the VCPUs by thread, and their servers by name (see servers_of)."""
 
     cores: dict
     threads: dict
@@ -337,13 +335,10 @@ class Host:
         self.switched[cpu] = self.event
         if before is None:
             return
-        ran_from = before.since.at if before.state == "running" else self.first.at
-        before.longest_run = max(before.longest_run, self.event.at - ran_from)
         before.state, before.since = "asleep" if asleep else "ready", self.event
-        if asleep:
-            owed = before.owed()
-            known = before.due or self.event.at if self.timers else self.event.at + (owed or 0)
-            before.fresh = owed and known + owed
+        if asleep and before.owed is not None:
+            known = before.due or self.event.at if self.timers else self.event.at + before.owed
+            before.fresh = known + before.owed
         if asleep and before.started:
             self.row(cpu, "block", before.name)
 
@@ -368,7 +363,7 @@ class Host:
         owner = self.timers.setdefault(found[1], holder and holder.name)
         if not holder or owner != holder.name:
             self.timers[found[1]] = None
-        elif holder.period and 0 < int(found[2]) - self.event.at <= (holder.owed() or holder.period):
+        elif holder.owed is not None and 0 < int(found[2]) - self.event.at <= holder.owed:
             holder.due = int(found[2])
 
     def renew(self):
@@ -380,8 +375,6 @@ class Host:
 
     def take(self, event):
         """Takes one event."""
-        if self.event is None:
-            self.first = event
         self.event = event
         self.renew()
         if event.kind == "switch":
@@ -413,13 +406,12 @@ def why_not(vcpu):
     if vcpu.fresh == 0:
         return "it slept throughout"
     cause = "no mark says where a period of it begins, and "
-    if not vcpu.owed():
+    if vcpu.owed is None:
         return cause + "its period or its budget is not known: give the system file by --system"
     seen = f"its longest was {vcpu.longest_sleep // 1000} us" if vcpu.longest_sleep else "it is seen to wake from none"
     return (
-        f"{cause}no sleep of it is long enough for one to begin behind it: {2 * vcpu.owed() // 1000} us are, which is twice its period, or more "
-        f"where it ran for more than its budget at once ({seen}): record with tools/host record, or with timer:hrtimer_start, or let it "
-        "sleep that long while the recording is on"
+        f"{cause}no sleep of it is so long that one begins behind it: {2 * vcpu.owed // 1000} us are ({seen}): record with tools/host record, "
+        "or with timer:hrtimer_start, or let it sleep that long while the recording is on"
     )
 
 
@@ -586,12 +578,18 @@ def map_of(given):
             given.refuse(f"{name!r} is no name of 1 to 32 letters, digits, _ and -")
     if not all(cpu.isdecimal() for cpu in cores):
         given.refuse("N of --cpu N=CORE is the number of a processor")
-    return Map({int(cpu): core for cpu, core in cores.items()}, threads, servers_of(given.system, threads.values()) if given.system else {})
+    return Map({int(cpu): core for cpu, core in cores.items()}, threads, servers_of(given.system, threads.values(), given.tick) if given.system else {})
 
 
-def servers_of(path, names):
-    """The period and the budget that a system file gives each VCPU of these names, in nanoseconds."""
-    parts = {part.name: (part.period * 1000, part.budget and part.budget * 1000) for part in parts_of(path)[1]}
+def server(period, budget, tick):
+    """The period of a server, in nanoseconds, and how far away its deadline may be: a period, and one more for each budget that it may
+    have run over at once, up to a tick; None where no budget is given. All are microseconds."""
+    return period * 1000, budget and period * 1000 * (1 + tick // budget)
+
+
+def servers_of(path, names, tick=TICK):
+    """The server of each VCPU of these names, by a system file."""
+    parts = {part.name: server(part.period, part.budget, tick) for part in parts_of(path)[1]}
     for name in names:
         if name not in parts:
             raise Refused(path, None, f"it has no part {name}")
@@ -606,6 +604,7 @@ def add_words(parser):
     parser.add_argument("--out", metavar="TRACE", help="gets the trace")
     parser.add_argument("--from", dest="since", type=moment, default=0, metavar="SECONDS", help="passes over what the recording has before")
     parser.add_argument("--until", type=moment, metavar="SECONDS", help="ends the trace there")
+    parser.add_argument("--tick", type=int, default=TICK, metavar="US", help=f"how long a thread may run over its runtime at once; {TICK} us where it is not said")
     parser.add_argument("--longest-whole", action="store_true", help="takes the longest stretch without a gap alone")
     length = parser.add_mutually_exclusive_group()
     length.add_argument("--any-length", action="store_true", help="the trace may pass 1000 seconds, for tools/host split")
