@@ -395,8 +395,8 @@ def record(threads, seconds, seed, pause):
             each.reserve(tasks[each.thread.cpu])
         fillers = {cpu: child(stack, lambda file=file: fill(file)) for cpu, file in tasks.items()}
         # the recorder stays off the recorded processors, where there are others, so that all threads start at once
-        others = os.sched_getaffinity(0) - set(cpus)
-        os.sched_setaffinity(0, others or cpus)
+        if others := os.sched_getaffinity(0) - set(cpus):
+            os.sched_setaffinity(0, others)
         pause.wait(2 * longest)
         for cpu, pid in fillers.items():
             check_state(pid, "R", f"the filler of processor {cpu} does not run")
