@@ -66,9 +66,9 @@ def turn(second, length=300):
 
 def told(*lines, cores=None, threads=None, servers=None):
     """The text of the traces that lines tell, and the gaps, where the map has thread 11 as A, or what is given."""
-    gaps, named = [], tool.Map(cores or CORES, threads or {"11": "A"}, servers or {})
+    gaps, named = [], tool.Map("recording", cores or CORES, threads or {"11": "A"}, servers or {})
     with tempfile.TemporaryFile("w+") as file:
-        rows = tool.Rows(file)
+        rows = tool.Rows("recording", file)
         stretches, _ = tool.translate(enumerate(lines, 1), named, rows, missing=gaps.append)
         return "".join(rows.told(stretches)), gaps
 
@@ -91,10 +91,10 @@ class Case(unittest.TestCase):
         return status, out, err.replace(f"{self.room.folder}/", "")
 
     def refused(self, line, cause, *lines, **more):
-        with self.assertRaises(tool.Wrong) as caught:
+        with self.assertRaises(tool.Refused) as caught:
             rows(*lines, **more)
-        self.assertEqual(caught.exception.line, line)
         self.assertIn(cause, str(caught.exception))
+        self.assertTrue(str(caught.exception).startswith(f"recording:{line}: " if line else "recording: "), caught.exception)
 
     def gap(self, line, cause, *lines, **more):
         """A gap is told, whatever stands behind it, here a sleep of a second and a start."""
@@ -170,7 +170,7 @@ class Starts(Case):
                  wakeup(f"{begin // 10**6}.{begin % 10**6:06}", "calc 11")]
         try:
             return rows(*lines, servers={"A": server}) == ["0,cpu3,start,A", "0,,end,"]
-        except tool.Wrong:
+        except tool.Refused:
             return False
 
     def test_a_sleep_of_two_periods(self):
@@ -181,7 +181,7 @@ class Starts(Case):
 
     def test_a_sleep_where_timers_are_recorded(self):
         """Where no timer is started it did not run over its budget, and one period is enough; else one behind the timer's end."""
-        elsewhere = timer("2.000001", 2_900_000_000, cpu=1, which="1")
+        elsewhere = timer("2.000001", 2_900_000_000, which="1")
         own = timer("2.000099", 2_007_000_000)
         for more, least in (([elsewhere], 10_000), ([elsewhere, own], 16_900)):
             self.assertEqual((self.slept(least - 1, *more), self.slept(least, *more)), (False, True), more)
@@ -194,7 +194,7 @@ class Starts(Case):
         for what, wrong in (
             ("it has the core before", [*lines, switch("2.008000", "sh 7 R", "calc 11"), again[1]]),
             ("it keeps the core", [*lines[:2], switch("2.012000", "calc 11 R", "sh 7")]),
-            ("another one starts that timer too", [timer("1.900000", 2_950_000_000), *lines, *again]),
+            ("another one starts that timer too", [switch("1.800000", "sh 7 R", "calc 11"), switch("1.800100", "calc 11 R", "sh 7"), timer("1.900000", 2_950_000_000), *lines, *again]),
             ("it is further away than a period", [lines[0], timer("2.004000", 2_014_000_001), *lines[2:], switch("2.014100", "sh 7 R", "calc 11")]),
         ):
             with self.subTest(what):
@@ -290,32 +290,32 @@ class Accounts(Case):
 
     def starts(self, lines, servers):
         """The moment of each start, by its VCPU, and the gaps; or nothing where there is no trace."""
-        found, gaps, named = [], [], tool.Map({3: "cpu3"}, {"10": "A", "11": "B"}, servers)
+        found, gaps, named = [], [], tool.Map("recording", {3: "cpu3"}, {"10": "A", "11": "B"}, servers)
         with tempfile.TemporaryFile("w+") as file:
-            rows = tool.Rows(file)
+            rows = tool.Rows("recording", file)
             write = rows.write
             rows.write = lambda line, at, core, what, name: (what == "start" and found.append((name, (at - 10**9) // 10_000)), write(line, at, core, what, name))
-            with contextlib.suppress(tool.Wrong):
+            with contextlib.suppress(tool.Refused):
                 tool.translate(enumerate(lines, 1), named, rows, missing=gaps.append)
         return found, gaps
 
     def test_each_start_is_the_kernels(self):
         counts = {True: 0, False: 0}
-        for seed in range(8):
+        for seed in range(6):
             threads = self.KINDS[seed % 2]
-            kernel = Kernel(threads, random.Random(seed)).ran(60_000)
+            kernel = Kernel(threads, random.Random(seed)).ran(40_000)
             servers = {name: tool.server(period * 10, budget * 10, 4_000) for name, (budget, period) in threads.items()}
             for timers in (True, False):
                 lines = [line for line in kernel.lines if timers or "dl_task_timer" not in line]
-                for cut in range(0, len(lines), 7):
+                for cut in range(0, len(lines), 13):
                     for name, at in self.starts(lines[cut:], servers)[0]:
                         self.assertIn(at, kernel.begins[name], (seed, timers, cut))
                         counts[timers] += 1
-        self.assertGreater(min(counts.values()), 100, counts)
+        self.assertGreater(min(counts.values()), 20, counts)
 
     def test_a_gap_by_hand(self):
         """One switch is taken out: each thread starts again behind it, at a period of its own."""
-        kernel = Kernel(self.KINDS[0], random.Random(3)).ran(60_000)
+        kernel = Kernel(self.KINDS[0], random.Random(4)).ran(60_000)
         servers = {name: tool.server(period * 10, budget * 10, 4_000) for name, (budget, period) in self.KINDS[0].items()}
         half = next(place for place, line in enumerate(kernel.lines) if place > len(kernel.lines) / 2 and "sched_switch" in line and "next_pid=10" in line)
         found, gaps = self.starts(kernel.lines[:half] + kernel.lines[half + 1:], servers)
@@ -606,7 +606,7 @@ class Refusals(Case):
         for content, *causes in (
             (gzip.compress(b"text"), "packed by gzip", "gzip -dc FILE"), (b"\xfd7zXZ\0\0", "packed by xz", "xz -dc FILE"),
             (b"\x28\xb5\x2f\xfd...", "packed by zstd", "zstd -dc FILE"), (b"BZh91AY", "packed by bzip2", "bzip2 -dc FILE"),
-            (b"\x17\x08\x44tracing6\0", "trace-cmd's own file", "trace-cmd report"), (b"PERFILE2h\0", "perf's own file", "perf script"),
+            (b"\x17\x08\x44tracing6\0", "trace-cmd's own file", "trace-cmd report"), (b"\n\r\n", "no event"), (b"PERFILE2h\0", "perf's own file", "perf script"),
             (b"at,core,what,vcpu\n0,,end,\n", "a trace already"), (b"abc\0def", "zero bytes"), (b"a" * 9_000, "more than 8191 bytes"),
             (b"", "no event"), (b"# tracer: nop\n" + line, ":2: its clock counts no time", "echo mono > trace_clock"),
             (b"# clock: counter\n", "its clock counts no time"),
@@ -666,7 +666,7 @@ class Cuts(unittest.TestCase):
     def told(self, lines, servers):
         try:
             return told(*lines, cores={2: "cpu2", 3: "cpu3"}, threads={name: name for name in NAMES}, servers=servers)[0]
-        except tool.Wrong:
+        except tool.Refused:
             return None
 
     def test_without_the_first_lines(self):

@@ -31,7 +31,7 @@ import time
 from dataclasses import dataclass
 
 from ..command_line import Refused
-from .from_ftrace import Map, Rows, Wrong, translate
+from .from_ftrace import Map, Rows, translate
 
 REFUSED = 3
 SETATTR = {"x86_64": 314, "aarch64": 274, "riscv64": 274}
@@ -407,9 +407,9 @@ def record(threads, seconds, seed, pause):
 
 def gaps_of(text, threads):
     """The gaps of a recording."""
-    gaps, named = [], Map({thread.cpu: f"cpu{thread.cpu}" for thread in threads}, {thread.name: thread.name for thread in threads})
-    with tempfile.TemporaryFile("w+") as file, contextlib.suppress(Wrong):
-        translate(enumerate(text.splitlines(), 1), named, Rows(file), missing=gaps.append)
+    gaps, named = [], Map("", {thread.cpu: f"cpu{thread.cpu}" for thread in threads}, {thread.name: thread.name for thread in threads})
+    with tempfile.TemporaryFile("w+") as file, contextlib.suppress(Refused):
+        translate(enumerate(text.splitlines(), 1), named, Rows("", file), missing=gaps.append)
     return gaps
 
 
