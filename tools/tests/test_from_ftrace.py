@@ -289,15 +289,15 @@ class Accounts(Case):
     KINDS = ({"A": (500, 2000), "B": (600, 3000)}, {"A": (150, 1000), "B": (900, 3000)})
 
     def starts(self, lines, servers):
-        """The moment of each start, by its VCPU, and the gaps; or nothing where there is no trace."""
-        found, gaps, named = [], [], tool.Map("recording", {3: "cpu3"}, {"10": "A", "11": "B"}, servers)
-        with tempfile.TemporaryFile("w+") as file:
+        """The moment of each start, by its VCPU, and the gaps; or nothing where there is no trace. Time does not fall from row to row."""
+        written, gaps, named = [], [], tool.Map("recording", {3: "cpu3"}, {"10": "A", "11": "B"}, servers)
+        with tempfile.TemporaryFile("w+") as file, contextlib.suppress(tool.Refused):
             rows = tool.Rows("recording", file)
             write = rows.write
-            rows.write = lambda line, at, core, what, name: (what == "start" and found.append((name, (at - 10**9) // 10_000)), write(line, at, core, what, name))
-            with contextlib.suppress(tool.Refused):
-                tool.translate(enumerate(lines, 1), named, rows, missing=gaps.append)
-        return found, gaps
+            rows.write = lambda *row: (written.append(row), write(*row))
+            tool.translate(enumerate(lines, 1), named, rows, missing=gaps.append)
+        self.assertEqual(written, sorted(written, key=lambda row: row[1]))
+        return [(name, (at - 10**9) // 10_000) for _, at, _, what, name in written if what == "start"], gaps
 
     def test_each_start_is_the_kernels(self):
         counts = {True: 0, False: 0}

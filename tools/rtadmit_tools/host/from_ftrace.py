@@ -267,6 +267,8 @@ class Host:
         if vcpu.state != "asleep":
             return
         vcpu.state = "ready"
+        if vcpu.due is not None and vcpu.due <= self.event.at:
+            vcpu.due = None
         if vcpu.since is not None:
             vcpu.longest_sleep = max(vcpu.longest_sleep, self.event.at - vcpu.since.at)
         if vcpu.started:
