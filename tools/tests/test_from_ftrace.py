@@ -9,6 +9,7 @@ import subprocess
 import sys
 import tempfile
 import unittest
+from unittest import mock
 
 from support import Room, program, run, top, verb
 
@@ -312,6 +313,14 @@ class Accounts(Case):
                         self.assertIn(at, kernel.begins[name], (seed, timers, cut))
                         counts[timers] += 1
         self.assertGreater(min(counts.values()), 20, counts)
+
+    def test_a_sleep_of_one_period_behind_an_overrun(self):
+        """4.1 ms in 20 ms: it works 7.9 ms up to its first sleep, between two ticks, and owes most of the next period, in which it wakes."""
+        chance = mock.Mock(**{"choice.return_value": 1, "randint.side_effect": [0, 790, 2001, 10, 4000, 10, 4000]})
+        kernel = Kernel({"A": (410, 2000)}, chance).ran(8000)
+        self.assertEqual(kernel.begins["A"], {0, 2000, 6801})
+        for lines in (kernel.lines, [line for line in kernel.lines if "dl_task_timer" not in line]):
+            self.assertEqual(self.starts(lines[1:], {"A": tool.server(20_000, 4100, 4_000)}), ([("A", 6801)], []))
 
     def test_a_gap_by_hand(self):
         """One switch is taken out: each thread starts again behind it, at a period of its own."""
