@@ -4,7 +4,6 @@ A verb is a module of rtadmit_tools.host or rtadmit_tools.gate, with _ for each 
 a line that says what it does. It has `add_words(parser)` and `run(given)`, which answers a status, a text that is printed, or both as a
 pair; no answer is status 0. Where its help tells another status for a refusal than 1, it has that as REFUSED."""
 import argparse
-import ast
 import importlib
 import os
 import pathlib
@@ -23,12 +22,25 @@ class Refused(Exception):
         super().__init__(f"{place}{cause}")
 
 
+class WrongWords(Refused):
+    """The words of a verb are none that it takes."""
+
+    def __init__(self, cause):
+        super().__init__(None, None, cause)
+
+
+def refuse_all(causes):
+    """Refuses for all these causes at once, a line each, where there are any."""
+    if told := "\n".join(map(str, causes)):
+        raise Refused(None, None, told)
+
+
 def verbs(kind):
     """The verbs of an entry point in order, each with the first line of its help."""
     found = {}
     for path in sorted((pathlib.Path(__file__).parent / kind).glob("[!_]*.py")):
-        told = ast.get_docstring(ast.parse(path.read_text()))
-        found[path.stem.replace("_", "-")] = told.split("\n", 1)[0]
+        with open(path) as module:
+            found[path.stem.replace("_", "-")] = module.readline().strip().strip('"')
     return found
 
 
@@ -70,7 +82,7 @@ def ended(answer, refused=1):
         told = answer()
     except Refused as cause:
         print(cause, file=sys.stderr)
-        return refused
+        return USAGE if isinstance(cause, WrongWords) else refused
     except BrokenPipeError as fault:
         unwritten(fault)
         return refused
@@ -97,15 +109,20 @@ def main(kind, arguments=None):
     return ended(lambda: module.run(given), getattr(module, "REFUSED", 1))
 
 
+def several(parser, option, metavar, told, **more):
+    """An option that may be given several times."""
+    parser.add_argument(option, action="append", default=[], metavar=metavar, help=f"{told}; may be given several times", **more)
+
+
 def pairs(words, option, order="first"):
     """The words KEY=VALUE of an option as a map, where neither a key nor a value stands twice; `order` says which = counts."""
     found = {}
     for word in words:
         key, sign, value = word.rpartition("=") if order == "last" else word.partition("=")
         if not (sign and key and value):
-            raise Refused(None, None, f"{option} {word!r} is not KEY=VALUE")
+            raise WrongWords(f"{option} {word!r} is not KEY=VALUE")
         if key in found or value in found.values():
-            raise Refused(None, None, f"{option} {word!r}: {key if key in found else value} stands twice")
+            raise WrongWords(f"{option} {word!r}: {key if key in found else value} stands twice")
         found[key] = value
     return found
 
