@@ -220,6 +220,13 @@ class Starts(Case):
             with self.subTest(what):
                 self.refused(None, "has no start", *wrong, servers=SERVER)
 
+    def test_a_timer_that_is_started_in_a_gap(self):
+        """A switch to the thread is missing, so another one seems to have started its timer; behind the gap that counts no more."""
+        torn = [RUN, OUT, timer("2.004000", 2_009_000_000), switch("2.004003", "calc 11 R", "sh 7")]
+        later = [switch("2.011000", "sh 7 R", "calc 11"), timer("2.015000", 2_019_000_000), switch("2.015003", "calc 11 R", "sh 7"),
+                 switch("2.021000", "sh 7 R", "calc 11")]
+        self.assertEqual(rows(*torn, *later, servers=SERVER), ["0,cpu3,start,A", "2000,cpu3,run,A", "2000,,end,"])
+
     def test_what_is_not_known(self):
         lines = [ASLEEP, wakeup("3.000000", "calc 11")]
         for servers in ({}, {"A": tool.server(10_000, None, 0)}):

@@ -223,12 +223,11 @@ class Map:
 class Host:
     """The threads and processors of the map, as of the events so far; `write` gets the rows that come of them, each with its line."""
 
-    def __init__(self, named, write, timers):
+    def __init__(self, named, write):
         self.path, self.cores, self.write = named.path, named.cores, write
         self.threads = {who: Vcpu(name, *named.servers.get(name, ())) for who, name in named.threads.items()}
-        self.holders, self.seen, self.switched, self.event = {}, {}, {}, None
-        # the name of the thread that ran whenever a timer was started, or None where it is not always the same
-        self.timers = timers
+        # of each timer the name of the thread that ran whenever it was started, or None where it is not always the same
+        self.holders, self.seen, self.switched, self.timers, self.event = {}, {}, {}, {}, None
 
     def refuse(self, cause):
         raise Refused(self.path, self.event.line, cause)
@@ -486,12 +485,12 @@ class Stream:
 def translate(lines, named, rows, since=0, until=None, longest=False, missing=lambda gap: None):
     """Makes the rows that a recording's numbered lines tell, and tells each gap. Answers the stretches that have a trace, or the longest
     alone, and the last event where the last trace ends with it for want of anything that tells the end."""
-    reader, timers, stretches, host, stopped = Reader(named.path, lines, rows.latest), {}, [], None, None
+    reader, stretches, host, stopped = Reader(named.path, lines, rows.latest), [], None, None
 
     def begin(event):
         stretches.append(Stretch(event, event))
         rows.open(stretches[-1])
-        return Host(named, rows.write, timers)
+        return Host(named, rows.write)
 
     for event in reader.events():
         if stopped is not None or event.at < since or until is not None and event.at > until:
@@ -525,7 +524,7 @@ def translate(lines, named, rows, since=0, until=None, longest=False, missing=la
         stretches[-1].close(last, end, True)
     stretches = [stretch for stretch in stretches if stretch.starts]
     stretches = [max(stretches, key=lambda stretch: stretch.last.at - stretch.first.at)] if longest and stretches else stretches
-    for who, vcpu in (host or Host(named, rows.write, {})).threads.items():
+    for who, vcpu in (host or Host(named, rows.write)).threads.items():
         if not any(vcpu.name in stretch.starts for stretch in stretches):
             raise Refused(named.path, None, f"{vcpu.name} (thread {who}) has no start: {why_not(vcpu)}")
     return stretches, last if host and end is None and stretches[-1].last is last else None
