@@ -21,6 +21,7 @@ OPEN = """\
 # name = "..."
 # period = ...         # the least time from one job to the next, in microseconds
 # deadline = ...       # the time by which a job is to be done; left out it is the period
+# jitter = ...         # the longest delay from an arrival to its release; left out it is 0
 # work = ...           # the most processor time of one job
 """
 STAND_IN = """\
@@ -167,9 +168,9 @@ def budget_of(system, name, program):
     return budget
 
 
-def read_admitted(path, program):
-    """A system, and what `admit` answers to its file. Refused where that is neither yes nor no nor wide."""
-    answer = program.ask("admit", path)
+def read_admitted(path, program, answer=None):
+    """A system, and what `admit` answers, or has answered, to its file. Refused where that is neither yes nor no nor wide."""
+    answer = answer or program.ask("admit", path)
     if answer.status not in (0, 1, 4) or not answer.text.startswith("verdict="):
         raise Refused(path, None, f"the program does not judge it: {answer.shown} (status {answer.status})")
     system = read_system(path)
@@ -206,7 +207,7 @@ def part_text(about, name, core, period, budget, extra=False, stand_in=False):
 def system_text(head, cores, parts):
     """The whole file: what is said first, the names of the cores, and the texts of the parts."""
     told = "".join(f"# {line}\n" for line in head)
-    return "\n".join([f"{told}format = 1\n", *map(core_text, cores), *parts])
+    return "\n".join([f"{told}format = 2\n", *map(core_text, cores), *parts])
 
 
 # The budgets of an admitted file

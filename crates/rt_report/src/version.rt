@@ -4,7 +4,7 @@ ghost use Rattle.rt_report.specs.Version.{version_text};
 use std::alloc::{AllocError, Global};
 
 /// The version of the program. It stands here alone.
-pub const VERSION: &str = "1.0.0";
+pub const VERSION: &str = "1.1.0";
 
 /// The line that tells the version of the program.
 pub fn version_text(alloc: Global) -> Result<Vec<u8>, AllocError>

@@ -226,7 +226,7 @@ fn of_isolate(rt: HostRuntime) -> Result<(), Fail> {
 
 #[test]
 fn of_version(rt: HostRuntime) -> Result<(), Fail> {
-    all_fail(&rt, rt.alloc(), &["version"], &[], "rtadmit 1.0.0\n")
+    all_fail(&rt, rt.alloc(), &["version"], &[], "rtadmit 1.1.0\n")
 }
 
 #[test]

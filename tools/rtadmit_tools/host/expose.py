@@ -1,7 +1,4 @@
-#!/usr/bin/env python3
 """A workload by which a guest is short although it never blocks in that period: what `exposed NAME by=block` of `isolate` means.
-
-    tools/expose FILE NAME OUT [--trace TRACE] [--program WORDS]
 
 FILE is the system file and NAME a part that `isolate` tells as exposed by=block. OUT gets the workload (docs/formats.md). It is that of the
 proof: let r be twice the longest period of the core. Each VCPU of the core starts in its first period, so that one of its periods ends where
@@ -14,26 +11,21 @@ The tool then runs `rtds` over the workload and `tally` over the trace, and prin
     short NAME from_ns=X got_ns=G of_ns=B
     ./rtadmit rtds FILE OUT SLOTS | ./rtadmit tally FILE /dev/stdin
 
---trace keeps the trace, for `audit` and tools/timeline. `audit` may tell another part, which is short from the same moment.
+--trace keeps the trace, for `audit` and tools/host timeline. `audit` may tell another part, which is short from the same moment.
 
 Refused, with nothing written and the status 1: a NAME that `isolate` does not tell as exposed by=block, with what it tells; a file that it
 refuses; a core whose longest period is more than 333,333, since a run has at most 1,000,000 slots; a period that comes out as not short,
-which contradicts what is proved. The status is 2 where the words are wrong.
-"""
-import argparse
+which contradicts what is proved. The status is 2 where the words are wrong."""
 import os
-import re
+import pathlib
 import shlex
-import sys
 from dataclasses import dataclass
 
-sys.dont_write_bytecode = True
-import systems
-from hostfile import Refused
-from systems import TALLY_LINE
+from ..command_line import Refused
+from ..program import ISOLATE_LINE, TALLY_LINE, add_program, program_of
+from ..system_file import read_system
+from .why import called
 
-timeline = systems.tool("timeline")
-ISOLATE_LINE = re.compile(r"isolated (\S+) last=(\d+) of=(\d+)|exposed (\S+) by=(?:ties last=(\d+) of=(\d+)|block)")
 MOST_SLOTS = 1_000_000
 
 
@@ -53,9 +45,6 @@ class Kept:
     name: str
     how: str
     last: int | None = None
-
-
-# The workload
 
 
 @dataclass(frozen=True)
@@ -81,9 +70,6 @@ def breaking(vcpus, place):
     return Workload([(at, vcpus[other].name, what) for at, other, what in sorted(rows)], due, begins)
 
 
-# What the program says
-
-
 def kept_of(answer, path):
     """What `isolate` tells of each VCPU, by name. Refused where it tells nothing of them."""
     if answer.status == 2:
@@ -95,14 +81,8 @@ def kept_of(answer, path):
         found = ISOLATE_LINE.fullmatch(line)
         if not found:
             raise Refused(path, None, f"`isolate` tells what this tool does not know: {line}")
-        name, last = found[1] or found[4], found[2] or found[5]
-        kept[name] = Kept(name, "isolated" if found[1] else "ties" if last else "block", int(last) if last else None)
+        kept[found["name"]] = Kept(found["name"], found["by"] or "isolated", found["last"] and int(found["last"]))
     return kept
-
-
-def vcpus_on(system, core, budgets):
-    """The VCPUs of a core, in the order of the file."""
-    return [Vcpu(name, system.nodes[name].period, budgets[name][0]) for name in system.nodes[core].children]
 
 
 def short_period(program, path, vcpu, workload, written, trace):
@@ -111,16 +91,14 @@ def short_period(program, path, vcpu, workload, written, trace):
     ran = program.ask("rtds", path, written, str(workload.slots))
     told = program.ask("tally", path, "/dev/stdin", text=ran.text)
     if trace:
-        with open(trace, "w") as file:
-            file.write(ran.text)
-    lines = [found for found in map(TALLY_LINE.fullmatch, told.lines) if found and found[1] == vcpu.name]
-    if ran.status or told.status == 2 or not lines:
+        pathlib.Path(trace).write_text(ran.text)
+    found = next((found for found in map(TALLY_LINE.fullmatch, told.lines) if found and found[1] == vcpu.name), None)
+    if ran.status or told.status == 2 or not found:
         raise Refused(path, None, f"`rtds` or `tally` does not answer: status {ran.status} and {told.status}, {told.shown}")
-    judged, short, least = lines[0][3], lines[0][4], lines[0][6]
     # it is blocked in each earlier period
-    if (judged, short) != ("1", "1") or int(least) >= 1000 * vcpu.budget:
-        raise Refused(path, None, f"{vcpu.name} comes out as not short, against what is proved: {lines[0][0]}")
-    return int(least)
+    if (found[3], found[4]) != ("1", "1") or int(found[6]) >= 1000 * vcpu.budget:
+        raise Refused(path, None, f"{vcpu.name} comes out as not short, against what is proved: {found[0]}")
+    return int(found[6])
 
 
 WHY_NOT = {
@@ -133,14 +111,14 @@ WHY_NOT = {
 def expose(path, name, out, program, trace=None):
     """Writes the workload, and answers the lines to be printed."""
     kept = kept_of(program.ask("isolate", path), path)
-    system = systems.read_system(path)
+    system = read_system(path)
     node = system.nodes.get(name)
     if node is None or name not in kept:
         raise Refused(path, None, f"{name} is no part that stands on a core")
     if kept[name].how != "block":
         raise Refused(path, None, f"{name} is not exposed by=block: {WHY_NOT[kept[name].how].format(last=kept[name].last, period=node.period)}")
-    vcpus = vcpus_on(system, node.parent, program.ask("admit", path).budgets())
-    place = [vcpu.name for vcpu in vcpus].index(name)
+    budgets, names = program.ask("admit", path).budgets(), system.nodes[node.parent].children
+    vcpus, place = [Vcpu(each, system.nodes[each].period, budgets[each][0]) for each in names], names.index(name)
     workload = breaking(vcpus, place)
     if 3 * max(vcpu.period for vcpu in vcpus) > MOST_SLOTS:
         raise Refused(path, None, f"the longest period of {node.parent} is more than {MOST_SLOTS // 3}, and a run has at most {MOST_SLOTS} slots")
@@ -154,7 +132,7 @@ def expose(path, name, out, program, trace=None):
     except Refused:
         os.unlink(out)
         raise
-    rtadmit, file = systems.called("rtadmit"), shlex.quote(path)
+    rtadmit, file = called("rtadmit"), shlex.quote(path)
     return [
         f"exposed {name} by=block: {out}, {workload.slots} slots",
         f"short {name} from_ns={1000 * workload.begins} got_ns={got} of_ns={1000 * vcpus[place].budget}",
@@ -162,25 +140,13 @@ def expose(path, name, out, program, trace=None):
     ]
 
 
-def main(arguments=None):
-    parser = argparse.ArgumentParser(description=__doc__, formatter_class=argparse.RawDescriptionHelpFormatter)
+def add_words(parser):
     parser.add_argument("file", metavar="FILE", help="the system file")
     parser.add_argument("name", metavar="NAME", help="a part that is exposed by=block")
     parser.add_argument("out", metavar="OUT", help="gets the workload; it must not be there yet")
     parser.add_argument("--trace", metavar="TRACE", help="gets the trace of its run")
-    systems.add_program(parser)
-    words = parser.parse_args(arguments)
-    try:
-        program = systems.program_of(words.program, timeline.built_program())
-        lines = expose(words.file, words.name, words.out, program, words.trace)
-    except Refused as refused:
-        print(refused, file=sys.stderr)
-        return 1
-    except OSError as fault:
-        print(f"{fault.filename}: {fault.strerror}", file=sys.stderr)
-        return 1
-    return systems.written("".join(f"{line}\n" for line in lines), 0)
+    add_program(parser)
 
 
-if __name__ == "__main__":
-    sys.exit(main())
+def run(given):
+    return "\n".join(expose(given.file, given.name, given.out, program_of(given.program), given.trace)) + "\n"

@@ -1,16 +1,15 @@
-#!/usr/bin/env python3
-"""The calls of `chrt` that let each thread reserve the budget with which its part of a system file is admitted.
+"""Prints the calls of `chrt` that let each thread reserve the budget with which its part of a system file is admitted.
 
-    tools/to-linux FILE --map NAME=TID.. [--without NAME].. [--tick MICROSECONDS] [--limit RUNTIME/PERIOD] [--program WORDS]
-
-It asks the program (`./rtadmit admit FILE`, or the words of --program) and prints for each core its share, beside the kernel's limit, and a
-call for each part on it: thread TID gets the budget as its runtime, and the period as its period and its deadline, in nanoseconds. A
-part that stands on a part is a reservation inside its guest, and has no call. `extra` says nothing here: no such thread gets more than it
-reserves but by what the kernel is late. --without names a part that is no thread, as one that stands for what the kernel keeps for
-others: it has no call, and does not count as reserved.
+It asks the program and prints for each core its share, beside the kernel's limit, and a call for each part on it: thread TID gets the
+budget as its runtime, and the period as its period and its deadline, in nanoseconds. -R lets the thread make others, which get no
+reservation; without it the kernel refuses that. A part that stands on a part is a reservation inside its guest, and has no call. `extra`
+says nothing here: no such thread gets more than it reserves but by what the kernel is late. --without names a part that is no thread, as
+one that stands for what the kernel keeps for others: it has no call, and does not count as reserved.
 
 --tick adds to each runtime what a kernel without HRTICK can be late in stopping a thread: one tick, as 4000 with 250 ticks a second. The
-kernel takes back in later periods what a thread ran too long, so without it a thread may lack up to a tick in a period.
+kernel takes back in later periods what a thread ran too long, so without it a thread may lack up to a tick in a period. A thread
+may use its tick, so an audit with FILE calls it `over` where its part has no `extra`; --audit writes the file to audit such a host with,
+which is FILE with `extra = true` for each thread: its budgets are what each period is sure of, and more is let pass.
 
 --limit is what the kernel lets all threads of a core reserve: kernel.sched_rt_runtime_us of every kernel.sched_rt_period_us, less the 5%
 that a newer kernel keeps for ordinary threads. Without it that is 900000/1000000.
@@ -18,15 +17,16 @@ that a newer kernel keeps for ordinary threads. Without it that is 900000/100000
 Refused, with the file and the line, and nothing printed: a file that is not admitted; a part on a core that has no thread in the map, and
 a name in the words that is no such part; a runtime below 1024 ns or, with the tick, above the period; a period that is not 100 to 4194304
 microseconds; a core whose parts reserve more than the limit; a core that is not a whole processor under edf, as Linux has it.
-The status is 1 then, and 2 where the words are wrong.
-"""
-import argparse
+The status is 1 then, and 2 where the words are wrong."""
+import copy
+import pathlib
 import re
-import sys
 from fractions import Fraction
 
-sys.dont_write_bytecode = True
-from hostfile import Refused, add_program, admitted, finished, need_full, pairs
+from ..command_line import Refused, WrongWords, pairs
+from ..places import rewritten
+from ..program import add_program, program_of
+from ..system_file import System, admitted, need_full, read_system
 
 LEAST_NS = 1024
 PERIODS = (100, 4_194_304)
@@ -71,38 +71,45 @@ def calls(path, program, threads, without, tick, limit):
             runtime = runtime_of(path, server, tick)
             share += Fraction(runtime, server.period)
             period = server.period * 1000
-            lines.append(f"chrt -d -T {runtime * 1000} -D {period} -P {period} -p 0 {threads[server.name]}\n")
+            lines.append(f"chrt -R -d -T {runtime * 1000} -D {period} -P {period} -p 0 {threads[server.name]}\n")
         if share > limit:
             cause = f"{core['name']}: its parts reserve {percent(share)}, and the kernel grants {percent(limit)} (--limit)"
             raise Refused(path, servers[0].line, cause)
         told += [f"# {core['name']}: {percent(share)} of at most {percent(limit)}\n", *lines] if servers else []
+    if tick and any(not server.extra for server in file.servers if server.name in threads):
+        told.append("# an audit lets the tick pass where a part has extra = true (--audit)\n")
     return "".join(told)
 
 
-def main():
-    parser = argparse.ArgumentParser(description=__doc__, formatter_class=argparse.RawDescriptionHelpFormatter)
+def audited(path, names):
+    """The file with which a host of threads that may use a tick more is audited."""
+    system = read_system(path)
+    tree = copy.deepcopy(system.tree)
+    for part in tree["part"]:
+        part.update({"extra": True} if part["name"] in names else {})
+    return rewritten(pathlib.Path(path).read_bytes().decode(), system, System(path, tree))
+
+
+def add_words(parser):
     parser.add_argument("file", metavar="FILE", help="the system file")
     parser.add_argument("--map", action="append", default=[], required=True, metavar="NAME=TID", help="the thread of a part")
     parser.add_argument("--without", action="append", default=[], metavar="NAME", help="a part that is no thread")
     parser.add_argument("--tick", type=int, default=0, metavar="MICROSECONDS", help="what the kernel may be late (0)")
+    parser.add_argument("--audit", metavar="OUT", help="gets the file with which a host set with a tick is audited")
     parser.add_argument("--limit", default="900000/1000000", metavar="RUNTIME/PERIOD", help="what the kernel lets a core's threads reserve")
     add_program(parser)
-    words = parser.parse_args()
-    threads = pairs(parser, words.map, "--map")
-    for name, tid in threads.items():
-        if not re.fullmatch("[1-9][0-9]{0,8}", tid):
-            parser.error(f"--map {name}={tid}: {tid!r} is no number of a thread")
-    for name in words.without:
-        if name in threads:
-            parser.error(f"--without {name}: --map gives it a thread")
-    limit = re.fullmatch("([0-9]{1,9})/([1-9][0-9]{0,8})", words.limit)
-    if not limit or int(limit[1]) > int(limit[2]):
-        parser.error(f"--limit {words.limit!r} is not RUNTIME/PERIOD, with a runtime up to the period")
-    if not 0 <= words.tick <= 1_000_000:
-        parser.error("--tick is not from 0 to 1000000")
-    share = Fraction(int(limit[1]), int(limit[2]))
-    return finished(lambda: calls(words.file, words.program, threads, words.without, words.tick, share))
 
 
-if __name__ == "__main__":
-    sys.exit(main())
+def run(given):
+    threads = pairs(given.map, "--map")
+    limit = re.fullmatch("([0-9]{1,9})/([1-9][0-9]{0,8})", given.limit)
+    wrong = [f"--map {name}={tid}: {tid!r} is no number of a thread" for name, tid in threads.items() if not re.fullmatch("[1-9][0-9]{0,8}", tid)]
+    wrong += [f"--without {name}: --map gives it a thread" for name in given.without if name in threads]
+    wrong += [] if limit and int(limit[1]) <= int(limit[2]) else [f"--limit {given.limit!r} is not RUNTIME/PERIOD, with a runtime up to the period"]
+    wrong += [] if 0 <= given.tick <= 1_000_000 else ["--tick is not from 0 to 1000000"]
+    if wrong:
+        raise WrongWords(wrong[0])
+    told = calls(given.file, program_of(given.program), threads, given.without, given.tick, Fraction(int(limit[1]), int(limit[2])))
+    if given.audit:
+        pathlib.Path(given.audit).write_text(audited(given.file, threads), newline="")
+    return told

@@ -1,8 +1,4 @@
-#!/usr/bin/env python3
-"""Why a system is not admitted, in words and numbers, and the smallest changes that help.
-
-    tools/why FILE [--all] [--program WORDS]
-    tools/why FILE --copy CHANGE
+"""Why a system is not admitted, in words and numbers, and the smallest changes that help; and where a refused file has its fault.
 
 It asks the program (`admit FILE`). On a no it tells of the node that is told what it serves: for each of its tasks, or of the parts that
 stand on it, what is asked for in the window that is told and how large its share is, and what the supply is sure to give in that
@@ -17,28 +13,33 @@ Then it looks for changes that make the answer a yes, each by itself, by asking 
     PART.parent=CORE      a part that stands on a core is moved to another core: of those that help, that with the least load
 
 They are looked for on the core in question alone, and each is asked about in the whole file before it is told. `--copy CHANGE` writes that
-file, so that anyone can ask again; the words that are printed for it have the program that --program names. Of a stand-in, whose one task is
-that of from-xl and from-linux, the budget and the period stay as they are, since nothing is known of its real tasks. Where no change helps by itself, those are told with which the program goes on to a node behind the one that
-is told. Of each kind the smallest five are told, and with --all all. Of more than 24 tasks, or parts, those with the greatest shares
-are tried.
+file, with its comments, so that anyone can ask again; the words that are printed for it have the program that --program names. Of a
+stand-in, whose one task is that of from-xl and from-linux, the budget and the period stay as they are, since nothing is known of its real
+tasks. Where no change helps by itself, those are told with which the program goes on to a node behind the one that is told. Of each kind
+the smallest five are told, and with --all all. Of more than 24 tasks, or parts, those with the greatest shares are tried.
 
-The status is 0 on yes, 1 on no, 4 on wide, as that of `admit`; 2 where the words are wrong; and 3 where there is no answer, with the cause
-on standard error: a file that the program does not judge, or that Python's reader of TOML does not take.
-"""
-import argparse
+Where the program refuses FILE, or SECOND behind it, it tells the line, the table and the key, or the field of the row, what is wrong there
+and the rule of docs/formats.md. SECOND is a trace, a workload, a release file, a script, guests for `place` or a certificate, as its
+first line says, or --as. The program names the fault, and the place is found by reading the file here once more; where that reading finds
+no such fault there, or does not take the file (Python's reader of TOML is one of TOML 1.0), it says so.
+
+The status is that of the program's answer: 0 on yes, 1 on no, 4 on wide, 3 where a file is refused; 2 where the words are wrong; and 3, with
+the cause on standard error, where there is no answer."""
 import fractions
 import math
+import pathlib
 import shlex
-import sys
 import tomllib
 from dataclasses import dataclass
 
-sys.dont_write_bytecode = True
-import systems
-from hostfile import STAND_IN, Refused
-from systems import SCHEDS, Task, task_of, first_enough, ranks, request, supply
+from .. import faults
+from ..command_line import TOP, Refused, counted
+from ..formulas import SCHEDS, Task, first_enough, ranks, request, supply, task_of
+from ..places import rewritten
+from ..program import add_program, program_of
+from ..system_file import STAND_IN, budget_of, read_admitted, read_system
 
-timeline = systems.tool("timeline")
+REFUSED = 3
 MOST_TRIED, MOST_TOLD = 24, 5
 INVENTED = [task_of(table) for table in tomllib.loads("[[part]]\n" + STAND_IN)["part"][0]["task"]]
 KINDS = {
@@ -86,7 +87,7 @@ class Told:
     def child(self, name, program):
         """A part that the node serves, as a task of its budget."""
         period = self.system.nodes[name].period
-        return Task(name, period, period, systems.budget_of(self.system, name, program), 0)
+        return Task(name, period, period, budget_of(self.system, name, program), 0)
 
     def differ(self, cause):
         raise Refused(self.system.path, None, f"{self.node.name}: the formulas do not say what the program does: {cause}")
@@ -201,7 +202,8 @@ class Search:
         return sorted(found, key=share, reverse=True)[:MOST_TRIED]
 
     def offers(self):
-        return [offer for search in (self.budgets, self.orders, self.works, self.periods, self.moves) for offer in search()]
+        searches = (self.budgets, self.orders, self.works, self.periods, self.moves)
+        return [offer for search in counted(searches, "kinds of changes that were tried") for offer in search()]
 
     def known(self):
         """The parts whose change may help, but for stand-ins."""
@@ -285,7 +287,7 @@ def shorter_periods(period):
 def confirmed(path, program, offers, helps):
     """What the program answers to each change of the whole file, as it is read anew."""
     for offer in offers:
-        answer = program.admit(systems.read_system(path).changed(offer.change))
+        answer = program.admit(read_system(path).changed(offer.change))
         if not helps(answer):
             raise Refused(path, None, f"{offer.change} helped on its core, and in the whole file it does not: {answer.shown}")
         yield offer, answer
@@ -322,19 +324,20 @@ def by_kind(offers):
             yield head, found
 
 
-def words_of(path, offer, why="tools/why", program="./rtadmit"):
+def words_of(path, offer, why="tools/host why", program="./rtadmit"):
     """The words that show what a change does, from the top of the checkout where no others are given for the tool and the program."""
     return f"{why} {shlex.quote(path)} --copy {shlex.quote(offer.change)} | {program} admit /dev/stdin"
 
 
 def offer_lines(path, offers, most, asked):
     """The changes by kind, the smallest first, each with the words that show it."""
+    why = f"{called('tools/host')} why"
     for head, found in by_kind(offers):
         yield from ("", head)
         for offer, answer in found[:most]:
             then = "" if answer.is_yes else f" (then: {answer.shown})"
             yield f"    {offer.text}{then}"
-            yield f"        {words_of(path, offer, systems.called('tools/why'), asked)}"
+            yield f"        {words_of(path, offer, why, asked)}"
         if more := len(found) - len(found[:most]):
             yield f"    and {more} more (--all)"
 
@@ -342,16 +345,40 @@ def offer_lines(path, offers, most, asked):
 # The words
 
 
+def called(name):
+    """The words by which a file of this checkout is called from where one stands."""
+    return shlex.quote(str(TOP / name)) if pathlib.Path.cwd() != TOP else name if "/" in name else f"./{name}"
+
+
 def judged(path, program, most, asked=None):
     """The status, and what is told. `asked` are the words by which the program is called; without them it is that of this checkout."""
-    system, answer = systems.read_admitted(path, program)
+    answer = program.ask("admit", path)
+    if answer.status == 3:
+        return refused(path, None, None, answer)
+    system, answer = read_admitted(path, program, answer)
     if answer.is_yes:
         return 0, [f"{path}: yes. There is nothing to explain."]
     if answer.status == 4:
         return 4, [f"{path}: {answer.shown}", "", *wide_lines(system, answer)]
     told = Told(system, answer, program)
     head, offers = helping(system, told, program)
-    return 1, [f"{path}: {answer.shown}", "", *told.said(), "", *columns(told.table()), "", *head, *offer_lines(path, offers, most, asked or systems.called("rtadmit"))]
+    return 1, [f"{path}: {answer.shown}", "", *told.said(), "", *columns(told.table()), "", *head, *offer_lines(path, offers, most, asked or called("rtadmit"))]
+
+
+def refused(path, second, kind, answer):
+    """The status, and what is told of a file that is refused."""
+    told = faults.lines_of(path, second, kind, answer)
+    return 3, [f"{second or path}{f', read as {kind}' if kind else ''}: {answer.shown}", "", *told]
+
+
+def judged_second(path, second, kind, program):
+    """The same of a second file, as what it is or is said to be."""
+    kind = kind or faults.kind_of_second(pathlib.Path(second).read_bytes().decode(errors="surrogateescape"))
+    answer = program.ask(*faults.words_of(kind, path, second))
+    if answer.status == 3:
+        return refused(path, second, kind, answer)
+    rows = faults.refused_rows(path, second, answer) if kind == "script" else []
+    return answer.status, [f"{second}, read as {kind}: {answer.shown}. It is taken.", *rows]
 
 
 def wide_lines(system, answer):
@@ -366,27 +393,22 @@ def wide_lines(system, answer):
     yield "Round the periods down to multiples of a few numbers."
 
 
-def main(arguments=None):
-    parser = argparse.ArgumentParser(description=__doc__, formatter_class=argparse.RawDescriptionHelpFormatter)
+def add_words(parser):
     parser.add_argument("file", metavar="FILE", help="the system file")
+    parser.add_argument("second", nargs="?", metavar="SECOND", help="a second file that the program refuses")
+    parser.add_argument("--as", dest="kind", choices=faults.KINDS_OF_SECOND, help="what SECOND is")
     parser.add_argument("--all", action="store_true", help="tells all changes that help")
     parser.add_argument("--copy", metavar="CHANGE", help="writes the file with this change, and asks nothing")
-    systems.add_program(parser)
-    words = parser.parse_args(arguments)
-    try:
-        if words.copy:
-            return systems.written(systems.read_system(words.file).changed(words.copy).text(), 0)
-        program = systems.program_of(words.program, timeline.built_program())
-        asked = shlex.join(shlex.split(words.program)) if words.program else None
-        status, lines = judged(words.file, program, None if words.all else MOST_TOLD, asked)
-    except Refused as refused:
-        print(refused, file=sys.stderr)
-        return 3
-    except OSError as fault:
-        print(f"{fault.filename}: {fault.strerror}", file=sys.stderr)
-        return 3
-    return systems.written("\n".join(lines) + "\n", status)
+    add_program(parser)
 
 
-if __name__ == "__main__":
-    sys.exit(main())
+def run(given):
+    if given.copy:
+        system = read_system(given.file)
+        return rewritten(pathlib.Path(given.file).read_bytes().decode(), system, system.changed(given.copy))
+    program = program_of(given.program)
+    if given.second:
+        status, lines = judged_second(given.file, given.second, given.kind, program)
+    else:
+        status, lines = judged(given.file, program, None if given.all else MOST_TOLD, shlex.join(shlex.split(given.program)) if given.program else None)
+    return "\n".join(lines) + "\n", status

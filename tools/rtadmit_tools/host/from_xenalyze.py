@@ -1,7 +1,4 @@
-#!/usr/bin/env python3
 """A trace for the auditor, out of what `xenalyze --dump-all` prints of a host under RTDS.
-
-    tools/from-xenalyze DUMP --cpu N=CORE.. --vcpu dDvV=PART.. >trace.csv
 
 Each line of DUMP has its moment in seconds with nine digits, a field in which the place of the `x` is the physical processor, what
 ran there, and the event (docs/audit.md). These lines matter, for the VCPUs of the map; the others only move the end:
@@ -18,29 +15,34 @@ that comes with a wake-up may come late in a period, since RTDS gives a VCPU tha
 wakes. So the start is the first replenishment of a VCPU that has run or was preempted since it last woke; where there is none, it is
 the first one, and standard error says so. The trace counts nanoseconds from the first start, and ends with the last line.
 
+With --system the budget that each replenishment tells is compared with that of the part in FILE, the given one or else the one that the
+program computes for it: an audit with another budget than the host has says nothing of the host.
+
 Refused, with the line, and nothing written: lost records; changes of a VCPU that do not follow from the ones before; a VCPU that
 runs on two processors, or on one that is not in the map; two VCPUs that have one processor; time that falls on a processor or passes
-what a trace holds; a VCPU without a replenishment; a change or a replenishment in another form. Other lines are passed over. The status is 1 then, and 2 where the words are wrong.
-"""
-import argparse
+what a trace holds; a VCPU without a replenishment; a change or a replenishment in another form; with --system, a budget that is another
+one than the part's, or that a line does not tell. Other lines are passed over. The status is 1 then, and 2 where the words are wrong."""
 import re
 import sys
 from dataclasses import dataclass, field
 
-sys.dont_write_bytecode = True
-from hostfile import NAME, Refused, finished, lines_of, pairs
+from ..command_line import Refused, WrongWords, pairs, refuse_all
+from ..program import add_program, program_of
+from ..system_file import NAME, budget_of, lines_of, read_system
 
 LIMIT_NS = 1_000_000_000_000
 LINE = re.compile(r"\]?\s*([0-9]{1,9})\.([0-9]{9}) ([^0-9A-Za-z]*)x([^0-9A-Za-z]*) d[0-9?]+v[0-9?]+\s+(\S.*?)\s*")
 CHANGE = re.compile(r"runstate_change (d[0-9]+v[0-9]+) ([a-z]+)->([a-z]+)(?:\s.*)?")
 REPLENISHED = re.compile(r"rtds:repl_budget (d[0-9]+v[0-9]+)(?:[\s,].*)?")
+BUDGET = re.compile(r"[\s,]budget = ([0-9]{1,18})\b")
 RUNNING, RUNNABLE, ASLEEP = "running", "runnable", "asleep"
 STATES = {"running": RUNNING, "runnable": RUNNABLE, "blocked": ASLEEP, "offline": ASLEEP}
 
 
 @dataclass(slots=True)
 class Event:
-    """A change or a replenishment of a VCPU of the map: its line, moment and processor, and the states of a change."""
+    """A change or a replenishment of a VCPU of the map: its line, moment and processor, the states of a change, and the budget that a
+    replenishment tells."""
 
     line: int
     at: int
@@ -48,6 +50,7 @@ class Event:
     vcpu: str
     old: str | None = None
     new: str | None = None
+    budget_ns: int | None = None
 
 
 @dataclass
@@ -88,7 +91,8 @@ def event_of(path, line, text, known):
     if found[5].startswith("rtds:repl_budget") and not replenished:
         raise Refused(path, line, "no text of a rtds:repl_budget")
     if replenished and replenished[1] in known:
-        event.vcpu = replenished[1]
+        budget = BUDGET.search(found[5])
+        event.vcpu, event.budget_ns = replenished[1], budget and int(budget[1])
     return event
 
 
@@ -175,6 +179,21 @@ class Host:
                   file=sys.stderr)
         return (vcpu.on_time or vcpu.starts)[0]
 
+    def compare(self, system, program):
+        """Refuses where a VCPU is given another budget than its part has."""
+        refuse_all(cause for vcpu in self.vcpus.values() for cause in self.differing(vcpu, system, program))
+
+    def differing(self, vcpu, system, program):
+        """The first replenishment of a VCPU by another budget than that of its part."""
+        if vcpu.name not in system.nodes or system.nodes[vcpu.name].kind != "part":
+            yield Refused(system.path, None, f"no part is {vcpu.name}, which --vcpu tells")
+            return
+        budget = budget_of(system, vcpu.name, program)
+        event = next((event for event in vcpu.starts if event.budget_ns != 1000 * budget), None)
+        if event:
+            told = "tells no budget" if event.budget_ns is None else f"is given {event.budget_ns} ns"
+            yield Refused(self.path, event.line, f"{vcpu.key} {told}, and {vcpu.name} has {1000 * budget} in {system.path}")
+
     def row(self, at, vcpu, what):
         self.rows.append((at, self.cores[vcpu.cpu], what, "" if what == "stop" else vcpu.name))
 
@@ -220,9 +239,11 @@ class Host:
             if row[2] != "stop" or behind is None or behind[:3] != (*row[:2], "run"):
                 yield row
 
-    def text(self):
+    def text(self, system, program):
         self.learn()
         self.tell()
+        if system:
+            self.compare(system, program)
         first = self.rows[0][0]
         if self.end - first > LIMIT_NS:
             raise Refused(self.path, None, "a trace holds 1000 seconds, and this one is longer")
@@ -231,24 +252,23 @@ class Host:
         return "\n".join([f"{head},core,what,vcpu", *(f"{at // unit},{core},{what},{name}" for at, core, what, name in rows), ""])
 
 
-def main():
-    parser = argparse.ArgumentParser(description=__doc__, formatter_class=argparse.RawDescriptionHelpFormatter)
+def add_words(parser):
     parser.add_argument("dump", metavar="DUMP", help="what `xenalyze --dump-all` prints")
     parser.add_argument("--cpu", action="append", required=True, metavar="N=CORE", help="a physical processor and its core")
     parser.add_argument("--vcpu", action="append", required=True, metavar="dDvV=PART", help="a VCPU and its part, as d1v0=audio-0")
-    words = parser.parse_args()
-    cores, vcpus = pairs(parser, words.cpu, "--cpu"), pairs(parser, words.vcpu, "--vcpu")
-    for name in [*cores.values(), *vcpus.values()]:
-        if not NAME.fullmatch(name):
-            parser.error(f"{name!r} is no name: 1 to 32 letters, digits, _ and -, a letter first")
-    for number in cores:
-        if not re.fullmatch("0|[1-9][0-9]{0,4}", number):
-            parser.error(f"--cpu {number!r} is no number of a processor")
-    for key in vcpus:
-        if not re.fullmatch("d[0-9]+v[0-9]+", key):
-            parser.error(f"--vcpu {key!r} is no VCPU, as d1v0")
-    return finished(lambda: Host(words.dump, {int(number): name for number, name in cores.items()}, vcpus).text())
+    parser.add_argument("--system", metavar="FILE", help="the system file whose budgets the dump has to tell")
+    add_program(parser)
 
 
-if __name__ == "__main__":
-    sys.exit(main())
+def run(given):
+    cores, vcpus = pairs(given.cpu, "--cpu"), pairs(given.vcpu, "--vcpu")
+    for form, what, words in (
+        (NAME, "name: 1 to 32 letters, digits, _ and -, a letter first", [*cores.values(), *vcpus.values()]),
+        (re.compile("0|[1-9][0-9]{0,4}"), "number of a processor", cores), (re.compile("d[0-9]+v[0-9]+"), "VCPU, as d1v0", vcpus),
+    ):
+        for word in words:
+            if not form.fullmatch(word):
+                raise WrongWords(f"{word!r} is no {what}")
+    system = read_system(given.system) if given.system else None
+    is_open = system and any(part.budget is None for part in system.parts())
+    return Host(given.dump, {int(number): name for number, name in cores.items()}, vcpus).text(system, program_of(given.program) if is_open else None)

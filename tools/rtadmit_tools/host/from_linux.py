@@ -1,7 +1,4 @@
-#!/usr/bin/env python3
 """A system file out of the threads that reserve time on a Linux host (SCHED_DEADLINE), as those of KVM's virtual processors.
-
-    tools/from-linux [RECORD] [--name TID=NAME].. [--stand-in NAME].. [--without TID].. >host.toml
 
 Without RECORD it looks at each thread of this machine. RECORD is the text of the same, recorded anywhere by
 
@@ -10,15 +7,14 @@ Without RECORD it looks at each thread of this machine. RECORD is the text of th
 
 Each processor to which such threads are bound becomes a core, and each thread a part on it, with its runtime as the budget. A part is
 called as its thread, with `-` for each sign that no name has, and the thread's number behind it where that would not tell it from others;
-or as --name says. How the threads of a guest are ordered and what they ask for is left open, by lines that say how to fill them, and
+or as --name says. A thread that may use what others leave (SCHED_FLAG_RECLAIM) gets `extra = true`; `chrt` does not print that, so of a
+RECORD --extra says it. How the threads of a guest are ordered and what they ask for is left open, by lines that say how to fill them, and
 `rtadmit admit` refuses the file until that is there. A thread of which nothing is known but its runtime gets one slot a second by
 --stand-in, and --without leaves one out; the file says so.
 
 Refused, by the name of the thread and, where there is one, the line, and nothing written: a deadline below the period, since a part has
 its budget by the end of its period; a runtime or a period that is no whole number of microseconds; a thread that may use more than one
-processor; a record that lacks something of a thread, or has other lines. The status is 1 then, and 2 where the words are wrong.
-"""
-import argparse
+processor; a record that lacks something of a thread, or has other lines. The status is 1 then, and 2 where the words are wrong."""
 import ctypes
 import os
 import platform
@@ -27,10 +23,10 @@ import struct
 import sys
 from dataclasses import dataclass
 
-sys.dont_write_bytecode = True
-from hostfile import LIMIT, NAME, Refused, finished, lines_of, pairs, part_text, system_text
+from ..command_line import Refused, WrongWords, pairs
+from ..system_file import LIMIT, NAME, lines_of, part_text, system_text
 
-SCHED_DEADLINE = 6
+SCHED_DEADLINE, RECLAIM = 6, 2
 GETATTR = {"x86_64": 315, "aarch64": 275, "riscv64": 275}
 THREAD = re.compile(r"thread ([0-9]{1,9})(?: (.*))?")
 POLICY = re.compile(r"pid ([0-9]{1,9})'s current scheduling policy: (\w+)(?:\|\S+)?")
@@ -38,10 +34,13 @@ PRIORITY = re.compile(r"pid ([0-9]{1,9})'s current scheduling priority: [0-9]+")
 TIMES = re.compile(r"pid ([0-9]{1,9})'s current runtime/deadline/period parameters: ([0-9]{1,19})/([0-9]{1,19})/([0-9]{1,19})")
 AFFINITY = re.compile(r"pid ([0-9]{1,9})'s current affinity list: ([0-9,-]+)")
 HEAD = [
-    "The threads of a Linux host under SCHED_DEADLINE, by tools/from-linux. All times are microseconds. What the kernel does not know",
-    "is open: `rtadmit admit` refuses this file until each part has its sched and a task. Leave the budget of a part out, and the",
+    "The threads of a Linux host under SCHED_DEADLINE, by tools/host from-linux. All times are microseconds. What the kernel does not",
+    "know is open: `rtadmit admit` refuses this file until each part has its sched and a task. Leave the budget of a part out, and the",
     "program computes the least that is enough for the tasks that you wrote down. Keep that of a stand-in: its task is invented.",
 ]
+HINT = """no thread reserves time (SCHED_DEADLINE). To begin, write a file with a core for each processor and a part for each thread that is to
+reserve time, as examples/linux/tick.toml (those of KVM are called CPU 0/KVM and so on: ps -eLo tid,comm), without budgets; ask
+rtadmit admit, and let tools/host to-linux print the calls that reserve what it computes (docs/guide.md, "What a host under KVM has to be like")"""
 
 
 @dataclass
@@ -54,6 +53,7 @@ class Thread:
     policy: str | None = None
     times: tuple | None = None
     affinity: str | None = None
+    reclaims: bool = False
 
     def __str__(self):
         return f"thread {self.tid} ({self.name})"
@@ -83,6 +83,7 @@ def read_record(path):
             raise Refused(path, line, f"no line `thread {found[1]} NAME` is above")
         if key is not None:
             setattr(thread, key, tuple(map(int, found.groups()[1:])) if key == "times" else found[2])
+        thread.reclaims |= key == "policy" and "RECLAIM" in text
     for thread in threads.values():
         if thread.policy is None or (thread.policy == "SCHED_DEADLINE" and None in (thread.times, thread.affinity)):
             raise Refused(path, thread.line, f"{thread}: its policy, its times or its processors are missing")
@@ -104,12 +105,12 @@ def list_of(cpus):
 
 
 def reservation(libc, number, tid):
-    """The policy of a thread and its times in nanoseconds. Fails where it has ended, or may not be looked at."""
+    """The policy of a thread, its times in nanoseconds, and whether it reclaims. Fails where it has ended, or may not be looked at."""
     held = ctypes.create_string_buffer(48)
     if libc.syscall(number, tid, held, 48, 0) != 0:
         raise OSError(ctypes.get_errno(), os.strerror(ctypes.get_errno()), f"thread {tid}")
-    _, policy, _, _, _, runtime, deadline, period = struct.unpack("=IIQiIQQQ", held.raw)
-    return policy, (runtime, deadline, period)
+    _, policy, flags, _, _, *times = struct.unpack("=IIQiIQQQ", held.raw)
+    return policy, tuple(times), bool(flags & RECLAIM)
 
 
 def read_machine():
@@ -125,7 +126,7 @@ def read_machine():
                 if found[0] == SCHED_DEADLINE:
                     with open(f"/proc/{process}/task/{tid}/comm", errors="surrogateescape") as file:
                         name = file.read().rstrip("\n")
-                    threads.append(Thread(tid, name, None, "SCHED_DEADLINE", found[1], list_of(os.sched_getaffinity(tid))))
+                    threads.append(Thread(tid, name, None, "SCHED_DEADLINE", found[1], list_of(os.sched_getaffinity(tid)), found[2]))
         except (FileNotFoundError, ProcessLookupError):
             continue
     return threads
@@ -150,25 +151,22 @@ def names_of(threads, given):
     return names
 
 
-def part_of(where, thread, name, stand_in):
-    """The core and the text of a thread's part."""
+def wrong_with(thread):
+    """What keeps a thread from being a part, or None."""
     runtime, deadline, period = thread.times
+    odd = next(((what, value) for what, value in (("runtime", runtime), ("period", period)) if value % 1000), None)
     if deadline < period:
-        cause = f"has a deadline of {deadline} ns, below its period of {period}: a part has its budget by the end of its period"
-        raise Refused(where, thread.line, f"{thread} {cause}")
-    for what, value in (("runtime", runtime), ("period", period)):
-        if value % 1000:
-            raise Refused(where, thread.line, f"{thread} has a {what} of {value} ns, which is no whole number of microseconds")
+        return f"has a deadline of {deadline} ns, below its period of {period}: a part has its budget by the end of its period"
+    if odd:
+        return f"has a {odd[0]} of {odd[1]} ns, which is no whole number of microseconds"
     if not 1000 <= runtime <= period <= deadline or period > LIMIT * 1000:
-        raise Refused(where, thread.line, f"{thread} has not 1 <= runtime <= period <= {LIMIT} microseconds")
+        return f"has not 1 <= runtime <= period <= {LIMIT} microseconds"
     if not thread.affinity.isdecimal():
-        cause = f"may use the processors {thread.affinity}: give it one of its own by a cpuset (docs/guide.md)"
-        raise Refused(where, thread.line, f"{thread} {cause}")
-    about = f"thread {thread.tid}, which is called {thread.name!a}"
-    return int(thread.affinity), part_text(about, name, f"cpu{thread.affinity}", period // 1000, runtime // 1000, False, stand_in)
+        return f"may use the processors {thread.affinity}: give it one of its own by a cpuset (docs/guide.md)"
+    return None
 
 
-def text_of(where, threads, given, stand_ins, left_out):
+def text_of(where, threads, given, stand_ins, left_out, extras):
     """The system file of the threads."""
     for tid in [*given, *left_out]:
         if tid not in {thread.tid for thread in threads}:
@@ -176,34 +174,35 @@ def text_of(where, threads, given, stand_ins, left_out):
     head = HEAD + [f"{thread.name!a}, thread {thread.tid}, is left out." for thread in threads if thread.tid in left_out]
     threads = [thread for thread in threads if thread.tid not in left_out]
     if not threads:
-        raise Refused(where, None, "no thread reserves time (SCHED_DEADLINE)")
-    names = names_of(threads, given)
-    for name in stand_ins:
-        if name not in names.values():
-            raise Refused(where, None, f"no part is {name}, which --stand-in tells")
-    parts = [part_of(where, thread, names[thread.tid], names[thread.tid] in stand_ins) for thread in threads]
-    return system_text(head, [f"cpu{core}" for core in sorted({core for core, _ in parts})], [text for _, text in parts])
+        raise Refused(where, None, HINT)
+    names, parts = names_of(threads, given), []
+    for option, words in (("--stand-in", stand_ins), ("--extra", extras)):
+        for name in words:
+            if name not in names.values():
+                raise Refused(where, None, f"no part is {name}, which {option} tells")
+    for thread in threads:
+        if cause := wrong_with(thread):
+            raise Refused(where, thread.line, f"{thread} {cause}")
+        name, (runtime, _, period) = names[thread.tid], thread.times
+        about = f"thread {thread.tid}, which is called {thread.name!a}"
+        extra = thread.reclaims or name in extras
+        parts.append(part_text(about, name, f"cpu{int(thread.affinity)}", period // 1000, runtime // 1000, extra, name in stand_ins))
+    return system_text(head, [f"cpu{core}" for core in sorted({int(thread.affinity) for thread in threads})], parts)
 
 
-def main():
-    parser = argparse.ArgumentParser(description=__doc__, formatter_class=argparse.RawDescriptionHelpFormatter)
+def add_words(parser):
     parser.add_argument("record", nargs="?", metavar="RECORD", help="what was recorded; without it this machine is looked at")
     parser.add_argument("--name", action="append", default=[], metavar="TID=NAME", help="a name for the part of a thread")
     parser.add_argument("--stand-in", action="append", default=[], metavar="NAME", help="a part of which only the runtime is known")
+    parser.add_argument("--extra", action="append", default=[], metavar="NAME", help="a part whose thread may use what others leave")
     parser.add_argument("--without", action="append", default=[], type=int, metavar="TID", help="a thread to leave out")
-    words = parser.parse_args()
-    given = pairs(parser, words.name, "--name")
-    for tid, name in given.items():
+
+
+def run(given):
+    names = pairs(given.name, "--name")
+    for tid, name in names.items():
         if not re.fullmatch("[0-9]{1,9}", tid) or not NAME.fullmatch(name):
-            parser.error(f"--name {tid}={name} is not TID=NAME, with a name of 1 to 32 letters, digits, _ and -, a letter first")
-    given = {int(tid): name for tid, name in given.items()}
-
-    def make():
-        threads = read_machine() if words.record is None else read_record(words.record)
-        return text_of(words.record or "this machine", threads, given, words.stand_in, words.without)
-
-    return finished(make)
-
-
-if __name__ == "__main__":
-    sys.exit(main())
+            raise WrongWords(f"--name {tid}={name} is not TID=NAME, with a name of 1 to 32 letters, digits, _ and -, a letter first")
+    threads = read_machine() if given.record is None else read_record(given.record)
+    where = given.record or "this machine"
+    return text_of(where, threads, {int(tid): name for tid, name in names.items()}, given.stand_in, given.without, given.extra)
