@@ -6,6 +6,7 @@ use Rattle.std.specs.Fmt.{digits}
 use Rattle.tree_model.specs.View.{SystemView}
 use Rattle.tree_model.specs.Tree.{NoLoss, budget_at}
 use Rattle.slot_model.specs.declared.sched.Short.{Short}
+use Rattle.slot_model.specs.Task.{job_at}
 use Rattle.slot_model.specs.Supply.{GivesBudget, worst_slot}
 use Rattle.slot_model.specs.Order.{before_of}
 use Rattle.slot_model.specs.Release.{LegalRelease, synchronous}
@@ -57,7 +58,8 @@ what_a_yes_gives sys text kept = (
 )
 
 -- the witness of the computed leaf in place k: with each smaller budget than that of the leaf its
--- supply gives that budget, and its release, which is legal, misses over it in every permitted run
+-- supply gives that budget, and its release, which is legal, misses over it in every permitted run;
+-- where it names a task, the job of that task that is released at the start does
 what_a_witness_gives : (sys : SystemView) (text : List ℕ) → (kept : MeansOfSystem sys Yes text)
     → (k : ℕ) (replay : Replay) → slice_get kept.replays k ≡ Some replay
     → let q = slice_index (computed_leaves sys) k in
@@ -70,6 +72,10 @@ what_a_witness_gives : (sys : SystemView) (text : List ℕ) → (kept : MeansOfS
     × LegalRelease tasks release
     × ((run : List (Option ℕ)) → PermittedRun guest (before_of leaf.sched tasks) tasks release slots run
     → (j : ℕ) × Missed tasks release run j)
+    × ((i : ℕ) → replay.witness.task ≡ Some i
+    → (run : List (Option ℕ)) → PermittedRun guest (before_of leaf.sched tasks) tasks release slots run
+    → (j : ℕ) × ((job_at release j).task ≡ i) × ((job_at release j).release ≡ replay.witness.start)
+    × Missed tasks release run j)
 what_a_witness_gives sys text kept k replay e =
     let of = kept.replayed.each k replay e in
     let does : Defeats (part_at sys (slice_index (computed_leaves sys) k)).sched
@@ -84,6 +90,7 @@ what_a_witness_gives sys text kept k replay e =
       λ b less. does.gives slots supply b (omega (arith, less, of.defeat.next_smaller)),
       does.legal,
       (does.misses slots supply).misses,
+      does.late_task slots supply,
     )
 
 -- a no tells the first refusal, and it holds

@@ -44,8 +44,8 @@ assigning sys = record {
 abbrev pub OnAssigned : SystemView → (List ℕ → Status → List ℕ → Type 0) → Status → List ℕ → Type 0
 OnAssigned sys Says status text = OnAttempt (assigning sys) Says status text
 
--- no means: the refusal that the text tells is the first, of those that are asked for, and it is
--- true of every supply and every release
+-- no means: the refusal that the text tells is the first, of those that are asked for, and it
+-- holds: a leaf that is refused must miss, over some supply, with each budget that it may have
 pub record IsTrueNo (First : SystemView → Refusal → Type 0) (sys : SystemView)
     (text : List ℕ) : Type 0 where
   pub node : Place

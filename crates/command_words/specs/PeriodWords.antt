@@ -9,7 +9,7 @@ longest_period = 1000000000
 abbrev pub period_of : List ℕ → Option ℕ
 period_of = number_from_one longest_period
 
--- two periods in order, and at most 10,000 from the one to the other
+-- two periods in order, at most 9,999 apart
 abbrev pub range_between : ℕ → ℕ → Option (ℕ × ℕ)
 range_between low high =
     if nat_le low high && nat_le (high - low) 9999 then Some (low, high) else None

@@ -1,7 +1,7 @@
 -- What the answers about one leaf mean, taken apart, and which files are refused. A definition that
 -- says less breaks one of these.
 use Rattle.std.proofs.Common.{◌≡◌, ◌⊎◌, ℕ, ◌+◌, ◌<◌, ◌≤◌, true, false, List, [], ◌∷◌, length, Some, None, refl, arith, inl, inr}
-use Rattle.std.specs.Prelude.{Ok, IsOk, codes, slice_index_or}
+use Rattle.std.specs.Prelude.{All, Ok, IsOk, codes, slice_index_or}
 use Rattle.std.specs.Fmt.{digits}
 use Rattle.slot_model.specs.declared.sched.Short.{Short}
 use Rattle.slot_model.specs.declared.sched.Short.TheVariants.{At}
@@ -46,7 +46,7 @@ use Rattle.command_steps.proofs.Budgets.{composing_decided}
 use Rattle.guest_commands.specs.Interface.{AtDeadline, InterfacesSystem, InterfaceTells, IsInterface, least_status, least_text, the_interface}
 use Rattle.guest_commands.specs.Choose.{ChoiceTells, ChoosesSystem, IsChosen, choice_status, the_choose}
 use Rattle.guest_commands.specs.Slack.{SlackensLeaf, SlackensSystem, SlackTells, TellsWorks, the_slack}
-use Rattle.guest_commands.specs.Responses.{AreResponses, IsReplayOf, IsResponseOf, IsTold, RespondsSystem, ResponsesMean, answered_tasks, the_responses}
+use Rattle.guest_commands.specs.Responses.{AreResponses, IsReplayOf, IsResponseOf, IsTold, RespondsInTree, RespondsSystem, ResponsesMean, answered_tasks, the_responses}
 
 -- `interface`: with the budget that is told no job of the leaf is lost, and with each smaller one
 -- it must miss; or with each up to the deadline
@@ -134,12 +134,12 @@ what_refuses_slack : (file part : List ℕ) (contents : Contents) → (the_slack
 what_refuses_slack file part contents ends = (ends.sys, ends.spelled, ends.such)
 
 -- `responses`: budgets admit the system and lose no job, and a line tells the greatest response of
--- its task, which is in the task's room
+-- its task, which is in the task's room, and which no job of it passes in the tree
 what_responses_give : (sys : SystemView) (text : List ℕ) → ResponsesMean sys Yes text
     → (budgets : List ℕ) × (rows : List Response) × Admitted sys budgets × NoLoss sys budgets
-    × AreResponses sys budgets rows × (text ≡ responses_text sys rows)
+    × AreResponses sys budgets rows × All (RespondsInTree sys budgets) rows × (text ≡ responses_text sys rows)
 what_responses_give sys text told =
-    (told.budgets, told.rows, told.admitted, told.no_loss, told.responses, told.told)
+    (told.budgets, told.rows, told.admitted, told.no_loss, told.responses, told.in_tree, told.told)
 
 what_a_response_gives : (sched : Sched) (tasks : List SporadicTask) (period budget i : ℕ) (row : Response)
     → IsResponseOf sched tasks period budget i row

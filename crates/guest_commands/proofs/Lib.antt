@@ -1,4 +1,6 @@
 mod OneResponses
 mod RespondLeaf
+mod TreeResponses
+mod TreeExamples
 pub mod Laws
 mod Examples

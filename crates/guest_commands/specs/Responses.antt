@@ -1,15 +1,17 @@
 -- `responses FILE`: what it answers, and what its yes and no mean.
-use Rattle.std.specs.Prelude.{◌≡◌, ℕ, ◌+◌, ◌<◌, ◌≤◌, Bool, if◌then◌else◌, not, ◌&&◌, List, [], ◌∷◌, map, length, All, Option, Some, None, ⊤}
+use Rattle.std.specs.Prelude.{◌≡◌, ℕ, ◌+◌, ◌<◌, ◌≤◌, Bool, if◌then◌else◌, not, ◌&&◌, List, [], ◌∷◌, map, length, All, slice_index_or, Option, Some, None, ⊤}
 use Rattle.std.specs.List.{flat_map, range_with_len}
 use Rattle.slot_model.specs.declared.sched.Sched.{Sched}
-use Rattle.slot_model.specs.Task.{SporadicTask, room_of, task_at}
+use Rattle.slot_model.specs.declared.job.Job.{Job}
+use Rattle.slot_model.specs.Task.{SporadicTask, room_of, task_at, job_at}
 use Rattle.slot_model.specs.Supply.{GivesBudget, worst_slot}
 use Rattle.slot_model.specs.Order.{before_of}
+use Rattle.slot_model.specs.Run.{service}
 use Rattle.response_times.specs.Response.{IsGreatestResponse}
 use Rattle.response_times.specs.Replay.{ShowsResponse}
 use Rattle.tree_model.specs.View.{PartView, SystemView}
 use Rattle.tree_model.specs.System.{is_edf, is_leaf, own_tasks, part_at}
-use Rattle.tree_model.specs.Tree.{budget_at, NoLoss}
+use Rattle.tree_model.specs.Tree.{budget_at, run_at, StartedTree, TreeInputs, NoLoss}
 use Rattle.tree_model.specs.Admission.{Admitted}
 use Rattle.system_file.specs.SystemFile.{system_of}
 use Rattle.rt_report.specs.declared.responses.Response.{Response}
@@ -87,16 +89,35 @@ RespondsSystem sys = OnAdmitted sys (IsTold sys)
 abbrev pub Responds : Contents → Status → List ℕ → Type 0
 Responds contents = AtFile 1 contents (λ bytes. OnSystem (system_of bytes) RespondsSystem)
 
+-- in a run of a leaf each job of task i has its work t slots after its release, where the run is
+-- that long
+abbrev pub RespondsInRun : List Job → List (Option ℕ) → (i t : ℕ) → Type 0
+RespondsInRun jobs run i t =
+    (j : ℕ) → j < length jobs → (job_at jobs j).task ≡ i →
+    (job_at jobs j).release + t ≤ length run →
+    (job_at jobs j).work ≤ service run j ((job_at jobs j).release + t)
+
+-- so it is of a row's task and its worst response in the tree: whenever each part starts, for runs
+-- of every length, over every supply of the cores and every legal release, in every permitted run.
+-- The run of a leaf and its releases are counted from its own start.
+abbrev pub RespondsInTree : SystemView → List ℕ → Response → Type 0
+RespondsInTree sys budgets row =
+    (starts : List ℕ) (n : ℕ) (supplies : List (List Bool)) (jobs : List (List Job))
+    (core_runs part_runs : List (List (Option ℕ))) → TreeInputs sys n supplies jobs →
+    StartedTree sys budgets starts n supplies jobs core_runs part_runs →
+    RespondsInRun (slice_index_or jobs row.part []) (run_at part_runs row.part) row.task row.worst
+
 -- yes means: budgets admit the system, under which no job is lost on any level in any permitted
 -- run, and the text tells the greatest response of each task of a leaf under a fixed priority: no
--- job is later in any permitted run, and a supply and a release exist for which in every permitted
--- run a job is just that late
+-- job is later in any permitted run of the leaf over its budget, nor in any of the tree, and a
+-- supply and a release exist for which in every permitted run of the leaf a job is just that late
 pub record TellsResponses (sys : SystemView) (text : List ℕ) : Type 0 where
   pub budgets : List ℕ
   pub admitted : Admitted sys budgets
   pub no_loss : NoLoss sys budgets
   pub rows : List Response
   pub responses : AreResponses sys budgets rows
+  pub in_tree : All (RespondsInTree sys budgets) rows
   pub told : text ≡ responses_text sys rows
 
 -- what an answer to a system means; of a wide one nothing is claimed

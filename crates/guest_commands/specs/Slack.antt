@@ -42,7 +42,7 @@ CanKeepDeadlines sys = (budgets : List ℕ) × Admitted sys budgets × NoLoss sy
 -- yes means: budgets admit the system, under which no job is lost on any level in any permitted
 -- run, and the text tells the greatest work of each task of the leaf: with each work from 1 to it
 -- the system is admitted and loses no job, and with each from one more up to what the task's
--- deadline leaves past its jitter it is not admitted, under any list of budgets for the open parts
+-- deadline leaves past its jitter it is not admitted
 pub record TellsSlack (sys : SystemView) (part : List ℕ) (text : List ℕ) : Type 0 where
   pub leaf : ℕ
   pub found : IsLeafNamed sys part leaf

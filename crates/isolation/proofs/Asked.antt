@@ -6,10 +6,10 @@ use Rattle.isolation.specs.Demand.{asked_of}
 use Rattle.rtds_sim.proofs.Demands.{last_demand, own_last, demand_rises}
 
 -- what is asked for v, and for another
-of_itself : (tie : ℕ → ℕ → ℕ) (v u P B t : ℕ) → (u == v) ≡ true → asked_of tie v u P B t ≡ B
+pub of_itself : (tie : ℕ → ℕ → ℕ) (v u P B t : ℕ) → (u == v) ≡ true → asked_of tie v u P B t ≡ B
 of_itself tie v u P B t e = cond-true {A = ℕ} (u == v) B (deferrable_demand P B (t - tie v u)) e
 
-of_another : (tie : ℕ → ℕ → ℕ) (v u P B t : ℕ) → (u == v) ≡ false
+pub of_another : (tie : ℕ → ℕ → ℕ) (v u P B t : ℕ) → (u == v) ≡ false
     → asked_of tie v u P B t ≡ deferrable_demand P B (t - tie v u)
 of_another tie v u P B t e = cond-false {A = ℕ} (u == v) B (deferrable_demand P B (t - tie v u)) e
 

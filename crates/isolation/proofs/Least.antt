@@ -1,7 +1,6 @@
--- The least number of slots that is enough, found step by step: what all ask of so many slots is
--- the next number to try.
+-- The least number of slots that is enough, and sums of what is asked.
 use Rattle.std.proofs.Common.{◌≡◌, ℕ, suc, ◌+◌, ◌-◌, ◌<◌, ◌≤◌, ◌==◌, true, false, cond, List, length, arith, inl, inr}
-use Rattle.std.proofs.lemmas.Bool.{cases_lt, cases_Bool, cond-true, cond-false}
+use Rattle.std.proofs.lemmas.Bool.{cases_Bool, cond-true, cond-false}
 use Rattle.slot_model.specs.Slots.{sum_below}
 use Rattle.slot_model.proofs.Sums.{cond_rises, sum_below-zero, sum_below-suc, sum_below-le, get-le-sum_below}
 use Rattle.tree_model.specs.declared.place.Place.TheVariants.{Core}
@@ -47,7 +46,7 @@ module _ (tie : ℕ → ℕ → ℕ) (sys : SystemView) (budgets : List ℕ) (c 
   )
 
   -- more slots ask for no less
-  rises : IsPlan sys budgets → (s t : ℕ) → s ≤ t → asked tie sys budgets c v s ≤ asked tie sys budgets c v t
+  pub rises : IsPlan sys budgets → (s t : ℕ) → s ≤ t → asked tie sys budgets c v s ≤ asked tie sys budgets c v t
   rises plan s t l = sum_below-le (part_asks s) (part_asks t) (length sys.parts)
       (λ u k. cond_rises (is_child sys (Core c) u) (asked_of tie v u (part_at sys u).period (budget_at budgets u) s)
       (asked_of tie v u (part_at sys u).period (budget_at budgets u) t)
@@ -66,12 +65,6 @@ module _ (tie : ℕ → ℕ → ℕ) (sys : SystemView) (budgets : List ℕ) (c 
     asked-own tie v (part_at sys v).period (budget_at budgets v) s,
     get-le-sum_below (part_asks s) v (length sys.parts) l,
   )
-
-  pub few_more : IsPlan sys budgets → (t : ℕ) → TooFewBelow t → TooFewBelow (asked tie sys budgets c v t)
-  few_more plan t few s k = elim (cases_lt s t) [
-    | inl q ↦ few s q
-    | inr q ↦ omega (arith, rises plan t s q)
-  ]
 
   pub found : (t : ℕ) → t ≤ (part_at sys v).period → asked tie sys budgets c v t ≤ t → TooFewBelow t
       → IsLeastBy tie sys budgets c v t

@@ -4,6 +4,7 @@ pub mod Witness
 pub mod Short
 pub mod Breaking
 pub mod Least
+pub mod Whole
 pub mod Neighbouring
 pub mod InTrace
 pub mod Exposed

@@ -13,6 +13,7 @@ use Rattle.slot_model.specs.Bound.{sbf, IsShortfall, shows_by}
 use Rattle.slot_model.specs.Miss.{MissesFromStart, WorstList}
 use Rattle.slot_model.proofs.Synchronous.{legal_synchronous}
 use Rattle.slot_model.proofs.WorstLists.{worst_list, worst_list-is}
+use Rattle.slot_model.proofs.WorstPattern.{periodic_laws}
 use Rattle.least_budget.proofs.Budgets.{gives_less}
 use Rattle.tree_model.specs.View.{SystemView}
 use Rattle.tree_model.specs.System.{IsSystem, part_at, own_tasks, computed_leaves}
@@ -22,9 +23,10 @@ use Rattle.tree_model.proofs.InRange.{admitted_in_period}
 use Rattle.tree_model.proofs.Parents.{leaf_constrained}
 use Rattle.miss_witness.specs.declared.defeat.Defeat.{Defeat}
 use Rattle.miss_witness.specs.declared.replay.Replay.{Replay}
-use Rattle.miss_witness.specs.Defeat.{IsShortWindow, IsDefeat, IsDefeatSupply, Defeats}
+use Rattle.miss_witness.specs.Defeat.{IsShortWindow, IsDefeat, IsDefeatSupply, TaskMissesFromStart, Defeats}
 use Rattle.miss_witness.specs.Replay.{IsReplay, AreReplays, AllDefeat}
 use Rattle.miss_witness.proofs.Defeats.{budget_defeated}
+use Rattle.miss_witness.proofs.LateTask.{named_task_misses}
 
 -- a window that is short is that of a shortfall
 record ShortBy (sched : Sched) (tasks : List SporadicTask) (bound : ℕ → ℕ) (span : ℕ) : Type 0 where
@@ -58,6 +60,20 @@ defeat_misses sched tasks fits period least some in_period defeat is =
     (budget_defeated sched tasks fits period defeat.budget some (omega (arith, is.next_smaller)) window.short
     defeat.span window.in_span window.falls)
 
+-- and where it names a task, that task is late
+defeat_late_task : (sched : Sched) (tasks : List SporadicTask) → AreConstrained tasks → (period least : ℕ)
+    → 1 ≤ period → least ≤ period → (defeat : Defeat) → IsDefeat sched tasks period least defeat
+    → (slots : List Bool) → IsDefeatSupply period defeat slots → (i : ℕ) → defeat.task ≡ Some i
+    → TaskMissesFromStart defeat.start defeat.span (before_of sched tasks) tasks slots i
+defeat_late_task sched tasks fits period least some in_period defeat is slots worst i named =
+    let window : IsShortWindow sched tasks (sbf period defeat.budget) defeat.span (Some i)
+    = subst (IsShortWindow sched tasks (sbf period defeat.budget) defeat.span) named is.short in
+    subst (λ (z : ℕ). WorstList (worst_slot period defeat.budget) z defeat.span slots
+    → TaskMissesFromStart z defeat.span (before_of sched tasks) tasks slots i)
+    (sym is.at_start)
+    (named_task_misses sched tasks fits (periodic_laws period defeat.budget some (omega (arith, is.next_smaller)))
+    defeat.span i window slots) worst
+
 pub defeat_defeats : (sched : Sched) (tasks : List SporadicTask) → AreConstrained tasks → (period least : ℕ)
     → 1 ≤ period → least ≤ period → (defeat : Defeat) → IsDefeat sched tasks period least defeat
     → Defeats sched tasks period defeat
@@ -72,6 +88,7 @@ defeat_defeats sched tasks fits period least some in_period defeat is =
       gives = λ xs worst budget less. gives_less period defeat.budget budget xs less (does xs worst).0;
       legal = legal;
       misses = λ xs worst. (does xs worst).1;
+      late_task = defeat_late_task sched tasks fits period least some in_period defeat is;
       must_miss = λ budget less. record {
         slots = slots;
         jobs = synchronous tasks defeat.start defeat.span;

@@ -33,8 +33,7 @@ abbrev pub with_work : SystemView → ℕ → ℕ → ℕ → SystemView
 with_work sys q i work = with_changed sys q (part_with_work (part_at sys q) i work)
 
 -- the greatest work of task i of leaf q: with each work up to it the system is admitted, and with
--- each greater one that leaves the task its jitter up to its deadline it is not, under any list of
--- budgets
+-- each greater one that leaves the task its jitter up to its deadline it is not
 pub record IsMostWork (sys : SystemView) (q i most : ℕ) : Type 0 where
   pub some : 1 ≤ most
   pub in_room : most ≤ room_of (task_at (own_tasks_at sys q) i)

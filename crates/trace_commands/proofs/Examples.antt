@@ -1,15 +1,17 @@
 -- Worked cases of what is answered to traces and runs. A wrong definition breaks one of them.
-use Rattle.std.proofs.Common.{◌≡◌, ◌⊎◌, ℕ, Bool, true, false, List, [], ◌∷◌, length, Option, Some, refl, ◌<◌, ◌≤◌, inl, inr}
+use Rattle.std.proofs.Common.{◌≡◌, ◌⊎◌, ℕ, zero, suc, ◌*◌, Bool, true, false, List, [], ◌∷◌, length, Option, Some, None, refl, ◌<◌, ◌≤◌, arith, lit<, lit≤, inl, inr}
 use Rattle.std.specs.Prelude.{codes, All, ◌++◌, Ok, IsOk}
 use Rattle.std.specs.Fmt.{digits}
+use Rattle.slot_model.specs.declared.sched.Sched.TheVariants.{Edf}
 use Rattle.slot_model.specs.declared.sched.Short.{Short as ShortAt}
+use Rattle.tree_model.specs.declared.place.Parent.TheVariants.{Core as on_core}
 use Rattle.tree_model.specs.declared.place.Place.{Place}
 use Rattle.tree_model.specs.declared.place.Place.TheVariants.{Part}
 use Rattle.tree_model.specs.declared.plan.Refusal.{Refusal}
 use Rattle.tree_model.specs.declared.plan.Refusal.TheVariants.{Overfull}
-use Rattle.tree_model.specs.View.{SystemView}
+use Rattle.tree_model.specs.View.{PartView, SystemView}
 use Rattle.tree_model.specs.System.{IsSystem, is_leaf_at, part_at}
-use Rattle.tree_model.specs.Tree.{run_at}
+use Rattle.tree_model.specs.Tree.{run_at, budget_at}
 use Rattle.tree_model.specs.Admission.{Admitted, Assigned, FirstRefusal, FirstUnassigned}
 use Rattle.compose_tree.specs.Truth.{LeafIsOverfull, RefusalHolds}
 use Rattle.slot_model.specs.Slots.{sum_below}
@@ -26,8 +28,10 @@ use Rattle.auditor.specs.Tally.{AreTallies, tally_at}
 use Rattle.vcpu_watch.specs.declared.tally.Tally.{Tally}
 use Rattle.isolation.specs.declared.isolation.Isolation.TheVariants.{Isolated, ByTies, ByBlock}
 use Rattle.isolation.specs.declared.vcpus.PartIsolation.{PartIsolation}
-use Rattle.isolation.specs.Keeping.{KeepsOpenly}
+use Rattle.isolation.specs.Demand.{asked}
+use Rattle.isolation.specs.Keeping.{got_in, IsAwakeLast, KeepsBudget, KeepsOpenly, IsBreakable, PeriodsUpTo, IsExposed}
 use Rattle.isolation.specs.InTrace.{KeepsInTrace, IsExposedInTrace}
+use Rattle.isolation.specs.Answer.{IsIsolation}
 use Rattle.isolation.specs.Answers.{own_core, AreIsolations, are_isolated}
 use Rattle.rt_report.specs.declared.fault.FileFault.TheVariants.{Trace, Release}
 use Rattle.rt_report.specs.Audit.{audit_text}
@@ -42,6 +46,7 @@ use Rattle.command_steps.specs.Budgets.{AssignedOrNone, IsTrulyOverfull, IsTruly
 use Rattle.command_steps.specs.CommandSpec.{IsVerdict}
 use Rattle.command_steps.proofs.Attempt.{refused_first}
 use Rattle.command_steps.proofs.Budgets.{assigning_decided, composing_decided}
+use Rattle.rtds_sim.specs.Demand.{later}
 use Rattle.rtds_sim.specs.Fault.{AllRtds, IsFirstOther}
 use Rattle.system_file.specs.SystemFile.{system_of}
 use Rattle.trace_commands.specs.Audit.{tracing, finding_status, the_audit, AuditMeans, AuditsBytes, IsAudited, OnTrace, TellsSatisfied}
@@ -60,8 +65,9 @@ use Rattle.csv_rows.specs.Printing.{text_of}
 use Rattle.csv_rows.specs.Reading.{records_of}
 use Rattle.trace_file.specs.File.{Spells}
 use Rattle.trace_printer.specs.Printing.{printed_rows}
+use Rattle.release_file.specs.Workload.{IsWorkload}
 use Rattle.release_file.specs.declared.workload.Wake.{Wake}
-use Rattle.rtds_sim.specs.Rtds.{RtdsRun}
+use Rattle.rtds_sim.specs.Rtds.{CoreRun, RtdsRun}
 use Rattle.rtds_sim.specs.Giving.{AlwaysRunnable, ServersFit, AlwaysServed, GivesBudgets, NeverOver, NoneOver}
 use Rattle.trace_commands.specs.Rtds.{IsTraceOf, IsTraceText, RunMeans, RunsBytes, TellsRun, running, waking}
 
@@ -165,10 +171,64 @@ a_no_isolates_not_all sys text told = told
 
 what_a_line_says : (sys : SystemView) (budgets : List ℕ) (c v last : ℕ)
     → (LineMeans sys budgets c v (Isolated last)
-    → KeepsInTrace sys budgets v last × KeepsOpenly sys budgets c v last)
-    × (LineMeans sys budgets c v (ByTies last) → KeepsInTrace sys budgets v last)
-    × (LineMeans sys budgets c v ByBlock → IsExposedInTrace sys budgets c v)
-what_a_line_says sys budgets c v last = (λ h. h, λ h. h, λ h. h)
+    → KeepsInTrace sys budgets v last × KeepsOpenly sys budgets c v last × KeepsBudget sys budgets c v last)
+    × (LineMeans sys budgets c v (ByTies last) → KeepsInTrace sys budgets v last × KeepsBudget sys budgets c v last)
+    × (LineMeans sys budgets c v ByBlock → IsExposed sys budgets c v × IsExposedInTrace sys budgets c v)
+what_a_line_says sys budgets c v last = (λ h. h, λ h. h, λ h. h.1)
+
+-- A of 2 slots in 5 stands before B of 1,200,000 in 2,000,000. A asks for 2, and B for all but one
+-- of up to 5 slots, since ties go to A: 2, 2, 3, 4, 5 and 6 at 0 to 5, so each number is too few.
+abbrev server : ℕ → ℕ → PartView
+server period budget = record {
+  name = 65 ∷ [];
+  parent = on_core 0;
+  sched = Edf;
+  period = period;
+  budget = Some budget;
+  extra = false;
+  tasks = [];
+}
+
+abbrev long_pair : SystemView
+long_pair = record {
+  cores = record { name = 99 ∷ []; sched = Edf; supply = None } ∷ [];
+  parts = server 5 2 ∷ server 2000000 1200000 ∷ [];
+}
+
+abbrev long_budgets : List ℕ
+long_budgets = 2 ∷ 1200000 ∷ []
+
+each_asks_too_much : (t : ℕ) → t ≤ 5 → t < asked later long_pair long_budgets 0 0 t
+unfolding sum_below
+each_asks_too_much zero l = lit< tt
+each_asks_too_much (suc zero) l = lit< tt
+each_asks_too_much (suc (suc zero)) l = lit< tt
+each_asks_too_much (suc (suc (suc zero))) l = lit< tt
+each_asks_too_much (suc (suc (suc (suc zero)))) l = lit< tt
+each_asks_too_much (suc (suc (suc (suc (suc zero))))) l = lit< tt
+each_asks_too_much (suc (suc (suc (suc (suc (suc t)))))) l = absurd (omega (arith, l))
+
+it_is_by_block : IsIsolation long_pair long_budgets 0 0 ByBlock
+it_is_by_block = each_asks_too_much
+
+-- A run of `rtds` has no room for three of the longest periods. Yet the line of A means that it is
+-- short in a run over no more than these, and no premise is left.
+up_to_two_million : PeriodsUpTo long_pair 0 2000000
+up_to_two_million zero l on = lit≤ tt
+up_to_two_million (suc zero) l on = lit≤ tt
+up_to_two_million (suc (suc u)) l on = absurd (omega (arith, l))
+
+short_past_a_run_of_rtds : LineMeans long_pair long_budgets 0 0 ByBlock
+    → (1000000 < 3 * 2000000) × IsBreakable long_pair long_budgets 0 0 6000000
+short_past_a_run_of_rtds line = (lit< tt, line.1.0 2000000 line.0 up_to_two_million (lit≤ tt))
+
+-- a part that keeps its budget by ties keeps it in a run of any length
+kept_past_a_run_of_rtds : (sys : SystemView) (budgets : List ℕ) (c v last : ℕ)
+    → LineMeans sys budgets c v (ByTies last)
+    → (rows : List Wake) (run : List (Option ℕ)) (k : ℕ) → IsWorkload sys rows
+    → CoreRun sys budgets rows 3000000 c run → IsAwakeLast sys rows 3000000 c v k last
+    → budget_at budgets v ≤ got_in sys rows run v k
+kept_past_a_run_of_rtds sys budgets c v last line rows run = line.1 rows 3000000 run
 
 -- what a tally says: what an audit does, whatever it finds, and behind it what is counted; and on
 -- yes the periods of all VCPUs

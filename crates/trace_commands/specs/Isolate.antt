@@ -4,10 +4,11 @@ use Rattle.tree_model.specs.View.{SystemView}
 use Rattle.tree_model.specs.Admission.{Admitted, Assigned}
 use Rattle.system_file.specs.SystemFile.{system_of}
 use Rattle.rtds_sim.specs.Fault.{AllRtds, IsFirstOther}
+use Rattle.rtds_sim.specs.Giving.{ServersFit}
 use Rattle.isolation.specs.declared.isolation.Isolation.{Isolation}
 use Rattle.isolation.specs.declared.isolation.Isolation.TheVariants.{Isolated, ByTies, ByBlock}
 use Rattle.isolation.specs.declared.vcpus.PartIsolation.{PartIsolation}
-use Rattle.isolation.specs.Keeping.{KeepsOpenly}
+use Rattle.isolation.specs.Keeping.{KeepsBudget, KeepsOpenly, IsExposed}
 use Rattle.isolation.specs.InTrace.{KeepsInTrace, IsExposedInTrace}
 use Rattle.isolation.specs.Answers.{own_core, AreIsolations, are_isolated}
 use Rattle.rt_report.specs.Fault.{not_rtds_text}
@@ -54,15 +55,20 @@ Isolates contents = AtFile 1 contents (λ bytes. OnSystem (system_of bytes) Isol
 
 -- What a line means of part v of core c, under the budgets with which `rtds` runs the system.
 -- `isolated`: over every workload, v has its budget in each period in whose last slots, so many, it
--- is not blocked: in the trace of `rtds`, judged or not, and in each run, however it breaks ties.
--- `by=ties`: so it is in the trace of `rtds`. `by=block`: over some workload the trace of `rtds`
--- shows a judged period of v that is short, if 1,000,000 slots have room for three of the longest
--- periods of the core.
+-- is not blocked: in each run, of any length, however it breaks ties, in that which goes by the
+-- order of the file, and in the trace of `rtds`, judged or not. `by=ties`: so it is in the run by
+-- the order of the file and in the trace. `by=block`: over some workload v is short in a period in
+-- which it never blocks, in its run over no more than three of the longest periods of the core, if
+-- two of them are in the limit of a file. If 1,000,000 slots have room for three, the trace of
+-- `rtds` over some workload shows such a period, judged and short.
 abbrev pub LineMeans : SystemView → List ℕ → ℕ → ℕ → Isolation → Type 0
 LineMeans sys budgets c v (Isolated last) =
     KeepsInTrace sys budgets v last × KeepsOpenly sys budgets c v last
-LineMeans sys budgets c v (ByTies last) = KeepsInTrace sys budgets v last
-LineMeans sys budgets c v ByBlock = IsExposedInTrace sys budgets c v
+    × KeepsBudget sys budgets c v last
+LineMeans sys budgets c v (ByTies last) =
+    KeepsInTrace sys budgets v last × KeepsBudget sys budgets c v last
+LineMeans sys budgets c v ByBlock =
+    ServersFit sys budgets c × IsExposed sys budgets c v × IsExposedInTrace sys budgets c v
 
 -- a line for each part on a core, in file order, and what each line means; these are also the
 -- budgets that `rtds` takes

@@ -1,7 +1,7 @@
 """Evidence to file of a host, and of a recording of it: what was asked, what was answered, and by which program.
 
-GATE holds what the gate printed (`bash .ci/run | tee GATE`). Its last line, by tools/gate program-sum, tells the sum of the program that the
-gate left, the commit and the logic; the program that is asked has to have that sum. OUT must not be there yet; it becomes a folder with
+GATE holds what the gate printed (`bash .ci/run | tee GATE`). Its last line, by tools/gate program-sum, tells the sum of the program that
+the gate left, the commit and the logic; the program that is asked has to have that sum. OUT must not be there yet; it becomes a folder with
 
     system.toml, trace.csv    copies of FILE and TRACE
     certificate.json          what `certify` writes, where it is a yes (docs/certificate.md)
@@ -32,6 +32,7 @@ from ..program import Answer, Program, add_program, program_of
 from ..sealed import add_origin, archive_of, end_by_signal, origin_of, seal, sum_of
 from ..system_file import read_system
 from . import report
+from .why import is_stand_in
 
 SYSTEM, TRACE, CERTIFICATE = "system.toml", "trace.csv", "certificate.json"
 CLOSING = 20
@@ -69,7 +70,8 @@ class Verdicts:
         ran = subprocess.run([sys.executable, "-B", TOP / "tools/second-checker", SYSTEM, CERTIFICATE], stdout=subprocess.PIPE, text=True)
         second = Answer(ran.returncode, ran.stdout)
         if second != answer:
-            raise Refused(None, None, f"the certificate is answered {answer and answer.shown} by `check`, and {second.shown} by tools/second-checker")
+            told = f"{answer and answer.shown} by `check`, and {second.shown} by tools/second-checker"
+            raise Refused(None, None, f"the certificate is answered {told}")
         self.note(f"tools/second-checker {SYSTEM} {CERTIFICATE}", second)
 
     def all(self, has_trace):
@@ -80,8 +82,9 @@ class Verdicts:
             self.checked_twice()
         if admitted.is_yes:
             self.ask("responses", SYSTEM)
-            for part in counted([part for part in read_system(SYSTEM).parts() if part.tasks], "slack"):
-                self.ask("slack", SYSTEM, part.name)
+            known = [part.name for part in read_system(SYSTEM).parts() if part.tasks and not is_stand_in(part)]
+            for name in counted(known, "slack"):
+                self.ask("slack", SYSTEM, name)
             self.ask("isolate", SYSTEM)
         for command in ("audit", "tally") if has_trace else ():
             self.ask(command, SYSTEM, TRACE)

@@ -2,6 +2,7 @@
 use Rattle.std.proofs.Common.{◌≡◌, ℕ, List, sym, ◌∙◌, ap, subst, inl, inr}
 use Rattle.tree_model.specs.View.{SystemView}
 use Rattle.tree_model.specs.System.{IsSystem}
+use Rattle.tree_model.specs.Tree.{NoLoss}
 use Rattle.compose_tree.proofs.Sound.{admitted_no_loss}
 use Rattle.rt_report.specs.declared.responses.Response.{Response}
 use Rattle.rt_report.specs.Responses.{responses_text}
@@ -17,6 +18,7 @@ use Rattle.command_steps.proofs.Budgets.{composing_decided, refused_status, refu
 use Rattle.command_steps.proofs.CommandLaws.{CommandLaws}
 use Rattle.command_steps.proofs.OneFile.{system_laws}
 use Rattle.guest_commands.proofs.OneResponses.{one_list_of_responses}
+use Rattle.guest_commands.proofs.TreeResponses.{all_respond_in_tree}
 
 -- one text tells the responses under budgets
 one_told : (sys : SystemView) (budgets : List ℕ) → IsOne (IsTold sys budgets)
@@ -34,13 +36,16 @@ responds_status P at_yes at_no at_wide sys status text h =
 responds_means : (sys : SystemView) → IsSystem sys → (status : Status) (text : List ℕ) → RespondsSystem sys status text
     → ResponsesMean sys status text
 responds_means sys is status text h = elim h [
-  | inl a ↦ subst (λ (s : Status). ResponsesMean sys s text) (sym a.said.is_yes)
+  | inl a ↦
+      let no_loss : NoLoss sys a.value = admitted_no_loss sys is a.value a.gives in
+      subst (λ (s : Status). ResponsesMean sys s text) (sym a.said.is_yes)
       (record {
         budgets = a.value;
         admitted = a.gives;
-        no_loss = admitted_no_loss sys is a.value a.gives;
+        no_loss = no_loss;
         rows = a.said.rows;
         responses = a.said.responses;
+        in_tree = all_respond_in_tree sys is a.value no_loss a.said.rows a.said.responses.each;
         told = a.said.told;
       })
   | inr a ↦

@@ -10,6 +10,7 @@ use Rattle.tree_model.proofs.InRange.{assigned_is_plan}
 use Rattle.trace_file.specs.Rules.{is_core, is_vcpu}
 use Rattle.rtds_sim.specs.Rtds.{is_rtds}
 use Rattle.rtds_sim.specs.Fault.{AllRtds, IsFirstOther}
+use Rattle.rtds_sim.specs.Giving.{ServersFit}
 use Rattle.rtds_sim.proofs.Keeping.{OnCore, vcpu_core}
 use Rattle.isolation.specs.declared.isolation.Isolation.{Isolation}
 use Rattle.isolation.specs.declared.isolation.Isolation.TheVariants.{Isolated, ByTies, ByBlock}
@@ -70,11 +71,11 @@ isolates_status P at_yes at_no at_wide sys status text at_other h =
     (λ rows told. subst P (sym told.status_is) (either_status P at_yes at_no (are_isolated rows))) said) h
 
 -- what a line means
-line_means : (sys : SystemView) (budgets : List ℕ) (c v : ℕ) (answer : Isolation) → Means sys budgets c v answer
-    → MeansInTrace sys budgets c v answer → LineMeans sys budgets c v answer
-line_means sys budgets c v (Isolated last) run trace = (trace, run.0)
-line_means sys budgets c v (ByTies last) run trace = trace
-line_means sys budgets c v ByBlock run trace = trace
+line_means : (sys : SystemView) (budgets : List ℕ) (c v : ℕ) → ServersFit sys budgets c → (answer : Isolation)
+    → Means sys budgets c v answer → MeansInTrace sys budgets c v answer → LineMeans sys budgets c v answer
+line_means sys budgets c v fit (Isolated last) run trace = (trace, run)
+line_means sys budgets c v fit (ByTies last) run trace = (trace, run)
+line_means sys budgets c v fit ByBlock run trace = (fit, run, trace)
 
 part_means : (sys : SystemView) → IsSystem sys → (budgets : List ℕ) → Admitted sys budgets
     → AllRtds sys (length sys.cores) → (v : ℕ) → is_vcpu sys v ≡ true → (answer : Isolation)
@@ -85,8 +86,9 @@ part_means sys is budgets admitted all v vcpu answer h =
     let l : v < length sys.parts
     = ltb-true v (length sys.parts) (and_parts (nat_lt v (length sys.parts)) (is_core (part_at sys v).parent) vcpu).0 in
     let on : OnCore sys v = vcpu_core sys is v vcpu in
-    line_means sys budgets c v answer (means sys is budgets plan c v l on.child answer h)
-    (means_in_trace sys is budgets plan c v l on.child (servers_fit sys budgets all admitted c on.is_core) answer h)
+    let fit : ServersFit sys budgets c = servers_fit sys budgets all admitted c on.is_core in
+    line_means sys budgets c v fit answer (means sys is budgets plan c v l on.child answer h)
+    (means_in_trace sys is budgets plan c v l on.child fit answer h)
 
 -- what an answer means
 tells : (sys : SystemView) → IsSystem sys → (budgets : List ℕ) → Admitted sys budgets → (rows : List PartIsolation)
