@@ -1,41 +1,25 @@
-#!/usr/bin/env python3
 """Compares the program's `check` with tools/second-checker over certificates, good and spoilt.
 
-    tools/compare-checkers [PROGRAM] [--seed N] [--count N]
-
-PROGRAM is the proved one where none is named. Small systems are drawn from the seed, of one or two cores with and without a supply,
-of inner parts and leaves under every order, with deadlines, jitter, given budgets and computed ones. The program certifies each that
-it admits. The certificates are then compared as they are, written otherwise, with one value changed, an entry dropped or repeated, a
-value of another kind, bytes changed, and beside a system that was changed in place of them; and so are some texts at the limits of
-the format. Both have to tell the same text with the same status. Ends with 1 where they differ, or where an answer never came."""
-import argparse
-import collections
+Small systems are drawn from the seed, of one or two cores with and without a supply, of inner parts and leaves under every order, with
+deadlines, jitter, given budgets and computed ones. The program certifies each that it admits. The certificates are then compared as they
+are, written otherwise, with one value changed, an entry dropped or repeated, a value of another kind, bytes changed, and beside a system
+that was changed in place of them; and so are some texts at the limits of the format. Both have to tell the same text with the same
+status. Ends with 1 where they differ, or where an answer never came."""
 import copy
-import importlib.machinery
-import importlib.util
+import functools
 import json
-import os
-import pathlib
 import random
 import subprocess
-import sys
-import tempfile
 
-sys.dont_write_bytecode = True
-top = pathlib.Path(__file__).resolve().parent.parent
-SECOND = top / "tools/second-checker"
-SCHEDS = ["edf", "rm", "dm", "listed"]
+from .. import comparing
+from ..command_line import TOP
+from ..comparing import SCHEDS, compare, module_of, need, program_to_compare
+from ..program import Answer
+
+SECOND = "tools/second-checker"
 ANSWERS = ["verdict=yes", *(f"flaw={word}" for word in ("Nodes", "Budget", "Wide", "Cover", "Hit", "Least"))]
 ANSWERS += [f"fault={word}" for word in ("NotJson", "WrongShape", "BadNumber", "TooMany")]
 LONGEST, BY_COMMAND = 8_000, 40
-
-
-def second_checker():
-    """The second checker as a module: it has no ending that Python imports."""
-    loader = importlib.machinery.SourceFileLoader("second_checker", str(SECOND))
-    module = importlib.util.module_from_spec(importlib.util.spec_from_loader("second_checker", loader))
-    loader.exec_module(module)
-    return module
 
 
 # Systems, as lists of tables: each the line that begins it, and its keys with their values
@@ -319,70 +303,42 @@ def at_limits():
 # The comparison
 
 
-class Comparison:
-    def __init__(self, program, room):
-        self.program, self.checker = program, second_checker()
-        self.file, self.certificate = room / "system.toml", room / "certificate.json"
-        self.counts, self.wrong = collections.Counter(), 0
-
-    def run(self, *words):
-        ran = subprocess.run(words, stdin=subprocess.DEVNULL, capture_output=True, timeout=60)
-        return ran.returncode, ran.stdout.decode(errors="replace") + ran.stderr.decode(errors="replace")
-
-    def certify(self, file):
-        """The certificate of a system, or None."""
-        self.file.write_bytes(file)
-        status, text = self.run(self.program, "certify", self.file)
-        return text.encode() if status == 0 else None
-
-    def compare(self, file, certificate):
-        self.file.write_bytes(file)
-        self.certificate.write_bytes(certificate)
-        first = self.run(self.program, "check", self.file, self.certificate)
-        seconds = [self.checker.answer(self.file, self.certificate)]
-        if self.counts.total() % BY_COMMAND == 0:
-            seconds.append(self.run(SECOND, self.file, self.certificate))
-        line = first[1].splitlines()[-1] if first[1] else f"status {first[0]}"
-        self.counts[line.split(" ")[0] + (" of the system" if "file=1" in line else "")] += 1
-        for second in seconds:
-            if second != first:
-                self.wrong += 1
-                print(f"check: {first}\nsecond-checker: {second}\n{file.decode(errors='replace')}\n{certificate[:2000]!r}\n")
-
-
-def compare_all(comparison, chance, count):
-    for pair in at_limits():
-        comparison.compare(*pair)
-    while comparison.counts.total() < count:
+def pairs(program, chance, count):
+    """At least so many pairs of a system and a certificate: those at the limits, and then those of systems that are drawn."""
+    made = list(at_limits())
+    while len(made) < count:
         tables = draw_system(chance)
-        certificate = comparison.certify(spell(tables))
-        if certificate is None or len(certificate) > LONGEST:
-            continue
-        for text in spoilt(chance, certificate):
-            comparison.compare(spell(tables), text)
-        for _ in range(3):
-            comparison.compare(changed_system(chance, tables), certificate)
+        told = program.ask("certify", "/dev/stdin", text=spell(tables).decode())
+        if told.status == 0 and len(told.text) <= LONGEST:
+            certificate = told.text.encode()
+            made += [(spell(tables), text) for text in spoilt(chance, certificate)]
+            made += [(changed_system(chance, tables), certificate) for _ in range(3)]
+    return made
 
 
-def main():
-    parser = argparse.ArgumentParser(description="Compares `check` with tools/second-checker.", epilog="The front of this file says over what.")
-    parser.add_argument("program", nargs="?", default=str(top / "crates/rtadmit/out/rtadmit"), help="the proved one where none is named")
-    parser.add_argument("--seed", type=int, default=1, help="what systems are drawn and how they are spoilt; 1 where none is named")
-    parser.add_argument("--count", type=int, default=600, help="how many certificates; 600 where none is named")
-    words = parser.parse_args()
-    if not os.access(words.program, os.X_OK):
-        sys.exit(f"{words.program} is no program")
-    with tempfile.TemporaryDirectory(prefix="rtadmit-checkers-") as folder:
-        comparison = Comparison(os.path.abspath(words.program), pathlib.Path(folder))
-        compare_all(comparison, random.Random(words.seed), words.count)
-    for answer, count in sorted(comparison.counts.items()):
-        print(f"{count:6} {answer}")
-    missing = [answer for answer in ANSWERS if answer not in comparison.counts]
-    if missing:
-        print(f"never answered: {', '.join(missing)}")
-    print(f"{comparison.counts.total()} certificates, {comparison.wrong} answered otherwise")
-    return 1 if comparison.wrong or missing else 0
+second_checker = functools.cache(lambda: module_of(SECOND))
 
 
-if __name__ == "__main__":
-    sys.exit(main())
+def as_second(room, numbered):
+    """What is answered to a pair, which is the same by both; by the command of the second checker too, now and then."""
+    number, (file, certificate) = numbered
+    paths = [room.folder / room.write(*named) for named in (("system.toml", file), ("certificate.json", certificate))]
+    first = room.run("check", *paths)
+    seconds = [Answer(*second_checker().answer(*paths))]
+    if number % BY_COMMAND == 0:
+        ran = subprocess.run([TOP / SECOND, *paths], stdin=subprocess.DEVNULL, stdout=subprocess.PIPE, text=True)
+        seconds.append(Answer(ran.returncode, ran.stdout))
+    need(all(second == first for second in seconds), f"check: {first}\nsecond-checker: {seconds}")
+    line = first.lines[-1] if first.text else f"status {first.status}"
+    return [line.split(" ")[0] + " of the system" * ("file=1" in line)]
+
+
+def add_words(parser):
+    parser.add_argument("--seed", type=int, default=1, metavar="N", help="what systems are drawn and how they are spoilt; 1 where none is named")
+    parser.add_argument("--count", type=int, default=600, metavar="N", help="how many certificates; 600 where none is named")
+    comparing.add_words(parser)
+
+
+def run(given):
+    made = enumerate(pairs(program_to_compare(given), random.Random(given.seed), given.count))
+    return int(not compare(given, "certificates", as_second, made, dict.fromkeys(ANSWERS, 1)))
