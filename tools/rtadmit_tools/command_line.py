@@ -23,6 +23,19 @@ class Refused(Exception):
         super().__init__(f"{place}{cause}")
 
 
+class WrongWords(Refused):
+    """The words of a verb are none that it takes."""
+
+    def __init__(self, cause):
+        super().__init__(None, None, cause)
+
+
+def refuse_all(causes):
+    """Refuses for all these causes at once, a line each, where there are any."""
+    if told := "\n".join(map(str, causes)):
+        raise Refused(None, None, told)
+
+
 def verbs(kind):
     """The verbs of an entry point in order, each with the first line of its help."""
     found = {}
@@ -53,10 +66,15 @@ def written(text):
         sys.stdout.write(text)
         sys.stdout.flush()
     except OSError as fault:
-        print(f"standard output: {fault.strerror}", file=sys.stderr)
-        os.dup2(os.open(os.devnull, os.O_WRONLY), sys.stdout.fileno())
+        unwritten(fault)
         return False
     return True
+
+
+def unwritten(fault):
+    """Tells that standard output takes no more, and keeps Python from trying it again when it ends."""
+    print(f"standard output: {fault.strerror}", file=sys.stderr)
+    os.dup2(os.open(os.devnull, os.O_WRONLY), sys.stdout.fileno())
 
 
 def ended(answer, refused=1):
@@ -65,6 +83,9 @@ def ended(answer, refused=1):
         told = answer()
     except Refused as cause:
         print(cause, file=sys.stderr)
+        return USAGE if isinstance(cause, WrongWords) else refused
+    except BrokenPipeError as fault:
+        unwritten(fault)
         return refused
     except OSError as fault:
         print(f"{fault.filename}: {fault.strerror}" if fault.filename else fault.strerror or fault, file=sys.stderr)
@@ -95,9 +116,9 @@ def pairs(words, option, order="first"):
     for word in words:
         key, sign, value = word.rpartition("=") if order == "last" else word.partition("=")
         if not (sign and key and value):
-            raise Refused(None, None, f"{option} {word!r} is not KEY=VALUE")
+            raise WrongWords(f"{option} {word!r} is not KEY=VALUE")
         if key in found or value in found.values():
-            raise Refused(None, None, f"{option} {word!r}: {key if key in found else value} stands twice")
+            raise WrongWords(f"{option} {word!r}: {key if key in found else value} stands twice")
         found[key] = value
     return found
 

@@ -10,6 +10,9 @@ from .command_line import TOP, Refused
 NO_LINE = re.compile(r"overfull (part|core) (\S+) (?:at=(\d+)|task=(\S+))")
 PART_LINE = re.compile(r"part (\S+) period=(\d+) budget=(\d+) (given|computed)")
 BROKEN_LINE = re.compile(r"(short|over) (\S+) from_ns=(\d+) got_ns=(\d+) of_ns=(\d+)")
+ISOLATE_LINE = re.compile(
+    r"(?:isolated(?! \S+ by=)|exposed(?= \S+ by=)) (?P<name>\S+)(?: by=(?P<by>ties|block))?(?:(?<=by=block)|(?<!by=block) last=(?P<last>\d+) of=(?P<of>\d+))"
+)
 TALLY_LINE = re.compile(r"vcpu (\S+) begun=(\d+) judged=(\d+) short=(\d+) over=(\d+) least_ns=(\d+|-) most_ns=(\d+|-)")
 
 

@@ -21,12 +21,14 @@ def marks(first, last, most):
 
 
 class Canvas:
-    """The elements of a picture, one a line."""
+    """The elements of a picture, one a line, and how far its texts reach to the right, with wide letters taken as wide."""
 
     def __init__(self):
-        self.lines = []
+        self.lines, self.reach = [], 0
 
     def text(self, x, y, text, anchor="start", fill=INK, size=12, more=""):
+        if anchor == "start":
+            self.reach = max(self.reach, x + size * sum(1 if letter in "MWmw" else 0.64 for letter in text))
         self.lines.append(f'<text x="{x:.2f}" y="{y:g}" text-anchor="{anchor}" fill="{fill}" font-size="{size}" {more}>{escape(text)}</text>')
 
     def line(self, x1, y1, x2, y2, stroke, width=1, more=""):
@@ -46,3 +48,45 @@ class Canvas:
         head = f'<svg xmlns="http://www.w3.org/2000/svg" width="{width}" height="{height}" viewBox="0 0 {width} {height}" font-family="sans-serif">'
         ground = f'<rect width="{width}" height="{height}" fill="white"/>'
         return "\n".join([head, *[front] * bool(front), ground, *self.lines, "</svg>", ""])
+
+
+class Plot:
+    """A part of a picture with axes of its own: values from the left to the right, and values from below."""
+
+    OUTSIDE = 12
+
+    def __init__(self, canvas, left, top, width, height, across, up):
+        self.canvas, self.left, self.top, self.width, self.height = canvas, left, top, width, height
+        self.begin, self.end = across
+        self.low, self.high = up
+
+    @property
+    def bottom(self):
+        return self.top + self.height
+
+    @property
+    def right(self):
+        """Where the picture ends, so that its last mark fits."""
+        return self.left + self.width + max(28, 4 * len(str(self.end)) + 8)
+
+    def x(self, value):
+        return self.left + self.width * (value - self.begin) / (self.end - self.begin)
+
+    def y(self, value):
+        """A level; what lies outside ends a little outside."""
+        level = self.top + self.height * (self.high - value) / (self.high - self.low)
+        return min(max(level, self.top - self.OUTSIDE), self.bottom + self.OUTSIDE)
+
+    def scales(self, levels, what):
+        """The marks of both axes: round numbers below, and levels with their texts at the left; and what the lower axis counts."""
+        for value in marks(self.begin, self.end, self.width // (8 * len(str(self.end)) + 16)):
+            self.canvas.line(self.x(value), self.top, self.x(value), self.bottom + 4, FAINT)
+            self.canvas.text(self.x(value), self.bottom + 17, str(value), "middle", size=11)
+        for level, text in levels:
+            self.canvas.line(self.left - 4, self.y(level), self.left + self.width, self.y(level), FAINT)
+            self.canvas.text(self.left - 8, self.y(level) + 4, text, "end", size=11)
+        self.canvas.text(self.left + self.width, self.bottom + 33, what, "end", GREY, 11)
+
+    def frame(self):
+        self.canvas.line(self.left, self.top, self.left, self.bottom, INK)
+        self.canvas.line(self.left, self.bottom, self.left + self.width, self.bottom, INK)

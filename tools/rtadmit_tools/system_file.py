@@ -21,6 +21,7 @@ OPEN = """\
 # name = "..."
 # period = ...         # the least time from one job to the next, in microseconds
 # deadline = ...       # the time by which a job is to be done; left out it is the period
+# jitter = ...         # the longest delay from an arrival to its release; left out it is 0
 # work = ...           # the most processor time of one job
 """
 STAND_IN = """\
@@ -90,14 +91,7 @@ class System:
         return name
 
     def text(self):
-        """The system as the text of a system file."""
-        told = [f"format = {self.tree['format']}"]
-        for kind, keys in KEYS.items():
-            for table in self.tree.get(kind, []):
-                told += ["", f"[[{kind}]]", *pairs_of(table, keys)]
-                for task in table.get("task", []):
-                    told += ["[[part.task]]", *pairs_of(task, TASK_KEYS)]
-        return "\n".join(told) + "\n"
+        return tree_text(self.tree)
 
     def changed(self, change):
         """The same system with one change: `PART.TASK.work=N`, `PART.period=N`, `PART.budget=open`, `PART.parent=CORE` or
@@ -137,11 +131,22 @@ class System:
         return System(self.path, {"format": self.tree["format"], "core": [core], "part": parts})
 
 
+def tree_text(tree):
+    """The tables of a system as the text of a system file."""
+    told = [f"format = {tree['format']}"]
+    for kind, keys in KEYS.items():
+        for table in tree.get(kind, []):
+            told += ["", f"[[{kind}]]", *pairs_of(table, keys)]
+            for task in table.get("task", []):
+                told += ["[[part.task]]", *pairs_of(task, TASK_KEYS)]
+    return "\n".join(told) + "\n"
+
+
 def pairs_of(table, keys):
     """The lines of a table's keys."""
     for key in keys:
-        if key in table:
-            value = table[key]
+        value = table.get(key)
+        if value is not None:
             yield f"{key} = " + (str(value).lower() if isinstance(value, bool) else f'"{value}"' if isinstance(value, str) else str(value))
 
 
@@ -163,9 +168,9 @@ def budget_of(system, name, program):
     return budget
 
 
-def read_admitted(path, program):
-    """A system, and what `admit` answers to its file. Refused where that is neither yes nor no nor wide."""
-    answer = program.ask("admit", path)
+def read_admitted(path, program, answer=None):
+    """A system, and what `admit` answers, or has answered, to its file. Refused where that is neither yes nor no nor wide."""
+    answer = answer or program.ask("admit", path)
     if answer.status not in (0, 1, 4) or not answer.text.startswith("verdict="):
         raise Refused(path, None, f"the program does not judge it: {answer.shown} (status {answer.status})")
     system = read_system(path)
@@ -202,7 +207,7 @@ def part_text(about, name, core, period, budget, extra=False, stand_in=False):
 def system_text(head, cores, parts):
     """The whole file: what is said first, the names of the cores, and the texts of the parts."""
     told = "".join(f"# {line}\n" for line in head)
-    return "\n".join([f"{told}format = 1\n", *map(core_text, cores), *parts])
+    return "\n".join([f"{told}format = 2\n", *map(core_text, cores), *parts])
 
 
 # The budgets of an admitted file

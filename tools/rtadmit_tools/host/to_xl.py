@@ -2,15 +2,20 @@
 
 It asks the program and prints a call of `xl sched-rtds` for each part that stands on a core, in the order of the file: the part `audio-0`
 is VCPU 0 of the domain `audio`, and -e says whether it has extra time. It is another domain where a comment of the file says so, by a line
-`# --name DOMAIN=NAME` as from-xl writes it, or by --name, which goes before the file. A copy that a tool or the program writes has no
-comments: give --name again for that. It may be given several times; quote a word with a blank: --name 'vm 3=vm3'. A part that stands on a
-part is a reservation inside its guest, and has no call.
+`# --name DOMAIN=NAME` as from-xl writes it, or by --name, which goes before the file. A file that the program writes (`place`) has no
+comments: --names OTHER reads them in the file that it was made of. --name may be given several times; quote a word with a blank:
+--name 'vm 3=vm3'. A part that stands on a part is a reservation inside its guest, and has no call.
+
+Where the program knows `isolate`, standard error has a line for each VCPU that it calls exposed: one whose budget is not proved safe
+when others of its core sleep (docs/no.md). The calls are printed all the same.
 
 Refused, with the file and the line, and nothing printed: a file that is not admitted; a part that is not named for a domain and a VCPU's
 number; a comment `# --name` that tells no domain and name, or one of them twice; a period or a budget below the 10 microseconds that
 Xen asks for; a core that is not a whole processor under edf, as RTDS has it. The status is 1 then, and 2 where the words are wrong."""
+import pathlib
 import re
 import shlex
+import sys
 
 from ..command_line import Refused, pairs
 from ..program import add_program, program_of
@@ -55,27 +60,38 @@ def call(path, server, domains):
     return f"xl sched-rtds -d {domain} -v {found[2]} -p {server.period} -b {server.budget} -e {int(server.extra)}\n"
 
 
-def calls(path, program, domains):
-    """The calls for all VCPUs of an admitted file."""
+def tell_exposed(path, program):
+    """Says on standard error which VCPUs are exposed, where the program answers that."""
+    for line in program.ask("isolate", path).lines:
+        if line.startswith("exposed "):
+            _, name, by, *_ = line.split()
+            print(f"{path}: {name} is exposed ({by}): its budget is not proved safe when others of its core sleep (docs/no.md)", file=sys.stderr)
+
+
+def calls(path, program, domains, names):
+    """The calls for all VCPUs of an admitted file, with the names of domains that are given and those of the comments of a file."""
     file = admitted(path, program)
     need_full(path, file.cores, "Xen's RTDS")
     if not file.servers:
         raise Refused(path, None, "no VCPU")
-    named = {**named_in(path, file.text), **domains}
+    comments = named_in(names or path, pathlib.Path(names).read_text(errors="surrogateescape") if names else file.text)
+    named = {**comments, **domains}
     told = [call(path, server, named) for server in file.servers]
     known = {VCPU.fullmatch(server.name)[1] for server in file.servers}
     for name in domains:
         if name not in known:
             raise Refused(path, None, f"no part is named for a domain {name}, which --name tells")
+    tell_exposed(path, program)
     return "".join(told)
 
 
 def add_words(parser):
     parser.add_argument("file", metavar="FILE", help="the system file")
     parser.add_argument("--name", action="append", default=[], metavar="DOMAIN=NAME", help="the domain that a name of the file stands for; may be given several times")
+    parser.add_argument("--names", metavar="OTHER", help="the file whose comments tell the domains, in place of FILE")
     add_program(parser)
 
 
 def run(given):
     domains = {name: domain for domain, name in pairs(given.name, "--name", "last").items()}
-    return calls(given.file, program_of(given.program), domains)
+    return calls(given.file, program_of(given.program), domains, given.names)

@@ -1,0 +1,140 @@
+"""Evidence to file of a host, and of a recording of it: what was asked, what was answered, and by which program.
+
+GATE holds what the gate printed (`bash .ci/run | tee GATE`). Its last line, by tools/gate program-sum, tells the sum of the program that the
+gate left, the commit and the logic; the program that is asked has to have that sum. OUT must not be there yet; it becomes a folder with
+
+    system.toml, trace.csv    copies of FILE and TRACE
+    certificate.json          what `certify` writes, where it is a yes (docs/certificate.md)
+    verdicts.txt              each command that was asked, its answer and its status; of commands that the program does not have, that
+    report.html               the page of tools/host report
+    version.txt               the answer of `version`, and the sum, the commit and the logic of the program
+    gate.txt                  the last 20 lines of GATE
+    SUMS                      the SHA-256 of all of these, as `sha256sum -c SUMS` reads it
+
+and OUT.tar.gz, beside it, holds the same under the name `evidence`: the same bytes each time from the same inputs, program and tools. The
+program is asked over the copies, so that the words of verdicts.txt can be said again inside the folder. A certificate is also given to
+tools/second-checker.
+
+Refused, with nothing left: a gate that failed; a program of another sum; a file that the program does not judge; a trace that it refuses;
+a certificate over which the two checkers differ; an OUT that is there; and a program of which no line of a gate tells, or that says of
+itself that it is unproved. --unproved takes these two, without gate.txt, and verdicts.txt, report.html and version.txt then begin by saying
+so. The status is 1 where it is refused, and 2 where the words are wrong; a host that is not admitted, and a trace that holds something
+against it, are evidence too, with status 0."""
+import contextlib
+import pathlib
+import shutil
+import subprocess
+import sys
+import tempfile
+
+from ..command_line import TOP, Refused, counted
+from ..program import Answer, Program, add_program, program_of
+from ..sealed import add_origin, archive_of, end_by_signal, origin_of, seal, sum_of
+from ..system_file import read_system
+from . import report
+
+SYSTEM, TRACE, CERTIFICATE = "system.toml", "trace.csv", "certificate.json"
+CLOSING = 20
+
+
+class Verdicts:
+    """The answers to the commands, as the text of verdicts.txt."""
+
+    def __init__(self, program, mark):
+        self.program, self.told, self.missing = program, [f"{mark}\n"] * bool(mark), set()
+
+    def note(self, words, answer):
+        self.told.append(f"$ {words}\n{answer.text}status {answer.status}\n")
+
+    def ask(self, command, *words, into=None):
+        """The answer to a command, or None where the program does not have it."""
+        if command in self.missing:
+            return None
+        answer = self.program.ask(command, *words)
+        if answer.status == 2:
+            self.missing.add(command)
+            self.told.append(f"not asked: this program has no `{command}`\n")
+            return None
+        shown = " ".join(["rtadmit", command, *words])
+        if into and answer.status == 0:
+            pathlib.Path(into).write_text(answer.text)
+            self.note(f"{shown} >{into}", Answer(0, ""))
+        else:
+            self.note(shown, answer)
+        return answer
+
+    def checked_twice(self):
+        """The certificate as the program and as the second checker judge it. Refused where they differ."""
+        answer = self.ask("check", SYSTEM, CERTIFICATE)
+        ran = subprocess.run([sys.executable, "-B", TOP / "tools/second-checker", SYSTEM, CERTIFICATE], stdout=subprocess.PIPE, text=True)
+        second = Answer(ran.returncode, ran.stdout)
+        if second != answer:
+            raise Refused(None, None, f"the certificate is answered {answer and answer.shown} by `check`, and {second.shown} by tools/second-checker")
+        self.note(f"tools/second-checker {SYSTEM} {CERTIFICATE}", second)
+
+    def all(self, has_trace):
+        """Asks all of a system and of a trace."""
+        admitted = self.ask("admit", SYSTEM)
+        certified = self.ask("certify", SYSTEM, into=CERTIFICATE)
+        if certified and certified.status == 0:
+            self.checked_twice()
+        if admitted.is_yes:
+            self.ask("responses", SYSTEM)
+            for part in counted([part for part in read_system(SYSTEM).parts() if part.tasks], "slack"):
+                self.ask("slack", SYSTEM, part.name)
+            self.ask("isolate", SYSTEM)
+        for command in ("audit", "tally") if has_trace else ():
+            self.ask(command, SYSTEM, TRACE)
+        return "\n".join(self.told)
+
+
+def need_judged(file, trace, program):
+    """Refuses a file that the program does not judge."""
+    for path, words in ((file, ("admit", file)), *([(trace, ("audit", file, trace))] if trace else [])):
+        answer = program.ask(*words)
+        if answer.status not in (0, 1, 4):
+            raise Refused(path, None, f"the program does not judge it: {answer.shown} (status {answer.status})")
+
+
+def fill(folder, given, program, origin):
+    """Puts all into a new folder."""
+    shutil.copyfile(given.file, folder / SYSTEM)
+    if given.trace:
+        shutil.copyfile(given.trace, folder / TRACE)
+    with contextlib.chdir(folder):
+        verdicts = Verdicts(program, origin.mark).all(bool(given.trace))
+        page = report.page_of(SYSTEM, TRACE if given.trace else None, program, origin)
+    told = [origin.mark, origin.version, origin.gate.line if origin.gate else f"program sha256={origin.sum}"]
+    texts = {"verdicts.txt": verdicts, "report.html": page, "version.txt": "".join(f"{line}\n" for line in told if line)}
+    if origin.gate:
+        closing = pathlib.Path(origin.gate.path).read_text(errors="replace").rstrip().split("\n")[-CLOSING:]
+        texts["gate.txt"] = "\n".join(closing) + "\n"
+    for name, text in texts.items():
+        (folder / name).write_text(text, encoding="utf-8")
+    (folder / "SUMS").write_text("".join(f"{sum_of(path)}  {path.name}\n" for path in sorted(folder.iterdir())))
+
+
+def add_words(parser):
+    report.add_files(parser)
+    parser.add_argument("out", metavar="OUT", type=pathlib.Path, help="becomes the folder")
+    add_origin(parser)
+    add_program(parser)
+
+
+def run(given):
+    end_by_signal()
+    out = given.out.resolve()
+    archive_of(out)
+    asked = program_of(given.program)
+    origin = origin_of(asked, given.gate, given.unproved)
+    if not (origin.gate or given.unproved):
+        raise Refused(origin.path, None, "no line of a gate tells its sum: --gate GATE, or --unproved, which marks each page")
+    with tempfile.TemporaryDirectory() as place:
+        copy = pathlib.Path(shutil.copy(origin.path, pathlib.Path(place, "rtadmit")))
+        copy.chmod(0o755)
+        if sum_of(copy) != origin.sum:
+            raise Refused(origin.path, None, "changed meanwhile")
+        program = Program([str(copy), *asked.words[1:]])
+        need_judged(given.file, given.trace, program)
+        archive = seal(out, "evidence", 0, lambda folder: fill(folder, given, program, origin))
+    return f"{out}\n{archive} sha256={sum_of(archive)}\n"

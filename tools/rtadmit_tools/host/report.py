@@ -1,0 +1,364 @@
+"""One page that shows what the program says of a host, and of a recording of it. The page needs nothing else.
+
+FILE is a system file. The page has the verdict in a sentence, which is of VCPUs that do not sleep, and beside it what `isolate` says of those
+that do; the cores, with the shares of what stands on them; a table of the guests with period, budget, share, how much their work may grow
+(`slack`), their worst response (`responses`) and whether they keep their budget when others block (`isolate`); and for each guest with tasks
+the curves of tools/host curves. A guest with the one invented task of from-xl or from-linux is marked as a stand-in. On a no it has what
+tools/host why says. With TRACE it has the verdict of `audit`, of which guests it says nothing, what `tally` counted, and the picture of
+tools/host timeline, around the broken period where there is one.
+
+Every verdict, budget and number of these columns is the program's; a command that it does not have is told as not asked. On a no the budgets
+are those that it computes for each guest by itself. The foot of the page has the words that were asked, the sums of the program and of the
+files, and of the gate's line that tells the program's sum the commit and the logic; without such a line it says that none is known. A gate
+that tells another sum is refused. A program that says of itself that it is unproved is refused too, but for --unproved, which has the page
+begin with that. The same answers give the same page.
+
+The status is 0, also where the verdict is a no; 1 where there is no page, with the cause on standard error, and 2 where the words are wrong."""
+import fractions
+import pathlib
+import re
+from html import escape
+
+from .. import svg
+from ..command_line import Refused, counted, parser_of
+from ..formulas import SCHEDS
+from ..page import Cell, banner, bars, chips, code, figure, listed, name_of, number, section, soft, table_of, whole
+from ..program import BROKEN_LINE, ISOLATE_LINE, TALLY_LINE, add_program, program_of
+from ..sealed import add_origin, origin_of, sum_of
+from ..system_file import read_admitted
+from . import curves, timeline, why
+
+RESPONSE_LINE = re.compile(r"response (\S+) (\S+) worst=(\d+) limit=(\d+) replay=\S+")
+SLACK_LINE = re.compile(r"slack (\S+) (\S+) work=(\d+) most=(\d+)")
+FROM_LINUX = re.compile(r"\s*(?:#.*\n\s*)*#.*\bfrom-linux\b")
+ABOUT = {
+    "slack": "Slack: the task that may grow the least, its work, and the most with which all is still admitted.",
+    "response": "Response: the task that comes closest to its limit, its worst response, and that limit.",
+    "when others block": """When others block: whether the guest keeps its budget all the same. Isolated (T of P): it does in each of its
+periods, of P slots, in whose last T it does not block itself. Exposed: others that block and wake at the right moments can take from it what it
+was promised; by ties: only where, of periods that end at once, theirs goes first.""",
+}
+YES = """No deadline is missed on any level, in the guests or between them, whenever the periods of each guest begin, with the
+budgets below."""
+ISOLATED = """Each VCPU keeps its budget, whatever the others do, in every period in whose last slots it does not sleep itself; how many
+these are is told below."""
+STAND_IN = "Stand-in: nothing is known of its tasks. One slot a second stands for them, and its budget is as it is given."
+TALLIED = """Periods that begin in the recording, those that were judged, and the least and the most that a period got: the least of those that
+were judged, the most of all."""
+LINUX = """<b>A host of Linux.</b> Its kernel lets a period begin anew at a wake-up, and the audit counts each guest's periods from its start.
+So behind a sleep `over` or `short` may be told of a kernel that kept its own rule (docs/audit.md)."""
+RTDS_ONLY = "That is of Xen's RTDS; this is a host of Linux, whose kernel goes by another rule (docs/guide.md)."
+CURVES = """For each length of a window what the guest asks for, and the least that its budget gives; computed by the formulas of
+docs/certificate.md and compared with the program's answer at the marked window."""
+CLAIMS = "What the words mean, what is proved of them and what is not claimed stands in docs/claims.md of rtadmit."
+PAPER = {"white": "paper", svg.INK: "ink", svg.GREY: "soft", svg.FAINT: "line", curves.ASKED: "asked"}
+
+
+def marked(text):
+    """A text in which words between backquotes are words of the program."""
+    return re.sub("`(.*?)`", r"<code>\1</code>", text)
+
+
+def names_of(names):
+    return ", ".join(map(name_of, names))
+
+
+class Asked:
+    """What the program answers of a file and of a trace: each command is asked once, and one that it does not have is noted."""
+
+    def __init__(self, path, trace, program):
+        self.path, self.trace, self.program = path, trace, program
+        self.system, self.admit = read_admitted(path, program)
+        self.is_linux = bool(FROM_LINUX.match(pathlib.Path(path).read_text(errors="replace")))
+        self.words, self.notes, self.budgets, self.of_part = [f"admit {path}"], [], {}, {}
+        self.vcpus = [part for core in self.system.cores() for part in core.children]
+        for name in self.vcpus:
+            self.take(name)
+        self.stand_ins = {part.name for part in self.system.parts() if why.is_stand_in(part)}
+        self.leaves = [part.name for part in self.system.parts() if part.tasks and part.name not in self.stand_ins]
+        self.responses = [line for line in self.lines(RESPONSE_LINE, "responses", path) if line[1] not in self.stand_ins]
+        self.slacks = [line for name in counted(self.leaves, "slack") for line in self.lines(SLACK_LINE, "slack", path, name)]
+        self.isolated = {line["name"]: line for line in self.lines(ISOLATE_LINE, "isolate", path)}
+        self.audit = self.program.ask("audit", path, trace) if trace else None
+        self.tally = {line[1]: line for line in self.lines(TALLY_LINE, "tally", path, trace, always=True)} if trace else {}
+        self.words += [f"audit {path} {trace}"] * bool(trace)
+
+    def take(self, name):
+        """Takes the budgets of a guest and of all that stands on it: as admitted, or as the program answers for it by itself."""
+        answer = self.admit if self.admit.is_yes else self.program.admit(self.system.alone(name))
+        if answer.is_yes or not self.system.nodes[name].children:
+            kept = [name, *self.system.below(name)]
+            self.budgets.update({part: told for part, told in answer.budgets().items() if part in kept})
+            self.of_part.update({part: answer for part in kept})
+        else:
+            for child in self.system.nodes[name].children:
+                self.take(child)
+
+    def ask(self, command, *words, always=False):
+        """The answer to a command that a program may not have, or that says nothing where the system is not admitted; or None."""
+        if f"`{command}`" in "".join(self.notes):
+            return None
+        if not always and not self.admit.is_yes:
+            self.notes.append(f"not asked: `{command}`, since the answer to `admit` is no yes")
+            return None
+        answer = self.program.ask(command, *words)
+        if answer.status == 2:
+            self.notes.append(f"not asked: this program has no `{command}`")
+            return None
+        self.words.append(" ".join([command, *words]))
+        if answer.status > 1:
+            self.notes.append(f"`{command}` is refused: {answer.shown} (status {answer.status})")
+        return answer
+
+    def lines(self, form, command, *words, always=False):
+        """The lines of one form in the answer to a command."""
+        answer = self.ask(command, *words, always=always)
+        return [found for found in map(form.fullmatch, answer.lines if answer else []) if found]
+
+    def share(self, name):
+        """The share of a part, or None where no budget is told."""
+        given = self.system.nodes[name].budget
+        budget = self.budgets[name][0] if name in self.budgets else given
+        return None if budget is None else fractions.Fraction(budget, self.system.nodes[name].period)
+
+
+def percent(share):
+    return "–" if share is None else why.percent(share)
+
+
+class Page:
+    def __init__(self, asked, origin):
+        self.asked, self.system, self.origin, self.colours = asked, asked.system, origin, {}
+        for core in self.system.cores():
+            self.colours.update({name: timeline.COLOURS[place % len(timeline.COLOURS)] for place, name in enumerate(core.children)})
+
+    # The verdicts
+
+    def verdict(self):
+        """What `admit` says, in a sentence."""
+        answer = self.asked.admit
+        if answer.is_yes:
+            return banner("yes", "Yes, while no VCPU sleeps.", YES)
+        if answer.status == 4:
+            return banner("wide", "Nothing is claimed.", f"The periods share too few factors to be judged: {code(answer.lines[1])}")
+        found = answer.refused_node()
+        if not found:
+            return banner("no", "No.", code(answer.shown))
+        where = f"in a window of {found[3]} slots more is asked for than is sure to come"
+        if found[4]:
+            where = f"{name_of(found[4])} is not served in time"
+        return banner("no", "No.", f"The {found[1]} {name_of(found[2])} is overfull: {where}.")
+
+    def sleeping(self):
+        """What `isolate` says, in a sentence."""
+        asked = self.asked
+        if not asked.admit.is_yes or not asked.vcpus:
+            return ""
+        block, ties = ([name for name, line in asked.isolated.items() if line["by"] == how] for how in ("block", "ties"))
+        taken = [f"Others that sleep and wake at the right moments can take from {names_of(block)} what was promised."] if block else []
+        taken += [f"Others whose periods end at once can take it from {names_of(ties)}."] if ties else []
+        if not asked.isolated:
+            tone, lead, told = "wide", "If VCPUs sleep: no answer.", marked("Nothing is claimed, since `isolate` did not answer.")
+        elif taken:
+            tone, lead, told = "no", f"If VCPUs sleep: {len(block + ties)} of {len(asked.isolated)} exposed.", " ".join(taken)
+        else:
+            tone, lead, told = "yes", "If VCPUs sleep: isolated.", ISOLATED
+        return banner(tone, lead, f"{told} {RTDS_ONLY if asked.is_linux else ''}".strip())
+
+    def audited(self):
+        """What `audit` says, in a sentence, and of whom it says nothing."""
+        answer = self.asked.audit
+        found = BROKEN_LINE.fullmatch(answer.lines[1]) if len(answer.lines) > 1 else None
+        if answer.is_yes:
+            count = answer.lines[1].removeprefix("periods=")
+            told = f"No period is short or over; {count} were judged, of all guests together."
+            return self.taken(told, count)
+        if found:
+            how = "less" if found[1] == "short" else "more"
+            got = f"the period that begins at {found[3]} ns got {found[4]} ns, {how} than its budget of {found[5]} ns"
+            return banner("no", "The recording: no.", f"{name_of(found[2])} was {found[1]}: {got}.{self.unjudged()}")
+        return banner("wide", "The recording was not judged.", code(answer.shown))
+
+    def taken(self, told, count):
+        """The sentence of a recording that holds nothing against the scheduler; it is a yes where it says something of each guest."""
+        if count == "0":
+            return banner("wide", "The recording: no verdict.", f"{told} So it says nothing of the scheduler.")
+        if not self.asked.tally:
+            return banner("wide", "The recording: no verdict on each guest.", told + marked(" Of whom is not told, since `tally` did not answer."))
+        without = self.unjudged()
+        return banner("wide", "The recording: not of all guests.", told + without) if without else banner("yes", "The recording: yes.", told)
+
+    def unjudged(self):
+        """Those of whom a recording says nothing: they never start in it, or none of their periods was judged."""
+        none = [line for line in self.asked.tally.values() if line[3] == "0"]
+        absent, begun = ([line[1] for line in none if (line[2] == "0") == is_absent] for is_absent in (True, False))
+        told = f" It lacks {names_of(absent)}." if absent else ""
+        return told + (f" No period of {names_of(begun)} was judged." if begun else "")
+
+    # The cores
+
+    def core(self, core):
+        """The shares of what stands on a core, one beside the other, and what there is."""
+        shares = {name: self.asked.share(name) for name in core.children}
+        total, full = sum(share or 0 for share in shares.values()), fractions.Fraction(core.budget, core.period)
+        has = "every slot" if core.budget == core.period else f"{core.budget} of every {core.period} slots, {percent(full)}"
+        of = f" of {percent(full)}" if full < 1 else ""
+        head = f'<span>{name_of(core.name)}, {SCHEDS[core.sched]}, {has}</span><span>{percent(total)}{of} in use</span>'
+        told = bars({name: share or 0 for name, share in shares.items()}, full, self.colours)
+        below = chips({name: percent(share) for name, share in shares.items()}, self.colours)
+        return f'<div class="core"><div class="head">{head}</div>{told}{below}</div>'
+
+    # The guests
+
+    def guests(self):
+        """A row for each part."""
+        asked = self.asked
+        columns = {
+            "guest": self.guest, "on": lambda part: Cell(name_of(part.parent), "where"), "period": lambda part: str(part.period),
+            "budget": self.budget, "share": lambda part: Cell(percent(asked.share(part.name)), "number"),
+        }
+        more = {"slack": (asked.slacks, self.slack), "response": (asked.responses, self.response)}
+        more["when others block"] = (asked.isolated, self.isolation)
+        columns.update({word: cell for word, (told, cell) in more.items() if told})
+        rows = [[cell(part) for cell in columns.values()] for part in self.system.parts()]
+        about = ["Periods and budgets are slots (µs)."]
+        about += [] if asked.admit.is_yes else ["The budgets are those that the program computes for each guest by itself."]
+        about += [*(ABOUT[word] for word in more if word in columns), *[STAND_IN] * bool(asked.stand_ins)]
+        notes = "<br>".join(marked(escape(note)) for note in asked.notes)
+        return section("Guests", table_of(list(columns), rows), *(soft(text) for text in (" ".join(about), notes) if text))
+
+    def guest(self, part):
+        return name_of(part.name) + (" (stand-in)" if part.name in self.asked.stand_ins else "")
+
+    def budget(self, part):
+        told = self.asked.budgets.get(part.name)
+        if told is None:
+            return Cell("none is enough" if part.budget is None else f"{part.budget} given: too small", "bad")
+        return f"{told[0]} {'given' if told[1] else 'computed'}"
+
+    def slack(self, part):
+        found = [line for line in self.asked.slacks if line[1] == part.name]
+        least = min(found, key=lambda line: fractions.Fraction(int(line[4]), int(line[3])), default=None)
+        return name_of(least[2]) + " " + number(f"{least[3]} → {least[4]}") if least else "–"
+
+    def response(self, part):
+        found = [line for line in self.asked.responses if line[1] == part.name]
+        closest = max(found, key=lambda line: fractions.Fraction(int(line[3]), int(line[4])), default=None)
+        return name_of(closest[2]) + " " + number(f"{closest[3]} of {closest[4]}") if closest else "–"
+
+    def isolation(self, part):
+        found = self.asked.isolated.get(part.name)
+        if not found:
+            return "–"
+        last = " " + number(f"({found['last']} of {found['of']})") if found["last"] else ""
+        return Cell({None: "isolated", "ties": "exposed by ties", "block": "exposed"}[found["by"]] + last, "bad" if found["by"] else "good")
+
+    # Why a no
+
+    def why(self):
+        told = why.Told(self.system, self.asked.admit, self.asked.program)
+        head, offers = why.helping(self.system, told, self.asked.program)
+        names, *rows = told.table()
+        lines = [f"<p>{escape(line)}</p>" for line in told.said()]
+        lines.append(table_of(names, [[name_of(row[0]), *map(escape, row[1:])] for row in rows]))
+        lines += ["<h3>What helps</h3>", *(f"<p>{escape(line)}</p>" for line in head)]
+        for kind, found in why.by_kind(offers):
+            lines.append(f"<p>{kind}</p>" + listed(self.offer(offer, answer) for offer, answer in found[:why.MOST_TOLD]))
+        return section("Why", *lines)
+
+    def offer(self, offer, answer):
+        then = "" if answer.is_yes else f" (then: {answer.shown})"
+        return escape(offer.text + then) + code(why.words_of(self.asked.path, offer))
+
+    # The recording
+
+    def recording(self):
+        told = []
+        if self.asked.tally:
+            broken = lambda count: Cell(count, "bad" if count != "0" else "")
+            rows = [[name_of(line[1]), *line.group(2, 3), *map(broken, line.group(4, 5)), *line.group(6, 7)] for line in self.asked.tally.values()]
+            told = [table_of(["guest", "begun", "judged", "short", "over", "least (ns)", "most (ns)"], rows), soft(TALLIED)]
+        return section("The recording", f"<p>{marked(LINUX)}</p>" if self.asked.is_linux else "", *told, self.timeline())
+
+    def timeline(self):
+        """The picture of the trace, around the period that is told, or of all of it."""
+        answer = self.asked.audit
+        if answer.status > 1:
+            return ""
+        words = [self.asked.trace, "--system", self.asked.path]
+        words += [f"--budget={name}={told[0]}" for name, told in self.asked.budgets.items() if not told[1]]
+        found = BROKEN_LINE.fullmatch(answer.lines[1]) if len(answer.lines) > 1 else None
+        words += ["--around", f"{found[2]}@{found[3]}"] if found else []
+        return self.drawn(lambda: timeline.picture_of(parser_of("host", "timeline", timeline).parse_args(words)), "paper")
+
+    @staticmethod
+    def drawn(picture, kind=""):
+        try:
+            return figure(picture(), kind)
+        except Refused as refused:
+            return soft(f"There is no picture of it: {escape(str(refused))}")
+
+    # The curves
+
+    def curves(self):
+        leaves = [self.leaf(self.system.nodes[name]) for name in self.asked.leaves]
+        return section("What each guest asks for, and what it gets", soft(CURVES), *leaves) if leaves else ""
+
+    def leaf(self, node):
+        slacks = {line[2]: line for line in self.asked.slacks if line[1] == node.name}
+        responses = {line[2]: line for line in self.asked.responses if line[1] == node.name}
+        head = ["task", "period", "deadline", "jitter", "work"] + ["work at most"] * bool(slacks) + ["response"] * bool(responses)
+        rows = []
+        for task in node.tasks:
+            row = [name_of(task.name), *map(str, (task.period, task.deadline, task.jitter, task.work))]
+            row += [slacks[task.name][4] if task.name in slacks else "–"] * bool(slacks)
+            row += [f"{responses[task.name][3]} of {responses[task.name][4]}" if task.name in responses else "–"] * bool(responses)
+            rows.append(row)
+        return f"<h3>{name_of(node.name)}</h3>{table_of(head, rows)}{self.drawn(lambda: self.picture(node))}"
+
+    def picture(self, node):
+        """The curves of a leaf, in the colours of the page."""
+        told = curves.told_by(self.asked.of_part[node.name], "the program", self.asked.path, node)
+        text = curves.Picture(curves.Curves(node, told, None)).text_of()
+        for colour, variable in PAPER.items():
+            text = text.replace(f'="{colour}"', f'="var(--{variable})"')
+        return re.sub(r'( id="|url\(#)(\w+)', rf"\1\2-{node.name}", text)
+
+    # The foot
+
+    def foot(self):
+        asked, origin = self.asked, self.origin
+        files = [(pathlib.Path(origin.path).name, origin.sum), *((path, sum_of(path)) for path in (asked.path, asked.trace) if path)]
+        gate = origin.gate
+        left = f"The gate left a program of this sum: commit {code(gate.commit)}, logic {code(gate.logic)}." if gate else escape(origin.mark)
+        about = [f"<p>{escape(origin.version)}</p>", f"<p>{left}</p>", listed(code(f"rtadmit {words}") for words in asked.words)]
+        return section("What was asked", *about, table_of(["file", "SHA-256"], [[code(name), code(told)] for name, told in files]), soft(CLAIMS))
+
+    def text(self):
+        mark = banner("no", "Unproved.", escape(self.origin.mark)) if self.origin.is_unproved else ""
+        parts = [mark, self.verdict(), self.sleeping(), self.audited() if self.asked.trace else ""]
+        parts += [self.why() if self.asked.admit.status == 1 else "", section("Cores", *map(self.core, self.system.cores())), self.guests()]
+        parts += [self.recording() if self.asked.trace else "", self.curves(), self.foot()]
+        return whole(f"rtadmit: {self.asked.path}", f"Does {self.asked.path} keep its deadlines?", parts)
+
+
+def page_of(path, trace, program, origin):
+    return Page(Asked(path, trace, program), origin).text()
+
+
+def add_files(parser):
+    parser.add_argument("file", metavar="FILE", help="the system file")
+    parser.add_argument("trace", metavar="TRACE", nargs="?", help="a recorded trace")
+
+
+def add_words(parser):
+    add_files(parser)
+    parser.add_argument("out", metavar="OUT.html", help="gets the page")
+    add_origin(parser)
+    add_program(parser)
+
+
+def run(given):
+    program = program_of(given.program)
+    page = page_of(given.file, given.trace, program, origin_of(program, given.gate, given.unproved))
+    pathlib.Path(given.out).write_text(page, encoding="utf-8")
