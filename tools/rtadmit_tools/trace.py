@@ -25,8 +25,8 @@ def lines_of(path, file):
         number += 1
         if len(line) == LONGEST_LINE:
             raise Refused(path, number, f"BadRow: a line of more than {LONGEST_LINE - 1} bytes")
-        if line != "\n":
-            yield number, line.removesuffix("\n")
+        if line := line.rstrip("\r\n"):
+            yield number, line
 
 
 # A host, as the rows so far leave it

@@ -233,12 +233,12 @@ def add_words(parser):
     parser.set_defaults(refuse=parser.error)
 
 
-def run(given, program=None):
+def run(given):
     if given.jobs < 1:
         given.refuse("--jobs is at least 1")
     if given.parallel and given.told or given.pieces == "-" and (given.parallel or given.told):
         given.refuse("--parallel and --told are each of a folder that is whole")
-    audit = Audit(given.file, program or program_of(given.program))
+    audit = Audit(given.file, program_of(given.program))
     folder = None if given.pieces == "-" else pathlib.Path(given.pieces)
     if given.parallel:
         return "".join(parallel_line(audit, piece) for piece in pieces_of(folder)[0].values())

@@ -31,7 +31,7 @@ import time
 from dataclasses import dataclass
 
 from ..command_line import Refused
-from .from_ftrace import Map, Rows, Wrong, translate
+from .from_ftrace import Map, Rows, translate
 
 REFUSED = 3
 SETATTR = {"x86_64": 314, "aarch64": 274, "riscv64": 274}
@@ -395,8 +395,8 @@ def record(threads, seconds, seed, pause):
             each.reserve(tasks[each.thread.cpu])
         fillers = {cpu: child(stack, lambda file=file: fill(file)) for cpu, file in tasks.items()}
         # the recorder stays off the recorded processors, where there are others, so that all threads start at once
-        others = os.sched_getaffinity(0) - set(cpus)
-        os.sched_setaffinity(0, others or cpus)
+        if others := os.sched_getaffinity(0) - set(cpus):
+            os.sched_setaffinity(0, others)
         pause.wait(2 * longest)
         for cpu, pid in fillers.items():
             check_state(pid, "R", f"the filler of processor {cpu} does not run")
@@ -407,9 +407,9 @@ def record(threads, seconds, seed, pause):
 
 def gaps_of(text, threads):
     """The gaps of a recording."""
-    gaps, named = [], Map({thread.cpu: f"cpu{thread.cpu}" for thread in threads}, {thread.name: thread.name for thread in threads})
-    with tempfile.TemporaryFile("w+") as file, contextlib.suppress(Wrong):
-        translate(enumerate(text.splitlines(), 1), named, Rows(file), missing=gaps.append)
+    gaps, named = [], Map("", {thread.cpu: f"cpu{thread.cpu}" for thread in threads}, {thread.name: thread.name for thread in threads})
+    with tempfile.TemporaryFile("w+") as file, contextlib.suppress(Refused):
+        translate(enumerate(text.splitlines(), 1), named, Rows("", file), missing=gaps.append)
     return gaps
 
 

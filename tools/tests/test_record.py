@@ -1,4 +1,4 @@
-"""Tests of tools/record-deadline that need neither root nor a trace filesystem: its words, its refusals, and what it asks of
+"""Tests of tools/host record that need neither root nor a trace filesystem: its words, its refusals, and what it asks of
 the kernel's files, on pretended ones."""
 import argparse
 import contextlib
@@ -12,15 +12,18 @@ import tempfile
 import unittest
 from unittest import mock
 
-from load import load
+from support import Room, command_line, run, verb
 
-tool = load("record-deadline")
+tool, translator = verb("host", "record"), verb("host", "from-ftrace")
 make_folder = os.mkdir
+
+
+CALC = tool.Thread("calc", 3, 6000, 20000, None)
 
 
 class Words(unittest.TestCase):
     def test_threads(self):
-        self.assertEqual(tool.thread_of("calc@3=6000/20000"), tool.Thread("calc", 3, 6000, 20000, None))
+        self.assertEqual(tool.thread_of("calc@3=6000/20000"), CALC)
         self.assertEqual(tool.thread_of("log@0=4000/40000/2000"), tool.Thread("log", 0, 4000, 40000, 2000))
 
     def test_wrong_threads(self):
@@ -70,9 +73,7 @@ class Kernel:
 
 class Cpusets(unittest.TestCase):
     def setUp(self):
-        scratch = tempfile.TemporaryDirectory()
-        self.addCleanup(scratch.cleanup)
-        self.root = scratch.name
+        self.root = str(Room(self).folder)
 
     def test_the_first_version_of_control_groups(self):
         settings = {"cpuset.cpus": "0-3", "cpuset.mems": "0", "cpuset.cpu_exclusive": "0", "cpuset.sched_load_balance": "1"}
@@ -119,9 +120,7 @@ class Cpusets(unittest.TestCase):
 
 class Buffer(unittest.TestCase):
     def setUp(self):
-        scratch = tempfile.TemporaryDirectory()
-        self.addCleanup(scratch.cleanup)
-        self.folder = pathlib.Path(scratch.name)
+        self.folder = Room(self).folder
 
     def test_events_that_were_lost(self):
         os.makedirs(self.folder / "per_cpu/cpu0")
@@ -146,12 +145,12 @@ class Buffer(unittest.TestCase):
 
 
 class Marks(unittest.TestCase):
-    """What the recorder writes among the events, which tools/from-ftrace reads."""
+    """What the recorder writes among the events, which tools/host from-ftrace reads."""
 
     def test_the_order_of_a_recording(self):
         """All threads sleep before the buffer is on; the marks stand before the first wakeup and behind the last event."""
         done = []
-        child = mock.Mock(thread=tool.Thread("calc", 3, 6000, 20000, None), pid=11)
+        child = mock.Mock(thread=CALC, pid=11)
         child.check_asleep.side_effect = lambda: done.append("asleep?")
         child.start.side_effect = lambda: done.append("wake")
         pause = mock.Mock()
@@ -165,38 +164,27 @@ class Marks(unittest.TestCase):
         ])
 
     def test_that_the_translator_reads_them(self):
-        translator = load("from-ftrace")
-        text = tool.asleep_mark(tool.Thread("calc", 3, 6000, 20000, None), 11)
-        found = translator.ASLEEP_MARK.fullmatch(f"rtadmit: {text}")
+        found = translator.ASLEEP_MARK.fullmatch(f"rtadmit: {CALC.asleep_mark(11)}")
         self.assertEqual(found.groups(), ("calc", "11", "3", "20000"))
 
     def test_the_state_of_a_process(self):
-        self.assertEqual(tool.state_of("7 (a) R (b) S 1 7 7"), "S")
-
-    def test_a_thread_that_does_not_sleep_and_a_filler_that_does_not_run(self):
-        child = mock.Mock(thread=tool.Thread("calc", 3, 6000, 20000, None), pid=11)
-        with mock.patch.object(tool, "read", lambda path: "11 (calc) R 1"), self.assertRaises(tool.NotAllowed):
-            tool.Child.check_asleep(child)
-        with mock.patch.object(tool, "read", lambda path: "11 (calc) S 1"):
-            tool.Child.check_asleep(child)
+        """Its name may hold anything; a thread that does not sleep and a filler that does not run are refused."""
+        with mock.patch.object(tool, "read", lambda path: "7 (a) R (b) S 1 7 7"):
+            tool.Child.check_asleep(mock.Mock(thread=CALC, pid=11))
             with self.assertRaises(tool.NotAllowed):
-                tool.check_filler(11, 3)
+                tool.check_state(11, "R", "the filler does not run")
 
     def test_a_filler(self):
         """It has the lowest priority, and ends when it is ended."""
-        with tempfile.TemporaryDirectory() as scratch:
-            tasks = pathlib.Path(scratch, "tasks")
-            pid = tool.fill(tasks)
-            try:
-                while not tasks.exists() or not tasks.read_text():
-                    pass
-                self.assertEqual(tasks.read_text(), str(pid))
-                self.assertEqual(os.sched_getscheduler(pid), os.SCHED_IDLE)
-                tool.check_filler(pid, 0)
-            finally:
-                tool.end(pid)
-            with self.assertRaises(ProcessLookupError):
-                os.kill(pid, 0)
+        tasks = Room(self).folder / "tasks"
+        with contextlib.ExitStack() as stack:
+            pid = tool.child(stack, lambda: tool.fill(tasks))
+            while not tasks.exists() or not tasks.read_text():
+                pass
+            self.assertEqual((tasks.read_text(), os.sched_getscheduler(pid)), (str(pid), os.SCHED_IDLE))
+            tool.check_state(pid, "R", "it does not run")
+        with self.assertRaises(ProcessLookupError):
+            os.kill(pid, 0)
 
 
 class Tries(unittest.TestCase):
@@ -214,8 +202,7 @@ class Tries(unittest.TestCase):
         """The text that is kept where the recordings are these in turn, how many were made, and what standard error has."""
         made = []
         err = io.StringIO()
-        words = argparse.Namespace(
-            threads=[tool.thread_of("calc@3=6000/20000")], seconds=1, random=None, tries=tries, out="recording")
+        words = argparse.Namespace(threads=[CALC], seconds=1, random=None, tries=tries, out="recording")
         with mock.patch.object(tool, "record", lambda *_: made.append(1) or texts[len(made) - 1]), contextlib.redirect_stderr(err):
             return tool.record_whole(words, None), len(made), err.getvalue()
 
@@ -236,7 +223,7 @@ class Random(unittest.TestCase):
     def test_the_times_of_a_thread_that_halts(self):
         """Work up to WORK, sleep up to two periods, not the same again and again; the same seed gives the same times."""
         thread = tool.Thread("log", 3, 4000, 40000, 2000)
-        first, again, other = (list(itertools.islice(tool.random_times(thread, seed), 500)) for seed in (7, 7, 8))
+        first, again, other = (list(itertools.islice(thread.random_times(seed), 500)) for seed in (7, 7, 8))
         self.assertEqual(first, again)
         self.assertNotEqual(first, other)
         self.assertTrue(all(1 <= work <= 2000 and 1 <= sleep <= 80000 for work, sleep in first))
@@ -245,7 +232,7 @@ class Random(unittest.TestCase):
 
     def test_threads_differ(self):
         threads = [tool.Thread(name, 3, 4000, 40000, 2000) for name in ("log", "logs")]
-        first, second = (list(itertools.islice(tool.random_times(thread, 7), 5)) for thread in threads)
+        first, second = (list(itertools.islice(thread.random_times(7), 5)) for thread in threads)
         self.assertNotEqual(first, second)
 
 
@@ -263,15 +250,12 @@ def leave_root():
 class Ends(unittest.TestCase):
     def run_tool(self, out, record):
         """The status of a run where the recording is pretended, and what it wrote on standard error."""
-        err = io.StringIO()
-        old = {number: signal.getsignal(number) for number in tool.STOPS}
-        try:
-            with mock.patch.object(sys, "argv", ["record-deadline", str(out), "calc@3=6000/20000"]), \
-                    mock.patch.object(tool, "record", record), contextlib.redirect_stderr(err):
-                return tool.main(), err.getvalue()
-        finally:
-            for number, handler in old.items():
-                signal.signal(number, handler)
+        with contextlib.ExitStack() as stack:
+            for number in tool.STOPS:
+                stack.callback(signal.signal, number, signal.getsignal(number))
+            stack.enter_context(mock.patch.object(tool, "record", record))
+            status, _, err = run("host", "record", out, "calc@3=6000/20000")
+            return status, err
 
     def test_what_each_end_answers(self):
         def refuse(*_):
@@ -281,40 +265,35 @@ class Ends(unittest.TestCase):
             os.kill(os.getpid(), signal.SIGTERM)
             pause.wait(10)
 
-        with tempfile.TemporaryDirectory() as scratch:
-            out = pathlib.Path(scratch, "recording")
-            self.assertEqual(self.run_tool(out, refuse), (3, "record-deadline: no tracefs\n"))
-            self.assertFalse(out.exists())
-            status, err = self.run_tool(out, stop)
-            self.assertEqual(status, 128 + signal.SIGTERM)
-            self.assertFalse(out.exists())
-            self.assertEqual(self.run_tool(out, lambda *_: "text\n"), (0, ""))
-            self.assertEqual(out.read_text(), "text\n")
-            self.assertEqual(self.run_tool(out / "below", lambda *_: "text\n")[0], 1)
+        out = Room(self).folder / "recording"
+        self.assertEqual(self.run_tool(out, refuse), (3, "no tracefs\n"))
+        self.assertEqual(self.run_tool(out, stop), (128 + signal.SIGTERM, "stopped, and nothing is written\n"))
+        self.assertFalse(out.exists())
+        self.assertEqual(self.run_tool(out, lambda *_: "text\n"), (0, ""))
+        self.assertEqual(out.read_text(), "text\n")
+        self.assertEqual(self.run_tool(out / "below", lambda *_: "text\n")[0], 1)
+        self.assertEqual(run("host", "record", out, "calc@3=6000/20000", "calc@2=6000/20000")[0], 2)
 
     def test_without_root(self):
         """The real recording, by a user who may not: refused before anything is changed."""
-        with tempfile.TemporaryDirectory() as scratch:
-            reader, writer = os.pipe()
-            child = os.fork()
-            if child == 0:
-                status = CAN_NOT_LEAVE_ROOT
-                try:
-                    leave_root()
-                    sys.argv = ["record-deadline", f"{scratch}/recording", "calc@0=6000/20000", "--seconds=0.01"]
-                    sys.stderr = os.fdopen(writer, "w")
-                    status = tool.main()
-                    sys.stderr.flush()
-                finally:
-                    os._exit(status)
-            os.close(writer)
-            with os.fdopen(reader) as file:
-                told = file.read()
-            status = os.waitstatus_to_exitcode(os.waitpid(child, 0)[1])
-            if status == CAN_NOT_LEAVE_ROOT:
-                self.skipTest("root can't be left here")
-            self.assertEqual(status, 3, told)
-            self.assertTrue(told.startswith("record-deadline: "), told)
+        reader, writer = os.pipe()
+        child = os.fork()
+        if child == 0:
+            status = CAN_NOT_LEAVE_ROOT
+            try:
+                leave_root()
+                sys.stderr = os.fdopen(writer, "w")
+                status = command_line.main("host", ["record", "/nowhere/recording", "calc@0=6000/20000", "--seconds=0.01"])
+                sys.stderr.flush()
+            finally:
+                os._exit(status)
+        os.close(writer)
+        with os.fdopen(reader) as file:
+            told = file.read()
+        status = os.waitstatus_to_exitcode(os.waitpid(child, 0)[1])
+        if status == CAN_NOT_LEAVE_ROOT:
+            self.skipTest("root can't be left here")
+        self.assertEqual((status, told != ""), (3, True), told)
 
 
 if __name__ == "__main__":
