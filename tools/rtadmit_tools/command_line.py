@@ -110,6 +110,11 @@ def main(kind, arguments=None):
     return ended(lambda: module.run(given), getattr(module, "REFUSED", 1))
 
 
+def several(parser, option, metavar, told, **more):
+    """An option that may be given several times."""
+    parser.add_argument(option, action="append", default=[], metavar=metavar, help=f"{told}; may be given several times", **more)
+
+
 def pairs(words, option, order="first"):
     """The words KEY=VALUE of an option as a map, where neither a key nor a value stands twice; `order` says which = counts."""
     found = {}

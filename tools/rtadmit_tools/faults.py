@@ -6,6 +6,7 @@ import csv
 import difflib
 import functools
 import io
+import itertools
 import json
 import math
 import pathlib
@@ -16,13 +17,11 @@ from dataclasses import dataclass
 from .command_line import TOP, Refused
 from .formulas import SCHEDS
 from .places import Places, spots
-from .system_file import LIMIT, NAME
+from .system_file import LIMIT, NAME, read_system
 
 FAULT = re.compile(r"fault=(\w+)(?: at=(.+?))?(?: row=(\d+))?(?: core=(\S+))? file=([12])")
 KINDS = {key: kind for kind, keys in ((str, "name parent sched"), (bool, "extra"), (list, "core part task")) for key in keys.split()}
-CALLED = {str: "text", bool: "true or false", int: "a whole number", float: "a number with a point", list: "an array", dict: "a table"}
-NOT_TOML = """It is no document in TOML, or passes a limit: 80 brackets in one another, 80 parts of a key, whole numbers of 64 bits with
-their sign, and one byte order mark."""
+CALLED = {str: "text", bool: "a truth value", int: "a whole number", float: "a number with a point", list: "an array", dict: "a table"}
 
 
 @dataclass
@@ -53,32 +52,30 @@ def rule_of(page, heading, word):
 
 
 @functools.cache
-def tables():
+def tables_of_page():
     """The keys of each table of a system file in order, with what is said of them: of the top, a core, a part and a task."""
-    found = []
-    for cells in rows_of("formats.md", "System file"):
-        if cells == ["Key", "Value"]:
-            found.append({})
-        elif set(cells[0]) != {"-"}:
-            found[-1][cells[0]] = cells[1]
-    return dict(zip(("top", "core", "part", "task"), found))
+    rows = rows_of("formats.md", "System file")
+    starts = [place for place, cells in enumerate(rows) if cells == ["Key", "Value"]]
+    return [dict(rows[start + 2:end]) for start, end in zip(starts, [*starts[1:], len(rows)])]
+
+
+def keys_of(spot):
+    """The keys of the table at a spot, with what the page says of them."""
+    return tables_of_page()[3 if " task " in spot else ("top", "core", "part").index(spot.split()[0])]
 
 
 # A system file
 
 
 def shown(value):
-    return json.dumps(value) if isinstance(value, (str, bool)) else str(value) if isinstance(value, (int, float)) else CALLED.get(type(value), "a time")
+    told = json.dumps(value) if isinstance(value, (str, bool)) else str(value)
+    return told if isinstance(value, (str, int, float)) else CALLED.get(type(value), "a time")
 
 
 def near(word, words):
     """What may have been meant."""
     meant = difflib.get_close_matches(str(word), list(words), 1, 0.7)
     return f"; {meant[0]} may be meant" if meant else ""
-
-
-def kind_of(spot):
-    return "task" if " task " in spot else spot.split()[0]
 
 
 def bounds(key, table):
@@ -118,7 +115,7 @@ def faults_of_value(key, value, table, spot, tree):
     elif key == "sched" and value not in SCHEDS:
         yield "OutOfRange", f"{shown(value)} is none of {', '.join(SCHEDS)}"
     elif KINDS.get(key) is list:
-        most = int(re.search(r"(\d+) tables", tables()[kind_of(spot)][key])[1])
+        most = int(re.search(r"(\d+) tables", keys_of(spot)[key])[1])
         if key == "core" and not value:
             yield "Empty", "there is no core"
         if len(value) > most:
@@ -132,13 +129,14 @@ def faults_of_table(spot, table, tree):
     if not isinstance(table, dict):
         yield Found("WrongKind", None, f"{shown(table)} is no table")
         return
-    keys = dict(tables()[kind_of(spot)])
+    keys = dict(keys_of(spot))
     if tree.get("format") == 1:
         keys.pop("jitter", None)
     for key in table:
         if key not in keys:
-            late = "jitter is a key of format 2" if key == "jitter" else f"{key} is no key here{near(key, keys)}; the keys are {', '.join(keys)}"
-            yield Found("UnknownKey", key, late)
+            late = key == "jitter" and " task " in spot
+            other = f"{key} is no key here{near(key, keys)}; the keys are {', '.join(keys)}"
+            yield Found("UnknownKey", key, "jitter is a key of format 2" if late else other)
     pair = {"supply_period", "supply_budget"}
     for key, rule in keys.items():
         wanted = KINDS.get(key, int)
@@ -146,12 +144,13 @@ def faults_of_table(spot, table, tree):
             if rule.startswith("required") or key in pair and pair & set(table):
                 yield Found("MissingKey", key, f"{key} is not there")
         elif type(table[key]) is not wanted:
-            yield Found("WrongKind", key, f"{shown(table[key])} is {CALLED.get(type(table[key]), 'a time')}, and {CALLED[wanted]} is asked")
+            cause = f"{shown(table[key])} is {CALLED.get(type(table[key]), 'a time')}, and {CALLED[wanted]} is asked"
+            yield Found("WrongKind", key, cause)
         else:
             for word, cause in faults_of_value(key, table[key], table, spot, tree):
                 yield Found(word, key, cause)
-    parents = [part.get("parent") for other, part in spots(tree) if kind_of(other) == "part" and isinstance(part, dict)]
-    if kind_of(spot) == "part" and not table.get("task") and table.get("name") not in parents:
+    parents = [part.get("parent") for _, part in spots(tree) if isinstance(part, dict)]
+    if "task" in keys and not table.get("task") and table.get("name") not in parents:
         yield Found("Empty", "task", "it has no task, and no part stands on it")
 
 
@@ -177,43 +176,39 @@ def text_fault(data):
 
 def of_system(path, word, spot, core):
     """What is told of a fault of a system file."""
-    data = pathlib.Path(path).read_bytes()
+    data, rule = pathlib.Path(path).read_bytes(), rule_of("formats.md", "Faults of a system file", word)
     if word == "NotToml":
         found = text_fault(data)
-        return told(path, "", found, NOT_TOML, found and found.line)
+        return told(path, "", found, f"{word}: {rule}. The limits stand in docs/formats.md, \"System file\".", found and found.line)
     try:
         text = data.decode().removeprefix("\ufeff")
         tree = tomllib.loads(text)
     except ValueError as fault:
-        return [f"{path}: spelled in a way of TOML 1.1 that this tool does not read ({fault}), so it finds no line.", rule_line(word, rule_of("formats.md", "Faults of a system file", word))]
-    places, tables_by_spot = Places(text), dict(spots(tree))
+        return [f"{path}: spelled in a way of TOML 1.1 that this tool does not read ({fault}), so it finds no line.", f"{word}: {rule}"]
+    tables = dict(spots(tree))
     if word == "NotRtds":
-        spot = next((other for other, table in tables_by_spot.items() if other.startswith("core") and table.get("name") == core), "top")
-        key = next((key for key in ("supply_period", "sched") if key in tables_by_spot[spot]), None)
+        spot = next((other for other, table in tables.items() if other.startswith("core") and table.get("name") == core), "top")
+        key = next((key for key in ("supply_period", "sched") if key in tables[spot]), None)
         found = Found(word, key, "a core under RTDS is under edf and has no supply of its own")
-        return told(path, named(spot, tables_by_spot[spot]), found, "", places.line(spot, key))
-    found = next((found for found in faults_of_table(spot, tables_by_spot.get(spot), tree) if found.word == word), None)
-    key = found and found.key
-    rule = tables()[kind_of(spot)].get(key)
-    rule = f"{key}: {rule}" if rule else rule_line(word, rule_of("formats.md", "Faults of a system file", word))
-    return told(path, named(spot, tables_by_spot.get(spot)), found, rule, places.line(spot, key))
+    else:
+        candidates = faults_of_table(spot, tables[spot], tree) if spot in tables else ()
+        found = next((found for found in candidates if found.word == word), None)
+    key, name = found and found.key, listed_name(tables.get(spot))
+    own = keys_of(spot).get(key)
+    where = f"{spot}, {name}" if name else "the top table" if spot == "top" else spot
+    return told(path, where, found, f"{key}: {own}" if own else f"{word}: {rule}", Places(text).line(spot, key))
 
 
-def named(spot, table):
+def listed_name(table):
     name = table.get("name") if isinstance(table, dict) else None
-    return f"{spot}, {name}" if isinstance(name, str) else "the top table" if spot == "top" else spot
-
-
-def rule_line(word, rule):
-    return f"{word}: {rule}" if rule else word
+    return name if isinstance(name, str) else None
 
 
 def told(path, where, found, rule, line):
     """The lines of a fault: where it stands, what is wrong, and the rule."""
-    place = f"{path}:{line}: " if line else f"{path}: "
-    where = f"{where}, {found.key}" if found and found.key else where
+    place, where = f"{path}:{line}: " if line else f"{path}: ", ", ".join(filter(None, [where, found and found.key]))
     cause = found.cause if found else "this tool finds no such fault there by its own reading"
-    return [f"{place}{where}{': ' if where else ''}{cause}.", *([rule] if rule else [])]
+    return [f"{place}{where}{': ' if where else ''}{cause}.", rule]
 
 
 # A second file of rows
@@ -222,16 +217,16 @@ def told(path, where, found, rule, line):
 PLAIN = re.compile("0|[1-9][0-9]*")
 
 
-@dataclass
 class Row:
-    """A row of a file of comma-separated values: its line, and its fields."""
+    """A row of a file of comma-separated values: its line, and its fields by the keys of the header."""
 
-    line: int
-    fields: list
-    keys: list
+    __slots__ = ("line", "fields", "keys")
+
+    def __init__(self, line, fields, keys):
+        self.line, self.fields, self.keys = line, fields, keys
 
     def __getattr__(self, key):
-        return self.fields[self.keys.index(key)] if key in self.keys and self.keys.index(key) < len(self.fields) else ""
+        return dict(zip(self.keys, self.fields)).get(key, "")
 
 
 class Rows:
@@ -240,14 +235,15 @@ class Rows:
     heads, heading, limit = (), "", LIMIT
 
     def __init__(self, text, number, tree):
-        reader = csv.reader(io.StringIO(text.removeprefix("\ufeff"), newline=""))
-        rows = [(reader.line_num, fields) for fields in reader if fields]
-        self.keys = rows[0][1] if rows else []
-        self.rows = [Row(line, fields, self.keys) for line, fields in rows]
+        csv.field_size_limit(len(text) + 1)
+        reader, self.keys = csv.reader(io.StringIO(text.removeprefix("\ufeff"), newline="")), []
+        rows = ((reader.line_num, fields) for fields in reader if fields)
+        self.rows = [Row(line, fields, self.keys) for line, fields in itertools.islice(rows, number)]
+        self.keys += self.rows[0].fields if self.rows else []
         self.above, self.row = self.rows[1:number - 1], self.rows[number - 1] if number <= len(self.rows) else None
-        self.parts = {part.get("name"): part for part in tree.get("part", [])} if tree else {}
-        self.cores = [core.get("name") for core in tree["core"]] if tree else []
-        self.vcpus = {name: part for name, part in self.parts.items() if part.get("parent") in self.cores}
+        self.parts = {part["name"]: part for part in tree.get("part", [])} if tree else {}
+        self.cores = [core["name"] for core in tree["core"]] if tree else []
+        self.vcpus = {name: part for name, part in self.parts.items() if part["parent"] in self.cores}
 
     def last(self, **wanted):
         """The last row above with these values; a set stands for each of its own."""
@@ -256,7 +252,8 @@ class Rows:
 
     def faults(self):
         if ",".join(self.keys) not in self.heads:
-            yield Found("BadHeader", None, f"{','.join(self.keys) or 'nothing'} is the header, and {' or '.join(self.heads)} is asked")
+            header = ",".join(self.keys) or "nothing"
+            yield Found("BadHeader", None, f"{header} is the header, and {' or '.join(self.heads)} is asked")
         elif self.row is None:
             yield from self.at_end()
         elif end := self.last(what="end"):
@@ -329,7 +326,7 @@ class Trace(Rows):
             ("wake block run", not start, "NotStarted", f"{row.vcpu} was not started"),
             ("wake", last and last.what != "block", "NotBlocked", f"{row.vcpu} is runnable{since}"),
             ("block run", last and last.what == "block", "NotRunnable", f"{row.vcpu} is blocked{since}"),
-            ("block", holder and holder.vcpu == row.vcpu, "StillRunning", f"{row.vcpu} has the core since line {holder and holder.line}: a stop, or a run of another VCPU, goes before"),
+            ("block", holder and holder.vcpu == row.vcpu, "StillRunning", f"{row.vcpu} has the core since line {holder and holder.line}"),
             ("stop", not holder or holder.what == "stop", "CoreIdle", f"nothing has {row.core}"),
         )
         yield from (Found(word, "what", cause) for whats, holds, word, cause in checks if holds and row.what in whats.split())
@@ -349,7 +346,8 @@ class Workload(Rows):
         told = f"its row before is {last.what} at {last.at}, on line {last.line}" if last else "it has no row before"
         after = {"start": [""], "wake": ["block"], "block": ["start", "wake"]}.get(row.what, [])
         if (last.what if last else "") not in after or last and last.at == row.at:
-            yield Found("BadOrder", "at" if last and last.at == row.at else "what", f"{row.what} of {row.vcpu}: {told}")
+            key = "at" if last and last.at == row.at else "what"
+            yield Found("BadOrder", key, f"{row.what} of {row.vcpu}: {told}")
 
 
 class Releases(Rows):
@@ -373,7 +371,8 @@ class Releases(Rows):
         arrived = lambda row: int(row.at) - int(row.early or 0)
         for last in self.above:
             if (last.part, last.task) == (row.part, row.task) and arrived(row) < arrived(last) + task["period"]:
-                yield Found("TooEarly", "at", f"it arrives at {arrived(row)}, and the job on line {last.line} at {arrived(last)}: {task['period']} apart is asked")
+                when = f"it arrives at {arrived(row)}, and the job on line {last.line} at {arrived(last)}"
+                yield Found("TooEarly", "at", f"{when}: {task['period']} apart is asked")
 
 
 class Script(Rows):
@@ -454,7 +453,11 @@ class Certificate:
     """A certificate, as `check` reads it."""
 
     heads, words = ("{",), ("check",)
-    KEYS = ("budget", "computed", "falls", "hits", "kind", "period", "place", "points", "witness")
+    KEYS = {
+        "budget": ("number", 64), "computed": ("truth",), "falls": ("list of number", 64), "hits": ("list of number", 64),
+        "kind": ("word",), "period": ("number", 64), "place": ("number", 32), "points": ("list of text", 128),
+        "witness": ("text or null", 128),
+    }
 
     def __init__(self, text):
         self.text = text
@@ -469,66 +472,58 @@ class Certificate:
             yield Found("NotJson", None, "it begins with a byte order mark", 1)
         try:
             tree = json.loads(self.text.removeprefix("\ufeff"), parse_int=number, parse_float=number, parse_constant=number)
-        except json.JSONDecodeError as fault:
-            yield Found("NotJson", None, f"{fault.msg}, at column {fault.colno}", fault.lineno)
-            return
         except (ValueError, RecursionError) as fault:
-            yield Found("NotJson", None, str(fault))
+            known = isinstance(fault, json.JSONDecodeError)
+            yield Found("NotJson", None, f"{fault.msg}, at column {fault.colno}" if known else str(fault), fault.lineno if known else None)
             return
+        yield from self.keys_of("the top", tree, {"format", "nodes"})
         if not isinstance(tree, dict) or set(tree) != {"format", "nodes"}:
-            yield Found("WrongShape", None, "the top is no object with the two keys format and nodes alone")
             return
-        yield from self.number("format", tree["format"], 2)
+        yield from self.value("format", tree["format"], "number", 64)
         if isinstance(tree["format"], Number) and tree["format"] != "1":
             yield Found("BadNumber", "format", f"{tree['format']} is not 1")
-        if not isinstance(tree["nodes"], list):
+        nodes = tree["nodes"] if isinstance(tree["nodes"], list) else []
+        if nodes is not tree["nodes"]:
             yield Found("WrongShape", "nodes", "no array")
-        elif len(tree["nodes"]) > 576:
-            yield Found("TooMany", "nodes", f"there are {len(tree['nodes'])}, and there may be 576")
-        else:
-            for place, node in enumerate(tree["nodes"], 1):
-                yield from self.node(f"node {place}", node)
-
-    def node(self, at, node):
-        if not isinstance(node, dict) or set(node) != set(self.KEYS):
-            wrong = sorted(set(self.KEYS) ^ set(node)) if isinstance(node, dict) else ["no object"]
-            yield Found("WrongShape", at, f"it is no object with its nine keys alone: {', '.join(wrong)}")
-            return
-        for key in self.KEYS:
-            value, where = node[key], f"{at}, {key}"
-            if key in ("budget", "period", "place"):
-                yield from self.number(where, value, 2**32 if key == "place" else 2**64)
-            elif key in ("falls", "hits", "points"):
-                if not isinstance(value, list):
-                    yield Found("WrongShape", where, "no array")
-                    continue
-                for place, element in enumerate(value, 1):
-                    test = self.decimal if key == "points" else self.number
-                    yield from test(f"{where} {place}", element, 2**128 if key == "points" else 2**64)
-            elif key == "witness" and value is not None:
-                yield from self.decimal(where, value, 2**128)
-            elif key == "computed" and not isinstance(value, bool) or key == "kind" and value not in ("part", "core"):
-                yield Found("WrongShape", where, f"{shown(value)} stands there")
+        if len(nodes) > 576:
+            yield Found("TooMany", "nodes", f"there are {len(nodes)}, and there may be 576")
+        for place, node in enumerate(nodes, 1):
+            yield from self.keys_of(f"node {place}", node, set(self.KEYS))
+            for key, (kind, *bits) in self.KEYS.items() if isinstance(node, dict) else ():
+                if key in node:
+                    yield from self.value(f"node {place}, {key}", node[key], kind, *bits)
 
     @staticmethod
-    def number(where, value, end):
-        if not isinstance(value, Number):
-            yield Found("WrongShape", where, "no number")
-        elif not PLAIN.fullmatch(value) or int(value) >= end:
-            yield Found("BadNumber", where, f"{value} is no whole number below {end}")
+    def keys_of(where, value, keys):
+        if not isinstance(value, dict) or set(value) != keys:
+            wrong = ", ".join(sorted(keys ^ set(value))) if isinstance(value, dict) else "no object"
+            yield Found("WrongShape", where, f"it is no object with its {len(keys)} keys alone: {wrong}")
 
-    @staticmethod
-    def decimal(where, value, end):
-        if not isinstance(value, str) or isinstance(value, Number):
-            yield Found("WrongShape", where, "no text")
-        elif not (PLAIN.fullmatch(value) and int(value) < end):
-            yield Found("BadNumber", where, f"{shown(value)} is no plain decimal number below {end}")
+    def value(self, where, value, kind, bits=0):
+        """The faults of a value: a number or a text of one below a power of two, a list of such, or a word."""
+        if kind.startswith("list of "):
+            if not isinstance(value, list):
+                yield Found("WrongShape", where, "no array")
+            for place, element in enumerate(value if isinstance(value, list) else [], 1):
+                yield from self.value(f"{where} {place}", element, kind.removeprefix("list of "), bits)
+        elif kind in ("number", "text"):
+            if not isinstance(value, str) or isinstance(value, Number) != (kind == "number"):
+                yield Found("WrongShape", where, f"no {kind}")
+            elif not PLAIN.fullmatch(value) or int(value) >= 2**bits:
+                told = shown(str(value)) if kind == "text" else value
+                yield Found("BadNumber", where, f"{told} is no plain decimal number below 2^{bits}")
+        elif kind == "text or null" and value is not None:
+            yield from self.value(where, value, "text", bits)
+        elif kind == "truth" and not isinstance(value, bool) or kind == "word" and value not in ("part", "core"):
+            yield Found("WrongShape", where, f"{shown(value)} stands there")
 
 
 # The words
 
 
-KINDS_OF_SECOND = {"trace": Trace, "workload": Workload, "releases": Releases, "script": Script, "guests": Guests, "certificate": Certificate}
+KINDS_OF_SECOND = {
+    "trace": Trace, "workload": Workload, "releases": Releases, "script": Script, "guests": Guests, "certificate": Certificate,
+}
 
 
 def kind_of_second(text):
@@ -548,35 +543,33 @@ def words_of(kind, file, second):
     return [command, file, second, *more]
 
 
-def of_second(path, second, kind, word, row):
+def of_second(path, second, kind, word, number):
     """What is told of a fault of a second file."""
     text = pathlib.Path(second).read_bytes().decode(errors="surrogateescape")
     if kind == "certificate":
         found = next((found for found in Certificate(text).faults() if found.word == word), None)
-        key = found.key.split(", ")[-1].split()[0] if found and found.key else None
-        rule = key and rule_of("certificate.md", "The text", key)
-        return told(second, "", found, f"{key}: {rule}" if rule else "docs/certificate.md, \"The text\", has the rules.", found and found.line)
+        key = found.key.split(", ")[-1].split()[0] if found and found.key else ""
+        rule = rule_of("certificate.md", "The text", key)
+        rule = f"{key}: {rule}" if rule else 'docs/certificate.md, "The text", has the rules.'
+        return told(second, "", found, rule, found and found.line)
     try:
-        tree = tomllib.loads(pathlib.Path(path).read_bytes().decode().removeprefix("\ufeff"))
-    except ValueError:
+        tree = read_system(path).tree
+    except Refused:
         tree = None
-    rows = KINDS_OF_SECOND[kind](text, row, tree)
+    rows = KINDS_OF_SECOND[kind](text, number, tree)
     found = next((found for found in rows.faults() if found.word == word), None)
-    heading = "Guests' file" if word == "BadGuest" else rows.heading
-    rule = rule_of("formats.md", heading, word) if word != "BadGuest" else "docs/formats.md has what a guest is (\"Guests' file\", and what `place` writes)."
-    line = rows.row.line if rows.row else rows.rows[-1].line if rows.rows else 1
-    return told(second, f"row {row}", found, rule_line(word, rule) if word != "BadGuest" else rule, line)
+    rule = rule_of("formats.md", rows.heading, word) or 'docs/formats.md, "Guests\' file" and "What `place` writes", has the rules'
+    row = rows.row or (rows.rows or [Row(1, [], [])])[-1]
+    return told(second, f"row {number}", found, f"{word}: {rule}", row.line)
 
 
 def lines_of(path, second, kind, answer):
     """What is told of an answer that names a fault; refused where it names none of a file."""
     fault = FAULT.fullmatch(answer.text.strip())
     if not fault:
-        raise Refused(path if second is None else f"{path}, {second}", None, f"the program does not judge it: {answer.shown} (status {answer.status})")
+        raise Refused(second or path, None, f"the program does not judge it: {answer.shown} (status {answer.status})")
     word, spot, row, core, file = fault.groups()
-    if file == "2":
-        return of_second(path, second, kind, word, int(row or 1))
-    return of_system(path, word, spot, core)
+    return of_second(path, second, kind, word, int(row or 1)) if file == "2" else of_system(path, word, spot, core)
 
 
 REFUSED_ROW = re.compile(r"(\d+) refused (\w+)")

@@ -74,8 +74,9 @@ def rewritten(text, old, new):
     """The text of a system with the values of another one of the same tables: with all its comments where the values stand on lines of
     their own, else newly written, behind the comments of its front."""
     places = Places(text)
-    pairs = zip(spots(old.tree), spots(new.tree))
-    values = [(spot, key, other.get(key)) for (spot, table), (_, other) in pairs for key in {**table, **other} if table.get(key) != other.get(key)]
+    values = []
+    for (spot, table), (_, other) in zip(spots(old.tree), spots(new.tree)):
+        values += [(spot, key, other.get(key)) for key in {**table, **other} if table.get(key) != other.get(key)]
     told = places.edited([edit for edit in values if not isinstance(edit[2], list)])
     if told is not None and is_spelled(told, new.tree):
         return told

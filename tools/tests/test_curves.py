@@ -1,17 +1,16 @@
-"""Tests of tools/curves: its formulas against their definitions, what it marks, what it refuses, and that its texts fit."""
-import contextlib
-import io
-import pathlib
+"""Tests of curves: the formulas against their definitions, what it marks, what it refuses, and that its texts fit."""
 import random
-import re
-import tempfile
 import time
 import unittest
 import xml.dom.minidom
 
-from load import load, program, top
+from support import Room, program, run, top, verb
+from rtadmit_tools import formulas
+from rtadmit_tools.formulas import Task
+from rtadmit_tools.svg import Canvas, Plot
+from rtadmit_tools.system_file import Node
 
-tool = load("curves")
+tool = verb("host", "curves")
 HEAD = 'format = 2\n[[core]]\nname = "cpu0"\nsched = "edf"\n'
 XEN = """verdict=yes
 part Domain-0-0 period=10000 budget=4000 given
@@ -43,29 +42,12 @@ def yes(budget, told="", period=10, how="computed", name="leaf"):
 
 
 class Case(unittest.TestCase):
-    def setUp(self):
-        scratch = tempfile.TemporaryDirectory()
-        self.addCleanup(scratch.cleanup)
-        self.room = pathlib.Path(scratch.name)
-
     def run_tool(self, system, name, answer, *words, status=0):
         """The status, the picture and standard error, with a program that answers so."""
-        file, asked, out = self.room / "system.toml", self.room / "program", self.room / "out.svg"
-        out.unlink(missing_ok=True)
-        if isinstance(system, str):
-            file.write_text(system)
-        else:
-            file = system
-        (self.room / "answer").write_text(answer)
-        asked.write_text(f'#!/bin/sh\n[ "$1" = admit ] && cat "{self.room}/answer"\nexit {status}\n')
-        asked.chmod(0o755)
-        err = io.StringIO()
-        with contextlib.redirect_stderr(err):
-            try:
-                ended = tool.main([str(file), name, str(out), f"--program={asked}", *words])
-            except SystemExit as left:
-                ended = left.code
-        return ended, out.read_text() if out.exists() else None, err.getvalue()
+        room = Room(self)
+        file, out = room.file("system.toml", system) if isinstance(system, str) else system, room.folder / "out.svg"
+        ended, _, err = run("host", "curves", file, name, out, "--program", room.answering(answer, status), *words)
+        return ended, out.read_text() if out.exists() else None, err
 
     @staticmethod
     def texts(picture):
@@ -93,7 +75,7 @@ class Formulas(unittest.TestCase):
                 given = [at < budget or (at >= period and at % period >= period - budget) for at in range(8 * period)]
                 for window in range(1, 5 * period):
                     least = min(sum(given[at:at + window]) for at in range(2 * period))
-                    self.assertEqual(tool.supply(period, budget, window), least, (period, budget, window))
+                    self.assertEqual(formulas.supply(period, budget, window), least, (period, budget, window))
 
     def test_demand_and_request_are_sums_over_jobs(self):
         """Jobs arrive their whole jitter before the window begins, and then as often as they may."""
@@ -103,28 +85,28 @@ class Formulas(unittest.TestCase):
             for number in range(chance.randint(1, 4)):
                 period = chance.randint(1, 9)
                 deadline = chance.randint(1, period)
-                tasks.append(tool.Task(str(number), period, deadline, chance.randint(1, 3), chance.randint(0, deadline - 1)))
+                tasks.append(Task(str(number), period, deadline, chance.randint(1, 3), chance.randint(0, deadline - 1)))
             window = chance.randint(1, 40)
             arrivals = lambda task: range(-task.jitter, window, task.period)
             due = sum(task.work for task in tasks for at in arrivals(task) if at + task.deadline <= window)
             before = sum(task.work for task in tasks[1:] for _ in arrivals(task))
-            self.assertEqual(tool.demand(tasks, window), due)
-            self.assertEqual(tool.request(tasks[0], tasks[1:], window), tasks[0].work + before)
+            self.assertEqual(formulas.demand(tasks, window), due)
+            self.assertEqual(formulas.request(tasks[0], tasks[1:], window), tasks[0].work + before)
 
     def test_first_enough_is_the_least_window(self):
         chance = random.Random(2)
         for _ in range(300):
             period = chance.randint(1, 8)
             budget, room = chance.randint(1, period), chance.randint(1, 60)
-            task, above = tool.Task("t", 99, 60, chance.randint(1, 9), 0), [tool.Task("u", chance.randint(4, 20), 4, chance.randint(1, 4), chance.randint(0, 3))]
-            asked = lambda window: tool.request(task, above, window)
-            wanted = next((window for window in range(1, room + 1) if asked(window) <= tool.supply(period, budget, window)), 0)
-            self.assertEqual(tool.first_enough(asked, period, budget, room), wanted)
+            task, above = Task("t", 99, 60, chance.randint(1, 9), 0), [Task("u", chance.randint(4, 20), 4, chance.randint(1, 4), chance.randint(0, 3))]
+            asked = lambda window: formulas.request(task, above, window)
+            wanted = next((window for window in range(1, room + 1) if asked(window) <= formulas.supply(period, budget, window)), 0)
+            self.assertEqual(formulas.first_enough(asked, period, budget, room), wanted)
 
     def test_ranks(self):
-        tasks = [tool.Task("a", 9, 5, 1, 0), tool.Task("b", 7, 6, 1, 0), tool.Task("c", 7, 5, 1, 0)]
+        tasks = [Task("a", 9, 5, 1, 0), Task("b", 7, 6, 1, 0), Task("c", 7, 5, 1, 0)]
         for sched, ranks in (("rm", [1, 2, 0]), ("dm", [0, 2, 1]), ("listed", [0, 1, 2])):
-            self.assertEqual(tool.Leaf("leaf", sched, 10, None, tasks).ranks(), ranks)
+            self.assertEqual(formulas.ranks(sched, tasks), ranks)
 
 
 class Pictures(Case):
@@ -143,9 +125,10 @@ class Pictures(Case):
 
     def test_each_step_is_drawn(self):
         """Every window of a small picture: the demand rises at 50 and 75 alone, from 0 to 7 and to 16."""
-        curves = tool.Curves(tool.Leaf("leaf", "edf", 10, None, [tool.Task("t1", 50, 50, 7, 0), tool.Task("t2", 75, 75, 9, 0)]), tool.Told(3, True, 75, None, 2), None)
-        plot = tool.Plot("all", 0, 0, 100, (0, 88), (0, 100))
-        self.assertEqual(plot.path(curves.curves()[-1], (75,)), "M0.00 100.00H500.00V93.00H750.00V84.00H880.00")
+        leaf = Node("part", "leaf", "edf", 10, None, tasks=[Task("t1", 50, 50, 7, 0), Task("t2", 75, 75, 9, 0)])
+        curves = tool.Curves(leaf, tool.Told(3, True, 75, None, 2), None)
+        plot = Plot(Canvas(), 0, 0, 880, 100, (0, 88), (0, 100))
+        self.assertEqual(tool.steps(plot, curves.curves()[-1], (75,)), "M0.00 100.00H500.00V93.00H750.00V84.00H880.00")
 
     def test_fixed_priority(self):
         """Under rm the leaf needs 4 slots: the request of t2 is 16, then 23 from 51 on; with 4 slots it is met in 46."""
@@ -197,15 +180,14 @@ class Pictures(Case):
         ended, picture, err = self.run_tool(top / "examples/xen.toml", "audio-0", XEN)
         self.assertEqual((ended, err), (0, ""))
         self.assertEqual(picture, (top / "docs/curves.svg").read_text())
-        self.assertIn("tools/curves examples/xen.toml audio-0 docs/curves.svg", (top / "docs/guide.md").read_text())
+        self.assertIn("curves examples/xen.toml audio-0 docs/curves.svg", (top / "docs/guide.md").read_text())
 
     @unittest.skipUnless(program(), "no program is built")
     def test_with_the_program(self):
-        out = self.room / "out.svg"
-        self.assertEqual(tool.main([str(top / "examples/xen.toml"), "audio-0", str(out), f"--program={program()}"]), 0)
-        self.assertEqual(out.read_text(), (top / "docs/curves.svg").read_text())
-        for system, name in (("xen", "video-0"), ("xen", "Domain-0-0"), ("rate", "leaf"), ("rate-short", "leaf"), ("jitter", "leaf"), ("frames", "guest")):
-            self.assertEqual(tool.main([str(top / f"examples/{system}.toml"), name, str(out), f"--program={program()}"]), 0, name)
+        out = Room(self).folder / "out.svg"
+        for system, name in (("xen", "audio-0"), ("xen", "video-0"), ("xen", "Domain-0-0"), ("rate", "leaf"), ("rate-short", "leaf"), ("jitter", "leaf"), ("frames", "guest")):
+            self.assertEqual(run("host", "curves", top / f"examples/{system}.toml", name, out, "--program", program()), (0, "", ""), name)
+            self.assertEqual(out.read_text() == (top / "docs/curves.svg").read_text(), name == "audio-0")
 
 
 class Wide(Case):
@@ -247,43 +229,26 @@ class Wide(Case):
 
 
 class Refusals(Case):
-    def refused(self, cause, system, name, answer, *words, status=0):
-        ended, picture, err = self.run_tool(system, name, answer, *words, status=status)
-        self.assertEqual((ended, picture), (1, None))
-        self.assertIn(cause, err)
-
-    def test_a_window_that_is_not_short(self):
-        cause = "the curves are not those of the program's answer"
-        self.refused(cause, LEAF, "leaf", yes(3, witness(2, 74)))
-        self.refused(cause, LEAF, "leaf", yes(3, witness(2, 0)))
-        self.refused(cause, LEAF, "leaf", yes(4, witness(3, 75)))
-        self.refused(cause, LEAF, "leaf", yes(2, witness(1, 75)))
-        self.refused(cause, RATE, "leaf", yes(4, witness(3, 74, "t2")))
-        self.refused(cause, RATE, "leaf", yes(4, witness(3, 50, "t1")))
-        self.refused(cause, RATE, "leaf", yes(3, witness(2, 75, "t2")))
-        self.refused(cause, LEAF.replace("period = 10\n", "period = 10\nbudget = 3\n"), "leaf", "verdict=no\noverfull part leaf at=75\n", status=1)
-
-    def test_an_answer_that_is_not_of_the_file(self):
-        self.refused("tells a period of 20", LEAF, "leaf", yes(3, witness(2, 75), period=20))
-        self.refused("no window that is short with 2 slots", LEAF, "leaf", yes(3))
-        self.refused("no window that is short with 2 slots", LEAF, "leaf", yes(3, witness(1, 75)))
-        self.refused("tells nothing of leaf", LEAF, "leaf", "verdict=yes\n")
-        self.refused("leaf has no task t9", RATE, "leaf", yes(4, witness(3, 75, "t9")))
-        self.refused("is under edf", LEAF, "leaf", yes(3, witness(2, 75, "t1")))
-
-    def test_no_budget_is_told(self):
-        self.refused("`overfull core cpu0 at=20`, and tells no budget of leaf", LEAF, "leaf", "verdict=no\noverfull core cpu0 at=20\n", status=1)
-        self.refused("`overfull part other task=t`", LEAF, "leaf", "verdict=no\noverfull part other task=t\n", status=1)
-        self.refused("wide part leaf (status 4)", LEAF, "leaf", "verdict=wide\nwide part leaf\n", status=4)
-        self.refused("fault=NotToml file=1 (status 3)", LEAF, "leaf", "fault=NotToml file=1\n", status=3)
-
-    def test_words(self):
-        self.refused("it has no part other", LEAF, "other", yes(3))
-        self.refused("no system file", "part = 3\n", "leaf", yes(3))
-        self.refused("no system file", "[[part]\n", "leaf", yes(3))
-        self.refused("mid has no tasks", HEAD + part("mid", "edf", 10, []), "mid", yes(3))
-        self.refused("its curve is of all tasks, not of t1", LEAF, "leaf", yes(3, witness(2, 75)), "--task=t1")
-        self.refused("No such file", self.room / "absent", "leaf", yes(3))
+    def test_what_is_refused(self):
+        cause, no = "the curves are not those of the program's answer", "verdict=no\noverfull "
+        for told, system, answer, *more in (
+            (cause, LEAF, yes(3, witness(2, 74))), (cause, LEAF, yes(3, witness(2, 0))), (cause, LEAF, yes(4, witness(3, 75))), (cause, LEAF, yes(2, witness(1, 75))),
+            (cause, RATE, yes(4, witness(3, 74, "t2"))), (cause, RATE, yes(4, witness(3, 50, "t1"))), (cause, RATE, yes(3, witness(2, 75, "t2"))),
+            (cause, LEAF.replace("period = 10\n", "period = 10\nbudget = 3\n"), f"{no}part leaf at=75\n", 1),
+            ("tells a period of 20", LEAF, yes(3, witness(2, 75), period=20)), ("no window that is short with 2 slots", LEAF, yes(3)),
+            ("no window that is short with 2 slots", LEAF, yes(3, witness(1, 75))), ("tells nothing of leaf", LEAF, "verdict=yes\n"),
+            ("leaf has no task t9", RATE, yes(4, witness(3, 75, "t9"))), ("is under edf", LEAF, yes(3, witness(2, 75, "t1"))),
+            ("`overfull core cpu0 at=20`, and tells no budget of leaf", LEAF, f"{no}core cpu0 at=20\n", 1), ("`overfull part other task=t`", LEAF, f"{no}part other task=t\n", 1),
+            ("wide part leaf (status 4)", LEAF, "verdict=wide\nwide part leaf\n", 4), ("fault=NotToml file=1 (status 3)", LEAF, "fault=NotToml file=1\n", 3),
+            ("it has no part leaf", HEAD, yes(3)), ("no system file", "part = 3\n", yes(3)), ("this tool does not read", "[[part]\n", yes(3)),
+            ("leaf has no tasks", HEAD + part("leaf", "edf", 10, []), yes(3)), ("its curve is of all tasks, not of t1", LEAF, yes(3, witness(2, 75)), 0, "--task=t1"),
+            ("No such file", top / "absent", yes(3)),
+        ):
+            with self.subTest(told):
+                status, words = (more or [0])[0], more[1:]
+                ended, picture, err = self.run_tool(system, "leaf", answer, *words, status=status)
+                self.assertEqual((ended, picture), (1, None))
+                self.assertIn(told, err)
         self.assertEqual(self.run_tool(LEAF, "leaf", yes(3), "--other")[0], 2)
 
 

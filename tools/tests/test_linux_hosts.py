@@ -1,13 +1,13 @@
-"""Tests of tools/from-linux and tools/to-linux, over what chrt and taskset print of real threads of the machine at hand."""
+"""Tests of from-linux and to-linux, over what chrt and taskset print of real threads of the machine at hand."""
 import os
 import re
 import tomllib
 import unittest
 from unittest import mock
 
-from hosts import Room, load, program, recorded, run, top
+from support import Room, program, recorded, run, top, verb
 
-from_linux, to_linux = load("from-linux"), load("to-linux")
+from_linux = verb("host", "from-linux")
 THREADS = top / "examples" / "linux" / "threads.txt"
 UNBOUND = recorded / "linux-unbound.txt"
 
@@ -23,18 +23,15 @@ def thread(tid, name, runtime=6000000, period=20000000, deadline=None, cpus="3",
 
 class FromLinux(unittest.TestCase):
     def made(self, text, *words):
-        status, out, err = run(from_linux, Room(self).file("record", text), *words)
+        status, out, err = run("host", "from-linux", Room(self).file("record", text), *words)
         self.assertEqual((status, err), (0, ""))
         return out
 
-    def refused(self, cause, text, *words):
-        room = Room(self)
-        status, out, err = run(from_linux, room.file("record", text), *words)
-        self.assertEqual((status, out), (1, ""))
-        self.assertIn(cause, err.replace(f"{room.folder}/", ""))
+    def parts(self, *given, key="name"):
+        return [part.get(key) for part in tomllib.loads(self.made(*given))["part"]]
 
     def test_the_recorded_threads(self):
-        """They were made by tools/record-deadline with the reservations of examples/linux/reserved.toml."""
+        """They were made by tools/host record with the reservations of examples/linux/reserved.toml."""
         told = tomllib.loads(self.made(THREADS.read_text(), "--stand-in", "log"))
         file = tomllib.loads((top / "examples/linux/reserved.toml").read_text())
         self.assertEqual(told["core"], file["core"])
@@ -42,69 +39,65 @@ class FromLinux(unittest.TestCase):
         self.assertEqual([{key: part[key] for key in keys} for part in told["part"]], [{key: part[key] for key in keys} for part in file["part"]])
         self.assertEqual(["sched" in part for part in told["part"]], [False, False, False, False, True])
 
-    def test_threads_that_are_not_bound(self):
-        status, out, err = run(from_linux, UNBOUND)
-        self.assertEqual((status, out), (1, ""))
-        self.assertEqual(err, f"{UNBOUND}:1: thread 27776 (sleep) may use the processors 0-3: give it one of its own by a cpuset (docs/guide.md)\n")
-
-    def test_a_deadline_below_the_period(self):
-        bound = UNBOUND.read_text().replace("list: 0-3", "list: 2")
-        self.refused("record:6: thread 27777 (sleep) has a deadline of 10000000 ns, below its period of 20000000", bound)
-
-    def test_no_whole_microseconds(self):
-        bound = UNBOUND.read_text().replace("list: 0-3", "list: 2").replace("1000000/10000000/", "1000000/20000000/")
-        self.refused("record:11: thread 27778 (CPU 0/KVM) has a runtime of 2500001 ns", bound)
-        self.refused("(a) has a period of 20000001 ns", thread(7, "a", period=20000001))
-
     def test_names(self):
         text = thread(7, "CPU 0/KVM") + thread(8, "CPU 0/KVM", cpus="2") + thread(9, "cpu3") + thread(10, "9p") + thread(11, "work er")
-        names = [part["name"] for part in tomllib.loads(self.made(text))["part"]]
-        self.assertEqual(names, ["CPU-0-KVM-7", "CPU-0-KVM-8", "cpu3-9", "thread-10", "work-er"])
-        names = [part["name"] for part in tomllib.loads(self.made(text, "--name", "7=audio-0", "--name", "10=work-er"))["part"]]
-        self.assertEqual(names, ["audio-0", "CPU-0-KVM-8", "cpu3-9", "work-er", "work-er-11"])
+        self.assertEqual(self.parts(text), ["CPU-0-KVM-7", "CPU-0-KVM-8", "cpu3-9", "thread-10", "work-er"])
+        words = ["--name", "7=audio-0", "--name", "10=work-er"]
+        self.assertEqual(self.parts(text, *words), ["audio-0", "CPU-0-KVM-8", "cpu3-9", "work-er", "work-er-11"])
+
+    def test_a_thread_that_may_use_what_others_leave(self):
+        text = thread(7, "a") + thread(8, "b") + thread(9, "c", policy="SCHED_DEADLINE|SCHED_FLAG_RECLAIM")
+        self.assertEqual(self.parts(text, "--extra", "b", key="extra"), [None, True, True])
 
     def test_other_threads(self):
         other = "thread 5 sh\npid 5's current scheduling policy: SCHED_OTHER\npid 5's current scheduling priority: 0\npid 5's current affinity list: 0-3\n"
         told = self.made(other + thread(7, "a", policy="SCHED_DEADLINE|SCHED_RESET_ON_FORK") + thread(8, "b"), "--without", "8")
-        self.assertEqual([part["name"] for part in tomllib.loads(told)["part"]], ["a"])
+        self.assertEqual([(part["name"], part.get("extra")) for part in tomllib.loads(told)["part"]], [("a", None)])
         self.assertIn("# 'b', thread 8, is left out.\n", told)
-        self.refused("record: no thread reserves time", other)
-        self.refused("record: no thread 5 reserves time, and a word tells of it", other, "--without", "5")
-        self.refused("record: no part is c, which --stand-in tells", thread(7, "a"), "--stand-in", "c")
 
-    def test_records_that_are_not_whole(self):
-        whole = thread(7, "a")
-        self.refused("record:1: no line `thread 7 NAME` is above", whole.split("\n", 1)[1])
-        self.refused("record:6: thread 7 stands twice", whole + whole)
-        self.refused("record:2: no line of a record", "thread 7 a\nchrt: failed to get pid 7's policy: No such process\n")
-        for gone in ("policy", "parameters", "affinity"):
-            text = "".join(line for line in whole.splitlines(True) if gone not in line)
-            self.refused("record:1: thread 7 (a): its policy, its times or its processors are missing", text)
-        self.refused("has not 1 <= runtime <= period", thread(7, "a", runtime=0))
-        self.refused("has not 1 <= runtime <= period", thread(7, "a", period=2000000000000))
+    def test_what_is_refused(self):
+        bound, whole = UNBOUND.read_text().replace("list: 0-3", "list: 2"), thread(7, "a")
+        other = "thread 5 sh\npid 5's current scheduling policy: SCHED_OTHER\n"
+        lacking = "record:1: thread 7 (a): its policy, its times or its processors are missing"
+        for text, words, cause in (
+            (UNBOUND.read_text(), [], "record:1: thread 27776 (sleep) may use the processors 0-3: give it one of its own by a cpuset (docs/guide.md)\n"),
+            (bound, [], "record:6: thread 27777 (sleep) has a deadline of 10000000 ns, below its period of 20000000"),
+            (bound.replace("1000000/10000000/", "1000000/20000000/"), [], "record:11: thread 27778 (CPU 0/KVM) has a runtime of 2500001 ns"),
+            (thread(7, "a", period=20000001), [], "(a) has a period of 20000001 ns"),
+            (thread(7, "a", runtime=0), [], "has not 1 <= runtime <= period"), (thread(7, "a", period=2000000000000), [], "has not 1 <= runtime <= period"),
+            (other, [], "record: no thread reserves time (SCHED_DEADLINE). To begin, write a file"),
+            (other, ["--without", "5"], "record: no thread 5 reserves time, and a word tells of it"),
+            (whole, ["--stand-in", "c"], "record: no part is c, which --stand-in tells"), (whole, ["--extra", "c"], "record: no part is c, which --extra tells"),
+            (whole.split("\n", 1)[1], [], "record:1: no line `thread 7 NAME` is above"), (whole + whole, [], "record:6: thread 7 stands twice"),
+            ("thread 7 a\nchrt: failed to get pid 7's policy: No such process\n", [], "record:2: no line of a record"),
+            *(("".join(line for line in whole.splitlines(True) if gone not in line), [], lacking) for gone in ("policy", "parameters", "affinity")),
+        ):
+            with self.subTest(cause):
+                room = Room(self)
+                status, out, err = run("host", "from-linux", room.file("record", text), *words)
+                self.assertEqual((status, out), (1, ""))
+                self.assertIn(cause, err.replace(f"{room.folder}/", ""))
 
     def test_wrong_words(self):
         for words in (["--name", "7"], ["--name", "x=a"], ["--name", "7=7"], ["--name", "7=a", "--name", "8=a"], ["--without", "x"]):
-            self.assertEqual(run(from_linux, THREADS, *words)[:2], (2, ""), words)
-        self.assertEqual(run(from_linux, "/nowhere/record"), (1, "", "/nowhere/record: No such file or directory\n"))
+            self.assertEqual(run("host", "from-linux", THREADS, *words)[:2], (2, ""), words)
+        self.assertEqual(run("host", "from-linux", "/nowhere/record"), (1, "", "/nowhere/record: No such file or directory\n"))
 
     def test_this_machine(self):
         """What the kernel tells of this test's own thread is its policy, and of two made-up threads what they reserve."""
-        libc, number = from_linux.ctypes.CDLL(None), from_linux.GETATTR.get(os.uname().machine)
+        libc, number = from_linux.ctypes.CDLL(None, use_errno=True), from_linux.GETATTR.get(os.uname().machine)
         if number is None:
             self.skipTest("a machine of another kind")
         self.assertEqual(from_linux.reservation(libc, number, 0)[0], os.sched_getscheduler(0))
         with self.assertRaises(ProcessLookupError):
-            from_linux.reservation(from_linux.ctypes.CDLL(None, use_errno=True), number, 999_999_999)
-        held = {7: (6, (6000000, 20000000, 20000000)), os.getpid(): (6, (4000000, 40000000, 40000000))}
-        with mock.patch.object(from_linux, "reservation", lambda libc, number, tid: held.get(tid, (0, None))):
+            from_linux.reservation(libc, number, 999_999_999)
+        held = {7: (6, (6000000, 20000000, 20000000), False), os.getpid(): (6, (4000000, 40000000, 40000000), True)}
+        with mock.patch.object(from_linux, "reservation", lambda libc, number, tid: held.get(tid, (0, None, False))):
             with mock.patch.object(os, "sched_getaffinity", lambda tid: {3}):
-                status, out, err = run(from_linux, "--name", f"{os.getpid()}=own")
+                status, out, err = run("host", "from-linux", "--name", f"{os.getpid()}=own")
         self.assertEqual((status, err), (0, ""))
         own = [part for part in tomllib.loads(out)["part"] if part["name"] == "own"]
-        self.assertEqual(own, [{"name": "own", "parent": "cpu3", "period": 40000, "budget": 4000}])
-
-    def test_lists_of_processors(self):
+        self.assertEqual(own, [{"name": "own", "parent": "cpu3", "period": 40000, "budget": 4000, "extra": True}])
         self.assertEqual([from_linux.list_of(cpus) for cpus in ({3}, {0, 1, 2, 5}, {0, 2})], ["3", "0-2,5", "0,2"])
 
 
@@ -122,7 +115,7 @@ parent = "cpu3"
 sched = "edf"
 period = 20000
 [[part]]
-name = "guest-1"
+name = "guest-1" # the second
 parent = "cpu3"
 sched = "edf"
 period = 10000
@@ -139,87 +132,78 @@ part guest-0 period=20000 budget=6000 computed
 part guest-1 period=10000 budget=3000 given
 part inner period=100 budget=1 computed
 """
-MAP = ["--map", "guest-0=7058", "--map", "guest-1=7059"]
+ONE, MAP = ["--map", "guest-0=7058"], ["--map", "guest-0=7058", "--map", "guest-1=7059"]
+
+
+def told_calls(share, runtime, other):
+    return (
+        f"# cpu3: {share} of at most 90.0%\n"
+        f"chrt -R -d -T {runtime}000000 -D 20000000 -P 20000000 -p 0 7058\n"
+        f"chrt -R -d -T {other}000000 -D 10000000 -P 10000000 -p 0 7059\n"
+    )
 
 
 class ToLinux(unittest.TestCase):
     def call(self, *words, text=HOST, answer=ANSWER, status=0):
         room = Room(self)
-        file = room.file("host.toml", text)
-        told, out, err = run(to_linux, file, "--program", room.answering(answer, status), *words)
-        return told, out, err.replace(f"{room.folder}/", "")
-
-    def refused(self, cause, *words, **more):
-        status, out, err = self.call(*words, **more)
-        self.assertEqual((status, out), (1, ""))
-        self.assertIn(cause, err)
+        told = run("host", "to-linux", room.file("host.toml", text), "--program", room.answering(answer, status), *words)
+        return *told[:2], told[2].replace(f"{room.folder}/", "")
 
     def test_a_call_a_thread(self):
-        self.assertEqual(self.call(*MAP), (0, (
-            "# cpu3: 60.0% of at most 90.0%\n"
-            "chrt -d -T 6000000 -D 20000000 -P 20000000 -p 0 7058\n"
-            "chrt -d -T 3000000 -D 10000000 -P 10000000 -p 0 7059\n"
-        ), ""))
+        self.assertEqual(self.call(*MAP), (0, told_calls("60.0%", 6, 3), ""))
+        told = self.call(*ONE, "--without", "guest-1", "--limit", "300000/1000000")
+        self.assertEqual(told, (0, "# cpu3: 30.0% of at most 30.0%\nchrt -R -d -T 6000000 -D 20000000 -P 20000000 -p 0 7058\n", ""))
 
     def test_a_tick(self):
-        self.assertEqual(self.call(*MAP, "--tick", "1000"), (0, (
-            "# cpu3: 75.0% of at most 90.0%\n"
-            "chrt -d -T 7000000 -D 20000000 -P 20000000 -p 0 7058\n"
-            "chrt -d -T 4000000 -D 10000000 -P 10000000 -p 0 7059\n"
-        ), ""))
-        self.assertEqual(self.call(*MAP, "--tick", "2000")[:2], (0, (
-            "# cpu3: 90.0% of at most 90.0%\n"
-            "chrt -d -T 8000000 -D 20000000 -P 20000000 -p 0 7058\n"
-            "chrt -d -T 5000000 -D 10000000 -P 10000000 -p 0 7059\n"
-        )))
-        self.refused("host.toml:9: cpu3: its parts reserve 90.1%, and the kernel grants 90.0%", *MAP, "--tick", "2001")
-        self.refused("host.toml:14: guest-1: its budget of 3000 and a tick of 7001 pass its period of 10000", *MAP, "--tick", "7001")
+        says = "# an audit lets the tick pass where a part has extra = true (--audit)\n"
+        self.assertEqual(self.call(*MAP, "--tick", "1000"), (0, told_calls("75.0%", 7, 4) + says, ""))
+        self.assertEqual(self.call(*MAP, "--tick", "2000"), (0, told_calls("90.0%", 8, 5) + says, ""))
+        extra = HOST.replace('sched = "edf"\nperiod', 'sched = "edf"\nextra = true\nperiod')
+        self.assertEqual(self.call(*MAP, "--tick", "2000", text=extra), (0, told_calls("90.0%", 8, 5), ""))
 
-    def test_the_limit(self):
-        self.assertEqual(self.call(*MAP, "--limit", "600000/1000000")[0], 0)
-        self.refused("cpu3: its parts reserve 60.0%, and the kernel grants 59.9%", *MAP, "--limit", "599000/1000000")
-        self.assertEqual(self.call(*MAP, "--tick", "2001", "--limit", "950000/1000000")[0], 0)
+    def test_the_file_for_an_audit(self):
+        out = Room(self).folder / "audit.toml"
+        self.assertEqual(self.call(*MAP, "--tick", "2000", "--audit", out)[0], 0)
+        self.assertEqual(out.read_text(), HOST.replace('"guest-0"', '"guest-0"\nextra = true').replace("# the second", "# the second\nextra = true"))
+        inline = HOST.replace('[[core]]\nname = "cpu2"\nsched = "edf"\n', "", 1).replace('[[part]]\nname = "guest-0"', '# kept\n[[part]]\n"name" = "guest-0"', 1)
+        self.assertEqual(self.call(*MAP, "--audit", out, text=inline)[0], 0)
+        self.assertEqual([part.get("extra") for part in tomllib.loads(out.read_text())["part"]], [True, True, None])
 
-    def test_what_the_kernel_refuses(self):
-        self.refused("host.toml:9: guest-0 has a budget of 1 microseconds", *MAP, answer=ANSWER.replace("6000", "1"))
-        self.assertEqual(self.call(*MAP, answer=ANSWER.replace("6000", "2"))[0], 0)
-        for period in ("99", "4194305"):
-            text, answer = HOST.replace("20000", period), ANSWER.replace("20000 budget=6000", f"{period} budget=60")
-            self.refused(f"host.toml:9: guest-0 has a period of {period}", *MAP, text=text, answer=answer)
-        for period in ("100", "4194304"):
-            text, answer = HOST.replace("20000", period), ANSWER.replace("20000 budget=6000", f"{period} budget=60")
-            self.assertEqual(self.call(*MAP, text=text, answer=answer)[0], 0)
-
-    def test_threads_and_parts_that_do_not_fit_together(self):
-        self.refused("host.toml:14: guest-1 has no thread: --map guest-1=TID", "--map", "guest-0=7058")
-        self.refused("host.toml: no part on a core is inner, which --map tells", *MAP, "--map", "inner=7")
-
-    def test_a_part_that_is_no_thread(self):
-        told = self.call("--map", "guest-0=7058", "--without", "guest-1", "--limit", "300000/1000000")
-        self.assertEqual(told, (0, "# cpu3: 30.0% of at most 30.0%\nchrt -d -T 6000000 -D 20000000 -P 20000000 -p 0 7058\n", ""))
-        self.refused("host.toml: no part on a core is inner, which --without tells", *MAP, "--without", "inner")
-
-    def test_files_of_no_linux_host(self):
-        self.refused("host.toml: not admitted, so there is nothing to set: status 4, verdict=wide", *MAP, answer="verdict=wide\n", status=4)
-        self.refused("cpu2 is not a whole processor under edf, as Linux has it", *MAP, text=HOST.replace('"edf"', '"dm"', 1))
+    def test_what_is_refused(self):
+        at = lambda period: {"text": HOST.replace("20000", period), "answer": ANSWER.replace("20000 budget=6000", f"{period} budget=60")}
+        for words, more, cause in (
+            ([*MAP, "--tick", "2001"], {}, "host.toml:9: cpu3: its parts reserve 90.1%, and the kernel grants 90.0%"),
+            ([*MAP, "--tick", "7001"], {}, "host.toml:14: guest-1: its budget of 3000 and a tick of 7001 pass its period of 10000"),
+            ([*MAP, "--limit", "599000/1000000"], {}, "cpu3: its parts reserve 60.0%, and the kernel grants 59.9%"),
+            (MAP, {"answer": ANSWER.replace("6000", "1")}, "host.toml:9: guest-0 has a budget of 1 microseconds"),
+            (MAP, at("99"), "host.toml:9: guest-0 has a period of 99"), (MAP, at("4194305"), "host.toml:9: guest-0 has a period of 4194305"),
+            (ONE, {}, "host.toml:14: guest-1 has no thread: --map guest-1=TID"),
+            ([*MAP, "--map", "inner=7"], {}, "host.toml: no part on a core is inner, which --map tells"),
+            ([*MAP, "--without", "inner"], {}, "host.toml: no part on a core is inner, which --without tells"),
+            (MAP, {"answer": "verdict=wide\n", "status": 4}, "host.toml: not admitted, so there is nothing to set: status 4, verdict=wide"),
+            (MAP, {"text": HOST.replace('"edf"', '"dm"', 1)}, "cpu2 is not a whole processor under edf, as Linux has it"),
+        ):
+            with self.subTest(cause):
+                status, out, err = self.call(*words, **more)
+                self.assertEqual((status, out), (1, ""))
+                self.assertIn(cause, err)
+        for words, more in ((["--limit", "600000/1000000"], {}), (["--tick", "2001", "--limit", "950000/1000000"], {}),
+                            ([], {"answer": ANSWER.replace("6000", "2")}), ([], at("100")), ([], at("4194304"))):
+            self.assertEqual(self.call(*MAP, *words, **more)[0], 0)
 
     def test_wrong_words(self):
         for words in ([], [*MAP, "--without", "guest-0"], ["--map", "a"], ["--map", "a=x"], ["--map", "a=0"], ["--map", "a=7", "--map", "b=7"], [*MAP, "--tick", "-1"],
                       [*MAP, "--limit", "95"], [*MAP, "--limit", "2/1"], [*MAP, "--limit", "1/0"]):
             self.assertEqual(self.call(*words)[:2], (2, ""), words)
 
-
-class RoundTrip(unittest.TestCase):
+    @unittest.skipUnless(program(), "no program is built")
     def test_there_and_back(self):
         """The calls for examples/linux/reserved.toml are the reservations that were recorded."""
-        asked = program()
-        if asked is None:
-            self.skipTest("no program is built")
         threads = re.findall("^thread (.*) (.*)$", THREADS.read_text(), re.M)
         words = [word for tid, name in threads for word in ("--map", f"{name}={tid}")]
-        status, out, err = run(to_linux, top / "examples/linux/reserved.toml", "--program", asked, *words)
+        status, out, err = run("host", "to-linux", top / "examples/linux/reserved.toml", "--program", program(), *words)
         self.assertEqual((status, err), (0, ""))
-        calls = {tid: (runtime, deadline, period) for runtime, deadline, period, tid in re.findall("-T (.*) -D (.*) -P (.*) -p 0 (.*)", out)}
+        calls = {tid: tuple(times) for *times, tid in re.findall("-T (.*) -D (.*) -P (.*) -p 0 (.*)", out)}
         told = re.findall("pid (.*)'s current runtime/deadline/period parameters: (.*)/(.*)/(.*)", THREADS.read_text())
         self.assertEqual(calls, {tid: tuple(times) for tid, *times in told})
 

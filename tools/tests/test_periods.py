@@ -1,14 +1,10 @@
-"""Tests of tools/periods: what it prints of the program's answers, what it draws, and what it refuses."""
-import contextlib
-import io
-import pathlib
-import tempfile
+"""Tests of periods: what it prints of the program's answers, what it draws, and what it refuses."""
 import unittest
 import xml.dom.minidom
 
-from load import load
+from support import Room, run, verb
 
-tool = load("periods")
+tool = verb("host", "periods")
 LEAF = """format = 1
 [[core]]
 name = "cpu0"
@@ -45,24 +41,13 @@ NOTHING = ("verdict=no\\nnothing over=1 wide=0\\n", 1)
 
 
 class Case(unittest.TestCase):
-    def setUp(self):
-        scratch = tempfile.TemporaryDirectory()
-        self.addCleanup(scratch.cleanup)
-        self.room = pathlib.Path(scratch.name)
-
     def run_tool(self, answers, *words):
         """The status, what is printed, the picture and standard error."""
-        file, asked, out = self.room / "system.toml", self.room / "program", self.room / "out.svg"
-        file.write_text(LEAF)
-        asked.write_text(script(answers))
+        room = Room(self)
+        file, asked, out = room.file("system.toml", LEAF), room.file("program", script(answers)), room.folder / "out.svg"
         asked.chmod(0o755)
-        printed, err = io.StringIO(), io.StringIO()
-        with contextlib.redirect_stdout(printed), contextlib.redirect_stderr(err):
-            try:
-                ended = tool.main([str(file), "leaf", *words[:2], str(out), *words[2:], f"--program={asked}"])
-            except SystemExit as left:
-                ended = left.code
-        return ended, printed.getvalue(), out.read_text() if out.exists() else None, err.getvalue()
+        ended, printed, err = run("host", "periods", file, "leaf", *words[:2], out, *words[2:], f"--program={asked}")
+        return ended, printed, out.read_text() if out.exists() else None, err
 
     def texts(self, picture):
         return [node.firstChild.data for node in xml.dom.minidom.parseString(picture).getElementsByTagName("text")]
@@ -104,22 +89,16 @@ class Answers(Case):
 
 
 class Refusals(Case):
-    def test_no_leaf_and_no_range(self):
-        ended, printed, picture, err = self.run_tool({(7, 14): ("fault=NoSuchLeaf file=1\\n", 3)}, "7", "14")
-        self.assertEqual((ended, printed, picture), (1, "", None))
-        self.assertIn("fault=NoSuchLeaf file=1 (status 3)", err)
-        ended, printed, picture, err = self.run_tool({}, "14", "7")
-        self.assertEqual((ended, printed, picture), (1, "", None))
-        self.assertIn("usage (status 2)", err)
-
-    def test_answers_that_differ(self):
-        ended, printed, picture, err = self.run_tool({(7, 7): best(7, 2), (7, 8): best(7, 3), (8, 8): best(8, 3)}, "7", "8")
-        self.assertEqual((ended, picture), (1, None))
-        self.assertIn("at period 7 it tells a budget of 2, and of 3 for the range", err)
-
-    def test_words(self):
-        self.assertEqual(self.run_tool({}, "7", "x")[0], 2)
-        self.assertEqual(self.run_tool({}, "7", "8", "--most=1")[0], 2)
+    def test_what_is_refused(self):
+        for answers, low, high, told in (
+            ({(7, 14): ("fault=NoSuchLeaf file=1\\n", 3)}, "7", "14", "fault=NoSuchLeaf file=1 (status 3)"), ({}, "14", "7", "usage (status 2)"),
+            ({(7, 7): best(7, 2), (7, 8): best(7, 3), (8, 8): best(8, 3)}, "7", "8", "at period 7 it tells a budget of 2, and of 3 for the range"),
+        ):
+            ended, printed, picture, err = self.run_tool(answers, low, high)
+            self.assertEqual((ended, printed, picture), (1, "", None))
+            self.assertIn(told, err)
+        for words in (["7", "x"], ["7", "8", "--most=1"]):
+            self.assertEqual(self.run_tool({}, *words)[0], 2)
 
 
 if __name__ == "__main__":

@@ -1,21 +1,19 @@
-"""Tests of tools/why and of what tools/systems.py gives it: what it tells of the node, each kind of change, and what it refuses. The
-program that it asks is a judge of a few lines, by the definitions, for small systems."""
+"""Tests of why and of the system files of its core: what it tells of the node, each kind of change, and what it refuses. The program
+that it asks is a judge of a few lines, by the definitions, for small systems."""
 import contextlib
-import io
 import math
-import pathlib
 import subprocess
-import tempfile
 import tomllib
 import unittest
 from unittest import mock
 
-from load import load, program, top
-import hostfile
-import systems
-from hostfile import Refused
+from support import Room, program, run, top, verb
+from rtadmit_tools import formulas, system_file
+from rtadmit_tools.command_line import Refused
+from rtadmit_tools.program import Answer
+from rtadmit_tools.system_file import System, read_system
 
-tool = load("why")
+tool = verb("host", "why")
 HOST = """\
 format = 1
 [[core]]
@@ -73,44 +71,43 @@ class Judge:
 
     def ask(self, command, path):
         with open(path, "rb") as file:
-            return self.admit(systems.System(path, tomllib.load(file)))
+            return self.admit(System(path, tomllib.load(file)))
 
     def admit(self, system):
         self.asked += 1
         budgets, told = {}, []
         for name in system.visited():
             node = system.nodes[name]
-            tasks = node.tasks or [systems.Task(child, system.nodes[child].period, system.nodes[child].period, budgets[child], 0) for child in node.children]
+            tasks = node.tasks or [formulas.Task(child, system.nodes[child].period, system.nodes[child].period, budgets[child], 0) for child in node.children]
             tried = [node.budget] if node.budget else range(1, node.period + 1)
             spots = [self.refused(node, tasks, budget) for budget in tried]
             if None not in spots:
-                return systems.Answer(1, f"verdict=no\noverfull {node.kind} {name} {spots[-1]}\n")
+                return Answer(1, f"verdict=no\noverfull {node.kind} {name} {spots[-1]}\n")
             budgets[name] = tried[spots.index(None)]
         for part in system.parts():
             told.append(f"part {part.name} period={part.period} budget={budgets[part.name]} {'given' if part.budget else 'computed'}\n")
-        return systems.Answer(0, "verdict=yes\n" + "".join(told))
+        return Answer(0, "verdict=yes\n" + "".join(told))
 
     @staticmethod
     def refused(node, tasks, budget):
         """What is short with a budget, or None."""
-        given = lambda window: systems.supply(node.period, budget, window)
+        given = lambda window: formulas.supply(node.period, budget, window)
         if node.sched == "edf":
             windows = range(1, math.lcm(node.period, *(task.period for task in tasks)) + node.period + 1)
-            short = next((window for window in windows if systems.demand(tasks, window) > given(window)), None)
+            short = next((window for window in windows if formulas.demand(tasks, window) > given(window)), None)
             return None if short is None else f"at={short}"
-        order = [tasks[place] for place in systems.ranks(node.sched, tasks)]
+        order = [tasks[place] for place in formulas.ranks(node.sched, tasks)]
         for task in tasks:
             above = order[:order.index(task)]
-            if not any(systems.request(task, above, window) <= given(window) for window in range(1, task.room + 1)):
+            if not any(formulas.request(task, above, window) <= given(window) for window in range(1, task.room + 1)):
                 return f"task={task.name}"
         return None
 
 
 class Case(unittest.TestCase):
     def setUp(self):
-        scratch = tempfile.TemporaryDirectory()
-        self.addCleanup(scratch.cleanup)
-        self.file = pathlib.Path(scratch.name) / "system.toml"
+        self.room = Room(self)
+        self.file = self.room.folder / "system.toml"
 
     def judged(self, text, most=None, asked=None):
         """The status, and the lines."""
@@ -166,7 +163,7 @@ class Words(Case):
         self.assertEqual((status, lines), (0, [f"{self.file}: yes. There is nothing to explain."]))
         self.file.write_text((top / "examples/wide.toml").read_text())
         wide = Judge()
-        wide.admit = lambda system: systems.Answer(4, "verdict=wide\nwide part leaf\n")
+        wide.admit = lambda system: Answer(4, "verdict=wide\nwide part leaf\n")
         status, lines = tool.judged(str(self.file), wide, None)
         self.assertEqual((status, lines[0]), (4, f"{self.file}: verdict=wide wide part leaf"))
         self.assertIn("of the 6 periods in it has 44 digits", lines[2])
@@ -209,15 +206,15 @@ class Changes(Case):
     def test_a_stand_in_keeps_its_budget_and_its_period(self):
         text = HOST.replace('name = "c"\nperiod = 100\nwork = 10', 'name = "any"\nperiod = 100\nwork = 1')
         self.assertIn("C.budget=open", self.changes(self.judged(text)[1]))
-        with mock.patch.object(tool, "INVENTED", [systems.Task("any", 100, 100, 1, 0)]):
+        with mock.patch.object(tool, "INVENTED", [formulas.Task("any", 100, 100, 1, 0)]):
             _, lines = self.judged(text)
         self.assertIn("(C: the task is invented, so budget and period stay as they are.)", lines)
         self.assertEqual({change for change in self.changes(lines) if change.startswith("C.")}, {"C.parent=cpu1"})
         self.assertIn("A.a.work=6", self.changes(lines))
 
     def test_a_stand_in_is_what_the_tools_write(self):
-        known = tomllib.loads(hostfile.part_text("", "C", "cpu0", 5, 2, stand_in=True))
-        system = systems.System("made", {"core": [{"name": "cpu0", "sched": "edf"}], **known})
+        known = tomllib.loads(system_file.part_text("", "C", "cpu0", 5, 2, stand_in=True))
+        system = System("made", {"core": [{"name": "cpu0", "sched": "edf"}], **known})
         self.assertTrue(tool.is_stand_in(system.nodes["C"]))
         for change in ("C.budget=open", "C.any.work=2"):
             self.assertFalse(tool.is_stand_in(system.changed(change).nodes["C"]), change)
@@ -234,16 +231,15 @@ class Changes(Case):
 
     def test_each_is_a_file_that_the_program_takes(self):
         """What --copy writes is answered yes, and with one slot of work more it is not."""
-        _, lines = self.judged(HOST)
+        _, lines = self.judged("# the first\n" + HOST)
         for change in self.changes(lines):
-            out = io.StringIO()
-            with contextlib.redirect_stdout(out):
-                self.assertEqual(tool.main([str(self.file), f"--copy={change}"]), 0)
-            copy = systems.System("copy", tomllib.loads(out.getvalue()))
+            status, out, _ = run("host", "why", self.file, f"--copy={change}")
+            self.assertEqual((status, out.count("# the first")), (0, 1))
+            copy = System("copy", tomllib.loads(out))
             self.assertTrue(Judge().admit(copy).is_yes, change)
             what, sign, value = change.partition("work=")
             if sign:
-                more = systems.read_system(str(self.file)).changed(f"{what}work={int(value) + 1}")
+                more = read_system(str(self.file)).changed(f"{what}work={int(value) + 1}")
                 self.assertFalse(Judge().admit(more).is_yes, change)
 
     def test_the_smallest_are_told(self):
@@ -276,7 +272,7 @@ class Changes(Case):
     def test_words_that_work_where_one_stands(self):
         elsewhere = self.file.parent / "a folder"
         elsewhere.mkdir()
-        for folder, why, asked in ((top, "tools/why", "./rtadmit"), (elsewhere, str(top / "tools/why"), str(top / "rtadmit"))):
+        for folder, why, asked in ((top, "tools/host why", "./rtadmit"), (elsewhere, f"{top}/tools/host why", str(top / "rtadmit"))):
             with contextlib.chdir(folder):
                 lines = self.judged(HOST)[1]
             words = [line.strip() for line in lines if " --copy " in line]
@@ -287,7 +283,7 @@ class Changes(Case):
             with contextlib.chdir(folder):
                 ran = subprocess.run(["bash", "-c", words[0].split(" | ")[0]], capture_output=True, text=True)
             self.assertEqual((ran.returncode, ran.stderr), (0, ""))
-            self.assertTrue(Judge().admit(systems.System("copy", tomllib.loads(ran.stdout))).is_yes, words[0])
+            self.assertTrue(Judge().admit(System("copy", tomllib.loads(ran.stdout))).is_yes, words[0])
 
 
     def test_words_with_the_program_that_was_named(self):
@@ -297,9 +293,27 @@ class Changes(Case):
         self.assertTrue(all(line.endswith(" | out/a.program admit /dev/stdin") for line in words), words)
         with mock.patch.object(tool, "judged", return_value=(0, [])) as judged:
             for words, asked in ((["--program=./rtadmit  --unproved"], "./rtadmit --unproved"), (["--program='a b'"], "'a b'")):
-                with contextlib.redirect_stdout(io.StringIO()):
-                    tool.main([str(self.file), *words])
+                run("host", "why", self.file, *words)
                 self.assertEqual(judged.call_args[0][3], asked)
+
+
+class Copies(Case):
+    def test_a_copy_keeps_the_comments_and_all_else(self):
+        commented = HOST.replace('name = "C"', 'name = "C" # the third').replace("budget = 2\n", "budget = 2  # of 5\n")
+        self.file.write_text(f"# --name a=A\n{commented}")
+        for change, old, new in (
+            ("C.budget=open", "budget = 2  # of 5\n", ""), ("C.budget=3", "budget = 2  # of 5", "budget = 3  # of 5"), ("B.b.work=2", "work = 6", "work = 2"),
+            ("A.sched=dm", 'sched = "edf"\nperiod = 10\n[[part.task]]\nname = "a"', 'sched = "dm"\nperiod = 10\n[[part.task]]\nname = "a"'),
+            ("A.budget=4", 'name = "A"\n', 'name = "A"\nbudget = 4\n'),
+        ):
+            self.assertEqual(run("host", "why", self.file, "--copy", change), (0, f"# --name a=A\n{commented.replace(old, new, 1)}", ""))
+
+    def test_a_file_of_inline_tables_keeps_the_comments_of_its_front(self):
+        self.file.write_text("# --name a=A\nformat = 1\ncore = [{name = 'c', sched = 'edf'}]\n# two\n"
+                             "part = [{name = 'A', parent = 'c', sched = 'edf', period = 9, task = [{name = 't', period = 9, work = 1}]}]\n")
+        out = run("host", "why", self.file, "--copy", "A.period=8")[1]
+        self.assertTrue(out.startswith("# --name a=A\n"), out)
+        self.assertEqual(tomllib.loads(out), read_system(str(self.file)).changed("A.period=8").tree)
 
 
 class Systems(Case):
@@ -307,27 +321,27 @@ class Systems(Case):
         for path in sorted((top / "examples").glob("*.toml")):
             tree = tomllib.loads(path.read_text())
             if path.stem != "refused":
-                self.assertEqual(tomllib.loads(systems.read_system(str(path)).text()), tree, path)
+                self.assertEqual(tomllib.loads(read_system(str(path)).text()), tree, path)
 
     def test_a_part_alone(self):
         """The part, and what stands on it, on a full core."""
-        alone = systems.read_system(str(top / "examples/tree.toml")).alone("mid")
+        alone = read_system(str(top / "examples/tree.toml")).alone("mid")
         self.assertEqual([(node.name, node.parent, node.period, node.budget) for node in alone.nodes.values()], [
             ("cpu0", None, 1, 1), ("mid", "cpu0", 50, None), ("video", "mid", 100, None), ("ctl", "mid", 200, None)])
-        alone = systems.read_system(str(top / "examples/tree.toml")).alone("ctl")
+        alone = read_system(str(top / "examples/tree.toml")).alone("ctl")
         self.assertEqual([(node.name, node.parent) for node in alone.nodes.values()], [("mid", None), ("ctl", "mid")])
 
     def test_some_cores(self):
         """All that stands on them, also where a part stands on a part."""
-        system = systems.System("file", tomllib.loads(HOST.replace('[[part]]\nname = "B"\nparent = "cpu0"', '[[part]]\nname = "B"\nparent = "cpu1"')))
+        system = System("file", tomllib.loads(HOST.replace('[[part]]\nname = "B"\nparent = "cpu0"', '[[part]]\nname = "B"\nparent = "cpu1"')))
         self.assertEqual(list(system.only(["cpu1"]).nodes), ["cpu1", "B", "D"])
         self.assertEqual(system.only(["cpu1", "cpu0"]).tree, system.tree)
-        tree = systems.read_system(str(top / "examples/tree.toml"))
+        tree = read_system(str(top / "examples/tree.toml"))
         self.assertEqual((tree.root("ctl"), tree.root("cpu0")), ("cpu0", "cpu0"))
         self.assertEqual(tree.only(["cpu0"]).tree, tree.tree)
 
     def test_changes(self):
-        system = systems.System("file", tomllib.loads(HOST))
+        system = System("file", tomllib.loads(HOST))
         self.assertEqual(system.changed("B.b.work=2").nodes["B"].tasks[0].work, 2)
         self.assertEqual(system.changed("B.period=4").nodes["B"].period, 4)
         self.assertIsNone(system.changed("C.budget=open").nodes["C"].budget)
@@ -343,22 +357,15 @@ class Systems(Case):
 class Refusals(Case):
     def run_tool(self, script, *words):
         """The status, and both outputs, with a program of a shell's lines."""
-        asked = self.file.with_name("program")
-        asked.write_text(f"#!/bin/sh\n{script}\n")
+        asked = self.room.file("program", f"#!/bin/sh\n{script}\n")
         asked.chmod(0o755)
-        out, err = io.StringIO(), io.StringIO()
-        with contextlib.redirect_stdout(out), contextlib.redirect_stderr(err):
-            try:
-                status = tool.main([str(self.file), f"--program={asked}", *words])
-            except SystemExit as left:
-                status = left.code
-        return status, out.getvalue(), err.getvalue()
+        return run("host", "why", self.file, f"--program={asked}", *words)
 
     def test_what_has_no_answer(self):
         self.file.write_text((top / "examples/pair-over.toml").read_text())
         told = lambda line: f"echo verdict=no; echo '{line}'; exit 1"
         for script, cause in (
-            ("echo 'fault=UnknownKey at=top file=1'; exit 3", "the program does not judge it: fault=UnknownKey at=top file=1 (status 3)"),
+            ("echo 'verdict=no'; exit 3", "the program does not judge it: verdict=no (status 3)"),
             ("exit 9", "the program does not judge it: status 9 (status 9)"),
             (told("overfull core cpu9 at=20"), "tells no node of the file"),
             (told("overfull core cpu0 at=10"), "the formulas do not say what the program does: 5 slots are asked for in 10 slots, and 10 are sure"),
@@ -387,12 +394,10 @@ class Refusals(Case):
     @unittest.skipUnless(program(), "no program is built")
     def test_with_the_program(self):
         """By hand: of 10000 slots 3667, 4000 and 2668 are asked for; camera may have 3332, and 3 * 3332 is 9996."""
-        out = io.StringIO()
-        with contextlib.redirect_stdout(out):
-            self.assertEqual(tool.main([str(top / "examples/crowded.toml"), f"--program={program()}"]), 1)
-        self.assertIn("camera.frame.work=9996 |", out.getvalue())
-        self.assertIn("radio.packet.work=5496 |", out.getvalue())
-        self.assertIn("control.loop.work=1749 |", out.getvalue())
+        status, out, _ = run("host", "why", top / "examples/crowded.toml", f"--program={program()}")
+        self.assertEqual(status, 1)
+        for change in ("camera.frame.work=9996 |", "radio.packet.work=5496 |", "control.loop.work=1749 |"):
+            self.assertIn(change, out)
 
 
 if __name__ == "__main__":

@@ -7,11 +7,11 @@ import subprocess
 import tempfile
 import unittest
 
-import load
+from support import command_line, run, top
 
-FORMATS = (load.top / "docs/formats.md").read_text()
-MANUAL = (load.top / "docs/rtadmit.1").read_text()
-COMPLETION = load.top / "tools/rtadmit.bash-completion"
+FORMATS = (top / "docs/formats.md").read_text()
+MANUAL = (top / "docs/rtadmit.1").read_text()
+COMPLETION = top / "tools/rtadmit.bash-completion"
 FORMS = re.search(r"^    usage: (.*)$", FORMATS, re.M)[1].removeprefix("rtadmit ").split(" | ")
 COMMANDS = [form.split()[0] for form in FORMS]
 
@@ -33,21 +33,19 @@ class Manual(unittest.TestCase):
     def test_it_is_set_without_a_warning(self):
         if shutil.which("groff") is None:
             self.skipTest("no groff")
-        ran = subprocess.run(["groff", "-man", "-Tutf8", "-ww", load.top / "docs/rtadmit.1"], capture_output=True, text=True)
+        ran = subprocess.run(["groff", "-man", "-Tutf8", "-ww", top / "docs/rtadmit.1"], capture_output=True, text=True)
         self.assertEqual((ran.returncode, ran.stderr), (0, ""))
         self.assertIn("virtual machines", " ".join(ran.stdout.split()))
 
 
 class Help(unittest.TestCase):
-    def test_each_tool_of_a_host_says_what_it_does(self):
-        for name in ("from-xl", "to-xl", "from-xenalyze", "from-linux", "to-linux", "expose"):
-            ran = subprocess.run([load.top / "tools" / name, "--help"], capture_output=True, text=True)
-            self.assertEqual((ran.returncode, ran.stderr), (0, ""), name)
-            self.assertIn(f"tools/{name} ", ran.stdout)
-            self.assertIn("Refused", ran.stdout)
-            source = (load.top / "tools" / name).read_text()
-            for option in re.findall(r'add_argument\("(--[a-z-]+)"', source):
-                self.assertIn(option, ran.stdout.split("options:")[0], name)
+    def test_each_verb_says_what_it_does(self):
+        for kind in ("host", "gate"):
+            for name, told in command_line.verbs(kind).items():
+                status, out, err = run(kind, name, "--help")
+                self.assertEqual((status, err), (0, ""), name)
+                self.assertIn(f"tools/{kind} {name} ", out)
+                self.assertIn(told, out)
 
 
 class Completion(unittest.TestCase):

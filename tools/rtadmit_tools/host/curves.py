@@ -184,11 +184,13 @@ class Curves:
     def curves(self):
         """The curves in the order in which they are drawn."""
         budget = self.told.budget
-        what = f"request of {self.task.name}: its work and what ranks above it" if self.task else "demand: work that must be done within a window"
+        what = "demand: work that must be done within a window"
+        what = f"request of {self.task.name}: its work and what ranks above it" if self.task else what
         word = "" if self.told.passes else ": too small" if not self.told.is_computed else ": all slots, and too small"
         found = [Curve(lambda window: self.given(budget, window), 0, ENOUGH, "", 3.2, f"least supply with a budget of {budget}{word}")]
         if self.told.passes:
-            found.append(Curve(lambda window: self.given(budget - 1, window), 0, LESS, "7 4", 1.8, f"least supply with one slot less, {budget - 1}"))
+            less = f"least supply with one slot less, {budget - 1}"
+            found.append(Curve(lambda window: self.given(budget - 1, window), 0, LESS, "7 4", 1.8, less))
         return [*found, Curve(self.asked, 1 if self.task else 0, ASKED, "", 1.6, what)]
 
 
@@ -268,14 +270,16 @@ class Picture:
         if number:
             which = "marked window" if self.around == self.marked else "first window that is enough"
             canvas.text(plot.left, plot.top - 8, f"the same, close around the {which}", fill=GREY, size=11)
-        canvas.lines.append(f'<clipPath id="plot{number}"><rect x="{plot.left}" y="{plot.top}" width="{PLOT}" height="{plot.height}"/></clipPath>')
+        frame = f'<rect x="{plot.left}" y="{plot.top}" width="{PLOT}" height="{plot.height}"/>'
+        canvas.lines.append(f'<clipPath id="plot{number}">{frame}</clipPath>')
         plot.scales(((slots, str(slots)) for slots in marks(plot.low, plot.high, plot.height // 24)), "length of the window in slots (µs)")
         canvas.text(16, middle, "slots (µs)", "middle", GREY, 11, f'transform="rotate(-90 16 {middle:g})"')
         canvas.lines.append(f'<g clip-path="url(#plot{number})">')
         if has(plot, self.marked):
             self.mark(plot)
         for curve in self.drawn:
-            canvas.path(steps(plot, curve, (self.marked, self.enough)), f'fill="none" stroke="{curve.colour}" stroke-width="{curve.width}" {curve.dashed}')
+            stroke = f'stroke="{curve.colour}" stroke-width="{curve.width}" {curve.dashed}'
+            canvas.path(steps(plot, curve, (self.marked, self.enough)), f'fill="none" {stroke}')
         if has(plot, self.enough):
             self.ring(plot.x(self.enough), plot.y(self.curves.asked(self.enough)))
         canvas.lines.append("</g>")
@@ -292,7 +296,8 @@ class Picture:
             less, asked, _ = self.curves.levels(self.marked)
             canvas.rect(20, y - 6, 16, 12, LESS, 'fill-opacity="0.4"')
             by_then = ", by which the task must be done" if self.curves.task else ""
-            canvas.text(52, y + 4, f"marked window of {self.marked} slots{by_then}: {asked - less} missing with a budget of {told.short_budget}")
+            lacks = f"{asked - less} missing with a budget of {told.short_budget}"
+            canvas.text(52, y + 4, f"marked window of {self.marked} slots{by_then}: {lacks}")
         else:
             why = "another task is the one that is short" if told.short_budget is not None else "the budget is given"
             canvas.text(52, y + 4, f"no window is marked: {why}", fill=GREY)

@@ -23,7 +23,7 @@ import struct
 import sys
 from dataclasses import dataclass
 
-from ..command_line import Refused, WrongWords, pairs
+from ..command_line import Refused, WrongWords, pairs, several
 from ..system_file import LIMIT, NAME, lines_of, part_text, system_text
 
 SCHED_DEADLINE, RECLAIM = 6, 2
@@ -38,9 +38,9 @@ HEAD = [
     "know is open: `rtadmit admit` refuses this file until each part has its sched and a task. Leave the budget of a part out, and the",
     "program computes the least that is enough for the tasks that you wrote down. Keep that of a stand-in: its task is invented.",
 ]
-HINT = """no thread reserves time (SCHED_DEADLINE). To begin, write a file with a core for each processor and a part for each thread that is to
-reserve time, as examples/linux/tick.toml (those of KVM are called CPU 0/KVM and so on: ps -eLo tid,comm), without budgets; ask
-rtadmit admit, and let tools/host to-linux print the calls that reserve what it computes (docs/guide.md, "What a host under KVM has to be like")"""
+HINT = """no thread reserves time (SCHED_DEADLINE). To begin, write a file with a core for each processor and a part for each
+thread that is to reserve time, as examples/linux/tick.toml (those of KVM are called CPU 0/KVM and so on: ps -eLo tid,comm), without
+budgets; ask rtadmit admit, and let tools/host to-linux print the calls that reserve what it computes (docs/guide.md, "Linux and KVM")"""
 
 
 @dataclass
@@ -192,10 +192,10 @@ def text_of(where, threads, given, stand_ins, left_out, extras):
 
 def add_words(parser):
     parser.add_argument("record", nargs="?", metavar="RECORD", help="what was recorded; without it this machine is looked at")
-    parser.add_argument("--name", action="append", default=[], metavar="TID=NAME", help="a name for the part of a thread")
-    parser.add_argument("--stand-in", action="append", default=[], metavar="NAME", help="a part of which only the runtime is known")
-    parser.add_argument("--extra", action="append", default=[], metavar="NAME", help="a part whose thread may use what others leave")
-    parser.add_argument("--without", action="append", default=[], type=int, metavar="TID", help="a thread to leave out")
+    several(parser, "--name", "TID=NAME", "a name for the part of a thread")
+    several(parser, "--stand-in", "NAME", "a part of which only the runtime is known")
+    several(parser, "--extra", "NAME", "a part whose thread may use what others leave")
+    several(parser, "--without", "TID", "a thread to leave out", type=int)
 
 
 def run(given):

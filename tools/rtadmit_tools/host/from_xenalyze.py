@@ -26,7 +26,7 @@ import re
 import sys
 from dataclasses import dataclass, field
 
-from ..command_line import Refused, WrongWords, pairs, refuse_all
+from ..command_line import Refused, WrongWords, pairs, refuse_all, several
 from ..program import add_program, program_of
 from ..system_file import NAME, budget_of, lines_of, read_system
 
@@ -41,8 +41,8 @@ STATES = {"running": RUNNING, "runnable": RUNNABLE, "blocked": ASLEEP, "offline"
 
 @dataclass(slots=True)
 class Event:
-    """A change or a replenishment of a VCPU of the map: its line, moment and processor, the states of a change, and the budget that a
-    replenishment tells."""
+    """A change or a replenishment of a VCPU of the map: its line, moment and processor, the states of a change, and of a replenishment the
+    state that it finds, where that is known, and the budget that it tells."""
 
     line: int
     at: int
@@ -63,7 +63,6 @@ class Vcpu:
     state: str | None = None
     first: str | None = None
     woken: bool = False
-    started: bool = False
     starts: list = field(default_factory=list)
     on_time: list = field(default_factory=list)
 
@@ -117,19 +116,31 @@ class Host:
     """The VCPUs of the map, as the events tell them, and the rows that come of that."""
 
     def __init__(self, path, cores, vcpus):
-        self.path, self.cores = path, cores
+        self.path, self.cores, self.holders = path, cores, {}
         self.vcpus = {key: Vcpu(key, name) for key, name in vcpus.items()}
         self.events, self.end = read(path, vcpus)
-        self.holders, self.rows = {}, []
+        for event in self.events:
+            self.learn(event, self.vcpus.get(event.vcpu), self.holders.get(event.cpu))
+
+    def learn(self, event, vcpu, holder):
+        """Goes through an event: the processor, the first state and the replenishments of its VCPU."""
+        if vcpu is None:
+            if holder is not None:
+                self.refuse(event, f"{holder.key} has processor {event.cpu}, and another VCPU runs on it: a line is missing")
+        elif event.new is not None:
+            self.learn_change(event, vcpu, holder)
+        else:
+            event.old = vcpu.state
+            vcpu.starts.append(event)
+            vcpu.on_time += [event] if not vcpu.woken and vcpu.state != ASLEEP else []
 
     def refuse(self, event, cause):
         raise Refused(self.path, event.line, cause)
 
-    def learn_change(self, event, vcpu):
+    def learn_change(self, event, vcpu, holder):
         """A change has to follow from the state before; who runs does so on one processor of the map."""
         if vcpu.state not in (None, event.old):
             self.refuse(event, f"{vcpu.key} is {vcpu.state}, and leaves the state {event.old}: a line is missing")
-        vcpu.first = vcpu.first or event.old
         if RUNNING in (event.old, event.new):
             if event.cpu not in self.cores:
                 self.refuse(event, f"processor {event.cpu} is not in the map, and {vcpu.key} runs on it")
@@ -137,46 +148,26 @@ class Host:
                 self.refuse(event, f"{vcpu.key} runs on processor {event.cpu}, and ran on {vcpu.cpu}")
             vcpu.cpu = event.cpu
         if event.old == RUNNING:
-            self.holders.pop(event.cpu, None)
+            holder = self.holders[event.cpu] = None
         if event.new == RUNNING:
-            holder = self.holders.setdefault(event.cpu, vcpu)
-            if holder is not vcpu:
+            if holder not in (None, vcpu):
                 self.refuse(event, f"{holder.key} has processor {event.cpu}, and {vcpu.key} runs on it: a line is missing")
-        vcpu.woken = event.old == ASLEEP
-        vcpu.state = event.new
-
-    def check_other(self, event):
-        """A VCPU that is not in the map runs: none of the map has that processor."""
-        holder = self.holders.get(event.cpu)
-        if holder is not None:
-            self.refuse(event, f"{holder.key} has processor {event.cpu}, and another VCPU runs on it: a line is missing")
-
-    def learn(self):
-        """Goes through the events once: the processor, the first state and the replenishments of each VCPU."""
-        for event in self.events:
-            vcpu = self.vcpus.get(event.vcpu)
-            if vcpu is None:
-                self.check_other(event)
-                continue
-            if event.new is not None:
-                self.learn_change(event, vcpu)
-                continue
-            vcpu.starts.append(event)
-            if not vcpu.woken and vcpu.state != ASLEEP:
-                vcpu.on_time.append(event)
+            self.holders[event.cpu] = vcpu
+        vcpu.first, vcpu.state, vcpu.woken = vcpu.first or event.old, event.new, event.old == ASLEEP
 
     def start_of(self, vcpu):
         """The replenishment from which a VCPU's periods count."""
-        if not vcpu.starts:
-            raise Refused(self.path, None, f"no replenishment of {vcpu.key} (rtds:repl_budget), so it has no start")
-        if vcpu.first is None:
-            raise Refused(self.path, None, f"no runstate_change of {vcpu.key}, so what it does is not known")
-        if vcpu.cpu is None and len(self.cores) > 1:
-            raise Refused(self.path, None, f"{vcpu.key} never runs, so its processor is not known")
+        for is_wrong, cause in (
+            (not vcpu.starts, f"no replenishment of {vcpu.key} (rtds:repl_budget), so it has no start"),
+            (vcpu.first is None, f"no runstate_change of {vcpu.key}, so what it does is not known"),
+            (vcpu.cpu is None and len(self.cores) > 1, f"{vcpu.key} never runs, so its processor is not known"),
+        ):
+            if is_wrong:
+                raise Refused(self.path, None, cause)
         vcpu.cpu = next(iter(self.cores)) if vcpu.cpu is None else vcpu.cpu
         if not vcpu.on_time:
-            print(f"{self.path}: each replenishment of {vcpu.key} comes with a wake-up, so its periods may begin earlier than its start tells",
-                  file=sys.stderr)
+            late = f"each replenishment of {vcpu.key} comes with a wake-up, so its periods may begin earlier than its start tells"
+            print(f"{self.path}: {late}", file=sys.stderr)
         return (vcpu.on_time or vcpu.starts)[0]
 
     def compare(self, system, program):
@@ -194,68 +185,44 @@ class Host:
             told = "tells no budget" if event.budget_ns is None else f"is given {event.budget_ns} ns"
             yield Refused(self.path, event.line, f"{vcpu.key} {told}, and {vcpu.name} has {1000 * budget} in {system.path}")
 
-    def row(self, at, vcpu, what):
-        self.rows.append((at, self.cores[vcpu.cpu], what, "" if what == "stop" else vcpu.name))
-
-    def begin(self, event, vcpu):
-        """The rows of a VCPU's start: that it is there, and what it does at that moment."""
-        self.row(event.at, vcpu, "start")
-        if vcpu.state == ASLEEP:
-            self.row(event.at, vcpu, "block")
-        if vcpu.state == RUNNING:
-            self.row(event.at, vcpu, "run")
-
-    def tell(self):
-        """Goes through the events again, with the starts known, and writes the rows."""
-        starts = {vcpu.key: self.start_of(vcpu) for vcpu in self.vcpus.values()}
-        for vcpu in self.vcpus.values():
-            vcpu.state = vcpu.first
+    def rows(self):
+        """The rows of each VCPU from its start on."""
+        starts, started = {key: self.start_of(vcpu) for key, vcpu in self.vcpus.items()}, set()
         for event in self.events:
-            vcpu = self.vcpus.get(event.vcpu)
-            if vcpu is None:
-                continue
-            if event is starts[vcpu.key]:
-                self.begin(event, vcpu)
-                vcpu.started = True
-            elif event.new is not None:
-                vcpu.state = event.new
-                if vcpu.started:
-                    self.change(event, vcpu)
-
-    def change(self, event, vcpu):
-        """The rows of a change. A VCPU leaves its core before it sleeps."""
-        if event.old == RUNNING and event.new != RUNNING:
-            self.row(event.at, vcpu, "stop")
-        if event.old != ASLEEP and event.new == ASLEEP:
-            self.row(event.at, vcpu, "block")
-        if event.old == ASLEEP and event.new != ASLEEP:
-            self.row(event.at, vcpu, "wake")
-        if event.old != RUNNING and event.new == RUNNING:
-            self.row(event.at, vcpu, "run")
-
-    def needed(self):
-        """The rows without each stop that the run behind it at the same moment makes idle."""
-        for row, behind in zip(self.rows, [*self.rows[1:], None]):
-            if row[2] != "stop" or behind is None or behind[:3] != (*row[:2], "run"):
-                yield row
+            vcpu, told = self.vcpus.get(event.vcpu), []
+            if vcpu and event is starts[vcpu.key]:
+                started.add(vcpu.key)
+                told = ["start", *{ASLEEP: ["block"], RUNNING: ["run"]}.get(event.old or vcpu.first, [])]
+            elif vcpu and event.new is not None and vcpu.key in started:
+                told = words_of(event)
+            for what in told:
+                yield event.at, self.cores[vcpu.cpu], what, "" if what == "stop" else vcpu.name
 
     def text(self, system, program):
-        self.learn()
-        self.tell()
+        rows = list(self.rows())
         if system:
             self.compare(system, program)
-        first = self.rows[0][0]
+        first = rows[0][0]
         if self.end - first > LIMIT_NS:
             raise Refused(self.path, None, "a trace holds 1000 seconds, and this one is longer")
-        rows = [(at - first, *row) for at, *row in self.needed()] + [(self.end - first, "", "end", "")]
-        head, unit = ("at_ns", 1) if any(row[0] % 1000 for row in rows) else ("at", 1000)
-        return "\n".join([f"{head},core,what,vcpu", *(f"{at // unit},{core},{what},{name}" for at, core, what, name in rows), ""])
+        # without each stop that the run behind it at the same moment makes idle
+        needed = [row for row, behind in zip(rows, [*rows[1:], ()]) if row[2] != "stop" or behind[:3] != (*row[:2], "run")]
+        told = [(at - first, *row) for at, *row in needed] + [(self.end - first, "", "end", "")]
+        head, unit = ("at_ns", 1) if any(row[0] % 1000 for row in told) else ("at", 1000)
+        return "\n".join([f"{head},core,what,vcpu", *(f"{at // unit},{core},{what},{name}" for at, core, what, name in told), ""])
+
+
+def words_of(event):
+    """The words of a change. A VCPU leaves its core before it sleeps."""
+    old, new = event.old, event.new
+    words = {"stop": RUNNING == old != new, "block": old != ASLEEP == new, "wake": old == ASLEEP != new, "run": old != RUNNING == new}
+    return [what for what, holds in words.items() if holds]
 
 
 def add_words(parser):
     parser.add_argument("dump", metavar="DUMP", help="what `xenalyze --dump-all` prints")
-    parser.add_argument("--cpu", action="append", required=True, metavar="N=CORE", help="a physical processor and its core")
-    parser.add_argument("--vcpu", action="append", required=True, metavar="dDvV=PART", help="a VCPU and its part, as d1v0=audio-0")
+    several(parser, "--cpu", "N=CORE", "a physical processor and its core", required=True)
+    several(parser, "--vcpu", "dDvV=PART", "a VCPU and its part, as d1v0=audio-0", required=True)
     parser.add_argument("--system", metavar="FILE", help="the system file whose budgets the dump has to tell")
     add_program(parser)
 
@@ -271,4 +238,5 @@ def run(given):
                 raise WrongWords(f"{word!r} is no {what}")
     system = read_system(given.system) if given.system else None
     is_open = system and any(part.budget is None for part in system.parts())
-    return Host(given.dump, {int(number): name for number, name in cores.items()}, vcpus).text(system, program_of(given.program) if is_open else None)
+    host = Host(given.dump, {int(number): name for number, name in cores.items()}, vcpus)
+    return host.text(system, program_of(given.program) if is_open else None)

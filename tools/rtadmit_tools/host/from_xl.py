@@ -9,15 +9,15 @@ known but its budget gets one slot a second by --stand-in; keep its budget in th
 the VCPU. PART is the name in the file, as Domain-0-0. --name gives a domain another name in the file, and the file says so, for
 tools/host to-xl. Both may be given several times; quote a word with a blank: --name 'vm 3=vm3'.
 
-A VCPU that is offline is left out, and the file says so. Refused, with the file and the line, and nothing written: a VCPU that is not pinned
-to one processor, or stands in only one of the texts, and a domain whose name the file cannot have, all such at once; a text without the line
-`Cpupool ..: sched=RTDS`, since it may lack other domains of the pool; and any line of no such text. The status is 1 then, and 2 where
-the words are wrong."""
+A VCPU that is offline is left out, and the file says so. Refused, with the file and the line, and nothing written: a VCPU that is not
+pinned to one processor, or stands in only one of the texts, and a domain whose name the file cannot have, all such at once; a text without
+the line `Cpupool ..: sched=RTDS`, since it may lack other domains of the pool; and any line of no such text. The status is 1 then, and 2
+where the words are wrong."""
 import re
 import shlex
 from dataclasses import dataclass
 
-from ..command_line import Refused, pairs, refuse_all
+from ..command_line import Refused, pairs, refuse_all, several
 from ..system_file import LIMIT, NAME, lines_of, part_text, system_text
 
 POOL = re.compile(r"Cpupool (.+): sched=(\S+)")
@@ -155,8 +155,8 @@ class Host:
 def add_words(parser):
     parser.add_argument("sched", metavar="SCHED", help="what `xl sched-rtds -v all` prints")
     parser.add_argument("vcpus", metavar="VCPUS", help="what `xl vcpu-list` prints")
-    parser.add_argument("--name", action="append", default=[], metavar="DOMAIN=NAME", help="another name for a domain; may be given several times")
-    parser.add_argument("--stand-in", action="append", default=[], metavar="PART", help="a VCPU of which only the budget is known; may be given several times")
+    several(parser, "--name", "DOMAIN=NAME", "another name for a domain")
+    several(parser, "--stand-in", "PART", "a VCPU of which only the budget is known")
 
 
 def run(given):

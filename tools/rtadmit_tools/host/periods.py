@@ -70,7 +70,8 @@ def needs_of(program, path, name, low, high, most):
         needs = list(counted(found, "periods", len(periods)))
     for need in needs:
         if best and need.period == best.period and need.budget != best.budget:
-            raise Refused(None, None, f"{program.path}: at period {best.period} it tells a budget of {need.budget}, and of {best.budget} for the range")
+            cause = f"at period {best.period} it tells a budget of {need.budget}, and of {best.budget} for the range"
+            raise Refused(program.path, None, cause)
     return needs, best
 
 
@@ -119,7 +120,7 @@ def add_words(parser):
     parser.add_argument("low", metavar="LOW", type=int, help="the shortest period")
     parser.add_argument("high", metavar="HIGH", type=int, help="the longest period")
     parser.add_argument("out", metavar="OUT", nargs="?", help="gets the picture")
-    parser.add_argument("--most", metavar="N", type=at_least_two, default=200, help="how many periods are printed at the most; 200 where none is said")
+    parser.add_argument("--most", metavar="N", type=at_least_two, default=200, help="how many periods are printed at the most (200)")
     add_program(parser)
 
 

@@ -23,13 +23,14 @@ import pathlib
 import re
 from fractions import Fraction
 
-from ..command_line import Refused, WrongWords, pairs
+from ..command_line import Refused, WrongWords, pairs, several
 from ..places import rewritten
 from ..program import add_program, program_of
 from ..system_file import System, admitted, need_full, read_system
 
 LEAST_NS = 1024
 PERIODS = (100, 4_194_304)
+TID = re.compile("[1-9][0-9]{0,8}")
 
 
 def runtime_of(path, server, tick):
@@ -92,8 +93,8 @@ def audited(path, names):
 
 def add_words(parser):
     parser.add_argument("file", metavar="FILE", help="the system file")
-    parser.add_argument("--map", action="append", default=[], required=True, metavar="NAME=TID", help="the thread of a part")
-    parser.add_argument("--without", action="append", default=[], metavar="NAME", help="a part that is no thread")
+    several(parser, "--map", "NAME=TID", "the thread of a part", required=True)
+    several(parser, "--without", "NAME", "a part that is no thread")
     parser.add_argument("--tick", type=int, default=0, metavar="MICROSECONDS", help="what the kernel may be late (0)")
     parser.add_argument("--audit", metavar="OUT", help="gets the file with which a host set with a tick is audited")
     parser.add_argument("--limit", default="900000/1000000", metavar="RUNTIME/PERIOD", help="what the kernel lets a core's threads reserve")
@@ -103,12 +104,14 @@ def add_words(parser):
 def run(given):
     threads = pairs(given.map, "--map")
     limit = re.fullmatch("([0-9]{1,9})/([1-9][0-9]{0,8})", given.limit)
-    wrong = [f"--map {name}={tid}: {tid!r} is no number of a thread" for name, tid in threads.items() if not re.fullmatch("[1-9][0-9]{0,8}", tid)]
-    wrong += [f"--without {name}: --map gives it a thread" for name in given.without if name in threads]
-    wrong += [] if limit and int(limit[1]) <= int(limit[2]) else [f"--limit {given.limit!r} is not RUNTIME/PERIOD, with a runtime up to the period"]
-    wrong += [] if 0 <= given.tick <= 1_000_000 else ["--tick is not from 0 to 1000000"]
-    if wrong:
-        raise WrongWords(wrong[0])
+    for is_wrong, told in (
+        *((not TID.fullmatch(tid), f"--map {name}={tid}: {tid!r} is no number of a thread") for name, tid in threads.items()),
+        *((name in threads, f"--without {name}: --map gives it a thread") for name in given.without),
+        (not limit or int(limit[1]) > int(limit[2]), f"--limit {given.limit!r} is not RUNTIME/PERIOD, with a runtime up to the period"),
+        (not 0 <= given.tick <= 1_000_000, "--tick is not from 0 to 1000000"),
+    ):
+        if is_wrong:
+            raise WrongWords(told)
     told = calls(given.file, program_of(given.program), threads, given.without, given.tick, Fraction(int(limit[1]), int(limit[2])))
     if given.audit:
         pathlib.Path(given.audit).write_text(audited(given.file, threads), newline="")

@@ -17,7 +17,7 @@ import re
 import shlex
 import sys
 
-from ..command_line import Refused, pairs
+from ..command_line import Refused, pairs, several
 from ..program import add_program, program_of
 from ..system_file import admitted, need_full
 
@@ -65,7 +65,8 @@ def tell_exposed(path, program):
     for line in program.ask("isolate", path).lines:
         if line.startswith("exposed "):
             _, name, by, *_ = line.split()
-            print(f"{path}: {name} is exposed ({by}): its budget is not proved safe when others of its core sleep (docs/no.md)", file=sys.stderr)
+            told = f"{name} is exposed ({by}): its budget is not proved safe when others of its core sleep (docs/no.md)"
+            print(f"{path}: {told}", file=sys.stderr)
 
 
 def calls(path, program, domains, names):
@@ -87,7 +88,7 @@ def calls(path, program, domains, names):
 
 def add_words(parser):
     parser.add_argument("file", metavar="FILE", help="the system file")
-    parser.add_argument("--name", action="append", default=[], metavar="DOMAIN=NAME", help="the domain that a name of the file stands for; may be given several times")
+    several(parser, "--name", "DOMAIN=NAME", "the domain that a name of the file stands for")
     parser.add_argument("--names", metavar="OTHER", help="the file whose comments tell the domains, in place of FILE")
     add_program(parser)
 

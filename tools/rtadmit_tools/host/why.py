@@ -23,8 +23,8 @@ and the rule of docs/formats.md. SECOND is a trace, a workload, a release file, 
 first line says, or --as. The program names the fault, and the place is found by reading the file here once more; where that reading finds
 no such fault there, or does not take the file (Python's reader of TOML is one of TOML 1.0), it says so.
 
-The status is that of the program's answer: 0 on yes, 1 on no, 4 on wide, 3 where a file is refused; 2 where the words are wrong; and 3, with
-the cause on standard error, where there is no answer."""
+The status is that of the program's answer: 0 on yes, 1 on no, 4 on wide, 3 where a file is refused; 2 where the words are wrong; and 3,
+with the cause on standard error, where there is no answer."""
 import fractions
 import math
 import pathlib
@@ -126,7 +126,8 @@ class Told:
         if asked <= sure:
             self.differ(f"{slots(asked)} are asked for in {slots(window)}, and {sure} are sure")
         if self.task is None:
-            case = f"In a window of {slots(window)} up to {slots(asked)} of work must be done, and {sure} are sure to come: {missing(asked - sure)}."
+            within = f"In a window of {slots(window)} up to {slots(asked)} of work must be done"
+            case = f"{within}, and {sure} are sure to come: {missing(asked - sure)}."
         else:
             within = f"{self.task} must be done within {slots(window)}, in which it and what ranks above it ask for up to {asked}."
             case = f"{within} {sure} are sure to come: {missing(asked - sure)}, and no shorter window is enough."
@@ -313,7 +314,8 @@ def helping(system, told, program):
         head = "No change that was tried helps by itself."
     kept = ", ".join(part.name for part in search.parts() if is_stand_in(part))
     kept = [f"({kept}: the task is invented, so budget and period stay as they are.)"] if kept else []
-    return [head, *kept, *([f"(Of the tasks and parts the {MOST_TRIED} with the greatest shares were tried.)"] if search.cut else [])], yes or offers
+    kept += [f"(Of the tasks and parts the {MOST_TRIED} with the greatest shares were tried.)"] if search.cut else []
+    return [head, *kept], yes or offers
 
 
 def by_kind(offers):
@@ -362,7 +364,8 @@ def judged(path, program, most, asked=None):
         return 4, [f"{path}: {answer.shown}", "", *wide_lines(system, answer)]
     told = Told(system, answer, program)
     head, offers = helping(system, told, program)
-    return 1, [f"{path}: {answer.shown}", "", *told.said(), "", *columns(told.table()), "", *head, *offer_lines(path, offers, most, asked or called("rtadmit"))]
+    offered = offer_lines(path, offers, most, asked or called("rtadmit"))
+    return 1, [f"{path}: {answer.shown}", "", *told.said(), "", *columns(told.table()), "", *head, *offered]
 
 
 def refused(path, second, kind, answer):
@@ -377,6 +380,8 @@ def judged_second(path, second, kind, program):
     answer = program.ask(*faults.words_of(kind, path, second))
     if answer.status == 3:
         return refused(path, second, kind, answer)
+    if answer.status not in (0, 1, 4):
+        raise Refused(second, None, f"the program does not judge it: {answer.shown} (status {answer.status})")
     rows = faults.refused_rows(path, second, answer) if kind == "script" else []
     return answer.status, [f"{second}, read as {kind}: {answer.shown}. It is taken.", *rows]
 
@@ -410,5 +415,6 @@ def run(given):
     if given.second:
         status, lines = judged_second(given.file, given.second, given.kind, program)
     else:
-        status, lines = judged(given.file, program, None if given.all else MOST_TOLD, shlex.join(shlex.split(given.program)) if given.program else None)
+        asked = shlex.join(shlex.split(given.program)) if given.program else None
+        status, lines = judged(given.file, program, None if given.all else MOST_TOLD, asked)
     return "\n".join(lines) + "\n", status
