@@ -1,53 +1,25 @@
-#!/usr/bin/env python3
-"""Whether the definitions that only private functions use stand in specs/inner/.
+"""Tells whether the definitions that only private functions use stand in specs/inner/.
 
-    tools/inner [--files]
+A reader meets a definition of specs/ where a contract of a public item names it, or a definition that the reader meets, or src/ or specs/
+of another crate. Public items are what lib.rt hands out: functions, traits, and types with their ghost fields, their invariants and their
+public methods. What no reader meets is to stand in specs/inner/. What only proofs of other crates name may stay outside, where
+docs/architecture.md ("Inside a crate") names its file as `CRATE/FILE`.
 
-A reader meets a definition of specs/ where a contract of a public item names it, or a definition that the reader meets, or src/ or specs/ of
-another crate. Public items are what lib.rt hands out: functions, traits, and types with their ghost fields, their invariants and their public
-methods. What no reader meets is to stand in specs/inner/. What only proofs of other crates name may stay outside, where docs/architecture.md
-("Inside a crate") names its file as `CRATE/FILE`.
-
-The tool lists the definitions outside inner that no reader meets, as FILE:LINE: NAME, first those that no other crate names, then those that only
-proofs of other crates name, and ends with 1 where there are any. It goes by names, and takes a field for a definition of its name, so it may
-find less. --files lists the files in place of the definitions, with how many of theirs they are."""
-import argparse
-import pathlib
+Listed are the definitions outside inner that no reader meets, as FILE:LINE: NAME, first those that no other crate names, then those that
+only proofs of other crates name, and the status is 1 where there are any. It goes by names, and takes a field for a definition of its
+name, so it may find less. --files lists the files in place of the definitions, with how many of theirs they are."""
 import re
-import sys
 from collections import Counter, defaultdict
 
-top = pathlib.Path(__file__).resolve().parent.parent
-DEFINITION = re.compile(r"(?:(?:abbrev|unfoldable) )?pub (?:(record|data) )?(?!mod |use )([A-Za-z_][\w'-]*)")
-CONSTRUCTOR = re.compile(r"  ([A-Za-z_][\w'-]*) : |  ([A-Za-z_][\w'-]*)$")
+from .. import sources
+from ..sources import FUNCTION
+
 IMPORT = re.compile(r"\buse Rattle\.(\w+)\.specs\.([\w.+-]+?)(?:\.\{([^}]*)\}| as (\w+))")
 NAME = re.compile(r"(?<![\w.'-])(?:(\w+)\.)?([A-Za-z_][\w'-]*)")
 HANDED_OUT = re.compile(r"^pub use (\w+)::(?:\{([^}]*)\}|(\w+));", re.M)
 ITEM = re.compile(r"(?P<pub>pub )?(?:pub\(\w+\) )?(?:const |unsafe )*"
                   r"(?P<kind>fn|struct|enum|trait|impl|const|static|type|mod|use|ghost|macro_rules!)(?:<[^{]*?>)? "
                   r"(?:(?:\w+::)*(?P<trait>\w+)(?:<.*>)? for )?(?P<name>\w+)")
-FUNCTION = re.compile(r" *(?:#\[.*\] )?(pub )?(?:pub\(\w+\) )?(?:const |unsafe )*fn ")
-
-
-def files_of(crate, room, ending):
-    """The files of a room of a crate with the names of their modules and their texts."""
-    folder = top / "crates" / crate / room
-    for path in sorted(folder.rglob(f"*{ending}")):
-        yield path, ".".join(path.relative_to(folder).with_suffix("").parts), path.read_text()
-
-
-def definitions_of(text):
-    """Each definition of a file of specs/: its name, its line and its text; a constructor has no line, and its text is its type's name."""
-    found, at, kind = {}, None, None
-    for number, line in enumerate(text.split("\n"), 1):
-        if begun := DEFINITION.match(line):
-            kind, at = begun[1], begun[2]
-            found[at] = (number, [])
-        elif kind == "data" and (made := CONSTRUCTOR.match(line)):
-            found[made[1] or made[2]] = (None, [at])
-        if at and not line.startswith("--"):
-            found[at][1].append(line)
-    return {name: (number, "\n".join(lines)) for name, (number, lines) in found.items()}
 
 
 def imports_of(text):
@@ -83,7 +55,7 @@ def contracts(lines, all_functions):
         if end is not None:
             end = None if line == end else end
         elif not line.lstrip().startswith(("//", "#[")) or begun:
-            is_told = all_functions or bool(begun[1]) if begun else is_told
+            is_told = all_functions or begun[2] == "pub " if begun else is_told
             if is_told:
                 yield line
             if line.strip() == "{" or line.endswith("{") and (begun or line.lstrip().startswith(")")):
@@ -122,25 +94,24 @@ class House:
     def __init__(self):
         self.definitions, self.imports, self.places = {}, {}, {}
         self.met, self.in_proofs = set(), set()
-        for crate in sorted(path.name for path in (top / "crates").iterdir()):
+        for crate in sources.crates():
             self.read_specs(crate)
             self.read_sources(crate)
-            for _, _, text in files_of(crate, "proofs", ".antt"):
-                self.in_proofs |= named_of_others(text, crate)
+            self.in_proofs = self.in_proofs.union(*(named_of_others(file.text, crate) for file in sources.files(crate, "proofs")))
         self.go_on()
 
     def read_specs(self, crate):
         """Notes the definitions of a crate, and that a reader meets those of other crates that they name."""
-        for path, module, text in files_of(crate, "specs", ".antt"):
-            here, imports = definitions_of(text), imports_of(text)
-            self.places[crate, module] = path.relative_to(top)
-            self.definitions.update({(crate, module, name): one for name, one in here.items()})
-            self.imports[crate, module] = imports | {name: (crate, module, name) for name in here}
-            self.met |= named_of_others(text, crate)
+        for file in sources.files(crate, "specs"):
+            here, place = sources.definitions(file.text), (crate, file.module)
+            self.places[place] = file.path
+            self.definitions.update({(*place, name): one for name, one in here.items()})
+            self.imports[place] = imports_of(file.text) | {name: (*place, name) for name in here}
+            self.met |= named_of_others(file.text, crate)
 
     def read_sources(self, crate):
         """Notes that a reader meets what public contracts name, and what src/ names of other crates."""
-        files = [(module, text, items_of(text)) for _, module, text in files_of(crate, "src", ".rt")]
+        files = [(file.module, file.text, items_of(file.text)) for file in sources.files(crate, "src")]
         handed_out = handed_out_by("".join(text for module, text, _ in files if module == "lib"))
         named = {kind: {begun["name"] for _, _, items in files for begun, _ in items if begun["kind"] == kind}
                  for kind in ("struct", "enum", "trait")}
@@ -174,33 +145,24 @@ def handed_out_by(lib):
     return found
 
 
-def files_that_stay():
-    """The files of specs/ that the page lets stay, as crate and module."""
-    part = (top / "docs/architecture.md").read_text().partition("\n## Inside a crate\n")[2].partition("\n## ")[0]
-    return {(crate, module) for crate, module in re.findall(r"`(\w+)/(\w+)`", part)}
-
-
 def lines_of(found, house, by_file):
     """What is said of definitions that were found: a line each, or one for each of their files."""
     if not by_file:
         return [f"{house.places[one[:2]]}:{house.definitions[one][0]}: {one[2]}" for one in found]
-    counts = Counter(one[:2] for one in found)
     all_of = Counter(one[:2] for one, (line, _) in house.definitions.items() if line)
-    return [f"{house.places[file]}: {count} of {all_of[file]}" for file, count in counts.items()]
+    return [f"{house.places[file]}: {count} of {all_of[file]}" for file, count in Counter(one[:2] for one in found).items()]
 
 
-def main(arguments=None):
-    parser = argparse.ArgumentParser(description=__doc__, formatter_class=argparse.RawDescriptionHelpFormatter)
+def add_words(parser):
     parser.add_argument("--files", action="store_true", help="list files in place of definitions")
-    words, house, stay = parser.parse_args(arguments), House(), files_that_stay()
+
+
+def run(given):
+    house, told = House(), []
+    stay = set(re.findall(r"`(\w+)/(\w+)`", sources.part_of(sources.page("docs/architecture.md"), "Inside a crate")))
     found = list(house.not_met())
     private = [one for one in found if one not in house.in_proofs]
     proved_with = [one for one in found if one in house.in_proofs and one[:2] not in stay]
     for head, some in (("Only private functions use:", private), ("Only proofs of other crates name:", proved_with)):
-        if some:
-            print(head, *lines_of(some, house, words.files), sep="\n")
-    return 1 if private or proved_with else 0
-
-
-if __name__ == "__main__":
-    sys.exit(main())
+        told += [head, *lines_of(some, house, given.files)] if some else []
+    return sources.told(told)

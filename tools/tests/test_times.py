@@ -1,19 +1,18 @@
-"""tools/gate-times: what it counts, over a made-up folder of processes and over a pipe."""
-import pathlib
+"""tools/gate times: what it counts, over a made-up folder of processes and over a pipe."""
+import shutil
 import subprocess
-import tempfile
 import unittest
 
-import load
+from support import Room, top, verb
 
-gate_times = load.load("gate-times")
+times = verb("gate", "times")
 
 
 class Processes:
     """A folder as /proc is, with processes as a test says."""
 
     def __init__(self, folder):
-        self.folder = pathlib.Path(folder)
+        self.folder = folder
 
     def put(self, pid, parent, words, ticks, ended=0, cwd="/", out="pipe:[1]", start=5):
         """A process with its ticks, those of its children that have ended, its folder and where it writes."""
@@ -28,11 +27,7 @@ class Processes:
             link.symlink_to(to)
 
     def end(self, pid):
-        at = self.folder / str(pid)
-        for path in (at / "cwd", at / "fd" / "1", at / "stat", at / "cmdline"):
-            path.unlink()
-        (at / "fd").rmdir()
-        at.rmdir()
+        shutil.rmtree(self.folder / str(pid))
 
 
 def rattle(crate, *more):
@@ -41,13 +36,11 @@ def rattle(crate, *more):
 
 class Metered(unittest.TestCase):
     def setUp(self):
-        room = tempfile.TemporaryDirectory()
-        self.addCleanup(room.cleanup)
-        self.made = Processes(room.name)
+        self.made = Processes(Room(self).folder)
         self.made.put(10, 1, ["bash", ".ci/run"], 0)
         self.made.put(11, 10, ["python3", "/bin/rt", "ci"], 200)
-        self.made.put(12, 1, ["tools/gate-times"], 40, out="/dev/tty")
-        self.meter = gate_times.Meter(room.name, "pipe:[1]", 12)
+        self.made.put(12, 1, ["tools/gate", "times"], 40, out="/dev/tty")
+        self.meter = times.Meter(self.made.folder, "pipe:[1]", 12)
 
     def rows(self):
         """The table's rows, as numbers by name, and its last line."""
@@ -85,29 +78,21 @@ class Metered(unittest.TestCase):
         self.meter.read()
         self.assertEqual(self.rows()[0]["low"][0], 18)
 
-    def test_what_another_gate_does_is_left_out(self):
+    def test_what_is_left_out(self):
+        """What another gate does, and a process that ends while it is read."""
         self.made.put(50, 1, ["python3", "/bin/rt", "check"], 900, out="/dev/tty")
         self.made.put(51, 50, rattle("low"), 900, out="/dev/tty")
-        self.meter.read()
-        rows, last = self.rows()
-        self.assertNotIn("low", rows)
-        self.assertEqual(last, "other 2 s, gate 2 s of processor time, in 7 s")
-
-    def test_one_that_ends_while_it_is_read_is_passed_over(self):
         (self.made.folder / "77").mkdir()
         self.meter.read()
-        self.assertEqual(list(self.rows()[0]), ["all crates"])
+        rows, last = self.rows()
+        self.assertEqual((list(rows), last), (["all crates"], "other 2 s, gate 2 s of processor time, in 7 s"))
 
 
 class Piped(unittest.TestCase):
     def test_lines_are_stamped_and_passed_on(self):
-        tool = load.top / "tools" / "gate-times"
-        ran = subprocess.run(["bash", "-c", f"printf 'one\\ntwo' | {tool}"], capture_output=True, text=True)
-        lines = ran.stdout.split("\n")
+        ran = subprocess.run(["bash", "-c", f"printf 'one\\ntwo' | {top}/tools/gate times"], capture_output=True, text=True)
         self.assertEqual(ran.returncode, 0)
-        self.assertRegex(lines[0], r"^ +[0-9]+\.[0-9] one$")
-        self.assertRegex(lines[1], r"^ +[0-9]+\.[0-9] two$")
-        self.assertIn("gate", ran.stdout.split("\n")[-2])
+        self.assertRegex(ran.stdout, r"\A +[0-9]+\.[0-9] one\n +[0-9]+\.[0-9] two\n(.*\n)*other .*, gate .*\n\Z")
 
 
 if __name__ == "__main__":
