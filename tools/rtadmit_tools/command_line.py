@@ -4,7 +4,6 @@ A verb is a module of rtadmit_tools.host or rtadmit_tools.gate, with _ for each 
 a line that says what it does. It has `add_words(parser)` and `run(given)`, which answers a status, a text that is printed, or both as a
 pair; no answer is status 0. Where its help tells another status for a refusal than 1, it has that as REFUSED."""
 import argparse
-import ast
 import importlib
 import os
 import pathlib
@@ -40,8 +39,8 @@ def verbs(kind):
     """The verbs of an entry point in order, each with the first line of its help."""
     found = {}
     for path in sorted((pathlib.Path(__file__).parent / kind).glob("[!_]*.py")):
-        told = ast.get_docstring(ast.parse(path.read_text()))
-        found[path.stem.replace("_", "-")] = told.split("\n", 1)[0]
+        with open(path) as module:
+            found[path.stem.replace("_", "-")] = module.readline().strip().strip('"')
     return found
 
 

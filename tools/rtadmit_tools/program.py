@@ -10,10 +10,31 @@ from .command_line import TOP, Refused
 NO_LINE = re.compile(r"overfull (part|core) (\S+) (?:at=(\d+)|task=(\S+))")
 PART_LINE = re.compile(r"part (\S+) period=(\d+) budget=(\d+) (given|computed)")
 BROKEN_LINE = re.compile(r"(short|over) (\S+) from_ns=(\d+) got_ns=(\d+) of_ns=(\d+)")
-ISOLATE_LINE = re.compile(
-    r"(?:isolated(?! \S+ by=)|exposed(?= \S+ by=)) (?P<name>\S+)(?: by=(?P<by>ties|block))?(?:(?<=by=block)|(?<!by=block) last=(?P<last>\d+) of=(?P<of>\d+))"
-)
 TALLY_LINE = re.compile(r"vcpu (\S+) begun=(\d+) judged=(\d+) short=(\d+) over=(\d+) least_ns=(\d+|-) most_ns=(\d+|-)")
+SPOT = re.compile(r"at=((?:core|part) \d+(?: task \d+)?)")
+# the words that stand alone in a line, behind its first one
+ALONE = {
+    "part": ("name", "how"), "core": ("name",), "witness": ("name",), "overfull": ("node", "name"), "wide": ("node", "name"),
+    "flaw": ("node", "name"), "first": ("task",), "short": ("name",), "over": ("name",), "isolated": ("name",), "exposed": ("name",),
+    "vcpu": ("name",), "response": ("name", "task"), "interface": ("name",), "choose": ("name",), "nothing": (), "unplaced": ("name",),
+    "slack": ("name", "task"), "yes": (), "refused": ("fault",), "fault": (), "absent": (), "toolong": (), "periods": (), "guests": (),
+}
+
+
+def value_of(text):
+    return None if text == "-" else int(text) if text.isdecimal() else text.replace("\0", " ")
+
+
+def line_object(line):
+    """A line of an answer by its keys, or None where docs/formats.md has no such line. Its first word may be the number of a row."""
+    words = SPOT.sub(lambda found: found[0].replace(" ", "\0"), line).split(" ")
+    told = {"row": int(words.pop(0))} if words[0].isdecimal() else {}
+    pairs = [word.partition("=")[::2] for word in words if "=" in word]
+    alone = [word for word in words if "=" not in word]
+    kind = alone.pop(0) if words and "=" not in words[0] else pairs[0][0] if pairs else None
+    if kind not in ALONE or len(alone) > len(ALONE[kind]):
+        return None
+    return {"kind": kind, **told, **dict(zip(ALONE[kind], alone)), **{key: value_of(value) for key, value in pairs}}
 
 
 @dataclass
@@ -34,6 +55,10 @@ class Answer:
     @property
     def shown(self):
         return " ".join(self.lines[:2]) or f"status {self.status}"
+
+    def told(self, *kinds):
+        """The lines of these kinds by their keys."""
+        return [line for line in map(line_object, self.lines) if line and line["kind"] in kinds]
 
     def refused_node(self):
         """On a no the kind and the name of the node that is told, and its window or its task."""

@@ -55,12 +55,14 @@ def gate_of(path):
 
 @dataclass
 class Origin:
-    """What a program is: its sum, the answer of its `version`, and the gate that left it, as far as one is known."""
+    """What a program is: its sum, the answer of its `version`, the gate that left it, as far as one is known, and whether one that no gate
+    left was asked for."""
 
     path: str
     sum: str
     version: str
     gate: Gate | None
+    is_asked_for: bool
 
     @property
     def is_unproved(self):
@@ -87,7 +89,7 @@ def file_of(program):
 
 
 def add_origin(parser):
-    parser.add_argument("--gate", metavar="GATE", help="what the gate printed; without it the file GATE beside the program, which a release has")
+    parser.add_argument("--gate", metavar="GATE", help="what the gate printed; without it GATE beside the program, as in a release")
     parser.add_argument("--unproved", action="store_true", help="takes a build without proofs too, and marks each page of it")
 
 
@@ -98,13 +100,13 @@ def origin_of(program, gate, unproved):
     if version.endswith(UNPROVED):
         if not unproved:
             raise Refused(path, None, f"`version` says {version!r}: nothing of it is proved; --unproved takes it, and marks each page")
-        return Origin(path, digest, version, None)
+        return Origin(path, digest, version, None, True)
     beside = pathlib.Path(path).with_name("GATE")
     gate = gate or (beside if beside.exists() else None)
     told = gate and gate_of(gate)
     if told and told.sum != digest:
         raise Refused(path, None, f"is not what the gate left: its sum is {digest}, and {gate} tells {told.sum}")
-    return Origin(path, digest, version, told)
+    return Origin(path, digest, version, told, unproved)
 
 
 # The folder and its archive

@@ -27,38 +27,23 @@ import tomllib
 
 from .. import faults
 from ..command_line import Refused
-from ..program import add_program, program_of
+from ..program import add_program, line_object, program_of, value_of
 from ..system_file import line_of
 
 STATUS = ("Yes", "No", "Usage", "BadFile", "Wide", "Absent", "ReadFault", "TooLong", "WriteFault", "NoMemory")
-ALONE = {
-    "part": ("name", "how"), "core": ("name",), "witness": ("name",), "overfull": ("node", "name"), "wide": ("node", "name"),
-    "flaw": ("node", "name"), "first": ("task",), "short": ("name",), "over": ("name",), "isolated": ("name",), "exposed": ("name",),
-    "vcpu": ("name",), "response": ("name", "task"), "interface": ("name",), "choose": ("name",), "nothing": (), "unplaced": ("name",),
-    "slack": ("name", "task"), "yes": (), "refused": ("fault",), "fault": (), "absent": (), "toolong": (), "periods": (), "guests": (),
-}
 SECOND = {
     "check": "certificate", "simulate": "releases", "rtds": "workload", "audit": "trace", "tally": "trace", "session": "script",
     "place": "guests",
 }
-SPOT = re.compile(r"at=((?:core|part) \d+(?: task \d+)?)")
 NOT_YES = {"overfull", "wide", "flaw", "short", "over", "exposed", "first", "nothing", "unplaced", "refused", "fault", "absent", "toolong"}
 
 
-def value_of(text):
-    return None if text == "-" else int(text) if text.isdecimal() else text.replace("\0", " ")
-
-
-def line_object(line):
-    """A line of an answer as an object. Its first word may be the number of a row."""
-    words = SPOT.sub(lambda found: found[0].replace(" ", "\0"), line).split(" ")
-    told = {"row": int(words.pop(0))} if words[0].isdecimal() else {}
-    pairs = [word.partition("=")[::2] for word in words if "=" in word]
-    alone = [word for word in words if "=" not in word]
-    kind = alone.pop(0) if "=" not in words[0] else pairs[0][0]
-    if kind not in ALONE or len(alone) > len(ALONE[kind]):
-        raise Refused(None, None, f"the program answers a line that docs/formats.md does not have: {line}")
-    return {"kind": kind, **told, **dict(zip(ALONE[kind], alone)), **{key: value_of(value) for key, value in pairs}}
+def objects(lines):
+    for line in lines:
+        told = line_object(line)
+        if told is None:
+            raise Refused(None, None, f"the program answers a line that docs/formats.md does not have: {line}")
+        yield told
 
 
 def object_of(words, answer):
@@ -67,7 +52,7 @@ def object_of(words, answer):
     lines, command = answer.lines, words[0] if words else ""
     if lines and lines[0] in ("verdict=yes", "verdict=no", "verdict=wide"):
         told["verdict"] = lines.pop(0).partition("=")[2]
-        told["lines"] = list(map(line_object, lines))
+        told["lines"] = list(objects(lines))
     elif answer.status == 2 and lines:
         told["lines"] = [{"kind": "usage", "text": answer.text.strip()}]
     elif answer.status == 0 and command == "version":
@@ -80,7 +65,7 @@ def object_of(words, answer):
         told["events"] = [{key: value_of(value) if key[:2] == "at" else value or None for key, value in row.items()}
                           for row in csv.DictReader(io.StringIO(answer.text))]
     else:
-        told["lines"] = list(map(line_object, lines))
+        told["lines"] = list(objects(lines))
     return told
 
 
@@ -94,7 +79,7 @@ def line_of_row(path, holds):
 def fault_place(told):
     """The file, the line and the cause that the first line of what is told of a fault has."""
     found = re.match(r"(.+?)(?::(\d+))?: (.*)", told[0])
-    return found[1], found[2] and int(found[2]), found[3]
+    return found[1], found[2] and int(found[2]), found[3].removeprefix(", ")
 
 
 def place_of(line, command, files, answer):

@@ -1,7 +1,7 @@
 """Evidence to file of a host, and of a recording of it: what was asked, what was answered, and by which program.
 
-GATE holds what the gate printed (`bash .ci/run | tee GATE`). Its last line, by tools/gate program-sum, tells the sum of the program that the
-gate left, the commit and the logic; the program that is asked has to have that sum. OUT must not be there yet; it becomes a folder with
+GATE holds what the gate printed (`bash .ci/run | tee GATE`). Its last line, by tools/gate program-sum, tells the sum of the program that
+the gate left, the commit and the logic; the program that is asked has to have that sum. OUT must not be there yet; it becomes a folder with
 
     system.toml, trace.csv    copies of FILE and TRACE
     certificate.json          what `certify` writes, where it is a yes (docs/certificate.md)
@@ -27,73 +27,39 @@ import subprocess
 import sys
 import tempfile
 
-from ..command_line import TOP, Refused, counted
+from ..command_line import TOP, Refused
 from ..program import Answer, Program, add_program, program_of
 from ..sealed import add_origin, archive_of, end_by_signal, origin_of, seal, sum_of
-from ..system_file import read_system
+from ..system_file import read_admitted
 from . import report
 
 SYSTEM, TRACE, CERTIFICATE = "system.toml", "trace.csv", "certificate.json"
 CLOSING = 20
 
 
-class Verdicts:
-    """The answers to the commands, as the text of verdicts.txt."""
-
-    def __init__(self, program, mark):
-        self.program, self.told, self.missing = program, [f"{mark}\n"] * bool(mark), set()
-
-    def note(self, words, answer):
-        self.told.append(f"$ {words}\n{answer.text}status {answer.status}\n")
-
-    def ask(self, command, *words, into=None):
-        """The answer to a command, or None where the program does not have it."""
-        if command in self.missing:
-            return None
-        answer = self.program.ask(command, *words)
-        if answer.status == 2:
-            self.missing.add(command)
-            self.told.append(f"not asked: this program has no `{command}`\n")
-            return None
-        shown = " ".join(["rtadmit", command, *words])
-        if into and answer.status == 0:
-            pathlib.Path(into).write_text(answer.text)
-            self.note(f"{shown} >{into}", Answer(0, ""))
-        else:
-            self.note(shown, answer)
-        return answer
-
-    def checked_twice(self):
-        """The certificate as the program and as the second checker judge it. Refused where they differ."""
-        answer = self.ask("check", SYSTEM, CERTIFICATE)
-        ran = subprocess.run([sys.executable, "-B", TOP / "tools/second-checker", SYSTEM, CERTIFICATE], stdout=subprocess.PIPE, text=True)
-        second = Answer(ran.returncode, ran.stdout)
-        if second != answer:
-            raise Refused(None, None, f"the certificate is answered {answer and answer.shown} by `check`, and {second.shown} by tools/second-checker")
-        self.note(f"tools/second-checker {SYSTEM} {CERTIFICATE}", second)
-
-    def all(self, has_trace):
-        """Asks all of a system and of a trace."""
-        admitted = self.ask("admit", SYSTEM)
-        certified = self.ask("certify", SYSTEM, into=CERTIFICATE)
-        if certified and certified.status == 0:
-            self.checked_twice()
-        if admitted.is_yes:
-            self.ask("responses", SYSTEM)
-            for part in counted([part for part in read_system(SYSTEM).parts() if part.tasks], "slack"):
-                self.ask("slack", SYSTEM, part.name)
-            self.ask("isolate", SYSTEM)
-        for command in ("audit", "tally") if has_trace else ():
-            self.ask(command, SYSTEM, TRACE)
-        return "\n".join(self.told)
+def certified(program):
+    """What the program answers to `certify` and `check`, and the second checker to the certificate, each behind its words. Refused where
+    the checkers differ."""
+    answer = program.ask("certify", SYSTEM)
+    if answer.status:
+        return [(f"rtadmit certify {SYSTEM}", answer)] * (answer.status != 2)
+    pathlib.Path(CERTIFICATE).write_text(answer.text)
+    first = program.ask("check", SYSTEM, CERTIFICATE)
+    ran = subprocess.run([sys.executable, "-B", TOP / "tools/second-checker", SYSTEM, CERTIFICATE], stdout=subprocess.PIPE, text=True)
+    second = Answer(ran.returncode, ran.stdout)
+    if second != first:
+        told = f"{first.shown} by `check`, and {second.shown} by tools/second-checker"
+        raise Refused(None, None, f"the certificate is answered {told}")
+    checked = [(f"rtadmit check {SYSTEM} {CERTIFICATE}", first), (f"tools/second-checker {SYSTEM} {CERTIFICATE}", second)]
+    return [(f"rtadmit certify {SYSTEM} >{CERTIFICATE}", Answer(0, "")), *checked]
 
 
-def need_judged(file, trace, program):
-    """Refuses a file that the program does not judge."""
-    for path, words in ((file, ("admit", file)), *([(trace, ("audit", file, trace))] if trace else [])):
-        answer = program.ask(*words)
-        if answer.status not in (0, 1, 4):
-            raise Refused(path, None, f"the program does not judge it: {answer.shown} (status {answer.status})")
+def verdicts(asked, mark):
+    """The text of verdicts.txt."""
+    admit, *others = [(f"rtadmit {words}", answer) for words, answer in asked.answers]
+    answers = [admit, *certified(asked.program), *others]
+    told = [f"$ {words}\n{answer.text}status {answer.status}\n" for words, answer in answers]
+    return "\n".join([f"{mark}\n"] * bool(mark) + told + [f"{note}\n" for note in asked.notes if note.startswith("not asked")])
 
 
 def fill(folder, given, program, origin):
@@ -102,10 +68,12 @@ def fill(folder, given, program, origin):
     if given.trace:
         shutil.copyfile(given.trace, folder / TRACE)
     with contextlib.chdir(folder):
-        verdicts = Verdicts(program, origin.mark).all(bool(given.trace))
-        page = report.page_of(SYSTEM, TRACE if given.trace else None, program, origin)
+        asked = report.Asked(SYSTEM, given.trace and TRACE, program)
+        if given.trace and asked.audit.status not in (0, 1, 4):
+            raise Refused(given.trace, None, f"the program does not judge it: {asked.audit.shown} (status {asked.audit.status})")
+        texts = {"verdicts.txt": verdicts(asked, origin.mark), "report.html": report.Page(asked, origin).text()}
     told = [origin.mark, origin.version, origin.gate.line if origin.gate else f"program sha256={origin.sum}"]
-    texts = {"verdicts.txt": verdicts, "report.html": page, "version.txt": "".join(f"{line}\n" for line in told if line)}
+    texts["version.txt"] = "".join(f"{line}\n" for line in told if line)
     if origin.gate:
         closing = pathlib.Path(origin.gate.path).read_text(errors="replace").rstrip().split("\n")[-CLOSING:]
         texts["gate.txt"] = "\n".join(closing) + "\n"
@@ -135,6 +103,6 @@ def run(given):
         if sum_of(copy) != origin.sum:
             raise Refused(origin.path, None, "changed meanwhile")
         program = Program([str(copy), *asked.words[1:]])
-        need_judged(given.file, given.trace, program)
+        read_admitted(given.file, program)
         archive = seal(out, "evidence", 0, lambda folder: fill(folder, given, program, origin))
     return f"{out}\n{archive} sha256={sum_of(archive)}\n"

@@ -1,8 +1,8 @@
 """A workload by which a guest is short although it never blocks in that period: what `exposed NAME by=block` of `isolate` means.
 
-FILE is the system file and NAME a part that `isolate` tells as exposed by=block. OUT gets the workload (docs/formats.md). It is that of the
-proof: let r be twice the longest period of the core. Each VCPU of the core starts in its first period, so that one of its periods ends where
-the period of NAME ends that begins at r, or a slot before where it stands behind NAME in the file. It blocks a slot later, and wakes
+FILE is the system file and NAME a part that `isolate` tells as exposed by=block. OUT gets the workload (docs/formats.md). It is that of
+the proof: let r be twice the longest period of the core. Each VCPU of the core starts in its first period, so that one of its periods ends
+where the period of NAME ends that begins at r, or a slot before where it stands behind NAME in the file. It blocks a slot later, and wakes
 at r. So all others wake with NAME, with whole budgets, in periods that end no later than its own.
 
 The tool then runs `rtds` over the workload and `tally` over the trace, and prints the short period and the words that show it:
@@ -22,11 +22,12 @@ import shlex
 from dataclasses import dataclass
 
 from ..command_line import Refused
-from ..program import ISOLATE_LINE, TALLY_LINE, add_program, program_of
+from ..program import add_program, line_object, program_of
 from ..system_file import read_system
 from .why import called
 
 MOST_SLOTS = 1_000_000
+KEYS = {"isolated": ["last", "of"], "ties": ["by", "last", "of"], "block": ["by"]}
 
 
 @dataclass(frozen=True)
@@ -78,10 +79,11 @@ def kept_of(answer, path):
         raise Refused(path, None, f"`isolate` is refused: {answer.shown} (status {answer.status})")
     kept = {}
     for line in answer.lines[1:]:
-        found = ISOLATE_LINE.fullmatch(line)
-        if not found:
+        told = line_object(line) or {}
+        how = told.get("by") or told.get("kind")
+        if set(told) != {"kind", "name", *KEYS.get(how, ["?"])}:
             raise Refused(path, None, f"`isolate` tells what this tool does not know: {line}")
-        kept[found["name"]] = Kept(found["name"], found["by"] or "isolated", found["last"] and int(found["last"]))
+        kept[told["name"]] = Kept(told["name"], how, told.get("last"))
     return kept
 
 
@@ -92,19 +94,20 @@ def short_period(program, path, vcpu, workload, written, trace):
     told = program.ask("tally", path, "/dev/stdin", text=ran.text)
     if trace:
         pathlib.Path(trace).write_text(ran.text)
-    found = next((found for found in map(TALLY_LINE.fullmatch, told.lines) if found and found[1] == vcpu.name), None)
+    found = next((line for line in told.told("vcpu") if line["name"] == vcpu.name), None)
     if ran.status or told.status == 2 or not found:
         raise Refused(path, None, f"`rtds` or `tally` does not answer: status {ran.status} and {told.status}, {told.shown}")
     # it is blocked in each earlier period
-    if (found[3], found[4]) != ("1", "1") or int(found[6]) >= 1000 * vcpu.budget:
-        raise Refused(path, None, f"{vcpu.name} comes out as not short, against what is proved: {found[0]}")
-    return int(found[6])
+    if (found["judged"], found["short"]) != (1, 1) or found["least_ns"] >= 1000 * vcpu.budget:
+        raise Refused(path, None, f"{vcpu.name} comes out as not short, against what is proved: {found}")
+    return found["least_ns"]
 
 
 WHY_NOT = {
-    "isolated": "it is isolated by {last} of its {period} slots: nobody can take its budget from a period in whose last {last} it does not block",
-    "ties": "it is exposed by ties alone: in the runs of `rtds`, where of periods that end at once the first in the file goes first, it keeps its "
-            "budget in each period in whose last {last} of {period} slots it does not block",
+    "isolated": "it is isolated by {last} of its {period} slots: nobody can take its budget from a period in whose last {last} it does not "
+                "block",
+    "ties": "it is exposed by ties alone: in the runs of `rtds`, where of periods that end at once the first in the file goes first, it "
+            "keeps its budget in each period in whose last {last} of {period} slots it does not block",
 }
 
 
@@ -116,12 +119,14 @@ def expose(path, name, out, program, trace=None):
     if node is None or name not in kept:
         raise Refused(path, None, f"{name} is no part that stands on a core")
     if kept[name].how != "block":
-        raise Refused(path, None, f"{name} is not exposed by=block: {WHY_NOT[kept[name].how].format(last=kept[name].last, period=node.period)}")
+        why_not = WHY_NOT[kept[name].how].format(last=kept[name].last, period=node.period)
+        raise Refused(path, None, f"{name} is not exposed by=block: {why_not}")
     budgets, names = program.ask("admit", path).budgets(), system.nodes[node.parent].children
     vcpus, place = [Vcpu(each, system.nodes[each].period, budgets[each][0]) for each in names], names.index(name)
     workload = breaking(vcpus, place)
     if 3 * max(vcpu.period for vcpu in vcpus) > MOST_SLOTS:
-        raise Refused(path, None, f"the longest period of {node.parent} is more than {MOST_SLOTS // 3}, and a run has at most {MOST_SLOTS} slots")
+        cause = f"is more than {MOST_SLOTS // 3}, and a run has at most {MOST_SLOTS} slots"
+        raise Refused(path, None, f"the longest period of {node.parent} {cause}")
     try:
         with open(out, "x") as file:
             file.write(workload.text())

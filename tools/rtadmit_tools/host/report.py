@@ -1,52 +1,50 @@
 """One page that shows what the program says of a host, and of a recording of it. The page needs nothing else.
 
-FILE is a system file. The page has the verdict in a sentence, which is of VCPUs that do not sleep, and beside it what `isolate` says of those
-that do; the cores, with the shares of what stands on them; a table of the guests with period, budget, share, how much their work may grow
-(`slack`), their worst response (`responses`) and whether they keep their budget when others block (`isolate`); and for each guest with tasks
-the curves of tools/host curves. A guest with the one invented task of from-xl or from-linux is marked as a stand-in. On a no it has what
-tools/host why says. With TRACE it has the verdict of `audit`, of which guests it says nothing, what `tally` counted, and the picture of
-tools/host timeline, around the broken period where there is one.
+FILE is a system file. The page has the verdict in a sentence, which is of VCPUs that do not sleep, and beside it what `isolate` says of
+those that do; the cores, with the shares of what stands on them; a table of the guests, with how much their work may grow (`slack`), their
+worst response (`responses`) and whether they keep their budget when others block; and of each guest with tasks the picture of tools/host
+curves. A guest with the one invented task of from-xl or from-linux is marked as a stand-in. On a no it has what tools/host why says, and
+the budgets that the program computes for each guest by itself. With TRACE it has the verdict of `audit`, of which guests that says
+nothing, what `tally` counted, and the picture of tools/host timeline, around the broken period where there is one.
 
-Every verdict, budget and number of these columns is the program's; a command that it does not have is told as not asked. On a no the budgets
-are those that it computes for each guest by itself. The foot of the page has the words that were asked, the sums of the program and of the
-files, and of the gate's line that tells the program's sum the commit and the logic; without such a line it says that none is known. A gate
-that tells another sum is refused. A program that says of itself that it is unproved is refused too, but for --unproved, which has the page
-begin with that. The same answers give the same page.
+Every verdict, budget and number of these columns is the program's; a command that it does not have is told as not asked. The foot has the
+words that were asked, the sums of the program and the files, and the commit and the logic that the gate's line of the program's sum tells,
+or that no such line is known. The same answers give the same page. Refused is a gate that tells another sum, and a program that says of
+itself that it is unproved; that is taken by --unproved, and the page begins with it.
 
-The status is 0, also where the verdict is a no; 1 where there is no page, with the cause on standard error, and 2 where the words are wrong."""
-import fractions
+The status is 0, also where the verdict is a no; 1 where there is no page, with the cause on standard error, and 2 where the words are
+wrong."""
 import pathlib
 import re
+from fractions import Fraction
 from html import escape
 
 from .. import svg
 from ..command_line import Refused, counted, parser_of
 from ..formulas import SCHEDS
 from ..page import Cell, banner, bars, chips, code, figure, listed, name_of, number, section, soft, table_of, whole
-from ..program import BROKEN_LINE, ISOLATE_LINE, TALLY_LINE, add_program, program_of
+from ..program import add_program, program_of
 from ..sealed import add_origin, origin_of, sum_of
 from ..system_file import read_admitted
 from . import curves, timeline, why
 
-RESPONSE_LINE = re.compile(r"response (\S+) (\S+) worst=(\d+) limit=(\d+) replay=\S+")
-SLACK_LINE = re.compile(r"slack (\S+) (\S+) work=(\d+) most=(\d+)")
 FROM_LINUX = re.compile(r"\s*(?:#.*\n\s*)*#.*\bfrom-linux\b")
-ABOUT = {
-    "slack": "Slack: the task that may grow the least, its work, and the most with which all is still admitted.",
-    "response": "Response: the task that comes closest to its limit, its worst response, and that limit.",
-    "when others block": """When others block: whether the guest keeps its budget all the same. Isolated (T of P): it does in each of its
-periods, of P slots, in whose last T it does not block itself. Exposed: others that block and wake at the right moments can take from it what it
-was promised; by ties: only where, of periods that end at once, theirs goes first.""",
-}
 YES = """No deadline is missed on any level, in the guests or between them, whenever the periods of each guest begin, with the
 budgets below."""
 ISOLATED = """Each VCPU keeps its budget, whatever the others do, in every period in whose last slots it does not sleep itself; how many
 these are is told below."""
+ABOUT = {
+    "slack": "Slack: the task that may grow the least, its work, and the most with which all is still admitted.",
+    "response": "Response: the task that comes closest to its limit, its worst response, and that limit.",
+    "when others block": """When others block: whether the guest keeps its budget all the same. Isolated (T of P): it does in each of its
+periods, of P slots, in whose last T it does not block itself. Exposed: others that block and wake at the right moments can take from it
+what it was promised; by ties: only where, of periods that end at once, theirs goes first.""",
+}
 STAND_IN = "Stand-in: nothing is known of its tasks. One slot a second stands for them, and its budget is as it is given."
-TALLIED = """Periods that begin in the recording, those that were judged, and the least and the most that a period got: the least of those that
-were judged, the most of all."""
-LINUX = """<b>A host of Linux.</b> Its kernel lets a period begin anew at a wake-up, and the audit counts each guest's periods from its start.
-So behind a sleep `over` or `short` may be told of a kernel that kept its own rule (docs/audit.md)."""
+TALLIED = """Periods that begin in the recording, those that were judged, and the least and the most that a period got: the least of
+those that were judged, the most of all."""
+LINUX = """<b>A host of Linux.</b> Its kernel lets a period begin anew at a wake-up, and the audit counts each guest's periods from its
+start. So behind a sleep `over` or `short` may be told of a kernel that kept its own rule (docs/audit.md)."""
 RTDS_ONLY = "That is of Xen's RTDS; this is a host of Linux, whose kernel goes by another rule (docs/guide.md)."
 CURVES = """For each length of a window what the guest asks for, and the least that its budget gives; computed by the formulas of
 docs/certificate.md and compared with the program's answer at the marked window."""
@@ -70,18 +68,21 @@ class Asked:
         self.path, self.trace, self.program = path, trace, program
         self.system, self.admit = read_admitted(path, program)
         self.is_linux = bool(FROM_LINUX.match(pathlib.Path(path).read_text(errors="replace")))
-        self.words, self.notes, self.budgets, self.of_part = [f"admit {path}"], [], {}, {}
+        self.answers, self.notes, self.budgets, self.of_part = [(f"admit {path}", self.admit)], [], {}, {}
         self.vcpus = [part for core in self.system.cores() for part in core.children]
         for name in self.vcpus:
             self.take(name)
-        self.stand_ins = {part.name for part in self.system.parts() if why.is_stand_in(part)}
+        self.stand_ins = [part.name for part in self.system.parts() if why.is_stand_in(part)]
         self.leaves = [part.name for part in self.system.parts() if part.tasks and part.name not in self.stand_ins]
-        self.responses = [line for line in self.lines(RESPONSE_LINE, "responses", path) if line[1] not in self.stand_ins]
-        self.slacks = [line for name in counted(self.leaves, "slack") for line in self.lines(SLACK_LINE, "slack", path, name)]
-        self.isolated = {line["name"]: line for line in self.lines(ISOLATE_LINE, "isolate", path)}
-        self.audit = self.program.ask("audit", path, trace) if trace else None
-        self.tally = {line[1]: line for line in self.lines(TALLY_LINE, "tally", path, trace, always=True)} if trace else {}
-        self.words += [f"audit {path} {trace}"] * bool(trace)
+        self.responses = [line for line in self.lines("response", "responses", path) if line["name"] not in self.stand_ins]
+        self.slacks = [line for name in counted(self.leaves, "slack") for line in self.lines("slack", "slack", path, name)]
+        self.isolated = {line["name"]: line for line in self.lines("isolated exposed", "isolate", path)}
+        self.audit, self.broken, self.tally = None, None, []
+        if trace:
+            self.audit = self.program.ask("audit", path, trace)
+            self.answers.append((f"audit {path} {trace}", self.audit))
+            self.broken = next(iter(self.audit.told("short", "over")), None)
+            self.tally = self.lines("vcpu", "tally", path, trace, always=True)
 
     def take(self, name):
         """Takes the budgets of a guest and of all that stands on it: as admitted, or as the program answers for it by itself."""
@@ -105,21 +106,21 @@ class Asked:
         if answer.status == 2:
             self.notes.append(f"not asked: this program has no `{command}`")
             return None
-        self.words.append(" ".join([command, *words]))
+        self.answers.append((" ".join([command, *words]), answer))
         if answer.status > 1:
             self.notes.append(f"`{command}` is refused: {answer.shown} (status {answer.status})")
         return answer
 
-    def lines(self, form, command, *words, always=False):
-        """The lines of one form in the answer to a command."""
+    def lines(self, kinds, command, *words, always=False):
+        """The lines of some kinds in the answer to a command."""
         answer = self.ask(command, *words, always=always)
-        return [found for found in map(form.fullmatch, answer.lines if answer else []) if found]
+        return answer.told(*kinds.split()) if answer else []
 
     def share(self, name):
         """The share of a part, or None where no budget is told."""
         given = self.system.nodes[name].budget
         budget = self.budgets[name][0] if name in self.budgets else given
-        return None if budget is None else fractions.Fraction(budget, self.system.nodes[name].period)
+        return None if budget is None else Fraction(budget, self.system.nodes[name].period)
 
 
 def percent(share):
@@ -138,7 +139,8 @@ class Page:
         """What `admit` says, in a sentence."""
         answer = self.asked.admit
         if answer.is_yes:
-            return banner("yes", "Yes, while no VCPU sleeps.", YES)
+            unknown = f" What runs in {names_of(self.asked.stand_ins)} is not known (stand-in)." if self.asked.stand_ins else ""
+            return banner("yes", "Yes, while no VCPU sleeps.", YES + unknown)
         if answer.status == 4:
             return banner("wide", "Nothing is claimed.", f"The periods share too few factors to be judged: {code(answer.lines[1])}")
         found = answer.refused_node()
@@ -154,9 +156,9 @@ class Page:
         asked = self.asked
         if not asked.admit.is_yes or not asked.vcpus:
             return ""
-        block, ties = ([name for name, line in asked.isolated.items() if line["by"] == how] for how in ("block", "ties"))
+        block, ties = ([name for name, line in asked.isolated.items() if line.get("by") == how] for how in ("block", "ties"))
         taken = [f"Others that sleep and wake at the right moments can take from {names_of(block)} what was promised."] if block else []
-        taken += [f"Others whose periods end at once can take it from {names_of(ties)}."] if ties else []
+        taken += [f"{names_of(ties)}: kept only where, of periods that end at once, the first in the file goes first."] if ties else []
         if not asked.isolated:
             tone, lead, told = "wide", "If VCPUs sleep: no answer.", marked("Nothing is claimed, since `isolate` did not answer.")
         elif taken:
@@ -166,41 +168,30 @@ class Page:
         return banner(tone, lead, f"{told} {RTDS_ONLY if asked.is_linux else ''}".strip())
 
     def audited(self):
-        """What `audit` says, in a sentence, and of whom it says nothing."""
-        answer = self.asked.audit
-        found = BROKEN_LINE.fullmatch(answer.lines[1]) if len(answer.lines) > 1 else None
-        if answer.is_yes:
-            count = answer.lines[1].removeprefix("periods=")
-            told = f"No period is short or over; {count} were judged, of all guests together."
-            return self.taken(told, count)
-        if found:
-            how = "less" if found[1] == "short" else "more"
-            got = f"the period that begins at {found[3]} ns got {found[4]} ns, {how} than its budget of {found[5]} ns"
-            return banner("no", "The recording: no.", f"{name_of(found[2])} was {found[1]}: {got}.{self.unjudged()}")
-        return banner("wide", "The recording was not judged.", code(answer.shown))
-
-    def taken(self, told, count):
-        """The sentence of a recording that holds nothing against the scheduler; it is a yes where it says something of each guest."""
-        if count == "0":
-            return banner("wide", "The recording: no verdict.", f"{told} So it says nothing of the scheduler.")
-        if not self.asked.tally:
-            return banner("wide", "The recording: no verdict on each guest.", told + marked(" Of whom is not told, since `tally` did not answer."))
-        without = self.unjudged()
-        return banner("wide", "The recording: not of all guests.", told + without) if without else banner("yes", "The recording: yes.", told)
-
-    def unjudged(self):
-        """Those of whom a recording says nothing: they never start in it, or none of their periods was judged."""
-        none = [line for line in self.asked.tally.values() if line[3] == "0"]
-        absent, begun = ([line[1] for line in none if (line[2] == "0") == is_absent] for is_absent in (True, False))
-        told = f" It lacks {names_of(absent)}." if absent else ""
-        return told + (f" No period of {names_of(begun)} was judged." if begun else "")
+        """What `audit` says, in a sentence, and of whom it says nothing: who never starts, or has no period that was judged."""
+        answer, broken, tally = self.asked.audit, self.asked.broken, self.asked.tally
+        unjudged = [line for line in tally if line["judged"] == 0]
+        absent, begun = ([line["name"] for line in unjudged if (line["begun"] == 0) == never] for never in (True, False))
+        without = [f"It lacks {names_of(absent)}."] * bool(absent) + [f"No period of {names_of(begun)} was judged."] * bool(begun)
+        if broken:
+            how = "less" if broken["kind"] == "short" else "more"
+            got = "the period that begins at {from_ns} ns got {got_ns} ns, {how} than its budget of {of_ns} ns".format(how=how, **broken)
+            return banner("no", "The recording: no.", f"{name_of(broken['name'])} was {broken['kind']}: {got}. {' '.join(without)}")
+        if not answer.is_yes:
+            return banner("wide", "The recording was not judged.", code(answer.shown))
+        count = answer.told("periods")[0]["periods"]
+        lead = "yes" if count and tally and not without else "not of all guests" if count and tally else "no verdict"
+        told = [f"No period is short or over; {count} were judged, of all guests together.", *without]
+        told += ["So it says nothing of the scheduler."] * (not count)
+        told += ["Of whom is not told, since `tally` did not answer."] * (not tally)
+        return banner("yes" if lead == "yes" else "wide", f"The recording: {lead}.", marked(" ".join(told)))
 
     # The cores
 
     def core(self, core):
         """The shares of what stands on a core, one beside the other, and what there is."""
         shares = {name: self.asked.share(name) for name in core.children}
-        total, full = sum(share or 0 for share in shares.values()), fractions.Fraction(core.budget, core.period)
+        total, full = sum(share or 0 for share in shares.values()), Fraction(core.budget, core.period)
         has = "every slot" if core.budget == core.period else f"{core.budget} of every {core.period} slots, {percent(full)}"
         of = f" of {percent(full)}" if full < 1 else ""
         head = f'<span>{name_of(core.name)}, {SCHEDS[core.sched]}, {has}</span><span>{percent(total)}{of} in use</span>'
@@ -217,8 +208,11 @@ class Page:
             "guest": self.guest, "on": lambda part: Cell(name_of(part.parent), "where"), "period": lambda part: str(part.period),
             "budget": self.budget, "share": lambda part: Cell(percent(asked.share(part.name)), "number"),
         }
-        more = {"slack": (asked.slacks, self.slack), "response": (asked.responses, self.response)}
-        more["when others block"] = (asked.isolated, self.isolation)
+        more = {
+            "slack": (asked.slacks, lambda part: self.closest(asked.slacks, part, "work", "most", "→")),
+            "response": (asked.responses, lambda part: self.closest(asked.responses, part, "worst", "limit", "of")),
+            "when others block": (asked.isolated, self.isolation),
+        }
         columns.update({word: cell for word, (told, cell) in more.items() if told})
         rows = [[cell(part) for cell in columns.values()] for part in self.system.parts()]
         about = ["Periods and budgets are slots (µs)."]
@@ -236,22 +230,19 @@ class Page:
             return Cell("none is enough" if part.budget is None else f"{part.budget} given: too small", "bad")
         return f"{told[0]} {'given' if told[1] else 'computed'}"
 
-    def slack(self, part):
-        found = [line for line in self.asked.slacks if line[1] == part.name]
-        least = min(found, key=lambda line: fractions.Fraction(int(line[4]), int(line[3])), default=None)
-        return name_of(least[2]) + " " + number(f"{least[3]} → {least[4]}") if least else "–"
-
-    def response(self, part):
-        found = [line for line in self.asked.responses if line[1] == part.name]
-        closest = max(found, key=lambda line: fractions.Fraction(int(line[3]), int(line[4])), default=None)
-        return name_of(closest[2]) + " " + number(f"{closest[3]} of {closest[4]}") if closest else "–"
+    @staticmethod
+    def closest(lines, part, key, limit, sign):
+        """Of the tasks of a part the one that has the least room up to its limit."""
+        found = max((line for line in lines if line["name"] == part.name), key=lambda line: Fraction(line[key], line[limit]), default=None)
+        return name_of(found["task"]) + " " + number(f"{found[key]} {sign} {found[limit]}") if found else "–"
 
     def isolation(self, part):
         found = self.asked.isolated.get(part.name)
         if not found:
             return "–"
-        last = " " + number(f"({found['last']} of {found['of']})") if found["last"] else ""
-        return Cell({None: "isolated", "ties": "exposed by ties", "block": "exposed"}[found["by"]] + last, "bad" if found["by"] else "good")
+        last = " " + number(f"({found['last']} of {found['of']})") if "last" in found else ""
+        how = {None: "isolated", "ties": "exposed by ties", "block": "exposed"}[found.get("by")]
+        return Cell(how + last, "bad" if "by" in found else "good")
 
     # Why a no
 
@@ -273,22 +264,24 @@ class Page:
     # The recording
 
     def recording(self):
-        told = []
+        told, broken = [], lambda count: Cell(str(count), "bad" if count else "")
         if self.asked.tally:
-            broken = lambda count: Cell(count, "bad" if count != "0" else "")
-            rows = [[name_of(line[1]), *line.group(2, 3), *map(broken, line.group(4, 5)), *line.group(6, 7)] for line in self.asked.tally.values()]
-            told = [table_of(["guest", "begun", "judged", "short", "over", "least (ns)", "most (ns)"], rows), soft(TALLIED)]
+            columns = {"guest": "name", "begun": "begun", "judged": "judged", "short": "short", "over": "over", "least (ns)": "least_ns",
+                       "most (ns)": "most_ns"}
+            shown = {"name": name_of, "short": broken, "over": broken}
+            plain = lambda value: "-" if value is None else str(value)
+            rows = [[shown.get(key, plain)(line[key]) for key in columns.values()] for line in self.asked.tally]
+            told = [table_of(list(columns), rows), soft(TALLIED)]
         return section("The recording", f"<p>{marked(LINUX)}</p>" if self.asked.is_linux else "", *told, self.timeline())
 
     def timeline(self):
         """The picture of the trace, around the period that is told, or of all of it."""
-        answer = self.asked.audit
-        if answer.status > 1:
+        asked, broken = self.asked, self.asked.broken
+        if asked.audit.status > 1:
             return ""
-        words = [self.asked.trace, "--system", self.asked.path]
-        words += [f"--budget={name}={told[0]}" for name, told in self.asked.budgets.items() if not told[1]]
-        found = BROKEN_LINE.fullmatch(answer.lines[1]) if len(answer.lines) > 1 else None
-        words += ["--around", f"{found[2]}@{found[3]}"] if found else []
+        computed = [f"--budget={name}={budget}" for name, (budget, is_given) in asked.budgets.items() if not is_given]
+        words = [asked.trace, "--system", asked.path, *computed]
+        words += ["--around", f"{broken['name']}@{broken['from_ns']}"] if broken else []
         return self.drawn(lambda: timeline.picture_of(parser_of("host", "timeline", timeline).parse_args(words)), "paper")
 
     @staticmethod
@@ -305,16 +298,16 @@ class Page:
         return section("What each guest asks for, and what it gets", soft(CURVES), *leaves) if leaves else ""
 
     def leaf(self, node):
-        slacks = {line[2]: line for line in self.asked.slacks if line[1] == node.name}
-        responses = {line[2]: line for line in self.asked.responses if line[1] == node.name}
-        head = ["task", "period", "deadline", "jitter", "work"] + ["work at most"] * bool(slacks) + ["response"] * bool(responses)
-        rows = []
-        for task in node.tasks:
-            row = [name_of(task.name), *map(str, (task.period, task.deadline, task.jitter, task.work))]
-            row += [slacks[task.name][4] if task.name in slacks else "–"] * bool(slacks)
-            row += [f"{responses[task.name][3]} of {responses[task.name][4]}" if task.name in responses else "–"] * bool(responses)
-            rows.append(row)
-        return f"<h3>{name_of(node.name)}</h3>{table_of(head, rows)}{self.drawn(lambda: self.picture(node))}"
+        of_node = lambda lines: {line["task"]: line for line in lines if line["name"] == node.name}
+        slacks, responses = of_node(self.asked.slacks), of_node(self.asked.responses)
+        columns = {"task": lambda task: name_of(task.name)}
+        columns.update({key: lambda task, key=key: str(getattr(task, key)) for key in ("period", "deadline", "jitter", "work")})
+        if slacks:
+            columns["work at most"] = lambda task: str(slacks[task.name]["most"])
+        if responses:
+            columns["response"] = lambda task: "{worst} of {limit}".format(**responses[task.name])
+        rows = [[cell(task) for cell in columns.values()] for task in node.tasks]
+        return f"<h3>{name_of(node.name)}</h3>{table_of(list(columns), rows)}{self.drawn(lambda: self.picture(node))}"
 
     def picture(self, node):
         """The curves of a leaf, in the colours of the page."""
@@ -330,20 +323,20 @@ class Page:
         asked, origin = self.asked, self.origin
         files = [(pathlib.Path(origin.path).name, origin.sum), *((path, sum_of(path)) for path in (asked.path, asked.trace) if path)]
         gate = origin.gate
-        left = f"The gate left a program of this sum: commit {code(gate.commit)}, logic {code(gate.logic)}." if gate else escape(origin.mark)
-        about = [f"<p>{escape(origin.version)}</p>", f"<p>{left}</p>", listed(code(f"rtadmit {words}") for words in asked.words)]
-        return section("What was asked", *about, table_of(["file", "SHA-256"], [[code(name), code(told)] for name, told in files]), soft(CLAIMS))
+        left = escape(origin.mark)
+        if gate:
+            left = f"The gate left a program of this sum: commit {code(gate.commit)}, logic {code(gate.logic)}."
+        about = [f"<p>{escape(origin.version)}</p>", f"<p>{left}</p>", listed(code(f"rtadmit {words}") for words, _ in asked.answers)]
+        sums = table_of(["file", "SHA-256"], [[code(name), code(told)] for name, told in files])
+        return section("What was asked", *about, sums, soft(CLAIMS))
 
     def text(self):
-        mark = banner("no", "Unproved.", escape(self.origin.mark)) if self.origin.is_unproved else ""
+        lead, _, cause = self.origin.mark.partition(": ")
+        mark = banner("no", f"{lead}:", escape(cause)) if cause and self.origin.is_asked_for else ""
         parts = [mark, self.verdict(), self.sleeping(), self.audited() if self.asked.trace else ""]
         parts += [self.why() if self.asked.admit.status == 1 else "", section("Cores", *map(self.core, self.system.cores())), self.guests()]
         parts += [self.recording() if self.asked.trace else "", self.curves(), self.foot()]
         return whole(f"rtadmit: {self.asked.path}", f"Does {self.asked.path} keep its deadlines?", parts)
-
-
-def page_of(path, trace, program, origin):
-    return Page(Asked(path, trace, program), origin).text()
 
 
 def add_files(parser):
@@ -360,5 +353,5 @@ def add_words(parser):
 
 def run(given):
     program = program_of(given.program)
-    page = page_of(given.file, given.trace, program, origin_of(program, given.gate, given.unproved))
+    page = Page(Asked(given.file, given.trace, program), origin_of(program, given.gate, given.unproved)).text()
     pathlib.Path(given.out).write_text(page, encoding="utf-8")
