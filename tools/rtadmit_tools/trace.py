@@ -287,8 +287,8 @@ class Periods:
 
 
 def judged(reader, host, servers, tell, first=0, last=math.inf):
-    """The spans of a trace, as they come, up to where no period is told any more. Meanwhile the periods of the VCPUs that are in `servers` are
-    told, behind the VCPU's name: those that end behind `first` and begin before `last`."""
+    """The spans of a trace, as they come, up to where no period is told any more. Meanwhile the periods of the VCPUs that are in `servers`
+    are told, behind the VCPU's name: those that end behind `first` and begin before `last`."""
     periods = {}
 
     def of(vcpu):

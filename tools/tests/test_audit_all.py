@@ -35,7 +35,8 @@ def count_line(judged, vcpu):
     clear = [judged.got[period] * 1000 for period in judged.clear if period[0] == vcpu]
     kinds = [told[2] for told in judged.broken if told[1] == vcpu]
     least, most = min(clear, default="-"), max((judged.got[period] * 1000 for period in begun), default="-")
-    return f"vcpu {vcpu} begun={len(begun)} judged={len(clear)} short={kinds.count('short')} over={kinds.count('over')} least_ns={least} most_ns={most}"
+    short, over = kinds.count("short"), kinds.count("over")
+    return f"vcpu {vcpu} begun={len(begun)} judged={len(clear)} short={short} over={over} least_ns={least} most_ns={most}"
 
 
 class Judge:
@@ -104,19 +105,22 @@ class Pieces(Case):
     def test_by_hand(self):
         self.cut(TEXT, PARTS, 20)
         told = ["verdict=no", "short A from_ns=10000 got_ns=2000 of_ns=3000", "over A from_ns=30000 got_ns=4000 of_ns=3000"]
-        counts = ["vcpu A begun=4 judged=4 short=1 over=1 least_ns=2000 most_ns=4000", "vcpu B begun=4 judged=4 short=0 over=0 least_ns=6000 most_ns=8000"]
+        counts = ["vcpu A begun=4 judged=4 short=1 over=1 least_ns=2000 most_ns=4000",
+                  "vcpu B begun=4 judged=4 short=0 over=0 least_ns=6000 most_ns=8000"]
         self.assertEqual(self.answered(Judge(PARTS)), (1, [*told, *counts], ""))
         without = "not asked: this program has no `tally`: of each piece the first broken period is told\n"
         self.assertEqual(self.answered(Judge(PARTS, has_tally=False)), (1, told, without))
 
     def test_random_recordings_are_answered_as_the_whole(self):
+        """By the plain judge, and by the program where there is one."""
         for seed in range(12):
             rng = random.Random(seed)
             _, parts = test_split.random_parts(rng)
             text = test_split.random_trace(parts, rng)
             for microseconds in (20, 150):
                 self.cut(text, parts, microseconds)
-                self.assertEqual(self.answered(Judge(parts), self.pieces, "--jobs=2"), (*self.whole(text, parts), ""), (seed, microseconds))
+                for judge in (Judge(parts), *[Program([program()])] * (program() is not None and microseconds == 150)):
+                    self.assertEqual(self.answered(judge, self.pieces, "--jobs=2"), (*self.whole(text, parts), ""), (seed, microseconds))
                 shutil.rmtree(self.pieces)
 
     def test_the_names_in_any_order(self):
@@ -156,7 +160,8 @@ class Pieces(Case):
                 run("host", "split", trace, folder, "--system", file, "--seconds", seconds)
                 status, out, _ = run("host", "audit-all", file, folder, "--program", program())
                 whole, lines = Program([program()]).ask("tally", file, trace), out.splitlines()
-                self.assertEqual((status, [*lines[:2], *(line for line in lines[2:] if line.startswith("vcpu"))]), (whole.status, whole.lines))
+                told_once = [*lines[:2], *(line for line in lines[2:] if line.startswith("vcpu"))]
+                self.assertEqual((status, told_once), (whole.status, whole.lines))
                 self.assertEqual(lines, told or lines)
 
 
@@ -175,13 +180,14 @@ class Elsewhere(Case):
         self.assertEqual(self.answered(Judge(PARTS), self.pieces, "--told"), (*self.whole(TEXT, PARTS), ""))
         told = self.pieces / "piece-000002.csv.told"
         told.write_text(told.read_text().rsplit("status")[0])
-        self.assertEqual(self.answered(Judge(PARTS), self.pieces, "--told")[2], "out/piece-000002.csv.told: no whole answer about the piece as it stands\n")
+        cause = "out/piece-000002.csv.told: no whole answer about the piece as it stands\n"
+        self.assertEqual(self.answered(Judge(PARTS), self.pieces, "--told"), (3, [], cause))
 
     def test_while_the_recording_goes_on(self):
         """from-ftrace into split into audit-all: a piece is asked about before the next lines of the kernel's are there."""
         log, host = self.room.folder / "log", top / "tools/host"
-        asked = self.room.file("program", f"#!/bin/sh\n[ $3 = /dev/null ] && exit 3\necho $3 >>{log}\n"
-                               "printf 'verdict=yes\\nperiods=%d\\nvcpu A begun=%d judged=0 short=0 over=0 least_ns=- most_ns=300000\\n' 0 2\n")
+        told = "verdict=yes\\nperiods=0\\nvcpu A begun=2 judged=0 short=0 over=0 least_ns=- most_ns=300000\\n"
+        asked = self.room.file("program", f"#!/bin/sh\n[ $3 = /dev/null ] && exit 3\necho $3 >>{log}\nprintf '{told}'\n")
         asked.chmod(0o755)
         self.file.write_text(test_split.system_text(["cpu3"], {"A": ("cpu3", 100_000, 300, True)}))
         lines = test_from_ftrace.AsItComes.turns(5)
@@ -203,7 +209,8 @@ class Elsewhere(Case):
         """In a row, or by the table: a no stands; where nothing is broken so far, that is no yes."""
         for torn in (TEXT.rsplit("40,,end,", 1)[0] + "39,cpu0,st", TEXT[:-12]):
             self.file.write_text(test_split.system_text(["cpu0"], LOOSE))
-            status, _, err = run("host", "split", self.room.file("trace.csv", torn), self.pieces, "--system", self.file, "--seconds", "0.00002")
+            trace = self.room.file("trace.csv", torn)
+            status, _, err = run("host", "split", trace, self.pieces, "--system", self.file, "--seconds", "0.00002")
             self.assertEqual((status, "(pieces that were whole before, and are kept: 1)" in err), (1, True))
             self.assertEqual(self.answered(Judge(LOOSE))[:2], (3, [
                 "verdict=unknown", "periods=4", "vcpu A begun=2 judged=2 short=0 over=0 least_ns=2000 most_ns=3000",
@@ -227,7 +234,8 @@ class Refusals(Case):
 
     def test_answers_that_do_not_fit(self):
         self.cut(TEXT, PARTS, 20)
-        first, told = "out/piece-000001.csv: ", "the broken periods that are found in it are not those that the program tells: short A from_ns=10000"
+        first = "out/piece-000001.csv: "
+        told = "the broken periods that are found in it are not those that the program tells: short A from_ns=10000"
         for old, new, cause in (
             ("A begun=2", "A begun=1", "the program counts 1 periods of A, and the table has 2"), ("short=1", "short=2", told),
             ("vcpu B", "vcpu C", "the program does not count each part that stands on a core"), ("got_ns=2000", "got_ns=1000", told),

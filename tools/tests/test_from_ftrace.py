@@ -2,7 +2,6 @@
 account of reservations, and the recording of examples/linux, whole and cut at each line."""
 import contextlib
 import gzip
-import io
 import pathlib
 import random
 import subprocess
@@ -79,11 +78,28 @@ def rows(*lines, **more):
     return told(*lines, **more)[0].splitlines()[1:]
 
 
+SYSTEM = """\
+format = 1
+[[core]]
+name = "cpu3"
+sched = "edf"
+[[part]]
+name = "A"
+parent = "cpu3"
+sched = "edf"
+period = 10_000
+budget = 1000
+[[part.task]]
+name = "a"
+period = 50000
+work = 1
+"""
+
+
 class Case(unittest.TestCase):
     def setUp(self):
         self.room = Room(self)
-        self.system = self.room.file("system.toml", 'format = 1\n[[core]]\nname = "cpu3"\nsched = "edf"\n[[part]]\nname = "A"\n'
-                                     'parent = "cpu3"\nsched = "edf"\nperiod = 10_000\nbudget = 1000\n[[part.task]]\nname = "a"\nperiod = 50000\nwork = 1\n')
+        self.system = self.room.file("system.toml", SYSTEM)
 
     def run_on(self, lines, *words):
         """A run over lines, by the system file, with the recording's name left out of what it complains of."""
@@ -126,12 +142,13 @@ class Events(unittest.TestCase):
             ("the first wakeup of a new thread", [WOKEN.replace("sched_wakeup:", "sched_wakeup_new:")], ["0,cpu3,start,A", "0,,end,"]),
             ("other threads, processors and events are no rows",
              [switch("1.000000", "sh 7 R", "cc 8", cpu=0), wakeup("1.000002", "sh 7", cpu=0),
-              "              sh-7       [000] d..2. 1.000003: sched_waking: comm=calc pid=11 prio=-1 target_cpu=003".replace("_waking", "_stick"),
+              "              sh-7       [000] d..2. 1.000003: sched_waking: comm=calc pid=11 prio=-1 target_cpu=003",
               wakeup("1.000005", "calc 11"),
               "     kworker/3:1-44 (     2) [003] d..2. 1.000009: sched_stat_runtime: comm=calc pid=11 runtime=9 [ns]"],
              ["0,cpu3,start,A", "4,,end,"]),
             ("until all started, a thread is as one that is not in the map",
-             [WOKEN, switch("1.000002", "sh 7 R", "calc 11"), switch("1.000005", "calc 11 R", "dog 13"), switch("1.000007", "dog 13 S", "sh 7")],
+             [WOKEN, switch("1.000002", "sh 7 R", "calc 11"), switch("1.000005", "calc 11 R", "dog 13"),
+              switch("1.000007", "dog 13 S", "sh 7")],
              ["0,cpu3,start,A", "2,cpu3,run,A", "5,cpu3,stop,", "7,,end,"]),
         ):
             with self.subTest(what):
@@ -151,7 +168,8 @@ class Events(unittest.TestCase):
 
     def test_two_processors(self):
         self.assertEqual(rows(
-            asleep("0.500000", "calc 11", cpu=2), BOTH[1], wakeup("1.000000", "calc 11", cpu=2), switch("1.000000", "sh 7 R", "calc 11", cpu=2),
+            asleep("0.500000", "calc 11", cpu=2), BOTH[1], wakeup("1.000000", "calc 11", cpu=2),
+            switch("1.000000", "sh 7 R", "calc 11", cpu=2),
             wakeup("1.000001", "beat 12"), switch("1.000001", "cc 8 R", "beat 12"), switch("1.000002", "calc 11 R", "sh 7", cpu=2),
             threads=THREADS,
         ), ["0,cpu2,start,A", "0,cpu2,run,A", "1,cpu3,start,B", "1,cpu3,run,B", "2,cpu2,stop,", "2,,end,"])
@@ -195,11 +213,19 @@ class Starts(Case):
         for what, wrong in (
             ("it has the core before", [*lines, switch("2.008000", "sh 7 R", "calc 11"), again[1]]),
             ("it keeps the core", [*lines[:2], switch("2.012000", "calc 11 R", "sh 7")]),
-            ("another one starts that timer too", [switch("1.800000", "sh 7 R", "calc 11"), switch("1.800100", "calc 11 R", "sh 7"), timer("1.900000", 2_950_000_000), *lines, *again]),
-            ("it is further away than a period", [lines[0], timer("2.004000", 2_014_000_001), *lines[2:], switch("2.014100", "sh 7 R", "calc 11")]),
+            ("another one starts that timer too", [RUN, OUT, timer("1.900000", 2_950_000_000), *lines, *again]),
+            ("it is further away than a period",
+             [lines[0], timer("2.004000", 2_014_000_001), *lines[2:], switch("2.014100", "sh 7 R", "calc 11")]),
         ):
             with self.subTest(what):
                 self.refused(None, "has no start", *wrong, servers=SERVER)
+
+    def test_a_timer_that_is_started_in_a_gap(self):
+        """A switch to the thread is missing, so another one seems to have started its timer; behind the gap that counts no more."""
+        torn = [RUN, OUT, timer("2.004000", 2_009_000_000), switch("2.004003", "calc 11 R", "sh 7")]
+        later = [switch("2.011000", "sh 7 R", "calc 11"), timer("2.015000", 2_019_000_000), switch("2.015003", "calc 11 R", "sh 7"),
+                 switch("2.021000", "sh 7 R", "calc 11")]
+        self.assertEqual(rows(*torn, *later, servers=SERVER), ["0,cpu3,start,A", "2000,cpu3,run,A", "2000,,end,"])
 
     def test_what_is_not_known(self):
         lines = [ASLEEP, wakeup("3.000000", "calc 11")]
@@ -207,27 +233,29 @@ class Starts(Case):
             self.refused(None, "its period or its budget is not known: give the system file by --system", *lines, servers=servers)
         self.refused(None, "it slept throughout", BOTH[0], switch("1.000000", "sh 7 R", "cc 8"))
         self.refused(None, "A (thread 11) has no start", BOTH[1], WOKEN)
-        self.refused(None, "B (thread beat) has no start", BOTH[0], WOKEN, wakeup("1.000001", "beat 12"), threads=THREADS, servers={"B": SERVER["A"]})
+        self.refused(None, "B (thread beat) has no start", BOTH[0], WOKEN, wakeup("1.000001", "beat 12"), threads=THREADS)
 
     def test_a_mark_that_is_not_true(self):
         self.refused(2, "did not", switch("0.400000", "sh 7 R", "calc 11"), BOTH[0])
         self.refused(2, "did not", BOTH[0], BOTH[0])
         self.gap(2, "wakeup is missing", BOTH[0], RUN, OUT)
         self.gap(2, "had not been switched in", BOTH[0], switch("1.000000", "calc 11 R", "sh 7"))
-        self.refused(1, "in every 10000 us, and its period in the system file is 20000 us", BOTH[0], WOKEN, servers={"A": tool.server(20_000, 1, 0)})
+        wrong = "in every 10000 us, and its period in the system file is 20000 us"
+        self.refused(1, wrong, BOTH[0], WOKEN, servers={"A": tool.server(20_000, 1, 0)})
 
 
 class Kernel:
-    """A processor under SCHED_DEADLINE that stops threads at its ticks: threads that work and sleep at random, the lines that it writes, and
-    where it begins periods of each. Time counts steps of 10 microseconds. A thread that wakes keeps what is left and its deadline, unless
+    """A processor under SCHED_DEADLINE that stops threads at its ticks: threads that work and sleep at random, the lines that it writes,
+    and where it begins periods of each. Time counts steps of 10 microseconds. A thread that wakes keeps what is left and its deadline, unless
     that is past or what is left is more than its share up to there; one whose runtime is used up waits for its deadline."""
 
     TICK = 400
 
     def __init__(self, threads, chance):
         self.chance, self.lines, self.begins = chance, [], {name: set() for name in threads}
-        self.threads = {name: dict(name=name, pid=10 + place, runtime=0, deadline=0, throttled=False, wakes=chance.randint(0, period), work=0, q=q, p=period)
-                        for place, (name, (q, period)) in enumerate(threads.items())}
+        self.threads = {
+            name: dict(name=name, pid=10 + place, runtime=0, deadline=0, throttled=False, wakes=chance.randint(0, period), q=q, p=period)
+            for place, (name, (q, period)) in enumerate(threads.items())}
         self.now, self.current = 0, None
 
     @staticmethod
@@ -315,7 +343,7 @@ class Accounts(Case):
         self.assertGreater(min(counts.values()), 20, counts)
 
     def test_a_sleep_of_one_period_behind_an_overrun(self):
-        """4.1 ms in 20 ms: it works 7.9 ms up to its first sleep, between two ticks, and owes most of the next period, in which it wakes."""
+        """4.1 ms in 20 ms: it works 7.9 ms up to its first sleep, between two ticks, and owes most of the period in which it wakes."""
         chance = mock.Mock(**{"choice.return_value": 1, "randint.side_effect": [0, 790, 2001, 10, 4000, 10, 4000]})
         kernel = Kernel({"A": (410, 2000)}, chance).ran(8000)
         self.assertEqual(kernel.begins["A"], {0, 2000, 6801})
@@ -326,7 +354,8 @@ class Accounts(Case):
         """One switch is taken out: each thread starts again behind it, at a period of its own."""
         kernel = Kernel(self.KINDS[0], random.Random(4)).ran(60_000)
         servers = {name: tool.server(period * 10, budget * 10, 4_000) for name, (budget, period) in self.KINDS[0].items()}
-        half = next(place for place, line in enumerate(kernel.lines) if place > len(kernel.lines) / 2 and "sched_switch" in line and "next_pid=10" in line)
+        into_a = [place for place, line in enumerate(kernel.lines) if "next_pid=10" in line]
+        half = into_a[len(into_a) // 2]
         found, gaps = self.starts(kernel.lines[:half] + kernel.lines[half + 1:], servers)
         self.assertEqual((len(gaps), sorted(name for name, _ in found)), (1, ["A", "A", "B", "B"]))
         self.assertTrue(all(at in kernel.begins[name] for name, at in found))
@@ -355,8 +384,8 @@ class Gaps(Case):
     """A recording goes on behind a gap, as a trace of its own, and the front of it may be passed over."""
 
     # lines 8 and 18 do not follow from the lines before them; the stretch between them is the longest
-    TORN = (BOTH[0], *turn(1), *turn(2), switch("2.500000", "calc 11 S", "sh 7"), *turn(3), *turn(5), *turn(8), switch("8.500000", "calc 11 S", "sh 7"),
-            *turn(9))
+    TORN = (BOTH[0], *turn(1), *turn(2), switch("2.500000", "calc 11 S", "sh 7"), *turn(3), *turn(5), *turn(8),
+            switch("8.500000", "calc 11 S", "sh 7"), *turn(9))
 
     def test_from(self):
         lines = [BOTH[0], *turn(1), *turn(2), *turn(3)]
@@ -374,8 +403,8 @@ class Gaps(Case):
         self.assertEqual((status, err.splitlines()), (0, [
             f"recording:8: {missing}", f"recording:18: {missing}", "recording: whole from 0.500000 until 2.000305, lines 1 to 7",
             "recording: whole from 2.500000 until 8.000305, lines 8 to 17", "recording: whole from 8.500000 until 9.000305, lines 18 to 21",
-            "recording:21: no mark says when the recording was stopped: the trace ends with the last event, and what waited to the end may not be "
-            "seen (docs/audit.md)", "recording: 3 traces stand one behind another: tools/host split cuts them"]))
+            "recording:21: no mark says when the recording was stopped: the trace ends with the last event, and what waited to the end "
+            "may not be seen (docs/audit.md)", "recording: 3 traces stand one behind another: tools/host split cuts them"]))
         rows = out.splitlines()
         self.assertEqual([row for row in rows if "start" in row or "end" in row], [
             "0,cpu3,start,A", "1000305,,end,", "2000000,cpu3,start,A", "7000305,,end,", "8000000,cpu3,start,A", "8000305,,end,"])
@@ -395,8 +424,9 @@ class Gaps(Case):
             "piece-000001.csv,0,1000305000,1000305000,A,0,101", "piece-000002.csv,2000000000,7000305000,7000305000,A,2000000000,501",
             "piece-000003.csv,8000000000,8000305000,8000305000,A,8000000000,1", "end,,,8000305000,,,"])
         if program():
+            count = "vcpu A begun=603 judged=0 short=0 over=0 least_ns=- most_ns=300000"
             answer = run("host", "audit-all", self.system, pieces, f"--program={program()}")
-            self.assertEqual(answer, (0, "verdict=yes\nperiods=0\nvcpu A begun=603 judged=0 short=0 over=0 least_ns=- most_ns=300000\n", ""))
+            self.assertEqual(answer, (0, f"verdict=yes\nperiods=0\n{count}\n", ""))
 
     def test_who_does_not_start_behind_a_gap(self):
         """It starts where it sleeps with a mark, and behind the gap it does not sleep: it is missing there, and that is told."""
@@ -412,14 +442,16 @@ class Gaps(Case):
         front, lost = [BOTH[0], *turn(1), *turn(2)], "CPU:3 [LOST 5 EVENTS]"
         status, out, err = self.run_on([*front, wakeup("2.900000", "sh 7", cpu=2), lost, *turn(3)])
         self.assertEqual((status, out.splitlines()[-1]), (0, "1000305,,end,"))
-        self.assertIn("recording:9: events were lost: CPU:3 [LOST 5 EVENTS]\nrecording: whole from 0.500000 until 2.000305, lines 1 to 7\n", err)
+        self.assertIn("recording:9: events were lost: CPU:3 [LOST 5 EVENTS]\n", err)
+        self.assertIn("recording: whole from 0.500000 until 2.000305, lines 1 to 7\n", err)
         for begin, gaps in (("1.5", 1), ("2.000000", 1), ("2.000001", 0)):
             _, _, err = self.run_on([BOTH[0], *turn(1), lost, *turn(2), *turn(3), *turn(4)], f"--from={begin}")
             self.assertEqual(err.count("events were lost"), gaps, begin)
 
     def test_a_front_that_was_overwritten(self):
         """The second processor's buffer begins later than the first one's: all before that is not whole."""
-        lines = ["# entries-in-buffer/entries-written: 10/99   #P:4", BOTH[0], *turn(1), "##### CPU 2 buffer started ####", *turn(2), *turn(3)]
+        head, begun = "# entries-in-buffer/entries-written: 10/99   #P:4", "##### CPU 2 buffer started ####"
+        lines = [head, BOTH[0], *turn(1), begun, *turn(2), *turn(3)]
         status, out, err = self.run_on(lines)
         self.assertEqual((status, out.splitlines()[1]), (0, "0,cpu3,start,A"))
         self.assertIn("recording:1: events were lost: 99 were written and 10 are kept\n", err)
@@ -455,7 +487,8 @@ class Gaps(Case):
 
     def peak(self, turns, *more):
         """The most memory, in KiB, of a run over so many turns of three lines that come through a pipe."""
-        words = [sys.executable, "-B", "-c", self.PEAK, str(pathlib.Path(__file__).parent), "from-ftrace", "-", *MAP, "--out=/dev/null", *more]
+        tests = str(pathlib.Path(__file__).parent)
+        words = [sys.executable, "-B", "-c", self.PEAK, tests, "from-ftrace", "-", *MAP, "--out=/dev/null", *more]
         child = subprocess.Popen(words, stdin=subprocess.PIPE, stdout=subprocess.PIPE, stderr=subprocess.DEVNULL)
         child.stdin.write("".join(f"{line}\n" for line in AsItComes.turns(turns, 10_000)).encode())
         status, peak = child.communicate()[0].split()
@@ -479,7 +512,8 @@ class AsItComes(Case):
         return lines
 
     def ran(self, lines):
-        return subprocess.run([*self.WORDS, f"--system={self.system}"], input="\n".join(lines) + "\n", capture_output=True, text=True)
+        words = [*self.WORDS, f"--system={self.system}"]
+        return subprocess.run(words, input="\n".join(lines) + "\n", capture_output=True, text=True)
 
     def test_the_same_rows_in_nanoseconds(self):
         lines = self.turns(3)
@@ -497,13 +531,15 @@ class AsItComes(Case):
             ran.stdin.write("\n".join(lines[8:]) + "\n")
             ran.stdin.close()
             rest, err = ran.stdout.read(), ran.stderr.read()
-        self.assertEqual(front, ["at_ns,core,what,vcpu\n", "0,cpu3,start,A\n", "5000,cpu3,run,A\n", "305000,cpu3,stop,\n", "305000,cpu3,block,A\n"])
+        self.assertEqual(front, [f"{row}\n" for row in (
+            "at_ns,core,what,vcpu", "0,cpu3,start,A", "5000,cpu3,run,A", "305000,cpu3,stop,", "305000,cpu3,block,A")])
         self.assertEqual((ran.returncode, "".join(front) + rest), (0, self.ran(lines).stdout))
         self.assertIn("no mark says when the recording was stopped", err)
 
     def test_events_that_come_late_are_put_in_order(self):
         """The buffers of two processors, one emptied behind the other; 10 ms late is in time, and more is not."""
-        lines = [*BOTH, *(line for at in range(5) for line in (wakeup(f"1.0{at}0000", "calc 11"), wakeup(f"1.0{at}0000", "beat 12", cpu=2)))]
+        woken = [[wakeup(f"1.0{at}0000", "calc 11"), wakeup(f"1.0{at}0000", "beat 12", cpu=2)] for at in range(5)]
+        lines = [*BOTH, *sum(woken, [])]
         late = [*lines[:3], lines[4], lines[3], *lines[5:]]
         self.assertEqual(self.ran(late).stdout, self.ran(lines).stdout)
         ran = self.ran([*lines[:3], *lines[4:9], lines[3], *lines[9:]])
@@ -517,6 +553,7 @@ class AsItComes(Case):
         self.assertEqual((ran.returncode, ran.stdout.startswith(front)), (0, True), ran.stderr)
         self.assertEqual(ran.stdout.removeprefix(front).splitlines()[:2], ["at_ns,core,what,vcpu", "8800000000,cpu3,start,A"])
         self.assertIn("-:14: events were lost", ran.stderr)
+        self.assertEqual(self.ran([*lines, "CPU:3 [LOST 5 EVENTS]"]).stdout, front)
         trace, pieces = self.room.file("trace.csv", ran.stdout), self.room.folder / "pieces"
         status, out, err = run("host", "split", trace, pieces, f"--system={self.system}", "--seconds=0.5")
         self.assertEqual((status, len(out.splitlines()), err), (0, 2, ""))
@@ -529,12 +566,14 @@ class AsItComes(Case):
 
 
 class OtherTexts(Case):
-    """What trace-cmd prints, what `perf script` of Linux 6.1 prints, and `perf sched script`, which has sched_waking in place of sched_wakeup."""
+    """What trace-cmd prints, what `perf script` of Linux 6.1 prints, and `perf sched script`, which has sched_waking for sched_wakeup."""
 
     PERF = (
-        "            sh f     7 [003]   782.000000:       sched:sched_switch: prev_comm=calc prev_pid=11 prev_prio=-1 prev_state=S ==> next_comm=sh f next_pid=7 next_prio=125",
+        "            sh f     7 [003]   782.000000:       sched:sched_switch: prev_comm=calc prev_pid=11 prev_prio=-1 prev_state=S "
+        "==> next_comm=sh f next_pid=7 next_prio=125",
         "     migration/0    18 [000]   783.380089:       sched:sched_wakeup: comm=calc pid=11 prio=-1 target_cpu=003",
-        "            sh f     7 [003]   783.380093: sched:sched_switch: prev_comm=sh f prev_pid=7 prev_prio=0 prev_state=R ==> next_comm=calc next_pid=11 next_prio=-1",
+        "            sh f     7 [003]   783.380093: sched:sched_switch: prev_comm=sh f prev_pid=7 prev_prio=0 prev_state=R "
+        "==> next_comm=calc next_pid=11 next_prio=-1",
         "            calc    11 [003]   783.380094: sched:sched_stat_runtime: comm=calc pid=11 runtime=28172 [ns]",
         "            calc 11/11 [003]   783.380099:  1 sched:sched_switch: calc:11 [-1] R ==> sh f:7 [125]",
     )
@@ -543,7 +582,8 @@ class OtherTexts(Case):
     def test_as_trace_cmd_prints_it(self):
         self.assertEqual(told(
             "cpus=4", "CPU 0 is empty",
-            "         python3-9       [001]  0.500000000: print:                tracing_mark_write: rtadmit: asleep comm=calc pid=11 cpu=3 runtime=1 period=2",
+            "         python3-9       [001]  0.500000000: print:                tracing_mark_write: rtadmit: asleep comm=calc pid=11 cpu=3 "
+            "runtime=1 period=2",
             "          <idle>-0     [001]  1.000000000: sched_wakeup:         calc:11 [-1] success=1 CPU:003",
             "          <idle>-0     [003]  1.000000250: sched_switch:         swapper/3:0 [120] R ==> calc:11 [-1]",
             "            calc-11    [003] d..2.  1.000001500: sched_switch:         calc:11 [-1] S ==> swapper/3:0 [120]",
@@ -581,7 +621,8 @@ class Refusals(Case):
         self.refused(None, "its head tells 3 events, and 2 are there", head, BOTH[0], WOKEN)
 
     def test_an_unknown_processor(self):
-        for line in (wakeup("1.000000", "calc 11", cpu=5), switch("1.000000", "sh 7 R", "calc 11", cpu=5), switch("1.000000", "calc 11 R", "sh 7", cpu=5)):
+        switches = [switch("1.000000", *threads, cpu=5) for threads in (("sh 7 R", "calc 11"), ("calc 11 R", "sh 7"))]
+        for line in (wakeup("1.000000", "calc 11", cpu=5), *switches):
             self.refused(1, "processor 5", line)
 
     def test_a_thread_that_migrates(self):
@@ -599,8 +640,8 @@ class Refusals(Case):
 
     def test_lines_that_are_no_events_and_nothing_to_tell(self):
         for line, cause in (
-            ("at,core,what,vcpu", "no line"), (wakeup("1.0001", "calc 11"), "no line"), (wakeup("9" * 5000 + ".000000", "calc 11"), "no line"),
-            (wakeup("1.000000", "calc " + "1" * 5000), "no text of a sched_wakeup"),
+            ("at,core,what,vcpu", "no line"), (wakeup("1.0001", "calc 11"), "no line"),
+            (wakeup("9" * 5000 + ".000000", "calc 11"), "no line"), (wakeup("1.000000", "calc " + "1" * 5000), "no text of a sched_wakeup"),
             ("   <idle>-0  [003] d..2. 1.000000: sched_switch: calc 11", "no text of a sched_switch"),
             ("   <idle>-0  [003] d..2. 1.000000: sched_wakeup: calc 11", "no text of a sched_wakeup"),
         ):
@@ -615,7 +656,8 @@ class Refusals(Case):
         for content, *causes in (
             (gzip.compress(b"text"), "packed by gzip", "gzip -dc FILE"), (b"\xfd7zXZ\0\0", "packed by xz", "xz -dc FILE"),
             (b"\x28\xb5\x2f\xfd...", "packed by zstd", "zstd -dc FILE"), (b"BZh91AY", "packed by bzip2", "bzip2 -dc FILE"),
-            (b"\x17\x08\x44tracing6\0", "trace-cmd's own file", "trace-cmd report"), (b"\n\r\n", "no event"), (b"PERFILE2h\0", "perf's own file", "perf script"),
+            (b"\x17\x08\x44tracing6\0", "trace-cmd's own file", "trace-cmd report"), (b"PERFILE2h\0", "perf's own file", "perf script"),
+            (b"\n\r\n", "no event"),
             (b"at,core,what,vcpu\n0,,end,\n", "a trace already"), (b"abc\0def", "zero bytes"), (b"a" * 9_000, "more than 8191 bytes"),
             (b"", "no event"), (b"# tracer: nop\n" + line, ":2: its clock counts no time", "echo mono > trace_clock"),
             (b"# clock: counter\n", "its clock counts no time"),
@@ -659,7 +701,7 @@ class Words(Case):
         core = '[[core]]\nname = "cpu3"\nsched = "edf"\n'
         for text, cause in (("part = 1", "no system file"), (f"format = 1\n{core}", "it has no part A")):
             system = self.room.file("other.toml", text)
-            self.assertEqual(run("host", "from-ftrace", "nowhere", *MAP, f"--system={system}")[2][:len(f"{system}: {cause}")], f"{system}: {cause}")
+            self.assertIn(f"{system}: {cause}", run("host", "from-ftrace", "nowhere", *MAP, f"--system={system}")[2])
 
 
 class Cuts(unittest.TestCase):
@@ -688,15 +730,6 @@ class Cuts(unittest.TestCase):
         head, events = self.lines[:self.first], self.lines[self.first:]
         found = [self.told(head + events[cut:], self.servers) for cut in range(0, len(events), 5)]
         self.assertEqual((found[0], set(found[1:])), (self.whole, {None}))
-
-    def test_the_verdict(self):
-        if not program():
-            self.skipTest("no program is built")
-        with tempfile.NamedTemporaryFile("w", suffix=".csv") as trace:
-            trace.write(self.told(self.lines[self.first:], self.servers))
-            trace.flush()
-            ended = subprocess.run([program(), "audit", str(LINUX / "tick.toml"), trace.name], stdout=subprocess.PIPE, text=True)
-            self.assertEqual(ended.stdout.splitlines()[0], "verdict=yes")
 
 
 if __name__ == "__main__":

@@ -8,7 +8,6 @@ import os
 import pathlib
 import signal
 import sys
-import tempfile
 import unittest
 from unittest import mock
 
@@ -192,8 +191,8 @@ class Tries(unittest.TestCase):
     LINES = (
         "  python3-9    [000] ...1. 0.500000: tracing_mark_write: rtadmit: asleep comm=calc pid=11 cpu=3 runtime=6000 period=20000",
         "  <idle>-0     [001] dNh4. 1.000000: sched_wakeup: comm=calc pid=11 prio=-1 target_cpu=003",
-        "  sh-7         [003] d..2. 1.000002: sched_switch: prev_comm=sh prev_pid=7 prev_prio=1 prev_state=R ==> next_comm=calc next_pid=11 next_prio=-1",
-        "  calc-11      [003] d..2. 1.000007: sched_switch: prev_comm=calc prev_pid=11 prev_prio=-1 prev_state=R ==> next_comm=sh next_pid=7 next_prio=1",
+        "  sh-7         [003] d..2. 1.000002: sched_switch: sh:7 [1] R ==> calc:11 [-1]",
+        "  calc-11      [003] d..2. 1.000007: sched_switch: calc:11 [-1] R ==> sh:7 [1]",
     )
     WHOLE = "\n".join(LINES) + "\n"
     TORN = "\n".join([*LINES, LINES[-1]]) + "\n"

@@ -1,5 +1,5 @@
-"""Tests of tools/host split: random traces, whole and in pieces, judged by a plain judge that stands here and by the program where there is
-one; the seams by hand; memory; a recording that goes on or is cut off; and refusals."""
+"""Tests of tools/host split: random traces, whole and in pieces, by a plain judge that stands here (the tests of tools/host audit-all ask
+the program too); the seams by hand; memory; a recording that goes on or is cut off; and refusals."""
 import csv
 import io
 import os
@@ -14,7 +14,6 @@ import unittest
 from support import Room, program, run, top, verb
 
 tool = verb("host", "split")
-LINUX = top / "examples" / "linux"
 
 
 # A plain judge, moment by moment
@@ -226,45 +225,6 @@ class Random(unittest.TestCase):
                         self.assertIn((vcpu, k), part.slept)
                         self.assertEqual(part.got[vcpu, k], 0)
 
-    @unittest.skipUnless(program(), "no program is named (RTADMIT) or built")
-    def test_the_program_answers_of_all_pieces_as_of_the_whole(self):
-        for cores, parts, text, folder, _, _ in self.cuts(range(200, 212), lengths=(100, 101, 350)):
-            with tempfile.TemporaryDirectory() as beside:
-                system, trace = pathlib.Path(beside, "system.toml"), pathlib.Path(beside, "trace.csv")
-                system.write_text(system_text(cores, parts))
-                trace.write_text(text)
-                since = {row["piece"]: row["from_ns"] for row in table_of(folder)[0]}
-                answers = [answer(system, folder / name, since[name]) for name in sorted(since)]
-                whole = answer(system, trace, 0)
-                self.assertEqual(joined(answers, list(parts)), whole)
-                self.assertEqual(judged_answer(text, parts), whole)
-
-
-def answer(system, trace, since):
-    """What the program says of a trace: the number of periods, or the broken one, with its moment in the recording."""
-    done = subprocess.run([program(), "audit", system, trace], capture_output=True, text=True, check=False)
-    verdict, told = done.stdout.splitlines()
-    if done.returncode == 0 and verdict == "verdict=yes":
-        return int(told.removeprefix("periods="))
-    assert done.returncode == 1 and verdict == "verdict=no", done
-    kind, vcpu, begins, *rest = told.split()
-    return int(begins.removeprefix("from_ns=")) + since * 1000, vcpu, kind, *rest
-
-
-def judged_answer(text, parts):
-    """What the plain judge says of a trace, as the program would."""
-    judged, vcpus = Judged(text, parts), list(parts)
-    if not judged.broken:
-        return len(judged.clear)
-    at, vcpu, kind, got = min(judged.broken, key=lambda told: (told[0], vcpus.index(told[1])))
-    return at * 1000, vcpu, kind, f"got_ns={got * 1000}", f"of_ns={parts[vcpu][2] * 1000}"
-
-
-def joined(answers, vcpus):
-    """What the answers of all pieces say together: as many periods, or the broken period that begins first."""
-    broken = [told for told in answers if not isinstance(told, int)]
-    return min(broken, key=lambda told: (told[0], vcpus.index(told[1]))) if broken else sum(answers)
-
 
 # By hand
 
@@ -372,7 +332,8 @@ class Seams(unittest.TestCase):
 
     def test_each_spelling_of_a_trace_is_read(self):
         """Quotes, ends of lines of three kinds, empty lines, and a byte order mark."""
-        spelt = "\ufeff" + CARRIED.replace("\n", "\r\n\n").replace("run,A", '"run","A"').replace("24,", '"24",').replace("wake,B\r\n", "wake,B\r")
+        spelt = "\ufeff" + CARRIED.replace("\n", "\r\n\n").replace("run,A", '"run","A"').replace("24,", '"24",')
+        spelt = spelt.replace("wake,B\r\n", "wake,B\r")
         room = Room(self)
         trace, system = room.file("trace", spelt), room.file("system", system_text(["cpu0"], AB))
         self.assertEqual(run("host", "split", trace, room.folder / "out", "--system", system, "--seconds=0.000012")[0], 0)
@@ -381,12 +342,14 @@ class Seams(unittest.TestCase):
     def test_traces_one_behind_another(self):
         """Each VCPU starts anew in the next one, behind a gap; of one without an end the piece that is whole is kept."""
         second = "at,core,what,vcpu\n40,cpu0,start,A\n45,cpu0,run,A\n60,,end,\n"
-        wanted = [(40, ["0,cpu0,start,A", "5,cpu0,run,A", "10,cpu0,stop,", "10,cpu0,block,A", "10,,end,"]), (50, ["0,cpu0,start,A", "0,cpu0,run,A", "10,,end,"])]
+        wanted = [(40, ["0,cpu0,start,A", "5,cpu0,run,A", "10,cpu0,stop,", "10,cpu0,block,A", "10,,end,"]),
+                  (50, ["0,cpu0,start,A", "0,cpu0,run,A", "10,,end,"])]
         for front, first in (("0,cpu0,start,A\n13,cpu0,run,A\n15,,end,\n", [
                 (0, ["0,cpu0,start,A", "10,cpu0,block,A", "10,,end,"]), (10, ["0,cpu0,start,A", "3,cpu0,run,A", "5,,end,"])]),
                 ("0,cpu0,start,A\n13,cpu0,run,A\n15,cpu0,stop,\n", [(0, ["0,cpu0,start,A", "10,cpu0,block,A", "10,,end,"])]), ("", [])):
             self.assertEqual(self.pieces("at,core,what,vcpu\n" + front + second, 10), first + wanted)
-        self.assertRaisesRegex(tool.Refused, "trace:5: TimeFalls", self.pieces, "at,core,what,vcpu\n0,cpu0,start,A\n50,,end,\n" + second, 10)
+        with self.assertRaisesRegex(tool.Refused, "trace:5: TimeFalls"):
+            self.pieces("at,core,what,vcpu\n0,cpu0,start,A\n50,,end,\n" + second, 10)
 
 
 class Lines:
@@ -596,20 +559,6 @@ class Pipe(unittest.TestCase):
         self.assertEqual(complaint, "-:4: BadRow: a row has four fields (pieces that were whole before, and are kept: 1)\n")
         self.assertEqual(sorted(os.listdir(self.folder / "out")), ["piece-000001.csv", "table.csv"])
         self.assertEqual((self.folder / "out/table.csv").read_text().splitlines()[1:], ["piece-000001.csv,0,20000,20000,A,0,2"])
-
-
-@unittest.skipUnless(program(), "no program is named (RTADMIT) or built")
-class Linux(unittest.TestCase):
-    """The recording of examples/linux, in pieces of a tenth of a second."""
-
-    def test_the_same_periods_and_the_same_first_broken_one(self):
-        for name in ("reserved.toml", "tick.toml", "overrun.toml"):
-            with tempfile.TemporaryDirectory() as folder:
-                run("host", "split", LINUX / "trace.csv", folder, "--system", LINUX / name, "--seconds", "0.1")
-                since = {row["piece"]: row["from_ns"] for row in table_of(pathlib.Path(folder))[0]}
-                answers = [answer(LINUX / name, pathlib.Path(folder, piece), since[piece]) for piece in sorted(since)]
-                vcpus = [part.name for part in tool.parts_of(LINUX / name)[1]]
-                self.assertEqual(joined(answers, vcpus), answer(LINUX / name, LINUX / "trace.csv", 0))
 
 
 if __name__ == "__main__":

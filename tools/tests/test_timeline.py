@@ -1,6 +1,5 @@
 """Tests of tools/host timeline: what it tells of each period, traces that are too dense for boxes, and what it refuses."""
 import itertools
-import random
 import re
 import resource
 import subprocess
@@ -63,33 +62,10 @@ class Periods(Case):
     def test_the_picture_of_the_pages(self):
         for trace, picture, words in (
             ("docs/timeline.csv", "docs/timeline.svg", [f"--system={top / 'docs/timeline.toml'}"]),
-            ("examples/linux/trace.csv", "examples/linux/timeline.svg", [f"--system={top / 'examples/linux/reserved.toml'}", "--until=160000"]),
+            ("examples/linux/trace.csv", "examples/linux/timeline.svg",
+             [f"--system={top / 'examples/linux/reserved.toml'}", "--until=160000"]),
         ):
             self.assertEqual(run("host", "timeline", top / trace, *words), (0, (top / picture).read_text(), ""))
-
-    def test_against_sums_over_all_spans(self):
-        """Random traces: each period has what the overlaps with all spans sum up to, and is judged by them."""
-        for seed in range(40):
-            chance = random.Random(seed)
-            runs, blocks, at = [], [], 0
-            start = at = chance.randint(0, 9)
-            while at < 300:
-                kind, length = chance.choice(("run", "block", "wait")), chance.randint(1, 25)
-                {"run": runs, "block": blocks, "wait": []}[kind].append((at, at + length))
-                at += length
-            period, budget, end = chance.randint(3, 40), 3, at
-            drawn, periods = self.drawn(tool.View(0, end), tool.Server(period, budget), start)
-            for first, last, ran in sorted([(*span, True) for span in runs] + [(*span, False) for span in blocks]):
-                periods.take(ran, first, last)
-            periods.end(end)
-            self.assertFalse(drawn.is_band)
-            over = lambda spans, a, b: sum(max(0, min(d, b) - max(c, a)) for c, d in spans)
-            told = []
-            for a in range(start, end, period):
-                b, got = a + period, over(runs, a, min(a + period, end))
-                short = b <= end and got < budget and over(blocks, a, b) == 0
-                told.append((a, b, got, "short" if short else "over" if got > budget else None, b <= end))
-            self.assertEqual(drawn.boxes, told, seed)
 
     def test_nanoseconds(self):
         rows = ["0,cpu0,start,A", "0,cpu0,run,A", "60000,cpu0,stop,", "100000,,end,"]
@@ -101,7 +77,8 @@ class Periods(Case):
 
 class Parts(Case):
     """--from, --until and --around."""
-    ROWS = ["0,cpu0,start,A", *(f"{100 * i + (0 if run else 20)},cpu0,{'run,A' if run else 'stop,'}" for i in range(20) for run in (1, 0)), "2000,,end,"]
+    TURNS = ((f"{100 * i},cpu0,run,A", f"{100 * i + 20},cpu0,stop,") for i in range(20))
+    ROWS = ["0,cpu0,start,A", *itertools.chain(*TURNS), "2000,,end,"]
 
     def test_from_and_until(self):
         status, picture, _ = self.run_tool(self.ROWS, "--from=350", "--until=620", parts=[part("A", 100, 20)])
@@ -208,7 +185,8 @@ class Dense(Case):
         rows = ["0,cpu0,start,A", "900000000,cpu0,run,A", "900000007,cpu0,stop,", "900000100,,end,"]
         status, picture, _ = self.run_tool(rows, "--from=899999980", parts=[part("A", 10, 3, True)])
         self.assertEqual(status, 0)
-        self.assertEqual([text for text in self.texts(picture) if "/" in text and "below" not in text], ["0/3 short"] * 2 + ["7/3"] + ["0/3 short"] * 9)
+        told = [text for text in self.texts(picture) if "/" in text and "below" not in text]
+        self.assertEqual(told, ["0/3 short"] * 2 + ["7/3"] + ["0/3 short"] * 9)
 
 
 class Names(Case):

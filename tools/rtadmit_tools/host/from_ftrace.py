@@ -55,7 +55,8 @@ PERF = re.compile(r".+?\s\d+(?:/\d+)?\s+\[(\d{1,12})\]\s+(\d{1,12})\.(\d{6}|\d{9
 NO_CLOCK = re.compile(r".+?-\d+\s+(?:\([ \d-]+\)\s+)?\[\d+\]\s+(?:\S+\s+)?\d+:\s+\w+:.*|#.*\bclock:? +(?:counter|x86-tsc)\b.*")
 # each as the kernel prints it, and as trace-cmd does
 SWITCHES = (
-    re.compile(r"prev_comm=(.*) prev_pid=(\d{1,12}) prev_prio=-?\d+ prev_state=(\S+) ==> next_comm=(.*) next_pid=(\d{1,12}) next_prio=-?\d+"),
+    re.compile(r"prev_comm=(.*) prev_pid=(\d{1,12}) prev_prio=-?\d+ prev_state=(\S+) ==> "
+               r"next_comm=(.*) next_pid=(\d{1,12}) next_prio=-?\d+"),
     re.compile(r"(.*):(\d{1,12}) \[-?\d+\] (\S+) ==> (.*):(\d{1,12}) \[-?\d+\]"),
 )
 WAKEUPS = (
@@ -73,7 +74,7 @@ KINDS = {
 # how files begin that are no text of events, and what to do with them
 PACKED = {"gzip": b"\x1f\x8b", "xz": b"\xfd7zXZ\0", "zstd": b"\x28\xb5\x2f\xfd", "bzip2": b"BZh"}
 LOOKS = {
-    **{magic: f"it is packed by {by}: unpack it first, as by `{by} -dc FILE | tools/host from-ftrace - ..`" for by, magic in PACKED.items()},
+    **{magic: f"it is packed by {by}: unpack it, as by `{by} -dc FILE | tools/host from-ftrace - ..`" for by, magic in PACKED.items()},
     b"\x17\x08\x44tracing": "it is trace-cmd's own file: print it as text by `trace-cmd report -t FILE`",
     b"PERFILE2": "it is perf's own file: print it as text by `perf script --ns --show-lost-events -i FILE`",
     b"at,core,what,vcpu": "it is a trace already, which the auditor takes as it is",
@@ -133,7 +134,8 @@ def refuse_by_looks(path, file):
     front = file.buffer.peek(4096)[:4096]
     advice = next((advice for magic, advice in LOOKS.items() if front.startswith(magic)), None)
     if advice or b"\0" in front:
-        raise Refused(path, None, f"no text of a trace buffer: {advice or 'it has zero bytes; print it as text by the tool that recorded it'}")
+        advice = advice or "it has zero bytes; print it as text by the tool that recorded it"
+        raise Refused(path, None, f"no text of a trace buffer: {advice}")
 
 
 class Reader:
@@ -189,7 +191,8 @@ class Reader:
     def other(self, line, text):
         """What a line tells that has no event: None, or that events were lost."""
         if NO_CLOCK.fullmatch(text):
-            raise Refused(self.path, line, "its clock counts no time: `echo mono > trace_clock` (`trace-cmd record -C mono`), and record anew")
+            advice = "`echo mono > trace_clock` (`trace-cmd record -C mono`), and record anew"
+            raise Refused(self.path, line, f"its clock counts no time: {advice}")
         counts, lost, begun = COUNTS.match(text), LOST.fullmatch(text), BEGUN.fullmatch(text)
         cpu, cause = None, None
         if counts:
@@ -220,12 +223,11 @@ class Map:
 class Host:
     """The threads and processors of the map, as of the events so far; `write` gets the rows that come of them, each with its line."""
 
-    def __init__(self, named, write, timers):
+    def __init__(self, named, write):
         self.path, self.cores, self.write = named.path, named.cores, write
         self.threads = {who: Vcpu(name, *named.servers.get(name, ())) for who, name in named.threads.items()}
-        self.holders, self.seen, self.switched, self.event = {}, {}, {}, None
-        # the name of the thread that ran whenever a timer was started, or None where it is not always the same
-        self.timers = timers
+        # of each timer the name of the thread that ran whenever it was started, or None where it is not always the same
+        self.holders, self.seen, self.switched, self.timers, self.event = {}, {}, {}, {}, None
 
     def refuse(self, cause):
         raise Refused(self.path, self.event.line, cause)
@@ -233,7 +235,8 @@ class Host:
     def fields(self, forms):
         """The fields of the event's text, in the first form that it has."""
         found = next(filter(None, (form.fullmatch(self.event.text) for form in forms)), None)
-        return found.groups() if found else self.refuse(f"no text of a {'sched_switch' if forms is SWITCHES else 'sched_wakeup or migration'}")
+        kind = "sched_switch" if forms is SWITCHES else "sched_wakeup or migration"
+        return found.groups() if found else self.refuse(f"no text of a {kind}")
 
     def missing(self, cause, sure):
         raise Gap(self.event.line, f"{cause}: an event is missing", sure)
@@ -385,19 +388,20 @@ def why_not(vcpu):
         return cause + "its period or its budget is not known: give the system file by --system"
     seen = f"its longest was {vcpu.longest_sleep // 1000} us" if vcpu.longest_sleep else "it is seen to wake from none"
     return (
-        f"{cause}no sleep of it is so long that one begins behind it: {2 * vcpu.owed // 1000} us are ({seen}): record with tools/host record, "
-        "or with timer:hrtimer_start, or let it sleep that long while the recording is on"
+        f"{cause}no sleep of it is so long that one begins behind it: {2 * vcpu.owed // 1000} us are ({seen}): record with tools/host "
+        "record, or with timer:hrtimer_start, or let it sleep that long while the recording is on"
     )
 
 
 @dataclass
 class Stretch:
-    """A part of the recording in which no event is missing: its first and its last event, its end, where its rows begin in the file, its
-    first start, and for each VCPU that starts in it the line that tells so."""
+    """A part of the recording in which no event is missing: its first and its last event, its end, whether no gap ends it, where its rows
+    begin in the file, its first start, and for each VCPU that starts in it the line that tells so."""
 
     first: Event
     last: Event
     end: int = 0
+    whole: bool = False
     place: int = 0
     begin: int | None = None
     starts: dict = field(default_factory=dict)
@@ -406,8 +410,8 @@ class Stretch:
         self.starts[name] = line
         self.begin = at if self.begin is None else self.begin
 
-    def close(self, last, end=None):
-        self.last, self.end = last, last.at if end is None else end
+    def close(self, last, end=None, whole=False):
+        self.last, self.end, self.whole = last, last.at if end is None else end, whole
         self.starts = {name: line for name, line in self.starts.items() if line <= last.line}
 
 
@@ -449,7 +453,7 @@ class Rows:
 
 
 class Stream:
-    """The rows of traces, written as they come, in nanoseconds. Moments count from the first row. Of the traces the last alone has an end."""
+    """The rows of traces, written as they come, in nanoseconds. Moments count from the first row. One that a gap ends has no end."""
 
     latest = LATEST_NS
 
@@ -475,18 +479,18 @@ class Stream:
             self.written = at
 
     def told(self, stretches):
-        return [f"{self.stretch.end - self.first},,end,\n"] if self.stretch.end else []
+        return [f"{self.stretch.end - self.first},,end,\n"] if self.stretch.whole else []
 
 
 def translate(lines, named, rows, since=0, until=None, longest=False, missing=lambda gap: None):
     """Makes the rows that a recording's numbered lines tell, and tells each gap. Answers the stretches that have a trace, or the longest
     alone, and the last event where the last trace ends with it for want of anything that tells the end."""
-    reader, timers, stretches, host, stopped = Reader(named.path, lines, rows.latest), {}, [], None, None
+    reader, stretches, host, stopped = Reader(named.path, lines, rows.latest), [], None, None
 
     def begin(event):
         stretches.append(Stretch(event, event))
         rows.open(stretches[-1])
-        return Host(named, rows.write, timers)
+        return Host(named, rows.write)
 
     for event in reader.events():
         if stopped is not None or event.at < since or until is not None and event.at > until:
@@ -517,10 +521,10 @@ def translate(lines, named, rows, since=0, until=None, longest=False, missing=la
         raise Refused(named.path, None, f"lines were removed: its head tells {reader.promised} events, and {reader.seen} are there")
     end = min((at for at in (stopped, until) if at is not None and at <= reader.last.at), default=None)
     if host:
-        stretches[-1].close(last, end)
+        stretches[-1].close(last, end, True)
     stretches = [stretch for stretch in stretches if stretch.starts]
     stretches = [max(stretches, key=lambda stretch: stretch.last.at - stretch.first.at)] if longest and stretches else stretches
-    for who, vcpu in (host or Host(named, rows.write, {})).threads.items():
+    for who, vcpu in (host or Host(named, rows.write)).threads.items():
         if not any(vcpu.name in stretch.starts for stretch in stretches):
             raise Refused(named.path, None, f"{vcpu.name} (thread {who}) has no start: {why_not(vcpu)}")
     return stretches, last if host and end is None and stretches[-1].last is last else None
@@ -553,7 +557,8 @@ def map_of(given):
             given.refuse(f"{name!r} is no name of 1 to 32 letters, digits, _ and -")
     if not all(cpu.isdecimal() for cpu in cores):
         given.refuse("N of --cpu N=CORE is the number of a processor")
-    return Map(given.recording, {int(cpu): core for cpu, core in cores.items()}, threads, servers_of(given.system, threads.values(), given.tick) if given.system else {})
+    servers = servers_of(given.system, threads.values(), given.tick) if given.system else {}
+    return Map(given.recording, {int(cpu): core for cpu, core in cores.items()}, threads, servers)
 
 
 def server(period, budget, tick):
@@ -572,18 +577,19 @@ def servers_of(path, names, tick=TICK):
 
 
 def add_words(parser):
-    parser.add_argument("recording", metavar="RECORDING", help="what `trace`, `trace-cmd report`, `perf script` or `perf sched script` printed")
+    parser.add_argument("recording", metavar="RECORDING", help="the text of the buffer; - for standard input")
     parser.add_argument("--cpu", action="append", required=True, metavar="N=CORE", help="a processor, and its core in the system file")
     parser.add_argument("--thread", action="append", required=True, metavar="WHO=VCPU", help="a thread by number or name, and its part")
     parser.add_argument("--system", metavar="FILE", help="the system file, for the periods and the budgets of the VCPUs")
     parser.add_argument("--out", metavar="TRACE", help="gets the trace")
     parser.add_argument("--from", dest="since", type=moment, default=0, metavar="SECONDS", help="passes over what the recording has before")
     parser.add_argument("--until", type=moment, metavar="SECONDS", help="ends the trace there")
-    parser.add_argument("--tick", type=int, default=TICK, metavar="US", help=f"how long a thread may run over its runtime at once; {TICK} us where it is not said")
+    parser.add_argument("--tick", type=int, default=TICK, metavar="US",
+                        help=f"how long a thread may run over its runtime at once; {TICK} us where it is not said")
     parser.add_argument("--longest-whole", action="store_true", help="takes the longest stretch without a gap alone")
     length = parser.add_mutually_exclusive_group()
     length.add_argument("--any-length", action="store_true", help="the trace may pass 1000 seconds, for tools/host split")
-    length.add_argument("--as-it-comes", action="store_true", help="writes rows while the recording is read, of any length, for tools/host split")
+    length.add_argument("--as-it-comes", action="store_true", help="writes rows while it is read, of any length, for tools/host split")
     parser.set_defaults(refuse=parser.error)
 
 
