@@ -78,7 +78,7 @@ class Room:
         how = {"cwd": self.folder, "stdin": subprocess.DEVNULL, "capture_output": True, "timeout": SECONDS} | more
         ran = subprocess.run([*self.program.words, *(word if isinstance(word, bytes) else str(word) for word in words)], **how)
         need(not ran.stderr, f"{' '.join(map(str, words))}: standard error is {ran.stderr[:200]!r}")
-        return Answer(ran.returncode, ran.stdout.decode(errors="replace"))
+        return Answer(ran.returncode, ran.stdout.decode(errors="surrogateescape"))
 
     def want(self, status, *words):
         """What is printed, where the status is this one."""
@@ -88,11 +88,12 @@ class Room:
 
     def shown(self):
         """The files, each behind its name; of a long one the front."""
-        files = sorted(path for path in self.folder.iterdir() if path.is_file())
-        return "\n".join(f"-- {path.name}\n{path.read_bytes()[:SHOWN].decode(errors='replace')}" for path in files)
+        for path in sorted(path for path in self.folder.iterdir() if path.is_file()):
+            with open(path, "rb") as file:
+                yield f"\n-- {path.name}\n{file.read(SHOWN).decode(errors='replace')}"
 
 
-def looked_at(program, look, keep, numbered):
+def looked_at(program, look, keep, shows, numbered):
     """What `look` met in an input, in a fresh room, and what does not hold, or None. Then the room's files are kept, where `keep` is a folder."""
     number, made = numbered
     with tempfile.TemporaryDirectory(prefix="rtadmit-") as folder:
@@ -102,7 +103,7 @@ def looked_at(program, look, keep, numbered):
         except (Broken, subprocess.TimeoutExpired) as wrong:
             if keep:
                 shutil.copytree(folder, pathlib.Path(keep) / f"{look.__name__}-{number}", dirs_exist_ok=True)
-            return Counter(), f"{wrong}\n{room.shown()}"
+            return Counter(), "".join([str(wrong), *(room.shown() if shows else [])]).encode(errors="backslashreplace").decode()
 
 
 def program_to_compare(given):
@@ -112,18 +113,18 @@ def program_to_compare(given):
     return program
 
 
-def compare(given, what, look, inputs, least=None, heavy=False):
-    """Looks at each input, several side by side, and tells what does not hold and how often each thing was met. Whether all is well: each
-    holds, and each thing of `least` was met as often. What is heavy is looked at in processes of its own."""
+def compare(given, what, look, inputs, least=None, heavy=False, shows=True):
+    """Looks at each input, several side by side, and tells what does not hold, with the files, and how often each thing was met. Whether all
+    is well: each holds, and each thing of `least` was met as often. What is heavy is looked at in processes of its own."""
     inputs, least = list(enumerate(inputs)), least or {}
     met, broken, pools = Counter(dict.fromkeys(least, 0)), 0, concurrent.futures
-    look_at = functools.partial(looked_at, program_to_compare(given), look, given.keep)
+    look_at = functools.partial(looked_at, program_to_compare(given), look, given.keep, shows)
     with (pools.ProcessPoolExecutor if heavy else pools.ThreadPoolExecutor)(os.cpu_count()) as pool:
-        for place, (here, wrong) in enumerate(counted(pool.map(look_at, inputs), what, len(inputs))):
+        for (number, made), (here, wrong) in zip(inputs, counted(pool.map(look_at, inputs), what, len(inputs))):
             met.update(here)
             broken += bool(wrong)
             if wrong:
-                print(f"{what}: input {place}: {wrong}")
+                print(f"{what}: {getattr(made, 'name', f'input {number}')}: {wrong}")
     told = [f"{count} {thing}" + f" (at least {least.get(thing)})" * (thing in least) for thing, count in met.items()]
     print("; ".join([f"{what}: {len(inputs) - broken} of {len(inputs)} hold", *told]))
     return not broken and all(met[thing] >= number for thing, number in least.items())

@@ -1,155 +1,141 @@
-#!/usr/bin/env python3
-"""Runs each worked case of cases/ with the program, and compares what it prints and its status with what the case says.
+"""Runs each worked case of tests/cases with the program, and compares what it prints and its status with what the case says.
 
-    tools/cases [--program PATH] [NAME..]
+A case is a folder tests/cases/COMMAND/CASE, named for what it shows:
 
-A case is a folder, named for what it shows:
+    args          the words, one a line; an empty line is an empty word
+    stdout        what is printed, byte for byte
+    status        the exit status; 0 where there is no such file
+    other files   lie where the program runs, under their names
 
-    cases/NAME/args      the words, one a line; an empty line is an empty word
-    cases/NAME/stdout    what is printed, byte for byte
-    cases/NAME/status    the exit status; 0 where there is no such file
-    any other file       lies where the program runs, under its name
-
-or a table of runs that differ in one file alone, which has rows.json in place of stdout and status:
+or a table of runs, which has rows.json in place of stdout and status:
 
     {"file": NAME, "front": TEXT, "back": TEXT, "rows": [[TEXT, PRINTED, STATUS], ..]}
 
-In each run the file NAME is the front, the row's text and the back; each row counts as a case.
+In each run the file NAME is the front, the row's text and the back. A row may be words in place of the text: [[WORD, ..], PRINTED, STATUS]
+runs with them, and a table of words alone has neither args nor "file". PRINTED and STATUS may be left out of rows where the table has
+them, as "printed" and "status". Each row counts as a case.
 
 What is printed and the status come from the rules, by hand, and never from a run of the program. Each case runs in a fresh folder
-with copies of its files, with nothing on standard input; several run side by side. Nothing may come on standard error.
-The program is the proved one where none is named, and the cases are all where none is named. Each case that differs is told with
-what differs, and the last line counts them. Ends with 1 where one differs, where a case lacks its words or its text, and where
-there is no case."""
-import argparse, concurrent.futures, difflib, json, os, pathlib, shutil, subprocess, sys, tempfile
+with copies of its files, with nothing on standard input; several run side by side. Nothing may come on standard error. A NAME is
+COMMAND/CASE, or COMMAND for all of its cases; the cases are all where none is named. Each case that differs is told with what differs,
+and the last line counts them. Ends with 1 where one differs, where a case lacks its words or its text, where there is no case, and where
+a folder cases/ stands at the top, of which none would run."""
+import difflib
+import json
+import pathlib
+import shutil
+from dataclasses import dataclass, field
 
-top = pathlib.Path(__file__).resolve().parent.parent
+from .. import comparing
+from ..command_line import TOP, Refused
+from ..comparing import Broken, compare, need
+
+CASES, FORMER = TOP / "tests/cases", TOP / "cases"
 OWN = ("args", "stdout", "status", "rows.json")
-SECONDS = 60
 
 
-class Broken(Exception):
-    """A case that can't be run as it stands."""
+@dataclass
+class Run:
+    """The words, the content of the files that are no copies, what is printed, and the status; or why there is no such run."""
 
-
-def words_of(text):
-    """The words of a text with one word a line."""
-    words = text.split("\n")
-    return words[:-1] if words[-1] == "" else words
+    name: str
+    case: pathlib.Path
+    words: list = field(default_factory=list)
+    own: dict = field(default_factory=dict)
+    printed: bytes = b""
+    status: int = 0
+    fault: Broken | None = None
 
 
 def status_of(said):
     """The status that a text or a number says."""
-    if not (str(said).isascii() and str(said).isdigit() and int(said) < 256):
-        raise Broken(f"its status is no number below 256: {said!r}")
+    need(str(said).isascii() and str(said).isdigit() and int(said) < 256, f"its status is no number below 256: {said!r}")
     return int(said)
 
 
-def rows_of(case):
-    """The runs of a table: the name of each, the files that it has of its own, the text and the status."""
+def rows_of(name, case, args):
+    """The runs of a table."""
     try:
         table = json.loads((case / "rows.json").read_text())
-        front, back = table.get("front", ""), table.get("back", "")
-        rows = [(table["file"], front + text + back, printed, said) for text, printed, said in table["rows"]]
-        encoded = [({file: text.encode()}, printed.encode(), said) for file, text, printed, said in rows]
+        for number, (told, *rest) in enumerate(table["rows"], 1):
+            printed, status = rest or (table["printed"], table["status"])
+            is_text = not isinstance(told, list)
+            need(is_text == (args is not None), "it has no file args" if is_text else "it has args beside words of its own")
+            own = {table["file"]: (table.get("front", "") + told + table.get("back", "")).encode()} if is_text else {}
+            yield Run(f"{name}, row {number}", case, args if is_text else [word + "" for word in told], own, printed.encode(), status_of(status))
     except (ValueError, KeyError, TypeError, AttributeError) as fault:
         raise Broken(f"its rows.json is no table: {fault!r}") from fault
-    if not encoded or set(table) - {"file", "front", "back", "rows"}:
-        raise Broken("its rows.json has no row, or a key of no table")
-    return [(f"{case.name}, row {i}", *row[:2], status_of(row[2])) for i, row in enumerate(encoded, 1)]
+    need(table["rows"] and not set(table) - {"file", "front", "back", "printed", "status", "rows"}, "its rows.json has no row, or a key of no table")
 
 
-def read_case(case):
-    """The words of a case, and its runs."""
-    told = "rows.json" if (case / "rows.json").is_file() else "stdout"
-    for name in ("args", told):
-        if not (case / name).is_file():
-            raise Broken(f"it has no file {name}")
-    words = words_of((case / "args").read_bytes().decode())
-    if told == "rows.json":
-        if (case / "stdout").exists() or (case / "status").exists():
-            raise Broken("it has rows.json and what is printed beside it")
-        return words, rows_of(case)
-    status = (case / "status").read_text().strip() if (case / "status").is_file() else "0"
-    return words, [(case.name, {}, (case / "stdout").read_bytes(), status_of(status))]
+def read_case(name, case):
+    """The runs of a case."""
+    has = {path.name for path in case.iterdir()}
+    if "rows.json" in has:
+        need(not has & {"stdout", "status"}, "it has rows.json and what is printed beside it")
+        return list(rows_of(name, case, words_of(case) if "args" in has else None))
+    for lacking in {"args", "stdout"} - has:
+        raise Broken(f"it has no file {lacking}")
+    status = status_of((case / "status").read_text().strip()) if "status" in has else 0
+    return [Run(name, case, words_of(case), {}, (case / "stdout").read_bytes(), status)]
 
 
-def run(program, case, words, own):
-    """How the program ended with these words, in a fresh folder with the files of the case and those of the run."""
-    with tempfile.TemporaryDirectory(prefix="rtadmit-case-") as folder:
-        for file in case.iterdir():
-            if file.name not in OWN:
-                copy = shutil.copytree if file.is_dir() else shutil.copyfile
-                copy(file, pathlib.Path(folder) / file.name)
-        for name, content in own.items():
-            (pathlib.Path(folder) / name).write_bytes(content)
-        how = {"stdin": subprocess.DEVNULL, "capture_output": True, "timeout": SECONDS}
-        return subprocess.run([program, *words], cwd=folder, **how)
+def words_of(case):
+    return (case / "args").read_bytes().decode().removesuffix("\n").split("\n") if (case / "args").stat().st_size else []
 
 
-def shown(piece):
-    """The lines of some bytes, as they are told."""
-    return [repr(line)[1:] for line in piece.splitlines(keepends=True)]
+def runs_of(case):
+    name = str(case.relative_to(CASES))
+    try:
+        return read_case(name, case)
+    except Broken as fault:
+        return [Run(name, case, fault=fault)]
 
 
 def differing(wanted, printed):
     """The lines that differ, those that are wanted behind a minus."""
-    lines = difflib.unified_diff(shown(wanted), shown(printed), lineterm="", n=0)
+    sides = ([repr(line)[1:] for line in piece.splitlines(keepends=True)] for piece in (wanted, printed))
+    lines = difflib.unified_diff(*sides, lineterm="", n=0)
     return [line[:200] for line in lines if line[:2] not in ("--", "++", "@@")][:20]
 
 
-def judge(program, case, words, own, text, status):
-    """What is wrong with a run, line by line."""
-    try:
-        ran = run(program, case, words, own)
-    except subprocess.TimeoutExpired:
-        return [f"it did not end within {SECONDS} seconds"]
-    wrong = []
-    if ran.returncode != status:
-        wrong.append(f"status {ran.returncode} in place of {status}")
-    if ran.stdout != text:
-        wrong += ["standard output differs:", *differing(text, ran.stdout)]
-    if ran.stderr:
-        wrong.append(f"standard error is not empty: {ran.stderr[:200]!r}")
-    return wrong
+def as_told(room, run):
+    """Runs it where its files lie. What is printed and the status are those of the case."""
+    if run.fault:
+        raise run.fault
+    for file in run.case.iterdir():
+        if file.name not in OWN:
+            (shutil.copytree if file.is_dir() else shutil.copyfile)(file, room.folder / file.name)
+    for name, content in run.own.items():
+        room.write(name, content)
+    answer = room.run(*run.words)
+    printed, wrong = answer.text.encode(errors="surrogateescape"), []
+    if answer.status != run.status:
+        wrong.append(f"status {answer.status} in place of {run.status}")
+    if printed != run.printed:
+        wrong += ["standard output differs:", *differing(run.printed, printed)]
+    need(not wrong, "\n    ".join(wrong))
 
 
-def judge_all(program, cases):
-    """Tells each case that differs, and counts them."""
-    runs, broken, failed = [], 0, 0
-    for case in cases:
-        try:
-            words, told = read_case(case)
-            runs += [(name, case, words, *rest) for name, *rest in told]
-        except Broken as why:
-            broken += 1
-            print(f"{case.name}:", why, sep="\n    ")
-    with concurrent.futures.ThreadPoolExecutor(os.cpu_count()) as pool:
-        for (name, *_), wrong in zip(runs, pool.map(lambda run: judge(program, *run[1:]), runs)):
-            if wrong:
-                failed += 1
-                print(f"{name}:", *wrong, sep="\n    ")
-    print(f"cases: {len(runs) - failed} passed, {failed + broken} failed")
-    return failed + broken
+def cases():
+    """The folders that hold a case: below the folder of a command, or that folder where it has files itself."""
+    for command in sorted(CASES.iterdir()) if CASES.is_dir() else []:
+        below = sorted(command.iterdir()) if command.is_dir() else []
+        yield from [command] if any(path.is_file() for path in below) else below
 
 
-def main(arguments, folder=top / "cases"):
-    parser = argparse.ArgumentParser(description=__doc__, formatter_class=argparse.RawDescriptionHelpFormatter)
-    parser.add_argument("--program", metavar="PATH", type=pathlib.Path, default=top / "crates/rtadmit/out/rtadmit")
-    parser.add_argument("names", metavar="NAME", nargs="*", help="cases to run in place of all")
-    given = parser.parse_args(arguments)
-    program = given.program.resolve()
-    if not program.is_file() or not os.access(program, os.X_OK):
-        sys.exit(f"{program} is no program")
-    there = sorted(case for case in folder.iterdir() if case.is_dir()) if folder.is_dir() else []
-    unknown = set(given.names) - {case.name for case in there}
-    if unknown:
-        sys.exit("no case has the name " + ", ".join(sorted(unknown)))
-    cases = [case for case in there if not given.names or case.name in given.names]
-    if not cases:
-        sys.exit(f"there is no case in {folder}")
-    return 1 if judge_all(program, cases) else 0
+def add_words(parser):
+    parser.add_argument("names", metavar="NAME", nargs="*", help="cases or commands, in place of all cases")
+    comparing.add_words(parser)
 
 
-if __name__ == "__main__":
-    sys.exit(main(sys.argv[1:]))
+def run(given):
+    if FORMER.exists():
+        raise Refused(FORMER, None, "no case runs there: they stand in tests/cases/COMMAND/CASE")
+    there = list(cases())
+    named = [CASES / name for name in given.names]
+    unknown = [str(path.relative_to(CASES)) for path in named if not any(path in (case, case.parent) for case in there)]
+    if unknown or not there:
+        raise Refused(None, None, f"no case has the name {', '.join(unknown)}" if unknown else f"there is no case in {CASES}")
+    chosen = [case for case in there if not named or case in named or case.parent in named]
+    return int(not compare(given, "cases", as_told, [run for case in chosen for run in runs_of(case)], shows=False))

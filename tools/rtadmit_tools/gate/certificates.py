@@ -3,7 +3,9 @@
 The answers are those of docs/formats.md and docs/certificate.md: the certificate proves the system, also with a space behind each
 comma; with the last point of the guest one lower it has the flaw Cover, and without its end it is no JSON text. Each call has a minute.
 Ends with 1 where one answered otherwise."""
-from ..comparing import add_words, compare, core, need, part, task, tree
+from ..command_line import Refused
+from ..comparing import add_words, compare, core, need, part, program_to_compare, task, tree
+from ..system_file import tree_text
 
 LONG = 11_000_000
 
@@ -31,13 +33,15 @@ WAYS = (
 )
 
 
-def checked(room, way):
-    name, changed, status, wanted = way
-    text = room.want(0, "certify", room.write("system.toml", system()))
-    need(len(text) >= LONG, f"certify: {len(text)} bytes")
-    printed = room.want(status, "check", "system.toml", room.write("certificate.json", changed(text)))
+def checked(room, made):
+    certificate, (name, changed, status, wanted) = made
+    files = room.write("system.toml", system()), room.write("certificate.json", changed(certificate))
+    printed = room.want(status, "check", *files)
     need(printed == wanted, f"{name}: {printed!r}")
 
 
 def run(given):
-    return int(not compare(given, "checks of a long certificate", checked, WAYS))
+    answer = program_to_compare(given).ask("certify", "/dev/stdin", text=tree_text(system()))
+    if answer.status or len(answer.text) < LONG:
+        raise Refused("certify", None, f"status {answer.status}, {len(answer.text)} bytes")
+    return int(not compare(given, f"checks of a certificate of {len(answer.text)} bytes", checked, [(answer.text, way) for way in WAYS]))

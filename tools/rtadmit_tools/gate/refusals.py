@@ -63,14 +63,15 @@ def refused(room, call):
     (room.folder / room.write("closed", "format = 1\n")).chmod(0)
     for name, length in (("longest", LIMIT), ("longer", LIMIT + 1)):
         os.truncate(room.folder / room.write(name, ""), length)
-    given = [*words[:spoilt], path, *words[spoilt + 1:]]
-    answer = room.run(*given, **{"user": NOBODY} if os.geteuid() == 0 else {})
+    asked = [*words[:spoilt], path, *words[spoilt + 1:]]
+    answer = room.run(*asked, **{"user": NOBODY} if os.geteuid() == 0 else {})
     is_told = text is None or answer.text == text.format(k=number)
-    need(answer.status == status and is_told, f"{' '.join(given)}: status {answer.status}, {answer.text[:80]!r}")
+    need(answer.status == status and is_told, f"{' '.join(asked)}: status {answer.status}, {answer.text[:80]!r}")
 
 
 def run(given):
     with tempfile.TemporaryDirectory(prefix="rtadmit-refusals-") as folder:
-        os.chmod(folder, 0o755)
         given.program = shutil.copy(program_to_compare(given).path, folder)
+        for path in (folder, given.program):
+            os.chmod(path, 0o755)
         return int(not compare(given, "calls", refused, calls()))
