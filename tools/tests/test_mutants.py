@@ -45,7 +45,7 @@ class Crates(Checkout):
         self.addCleanup(found.stop)
 
     def edit(self, name, text="file: src/lib.rt\nold: a = 1\nnew: a = 2\n", says=REFUSED):
-        place = name if name.startswith("crates/") else f"mutants/{name}"
+        place = name if name.startswith("crates/") else f"tests/mutants/{name}"
         self.write({f"{place}.edit": f"{text}says: {says}\n" if says else text})
 
     def tried(self, *words):
@@ -68,22 +68,22 @@ class Texts(Crates):
         """A later pair reads what the earlier one left."""
         file = "file: src/lib.rt\nold: "
         rows = {
-            "mutants/low/gone": (f"{file}c = 1\nnew: c = 2\n", "an 'old:' text is in src/lib.rt 0 times, and not once: c = 1"),
+            "tests/mutants/low/gone": (f"{file}c = 1\nnew: c = 2\n", "an 'old:' text is in src/lib.rt 0 times, and not once: c = 1"),
             "crates/high/must-fail/twice": (f"{file}b = 2\nnew: b = 3\n", "an 'old:' text is in src/lib.rt 2 times, and not once: b = 2"),
-            "mutants/low/again": (f"{file}a = 1\nnew: a = 2\nold: a = 1\nnew: a = 3\n", "an 'old:' text is in src/lib.rt 0 times, and not once: a = 1"),
-            "mutants/low/absent": ("file: src/no.rt\nold: a\nnew: b\n", "there is no file src/no.rt"),
-            "mutants/low/outside": ("file: src/../lib.rt\nold: a\nnew: b\n", "src/../lib.rt is no file of src/, specs/ or proofs/"),
-            "mutants/low/empty": ("file: src/lib.rt\n", "it has no 'old:' and 'new:' pair"),
+            "tests/mutants/low/again": (f"{file}a = 1\nnew: a = 2\nold: a = 1\nnew: a = 3\n", "an 'old:' text is in src/lib.rt 0 times, and not once: a = 1"),
+            "tests/mutants/low/absent": ("file: src/no.rt\nold: a\nnew: b\n", "there is no file src/no.rt"),
+            "tests/mutants/low/outside": ("file: src/../lib.rt\nold: a\nnew: b\n", "src/../lib.rt is no file of src/, specs/ or proofs/"),
+            "tests/mutants/low/empty": ("file: src/lib.rt\n", "it has no 'old:' and 'new:' pair"),
         }
         for name, (text, _) in rows.items():
             self.write({f"{name}.edit": text})
         self.edit("low/one")
         self.edit("crates/low/must-fail/one")
         self.edit("nobody/one")
-        self.write({"mutants/low/one.txt": ""})
+        self.write({"tests/mutants/low/one.txt": ""})
         told = [f"{name}.edit: {cause}" for name, (_, cause) in rows.items()] + [
-            "mutants/low/one.edit: crates/low/must-fail/one.edit has that name", "mutants/nobody: there is no crate nobody",
-            "mutants/low/one.txt: an edit is a file mutants/NAME/WHAT.edit",
+            "tests/mutants/low/one.edit: crates/low/must-fail/one.edit has that name", "tests/mutants/nobody: there is no crate nobody",
+            "tests/mutants/low/one.txt: an edit is a file tests/mutants/NAME/WHAT.edit",
         ]
         status, lines = self.told("mutants", "--texts")
         self.assertEqual((status, sorted(lines)), (1, sorted(told)))
@@ -137,6 +137,18 @@ class Together(Crates):
         self.body("b", "two", "2 // says two not proved")
         self.assertEqual(self.tried()[0], 0)
         self.assertEqual(self.rows()[1:], ["low a.edit "])
+
+
+    def test_bodies_that_are_made(self):
+        """They are those of a seed, and what a check does not tell is no fault."""
+        body = "fn {0}() -> u32 {{\n    // says {0} {1}\n    7\n}}\n"
+        for said, status, last in (("not proved", 0, "3 refused\n"), ("proved", 1, "LET THROUGH: low/src/lib.rt:"), ("could not tell", 0, "3 NOT TRIED: low/")):
+            self.write({"crates/low/src/lib.rt": body.format("one", said)})
+            found = self.tried("--plant", "--number", "3", "low")
+            self.assertEqual(found[0], status, found)
+            self.assertIn(last, found[1])
+        self.assertEqual(self.checks()[0], "check low check --jobs 1 --only one")
+        self.assertEqual(self.tried("--plant", "nobody")[0], 2)
 
 
 class Tries(Crates):

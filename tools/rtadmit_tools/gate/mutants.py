@@ -1,6 +1,6 @@
-"""Tries the wrong bodies that the gate does not try, those of mutants/CRATE/: the prover has to refuse each.
+"""Tries wrong bodies that the gate does not try, those of tests/mutants/CRATE/ or some made by rule: the prover has to refuse each.
 
-Tried are those of the crates that are named, or of all; --texts tries none, and tells whether each of mutants/ and of crates/*/must-fail
+Tried are those of the crates that are named, or of all; --texts tries none, and tells whether each of tests/mutants/ and of crates/*/must-fail
 can be applied. It works on a copy of the crates in a room that it keeps, and never in this checkout. What is known of an edit is kept
 there, by a sum of the edit, of its crate's files, of those of the crates below and of the toolchain. So a run that was stopped goes on
 where it was, but for those that it had begun, and one after a change tries anew what the change can reach.
@@ -13,7 +13,11 @@ Told is of each edit whether it is refused (or only because a proof names what t
 through, or cannot be applied. The status is 1 where one is let through, can't be applied or was not tried, and 2 where the words are wrong.
 
 An edit is a file NAME.edit as `rt must-fail` takes it: lines 'file: src/lib.rt', and pairs of lines 'old: TEXT' and 'new: TEXT', each TEXT
-exactly once in that file as the pairs before left it."""
+exactly once in that file as the pairs before left it.
+
+--plant tries no edits, and of each crate some wrong bodies that it makes of the sources: a line with another sign, number, word or order of
+arguments, a condition that is turned round or always holds, a statement that is dropped, an answer that is a constant. Where one is let
+through look whether it answers the same as the real one; what does not compile, and what a check does not tell, counts as nothing."""
 import contextlib
 import hashlib
 import json
@@ -25,11 +29,11 @@ import signal
 import subprocess
 from dataclasses import dataclass
 
-from .. import bodies, sources
+from .. import bodies, plants, sources
 from ..command_line import Refused, counted
 
 REFUSED = 2
-FOLDER = "mutants"
+FOLDER = "tests/mutants"
 AT_ONCE = 12
 # the bodies of one check, and the seconds that it has for each before it is halved
 TOGETHER, SECONDS = 40, 60
@@ -47,15 +51,11 @@ WORDS = {
 
 @dataclass(frozen=True)
 class Edit:
-    """An edit of a crate: its file, its text, and the texts of the files that it makes, by their paths, or why it cannot be applied."""
+    """An edit of a crate: its name, its text, and the texts of the files that it makes, by their paths, or why it cannot be applied."""
 
-    path: pathlib.Path
+    name: str
     text: str
     made: dict | str
-
-    @property
-    def name(self):
-        return self.path.stem
 
 
 def made_by(text, crate):
@@ -83,8 +83,8 @@ def made_by(text, crate):
 
 def edits_in(folder, crate):
     """The edits of a folder, of a crate's folder."""
-    texts = {path: path.read_text(encoding="utf-8", errors="replace") for path in sorted(folder.glob("*.edit"))}
-    return [Edit(path, text, made_by(text, crate)) for path, text in texts.items()]
+    texts = {path.stem: path.read_text(encoding="utf-8", errors="replace") for path in sorted(folder.glob("*.edit"))}
+    return [Edit(name, text, made_by(text, crate)) for name, text in texts.items()]
 
 
 def faults_of_texts():
@@ -98,9 +98,9 @@ def faults_of_texts():
             faults.append(f"{path.relative_to(top)}: there is no crate {place[0]}")
     for crate in sources.crates():
         seen, folder = {}, top / "crates" / crate
-        for edit in [*edits_in(folder / "must-fail", folder), *edits_in(top / FOLDER / crate, folder)]:
+        places = folder.relative_to(top) / "must-fail", pathlib.Path(FOLDER, crate)
+        for place, edit in [(place / f"{edit.name}.edit", edit) for place in places for edit in edits_in(top / place, folder)]:
             number += 1
-            place = edit.path.relative_to(top)
             faults += [f"{place}: {edit.made}"] * isinstance(edit.made, str)
             faults += [f"{place}: {it} has that name" for it in [seen.setdefault(edit.name, place)] if it != place]
     return faults, number
@@ -242,24 +242,31 @@ def tried_together(room, crate, texts, some):
     return found
 
 
-def tried(room, crate, edits):
-    """The kind and the prover's words of the edits of a crate, by their names, some at a time. Wrong bodies are tried together, and what no
-    check of some together tells is tried alone."""
-    folder = room / "crates" / crate
-    texts = {str(path.relative_to(folder)): path.read_text(encoding="utf-8") for path in (folder / "src").rglob("*.rt")}
+def texts_of(folder):
+    """The sources of a crate's folder, by their paths."""
+    return {str(path.relative_to(folder)): path.read_text(encoding="utf-8") for path in (folder / "src").rglob("*.rt")}
+
+
+def tried(room, crate, edits, alone):
+    """The kind and the prover's words of the edits of a crate, by their names, some at a time. Wrong bodies are tried together. What no check
+    of some together tells is tried alone, where that is asked for."""
+    texts = texts_of(room / "crates" / crate)
     some = [bodies.body_of(edit.name, texts, edit.made) for edit in edits if isinstance(edit.made, dict)]
     left = {edit.name: edit for edit in edits}
     for others in counted(bodies.rounds([it for it in some if it], TOGETHER), f"{crate}, checks of some together"):
         said = tried_together(room, crate, texts, others)
         left = {name: edit for name, edit in left.items() if name not in said}
         yield said
-    alone = [*left.values()]
-    for at in counted(range(0, len(alone), AT_ONCE), f"{crate}, proofs of the crate with {AT_ONCE} edits"):
-        yield tried_alone(room, crate, alone[at : at + AT_ONCE])
+    if not alone:
+        yield dict.fromkeys(left, ("untried", "a check does not tell of it"))
+        return
+    parts = [[*left.values()][at : at + AT_ONCE] for at in range(0, len(left), AT_ONCE)]
+    for part in counted(parts, f"{crate}, proofs of the crate with {AT_ONCE} edits"):
+        yield tried_alone(room, crate, part)
 
 
-def try_all(room, edits, toolchain):
-    """The edits of each kind. `edits` has those of each crate."""
+def try_all(room, edits, toolchain, alone):
+    """The edits of each kind. `edits` has those of each crate; `alone` says whether they may be tried alone."""
     results, sums, kinds = Results(room / "results.json"), sums_of(edits, toolchain), {kind: [] for kind in WORDS}
 
     def show(crate, name, kind, said):
@@ -271,7 +278,7 @@ def try_all(room, edits, toolchain):
         for name, key in keys.items():
             if key in results.known:
                 show(crate, name, *results.known[key])
-        for answers in tried(room, crate, [edit for edit in some if keys[edit.name] not in results.known]):
+        for answers in tried(room, crate, [edit for edit in some if keys[edit.name] not in results.known], alone):
             for name, (kind, said) in answers.items():
                 show(crate, name, kind, said)
                 if kind != "untried":
@@ -279,14 +286,14 @@ def try_all(room, edits, toolchain):
     return kinds
 
 
-def summed_up(kinds):
-    """The last lines, and the status."""
+def summed_up(kinds, faults):
+    """The last lines, and the status: 1 where there are edits of a kind that is a fault."""
     lines = []
     for kind, names in kinds.items():
         if names or kind == "refused":
-            which = "" if kind in ("refused", "named") else f": {' '.join(names)}"
+            which = "" if kind in ("refused", "named") else f": {', '.join(names)}"
             lines.append(f"{len(names)} {WORDS[kind].format('they')}{which}\n")
-    return "".join(lines), int(any(kinds[kind] for kind in ("through", "bad", "untried")))
+    return "".join(lines), int(any(kinds[kind] for kind in faults))
 
 
 def ready(room):
@@ -302,29 +309,45 @@ def interrupt(_signal, _frame):
     raise KeyboardInterrupt
 
 
+def kept(crate):
+    """The edits of a crate that are kept."""
+    return edits_in(sources.TOP / FOLDER / crate, sources.TOP / "crates" / crate)
+
+
+def made(crate, number, seed):
+    """So many wrong bodies that are made of a crate, as edits."""
+    found = plants.some(texts_of(sources.TOP / "crates" / crate), number, seed)
+    return [Edit(name, text, {path: text}) for name, path, text in found]
+
+
 def add_words(parser):
     cache = pathlib.Path(os.environ.get("XDG_CACHE_HOME") or pathlib.Path.home() / ".cache")
     parser.add_argument("crates", nargs="*", metavar="CRATE", help="the crates whose edits are tried, in place of all")
     told = "where the copy and the results are kept (~/.cache/rtadmit-mutants)"
     parser.add_argument("--room", type=pathlib.Path, metavar="FOLDER", default=cache / "rtadmit-mutants", help=told)
     parser.add_argument("--texts", action="store_true", help="only whether each edit can be applied")
+    parser.add_argument("--plant", action="store_true", help="try wrong bodies that are made, in place of edits")
+    parser.add_argument("--number", type=int, default=40, metavar="N", help="how many are made of each crate (40)")
+    parser.add_argument("--seed", type=int, default=1, metavar="N", help="which are made (1)")
 
 
 def run(given):
     signal.signal(signal.SIGTERM, interrupt)
     if given.texts:
-        if given.crates:
-            raise Refused(None, None, "--texts looks at all edits, and takes no crate")
+        if given.crates or given.plant:
+            raise Refused(None, None, "--texts looks at all edits, and takes no crate and no --plant")
         faults, number = faults_of_texts()
         return sources.told([*faults, *["there is no edit to look at"] * (not number)])
-    known = sorted(path.name for path in (sources.TOP / FOLDER).iterdir() if path.is_dir())
+    there = sources.crates() if given.plant else [path.name for path in (sources.TOP / FOLDER).iterdir() if path.is_dir()]
+    known = sorted(crate for crate in there if not crate.endswith("_tests"))
     if unknown := [crate for crate in given.crates if crate not in known]:
-        raise Refused(None, None, f"there is no folder {FOLDER}/{unknown[0]}: {' '.join(known)}")
+        raise Refused(None, None, f"{unknown[0]} is none of these crates: {' '.join(known)}")
     if not shutil.which("rt"):
         raise Refused(None, None, "rt is not on the PATH: it comes with the Rattle toolchain kit that README.md names")
     toolchain = subprocess.run(["rt", "version"], capture_output=True, text=True).stdout.strip()
     room, crates = given.room.resolve(), given.crates or known
     ready(room)
     fill(room, crates)
-    edits = {crate: edits_in(sources.TOP / FOLDER / crate, sources.TOP / "crates" / crate) for crate in crates}
-    return summed_up(try_all(room, edits, toolchain))
+    edits = {crate: made(crate, given.number, given.seed) if given.plant else kept(crate) for crate in crates}
+    faults = ["through"] if given.plant else ["through", "bad", "untried"]
+    return summed_up(try_all(room, edits, toolchain, not given.plant), faults)
