@@ -141,9 +141,9 @@ class Together(Crates):
 
     def test_bodies_that_are_made(self):
         """They are those of a seed, and what a check does not tell is no fault."""
-        body = "fn {0}() -> u32 {{\n    // says {0} {1}\n    7\n}}\n"
+        source = "// says one {}\nfn one() -> u32 {{\n    7\n}}\n"
         for said, status, last in (("not proved", 0, "3 refused\n"), ("proved", 1, "LET THROUGH: low/src/lib.rt:"), ("could not tell", 0, "3 NOT TRIED: low/")):
-            self.write({"crates/low/src/lib.rt": body.format("one", said)})
+            self.write({"crates/low/src/lib.rt": source.format(said)})
             found = self.tried("--plant", "--number", "3", "low")
             self.assertEqual(found[0], status, found)
             self.assertIn(last, found[1])
