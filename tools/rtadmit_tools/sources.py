@@ -137,7 +137,7 @@ def pieces(module, text):
             continue
         end = lines.index(f"{fn[1]}}}", body)
         own, trait, owner = block if fn[1] else (None, None, None)
-        function = Function(module, owner or own or "", trait, fn[3], bool(fn[2]))
+        function = Function(module, owner or own or "", trait, fn[3], fn[2] == "pub ")
         found += [Piece(None, tuple(between)), Piece(function, tuple(lines[at:body]), tuple(lines[body:end]))]
         between, at = [], end
     return [*found, Piece(None, tuple(between))]

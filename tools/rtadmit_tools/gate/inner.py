@@ -12,7 +12,6 @@ import re
 from collections import Counter, defaultdict
 
 from .. import sources
-from ..sources import FUNCTION
 
 IMPORT = re.compile(r"\buse Rattle\.(\w+)\.specs\.([\w.+-]+?)(?:\.\{([^}]*)\}| as (\w+))")
 NAME = re.compile(r"(?<![\w.'-])(?:(\w+)\.)?([A-Za-z_][\w'-]*)")
@@ -47,44 +46,17 @@ def named_of_others(text, crate):
     return {one for one in named if one[0] != crate}
 
 
-def contracts(lines, all_functions):
-    """The lines of an item but for comments, bodies and, where not all functions are asked for, private ones."""
-    end, is_told = None, True
-    for line in lines:
-        begun = FUNCTION.match(line)
-        if end is not None:
-            end = None if line == end else end
-        elif not line.lstrip().startswith(("//", "#[")) or begun:
-            is_told = all_functions or begun[2] == "pub " if begun else is_told
-            if is_told:
-                yield line
-            if line.strip() == "{" or line.endswith("{") and (begun or line.lstrip().startswith(")")):
-                end = line[:len(line) - len(line.lstrip())] + "}"
-            is_told = is_told or end is not None or bool(begun) and line.endswith("}")
-
-
-def items_of(text):
-    """The items of a file of src/: each begins at its first line, and ends where the next one begins."""
-    items = []
-    for line in text.split("\n"):
-        if begun := ITEM.match(line):
-            items.append((begun, []))
-        if items:
-            items[-1][1].append(line)
-    return items
-
-
-def public_text(module, items, handed_out, hidden, own):
-    """The contracts of a file's public items."""
-    told = []
-    for begun, lines in items:
-        homes = handed_out.get(begun["name"], ())
-        if begun["kind"] == "impl":
-            is_told = bool(homes or begun["name"] not in own) and begun["trait"] not in hidden
-        else:
-            is_told = bool(begun["pub"]) and module.split(".")[0] in ("lib", *homes)
-        if is_told:
-            told += contracts(lines, begun["kind"] != "impl" or bool(begun["trait"]))
+def public_text(file, handed_out, hidden, own):
+    """The contracts of a file's public items: their lines but for comments, bodies and, in an `impl` of no trait, private functions."""
+    told, is_told, is_whole = [], False, False
+    for piece in sources.pieces(file.module, file.text):
+        for line in piece.head:
+            if begun := ITEM.match(line):
+                homes, is_whole = handed_out[begun["name"]], begun["kind"] != "impl" or begun["trait"]
+                is_met = begun["pub"] and file.module.split(".")[0] in ("lib", *homes)
+                is_told = (homes or begun["name"] not in own) and begun["trait"] not in hidden if begun["kind"] == "impl" else is_met
+            if is_told and (is_whole or not piece.function or piece.function.is_public) and not line.lstrip().startswith("//"):
+                told.append(line)
     return "\n".join(told)
 
 
@@ -111,14 +83,17 @@ class House:
 
     def read_sources(self, crate):
         """Notes that a reader meets what public contracts name, and what src/ names of other crates."""
-        files = [(file.module, file.text, items_of(file.text)) for file in sources.files(crate, "src")]
-        handed_out = handed_out_by("".join(text for module, text, _ in files if module == "lib"))
-        named = {kind: {begun["name"] for _, _, items in files for begun, _ in items if begun["kind"] == kind}
-                 for kind in ("struct", "enum", "trait")}
-        for module, text, items in files:
-            told = public_text(module, items, handed_out, named["trait"] - set(handed_out), named["struct"] | named["enum"])
-            self.met.update(named_in(told, imports_of(text)))
-            self.met |= named_of_others(text, crate)
+        files, handed_out, named = list(sources.files(crate, "src")), defaultdict(set), defaultdict(set)
+        for module, names, name in (found for file in files if file.module == "lib" for found in HANDED_OUT.findall(file.text)):
+            for word in re.findall(r"\w+", names or name):
+                handed_out[word].add(module)
+        for begun in filter(None, (ITEM.match(line) for file in files for line in file.lines)):
+            named[begun["kind"]].add(begun["name"])
+        hidden = named["trait"] - set(handed_out)
+        for file in files:
+            told = public_text(file, handed_out, hidden, named["struct"] | named["enum"])
+            self.met.update(named_in(told, imports_of(file.text)))
+            self.met |= named_of_others(file.text, crate)
 
     def go_on(self):
         """Notes what the definitions name that a reader meets."""
@@ -134,15 +109,6 @@ class House:
         for one, (line, _) in self.definitions.items():
             if line and one not in self.met and not one[1].startswith("inner."):
                 yield one
-
-
-def handed_out_by(lib):
-    """The names that lib.rt hands out, each with the modules that it comes from."""
-    found = defaultdict(set)
-    for module, names, name in HANDED_OUT.findall(lib):
-        for word in re.findall(r"\w+", names or name):
-            found[word].add(module)
-    return found
 
 
 def lines_of(found, house, by_file):
