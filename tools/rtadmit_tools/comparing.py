@@ -70,7 +70,7 @@ class Room:
     def write(self, name, content):
         """Writes a text, bytes or the tables of a system file. The name, as a word."""
         content = tree_text(content) if isinstance(content, dict) else content
-        (self.folder / name).write_bytes(content if isinstance(content, bytes) else content.encode())
+        (self.folder / name).write_bytes(content if isinstance(content, bytes) else content.encode(errors="surrogateescape"))
         return name
 
     def run(self, *words, **more):

@@ -2,7 +2,7 @@ use crate::helpers::MEMORY;
 use bulk_run::{BulkCounts, bulk_counts};
 
 /// The counts of the most guests, which the rules of the product state. Those of fewer stand in
-/// `cases/`.
+/// `tests/cases/`.
 #[test]
 fn a_host_has_these_counts(rt: HostRuntime) {
     let counts = BulkCounts {

@@ -52,7 +52,7 @@ fn certificates_of_a_leaf(rt: HostRuntime) {
     expect_printed(&rt, rt.alloc(), BY_RATE, OF_RATES);
 }
 
-/// Each flaw and each fault stands in a table of `cases/`.
+/// Each flaw and each fault stands in a table of `tests/cases/`.
 #[test]
 fn a_certificate_without_nodes(rt: HostRuntime) {
     let sys = system_of(&rt, rt.alloc(), BY_DEADLINE);

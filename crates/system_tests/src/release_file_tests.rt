@@ -88,7 +88,7 @@ fn releases_of_both_versions_are_read(rt: HostRuntime) {
     }
 }
 
-/// Each fault of a workload and of releases stands in a table of `cases/`.
+/// Each fault of a workload and of releases stands in a table of `tests/cases/`.
 #[test]
 fn the_first_fault_is_told(rt: HostRuntime) {
     let sys = system_of(&rt, rt.alloc(), HOST);

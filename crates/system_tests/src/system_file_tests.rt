@@ -51,7 +51,7 @@ fn expect_fault(rt: &impl Abort, alloc: Global, bytes: &[u8], fault: SystemFault
     assert!(rt; read_system(alloc, bytes).err() == Some(fault));
 }
 
-/// Each kind of fault stands in a table of `cases/`.
+/// Each kind of fault stands in a table of `tests/cases/`.
 #[test]
 fn what_is_no_system_is_refused(rt: HostRuntime) {
     expect_fault(&rt, rt.alloc(), b"", SystemFault::MissingKey(Spot::Top));

@@ -12,7 +12,7 @@ that this would show little."""
 from ..command_line import TOP
 from ..comparing import SCHEDS, Numbers, add_words, compare, core, need, part, task, tree
 
-STORED = ("admit_a_host_of_two_cores_and_six_guests", "admit_a_tree_fits_a_core_of_sixteen_in_twenty")
+STORED = ("a_host_of_two_cores_and_six_guests", "a_tree_fits_a_core_of_sixteen_in_twenty")
 STARTS = "at,vcpu,what\n0,A,start\n0,B,start\n0,C,start\n"
 
 
@@ -74,7 +74,7 @@ def satisfied(room, system):
 
 
 def run(given):
-    stored = [(TOP / "cases" / name / "system.toml").read_text() for name in STORED]
+    stored = [(TOP / "tests/cases/admit" / name / "system.toml").read_text() for name in STORED]
     certificates = compare(given, "certified and checked", certified, [*stored, *(system for system, _ in made(7, 100))], {"certified": 10})
     simulations = compare(given, "let pass and simulated", never_misses, made(11, 100), {"let pass": 20})
     audits = compare(given, "run and audited", satisfied, map(three_guests, range(100)))
