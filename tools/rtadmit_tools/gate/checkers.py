@@ -179,7 +179,8 @@ def spell_otherwise(chance, text):
         return text_of(json.loads(text, object_pairs_hook=lambda pairs: dict(reversed(pairs))))
     if way == 2:
         return text.replace(b'"part"', b'"\\u0070art"').replace(b'"points"', b'"p\\u006fints"')
-    return text.replace(b'"budget":', b'"budget":[' + chance.choice([b"[]", b"1e400", b'"\\ud800"', b'"\\ud83d\\ude00"', b"-0", b"{}"]) + b'],"budget":')
+    first = chance.choice([b"[]", b"1e400", b'"\\ud800"', b'"\\ud83d\\ude00"', b"-0", b"{}"])
+    return text.replace(b'"budget":', b'"budget":[' + first + b'],"budget":')
 
 
 def spoilt(chance, text):
@@ -204,7 +205,7 @@ PRIMES = [999_999_937, 999_999_929, 999_999_893, 999_999_883]
 
 def with_leaf(sched, period, budget, *tasks):
     """A system of one leaf on a full core; a task is its period, deadline, jitter and work."""
-    tables = [task(f"t{number}", period, work, deadline=deadline, jitter=jitter) for number, (period, deadline, jitter, work) in enumerate(tasks)]
+    tables = [task(f"t{number}", each, work, deadline=due, jitter=jitter) for number, (each, due, jitter, work) in enumerate(tasks)]
     return tree_text(tree([core("c")], [part("p", "c", sched, period, budget, tables)])).encode()
 
 
@@ -225,11 +226,13 @@ def of_deadlines():
     for last in (71, 110, 120, 121, 2**127):
         yield file, certificate_of(dict(leaf, points=["50", str(last)]), dict(BELOW, points=["3", "41"]))
     for prime in (337, 347):
-        yield with_leaf("edf", 1, 1, *((period, period, 0, 1) for period in [*PRIMES, prime])), certificate_of(dict(NODE, kind="part"), BELOW)
+        file = with_leaf("edf", 1, 1, *((period, period, 0, 1) for period in [*PRIMES, prime]))
+        yield file, certificate_of(dict(NODE, kind="part"), BELOW)
     busy = with_leaf("edf", 10, None, *[(1000, 1000, 900, 100)] * 256)
     for first in ("1", "100", MOST):
         yield busy, certificate_of(dict(leaf, period=10, budget=10, computed=True, points=sorted({first, MOST}), witness=MOST), BELOW)
-    for more in ({"points": ["2"]}, {"points": ["0", "3"]}, {"points": ["1", MOST]}, {"points": [MOST]}, {"points": ["3", "2"]}, {"points": ["3", "3"]}, {"hits": [1]}, {"falls": [1]}, {"witness": "1"}):
+    others = (["2"], ["0", "3"], ["1", MOST], [MOST], ["3", "2"], ["3", "3"])
+    for more in (*({"points": points} for points in others), {"hits": [1]}, {"falls": [1]}, {"witness": "1"}):
         yield CORE, certificate_of(dict(NODE, **more))
 
 
@@ -323,7 +326,7 @@ def as_second(room, numbered):
 
 
 def add_words(parser):
-    parser.add_argument("--seed", type=int, default=1, metavar="N", help="what systems are drawn and how they are spoilt; 1 where none is named")
+    parser.add_argument("--seed", type=int, default=1, metavar="N", help="for other systems, spoilt otherwise; 1 where none is named")
     parser.add_argument("--count", type=int, default=600, metavar="N", help="how many certificates; 600 where none is named")
     comparing.add_words(parser)
 

@@ -36,11 +36,12 @@ FRONTS = [
 EMPTY = (6, 9)
 NUMBERS = [0, 1, 2, 3, 10, 100, 255, 256, 257, 511, 512, 513, 577, 1000, 65536, 10**6, 10**6 + 1, 10**9, 10**9 + 1, 10**12, 10**12 + 1]
 NUMBERS += [2**k + d for k in (31, 32, 63, 64, 127, 128) for d in (-1, 0, 1)] + [int("9" * 40)]
-ODD = ["-1", "-0", "+1", "01", "00", "1.0", "1e0", "1e400", "1_000", "0x10", "0b1", "nan", "inf", "true", "null", '"1"', "", " ", "[]", "{}", "1979-05-27"]
+ODD = ["-1", "-0", "+1", "01", "00", "1.0", "1e0", "1e400", "1_000", "0x10", "0b1", "nan", "inf", "true", "null"]
+ODD += ['"1"', "", " ", "[]", "{}", "1979-05-27"]
 WORDS = "format core part part.task name sched parent period budget extra task deadline jitter work supply_period supply_budget edf rm dm"
-WORDS += " listed at at_ns vcpu what early start wake block run stop end nodes budget computed falls hits kind place points witness cpu0 v0 t0"
-WORDS = [word.encode() for word in (WORDS + " early late worst add remove change").split()]
-PIECES = [b"\0", b"\xff", b"\xef\xbb\xbf", b"\r\n", b"\n\n", b'"', b"'", b'"""', b",", b";", b":", b"[", b"]", b"{", b"}", b"[[", b"]]", b"=", b".", b"\\", b"\\u0000", b"#"]
+WORDS += " listed at at_ns vcpu what early start wake block run stop end nodes budget computed falls hits kind place points witness"
+WORDS = [word.encode() for word in (WORDS + " cpu0 v0 t0 early late worst add remove change").split()]
+PIECES = [b"\0", b"\xff", b"\xef\xbb\xbf", b"\r\n", b"\n\n", *rb'''" ' """ , ; : [ ] { } [[ ]] = . \ \u0000 #'''.split()]
 FILLINGS = [b"a", b"9", b" ", b"\n", b"#", b",", b'"', b"\xc3\xa9", b"\t"]
 FILES = ["/dev/null", "/dev/zero", "/proc/self/mem", "/", "/no/such", "/dev/null/x", "", "x" * 300, "x" * 5000, b"\xff\xfe", "\n"]
 ROWS = b"op,part,parent,sched,period,budget,tasks\n"
@@ -98,7 +99,8 @@ def page_calls(program):
     """The calls of the pages of examples, each file that it names as a File."""
     for words in filter(None, page.words(program.path)):
         paths = [TOP / os.fsdecode(word) for word in words]
-        yield [File(path.read_bytes()) if place and word and path.is_file() else word for place, (word, path) in enumerate(zip(words, paths))]
+        is_file = [place and word and path.is_file() for place, (word, path) in enumerate(zip(words, paths))]
+        yield [File(path.read_bytes()) if named else word for named, word, path in zip(is_file, words, paths)]
 
 
 # How a good call is spoilt.
@@ -200,7 +202,8 @@ SPOILS = [
 
 
 def spoil_word(dice, word):
-    return dice.choice([number(dice), number(dice), dice.choice(WORDS), word + b" ", word[:-1], b"", b"\xff" + word, word.upper(), b"9" * 5000, word * 2])
+    others = number(dice), number(dice), dice.choice(WORDS)
+    return dice.choice([*others, word + b" ", word[:-1], b"", b"\xff" + word, word.upper(), b"9" * 5000, word * 2])
 
 
 def spoil(dice, words, others):
@@ -257,7 +260,8 @@ def nested(open_, inner, close, most, front=b"", behind=b""):
 
 
 HEAD = b'format = 1\n[[core]]\nname = "c"\nsched = "edf"\n'
-TINY = HEAD + b'[[part]]\nname = "v"\nparent = "c"\nsched = "edf"\nperiod = 10\nbudget = 3\n[[part.task]]\nname = "t"\nperiod = 50\nwork = 7\n'
+TINY = HEAD + b'[[part]]\nname = "v"\nparent = "c"\nsched = "edf"\nperiod = 10\nbudget = 3\n'
+TINY += b'[[part.task]]\nname = "t"\nperiod = 50\nwork = 7\n'
 LINE = 67_000_000
 NODE = b'{"format":1,"nodes":[{"budget":3,"computed":false,"falls":[],"hits":[],"kind":"part","period":10,"place":0,"points":["50"'
 TRACED, RELEASED = b"at,core,what,vcpu\n", b"at,part,task,work\n"
@@ -304,8 +308,8 @@ GREAT = [
 ]
 # the other words of a form; the rest is a number
 BESIDE = {
-    "FILE": File(TINY), "RELEASES": File(RELEASED), "WORKLOAD": File(b"at,vcpu,what\n"), "TRACE": File(TRACED + b"0,,end,\n"), "CERT": File(CERTIFICATE),
-    "SCRIPT": File(SCRIPT), "GUESTS": File(GUESTS), "PATTERN": b"late", "PART": b"v", "SLOTS": b"1000",
+    "FILE": File(TINY), "RELEASES": File(RELEASED), "WORKLOAD": File(b"at,vcpu,what\n"), "TRACE": File(TRACED + b"0,,end,\n"),
+    "CERT": File(CERTIFICATE), "SCRIPT": File(SCRIPT), "GUESTS": File(GUESTS), "PATTERN": b"late", "PART": b"v", "SLOTS": b"1000",
 }
 
 
@@ -340,8 +344,10 @@ class Fuzz:
     def wrong_with(self, ended, text, complaint, out, limit):
         """What is wrong with a run, or nothing."""
         status = ended.status
-        if status is None or not 0 <= status < len(FRONTS):
-            return f"was not done after {limit:.0f} seconds" if status is None else f"was ended by signal {-status}" if status < 0 else f"ended with status {status}"
+        if status is None:
+            return f"was not done after {limit:.0f} seconds"
+        if not 0 <= status < len(FRONTS):
+            return f"was ended by signal {-status}" if status < 0 else f"ended with status {status}"
         if complaint:
             return f"wrote to standard error: {complaint[:80]!r}"
         if out != "file":
