@@ -43,15 +43,19 @@ GOOD = {
     "format 2 without jitter": LATE,
     "jitter": with_key(LATE, "part.task", "jitter = 43"),
     "jitter of 0": with_key(LATE, "part.task", "jitter = 0"),
-    "the highest jitter": with_key(LATE, "part.task", f"jitter = {HIGHEST - 1}").replace("period = 50\nwork = 7", f"period = {HIGHEST}\nwork = 1"),
-    "the highest times": FILE.replace("50", str(HIGHEST)).replace("work = 7", f"work = {HIGHEST}").replace("period = 10\n", f"period = {HIGHEST}\nbudget = {HIGHEST}\n"),
+    "the highest jitter": with_key(LATE, "part.task", f"jitter = {HIGHEST - 1}").replace("50\nwork = 7", f"{HIGHEST}\nwork = 1"),
+    "the highest times": (
+        FILE.replace("50", str(HIGHEST)).replace("work = 7", f"work = {HIGHEST}").replace("10\n", f"{HIGHEST}\nbudget = {HIGHEST}\n")
+    ),
     "a supply": with_key(FILE, "core", f"supply_period = {HIGHEST}\nsupply_budget = 1"),
     "all keys of a part": with_key(FILE, "part", "budget = 1\nextra = true"),
     "extra that is false": with_key(FILE, "part", "extra = false"),
     "a deadline": with_key(FILE, "part.task", "deadline = 7"),
     "each scheduler": FILE.replace("'edf'", "'listed'").replace("'rm'", "'dm'"),
     "a name of 32": FILE.replace("'t'", "'" + "T" + "_-9" * 10 + "a'"),
-    "a part on a part, with no tasks by an empty array": FILE.replace(PART, with_key(PART.replace("'p'", "'q'"), "part", "task = []") + PART.replace("'c'", "'q'")),
+    "a part on a part, with no tasks by an empty array": (
+        FILE.replace(PART, with_key(PART.replace("'p'", "'q'"), "part", "task = []") + PART.replace("'c'", "'q'"))
+    ),
     "64 cores": "format = 1\n" + many(64, CORE.replace("'c'", "'n'")),
     "512 parts": "format = 1\n" + CORE + many(512, PART.replace("'p'", "'n'") + "budget = 1\n" + TASK),
     "256 tasks": "format = 1\n" + CORE + PART + "budget = 1\n" + many(256, TASK.replace("'t'", "'n'")),
@@ -94,7 +98,8 @@ BROKEN = {
 def full(table, key, value):
     """The file with all keys, with another value of one of them; None leaves it out."""
     tables = FULL | {table: FULL[table] | {key: value}}
-    return "\n".join(line for name, keys in tables.items() for line in [f"[[{name}]]" * bool(name), *(f"{key} = {it}" for key, it in keys.items() if it)])
+    heads = {name: [f"[[{name}]]"] if name else [] for name in tables}
+    return "\n".join(line for name, keys in tables.items() for line in [*heads[name], *(f"{key} = {it}" for key, it in keys.items() if it)])
 
 
 def resolved(value):
