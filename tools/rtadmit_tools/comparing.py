@@ -94,7 +94,7 @@ class Room:
 
 
 def looked_at(program, look, keep, shows, numbered):
-    """What `look` met in an input, in a fresh room, and what does not hold, or None. Then the room's files are kept, where `keep` is a folder."""
+    """What `look` met in an input, in a fresh room, and what does not hold, or None. Then the folder `keep`, or none, gets the files."""
     number, made = numbered
     with tempfile.TemporaryDirectory(prefix="rtadmit-") as folder:
         room = Room(program, folder)
@@ -114,8 +114,8 @@ def program_to_compare(given):
 
 
 def compare(given, what, look, inputs, least=None, heavy=False, shows=True):
-    """Looks at each input, several side by side, and tells what does not hold, with the files, and how often each thing was met. Whether all
-    is well: each holds, and each thing of `least` was met as often. What is heavy is looked at in processes of its own."""
+    """Looks at each input, several side by side, and tells what does not hold, with the files, and how often each thing was met. Whether
+    all is well: each holds, and each thing of `least` was met as often. What is heavy is looked at in processes of its own."""
     inputs, least = list(enumerate(inputs)), least or {}
     met, broken, pools = Counter(dict.fromkeys(least, 0)), 0, concurrent.futures
     look_at = functools.partial(looked_at, program_to_compare(given), look, given.keep, shows)

@@ -61,7 +61,8 @@ class Cases(Room):
             (2, {"args": "fail\nsystem\n", "rows.json": rows(["", "x  z", 3], ["y", "x y z", 3], file="system", front="x ", back=" z")}),
             (1, {"args": "list\n", "system": "y", "rows.json": rows(["x", "system\ntrace\n", 0], file="trace")}),
             (2, {"args": "print\nsystem\n", "rows.json": rows(["x"], ["y", "y", 0], file="system", printed="x", status=0)}),
-            (3, {"system": "x", "rows.json": rows([["fail", "system"]], [[], "", 0], [["print", "system"], "x", 0], printed="x", status=3)}),
+            (2, {"system": "x", "rows.json": rows([["fail", "system"]], [["print", "system"], "x", 0], printed="x", status=3)}),
+            (1, {"rows.json": rows([[], "", 0])}),
         ):
             with self.subTest(files=files):
                 self.assertEqual(self.told(command__good=files), (0, [f"cases: {count} of {count} hold"]))
@@ -77,15 +78,15 @@ class Cases(Room):
             ({"stdout": ""}, "it has no file args"),
             ({"args": "list\n"}, "it has no file stdout"),
             ({"args": "list\n", "stdout": "", "status": "yes\n"}, "its status is no number below 256: 'yes'"),
-            ({"args": "print\nsystem\n", "stdout": "x", "rows.json": rows(["x", "x", 0], file="system")}, "it has rows.json and what is printed beside it"),
+            ({"args": "list\n", "stdout": "", "rows.json": rows(["", "", 0], file="x")}, "it has rows.json and what is printed beside it"),
             ({"rows.json": rows(["x", "x", 0], file="system")}, "it has no file args"),
             ({"args": "list\n", "rows.json": rows([["list"], "", 0])}, "it has args beside words of its own"),
             ({"args": "list\n", "rows.json": rows(["", "", 0], file="x", head="")}, "its rows.json has no row, or a key of no table"),
             ({"args": "list\n", "rows.json": rows(file="x")}, "its rows.json has no row, or a key of no table"),
             ({"args": "list\n", "rows.json": rows()}, "its rows.json has no row, or a key of no table"),
             *(({"args": "list\n", "rows.json": told}, f"{table}: {fault}") for told, fault in (
-                ("", "JSONDecodeError"), ("[]", "TypeError"), (rows(["", ""], file="x"), "ValueError"), (rows([""], file="x", status=0), "KeyError('printed')"),
-                (rows([0, "", 0], file="x"), "TypeError"), (rows(["x", "", 0]), "KeyError('file')"))),
+                ("", "JSONDecodeError"), ("[]", "TypeError"), (rows(["", ""], file="x"), "ValueError"),
+                (rows(["x", "", 0]), "KeyError('file')"), (rows([0, "", 0], file="x"), "TypeError"), (rows([""], file="x", status=0), "KeyError('printed')"))),
             ({"rows.json": rows([[0], "", 0])}, table),
         ):
             with self.subTest(files=files):

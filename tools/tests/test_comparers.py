@@ -1,5 +1,5 @@
-"""Tests of the verbs of tools/gate that make inputs, ask the program and compare: what they make and find by hand, the loop that they share,
-and programs that answer wrong, which are a few lines of shell."""
+"""Tests of the verbs of tools/gate that make inputs, ask the program and compare: what they make and find by hand, the loop that they
+share, and programs that answer wrong, which are a few lines of shell."""
 import argparse
 import contextlib
 import io

@@ -61,7 +61,8 @@ class ThePage(Case):
         self.assertIn(b'"rm"', self.system)
         keys = {"budget": 4, "points": [], "hits": [25, 46], "falls": [1, 65, 76], "witness": "1"}
         core = json.loads(self.good)["nodes"][1] | {"points": ["4", "12"]}
-        told = lambda **more: self.told(self.system, json.dumps({"format": 1, "nodes": [json.loads(self.good)["nodes"][0] | keys | more, core]}).encode())
+        leaf = json.loads(self.good)["nodes"][0] | keys
+        told = lambda **more: self.told(self.system, json.dumps({"format": 1, "nodes": [leaf | more, core]}).encode())
         self.assertEqual(told(), YES)
         self.assertEqual(told(hits=[24, 46]), flaw("Hit part leaf task=1"))
         self.assertEqual(told(hits=[25, 45]), flaw("Hit part leaf task=2"))
@@ -71,8 +72,9 @@ class ThePage(Case):
     def test_faults_of_the_text(self):
         for old, new, word in (
             ('{"format":1,', '{"format":1.0,', "BadNumber"), ('"format":1', '"format":"1"', "WrongShape"), ('"35"', '"035"', "BadNumber"),
-            ('"35"', "35", "WrongShape"), ('"budget":3', '"budget":-0', "BadNumber"), ('"budget":3', '"budget":1e400,"budget":3', "NotJson"),
-            ('"budget":3', '"budget":"\\ud800","budget":3', "NotJson"), ('"budget":3', '"budget":[],"budget":3', None), ("}]}", "}]", "NotJson"),
+            ('"35"', "35", "WrongShape"), ('"budget":3', '"budget":-0', "BadNumber"), ("}]}", "}]", "NotJson"),
+            *(('"budget":3', f'"budget":{first},"budget":3', word) for first, word in (
+                ("1e400", "NotJson"), ('"\\ud800"', "NotJson"), ("[]", None))),
         ):
             wanted = YES if word is None else (3, f"fault={word} file=2\n")
             self.assertEqual(self.told(self.system, self.good.replace(old, new, 1).encode()), wanted, new)

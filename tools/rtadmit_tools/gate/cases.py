@@ -32,6 +32,7 @@ from ..comparing import Broken, compare, need
 
 CASES, FORMER = TOP / "tests/cases", TOP / "cases"
 OWN = ("args", "stdout", "status", "rows.json")
+TABLE = {"file", "front", "back", "printed", "status", "rows"}
 
 
 @dataclass
@@ -62,10 +63,11 @@ def rows_of(name, case, args):
             is_text = not isinstance(told, list)
             need(is_text == (args is not None), "it has no file args" if is_text else "it has args beside words of its own")
             own = {table["file"]: (table.get("front", "") + told + table.get("back", "")).encode()} if is_text else {}
-            yield Run(f"{name}, row {number}", case, args if is_text else [word + "" for word in told], own, printed.encode(), status_of(status))
+            words = args if is_text else [word + "" for word in told]
+            yield Run(f"{name}, row {number}", case, words, own, printed.encode(), status_of(status))
     except (ValueError, KeyError, TypeError, AttributeError) as fault:
         raise Broken(f"its rows.json is no table: {fault!r}") from fault
-    need(table["rows"] and not set(table) - {"file", "front", "back", "printed", "status", "rows"}, "its rows.json has no row, or a key of no table")
+    need(table["rows"] and set(table) <= TABLE, "its rows.json has no row, or a key of no table")
 
 
 def read_case(name, case):

@@ -13,8 +13,9 @@ import subprocess
 
 from .. import comparing
 from ..command_line import TOP
-from ..comparing import SCHEDS, compare, module_of, need, program_to_compare
+from ..comparing import SCHEDS, compare, core, module_of, need, part, program_to_compare, task, tree
 from ..program import Answer
+from ..system_file import tree_text
 
 SECOND = "tools/second-checker"
 ANSWERS = ["verdict=yes", *(f"flaw={word}" for word in ("Nodes", "Budget", "Wide", "Cover", "Hit", "Least"))]
@@ -35,17 +36,16 @@ def draw_task(chance, number, server_period, share):
 
 
 def draw_leaf(chance, name, parent, period):
-    tables = [["[[part]]", {"name": name, "parent": parent, "sched": chance.choice(SCHEDS), "period": period}]]
-    if chance.random() < 0.3:
-        tables[0][1]["budget"] = chance.randint(period // 2, period)
+    keys = {"name": name, "parent": parent, "sched": chance.choice(SCHEDS), "period": period}
+    keys |= {"budget": chance.randint(period // 2, period)} if chance.random() < 0.3 else {}
     count = chance.randint(1, 4)
-    return tables + [draw_task(chance, number, period, 0.25 / count) for number in range(count)]
+    return [["[[part]]", keys], *(draw_task(chance, number, period, 0.25 / count) for number in range(count))]
 
 
 def draw_system(chance):
     tables, parts, cores = [], [], chance.randint(1, 2)
-    for core in range(cores):
-        tables.append(["[[core]]", {"name": f"cpu{core}", "sched": chance.choice(SCHEDS)}])
+    for number in range(cores):
+        tables.append(["[[core]]", {"name": f"cpu{number}", "sched": chance.choice(SCHEDS)}])
         if chance.random() < 0.3:
             period = chance.randint(1, 6)
             tables[-1][1] |= {"supply_period": period, "supply_budget": chance.randint(max(1, period - 1), period)}
@@ -120,17 +120,14 @@ def change_entry(chance, value):
     arrays = [(node, key) for node in value["nodes"] for key in ("points", "hits", "falls")]
     node, key = chance.choice([(node, key) for node, key in arrays if node[key]] or arrays)
     place, spelled = chance.randint(0, max(0, len(node[key]) - 1)), (str if key == "points" else int)
-    ways = ["put", "drop", "repeat", "change", "change"] if node[key] else ["put"]
-    way = chance.choice(ways)
-    if way == "put":
-        around = [int(entry) for entry in node[key][max(0, place - 1):place + 1]] or [0, 9]
-        node[key].insert(place, spelled(chance.randint(min(around), max(around) + 1)))
-    elif way == "drop":
-        del node[key][place]
-    elif way == "repeat":
-        node[key].insert(place, node[key][place])
-    else:
-        node[key][place] = spelled(near(chance, node[key][place]))
+    here, around = node[key][place:place + 1], [int(entry) for entry in node[key][max(0, place - 1):place + 1]] or [0, 9]
+    ways = {
+        "put": lambda: [spelled(chance.randint(min(around), max(around) + 1)), *here],
+        "drop": lambda: [],
+        "repeat": lambda: here * 2,
+        "change": lambda: [spelled(near(chance, here[0]))],
+    }
+    node[key][place:place + 1] = ways[chance.choice([*ways, "change"] if here else ["put"])]()
 
 
 def change_kind(chance, value):
@@ -146,17 +143,13 @@ def change_nodes(chance, value):
     nodes = value["nodes"]
     place = chance.randrange(len(nodes))
     way = chance.choice(["drop", "repeat", "turn", "key", "more"])
-    if way == "drop":
-        del nodes[place]
-    elif way == "repeat":
-        nodes.insert(place, nodes[place])
+    if way in ("drop", "repeat"):
+        nodes[place:place + 1] = [nodes[place]] * (2 * (way == "repeat"))
     elif way == "turn":
         nodes.reverse()
-    elif way == "key":
-        holder = chance.choice([value, nodes[place]])
-        del holder[chance.choice(list(holder))]
     else:
-        chance.choice([value, nodes[place]])["more"] = 1
+        holder = chance.choice([value, nodes[place]])
+        holder.update(more=1) if way == "more" else holder.pop(chance.choice(list(holder)))
 
 
 def refine(chance, value):
@@ -186,7 +179,8 @@ def spell_otherwise(chance, text):
         return text_of(json.loads(text, object_pairs_hook=lambda pairs: dict(reversed(pairs))))
     if way == 2:
         return text.replace(b'"part"', b'"\\u0070art"').replace(b'"points"', b'"p\\u006fints"')
-    return text.replace(b'"budget":', b'"budget":[' + chance.choice([b"[]", b"1e400", b'"\\ud800"', b'"\\ud83d\\ude00"', b"-0", b"{}"]) + b'],"budget":')
+    first = chance.choice([b"[]", b"1e400", b'"\\ud800"', b'"\\ud83d\\ude00"', b"-0", b"{}"])
+    return text.replace(b'"budget":', b'"budget":[' + first + b'],"budget":')
 
 
 def spoilt(chance, text):
@@ -209,14 +203,10 @@ MOST = str(2**128 - 1)
 PRIMES = [999_999_937, 999_999_929, 999_999_893, 999_999_883]
 
 
-def with_leaf(sched, period, budget, tasks):
+def with_leaf(sched, period, budget, *tasks):
     """A system of one leaf on a full core; a task is its period, deadline, jitter and work."""
-    given = f"budget={budget}\n" if budget else ""
-    lines = [f'[[part]]\nname="p"\nparent="c"\nsched="{sched}"\nperiod={period}\n{given}']
-    for number, task in enumerate(tasks):
-        keys = zip(("period", "deadline", "jitter", "work"), task)
-        lines.append(f'[[part.task]]\nname="t{number}"\n' + "".join(f"{key}={value}\n" for key, value in keys))
-    return CORE + "".join(lines).encode()
+    tables = [task(f"t{number}", each, work, deadline=due, jitter=jitter) for number, (each, due, jitter, work) in enumerate(tasks)]
+    return tree_text(tree([core("c")], [part("p", "c", sched, period, budget, tables)])).encode()
 
 
 def certificate_of(*nodes, format=1):
@@ -225,22 +215,24 @@ def certificate_of(*nodes, format=1):
 
 def of_deadlines():
     """Under earliest deadline first."""
-    file = with_leaf("edf", 10, None, [(50, 50, 0, 7)])
+    file = with_leaf("edf", 10, None, (50, 50, 0, 7))
     leaf = dict(NODE, kind="part", computed=True, budget=2, period=10, witness="50")
     for points in (["44", "94", "144", "194"], ["0", "44", "94"], [MOST], ["44", MOST], [], ["44", "94", MOST]):
         for witness in ("49", "50", "0", MOST, None):
             yield file, certificate_of(dict(leaf, points=points, witness=witness), BELOW)
     for more in ({"falls": [1]}, {"hits": [1]}, {"budget": 0}, {"budget": 10}, {"budget": 11}, {"computed": False}):
         yield file, certificate_of(dict(leaf, points=["50", "94"], **more), BELOW)
-    file, leaf = with_leaf("edf", 20, 20, [(50, 50, 0, 7)]), dict(NODE, kind="part", budget=20, period=20)
+    file, leaf = with_leaf("edf", 20, 20, (50, 50, 0, 7)), dict(NODE, kind="part", budget=20, period=20)
     for last in (71, 110, 120, 121, 2**127):
         yield file, certificate_of(dict(leaf, points=["50", str(last)]), dict(BELOW, points=["3", "41"]))
     for prime in (337, 347):
-        yield with_leaf("edf", 1, 1, [(period, period, 0, 1) for period in [*PRIMES, prime]]), certificate_of(dict(NODE, kind="part"), BELOW)
-    busy = with_leaf("edf", 10, None, [(1000, 1000, 900, 100)] * 256)
+        file = with_leaf("edf", 1, 1, *((period, period, 0, 1) for period in [*PRIMES, prime]))
+        yield file, certificate_of(dict(NODE, kind="part"), BELOW)
+    busy = with_leaf("edf", 10, None, *[(1000, 1000, 900, 100)] * 256)
     for first in ("1", "100", MOST):
         yield busy, certificate_of(dict(leaf, period=10, budget=10, computed=True, points=sorted({first, MOST}), witness=MOST), BELOW)
-    for more in ({"points": ["2"]}, {"points": ["0", "3"]}, {"points": ["1", MOST]}, {"points": [MOST]}, {"points": ["3", "2"]}, {"points": ["3", "3"]}, {"hits": [1]}, {"falls": [1]}, {"witness": "1"}):
+    others = (["2"], ["0", "3"], ["1", MOST], [MOST], ["3", "2"], ["3", "3"])
+    for more in (*({"points": points} for points in others), {"hits": [1]}, {"falls": [1]}, {"witness": "1"}):
         yield CORE, certificate_of(dict(NODE, **more))
 
 
@@ -249,20 +241,20 @@ def of_priorities():
     node = dict(NODE, kind="part", period=10, points=[], computed=True, budget=2)
     chains = [[1, 51], [1, 50], [1, 52], [0, 51], [0, 1, 51], [51], [1], [], [1, 20, 20, 51], [1, 20, 51], [1, 2**64 - 1]]
     for work in (7, 4):
-        file = with_leaf("listed", 10, None, [(60, 60, 10, work)])
+        file = with_leaf("listed", 10, None, (60, 60, 10, work))
         for falls in chains:
             yield file, certificate_of(dict(node, hits=[50], falls=falls, witness="0"), BELOW)
         for hit in (0, 1, 49, 51, 2**64 - 1):
             yield file, certificate_of(dict(node, hits=[hit], falls=[1, 51], witness="0"), BELOW)
     for witness in ("1", MOST, None):
         yield file, certificate_of(dict(node, hits=[50], falls=[1, 51], witness=witness), BELOW)
-    file, core = with_leaf("rm", 10, None, [(50, 50, 0, 7), (75, 75, 0, 9)]), dict(BELOW, points=["4", "12"])
+    file, above = with_leaf("rm", 10, None, (50, 50, 0, 7), (75, 75, 0, 9)), dict(BELOW, points=["4", "12"])
     for falls in ([1, 65, 76], [1, 76], [1, 64, 76], [1, 66, 76], [1, 65, 75], [1, 60, 65, 70, 76]):
         for hits in ([25, 46], [46, 25], [25], [25, 46, 46], [24, 46], [25, 45]):
-            yield file, certificate_of(dict(node, budget=4, hits=hits, falls=falls, witness="1"), core)
-    file = with_leaf("dm", 10, 10, [(50, 40, 10, 7)])
+            yield file, certificate_of(dict(node, budget=4, hits=hits, falls=falls, witness="1"), above)
+    file = with_leaf("dm", 10, 10, (50, 40, 10, 7))
     for hit in (30, 31, 40):
-        yield file, certificate_of(dict(node, computed=False, budget=10, hits=[hit]), core)
+        yield file, certificate_of(dict(node, computed=False, budget=10, hits=[hit]), above)
     for sched in (b"rm", b"dm", b"listed"):
         for more in ({"points": []}, {}, {"points": [], "hits": [1]}, {"points": [], "falls": [1]}, {"points": [], "witness": "0"}):
             yield CORE.replace(b"edf", sched), certificate_of(dict(NODE, **more))
@@ -334,7 +326,7 @@ def as_second(room, numbered):
 
 
 def add_words(parser):
-    parser.add_argument("--seed", type=int, default=1, metavar="N", help="what systems are drawn and how they are spoilt; 1 where none is named")
+    parser.add_argument("--seed", type=int, default=1, metavar="N", help="for other systems, spoilt otherwise; 1 where none is named")
     parser.add_argument("--count", type=int, default=600, metavar="N", help="how many certificates; 600 where none is named")
     comparing.add_words(parser)
 

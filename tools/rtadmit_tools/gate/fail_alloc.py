@@ -53,9 +53,9 @@ def places(count, at_most):
 def each_refused(room, made):
     """Whether every run of the call ends as it is to."""
     words, library, refuse_all, at_most = made
-    (room.folder / "told").write_bytes(bytes(32))
-    with open(room.folder / "told", "r+b") as file, mmap.mmap(file.fileno(), 32) as shared, memoryview(shared) as counters, counters.cast("l") as told:
-        env = dict(os.environ, LD_PRELOAD=library, TOLD=str(room.folder / "told"))
+    path = room.folder / room.write("told", bytes(32))
+    env = dict(os.environ, LD_PRELOAD=library, TOLD=str(path))
+    with open(path, "r+b") as file, mmap.mmap(file.fileno(), 32) as shared, memoryview(shared).cast("l") as told:
 
         def run(refuse=0):
             """The answer, the number of requests, and that of blocks that were never given back."""

@@ -28,27 +28,21 @@ from ..program import Program, add_program
 
 inputs, page, runs = (module_of(file) for file in ("bench/inputs.py", "examples/page.py", "bench/runs.py"))
 
-# What each status is told by: the front of its text.
-FRONTS = {
-    0: (b"verdict=yes\n", b'{"format"', b"at,core,what,vcpu\n", b"at_ns,core,what,vcpu\n", b"format = ", b"rtadmit "),
-    1: (b"verdict=no\n",),
-    2: (b"usage: ", b""),
-    3: (b"fault=",),
-    4: (b"verdict=wide\n",),
-    5: (b"absent file=",),
-    6: (b"",),
-    7: (b"toolong file=",),
-    8: (b"",),
-    9: (b"",),
-}
+# What the statuses are told by, in their order: the front of the text.
+FRONTS = [
+    (b"verdict=yes\n", b'{"format"', b"at,core,what,vcpu\n", b"at_ns,core,what,vcpu\n", b"format = ", b"rtadmit "),
+    *((front,) for front in (b"verdict=no\n", b"", b"fault=", b"verdict=wide\n", b"absent file=", b"", b"toolong file=", b"", b"")),
+]
 EMPTY = (6, 9)
 NUMBERS = [0, 1, 2, 3, 10, 100, 255, 256, 257, 511, 512, 513, 577, 1000, 65536, 10**6, 10**6 + 1, 10**9, 10**9 + 1, 10**12, 10**12 + 1]
 NUMBERS += [2**k + d for k in (31, 32, 63, 64, 127, 128) for d in (-1, 0, 1)] + [int("9" * 40)]
-ODD = ["-1", "-0", "+1", "01", "00", "1.0", "1e0", "1e400", "1_000", "0x10", "0b1", "nan", "inf", "true", "null", '"1"', "", " ", "[]", "{}", "1979-05-27"]
+ODD = ["-1", "-0", "+1", "01", "00", "1.0", "1e0", "1e400", "1_000", "0x10", "0b1", "nan", "inf", "true", "null"]
+ODD += ['"1"', "", " ", "[]", "{}", "1979-05-27"]
 WORDS = "format core part part.task name sched parent period budget extra task deadline jitter work supply_period supply_budget edf rm dm"
-WORDS += " listed at at_ns vcpu what early start wake block run stop end nodes budget computed falls hits kind place points witness cpu0 v0 t0"
-WORDS = [word.encode() for word in (WORDS + " early late worst add remove change").split()]
-PIECES = [b"\0", b"\xff", b"\xef\xbb\xbf", b"\r\n", b"\n\n", b'"', b"'", b'"""', b",", b";", b":", b"[", b"]", b"{", b"}", b"[[", b"]]", b"=", b".", b"\\", b"\\u0000", b"#"]
+WORDS += " listed at at_ns vcpu what early start wake block run stop end nodes budget computed falls hits kind place points witness"
+WORDS = [word.encode() for word in (WORDS + " cpu0 v0 t0 early late worst add remove change").split()]
+PIECES = [b"\0", b"\xff", b"\xef\xbb\xbf", b"\r\n", b"\n\n", *rb'''" ' """ , ; : [ ] { } [[ ]] = . \ \u0000 #'''.split()]
+FILLINGS = [b"a", b"9", b" ", b"\n", b"#", b",", b'"', b"\xc3\xa9", b"\t"]
 FILES = ["/dev/null", "/dev/zero", "/proc/self/mem", "/", "/no/such", "/dev/null/x", "", "x" * 300, "x" * 5000, b"\xff\xfe", "\n"]
 ROWS = b"op,part,parent,sched,period,budget,tasks\n"
 SCRIPT = ROWS + b"add,C,cpu0,edf,200,1,t:1000:1000:0:1\nchange,C,,rm,200,,t:1000:900:5:1;u:2000:2000:0:1\nremove,C,,,,,\n"
@@ -105,7 +99,8 @@ def page_calls(program):
     """The calls of the pages of examples, each file that it names as a File."""
     for words in filter(None, page.words(program.path)):
         paths = [TOP / os.fsdecode(word) for word in words]
-        yield [File(path.read_bytes()) if place and word and path.is_file() else word for place, (word, path) in enumerate(zip(words, paths))]
+        is_file = [place and word and path.is_file() for place, (word, path) in enumerate(zip(words, paths))]
+        yield [File(path.read_bytes()) if named else word for named, word, path in zip(is_file, words, paths)]
 
 
 # How a good call is spoilt.
@@ -133,8 +128,11 @@ def put(dice, data, piece):
     return data[:at] + piece() + data[at:]
 
 
-def cut(dice, data, _):
-    return data[: place_in(dice, data)] if dice.random() < 0.7 else data[place_in(dice, data) :]
+def other_in(dice, data, pattern, other):
+    """The data with another piece in place of one that is found, or behind all where none is."""
+    found = list(re.finditer(pattern, data))
+    start, end = dice.choice(found).span() if found else (len(data), len(data))
+    return data[:start] + other() + data[end:]
 
 
 def drop(dice, data, _):
@@ -155,25 +153,13 @@ def splice(dice, data, others):
 
 def flip(dice, data, _):
     flipped = bytearray(data)
-    for _ in range(dice.choice([1, 1, 3, 20])):
-        if flipped:
-            flipped[dice.randrange(len(flipped))] = dice.randrange(256)
+    for _ in range(dice.choice([1, 1, 3, 20]) * bool(data)):
+        flipped[dice.randrange(len(flipped))] = dice.randrange(256)
     return bytes(flipped)
-
-
-def other_in(dice, data, pattern, other):
-    """The data with another piece in place of one that is found, or behind all where none is."""
-    found = list(re.finditer(pattern, data))
-    one = dice.choice(found).span() if found else (len(data), len(data))
-    return data[: one[0]] + other() + data[one[1] :]
 
 
 def renumber(dice, data, _):
     return other_in(dice, data, rb"\d+", lambda: number(dice))
-
-
-def reword(dice, data, _):
-    return other_in(dice, data, rb"[A-Za-z_][A-Za-z_0-9.]*", lambda: dice.choice(WORDS))
 
 
 def equal_key(dice, data, _):
@@ -198,19 +184,26 @@ def nest(dice, data, _):
     return data[:at] + open_ * depth + data[at : at + 3] + close * depth + data[at + 3 :]
 
 
-def lengthen(dice, data, _):
-    return put(dice, data, lambda: dice.choice([b"a", b"9", b" ", b"\n", b"#", b",", b'"', b"\xc3\xa9", b"\t"]) * dice.choice([33, 300, 70000]))
-
-
-def sprinkle(dice, data, _):
-    return put(dice, data, lambda: dice.choice(PIECES))
-
-
-SPOILS = [cut, drop, double, splice, flip, renumber, renumber, renumber, reword, reword, equal_key, shuffle_lines, nest, lengthen, sprinkle]
+# each as often as it is to be chosen
+SPOILS = [
+    lambda dice, data, _: data[: place_in(dice, data)] if dice.random() < 0.7 else data[place_in(dice, data) :],
+    drop,
+    double,
+    splice,
+    flip,
+    *[renumber] * 3,
+    *[lambda dice, data, _: other_in(dice, data, rb"[A-Za-z_][A-Za-z_0-9.]*", lambda: dice.choice(WORDS))] * 2,
+    equal_key,
+    shuffle_lines,
+    nest,
+    lambda dice, data, _: put(dice, data, lambda: dice.choice(FILLINGS) * dice.choice([33, 300, 70000])),
+    lambda dice, data, _: put(dice, data, lambda: dice.choice(PIECES)),
+]
 
 
 def spoil_word(dice, word):
-    return dice.choice([number(dice), number(dice), dice.choice(WORDS), word + b" ", word[:-1], b"", b"\xff" + word, word.upper(), b"9" * 5000, word * 2])
+    others = number(dice), number(dice), dice.choice(WORDS)
+    return dice.choice([*others, word + b" ", word[:-1], b"", b"\xff" + word, word.upper(), b"9" * 5000, word * 2])
 
 
 def spoil(dice, words, others):
@@ -267,7 +260,8 @@ def nested(open_, inner, close, most, front=b"", behind=b""):
 
 
 HEAD = b'format = 1\n[[core]]\nname = "c"\nsched = "edf"\n'
-TINY = HEAD + b'[[part]]\nname = "v"\nparent = "c"\nsched = "edf"\nperiod = 10\nbudget = 3\n[[part.task]]\nname = "t"\nperiod = 50\nwork = 7\n'
+TINY = HEAD + b'[[part]]\nname = "v"\nparent = "c"\nsched = "edf"\nperiod = 10\nbudget = 3\n'
+TINY += b'[[part.task]]\nname = "t"\nperiod = 50\nwork = 7\n'
 LINE = 67_000_000
 NODE = b'{"format":1,"nodes":[{"budget":3,"computed":false,"falls":[],"hits":[],"kind":"part","period":10,"place":0,"points":["50"'
 TRACED, RELEASED = b"at,core,what,vcpu\n", b"at,part,task,work\n"
@@ -314,8 +308,8 @@ GREAT = [
 ]
 # the other words of a form; the rest is a number
 BESIDE = {
-    "FILE": File(TINY), "RELEASES": File(RELEASED), "WORKLOAD": File(b"at,vcpu,what\n"), "TRACE": File(TRACED + b"0,,end,\n"), "CERT": File(CERTIFICATE),
-    "SCRIPT": File(SCRIPT), "GUESTS": File(GUESTS), "PATTERN": b"late", "PART": b"v", "SLOTS": b"1000",
+    "FILE": File(TINY), "RELEASES": File(RELEASED), "WORKLOAD": File(b"at,vcpu,what\n"), "TRACE": File(TRACED + b"0,,end,\n"),
+    "CERT": File(CERTIFICATE), "SCRIPT": File(SCRIPT), "GUESTS": File(GUESTS), "PATTERN": b"late", "PART": b"v", "SLOTS": b"1000",
 }
 
 
@@ -349,21 +343,19 @@ class Fuzz:
 
     def wrong_with(self, ended, text, complaint, out, limit):
         """What is wrong with a run, or nothing."""
-        if ended.status is None:
+        status = ended.status
+        if status is None:
             return f"was not done after {limit:.0f} seconds"
-        if ended.status < 0:
-            return f"was ended by signal {-ended.status}"
-        if ended.status not in FRONTS:
-            return f"ended with status {ended.status}"
+        if not 0 <= status < len(FRONTS):
+            return f"was ended by signal {-status}" if status < 0 else f"ended with status {status}"
         if complaint:
             return f"wrote to standard error: {complaint[:80]!r}"
         if out != "file":
-            return "" if ended.status in (2, 8, *EMPTY) else f"ended with status {ended.status} where nothing can be written"
-        if ended.status in EMPTY and text or ended.status == 8:
-            return f"ended with status {ended.status} and {len(text)} bytes"
-        if not text.startswith(FRONTS[ended.status]) or text and not text.endswith(b"\n"):
-            return f"ended with status {ended.status} and a text that begins with {text[:40]!r}"
-        return ""
+            return "" if status in (2, 8, *EMPTY) else f"ended with status {status} where nothing can be written"
+        if status in EMPTY and text or status == 8:
+            return f"ended with status {status} and {len(text)} bytes"
+        is_right = text.startswith(FRONTS[status]) and (not text or text.endswith(b"\n"))
+        return "" if is_right else f"ended with status {status} and a text that begins with {text[:40]!r}"
 
     def keep(self, name, words, paths, note):
         """Leaves the files and words of a call in the folder."""

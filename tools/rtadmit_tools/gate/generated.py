@@ -40,7 +40,8 @@ def made(seed, count):
 def three_guests(place):
     """Three guests on one core, each with a period of its own, which ask for less than all slots."""
     guests = (("A", 6 + place % 5, 2, None), ("B", 9 + place % 7, 3, place % 2 == 0), ("C", 5 + place % 4, 1, None))
-    return tree([core()], [part(name, "cpu0", "edf", period, budget, [task("t", 100, 1)], extra=extra) for name, period, budget, extra in guests])
+    parts = [part(name, "cpu0", "edf", period, budget, [task("t", 100, 1)], extra=extra) for name, period, budget, extra in guests]
+    return tree([core()], parts)
 
 
 def certified(room, system):

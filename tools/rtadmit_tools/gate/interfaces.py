@@ -71,7 +71,8 @@ def rows():
             least = [least_in_windows(period, budget, deadline) for budget in range(deadline + 1)]
             for length in range(1, 2 * period + 1):
                 for work in range(1, length + 1):
-                    yield SCHEDS[work % 4], period, deadline, [(length, work)], first(deadline, lambda budget: least[budget][length] >= work)
+                    wanted = first(deadline, lambda budget: least[budget][length] >= work)
+                    yield SCHEDS[work % 4], period, deadline, [(length, work)], wanted
     chance = random.Random(1)
     for period, sched in itertools.product(range(1, 4), SCHEDS):
         for deadline in range(1, period + 1):

@@ -11,7 +11,7 @@ one has the core. No formula and no worst case stands here. What must hold is th
 
 Random runs (100): a system of one to three cores with one to five VCPUs each, some with extra time and some with a part on them, and four
 workloads over it, in which VCPUs start, block and wake at moments that look random, many of them together. In the trace that `rtds` writes
-each period of an isolated VCPU, of one by ties too, has its budget where it ends by the end and in its last T slots the VCPU is not blocked.
+each period of an isolated VCPU, of one by ties too, has its budget where it ends by the end and the VCPU does not block in its last T slots.
 
 Each VCPU that is exposed by=block, on a small core or a random one, is short by the workload of tools/host expose.
 
@@ -32,12 +32,12 @@ LONGEST, EACH, FEW, WORKLOADS = 6, 5, 10, 4
 
 
 def reaches_short(vcpus, v, last, tie):
-    """Whether some period of VCPU v is short in whose last slots, so many, it is not blocked. A VCPU is a period and a budget. Where `tie` is
-    said, of periods that end at once the first in the list goes first; else any.
+    """Whether some period of VCPU v is short in whose last slots, so many, it is not blocked. A VCPU is a period and a budget. Where `tie`
+    is said, of periods that end at once the first in the list goes first; else any.
 
     A state has for each VCPU the slots of its period that are past and those that it had, and whether v blocked in the last ones of this
-    period. One that starts at a slot is as one that started whole periods before and was blocked up to it; so at first each is anywhere in a
-    period of which it had nothing. At a slot the core goes to one that has budget left and before which every other one can be
+    period. One that starts at a slot is as one that started whole periods before and was blocked up to it; so at first each is anywhere
+    in a period of which it had nothing. At a slot the core goes to one that has budget left and before which every other one can be
     blocked, or to none; v can be blocked, but not in its last slots, or else this period is not looked at."""
     begins = itertools.product(*([(phase, 0) for phase in range(period)] for period, _ in vcpus))
     todo = [(state, counts) for state in begins for counts in ((False, True) if state[v][0] == 0 else (False,))]
@@ -126,7 +126,8 @@ def small(room, vcpus):
         last = told.last or vcpus[v][0]
         need(reaches_short(vcpus, v, last, told.how != "isolated") == (told.how == "block"),
              f"{name} is told as {told}, and all that can happen says something else")
-        need(told.how != "ties" or reaches_short(vcpus, v, vcpus[v][0], False), f"{name} is told as {told}, and no order of ties makes it short")
+        need(told.how != "ties" or reaches_short(vcpus, v, vcpus[v][0], False),
+             f"{name} is told as {told}, and no order of ties makes it short")
     return [told.how for *_, told in kept] + exposed(room, kept, [vcpus])
 
 
@@ -204,6 +205,8 @@ def add_words(parser):
 
 def run(given):
     cores = [*small_cores(2), *itertools.islice(small_cores(3), 0, None, 1 if given.all else EACH)]
-    by_all = compare(given, "small cores, by all that can happen", small, cores, dict.fromkeys(("isolated", "ties", "block"), FEW), heavy=True)
+    least = dict.fromkeys(("isolated", "ties", "block"), FEW)
+    by_all = compare(given, "small cores, by all that can happen", small, cores, least, heavy=True)
     least, systems = dict.fromkeys(("isolated", "block"), min(FEW, given.runs // 10)), random_systems(given.seed, given.runs)
-    return int(not (compare(given, f"systems, over {WORKLOADS} random workloads each", over_workloads, systems, least, heavy=True) and by_all))
+    by_runs = compare(given, f"systems, over {WORKLOADS} random workloads each", over_workloads, systems, least, heavy=True)
+    return int(not (by_all and by_runs))

@@ -12,6 +12,7 @@ import tomllib
 
 from .. import comparing
 from ..comparing import SCHEDS, compare, core, need, part, program_to_compare, task, tree
+from ..formulas import task_of
 from ..system_file import System
 
 KEYS = ("name", "parent", "sched", "period", "budget")
@@ -197,9 +198,7 @@ def first_fit(room, host, guests):
 
 def parts_of(host):
     """The parts of a system, with each value that may be left out."""
-    tasks = [[(one["name"], one["period"], one.get("deadline", one["period"]), one.get("jitter", 0), one["work"]) for one in part.get("task", [])]
-             for part in host.get("part", [])]
-    return [([part.get(key) for key in KEYS], of) for part, of in zip(host.get("part", []), tasks)]
+    return [([part.get(key) for key in KEYS], list(map(task_of, part.get("task", [])))) for part in host.get("part", [])]
 
 
 def as_first_fit(room, placement):
