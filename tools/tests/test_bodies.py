@@ -70,8 +70,8 @@ class Functions(unittest.TestCase):
         add, held, in_trait = functions()
         rows = [
             (add, "a::b::add", True), (add, "a::b::fn::add::map+FnMut::call_mut", True), (add, "a::b::add_all", False),
-            (add, "a::add", False), (add, "a::b::Held::add", False), (held, "a::b::Held::held", True), (held, "a::b::HeldHolds::held", False),
-            (in_trait, "a::b::HeldHolds::held", True),
+            (add, "a::add", False), (add, "a::b::Held::add", False), (held, "a::b::Held::held", True),
+            (held, "a::b::HeldHolds::held", False), (in_trait, "a::b::HeldHolds::held", True),
         ]
         for function, symbol, expected in rows:
             self.assertEqual(bodies.has(function, symbol), expected, symbol)
