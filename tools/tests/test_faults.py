@@ -162,7 +162,7 @@ class Cases(unittest.TestCase):
         self.assertEqual((status, out), (0, f"{words[3]}, read as trace: verdict=yes periods=8. It is taken.\n"))
 
     def test_the_refused_rows_of_a_script(self):
-        folder = top / "cases/session_each_fault_of_an_addition"
+        folder = top / "tests/cases/session/each_fault_of_an_addition"
         status, out, _ = run("host", "why", folder / "system.toml", folder / "script.csv", "--program", program())
         self.assertEqual((status, out.count("script.csv:"), out.count("finds no such")), (0, 15, 0))
         self.assertIn("script.csv:5: row 5, parent: \"none\", as the host stands at this row.\n", out)
