@@ -140,7 +140,7 @@ class Cases(unittest.TestCase):
     def test_each_fault_of_the_worked_cases_is_found(self):
         """But for what JSON nests too deep, and what Python's reader of TOML does not read."""
         count, missed = 0, []
-        for folder in sorted((top / "tests/cases").glob("*/first_faults_*")):
+        for folder in sorted((top / "tests/cases").glob("*/*first_faults_*")):
             table, args = json.loads((folder / "rows.json").read_text()), (folder / "args").read_text().split("\n")
             room = Room(self)
             for path in folder.glob("*.toml"):

@@ -20,6 +20,7 @@ use Rattle.rtds_sim.specs.Printed.{IsRtdsTrace}
 use Rattle.rtds_sim.proofs.Runs.{better, choice, chosen, is_run}
 use Rattle.rtds_sim.specs.Demand.{deferrable_demand, later}
 use Rattle.isolation.specs.Demand.{no_tie, asked, IsIsolatedBy}
+use Rattle.isolation.specs.inner.Whole.{whole_asked}
 use Rattle.isolation.specs.Open.{goes_sooner, OpenEntry, OpenRun}
 use Rattle.isolation.specs.Keeping.{got_in, IsAwakeLast, IsBreakable, IsExposed, KeepsBudget, KeepsOpenly}
 use Rattle.isolation.specs.InTrace.{IsRunLength, IsAwakeInTrace, KeepsInTrace, CanBeShort, IsExposedInTrace}
@@ -67,6 +68,13 @@ too_few_for_the_second = refl
 too_few_for_the_first : count_below (λ t. nat_lt t (asked later pair pair_budgets 0 0 t)) 5 ≡ 5
 unfolding sum_below
 too_few_for_the_first = refl
+
+-- with their whole budgets they take 2 + 3 slots up to where one more of the periods of the other
+-- is reached: that of 4 slots at 4, and that of 6 slots one slot later than its end, for the tie
+whole_budgets : (whole_asked later pair pair_budgets 0 1 3 ≡ 5) × (whole_asked later pair pair_budgets 0 1 4 ≡ 7)
+    × (whole_asked later pair pair_budgets 0 0 6 ≡ 5) × (whole_asked later pair pair_budgets 0 0 7 ≡ 8)
+unfolding sum_below
+whole_budgets = (refl, refl, refl, refl)
 
 -- the first starts at 0, blocks at 1 and wakes at 6, where the second starts: its budget of the
 -- period that ends at 8 and that of the next, which ends with the second's first, go before the

@@ -12,7 +12,7 @@ use Rattle.rtds_sim.specs.Demand.{deferrable_demand, later}
 use Rattle.isolation.specs.Demand.{no_tie, asked_of, asked, IsIsolatedBy, IsLeastBy, AsksTooMuch}
 use Rattle.rtds_sim.proofs.Demands.{demand_rises}
 use Rattle.isolation.specs.inner.Neighbours.{IsNextOn}
-use Rattle.isolation.proofs.Asked.{asked-rises, asked-own}
+use Rattle.isolation.proofs.Asked.{asked-own}
 use Rattle.isolation.proofs.Neighbouring.{sum_next}
 
 module _ (tie : ℕ → ℕ → ℕ) (sys : SystemView) (budgets : List ℕ) (c v : ℕ) where
@@ -44,14 +44,6 @@ module _ (tie : ℕ → ℕ → ℕ) (sys : SystemView) (budgets : List ℕ) (c 
     asked_more t u,
     cond-true {A = ℕ} (is_child sys (Core c) u) (asked_of tie v u (part_at sys u).period (budget_at budgets u) t) 0 on,
   )
-
-  -- more slots ask for no less
-  pub rises : IsPlan sys budgets → (s t : ℕ) → s ≤ t → asked tie sys budgets c v s ≤ asked tie sys budgets c v t
-  rises plan s t l = sum_below-le (part_asks s) (part_asks t) (length sys.parts)
-      (λ u k. cond_rises (is_child sys (Core c) u) (asked_of tie v u (part_at sys u).period (budget_at budgets u) s)
-      (asked_of tie v u (part_at sys u).period (budget_at budgets u) t)
-      (asked-rises tie v u (part_at sys u).period (budget_at budgets u) s t
-      (omega (arith, plan.some_budget u k, plan.in_period u k)) l))
 
   -- all numbers below t are too few
   abbrev pub TooFewBelow : ℕ → Type 0

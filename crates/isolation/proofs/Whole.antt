@@ -123,7 +123,8 @@ one_slot InFileOrder v u = cond_at_most_one (nat_lt v u)
 module _ (tie : ℕ → ℕ → ℕ) (sys : SystemView) (budgets : List ℕ) (c v : ℕ) where
   -- what part u takes in the end, if it stands on the core
   abbrev pub part_takes : ℕ → ℕ → ℕ
-  part_takes t u = cond (is_child sys (Core c) u) (whole_asked_of tie v u (part_at sys u).period (budget_at budgets u) t) 0
+  part_takes t u =
+      cond (is_child sys (Core c) u) (whole_asked_of tie v u (part_at sys u).period (budget_at budgets u) t) 0
 
   -- and the first so many
   abbrev pub whole_by : ℕ → ℕ → ℕ
@@ -144,7 +145,8 @@ module _ (tie : ℕ → ℕ → ℕ) (sys : SystemView) (budgets : List ℕ) (c 
     arith,
     whole_next t (suc u) next h,
     sum_below-suc (part_takes t) u,
-    cond-true {A = ℕ} (is_child sys (Core c) u) (whole_asked_of tie v u (part_at sys u).period (budget_at budgets u) t) 0 on,
+    cond-true {A = ℕ} (is_child sys (Core c) u)
+        (whole_asked_of tie v u (part_at sys u).period (budget_at budgets u) t) 0 on,
   )
 
   module _ (plan : IsPlan sys budgets) where

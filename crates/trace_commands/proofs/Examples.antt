@@ -174,7 +174,7 @@ what_a_line_says : (sys : SystemView) (budgets : List ℕ) (c v last : ℕ)
     → KeepsInTrace sys budgets v last × KeepsOpenly sys budgets c v last × KeepsBudget sys budgets c v last)
     × (LineMeans sys budgets c v (ByTies last) → KeepsInTrace sys budgets v last × KeepsBudget sys budgets c v last)
     × (LineMeans sys budgets c v ByBlock → IsExposed sys budgets c v × IsExposedInTrace sys budgets c v)
-what_a_line_says sys budgets c v last = (λ h. h, λ h. h, λ h. h.1)
+what_a_line_says sys budgets c v last = (λ h. h, λ h. h, λ h. (h.1, h.2))
 
 -- A of 2 slots in 5 stands before B of 1,200,000 in 2,000,000. A asks for 2, and B for all but one
 -- of up to 5 slots, since ties go to A: 2, 2, 3, 4, 5 and 6 at 0 to 5, so each number is too few.
@@ -220,7 +220,7 @@ up_to_two_million (suc (suc u)) l on = absurd (omega (arith, l))
 
 short_past_a_run_of_rtds : LineMeans long_pair long_budgets 0 0 ByBlock
     → (1000000 < 3 * 2000000) × IsBreakable long_pair long_budgets 0 0 6000000
-short_past_a_run_of_rtds line = (lit< tt, line.1.0 2000000 line.0 up_to_two_million (lit≤ tt))
+short_past_a_run_of_rtds line = (lit< tt, line.1 2000000 line.0 up_to_two_million (lit≤ tt))
 
 -- a part that keeps its budget by ties keeps it in a run of any length
 kept_past_a_run_of_rtds : (sys : SystemView) (budgets : List ℕ) (c v last : ℕ)

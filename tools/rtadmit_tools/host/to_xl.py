@@ -27,7 +27,7 @@ NAMED = re.compile(r"# --name (.*)")
 
 
 def named_in(path, file):
-    """The domain that each name stands for, as the comments of tools/from-xl tell it."""
+    """The domain that each name stands for, as the comments of tools/host from-xl tell it."""
     domains = {}
     for line, text in enumerate(file.split("\n"), 1):
         found = NAMED.fullmatch(text)

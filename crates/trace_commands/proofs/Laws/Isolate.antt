@@ -73,7 +73,7 @@ isolates_status P at_yes at_no at_wide sys status text at_other h =
 -- what a line means
 line_means : (sys : SystemView) (budgets : List ℕ) (c v : ℕ) → ServersFit sys budgets c → (answer : Isolation)
     → Means sys budgets c v answer → MeansInTrace sys budgets c v answer → LineMeans sys budgets c v answer
-line_means sys budgets c v fit (Isolated last) run trace = (trace, run)
+line_means sys budgets c v fit (Isolated last) run trace = (trace, run.0, run.1)
 line_means sys budgets c v fit (ByTies last) run trace = (trace, run)
 line_means sys budgets c v fit ByBlock run trace = (fit, run, trace)
 
