@@ -1,4 +1,4 @@
-"""Wrong bodies of different functions in one check: which functions each changes, sources that hold many, and what the check says of each."""
+"""Wrong bodies of different functions in one check: which functions each changes, sources that hold many, and what a check says."""
 import re
 from dataclasses import dataclass
 

@@ -63,15 +63,15 @@ class Functions(unittest.TestCase):
         self.assertEqual(bodies.path_of(bodies.pieces_of("src/lib.rt", SOURCE)[1].function), "add")
 
     def test_a_method_without_a_body_takes_none_of_another_one(self):
-        text = "trait Holds {\n    fn held(&self) -> u32\n        ensures { result ≡ 1 };\n\n    fn more(&self) -> u32 {\n        1\n    }\n}\n"
+        text = "trait Holds {\n    fn held(&self) -> u32\n        ensures { result ≡ 1 };\n\n    fn more(&self) -> u32 {\n    }\n}\n"
         self.assertEqual([it.function.name for it in bodies.pieces_of("src/a/b.rt", text) if it.function], ["more"])
 
     def test_symbols_are_those_of_the_function_and_of_its_closures(self):
         add, held, in_trait = functions()
         rows = [
-            (add, "a::b::add", True), (add, "a::b::fn::add::map+FnMut::call_mut", True), (add, "a::b::add_all", False), (add, "a::add", False),
-            (add, "a::b::Held::add", False), (held, "a::b::Held::held", True), (held, "a::b::HeldHolds::held", False),
-            (in_trait, "a::b::HeldHolds::held", True),
+            (add, "a::b::add", True), (add, "a::b::fn::add::map+FnMut::call_mut", True), (add, "a::b::add_all", False),
+            (add, "a::add", False), (add, "a::b::Held::add", False), (held, "a::b::Held::held", True),
+            (held, "a::b::HeldHolds::held", False), (in_trait, "a::b::HeldHolds::held", True),
         ]
         for function, symbol, expected in rows:
             self.assertEqual(bodies.has(function, symbol), expected, symbol)

@@ -70,7 +70,9 @@ class Texts(Crates):
         rows = {
             "tests/mutants/low/gone": (f"{file}c = 1\nnew: c = 2\n", "an 'old:' text is in src/lib.rt 0 times, and not once: c = 1"),
             "crates/high/must-fail/twice": (f"{file}b = 2\nnew: b = 3\n", "an 'old:' text is in src/lib.rt 2 times, and not once: b = 2"),
-            "tests/mutants/low/again": (f"{file}a = 1\nnew: a = 2\nold: a = 1\nnew: a = 3\n", "an 'old:' text is in src/lib.rt 0 times, and not once: a = 1"),
+            "tests/mutants/low/again": (
+                f"{file}a = 1\nnew: a = 2\nold: a = 1\nnew: a = 3\n", "an 'old:' text is in src/lib.rt 0 times, and not once: a = 1",
+            ),
             "tests/mutants/low/absent": ("file: src/no.rt\nold: a\nnew: b\n", "there is no file src/no.rt"),
             "tests/mutants/low/outside": ("file: src/../lib.rt\nold: a\nnew: b\n", "src/../lib.rt is no file of src/, specs/ or proofs/"),
             "tests/mutants/low/empty": ("file: src/lib.rt\n", "it has no 'old:' and 'new:' pair"),
@@ -142,7 +144,8 @@ class Together(Crates):
     def test_bodies_that_are_made(self):
         """They are those of a seed, and what a check does not tell is no fault."""
         source = "// says one {}\nfn one() -> u32 {{\n    7\n}}\n"
-        for said, status, last in (("not proved", 0, "3 refused\n"), ("proved", 1, "LET THROUGH: low/src/lib.rt:"), ("could not tell", 0, "3 NOT TRIED: low/")):
+        rows = [("not proved", 0, "3 refused\n"), ("proved", 1, "LET THROUGH: low/src/lib.rt:"), ("could not tell", 0, "3 NOT TRIED: low/")]
+        for said, status, last in rows:
             self.write({"crates/low/src/lib.rt": source.format(said)})
             found = self.tried("--plant", "--number", "3", "low")
             self.assertEqual(found[0], status, found)
@@ -161,8 +164,8 @@ class Tries(Crates):
         status, said = self.tried()
         self.assertEqual(status, 1)
         self.assertIn("low/one: refused\n", said)
-        for line in ("1 refused", "1 refused only because", "1 LET THROUGH: high/three", "1 CANNOT BE APPLIED: high/four", "1 NOT TRIED: high/five"):
-            self.assertIn(f"\n{line}", said)
+        for kind in ("refused", "refused only because", "LET THROUGH: high/three", "CANNOT BE APPLIED: high/four", "NOT TRIED: high/five"):
+            self.assertIn(f"\n1 {kind}", said)
 
     def test_what_is_known_is_not_tried_again(self):
         self.edit("low/one")

@@ -4,7 +4,7 @@ import unittest
 from support import Checkout, run
 
 CRATES = {
-    "base": """\
+    "base/src/lib": """\
 pub fn twice(x: u64) -> u64 {
     2 * x
 }
@@ -14,7 +14,7 @@ pub fn settle(x: u64) -> u64 {
     x
 }
 """,
-    "low": """\
+    "low/src/lib": """\
 //! A crate.
 mod more;
 pub use base::twice;
@@ -96,13 +96,13 @@ impl Shape for Circle {
     }
 }
 """,
-    "low/more": """\
+    "low/src/more": """\
 // of a name that is not imported where it is said
 pub fn value(x: u64) -> u64 {
     x
 }
 """,
-    "rtadmit": """\
+    "rtadmit/src/lib": """\
 use low::{reached, Square};
 
 fn main(rt: HostRuntime) -> ExitCode {
@@ -111,7 +111,7 @@ fn main(rt: HostRuntime) -> ExitCode {
     low::twice(square.area())
 }
 """,
-    "low_tests": """\
+    "low_tests/src/lib": """\
 use low::unused;
 
 fn a_test() {
@@ -139,8 +139,8 @@ GOOD = "| `low`, `rtadmit` | `unused`, `Square::corners`; `Circle`, `value`, `un
 class Unused(Checkout):
     def unused(self, row, *words):
         """What is said of the crates above, beside a page with a row more."""
-        self.write({f"crates/{crate}/src/{module or 'lib'}.rt": text for name, text in CRATES.items() for crate, _, module in [name.partition("/")]})
-        self.write({"docs/architecture.md": PAGE.format(row=row), "crates.txt": "# crates\nbase:\nlow: base\nlow_tests: low\nrtadmit: low\n"})
+        self.write({f"crates/{name}.rt": text for name, text in CRATES.items()})
+        self.write({"docs/architecture.md": PAGE.format(row=row), "crates.txt": "base:\nlow: base\nlow_tests: low\nrtadmit: low\n"})
         return self.told("unused", *words)
 
     def test_list(self):
@@ -148,16 +148,18 @@ class Unused(Checkout):
         status, told = self.unused(GOOD, "--list")
         names = ["settle", "unused", "helper", "unused_too", "corners", "new", "area", "value"]
         self.assertEqual((status, [line.removesuffix(" tests").split()[-1] for line in told]), (0, names))
-        self.assertEqual(told[1:3], ["low                crates/low/src/lib.rt:22 3 pub unused tests", "low                crates/low/src/lib.rt:26 3 helper"])
+        self.assertEqual(told[1:3], [f"low                crates/low/src/lib.rt:{end}" for end in ("22 3 pub unused tests", "26 3 helper")])
 
     def test_what_is_named(self):
         """`settle` of `low` is not that of `base`."""
-        unnamed = ["lib.rt:22: no command reaches unused", "lib.rt:26: no command reaches helper", "more.rt:2: no command reaches value"]
+        unnamed = {"lib.rt:22": "unused", "lib.rt:26": "helper", "more.rt:2": "value"}
         reached = {44: "Square", 54: "Square", 30: "settle"}
         rows = [
             (GOOD, []),
-            (GOOD.replace(", `value`", "").replace("`unused`, ", ""), [f"crates/low/src/{it}, and docs/architecture.md does not name it" for it in unnamed]),
-            (GOOD + "\n| `low` | `gone`, `twice` | nobody |", [f"docs/architecture.md names {it}, which `low` does not have" for it in ("gone", "twice")]),
+            (GOOD.replace(", `value`", "").replace("`unused`, ", ""),
+             [f"crates/low/src/{at}: no command reaches {it}, and docs/architecture.md does not name it" for at, it in unnamed.items()]),
+            (GOOD + "\n| `low` | `gone`, `twice` | nobody |",
+             [f"docs/architecture.md names {it}, which `low` does not have" for it in ("gone", "twice")]),
             (GOOD + "\n| `low` | `Square`, `settle` | others |",
              [f"docs/architecture.md names {name}, and a command reaches crates/low/src/lib.rt:{line}" for line, name in reached.items()]),
         ]

@@ -73,7 +73,8 @@ class Completion(unittest.TestCase):
     def test_files_of_each_place(self):
         systems = ["a b.toml", "a.toml", "more"]
         kinds = {"FILE": systems, "CERT": ["c.cert", "c.json", "more"], "PATTERN": ["early", "late", "worst"]}
-        kinds.update(dict.fromkeys(("RELEASES", "WORKLOAD", "TRACE", "SCRIPT", "GUESTS"), ["more", "t.csv"]), SLOTS=[], N=[], PART=[], DEADLINE=[], LOW=[], HIGH=[])
+        kinds |= dict.fromkeys(("RELEASES", "WORKLOAD", "TRACE", "SCRIPT", "GUESTS"), ["more", "t.csv"])
+        kinds |= dict.fromkeys(("SLOTS", "N", "PART", "DEADLINE", "LOW", "HIGH"), [])
         for form in FORMS:
             words = form.split()
             for place in range(1, len(words)):

@@ -62,7 +62,8 @@ def add_words(parser):
 
 def run(given):
     found = {crate: labels_of(crate) for crate in sources.crates()}
-    defined = {name for crate in found for file in sources.files(crate, "specs") for name, (line, _) in sources.definitions(file.text).items() if line}
+    specs = [sources.definitions(file.text) for crate in found for file in sources.files(crate, "specs")]
+    defined = {name for names in specs for name, (line, _) in names.items() if line}
     anywhere = defined.union(re.findall(NAME, sources.page("crates.txt")), *(set(labels) | others for labels, others in found.values()))
     wrong = [line for crate, (labels, _) in found.items() for line in of_crate(crate, labels, anywhere)]
     labels_anywhere = set().union(*(kept for labels, _ in found.values() for kept in labels.values()))

@@ -36,7 +36,10 @@ def run(given):
             found[crate] |= {name: line for name, (line, _) in sources.definitions(file.text).items()}
     rows = list(rows_of(sources.page("docs/model.md")))
     named = {crate: {word for here, words, _ in rows if crate in here for word in words} for crate in found}
-    wrong = [f"docs/model.md lacks {name} of {crate}" for crate in found for name in sorted(found[crate]) if found[crate][name] and name not in named[crate]]
+    lacking = [(name, crate) for crate, names in found.items() for name in sorted(names) if names[name] and name not in named[crate]]
     first = {name for _, _, names in rows for name in names if NAME.fullmatch(name)}
     known = {*found, *(name for names in found.values() for name in names)}
-    return sources.told(wrong + [f"docs/model.md names {name}, which is no definition" for name in sorted(first - known)])
+    return sources.told([
+        *(f"docs/model.md lacks {name} of {crate}" for name, crate in lacking),
+        *(f"docs/model.md names {name}, which is no definition" for name in sorted(first - known)),
+    ])

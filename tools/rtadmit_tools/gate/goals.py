@@ -37,5 +37,5 @@ def add_words(parser):
 
 def run(given):
     files = [file for crate in given.crates or sources.crates() for file in sources.files(crate, "proofs")]
-    found = {f"{file.path}:{number}: {name}": is_goal for file in files for number, is_goal, name in cited(file.text) if is_goal != given.values}
-    return sources.told(found)
+    found = [(file.path, *one) for file in files for one in cited(file.text)]
+    return sources.told(dict.fromkeys(f"{path}:{line}: {name}" for path, line, is_goal, name in found if is_goal != given.values))

@@ -1,9 +1,9 @@
 """Tries wrong bodies that the gate does not try, those of tests/mutants/CRATE/ or some made by rule: the prover has to refuse each.
 
-Tried are those of the crates that are named, or of all; --texts tries none, and tells whether each of tests/mutants/ and of crates/*/must-fail
-can be applied. It works on a copy of the crates in a room that it keeps, and never in this checkout. What is known of an edit is kept
-there, by a sum of the edit, of its crate's files, of those of the crates below and of the toolchain. So a run that was stopped goes on
-where it was, but for those that it had begun, and one after a change tries anew what the change can reach.
+Tried are those of the crates that are named, or of all; --texts tries none, and tells whether each of tests/mutants/ and of
+crates/*/must-fail can be applied. It works on a copy of the crates in a room that it keeps, and never in this checkout. What is known of
+an edit is kept there, by a sum of the edit, of its crate's files, of those of the crates below and of the toolchain. So a run that was
+stopped goes on where it was, but for those that it had begun, and one after a change tries anew what the change can reach.
 
 Wrong bodies of different functions are tried together, in one check of those functions alone, which tells of each whether it is proved.
 So the libraries are read once for some dozens, and nothing is proved but what was changed. An edit of anything but bodies is tried by `rt
@@ -248,8 +248,8 @@ def texts_of(folder):
 
 
 def tried(room, crate, edits, alone):
-    """The kind and the prover's words of the edits of a crate, by their names, some at a time. Wrong bodies are tried together. What no check
-    of some together tells is tried alone, where that is asked for."""
+    """The kind and the prover's words of the edits of a crate, by their names, some at a time. Wrong bodies are tried together. What no
+    check of some together tells is tried alone, where that is asked for."""
     texts = texts_of(room / "crates" / crate)
     some = [bodies.body_of(edit.name, texts, edit.made) for edit in edits if isinstance(edit.made, dict)]
     left = {edit.name: edit for edit in edits}

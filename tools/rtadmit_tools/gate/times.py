@@ -36,7 +36,8 @@ class Process:
     def what(self):
         """The crate and the kind of a check or a build, or None."""
         words = self.words
-        if os.path.basename(words[0] if words else "") != "rattle" or words[1:2] not in (["check"], ["build"]) or "--crate-name" not in words[:-1]:
+        is_rattle = os.path.basename("".join(words[:1])) == "rattle" and words[1:2] in (["check"], ["build"])
+        if not is_rattle or "--crate-name" not in words[:-1]:
             return None
         edit = re.search(r"/rt-edit-[^/]*( \(deleted\))?$", self.folder)
         kind = "wrong bodies" if edit else "tests" if "--test" in words else "programs" if "--crate-checked" in words else "proof"
@@ -99,7 +100,8 @@ class Meter:
         total = [sum(row[place] for _, row in rows) for place in range(len(KINDS))]
         gate = max(sum(self.gates.values()), sum(total))
         lines = [f"{'crate':<18}" + "".join(f"{kind + ' s':>16}" for kind in (*KINDS, "sum"))]
-        lines += [f"{name:<18}" + "".join(f"{it / second:>16.0f}" for it in [*row, sum(row)]) for name, row in [*rows, ("all crates", total)]]
+        for name, row in [*rows, ("all crates", total)]:
+            lines.append(f"{name:<18}" + "".join(f"{it / second:>16.0f}" for it in [*row, sum(row)]))
         return [*lines, f"other {(gate - sum(total)) / second:.0f} s, gate {gate / second:.0f} s of processor time, in {elapsed:.0f} s"]
 
 

@@ -59,7 +59,8 @@ def functions_of(crate, file):
         imports.update(dict.fromkeys(re.findall(r"\w+", rest), crate if first in ("crate", "super", "self") else first))
     for piece in sources.pieces(file.module, file.text):
         if piece.function:
-            names = {("." if point else before, name) for _, code in sources.code(piece.lines) for before, point, name in NAME.findall(code)}
+            found = [name for _, code in sources.code(piece.lines) for name in NAME.findall(code)]
+            names = {("." if point else before, name) for before, point, name in found}
             yield Used(crate, file.path, line, piece.function, len(piece.lines) + 1, imports, names)
         line += len(piece.lines)
 
@@ -102,7 +103,8 @@ def run(given):
     program, told, named = Program(), [], []
     unused = [one for one in program.functions if one.place not in program.reached]
     for one in unused if given.list else ():
-        told.append(f"{one.crate:18} {one.place} {one.lines} {'pub ' * one.about.is_public}{one.name}{' tests' * (one.name in program.tested)}")
+        name = f"{'pub ' * one.about.is_public}{one.name}{' tests' * (one.name in program.tested)}"
+        told.append(f"{one.crate:18} {one.place} {one.lines} {name}")
     listed = len(told)
     for crates, names in re.findall(r"^\| (`.*?) \| (.*?) \|", sources.part_of(sources.page(PAGE), "What no command calls"), re.M):
         for name in re.findall(r"[\w:]+", names):

@@ -44,7 +44,7 @@ def run(given):
         for room in sources.ROOMS:
             for file in sources.files(crate, room):
                 found = of_source(file.lines) if room == "src" else of_logic(file.lines, room == "proofs")
-                wide += [f"{file.path}:{number}: {columns} columns, and may have {widest}" for number, widest, columns in found if columns > widest]
+                wide += [f"{file.path}:{line}: {columns} columns, and may have {most}" for line, most, columns in found if columns > most]
     if wide:
         print("\n".join(wide))
         raise Refused(None, None, f"{len(wide)} lines are too wide")
