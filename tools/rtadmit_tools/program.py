@@ -26,7 +26,7 @@ def value_of(text):
 
 
 def line_object(line):
-    """A line of an answer by its keys, or None where docs/formats.md has no such line. Its first word may be the number of a row."""
+    """A line of an answer by its keys, or None where docs/use/formats.md has no such line. Its first word may be the number of a row."""
     words = SPOT.sub(lambda found: found[0].replace(" ", "\0"), line).split(" ")
     told = {"row": int(words.pop(0))} if words[0].isdecimal() else {}
     pairs = [word.partition("=")[::2] for word in words if "=" in word]

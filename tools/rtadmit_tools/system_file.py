@@ -16,7 +16,7 @@ TASK_KEYS = ("name", "period", "deadline", "jitter", "work")
 
 OPEN = """\
 # open: write what is below without the #, and a [[part.task]] for each thread with a deadline
-# sched = "edf"        # how the guest orders them: edf, rm, dm or listed (docs/guide.md)
+# sched = "edf"        # how the guest orders them: edf, rm, dm or listed (docs/use/guide.md)
 # [[part.task]]
 # name = "..."
 # period = ...         # the least time from one job to the next, in microseconds

@@ -1,4 +1,4 @@
-"""A trace of docs/formats.md: its rows, which keep its rules, the host that they leave, and the periods of its VCPUs."""
+"""A trace of docs/use/formats.md: its rows, which keep its rules, the host that they leave, and the periods of its VCPUs."""
 import csv
 import functools
 import math

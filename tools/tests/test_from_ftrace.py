@@ -404,7 +404,7 @@ class Gaps(Case):
             f"recording:8: {missing}", f"recording:18: {missing}", "recording: whole from 0.500000 until 2.000305, lines 1 to 7",
             "recording: whole from 2.500000 until 8.000305, lines 8 to 17", "recording: whole from 8.500000 until 9.000305, lines 18 to 21",
             "recording:21: no mark says when the recording was stopped: the trace ends with the last event, and what waited to the end "
-            "may not be seen (docs/audit.md)", "recording: 3 traces stand one behind another: tools/host split cuts them"]))
+            "may not be seen (docs/use/audit.md)", "recording: 3 traces stand one behind another: tools/host split cuts them"]))
         rows = out.splitlines()
         self.assertEqual([row for row in rows if "start" in row or "end" in row], [
             "0,cpu3,start,A", "1000305,,end,", "2000000,cpu3,start,A", "7000305,,end,", "8000000,cpu3,start,A", "8000305,,end,"])

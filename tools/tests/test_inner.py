@@ -175,7 +175,7 @@ class Inner(Checkout):
     def inner(self, *words, stay="none", **texts):
         """The status and what is said of the crates above, with these texts in place of theirs."""
         files = {f"crates/{name}.{'rt' if name in SOURCES else 'antt'}": text for name, text in (SPECS | SOURCES).items()}
-        self.write(files | {"docs/architecture.md": PAGE.replace("{stay}", stay)} | texts)
+        self.write(files | {"docs/work/architecture.md": PAGE.replace("{stay}", stay)} | texts)
         status, lines = self.told("inner", *words)
         return status, [line.removeprefix("crates/low/specs/Steps.antt:") for line in lines]
 

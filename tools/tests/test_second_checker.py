@@ -1,4 +1,4 @@
-"""Tests of tools/second-checker and of tools/gate checkers: what docs/certificate.md goes through by hand, and the statuses."""
+"""Tests of tools/second-checker and of tools/gate checkers: what docs/use/certificate.md goes through by hand, and the statuses."""
 import json
 import random
 import subprocess
@@ -28,11 +28,11 @@ class Case(unittest.TestCase):
 
 
 class ThePage(Case):
-    """The example of docs/certificate.md, taken from its text, and the same guest under rm."""
+    """The example of docs/use/certificate.md, taken from its text, and the same guest under rm."""
 
     def setUp(self):
         super().setUp()
-        page = (top / "docs/certificate.md").read_text()
+        page = (top / "docs/use/certificate.md").read_text()
         self.good = next(line for line in page.splitlines() if line.startswith('    {"format":1')).strip()
         self.system = (top / "examples/leaf.toml").read_bytes()
 

@@ -1,4 +1,4 @@
-"""docs/system.schema.json beside docs/formats.md, and beside the program that reads a system file.
+"""docs/use/system.schema.json beside docs/use/formats.md, and beside the program that reads a system file.
 
 Where the validator (Python's jsonschema) or the program is missing, the comparison with the program is skipped, and standard error
 says so. What a schema cannot say stands in CANNOT_SAY, each with files that show it."""
@@ -16,7 +16,7 @@ try:
 except ImportError:
     jsonschema = None
 
-SCHEMA = json.loads((top / "docs/system.schema.json").read_text())
+SCHEMA = json.loads((top / "docs/use/system.schema.json").read_text())
 HIGHEST = 1_000_000_000
 CORE = "[[core]]\nname = 'c'\nsched = 'edf'\n"
 PART = "[[part]]\nname = 'p'\nparent = 'c'\nsched = 'rm'\nperiod = 10\n"
@@ -150,14 +150,14 @@ CANNOT_SAY = {
 
 
 def ranges():
-    """The least and the highest number of each key, by table, as docs/formats.md tells them."""
-    text = (top / "docs/formats.md").read_text().split("\n## System file\n", 1)[1].split("\n### ", 1)[0]
+    """The least and the highest number of each key, by table, as docs/use/formats.md tells them."""
+    text = (top / "docs/use/formats.md").read_text().split("\n## System file\n", 1)[1].split("\n### ", 1)[0]
     tables = re.split(r"^\| Key \| Value \|\n\|---\|---\|\n", text, flags=re.M)[1:]
     return [dict(re.findall(r"^\| `(\w+)` \| (.*) \|$", table, re.M)) for table in tables]
 
 
 class Page(unittest.TestCase):
-    """The schema has the keys of docs/formats.md, with their kinds, ranges and defaults."""
+    """The schema has the keys of docs/use/formats.md, with their kinds, ranges and defaults."""
 
     TABLES = [SCHEMA, *(SCHEMA["definitions"][name] for name in ("core", "part", "task"))]
 
@@ -202,7 +202,7 @@ class Reader(unittest.TestCase):
     def setUpClass(cls):
         missing = "no validator (Python's jsonschema)" if jsonschema is None else None if program() else "no program is built"
         if missing:
-            print(f"docs/system.schema.json was not compared with the reader: {missing}", file=sys.stderr)
+            print(f"docs/use/system.schema.json was not compared with the reader: {missing}", file=sys.stderr)
             raise unittest.SkipTest(missing)
         jsonschema.Draft7Validator.check_schema(SCHEMA)
         cls.validator = jsonschema.Draft7Validator(SCHEMA)

@@ -61,7 +61,7 @@ class Periods(Case):
 
     def test_the_picture_of_the_pages(self):
         for trace, picture, words in (
-            ("docs/timeline.csv", "docs/timeline.svg", [f"--system={top / 'docs/timeline.toml'}"]),
+            ("docs/pictures/timeline.csv", "docs/pictures/timeline.svg", [f"--system={top / 'docs/pictures/timeline.toml'}"]),
             ("examples/linux/trace.csv", "examples/linux/timeline.svg",
              [f"--system={top / 'examples/linux/reserved.toml'}", "--until=160000"]),
         ):

@@ -140,7 +140,7 @@ class Unused(Checkout):
     def unused(self, row, *words):
         """What is said of the crates above, beside a page with a row more."""
         self.write({f"crates/{name}.rt": text for name, text in CRATES.items()})
-        self.write({"docs/architecture.md": PAGE.format(row=row), "crates.txt": "base:\nlow: base\nlow_tests: low\nrtadmit: low\n"})
+        self.write({"docs/work/architecture.md": PAGE.format(row=row), "crates.txt": "base:\nlow: base\nlow_tests: low\nrtadmit: low\n"})
         return self.told("unused", *words)
 
     def test_list(self):
@@ -157,11 +157,11 @@ class Unused(Checkout):
         rows = [
             (GOOD, []),
             (GOOD.replace(", `value`", "").replace("`unused`, ", ""),
-             [f"crates/low/src/{at}: no command reaches {it}, and docs/architecture.md does not name it" for at, it in unnamed.items()]),
+             [f"crates/low/src/{at}: no command reaches {it}, and docs/work/architecture.md does not name it" for at, it in unnamed.items()]),
             (GOOD + "\n| `low` | `gone`, `twice` | nobody |",
-             [f"docs/architecture.md names {it}, which `low` does not have" for it in ("gone", "twice")]),
+             [f"docs/work/architecture.md names {it}, which `low` does not have" for it in ("gone", "twice")]),
             (GOOD + "\n| `low` | `Square`, `settle` | others |",
-             [f"docs/architecture.md names {name}, and a command reaches crates/low/src/lib.rt:{line}" for line, name in reached.items()]),
+             [f"docs/work/architecture.md names {name}, and a command reaches crates/low/src/lib.rt:{line}" for line, name in reached.items()]),
         ]
         for row, told in rows:
             with self.subTest(row):

@@ -1,6 +1,6 @@
 """Certifies a guest of forty tasks whose certificate is past 11 MB, and has the program check it.
 
-The answers are those of docs/formats.md and docs/certificate.md: the certificate proves the system, also with a space behind each
+The answers are those of docs/use/formats.md and docs/use/certificate.md: the certificate proves the system, also with a space behind each
 comma; with the last point of the guest one lower it has the flaw Cover, and without its end it is no JSON text. Each call has a minute.
 Ends with 1 where one answered otherwise."""
 from ..command_line import Refused

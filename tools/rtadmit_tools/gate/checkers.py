@@ -237,7 +237,7 @@ def of_deadlines():
 
 
 def of_priorities():
-    """Under fixed priorities. The leaf of two tasks is that of docs/certificate.md."""
+    """Under fixed priorities. The leaf of two tasks is that of docs/use/certificate.md."""
     node = dict(NODE, kind="part", period=10, points=[], computed=True, budget=2)
     chains = [[1, 51], [1, 50], [1, 52], [0, 51], [0, 1, 51], [51], [1], [], [1, 20, 20, 51], [1, 20, 51], [1, 2**64 - 1]]
     for work in (7, 4):

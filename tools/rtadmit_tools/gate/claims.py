@@ -1,8 +1,8 @@
-"""Tells which names of crates/NAME/README.md and of docs/claims.md stand nowhere in the sources.
+"""Tells which names of crates/NAME/README.md and of docs/proof/claims.md stand nowhere in the sources.
 
 Below "Proved", each name in backquotes is a function, a type, a trait or a ghost item of some crate, a definition of some specs/, or the
 label of an `ensures`; a label has to be one of the crate, and of the functions of it that its entry names, where it names one. And each
-function that a crate hands out has to be named there. Of docs/claims.md the same for the rows that begin with a command. The status is 1
+function that a crate hands out has to be named there. Of docs/proof/claims.md the same for the rows that begin with a command. The status is 1
 where something is wrong."""
 import re
 
@@ -49,11 +49,11 @@ def of_crate(crate, labels, anywhere):
 
 
 def of_claims(anywhere):
-    """What is wrong with docs/claims.md."""
-    rows = re.findall(r"^\| `(\w+)(?: [A-Z]+)*` (\|.*)$", sources.page("docs/claims.md"), re.M)
+    """What is wrong with docs/proof/claims.md."""
+    rows = re.findall(r"^\| `(\w+)(?: [A-Z]+)*` (\|.*)$", sources.page("docs/proof/claims.md"), re.M)
     known = anywhere | {command for command, _ in rows}
     spans = [span for _, row in rows for span in re.findall(r"`([^`]+)`", row)]
-    return [f"docs/claims.md: `{span}` stands nowhere" for span in spans if re.fullmatch(NAME, span) and span not in known]
+    return [f"docs/proof/claims.md: `{span}` stands nowhere" for span in spans if re.fullmatch(NAME, span) and span not in known]
 
 
 def add_words(parser):

@@ -1,4 +1,4 @@
-"""Tells which definitions docs/model.md lacks in a row under their own crate, and which names of its rows are no definitions.
+"""Tells which definitions docs/proof/model.md lacks in a row under their own crate, and which names of its rows are no definitions.
 
 A part of the page is of the crates that its head names (`CRATE/specs`), else of `slot_model`; in a table with a column for the crate, a
 row is of the crate that it or the last row above it names. The status is 1 where something is missing."""
@@ -34,12 +34,12 @@ def run(given):
     for crate in found:
         for file in sources.files(crate, "specs"):
             found[crate] |= {name: line for name, (line, _) in sources.definitions(file.text).items()}
-    rows = list(rows_of(sources.page("docs/model.md")))
+    rows = list(rows_of(sources.page("docs/proof/model.md")))
     named = {crate: {word for here, words, _ in rows if crate in here for word in words} for crate in found}
     lacking = [(name, crate) for crate, names in found.items() for name in sorted(names) if names[name] and name not in named[crate]]
     first = {name for _, _, names in rows for name in names if NAME.fullmatch(name)}
     known = {*found, *(name for names in found.values() for name in names)}
     return sources.told([
-        *(f"docs/model.md lacks {name} of {crate}" for name, crate in lacking),
-        *(f"docs/model.md names {name}, which is no definition" for name in sorted(first - known)),
+        *(f"docs/proof/model.md lacks {name} of {crate}" for name, crate in lacking),
+        *(f"docs/proof/model.md names {name}, which is no definition" for name in sorted(first - known)),
     ])

@@ -1,4 +1,4 @@
-"""Refuses each allocation of the program in turn, over each call that examples/README.md and docs/guide.md make: the run ends
+"""Refuses each allocation of the program in turn, over each call that examples/README.md and docs/use/guide.md make: the run ends
 as with ample memory, or with status 9 (no memory) and nothing written, and it gives back all that it took where it did so before.
 
 With --all every allocation from the refused one on is refused too. Of a call with more than N allocations (2000) as many are refused,

@@ -3,7 +3,7 @@
 A reader meets a definition of specs/ where a contract of a public item names it, or a definition that the reader meets, or src/ or specs/
 of another crate. Public items are what lib.rt hands out: functions, traits, and types with their ghost fields, their invariants and their
 public methods. What no reader meets is to stand in specs/inner/. What only proofs of other crates name may stay outside, where
-docs/architecture.md ("Inside a crate") names its file as `CRATE/FILE`.
+docs/work/architecture.md ("Inside a crate") names its file as `CRATE/FILE`.
 
 Listed are the definitions outside inner that no reader meets, as FILE:LINE: NAME, first those that no other crate names, then those that
 only proofs of other crates name, and the status is 1 where there are any. It goes by names, and takes a field for a definition of its
@@ -125,7 +125,7 @@ def add_words(parser):
 
 def run(given):
     house, told = House(), []
-    stay = set(re.findall(r"`(\w+)/(\w+)`", sources.part_of(sources.page("docs/architecture.md"), "Inside a crate")))
+    stay = set(re.findall(r"`(\w+)/(\w+)`", sources.part_of(sources.page("docs/work/architecture.md"), "Inside a crate")))
     found = list(house.not_met())
     private = [one for one in found if one not in house.in_proofs]
     proved_with = [one for one in found if one in house.in_proofs and one[:2] not in stay]

@@ -1,4 +1,4 @@
-"""Tells whether docs/architecture.md ("What no command calls") names just the functions that no command reaches.
+"""Tells whether docs/work/architecture.md ("What no command calls") names just the functions that no command reaches.
 
 It reads crates/*/src and goes by names. From the program's `main` on, a function is reached where the code of one that is reached has its
 name: a free function where it stands in the same file, is imported from its crate or stands behind `::`; a method behind a point, or
@@ -14,7 +14,7 @@ from dataclasses import dataclass
 
 from .. import sources
 
-PAGE = "docs/architecture.md"
+PAGE = "docs/work/architecture.md"
 IMPORT = re.compile(r"^(pub )?use (\w+)::([^;]*)", re.M)
 NAME = re.compile(r"(?:(\w+)(?:::<[^()]*>)?::|(\.))?\b([A-Za-z_]\w*)\b")
 

@@ -12,7 +12,7 @@ standard input, and each is asked about as its name comes. It prints
                                                            for each broken period, by its moment in the recording
     vcpu NAME begun=N judged=N short=N over=N least_ns=X most_ns=Y, for each part on a core
 
-Each period counts once; docs/audit.md says what is counted by whom. Where the broken periods of a piece that are looked up here are not
+Each period counts once; docs/use/audit.md says what is counted by whom. Where the broken periods of a piece that are looked up here are not
 as many as the program counts, or the first is another, there is no answer. A program without `tally` is asked `audit`: then the first
 broken period of each piece is told, and no counts.
 

@@ -6,7 +6,7 @@ sched_switch and sched_wakeup, in perf's text sched_waking in its place, and tak
 over. WHO is the number or the name of a thread, N the number of a processor. The trace goes to standard output without --out. It counts
 nanoseconds where the recording does, else microseconds, from the first `start` on.
 
-docs/audit.md says which events become which rows, and when a VCPU starts: only where a period of it begins for sure. The periods, and the
+docs/use/audit.md says which events become which rows, and when a VCPU starts: only where a period of it begins for sure. The periods, and the
 budgets that the threads have at least, are those of the system file (--system). What a thread does before its start is no row.
 
 The `end` is where a mark says that the recording was stopped, at --until, or else at the last event: then standard error says so, since
@@ -615,7 +615,7 @@ def run(given):
             say(given, f"whole from {shown(stretch.first.at)} until {shown(stretch.last.at)}, {lines}{without}")
         if last is not None:
             say(given, "no mark says when the recording was stopped: the trace ends with the last event, and what waited to the end "
-                "may not be seen (docs/audit.md)", last.line)
+                "may not be seen (docs/use/audit.md)", last.line)
         if len(stretches) > 1:
             say(given, f"{len(stretches)} traces stand one behind another: tools/host split cuts them")
         out = rows.file if given.as_it_comes else write_to()

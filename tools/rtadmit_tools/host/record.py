@@ -6,7 +6,7 @@ two periods, in step with nothing; a SEED gives the same times again. All times 
 buffer: the switches and wakeups of these threads, which tools/host from-ftrace turns into a trace.
 
 On each core runs a filler of the lowest priority, so that no switch is from the idle thread, and marks in the buffer say that each thread
-slept, with its time reserved, and when the recording was stopped (docs/audit.md). A recording in which a switch is missing all the same, by
+slept, with its time reserved, and when the recording was stopped (docs/use/audit.md). A recording in which a switch is missing all the same, by
 the rules of tools/host from-ftrace, is made again, up to N times in all; where the last one has a gap too it is written, and standard
 error tells the line.
 
@@ -133,7 +133,7 @@ def make(stack, folder):
     try:
         os.mkdir(folder)
     except FileExistsError:
-        raise NotAllowed(f"{folder} is there: another recording runs, or one was killed (docs/audit.md)") from None
+        raise NotAllowed(f"{folder} is there: another recording runs, or one was killed (docs/use/audit.md)") from None
     except OSError as fault:
         raise NotAllowed(f"{folder} can't be made: {fault.strerror}") from None
     stack.callback(remove, folder)

@@ -1,6 +1,6 @@
 """Draws a recorded trace as an SVG: one row a core and one a VCPU.
 
-TRACE is a trace (docs/formats.md); `-` is standard input. The picture's scale has the trace's unit, and so have --from and --until, the
+TRACE is a trace (docs/use/formats.md); `-` is standard input. The picture's scale has the trace's unit, and so have --from and --until, the
 moments between which it is drawn. --around draws a period of a VCPU and two before and behind it: NAME and FROM_NS are those of the
 answer of `audit`, `over NAME from_ns=FROM_NS ..`. Without OUT the picture goes to standard output.
 
@@ -14,7 +14,7 @@ and the most that a period of it got, with a line at the middle one (the median)
 where one is short or over. Where a row has more spans than columns, each column is filled by the share of time: a core by which
 VCPU had it, a VCPU by the time that it ran, from below, and was blocked, from above.
 
-A trace that breaks the rules of docs/formats.md is refused with its line, as far as it is read. The status is 1 then, and 2 where
+A trace that breaks the rules of docs/use/formats.md is refused with its line, as far as it is read. The status is 1 then, and 2 where
 the words are wrong."""
 import argparse
 import collections
