@@ -86,7 +86,8 @@ class Cases(Room):
             ({"args": "list\n", "rows.json": rows()}, "its rows.json has no row, or a key of no table"),
             *(({"args": "list\n", "rows.json": told}, f"{table}: {fault}") for told, fault in (
                 ("", "JSONDecodeError"), ("[]", "TypeError"), (rows(["", ""], file="x"), "ValueError"),
-                (rows(["x", "", 0]), "KeyError('file')"), (rows([0, "", 0], file="x"), "TypeError"), (rows([""], file="x", status=0), "KeyError('printed')"))),
+                (rows(["x", "", 0]), "KeyError('file')"), (rows([0, "", 0], file="x"), "TypeError"),
+                (rows([""], file="x", status=0), "KeyError('printed')"))),
             ({"rows.json": rows([[0], "", 0])}, table),
         ):
             with self.subTest(files=files):

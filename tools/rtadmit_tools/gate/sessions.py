@@ -1,5 +1,6 @@
-"""Checks `session` over random scripts: each row's answer, and the plan in the end, against `admit` over the file as a plain
-model of the rules of an edit leaves it; and `place` over random hosts, against a plain first fit by `admit`.
+"""Checks `session` over random scripts against `admit` over a plain model, and `place` against a plain first fit by `admit`.
+
+Of a script each row's answer is looked at, and the plan in the end, against `admit` over the file as the model leaves it.
 
 N scripts (100, as the gate does) of 4 to 10 rows, over small hosts of one or two cores and up to two levels: additions, removals and
 changes, of which some are wrong in each way in which a row can be. The model keeps the parts as a list. A row that it refuses has to be
