@@ -1,13 +1,10 @@
 //! What the tests of several crates make.
 
-ghost use Rattle.tree_model.specs.Plans.{IsPlan};
-
-use compose_tree::assign;
 use slot_model::{Name, Sched, Task};
 use std::alloc::Global;
 use std::process::Abort;
 use system_file::read_system;
-use tree_model::{Named, Parent, Part, Plan, System};
+use tree_model::{Named, Parent, Part, System};
 
 pub const OUT: &str = "out of range";
 
@@ -51,20 +48,7 @@ pub fn add_task(rt: &impl Abort, alloc: Global, part: &mut Part, text: &str, tas
     part.tasks.push(named).expect(rt, MEMORY);
 }
 
-/// A file of one full core under earliest deadline first begins like this.
-pub const HEAD: &str = "format = 1\n[[core]]\nname = 'cpu0'\nsched = 'edf'\n";
-
 /// The system of a file.
 pub fn system_of(rt: &impl Abort, alloc: Global, text: &str) -> System {
     read_system(alloc, text.as_bytes()).expect(rt, "a system file")
-}
-
-/// The budgets that its file gives.
-pub fn planned(rt: &impl Abort, alloc: Global, sys: &System) -> Plan
-    ensures { IsPlan sys.now result }
-{
-    match assign(alloc, sys) {
-        Ok(plan) => plan,
-        Err(refusal) => panic!(rt; "{refusal:?}"),
-    }
 }
