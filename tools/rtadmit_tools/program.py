@@ -80,11 +80,11 @@ class Program:
     def path(self):
         return self.words[0]
 
-    def ask(self, command, *words, text=None):
-        """The answer to a command; /dev/stdin as a word stands for the text."""
+    def ask(self, *words, text=None):
+        """The answer to a command and its words; /dev/stdin as a word stands for the text."""
         self.asked += 1
         told = {"stdin": subprocess.DEVNULL} if text is None else {"input": text.encode()}
-        ran = subprocess.run([*self.words, command, *map(str, words)], stdout=subprocess.PIPE, stderr=subprocess.DEVNULL, **told)
+        ran = subprocess.run([*self.words, *map(str, words)], stdout=subprocess.PIPE, stderr=subprocess.DEVNULL, **told)
         return Answer(ran.returncode, ran.stdout.decode(errors="replace"))
 
     def admit(self, system):

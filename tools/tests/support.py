@@ -53,8 +53,12 @@ class Room:
         path.write_text(text)
         return path
 
-    def answering(self, text, status=0):
-        """The words of a program that reads its file and answers this, whatever it is asked."""
-        path = self.file("program", f"#!/bin/sh\ncat \"$2\" >/dev/null\nprintf %s {shlex.quote(text)}\nexit {status}\n")
+    def script(self, text):
+        """The words of a program that is a few lines of shell."""
+        path = self.file("program", f"#!/bin/sh\n{text}\n")
         path.chmod(0o755)
         return str(path)
+
+    def answering(self, text, status=0):
+        """The words of a program that reads its file and answers this, whatever it is asked."""
+        return self.script(f"cat \"$2\" >/dev/null\nprintf %s {shlex.quote(text)}\nexit {status}")

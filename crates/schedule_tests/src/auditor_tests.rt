@@ -40,7 +40,7 @@ fn found_of_events(
     }
 }
 
-/// Each other finding and fault stands in a table of `cases/`.
+/// Each other finding and fault stands in a table of `tests/cases/`.
 const CASES: [(&str, Result<Finding, TraceFault>); 3] = [
     (SHARED, Ok(Finding::Yes { periods: 2 })),
     (TOO_FEW, Ok(SHORT)),

@@ -71,7 +71,7 @@ const EXTRA: &str = "at,core,what,vcpu
 10,,end,
 ";
 
-/// More runs stand in `cases/`.
+/// More runs stand in `tests/cases/`.
 #[test]
 fn extra_time_comes_after_budgets(rt: HostRuntime) {
     let rows = "at,vcpu,what\n0,A,start\n0,B,start\n";

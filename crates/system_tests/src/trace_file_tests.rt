@@ -87,7 +87,7 @@ fn both_versions_tell_the_same(rt: HostRuntime) {
     }
 }
 
-/// Each fault stands in a table of `cases/`.
+/// Each fault stands in a table of `tests/cases/`.
 #[test]
 fn the_first_fault_is_told(rt: HostRuntime) {
     let sys = system_of(&rt, rt.alloc(), HOST);
