@@ -11,8 +11,10 @@ pub const OUT: &str = "out of range";
 pub const MEMORY: &str = "out of memory";
 
 pub fn name(rt: &impl Abort, alloc: Global, text: &str) -> Name {
-    let made = Name::new(alloc, text.as_bytes()).expect(rt, MEMORY);
-    made.expect(rt, OUT)
+    match Name::new(alloc, text.as_bytes()) {
+        Ok(Some(name)) => name,
+        _ => panic!(rt; "no name"),
+    }
 }
 
 pub fn task(rt: &impl Abort, period: u64, deadline: u64, work: u64) -> Task {

@@ -1,11 +1,10 @@
 ghost use Rattle.std.specs.Prelude.{◌≤◌, None};
 
-use crate::helpers::MEMORY;
+use crate::helpers::{MEMORY, name};
 use outside::{
     DiskStore, MemorySink, MemoryStore, ReadFault, Sink, SinkFault, StdoutSink, Store, StoreFault,
     WriteFault, read_all, write_all,
 };
-use slot_model::Name;
 use std::alloc::Global;
 use std::io::BufWriter;
 use std::process::Abort;
@@ -13,20 +12,14 @@ use std::{fs, io};
 
 const TEXT: &[u8] = b"format = 1";
 
-fn name(rt: &impl Abort, alloc: Global, text: &[u8]) -> Name {
-    Name::new(alloc, text)
-        .expect(rt, MEMORY)
-        .expect(rt, "no name")
-}
-
 // A store of the file `sys` of ten bytes and the file `empty`.
 fn two_files(rt: &impl Abort, alloc: Global, bite: usize, fails: Vec<u64>) -> MemoryStore
     requires { 1 ≤ bite }
 {
     let text = TEXT.to_vec(alloc).expect(rt, MEMORY);
     let files = [
-        (name(rt, alloc, b"sys"), text),
-        (name(rt, alloc, b"empty"), Vec::new(alloc)),
+        (name(rt, alloc, "sys"), text),
+        (name(rt, alloc, "empty"), Vec::new(alloc)),
     ];
     let files = Vec::from_array(alloc, files).expect(rt, MEMORY);
     MemoryStore::new(files, bite, fails)
