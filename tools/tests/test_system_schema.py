@@ -3,15 +3,13 @@
 Where the validator (Python's jsonschema) or the program is missing, the comparison with the program is skipped, and standard error
 says so. What a schema cannot say stands in CANNOT_SAY, each with files that show it."""
 import json
-import pathlib
 import re
 import subprocess
 import sys
-import tempfile
 import tomllib
 import unittest
 
-from load import program, top
+from support import program, top
 
 try:
     import jsonschema
@@ -213,14 +211,10 @@ class Reader(unittest.TestCase):
             raise unittest.SkipTest(missing)
         jsonschema.Draft7Validator.check_schema(SCHEMA)
         cls.validator = jsonschema.Draft7Validator(SCHEMA)
-        held = tempfile.TemporaryDirectory()
-        cls.addClassCleanup(held.cleanup)
-        cls.path = pathlib.Path(held.name, "system.toml")
 
     def fault(self, text):
         """The word of the program's fault, or None where it reads the file."""
-        self.path.write_text(text)
-        ran = subprocess.run([program(), "admit", self.path], stdout=subprocess.PIPE, text=True)
+        ran = subprocess.run([program(), "admit", "/dev/stdin"], stdout=subprocess.PIPE, text=True, input=text)
         self.assertEqual(ran.returncode == 3, ran.stdout.startswith("fault="), ran)
         self.assertIn(ran.returncode, (0, 1, 3, 4))
         return re.match("fault=(\\w+)", ran.stdout)[1] if ran.returncode == 3 else None
