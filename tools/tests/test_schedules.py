@@ -24,7 +24,8 @@ def cases(command, file):
     """The worked cases of a command that are answered over a system whose budgets are given: the system, the rows, the other words, and
     what is printed with which status."""
     for folder in sorted((CASES / command).iterdir()):
-        if (folder / "stdout").is_file() and (folder / file).is_file() and not (folder / "stdout").read_text().startswith(("fault", "absent")):
+        files = all((folder / name).is_file() for name in ("stdout", file))
+        if files and not (folder / "stdout").read_text().startswith(("fault", "absent")):
             system = tomllib.loads((folder / "system.toml").read_text())
             status = int((folder / "status").read_text()) if (folder / "status").is_file() else 0
             if all("budget" in one for one in system.get("part", ())):

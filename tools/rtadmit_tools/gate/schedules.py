@@ -67,8 +67,8 @@ def run_tree(system, rows, pattern, slots):
             of_name = {one["name"]: (place, one) for place, one in enumerate(node["task"])}
             jobs = [Job(*of_name[name], at, work, early) for at, leaf, name, work, early in rows if leaf == node["name"] and at < slots]
         else:
-            jobs = [Job(place, child, at, child["budget"]) for place, child in enumerate(children) for at in range(0, slots, child["period"])]
-            jobs.sort(key=lambda job: job.release)
+            served = ((place, child, at) for place, child in enumerate(children) for at in range(0, slots, child["period"]))
+            jobs = sorted((Job(place, child, at, child["budget"]) for place, child, at in served), key=lambda job: job.release)
         held = scheduled(node["sched"], jobs, given, not node.get("task"))
         told[node["name"]], missed = counted(kind, node, given, jobs, slots)
         misses |= missed
@@ -140,9 +140,8 @@ class Vcpu:
     """A VCPU of a core under RTDS."""
 
     def __init__(self, place, told):
-        self.place, self.name, self.period, self.budget, self.extra = place, told["name"], told["period"], told["budget"], bool(told.get("extra"))
-        self.start = None
-        self.blocked, self.had = False, 0
+        self.place, self.name, self.period, self.budget = place, told["name"], told["period"], told["budget"]
+        self.extra, self.start, self.blocked, self.had = bool(told.get("extra")), None, False, 0
 
     def begin(self, x):
         """A period that begins at a slot brings the budget back."""
