@@ -18,7 +18,7 @@ fn workload(rt: &impl Abort, alloc: Global, sys: &System, rows: &str) -> Vec<Wak
 {
     match read_workload(alloc, sys, rows.as_bytes()) {
         Ok(wakes) => wakes,
-        Err(fault) => panic!(rt; "{fault:?}"),
+        Err(_) => panic!(rt; "no workload"),
     }
 }
 
