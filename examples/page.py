@@ -19,7 +19,7 @@ def entries():
 def run(command, program, env=None):
     """What a command prints, with another program in place of `./rtadmit`, also where it prints the words that call it."""
     words = shlex.quote(str(program))
-    named = re.sub(r"(?<![^\s;|&(])\./rtadmit(?=\s|$)", lambda _: words, command)
+    named = re.sub(r"(?<![^\s;|&(])\./rtadmit(?=[\s;]|$)", lambda _: words, command)
     ran = subprocess.run(["bash", "-c", named], cwd=top, env=env, stdin=subprocess.DEVNULL, stdout=subprocess.PIPE)
     return ran.stdout.decode(errors="surrogateescape").replace(f"| {words} admit", "| ./rtadmit admit")
 
