@@ -71,7 +71,18 @@ def definitions(text):
 def used_crates():
     """The crates of crates.txt, lowest first, each with those that it stands on."""
     rows = [line.partition("#")[0].partition(":") for line in page("crates.txt").split("\n")]
-    return {name.split()[0]: used.split() for name, colon, used in rows if colon}
+    uses, found = {name.split()[0]: used.split() for name, colon, used in rows if colon}, {}
+
+    def add(name):
+        for below in uses[name]:
+            if below in uses and below not in found:
+                add(below)
+        found[name] = uses[name]
+
+    for name in uses:
+        if name not in found:
+            add(name)
+    return found
 
 
 @dataclass(frozen=True)
