@@ -1,5 +1,5 @@
 """Files of every kind, small and large: systems, releases, workloads and traces, each as text. What `bench/all`,
-`bench/admit` and `tools/fuzz` give to the program is made here."""
+`bench/admit` and `tools/gate fuzz` give to the program is made here."""
 import random
 from dataclasses import dataclass, field
 

@@ -1,4 +1,4 @@
-"""The commands of README.md, examples/README.md, docs/guide.md and docs/no.md, what each is told to print, and the words that they
+"""The commands of README.md, examples/README.md, docs/use/guide.md and docs/use/no.md, what each is told to print, and the words that they
 give the program.
 
 A command stands behind `    $ `, and what it prints in the lines below it, up to the first that is not set in. It stands
@@ -6,7 +6,7 @@ at the top of the checkout and calls the program as `./rtadmit`."""
 import os, pathlib, re, shlex, subprocess, tempfile
 
 top = pathlib.Path(__file__).resolve().parent.parent
-pages = [top / "README.md", top / "examples" / "README.md", top / "docs" / "guide.md", top / "docs" / "no.md"]
+pages = [top / "README.md", top / "examples" / "README.md", top / "docs/use/guide.md", top / "docs/use/no.md"]
 
 
 def entries():
@@ -19,7 +19,7 @@ def entries():
 def run(command, program, env=None):
     """What a command prints, with another program in place of `./rtadmit`, also where it prints the words that call it."""
     words = shlex.quote(str(program))
-    named = re.sub(r"(?<![^\s;|&(])\./rtadmit(?=\s|$)", lambda _: words, command)
+    named = re.sub(r"(?<![^\s;|&(])\./rtadmit(?=[\s;]|$)", lambda _: words, command)
     ran = subprocess.run(["bash", "-c", named], cwd=top, env=env, stdin=subprocess.DEVNULL, stdout=subprocess.PIPE)
     return ran.stdout.decode(errors="surrogateescape").replace(f"| {words} admit", "| ./rtadmit admit")
 

@@ -1,4 +1,4 @@
-"""A fault that the program tells of a file, as a line, a table and a key or a field, with the rule that docs/formats.md has there.
+"""A fault that the program tells of a file, as a line, a table and a key or a field, with the rule that docs/use/formats.md has there.
 
 The word and the table or row are the program's. The file is read here once more, and what is told of the place is a fault of that word;
 where this reading finds none there, that is said, with the rule."""
@@ -40,7 +40,7 @@ class Found:
 @functools.cache
 def rows_of(page, heading):
     """The rows of the tables under a heading of a page, each as its cells without marks."""
-    sections = re.split(r"^#+ ", (TOP / "docs" / page).read_text(), flags=re.M)
+    sections = re.split(r"^#+ ", (TOP / "docs/use" / page).read_text(), flags=re.M)
     section = next(text for text in sections if text.startswith(heading + "\n"))
     return [[cell.strip().replace("`", "") for cell in line.strip("|").split("|")] for line in section.splitlines() if line[:1] == "|"]
 
@@ -179,7 +179,7 @@ def of_system(path, word, spot, core):
     data, rule = pathlib.Path(path).read_bytes(), rule_of("formats.md", "Faults of a system file", word)
     if word == "NotToml":
         found = text_fault(data)
-        return told(path, "", found, f"{word}: {rule}. The limits stand in docs/formats.md, \"System file\".", found and found.line)
+        return told(path, "", found, f"{word}: {rule}. The limits stand in docs/use/formats.md, \"System file\".", found and found.line)
     try:
         text = data.decode().removeprefix("\ufeff")
         tree = tomllib.loads(text)
@@ -550,7 +550,7 @@ def of_second(path, second, kind, word, number):
         found = next((found for found in Certificate(text).faults() if found.word == word), None)
         key = found.key.split(", ")[-1].split()[0] if found and found.key else ""
         rule = rule_of("certificate.md", "The text", key)
-        rule = f"{key}: {rule}" if rule else 'docs/certificate.md, "The text", has the rules.'
+        rule = f"{key}: {rule}" if rule else 'docs/use/certificate.md, "The text", has the rules.'
         return told(second, "", found, rule, found and found.line)
     try:
         tree = read_system(path).tree
@@ -558,7 +558,7 @@ def of_second(path, second, kind, word, number):
         tree = None
     rows = KINDS_OF_SECOND[kind](text, number, tree)
     found = next((found for found in rows.faults() if found.word == word), None)
-    rule = rule_of("formats.md", rows.heading, word) or 'docs/formats.md, "Guests\' file" and "What `place` writes", has the rules'
+    rule = rule_of("formats.md", rows.heading, word) or 'docs/use/formats.md, "Guests\' file" and "What `place` writes", has the rules'
     row = rows.row or (rows.rows or [Row(1, [], [])])[-1]
     return told(second, f"row {number}", found, f"{word}: {rule}", row.line)
 

@@ -1,4 +1,4 @@
-"""The formulas of docs/certificate.md: what tasks ask for in a window, and what a budget gives."""
+"""The formulas of docs/use/certificate.md: what tasks ask for in a window, and what a budget gives."""
 from dataclasses import dataclass
 
 MOST_STEPS = 20_000

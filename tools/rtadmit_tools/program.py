@@ -26,7 +26,7 @@ def value_of(text):
 
 
 def line_object(line):
-    """A line of an answer by its keys, or None where docs/formats.md has no such line. Its first word may be the number of a row."""
+    """A line of an answer by its keys, or None where docs/use/formats.md has no such line. Its first word may be the number of a row."""
     words = SPOT.sub(lambda found: found[0].replace(" ", "\0"), line).split(" ")
     told = {"row": int(words.pop(0))} if words[0].isdecimal() else {}
     pairs = [word.partition("=")[::2] for word in words if "=" in word]
@@ -80,11 +80,11 @@ class Program:
     def path(self):
         return self.words[0]
 
-    def ask(self, command, *words, text=None):
-        """The answer to a command; /dev/stdin as a word stands for the text."""
+    def ask(self, *words, text=None):
+        """The answer to a command and its words; /dev/stdin as a word stands for the text."""
         self.asked += 1
         told = {"stdin": subprocess.DEVNULL} if text is None else {"input": text.encode()}
-        ran = subprocess.run([*self.words, command, *map(str, words)], stdout=subprocess.PIPE, stderr=subprocess.DEVNULL, **told)
+        ran = subprocess.run([*self.words, *map(str, words)], stdout=subprocess.PIPE, stderr=subprocess.DEVNULL, **told)
         return Answer(ran.returncode, ran.stdout.decode(errors="replace"))
 
     def admit(self, system):

@@ -16,7 +16,7 @@ TASK_KEYS = ("name", "period", "deadline", "jitter", "work")
 
 OPEN = """\
 # open: write what is below without the #, and a [[part.task]] for each thread with a deadline
-# sched = "edf"        # how the guest orders them: edf, rm, dm or listed (docs/guide.md)
+# sched = "edf"        # how the guest orders them: edf, rm, dm or listed (docs/use/guide.md)
 # [[part.task]]
 # name = "..."
 # period = ...         # the least time from one job to the next, in microseconds
@@ -91,14 +91,7 @@ class System:
         return name
 
     def text(self):
-        """The system as the text of a system file."""
-        told = [f"format = {self.tree['format']}"]
-        for kind, keys in KEYS.items():
-            for table in self.tree.get(kind, []):
-                told += ["", f"[[{kind}]]", *pairs_of(table, keys)]
-                for task in table.get("task", []):
-                    told += ["[[part.task]]", *pairs_of(task, TASK_KEYS)]
-        return "\n".join(told) + "\n"
+        return tree_text(self.tree)
 
     def changed(self, change):
         """The same system with one change: `PART.TASK.work=N`, `PART.period=N`, `PART.budget=open`, `PART.parent=CORE` or
@@ -138,11 +131,22 @@ class System:
         return System(self.path, {"format": self.tree["format"], "core": [core], "part": parts})
 
 
+def tree_text(tree):
+    """The tables of a system as the text of a system file."""
+    told = [f"format = {tree['format']}"]
+    for kind, keys in KEYS.items():
+        for table in tree.get(kind, []):
+            told += ["", f"[[{kind}]]", *pairs_of(table, keys)]
+            for task in table.get("task", []):
+                told += ["[[part.task]]", *pairs_of(task, TASK_KEYS)]
+    return "\n".join(told) + "\n"
+
+
 def pairs_of(table, keys):
     """The lines of a table's keys."""
     for key in keys:
-        if key in table:
-            value = table[key]
+        value = table.get(key)
+        if value is not None:
             yield f"{key} = " + (str(value).lower() if isinstance(value, bool) else f'"{value}"' if isinstance(value, str) else str(value))
 
 

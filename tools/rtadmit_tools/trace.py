@@ -1,4 +1,4 @@
-"""A trace of docs/formats.md: its rows, which keep its rules, the host that they leave, and the periods of its VCPUs."""
+"""A trace of docs/use/formats.md: its rows, which keep its rules, the host that they leave, and the periods of its VCPUs."""
 import csv
 import functools
 import math
@@ -25,8 +25,8 @@ def lines_of(path, file):
         number += 1
         if len(line) == LONGEST_LINE:
             raise Refused(path, number, f"BadRow: a line of more than {LONGEST_LINE - 1} bytes")
-        if line != "\n":
-            yield number, line.removesuffix("\n")
+        if line := line.rstrip("\r\n"):
+            yield number, line
 
 
 # A host, as the rows so far leave it
@@ -287,8 +287,8 @@ class Periods:
 
 
 def judged(reader, host, servers, tell, first=0, last=math.inf):
-    """The spans of a trace, as they come, up to where no period is told any more. Meanwhile the periods of the VCPUs that are in `servers` are
-    told, behind the VCPU's name: those that end behind `first` and begin before `last`."""
+    """The spans of a trace, as they come, up to where no period is told any more. Meanwhile the periods of the VCPUs that are in `servers`
+    are told, behind the VCPU's name: those that end behind `first` and begin before `last`."""
     periods = {}
 
     def of(vcpu):

@@ -7,7 +7,7 @@
 In each frame of 10 ms the six VCPUs of a core have it one after another, two of them for a part of a longer period's budget. In every
 third frame the fourth sleeps behind its turn. In every 997th, on one core after another, the second has 100 microseconds less than its
 budget and the third 50 more. FROM is a second at which a frame of every kind begins, a multiple of 6: then it is the same recording from
-there on, as a trace of its own. The last words print what `tools/audit-all` is to say."""
+there on, as a trace of its own. The last words print what `tools/host audit-all` is to say."""
 import sys
 
 FRAME, CORES, EVERY = 10_000, 4, 997

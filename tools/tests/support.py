@@ -7,11 +7,13 @@ import pathlib
 import shlex
 import sys
 import tempfile
+import unittest
+from unittest import mock
 
 sys.dont_write_bytecode = True
 top = pathlib.Path(__file__).resolve().parents[2]
 sys.path.insert(0, str(top / "tools"))
-from rtadmit_tools import command_line
+from rtadmit_tools import command_line, sources
 
 recorded = top / "tools" / "tests" / "recorded"
 
@@ -53,8 +55,32 @@ class Room:
         path.write_text(text)
         return path
 
-    def answering(self, text, status=0):
-        """The words of a program that reads its file and answers this, whatever it is asked."""
-        path = self.file("program", f"#!/bin/sh\ncat \"$2\" >/dev/null\nprintf %s {shlex.quote(text)}\nexit {status}\n")
+    def script(self, text):
+        """The words of a program that is a few lines of shell."""
+        path = self.file("program", f"#!/bin/sh\n{text}\n")
         path.chmod(0o755)
         return str(path)
+
+    def answering(self, text, status=0):
+        """The words of a program that reads its file and answers this, whatever it is asked."""
+        return self.script(f"cat \"$2\" >/dev/null\nprintf %s {shlex.quote(text)}\nexit {status}")
+
+
+class Checkout(unittest.TestCase):
+    """Checks of sources over a repository of a few files in place of this one."""
+
+    def setUp(self):
+        self.top = Room(self).folder / "top"
+        in_place = mock.patch.object(sources, "TOP", self.top)
+        in_place.start()
+        self.addCleanup(in_place.stop)
+
+    def write(self, files):
+        for name, text in files.items():
+            (self.top / name).parent.mkdir(parents=True, exist_ok=True)
+            (self.top / name).write_text(text)
+
+    def told(self, *words):
+        """The status of a verb of tools/gate, and the lines that it prints."""
+        status, out, _ = run("gate", *words)
+        return status, out.splitlines()

@@ -1,4 +1,4 @@
-"""Tests of tools/host ask: a row for each text of docs/formats.md, as an object by docs/answer.schema.json, and annotations."""
+"""Tests of tools/host ask: a row for each text of docs/use/formats.md, as an object by docs/use/answer.schema.json, and annotations."""
 import json
 import shlex
 import unittest
@@ -109,7 +109,7 @@ ANNOTATED = [
 
 class Objects(unittest.TestCase):
     def test_each_text(self):
-        schema = jsonschema and jsonschema.Draft202012Validator(json.loads((support.top / "docs/answer.schema.json").read_text()))
+        schema = jsonschema and jsonschema.Draft202012Validator(json.loads((support.top / "docs/use/answer.schema.json").read_text()))
         for words, status, text, told in TEXTS:
             with self.subTest(words, text=text):
                 found = json.loads(json.dumps(tool.object_of(words.split(), Answer(status, text))))
@@ -120,14 +120,14 @@ class Objects(unittest.TestCase):
                     schema.validate(found)
 
     def test_each_kind_is_in_the_schema_and_in_a_row(self):
-        schema = json.loads((support.top / "docs/answer.schema.json").read_text())
+        schema = json.loads((support.top / "docs/use/answer.schema.json").read_text())
         kinds = {line["properties"]["kind"]["const"] for line in schema["properties"]["lines"]["items"]["anyOf"]}
         self.assertEqual(kinds, {*ALONE, "usage", "version"})
         self.assertEqual(kinds, {line["kind"] for *_, told in TEXTS if isinstance(told, list) for line in told})
 
     @unittest.skipUnless(jsonschema, "Python's jsonschema is not installed")
     def test_what_the_schema_refuses(self):
-        schema = jsonschema.Draft202012Validator(json.loads((support.top / "docs/answer.schema.json").read_text()))
+        schema = jsonschema.Draft202012Validator(json.loads((support.top / "docs/use/answer.schema.json").read_text()))
         whole = tool.object_of(["admit", "F"], Answer(*TEXTS[0][1:3]))
         wrong = [{"kind": "part"}, {"kind": "none"}, {**whole["lines"][0], "budget": "3"}, {**whole["lines"][0], "more": 1}]
         for change in ({"status": 10}, {"verdict": "maybe"}, {"answer": None}, {"more": 1}, *({"lines": [line]} for line in wrong)):
@@ -138,7 +138,7 @@ class Objects(unittest.TestCase):
         for text in ("verdict=yes\nguest A period=1\n", "part A B C D\n"):
             status, out, err = support.run("host", "ask", "admit", room.file("f", ""), "--json", "--program", room.answering(text))
             self.assertEqual((status, out), (1, ""))
-            self.assertIn("a line that docs/formats.md does not have", err)
+            self.assertIn("a line that docs/use/formats.md does not have", err)
 
 
 class Annotations(unittest.TestCase):

@@ -1,32 +1,32 @@
-"""Tests of tools/audit-all: pieces of random recordings beside the whole, by a plain judge that counts moment by moment; the folder in each
-way that it is given; a recording that goes on, is cut off, or has a piece that is missing; and refusals."""
-import contextlib
+"""Tests of tools/host audit-all: pieces of random recordings beside the whole, by a plain judge that counts moment by moment; the folder in
+each way that it is given; a recording that goes on, is cut off, or has a piece that is missing; and refusals."""
 import io
 import os
 import pathlib
 import random
 import shutil
 import subprocess
-import sys
 import tempfile
 import time
 import unittest
+from unittest import mock
 
-from load import load, program, top
 import recordings
-import systems
 import test_from_ftrace
 import test_split
-from hostfile import Refused
+from support import Room, program, run, top, verb
+from rtadmit_tools.program import Answer, Program
 
-tool = load("audit-all")
+tool = verb("host", "audit-all")
 LINUX = top / "examples/linux"
 PARTS = {"A": ("cpu0", 10, 3, False), "B": ("cpu0", 10, 4, True)}
+# the same, and nothing is short or over
+LOOSE = {name: (core, period, 1, True) for name, (core, period, _, _) in PARTS.items()}
 
 
-def broken_line(told, parts):
-    at, vcpu, kind, got = told
-    return f"{kind} {vcpu} from_ns={at * 1000} got_ns={got * 1000} of_ns={parts[vcpu][2] * 1000}"
+def broken_of(judged, parts):
+    told = sorted(judged.broken, key=lambda told: (told[0], list(parts).index(told[1])))
+    return [f"{kind} {vcpu} from_ns={at * 1000} got_ns={got * 1000} of_ns={parts[vcpu][2] * 1000}" for at, vcpu, kind, got in told]
 
 
 def count_line(judged, vcpu):
@@ -35,40 +35,35 @@ def count_line(judged, vcpu):
     clear = [judged.got[period] * 1000 for period in judged.clear if period[0] == vcpu]
     kinds = [told[2] for told in judged.broken if told[1] == vcpu]
     least, most = min(clear, default="-"), max((judged.got[period] * 1000 for period in begun), default="-")
-    return f"vcpu {vcpu} begun={len(begun)} judged={len(clear)} short={kinds.count('short')} over={kinds.count('over')} least_ns={least} most_ns={most}"
-
-
-def broken_of(judged, parts):
-    return [broken_line(told, parts) for told in sorted(judged.broken, key=lambda told: (told[0], list(parts).index(told[1])))]
+    short, over = kinds.count("short"), kinds.count("over")
+    return f"vcpu {vcpu} begun={len(begun)} judged={len(clear)} short={short} over={over} least_ns={least} most_ns={most}"
 
 
 class Judge:
-    """A program that answers `tally` of small traces by the plain judge, and `audit`; without `tally` where that is said."""
+    """A program that answers `tally` of small traces by the plain judge, and `audit`; without `tally` where that is said, and with texts
+    changed."""
     words = ["./rtadmit"]
 
-    def __init__(self, parts, has_tally=True):
-        self.parts, self.has_tally, self.asked = parts, has_tally, []
+    def __init__(self, parts, has_tally=True, change=lambda text: text):
+        self.parts, self.has_tally, self.asked, self.change = parts, has_tally, [], change
 
     def ask(self, command, file, trace):
         if command == "tally" and not self.has_tally:
-            return systems.Answer(2, "usage: rtadmit\n")
-        if trace == os.devnull:
-            return systems.Answer(3, "fault=BadHeader row=1 file=2\n")
+            return Answer(2, "usage: rtadmit\n")
+        if not os.path.isfile(trace):
+            return Answer(3, "fault=BadHeader row=1 file=2\n") if trace == os.devnull else Answer(5, "absent file=2\n")
         self.asked.append(pathlib.Path(trace).name)
         judged = test_split.Judged(pathlib.Path(trace).read_text(), self.parts)
         broken = broken_of(judged, self.parts)
         lines = ["verdict=no", broken[0]] if broken else ["verdict=yes", f"periods={len(judged.clear)}"]
-        if command == "tally":
-            lines += [count_line(judged, vcpu) for vcpu in self.parts]
-        return systems.Answer(1 if broken else 0, "\n".join(lines) + "\n")
+        lines += [count_line(judged, vcpu) for vcpu in self.parts if command == "tally"]
+        return Answer(1 if broken else 0, self.change("\n".join(lines) + "\n"))
 
 
 class Case(unittest.TestCase):
     def setUp(self):
-        scratch = tempfile.TemporaryDirectory()
-        self.addCleanup(scratch.cleanup)
-        self.room = pathlib.Path(scratch.name)
-        self.file, self.pieces = self.room / "system.toml", self.room / "out"
+        self.room = Room(self)
+        self.file, self.pieces = self.room.folder / "system.toml", self.room.folder / "out"
 
     def cut(self, text, parts, microseconds):
         """Cuts a text, beside its system file."""
@@ -77,10 +72,9 @@ class Case(unittest.TestCase):
 
     def answered(self, judge, *words):
         """The status, the lines, and what was complained of."""
-        err = io.StringIO()
-        with contextlib.redirect_stderr(err):
-            status, lines = tool.answered(tool.words_of([str(self.file), *words]), judge)
-        return status, lines, err.getvalue()
+        with mock.patch.object(tool, "program_of", lambda _: judge):
+            status, out, err = run("host", "audit-all", self.file, *(words or [self.pieces]))
+        return status, out.splitlines(), err.replace(f"{self.room.folder}/", "")
 
     def whole(self, text, parts):
         """The status and the lines that are to be told of a recording."""
@@ -110,48 +104,38 @@ at,core,what,vcpu
 class Pieces(Case):
     def test_by_hand(self):
         self.cut(TEXT, PARTS, 20)
-        self.assertEqual(self.answered(Judge(PARTS), str(self.pieces)), (1, [
-            "verdict=no", "short A from_ns=10000 got_ns=2000 of_ns=3000", "over A from_ns=30000 got_ns=4000 of_ns=3000",
-            "vcpu A begun=4 judged=4 short=1 over=1 least_ns=2000 most_ns=4000",
-            "vcpu B begun=4 judged=4 short=0 over=0 least_ns=6000 most_ns=8000"], ""))
+        told = ["verdict=no", "short A from_ns=10000 got_ns=2000 of_ns=3000", "over A from_ns=30000 got_ns=4000 of_ns=3000"]
+        counts = ["vcpu A begun=4 judged=4 short=1 over=1 least_ns=2000 most_ns=4000",
+                  "vcpu B begun=4 judged=4 short=0 over=0 least_ns=6000 most_ns=8000"]
+        self.assertEqual(self.answered(Judge(PARTS)), (1, [*told, *counts], ""))
+        without = "not asked: this program has no `tally`: of each piece the first broken period is told\n"
+        self.assertEqual(self.answered(Judge(PARTS, has_tally=False)), (1, told, without))
 
     def test_random_recordings_are_answered_as_the_whole(self):
+        """By the plain judge, and by the program where there is one."""
         for seed in range(12):
             rng = random.Random(seed)
             _, parts = test_split.random_parts(rng)
             text = test_split.random_trace(parts, rng)
             for microseconds in (20, 150):
-                with tempfile.TemporaryDirectory() as room:
-                    self.file, self.pieces = pathlib.Path(room, "system.toml"), pathlib.Path(room, "out")
-                    self.cut(text, parts, microseconds)
-                    told = self.answered(Judge(parts), str(self.pieces), "--jobs=2")
-                    self.assertEqual(told, (*self.whole(text, parts), ""), (seed, microseconds))
+                self.cut(text, parts, microseconds)
+                for judge in (Judge(parts), *[Program([program()])] * (program() is not None and microseconds == 150)):
+                    self.assertEqual(self.answered(judge, self.pieces, "--jobs=2"), (*self.whole(text, parts), ""), (seed, microseconds))
+                shutil.rmtree(self.pieces)
 
     def test_the_names_in_any_order(self):
         names = [str(path) for path in self.cut(TEXT, PARTS, 10)]
         for some in (names, names[::-1], names[1:2]):
-            judge, pipe = Judge(PARTS), io.StringIO("".join(f"{name}\n" for name in some))
-            with contextlib.ExitStack() as stack:
-                stack.callback(setattr, sys, "stdin", sys.stdin)
-                sys.stdin = pipe
+            judge = Judge(PARTS)
+            with mock.patch("sys.stdin", io.StringIO("".join(f"{name}\n" for name in some))):
                 self.assertEqual(self.answered(judge, "-")[:2], self.whole(TEXT, PARTS))
             self.assertEqual(sorted(judge.asked), sorted(pathlib.Path(name).name for name in names))
-
-    def test_a_program_without_tally(self):
-        """Of each piece the first broken period is told."""
-        self.cut(TEXT, PARTS, 20)
-        self.assertEqual(self.answered(Judge(PARTS, False), str(self.pieces)), (
-            1, ["verdict=no", "short A from_ns=10000 got_ns=2000 of_ns=3000", "over A from_ns=30000 got_ns=4000 of_ns=3000"],
-            "not asked: this program has no `tally`: of each piece the first broken period is told\n"))
 
     def test_nanoseconds(self):
         rows = TEXT.splitlines()
         text = "\n".join(["at_ns" + rows[0][2:], *(row.replace(",", "000,", 1) if row[0] != "0" else row for row in rows[1:])]) + "\n"
-        self.cut(TEXT, PARTS, 20)
-        path = self.room / "trace.csv"
-        path.write_text(text)
-        servers = {"A": tool.Server(0, 10, 3, False), "B": tool.Server(1, 10, 4, True)}
-        self.assertEqual([str(broken) for broken in tool.broken_in(tool.Piece(path, 5), servers)], [
+        servers = {"A": tool.Server(10, 3, False), "B": tool.Server(10, 4, True)}
+        self.assertEqual([str(broken) for broken in tool.broken_in(tool.Piece(self.room.file("trace.csv", text), 5), servers)], [
             "short A from_ns=10005 got_ns=2000 of_ns=3000", "over A from_ns=30005 got_ns=4000 of_ns=3000"])
 
     def test_a_computed_budget_is_the_programs(self):
@@ -159,92 +143,56 @@ class Pieces(Case):
         self.cut(TEXT, PARTS, 20)
         self.file.write_text(self.file.read_text().replace("budget = 3\n", ""))
         judge = Judge(PARTS)
-        judge.admit = lambda system: systems.Answer(0, "verdict=yes\npart A period=10 budget=3 computed\n")
-        self.assertEqual(self.answered(judge, str(self.pieces))[1][1], "short A from_ns=10000 got_ns=2000 of_ns=3000")
+        judge.admit = lambda system: Answer(0, "verdict=yes\npart A period=10 budget=3 computed\n")
+        self.assertEqual(self.answered(judge)[1][1], "short A from_ns=10000 got_ns=2000 of_ns=3000")
 
     @unittest.skipUnless(program(), "no program is built")
     def test_with_the_program(self):
-        """The recording of examples/linux in pieces of a tenth of a second: verdict, first broken period and counts are those of the whole."""
-        for name in ("reserved.toml", "overrun.toml"):
-            with tempfile.TemporaryDirectory() as folder, contextlib.redirect_stdout(io.StringIO()), contextlib.redirect_stderr(io.StringIO()):
-                test_split.tool.main([str(LINUX / "trace.csv"), folder, "--system", str(LINUX / name), "--seconds", "0.1"])
-                found = systems.Program([program()])
-                status, lines = tool.answered(tool.words_of([str(LINUX / name), folder]), found)
-                whole = found.ask("tally", str(LINUX / name), str(LINUX / "trace.csv"))
-                if whole.status == 2:
-                    whole = found.ask("audit", str(LINUX / name), str(LINUX / "trace.csv"))
-                self.assertEqual((status, [*lines[:2], *(line for line in lines[2:] if line.startswith("vcpu"))]), (whole.status, whole.lines))
-
-
-@unittest.skipUnless(program(), "no program is built")
-class Minute(Case):
-    """A minute of 24 VCPUs in pieces of 7 seconds, and what one command says of all of it."""
-
-    def test_a_minute(self):
+        """The recording of examples/linux in pieces of a tenth of a second, and a minute of 24 VCPUs in pieces of 7: verdict, first broken
+        period and counts are those of the whole, and each broken period those that are worked out by hand."""
         self.file.write_text(recordings.system())
-        trace, found = self.room / "trace.csv", systems.Program([program()])
-        trace.write_text("".join(recordings.rows(60)))
-        with contextlib.redirect_stdout(io.StringIO()):
-            self.assertEqual(test_split.tool.main([str(trace), str(self.pieces), "--system", str(self.file), "--seconds", "7"]), 0)
-        status, lines, err = self.answered(found, str(self.pieces))
-        told, whole = list(recordings.told(60)), found.ask("tally", str(self.file), str(trace))
-        if whole.status == 2:
-            whole = found.ask("audit", str(self.file), str(trace))
-            self.assertEqual((status, lines[:2]), (1, whole.lines))
-            self.skipTest("the program has no `tally`; its `audit` says the same of the whole")
-        self.assertEqual((status, lines, err), (1, told, ""))
-        self.assertEqual(whole.lines, [*told[:2], *(line for line in told if line.startswith("vcpu"))])
+        minute = self.room.file("minute.csv", "".join(recordings.rows(60)))
+        for file, trace, seconds, told in (
+            (LINUX / "reserved.toml", LINUX / "trace.csv", "0.1", None), (LINUX / "overrun.toml", LINUX / "trace.csv", "0.1", None),
+            (self.file, minute, "7", list(recordings.told(60))),
+        ):
+            with tempfile.TemporaryDirectory() as folder:
+                run("host", "split", trace, folder, "--system", file, "--seconds", seconds)
+                status, out, _ = run("host", "audit-all", file, folder, "--program", program())
+                whole, lines = Program([program()]).ask("tally", file, trace), out.splitlines()
+                told_once = [*lines[:2], *(line for line in lines[2:] if line.startswith("vcpu"))]
+                self.assertEqual((status, told_once), (whole.status, whole.lines))
+                self.assertEqual(lines, told or lines)
 
 
 class Elsewhere(Case):
     def test_the_lines_for_parallel(self):
         """Run by a shell, they keep the answers, which are taken in place of asking."""
         self.cut(TEXT, PARTS, 20)
-        asked = self.room / "a program"
-        judge = Judge(PARTS)
-        answers = [judge.ask("tally", "", self.pieces / f"piece-00000{at}.csv") for at in (1, 2)]
+        answers = [Judge(PARTS).ask("tally", "", self.pieces / f"piece-00000{at}.csv") for at in (1, 2)]
         cases = "".join(f"*{at}.csv) printf '%s' '{answer.text}'; exit {answer.status} ;;\n" for at, answer in enumerate(answers, 1))
-        asked.write_text(f"#!/bin/sh\ncase $3 in\n{cases}esac\nexit 3\n")
+        asked = self.room.file("a program", f"#!/bin/sh\ncase $3 in\n{cases}esac\nexit 3\n")
         asked.chmod(0o755)
-        out, words = io.StringIO(), [f"--program='{asked}'", str(self.file), str(self.pieces)]
-        with contextlib.redirect_stdout(out):
-            self.assertEqual(tool.main([*words, "--parallel"]), 0)
-        self.assertEqual(len(out.getvalue().splitlines()), 2)
-        self.assertIn(f"'{asked}' tally {self.file} {self.pieces}/piece-000001.csv >{self.pieces}/piece-000001.csv.told; echo", out.getvalue())
-        subprocess.run(["sh"], input=out.getvalue(), text=True, check=True)
-        status, lines, err = self.answered(Judge(PARTS), str(self.pieces), "--told")
-        self.assertEqual((status, lines, err), (*self.whole(TEXT, PARTS), ""))
+        status, out, _ = run("host", "audit-all", f"--program='{asked}'", self.file, self.pieces, "--parallel")
+        self.assertEqual((status, len(out.splitlines())), (0, 2))
+        self.assertIn(f"'{asked}' tally {self.file} {self.pieces}/piece-000001.csv >{self.pieces}/piece-000001.csv.told; echo", out)
+        subprocess.run(["sh"], input=out, text=True, check=True)
+        self.assertEqual(self.answered(Judge(PARTS), self.pieces, "--told"), (*self.whole(TEXT, PARTS), ""))
         told = self.pieces / "piece-000002.csv.told"
         told.write_text(told.read_text().rsplit("status")[0])
-        with self.assertRaisesRegex(Refused, "piece-000002.csv.told: no whole answer"):
-            self.answered(Judge(PARTS), str(self.pieces), "--told")
-
-    def test_as_one_pipe(self):
-        """tools/split into tools/audit-all, with a program of a shell's lines."""
-        asked, trace = self.room / "program", self.room / "trace.csv"
-        self.file.write_text(test_split.system_text(["cpu0"], PARTS))
-        trace.write_text(TEXT.replace("12,", "13,").replace("34,", "33,"))
-        count = "vcpu %s begun=2 judged=2 short=0 over=0 least_ns=%d000 most_ns=%d000\\n"
-        asked.write_text("#!/bin/sh\n[ $3 = /dev/null ] && exit 3\nprintf 'verdict=yes\\nperiods=4\\n%s%s'\n" % (count % ("A", 3, 3), count % ("B", 7, 7)))
-        asked.chmod(0o755)
-        pipe = f"{top}/tools/split {trace} {self.pieces} --system {self.file} --seconds 0.00002 | {top}/tools/audit-all {self.file} - --program {asked}"
-        ran = subprocess.run(["sh", "-c", pipe], capture_output=True, text=True)
-        self.assertEqual((ran.returncode, ran.stderr), (0, ""))
-        self.assertEqual(ran.stdout.splitlines(), [
-            "verdict=yes", "periods=8", "vcpu A begun=4 judged=4 short=0 over=0 least_ns=3000 most_ns=3000",
-            "vcpu B begun=4 judged=4 short=0 over=0 least_ns=7000 most_ns=7000"])
+        cause = "out/piece-000002.csv.told: no whole answer about the piece as it stands\n"
+        self.assertEqual(self.answered(Judge(PARTS), self.pieces, "--told"), (3, [], cause))
 
     def test_while_the_recording_goes_on(self):
-        """tools/from-ftrace into tools/split into tools/audit-all: a piece is asked about before the next lines of the kernel's are there."""
-        asked, log, words = self.room / "program", self.room / "log", {"cpu": "--cpu=3=cpu3", "thread": "--thread=11=A"}
-        parts = {"A": ("cpu3", 100_000, 300, True)}
-        self.file.write_text(test_split.system_text(["cpu3"], parts))
-        asked.write_text(f"#!/bin/sh\n[ $3 = /dev/null ] && exit 3\necho $3 >>{log}\n"
-                         "printf 'verdict=yes\\nperiods=%d\\nvcpu A begun=%d judged=0 short=0 over=0 least_ns=- most_ns=300000\\n' 0 2\n")
+        """from-ftrace into split into audit-all: a piece is asked about before the next lines of the kernel's are there."""
+        log, host = self.room.folder / "log", top / "tools/host"
+        told = "verdict=yes\\nperiods=0\\nvcpu A begun=2 judged=0 short=0 over=0 least_ns=- most_ns=300000\\n"
+        asked = self.room.file("program", f"#!/bin/sh\n[ $3 = /dev/null ] && exit 3\necho $3 >>{log}\nprintf '{told}'\n")
         asked.chmod(0o755)
+        self.file.write_text(test_split.system_text(["cpu3"], {"A": ("cpu3", 100_000, 300, True)}))
         lines = test_from_ftrace.AsItComes.turns(5)
-        pipe = (f"{top}/tools/from-ftrace - {words['cpu']} {words['thread']} --as-it-comes | {top}/tools/split - {self.pieces} --system {self.file} "
-                f"--seconds 0.2 | {top}/tools/audit-all {self.file} - --program {asked}")
+        pipe = (f"{host} from-ftrace - --cpu=3=cpu3 --thread=11=A --as-it-comes | {host} split - {self.pieces} --system {self.file} "
+                f"--seconds 0.2 | {host} audit-all {self.file} - --program {asked}")
         with subprocess.Popen(["sh", "-c", pipe], text=True, stdin=subprocess.PIPE, stdout=subprocess.PIPE, stderr=subprocess.PIPE) as ran:
             ran.stdin.write("\n".join(lines[:10]) + "\n")
             ran.stdin.flush()
@@ -254,70 +202,54 @@ class Elsewhere(Case):
             early = log.read_text().split()
             out, err = ran.communicate("\n".join(lines[10:]) + "\n")
         self.assertEqual(early, [f"{self.pieces}/piece-000001.csv"])
-        self.assertEqual((ran.returncode, out.splitlines()[:2]), (0, ["verdict=yes", "periods=0"]), err)
-        self.assertEqual(out.splitlines()[2:], ["vcpu A begun=9 judged=0 short=0 over=0 least_ns=- most_ns=300000"])
+        told = ["verdict=yes", "periods=0", "vcpu A begun=9 judged=0 short=0 over=0 least_ns=- most_ns=300000"]
+        self.assertEqual((ran.returncode, out.splitlines()), (0, told), err)
 
-    def test_a_recording_that_is_cut_off_in_a_row(self):
-        """What tools/split leaves of it is audited, and is no yes."""
-        trace = self.room / "trace.csv"
-        more = {name: (core, period, 1, True) for name, (core, period, _, _) in PARTS.items()}
-        self.file.write_text(test_split.system_text(["cpu0"], more))
-        for torn, broken in ((TEXT.rsplit("40,,end,", 1)[0] + "39,cpu0,st", False), (TEXT[:-12], False)):
-            trace.write_text(torn)
-            with contextlib.redirect_stdout(io.StringIO()), contextlib.redirect_stderr(io.StringIO()) as err:
-                self.assertEqual(test_split.tool.main([str(trace), str(self.pieces), "--system", str(self.file), "--seconds", "0.00002"]), 1)
-            self.assertIn("(pieces that were whole before, and are kept: 1)", err.getvalue())
-            status, lines, err = self.answered(Judge(more), str(self.pieces))
-            self.assertEqual((status, lines), (3, [
+    def test_a_recording_that_is_cut_off(self):
+        """In a row, or by the table: a no stands; where nothing is broken so far, that is no yes."""
+        for torn in (TEXT.rsplit("40,,end,", 1)[0] + "39,cpu0,st", TEXT[:-12]):
+            self.file.write_text(test_split.system_text(["cpu0"], LOOSE))
+            trace = self.room.file("trace.csv", torn)
+            status, _, err = run("host", "split", trace, self.pieces, "--system", self.file, "--seconds", "0.00002")
+            self.assertEqual((status, "(pieces that were whole before, and are kept: 1)" in err), (1, True))
+            self.assertEqual(self.answered(Judge(LOOSE))[:2], (3, [
                 "verdict=unknown", "periods=4", "vcpu A begun=2 judged=2 short=0 over=0 least_ns=2000 most_ns=3000",
                 "vcpu B begun=2 judged=2 short=0 over=0 least_ns=7000 most_ns=8000"]))
             shutil.rmtree(self.pieces)
-
-    def test_a_recording_that_was_cut_off(self):
-        """A no stands; where nothing is broken so far, that is no yes."""
         self.cut(TEXT, PARTS, 20)
         table = self.pieces / "table.csv"
         table.write_text(table.read_text().rsplit("end,", 1)[0])
-        status, lines, err = self.answered(Judge(PARTS), str(self.pieces))
-        self.assertEqual((status, lines), self.whole(TEXT, PARTS))
-        self.assertIn("the recording was cut off, or is still being cut", err)
-        more = {name: (core, period, 1, True) for name, (core, period, _, _) in PARTS.items()}
-        self.file.write_text(test_split.system_text(["cpu0"], more))
-        status, lines, err = self.answered(Judge(more), str(self.pieces))
+        status, lines, err = self.answered(Judge(PARTS))
+        self.assertEqual(((status, lines), "the recording was cut off, or is still being cut" in err), (self.whole(TEXT, PARTS), True))
+        self.file.write_text(test_split.system_text(["cpu0"], LOOSE))
+        status, lines, _ = self.answered(Judge(LOOSE))
         self.assertEqual((status, lines[:2]), (3, ["verdict=unknown", "periods=8"]))
 
 
 class Refusals(Case):
-    def refused(self, cause, judge=None, *words):
-        with self.assertRaises(Refused) as caught:
-            self.answered(judge or Judge(PARTS), *(words or [str(self.pieces)]))
-        self.assertIn(cause, str(caught.exception))
-
-    def told_by(self, change):
-        """A judge whose texts are changed."""
-        judge = Judge(PARTS)
-        plain = judge.ask
-        judge.ask = lambda *words: (lambda answer: systems.Answer(answer.status, change(answer.text)))(plain(*words))
-        return judge
+    def refused(self, cause, judge=None):
+        status, lines, err = self.answered(judge or Judge(PARTS))
+        self.assertEqual((status, lines), (3, []))
+        self.assertIn(cause, err)
 
     def test_answers_that_do_not_fit(self):
         self.cut(TEXT, PARTS, 20)
-        first = f"{self.pieces}/piece-000001.csv: "
-        self.refused(f"{first}the program counts 1 periods of A, and the table has 2", self.told_by(lambda text: text.replace("A begun=2", "A begun=1")))
-        self.refused(f"{first}the program does not count each part that stands on a core", self.told_by(lambda text: text.replace("vcpu B", "vcpu C")))
-        found = "the broken periods that are found in it are not those that the program tells: short A from_ns=10000"
-        self.refused(first + found, self.told_by(lambda text: text.replace("short=1", "short=2")))
-        self.refused(first + found, self.told_by(lambda text: text.replace("got_ns=2000", "got_ns=1000")))
-        judge = Judge(PARTS)
-        judge.ask = lambda *words: systems.Answer(9, "")
-        self.refused(f"{first}the program does not judge it: status 9 (status 9)", judge)
+        first = "out/piece-000001.csv: "
+        told = "the broken periods that are found in it are not those that the program tells: short A from_ns=10000"
+        for old, new, cause in (
+            ("A begun=2", "A begun=1", "the program counts 1 periods of A, and the table has 2"), ("short=1", "short=2", told),
+            ("vcpu B", "vcpu C", "the program does not count each part that stands on a core"), ("got_ns=2000", "got_ns=1000", told),
+        ):
+            self.refused(first + cause, Judge(PARTS, change=lambda text: text.replace(old, new)))
+        (self.pieces / "piece-000001.csv").unlink()
+        self.refused(f"{first}the program does not judge it: absent file=2 (status 5)")
 
     def test_tables(self):
         self.cut(TEXT, PARTS, 20)
         table = self.pieces / "table.csv"
         good = table.read_text()
         for text, cause in (
-            ("piece\n", "table.csv:1: no table of tools/split"),
+            ("piece\n", "table.csv:1: no table of tools/host split"),
             (good.replace(",0,20000,", ",x,20000,", 1), "table.csv:2: no row of a table"),
             (good.replace(",A,0,2", ",A,0"), "table.csv:2: no row of a table"),
             (good + "end,,,40000,,,\n", "table.csv:7: a row behind the last one"),
@@ -325,23 +257,12 @@ class Refusals(Case):
         ):
             table.write_text(text)
             self.refused(cause)
+        table.unlink()
+        self.refused("out/table.csv: No such file or directory")
 
-    def test_files_and_words(self):
-        err = io.StringIO()
-        with contextlib.redirect_stderr(err):
-            self.cut(TEXT, PARTS, 20)
-            self.assertEqual(tool.main([str(self.file), str(self.room / "nowhere"), "--program=true"]), 3)
-            for words in (["--jobs=0"], ["--parallel", "--told"]):
-                with self.assertRaises(SystemExit):
-                    tool.main([str(self.file), str(self.pieces), *words])
-            with self.assertRaises(SystemExit):
-                tool.main([str(self.file), "-", "--told"])
-        self.assertIn("nowhere/table.csv: No such file or directory", err.getvalue())
-        (self.pieces / "piece-000001.csv").unlink()
-        judge = Judge(PARTS)
-        plain = judge.ask
-        judge.ask = lambda command, file, trace: plain(command, file, trace) if trace == os.devnull or os.path.exists(trace) else systems.Answer(5, "absent file=2\n")
-        self.refused("piece-000001.csv: the program does not judge it: absent file=2 (status 5)", judge)
+    def test_wrong_words(self):
+        for words in ([self.pieces, "--jobs=0"], [self.pieces, "--parallel", "--told"], ["-", "--told"]):
+            self.assertEqual(self.answered(Judge(PARTS), *words)[0], 2)
 
 
 if __name__ == "__main__":

@@ -1,10 +1,8 @@
 """Wrong bodies that are tried in one check: which functions an edit changes, sources that hold many, and what a check says."""
-import pathlib
 import unittest
 
-import load
-
-import bodies
+import support  # noqa: F401, it finds the package
+from rtadmit_tools import bodies, sources
 
 SOURCE = """use a::b;
 
@@ -49,30 +47,34 @@ def body(edit, *pairs):
     return bodies.body_of(edit, {"src/a/b.rt": SOURCE}, {"src/a/b.rt": changed(*pairs)})
 
 
+def functions():
+    return [it.function for it in bodies.pieces_of("src/a/b.rt", SOURCE) if it.function]
+
+
 class Functions(unittest.TestCase):
-    def test_the_pieces_of_a_source_are_all_of_it(self):
-        found = bodies.pieces("src/a/b.rt", SOURCE)
-        self.assertEqual("\n".join(line for it in found for line in (*it.head, *it.body)), SOURCE)
-        functions = [(it.function.owner, it.function.name) for it in found if it.function]
-        self.assertEqual(functions, [("", "add"), ("Held", "held"), ("Held", "held")])
-
     def test_the_pieces_of_every_source_are_all_of_it(self):
-        for path in sorted(load.top.glob("crates/*/src/**/*.rt")):
-            text = path.read_text(encoding="utf-8")
-            lines = [line for it in bodies.pieces("src/lib.rt", text) for line in (*it.head, *it.body)]
-            self.assertEqual("\n".join(lines), text, path)
+        texts = [SOURCE, *(file.text for crate in sources.crates() for file in sources.files(crate, "src"))]
+        for text in texts:
+            self.assertEqual("\n".join(line for it in bodies.pieces_of("src/lib.rt", text) for line in it.lines), text)
 
-    def test_paths_that_rt_takes(self):
-        paths = [it.function.path() for it in bodies.pieces("src/a/b.rt", SOURCE) if it.function]
-        self.assertEqual(paths, ["a::b::add", "a::b::Held::held", "a::b"])
-        self.assertEqual(bodies.pieces("src/lib.rt", SOURCE)[1].function.path(), "add")
+    def test_functions_and_the_paths_that_rt_takes(self):
+        found = [(it.owner, it.name, bodies.path_of(it)) for it in functions()]
+        self.assertEqual(found, [("", "add", "a::b::add"), ("Held", "held", "a::b::Held::held"), ("Held", "held", "a::b")])
+        self.assertEqual(bodies.path_of(bodies.pieces_of("src/lib.rt", SOURCE)[1].function), "add")
+
+    def test_a_method_without_a_body_takes_none_of_another_one(self):
+        text = "trait Holds {\n    fn held(&self) -> u32\n        ensures { result ≡ 1 };\n\n    fn more(&self) -> u32 {\n    }\n}\n"
+        self.assertEqual([it.function.name for it in bodies.pieces_of("src/a/b.rt", text) if it.function], ["more"])
 
     def test_symbols_are_those_of_the_function_and_of_its_closures(self):
-        add, held, in_trait = [it.function for it in bodies.pieces("src/a/b.rt", SOURCE) if it.function]
-        self.assertTrue(add.has("a::b::add") and add.has("a::b::fn::add::map+FnMut::call_mut"))
-        self.assertFalse(add.has("a::b::add_all") or add.has("a::add") or add.has("a::b::Held::add"))
-        self.assertTrue(held.has("a::b::Held::held") and not held.has("a::b::HeldHolds::held"))
-        self.assertTrue(in_trait.has("a::b::HeldHolds::held"))
+        add, held, in_trait = functions()
+        rows = [
+            (add, "a::b::add", True), (add, "a::b::fn::add::map+FnMut::call_mut", True), (add, "a::b::add_all", False),
+            (add, "a::add", False), (add, "a::b::Held::add", False), (held, "a::b::Held::held", True),
+            (held, "a::b::HeldHolds::held", False), (in_trait, "a::b::HeldHolds::held", True),
+        ]
+        for function, symbol, expected in rows:
+            self.assertEqual(bodies.has(function, symbol), expected, symbol)
 
 
 class Edits(unittest.TestCase):
@@ -89,7 +91,7 @@ class Edits(unittest.TestCase):
 
     def test_no_two_edits_of_a_round_change_one_function(self):
         some = [body("one", ("a + 1", "a")), body("two", ("== 3", "== 2")), body("three", ("self.count", "0"))]
-        found = [[it.edit for it in others] for others in bodies.rounds(some, 9)]
+        found = [[it.name for it in others] for others in bodies.rounds(some, 9)]
         self.assertEqual(found, [["one", "three"], ["two"]])
         self.assertEqual([len(it) for it in bodies.rounds(some, 1)], [1, 1, 1])
 
@@ -99,34 +101,29 @@ class Edits(unittest.TestCase):
         self.assertEqual(texts, {"src/a/b.rt": changed(("a + 1", "a;\n    1"), ("self.count", "0"))})
         at = texts["src/a/b.rt"].split("\n").index("        0") + 1
         said = f"src/a/b.rt:{at}:9: error[type]: it is no number\nsrc/a/b.rt:1:1: error[x]: other"
-        self.assertEqual({it.edit: line for it, line in bodies.blamed(said, owners).items()}, {"two": said.split("\n")[0]})
+        self.assertEqual(bodies.blamed(said, owners), {"two": said.split("\n")[0]})
 
 
 class Answers(unittest.TestCase):
-    def said(self, *lines):
-        return bodies.answer(bodies.verdicts("c", "\n".join(lines)), body("one", ("a + 1", "a")))
-
-    def test_a_function_that_is_proved_is_let_through(self):
-        self.assertEqual(self.said("fn c::a::b::add: proved")[0], "through")
-
-    def test_a_function_or_a_closure_that_is_not_proved_is_refused(self):
-        note = "note: src/a/b.rt:9:9: it is not proved that `sum` holds"
-        kind, words = self.said("fn c::a::b::other: not proved", note, "fn c::a::b::add: no proof: expected answers")
-        self.assertEqual((kind, words), ("refused", f"a::b::add: no proof: expected answers; {note}"))
-        self.assertEqual(self.said("fn c::a::b::add: proved", "fn c::a::b::fn::add::map: not proved")[0], "refused")
-
-    def test_a_name_that_is_gone_is_told(self):
-        gone = "proofs/a/b/add/Answers.antt:3:5: error: `goal.x` is not in scope"
-        self.assertEqual(self.said(gone, "fn c::a::b::add: not proved")[0], "named")
-        self.assertEqual(self.said(gone, "note: src/a/b.rt:9:9: not proved", "fn c::a::b::add: not proved")[0], "refused")
-
-    def test_of_a_function_of_which_nothing_is_said_nothing_is_known(self):
-        self.assertIsNone(self.said("fn c::a::b::added: proved", "fn d::a::b::add: proved"))
-
-    def test_of_a_function_that_the_prover_could_not_tell_or_that_calls_one_without_a_proof_nothing_is_known(self):
-        for said in ("could not tell", "no proof: it calls `c::a::b::sum`, which is not proved"):
-            self.assertIsNone(self.said(f"fn c::a::b::add: {said}"))
-        self.assertEqual(self.said("fn c::a::b::add: not proved; it calls `c::a::b::sum`, which is not proved")[0], "refused")
+    def test_what_a_check_says_of_a_body(self):
+        note, gone = "note: src/a/b.rt:9:9: it is not proved", "proofs/a/b/add/Answers.antt:3:5: error: `goal.x` is not in scope"
+        add, calls = "fn c::a::b::add", "it calls `c::a::b::sum`, which is not proved"
+        rows = [
+            ("through", [f"{add}: proved"]),
+            ("refused", ["fn c::a::b::other: not proved", note, f"{add}: no proof: expected answers"]),
+            ("refused", [f"{add}: proved", "fn c::a::b::fn::add::map: not proved"]),
+            ("named", [gone, f"{add}: not proved"]),
+            ("refused", [gone, note, f"{add}: not proved"]),
+            (None, ["fn c::a::b::added: proved", "fn d::a::b::add: proved"]),
+            (None, [f"{add}: could not tell"]),
+            (None, [f"{add}: no proof: {calls}"]),
+            ("refused", [f"{add}: not proved; {calls}"]),
+        ]
+        for kind, lines in rows:
+            told = bodies.answer(bodies.verdicts("c", "\n".join(lines)), body("one", ("a + 1", "a")))
+            self.assertEqual(told and told[0], kind, lines)
+        told = bodies.answer(bodies.verdicts("c", "\n".join(rows[1][1])), body("one", ("a + 1", "a")))
+        self.assertEqual(told[1], f"a::b::add: no proof: expected answers; {note}")
 
 
 if __name__ == "__main__":

@@ -111,7 +111,7 @@ class Formulas(unittest.TestCase):
 
 class Pictures(Case):
     def test_earliest_deadline_first(self):
-        """The numbers are those that docs/certificate.md goes through by hand."""
+        """The numbers are those that docs/use/certificate.md goes through by hand."""
         ended, picture, err = self.run_tool(LEAF, "leaf", yes(3, witness(2, 75)))
         self.assertEqual((ended, err), (0, ""))
         for text in (
@@ -179,15 +179,15 @@ class Pictures(Case):
     def test_the_picture_of_the_guide(self):
         ended, picture, err = self.run_tool(top / "examples/xen.toml", "audio-0", XEN)
         self.assertEqual((ended, err), (0, ""))
-        self.assertEqual(picture, (top / "docs/curves.svg").read_text())
-        self.assertIn("curves examples/xen.toml audio-0 docs/curves.svg", (top / "docs/guide.md").read_text())
+        self.assertEqual(picture, (top / "docs/pictures/curves.svg").read_text())
+        self.assertIn("curves examples/xen.toml audio-0 docs/pictures/curves.svg", (top / "docs/use/guide.md").read_text())
 
     @unittest.skipUnless(program(), "no program is built")
     def test_with_the_program(self):
         out = Room(self).folder / "out.svg"
         for system, name in (("xen", "audio-0"), ("xen", "video-0"), ("xen", "Domain-0-0"), ("rate", "leaf"), ("rate-short", "leaf"), ("jitter", "leaf"), ("frames", "guest")):
             self.assertEqual(run("host", "curves", top / f"examples/{system}.toml", name, out, "--program", program()), (0, "", ""), name)
-            self.assertEqual(out.read_text() == (top / "docs/curves.svg").read_text(), name == "audio-0")
+            self.assertEqual(out.read_text() == (top / "docs/pictures/curves.svg").read_text(), name == "audio-0")
 
 
 class Wide(Case):

@@ -140,7 +140,7 @@ class Cases(unittest.TestCase):
     def test_each_fault_of_the_worked_cases_is_found(self):
         """But for what JSON nests too deep, and what Python's reader of TOML does not read."""
         count, missed = 0, []
-        for folder in sorted((top / "cases").glob("*_first_faults_*")):
+        for folder in sorted((top / "tests/cases").glob("*/*first_faults_*")):
             table, args = json.loads((folder / "rows.json").read_text()), (folder / "args").read_text().split("\n")
             room = Room(self)
             for path in folder.glob("*.toml"):
@@ -162,7 +162,7 @@ class Cases(unittest.TestCase):
         self.assertEqual((status, out), (0, f"{words[3]}, read as trace: verdict=yes periods=8. It is taken.\n"))
 
     def test_the_refused_rows_of_a_script(self):
-        folder = top / "cases/session_each_fault_of_an_addition"
+        folder = top / "tests/cases/session/each_fault_of_an_addition"
         status, out, _ = run("host", "why", folder / "system.toml", folder / "script.csv", "--program", program())
         self.assertEqual((status, out.count("script.csv:"), out.count("finds no such")), (0, 15, 0))
         self.assertIn("script.csv:5: row 5, parent: \"none\", as the host stands at this row.\n", out)

@@ -1,13 +1,8 @@
-"""Tests of tools/goals: which names are counts, by proofs of a few lines."""
-import contextlib
-import io
-import pathlib
-import tempfile
+"""tools/gate goals: which names are counts, by proofs of a few lines."""
 import unittest
 
-from load import load
+from support import Checkout
 
-tool = load("goals")
 PROOF = """\
 use Rattle.std.proofs.Common.{ap-2}
 use Rattle.low.proofs.half.Goals as goal
@@ -27,40 +22,24 @@ finish-requires-2-clause-state c = goals.other-2 c
 """
 
 
-class Goals(unittest.TestCase):
-    def setUp(self):
-        scratch = tempfile.TemporaryDirectory()
-        self.addCleanup(scratch.cleanup)
-        self.addCleanup(setattr, tool, "top", tool.top)
-        tool.top = pathlib.Path(scratch.name)
-        self.write("low", PROOF)
+class Goals(Checkout):
+    def goals(self, crate, text, *words):
+        place = f"crates/{crate}/proofs/half/Answers.antt"
+        self.write({place: text})
+        status, lines = self.told("goals", *words)
+        return status, [line.removeprefix(f"{place}:") for line in lines]
 
-    def write(self, crate, text):
-        folder = tool.top / "crates" / crate / "proofs/half"
-        folder.mkdir(parents=True)
-        (folder / "Answers.antt").write_text(text)
-
-    def run_tool(self, *words):
-        """The status, and what is told."""
-        out = io.StringIO()
-        with contextlib.redirect_stdout(out):
-            status = tool.main(words)
-        return status, [line.removeprefix("crates/low/proofs/half/Answers.antt:") for line in out.getvalue().splitlines()]
-
-    def test_goals(self):
-        self.assertEqual(self.run_tool(), (1, ["5: take-requires-2", "8: After-cores-2", "14: finish-requires-2-clause-state"]))
-
-    def test_values(self):
+    def test_goals_and_values(self):
         """A literal, a place in a variant and a word with a digit are no counts; a call of `field` that is counted is one."""
-        self.assertEqual(self.run_tool("--values"), (1, ["6: in_ok-take-2", "8: field-2", "15: other-2"]))
+        self.assertEqual(self.goals("low", PROOF), (1, ["5: take-requires-2", "8: After-cores-2", "14: finish-requires-2-clause-state"]))
+        self.assertEqual(self.goals("low", PROOF, "--values"), (1, ["6: in_ok-take-2", "8: field-2", "15: other-2"]))
 
-    def test_none(self):
-        self.write("high", "use Rattle.high.proofs.half.Goals as goal\n\npub returns : goal.returns\nreturns c = refl\n")
-        self.assertEqual(self.run_tool("high"), (0, []))
-
-    def test_the_invariants_too(self):
-        self.write("high", "use Rattle.high.proofs.half.Given as goal\n\nabbrev pub invariant-loop-i-2 : goal.invariant-loop-i-2\n")
-        self.assertEqual(self.run_tool("high"), (1, ["crates/high/proofs/half/Answers.antt:3: invariant-loop-i-2"]))
+    def test_another_crate(self):
+        self.write({"crates/low/proofs/half/Answers.antt": PROOF})
+        none = "use Rattle.high.proofs.half.Goals as goal\n\npub returns : goal.returns\nreturns c = refl\n"
+        self.assertEqual(self.goals("high", none, "high"), (0, []))
+        invariant = "use Rattle.high.proofs.half.Given as goal\n\nabbrev pub invariant-loop-i-2 : goal.invariant-loop-i-2\n"
+        self.assertEqual(self.goals("high", invariant, "high"), (1, ["3: invariant-loop-i-2"]))
 
 
 if __name__ == "__main__":

@@ -1,13 +1,8 @@
-"""Tests of tools/inner: which definitions a reader meets, by crates of a few lines, beside pages that let files stay or not."""
-import contextlib
-import io
-import pathlib
-import tempfile
+"""tools/gate inner: which definitions a reader meets, by crates of a few lines, beside pages that let files stay or not."""
 import unittest
 
-from load import load
+from support import Checkout
 
-tool = load("inner")
 SPECS = {
     "low/specs/Lib": "pub mod Words\npub mod Steps\npub mod Kinds\npub mod inner\n",
     "low/specs/Words": """\
@@ -176,48 +171,31 @@ PRIVATE = ["4: of_private", "7: in_body", "10: in_comment"]
 OF_PROOFS = "19: of_other_proof"
 
 
-class Inner(unittest.TestCase):
-    def told(self, *words, stay="none", **texts):
+class Inner(Checkout):
+    def inner(self, *words, stay="none", **texts):
         """The status and what is said of the crates above, with these texts in place of theirs."""
-        with tempfile.TemporaryDirectory() as room:
-            top = pathlib.Path(room)
-            files = {f"crates/{name}.antt": text for name, text in SPECS.items()} | {f"crates/{name}.rt": text for name, text in SOURCES.items()}
-            files |= {"docs/architecture.md": PAGE.replace("{stay}", stay)} | texts
-            for name, text in files.items():
-                (top / name).parent.mkdir(parents=True, exist_ok=True)
-                (top / name).write_text(text)
-            before, tool.top = tool.top, top
-            out = io.StringIO()
-            try:
-                with contextlib.redirect_stdout(out):
-                    status = tool.main(list(words))
-            finally:
-                tool.top = before
-        return status, [line.removeprefix("crates/low/specs/Steps.antt:") for line in out.getvalue().splitlines()]
+        files = {f"crates/{name}.{'rt' if name in SOURCES else 'antt'}": text for name, text in (SPECS | SOURCES).items()}
+        self.write(files | {"docs/work/architecture.md": PAGE.replace("{stay}", stay)} | texts)
+        status, lines = self.told("inner", *words)
+        return status, [line.removeprefix("crates/low/specs/Steps.antt:") for line in lines]
 
-    def test_what_no_reader_meets(self):
-        said = ["Only private functions use:", *PRIVATE, "Only proofs of other crates name:", OF_PROOFS]
-        self.assertEqual(self.told(), (1, said))
-
-    def test_what_may_stay(self):
+    def test_what_no_reader_meets_and_what_may_stay(self):
         """A page lets stay what other proofs name, and nothing else."""
-        self.assertEqual(self.told(stay="`low/Steps`"), (1, ["Only private functions use:", *PRIVATE]))
-
-    def test_files(self):
-        said = ["Only private functions use:", " 3 of 6", "Only proofs of other crates name:", " 1 of 6"]
-        self.assertEqual(self.told("--files"), (1, said))
+        private, of_proofs = ["Only private functions use:", *PRIVATE], ["Only proofs of other crates name:", OF_PROOFS]
+        self.assertEqual(self.inner(), (1, private + of_proofs))
+        self.assertEqual(self.inner(stay="`low/Steps`"), (1, private))
+        self.assertEqual(self.inner("--files"), (1, [private[0], " 3 of 6", of_proofs[0], " 1 of 6"]))
 
     def test_none(self):
         source = SOURCES["low/src/words"].replace("fn helper", "pub fn double")
         steps = SPECS["low/specs/Steps"].partition("abbrev pub in_body")[0]
-        other = {"crates/high/proofs/Lemmas.antt": "", "crates/high/src/lib.rt": "", "crates/high/specs/Words.antt": ""}
-        self.assertEqual(self.told(**{"crates/low/src/words.rt": source, "crates/low/specs/Steps.antt": steps}, **other), (0, []))
+        other = dict.fromkeys(("crates/high/proofs/Lemmas.antt", "crates/high/src/lib.rt", "crates/high/specs/Words.antt"), "")
+        self.assertEqual(self.inner(**{"crates/low/src/words.rt": source, "crates/low/specs/Steps.antt": steps}, **other), (0, []))
 
     def test_what_is_not_handed_out(self):
         """Without its line in lib.rt a type and its methods serve nobody else, nor does a trait that no other type has."""
-        told = self.told(**{"crates/low/src/lib.rt": "mod words;\n\npub use words::{double};\n"})[1]
-        words = [line.rpartition(" ")[2] for line in told if "Words.antt" in line]
-        self.assertEqual(words, ["OfType", "of_method", "of_trait"])
+        told = self.inner(**{"crates/low/src/lib.rt": "mod words;\n\npub use words::{double};\n"})[1]
+        self.assertEqual([line.rpartition(" ")[2] for line in told if "Words.antt" in line], ["OfType", "of_method", "of_trait"])
         self.assertIn("crates/low/specs/Kinds.antt:1: Kind", told)
 
 

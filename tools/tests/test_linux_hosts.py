@@ -60,7 +60,7 @@ class FromLinux(unittest.TestCase):
         other = "thread 5 sh\npid 5's current scheduling policy: SCHED_OTHER\n"
         lacking = "record:1: thread 7 (a): its policy, its times or its processors are missing"
         for text, words, cause in (
-            (UNBOUND.read_text(), [], "record:1: thread 27776 (sleep) may use the processors 0-3: give it one of its own by a cpuset (docs/guide.md)\n"),
+            (UNBOUND.read_text(), [], "record:1: thread 27776 (sleep) may use the processors 0-3: give it one of its own by a cpuset (docs/use/guide.md)\n"),
             (bound, [], "record:6: thread 27777 (sleep) has a deadline of 10000000 ns, below its period of 20000000"),
             (bound.replace("1000000/10000000/", "1000000/20000000/"), [], "record:11: thread 27778 (CPU 0/KVM) has a runtime of 2500001 ns"),
             (thread(7, "a", period=20000001), [], "(a) has a period of 20000001 ns"),

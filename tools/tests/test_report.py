@@ -201,7 +201,7 @@ class Pages(Case):
         self.assertNotIn("slack examples/xen.toml Domain-0-0", page)
 
     def test_a_host_of_linux(self):
-        for head, is_linux in (("# By tools/host from-linux. All", True), ("# All\n# by tools/from-linux.", True), ("# by hand", False)):
+        for head, is_linux in (("# By tools/host from-linux. All", True), ("# All\n# by tools/host from-linux.", True), ("# by hand", False)):
             file = self.room.file("host.toml", f"{head}\n{self.XEN_FILES[0].read_text()}")
             text = self.text(XEN, file, self.XEN_FILES[1])
             for told in ("A host of Linux. Its kernel lets a period begin anew at a wake-up", "whose kernel goes by another rule"):

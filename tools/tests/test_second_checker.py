@@ -1,16 +1,14 @@
-"""Tests of tools/second-checker and tools/compare-checkers: what docs/certificate.md goes through by hand, and the statuses."""
-import contextlib
-import io
+"""Tests of tools/second-checker and of tools/gate checkers: what docs/use/certificate.md goes through by hand, and the statuses."""
 import json
-import pathlib
+import random
 import subprocess
-import sys
-import tempfile
 import unittest
 
-from load import load, top
+import support
+from rtadmit_tools.comparing import module_of
+from support import top
 
-tool, comparing = load("second-checker"), load("compare-checkers")
+tool, checkers = module_of("tools/second-checker"), support.verb("gate", "checkers")
 YES = (0, "verdict=yes\n")
 
 
@@ -20,9 +18,7 @@ def flaw(word):
 
 class Case(unittest.TestCase):
     def setUp(self):
-        scratch = tempfile.TemporaryDirectory()
-        self.addCleanup(scratch.cleanup)
-        self.room = pathlib.Path(scratch.name)
+        self.room = support.Room(self).folder
         self.file, self.certificate = self.room / "system.toml", self.room / "certificate.json"
 
     def told(self, system, certificate):
@@ -32,11 +28,11 @@ class Case(unittest.TestCase):
 
 
 class ThePage(Case):
-    """The example of docs/certificate.md, taken from its text, and the same guest under rm."""
+    """The example of docs/use/certificate.md, taken from its text, and the same guest under rm."""
 
     def setUp(self):
         super().setUp()
-        page = (top / "docs/certificate.md").read_text()
+        page = (top / "docs/use/certificate.md").read_text()
         self.good = next(line for line in page.splitlines() if line.startswith('    {"format":1')).strip()
         self.system = (top / "examples/leaf.toml").read_bytes()
 
@@ -65,7 +61,8 @@ class ThePage(Case):
         self.assertIn(b'"rm"', self.system)
         keys = {"budget": 4, "points": [], "hits": [25, 46], "falls": [1, 65, 76], "witness": "1"}
         core = json.loads(self.good)["nodes"][1] | {"points": ["4", "12"]}
-        told = lambda **more: self.told(self.system, json.dumps({"format": 1, "nodes": [json.loads(self.good)["nodes"][0] | keys | more, core]}).encode())
+        leaf = json.loads(self.good)["nodes"][0] | keys
+        told = lambda **more: self.told(self.system, json.dumps({"format": 1, "nodes": [leaf | more, core]}).encode())
         self.assertEqual(told(), YES)
         self.assertEqual(told(hits=[24, 46]), flaw("Hit part leaf task=1"))
         self.assertEqual(told(hits=[25, 45]), flaw("Hit part leaf task=2"))
@@ -75,8 +72,9 @@ class ThePage(Case):
     def test_faults_of_the_text(self):
         for old, new, word in (
             ('{"format":1,', '{"format":1.0,', "BadNumber"), ('"format":1', '"format":"1"', "WrongShape"), ('"35"', '"035"', "BadNumber"),
-            ('"35"', "35", "WrongShape"), ('"budget":3', '"budget":-0', "BadNumber"), ('"budget":3', '"budget":1e400,"budget":3', "NotJson"),
-            ('"budget":3', '"budget":"\\ud800","budget":3', "NotJson"), ('"budget":3', '"budget":[],"budget":3', None), ("}]}", "}]", "NotJson"),
+            ('"35"', "35", "WrongShape"), ('"budget":3', '"budget":-0', "BadNumber"), ("}]}", "}]", "NotJson"),
+            *(('"budget":3', f'"budget":{first},"budget":3', word) for first, word in (
+                ("1e400", "NotJson"), ('"\\ud800"', "NotJson"), ("[]", None))),
         ):
             wanted = YES if word is None else (3, f"fault={word} file=2\n")
             self.assertEqual(self.told(self.system, self.good.replace(old, new, 1).encode()), wanted, new)
@@ -105,24 +103,15 @@ class Files(Case):
         self.assertEqual((ran.returncode, ran.stdout.splitlines()[0]), (0, tool.__doc__.splitlines()[0]))
 
 
-class Comparing(Case):
-    def compared(self, script, *words):
-        """The status of a comparison with a program that is this script, and what it prints."""
-        asked, out = self.room / "program", io.StringIO()
-        asked.write_text(f"#!/bin/sh\n{script}\n")
-        asked.chmod(0o755)
-        sys.argv, kept = ["compare-checkers", str(asked), *words], sys.argv
-        self.addCleanup(setattr, sys, "argv", kept)
-        with contextlib.redirect_stdout(out):
-            return comparing.main(), out.getvalue()
-
+class Comparing(unittest.TestCase):
     def test_a_program_that_always_says_yes(self):
-        status, told = self.compared("echo verdict=yes", "--count=1")
+        status, told, _ = support.run("gate", "checkers", "--count=1", "--program", support.Room(self).script("echo verdict=yes"))
         self.assertEqual(status, 1)
-        self.assertIn("never answered: flaw=Nodes", told)
+        self.assertIn("; 0 flaw=Nodes (at least 1)", told)
+        self.assertIn("\nsecond-checker: [Answer(status=1", told)
 
     def test_the_same_seed_gives_the_same_systems(self):
-        drawn = lambda seed: [comparing.spell(comparing.draw_system(chance)) for chance in [comparing.random.Random(seed)] for _ in range(5)]
+        drawn = lambda seed: [checkers.spell(checkers.draw_system(chance)) for chance in [random.Random(seed)] for _ in range(5)]
         self.assertEqual(drawn(7), drawn(7))
         self.assertNotEqual(drawn(7), drawn(8))
 

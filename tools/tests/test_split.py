@@ -1,6 +1,5 @@
-"""Tests of tools/split: random traces, whole and in pieces, judged by a plain judge that stands here and by the program where there is
-one; the seams by hand; memory; a recording that goes on or is cut off; and refusals."""
-import contextlib
+"""Tests of tools/host split: random traces, whole and in pieces, by a plain judge that stands here (the tests of tools/host audit-all ask
+the program too); the seams by hand; memory; a recording that goes on or is cut off; and refusals."""
 import csv
 import io
 import os
@@ -12,10 +11,9 @@ import tempfile
 import tracemalloc
 import unittest
 
-from load import load, program, top
+from support import Room, program, run, top, verb
 
-tool = load("split")
-LINUX = top / "examples" / "linux"
+tool = verb("host", "split")
 
 
 # A plain judge, moment by moment
@@ -140,17 +138,14 @@ def system_text(cores, parts):
 
 
 def names_of(parts):
-    """What system_of gives of a system file with these parts."""
-    return (
-        sorted({part[0].encode() for part in parts.values()}),
-        [(name.encode(), part[0].encode(), part[1]) for name, part in parts.items()],
-    )
+    """The cores of these parts, and name, core and period of each."""
+    return sorted({part[0] for part in parts.values()}), [(name, part[0], part[1]) for name, part in parts.items()]
 
 
 def cut(text, parts, microseconds, folder, room=tool.MOST_BYTES):
     """Cuts a text into pieces. The names that were told."""
     told = []
-    tool.split(io.BytesIO(text.encode()), names_of(parts), microseconds * 1000, folder, told.append, room)
+    tool.split("trace", io.StringIO(text), names_of(parts), microseconds * 1000, folder, told.append, room)
     return told
 
 
@@ -229,45 +224,6 @@ class Random(unittest.TestCase):
                     if k >= periods:
                         self.assertIn((vcpu, k), part.slept)
                         self.assertEqual(part.got[vcpu, k], 0)
-
-    @unittest.skipUnless(program(), "no program is named (RTADMIT) or built")
-    def test_the_program_answers_of_all_pieces_as_of_the_whole(self):
-        for cores, parts, text, folder, _, _ in self.cuts(range(200, 212), lengths=(100, 101, 350)):
-            with tempfile.TemporaryDirectory() as beside:
-                system, trace = pathlib.Path(beside, "system.toml"), pathlib.Path(beside, "trace.csv")
-                system.write_text(system_text(cores, parts))
-                trace.write_text(text)
-                since = {row["piece"]: row["from_ns"] for row in table_of(folder)[0]}
-                answers = [answer(system, folder / name, since[name]) for name in sorted(since)]
-                whole = answer(system, trace, 0)
-                self.assertEqual(joined(answers, list(parts)), whole)
-                self.assertEqual(judged_answer(text, parts), whole)
-
-
-def answer(system, trace, since):
-    """What the program says of a trace: the number of periods, or the broken one, with its moment in the recording."""
-    done = subprocess.run([program(), "audit", system, trace], capture_output=True, text=True, check=False)
-    verdict, told = done.stdout.splitlines()
-    if done.returncode == 0 and verdict == "verdict=yes":
-        return int(told.removeprefix("periods="))
-    assert done.returncode == 1 and verdict == "verdict=no", done
-    kind, vcpu, begins, *rest = told.split()
-    return int(begins.removeprefix("from_ns=")) + since * 1000, vcpu, kind, *rest
-
-
-def judged_answer(text, parts):
-    """What the plain judge says of a trace, as the program would."""
-    judged, vcpus = Judged(text, parts), list(parts)
-    if not judged.broken:
-        return len(judged.clear)
-    at, vcpu, kind, got = min(judged.broken, key=lambda told: (told[0], vcpus.index(told[1])))
-    return at * 1000, vcpu, kind, f"got_ns={got * 1000}", f"of_ns={parts[vcpu][2] * 1000}"
-
-
-def joined(answers, vcpus):
-    """What the answers of all pieces say together: as many periods, or the broken period that begins first."""
-    broken = [told for told in answers if not isinstance(told, int)]
-    return min(broken, key=lambda told: (told[0], vcpus.index(told[1]))) if broken else sum(answers)
 
 
 # By hand
@@ -375,8 +331,25 @@ class Seams(unittest.TestCase):
                 "piece-000003.csv,20005,20007,20007,A,20005,1", "end,,,20007,,,"])
 
     def test_each_spelling_of_a_trace_is_read(self):
+        """Quotes, ends of lines of three kinds, empty lines, and a byte order mark."""
         spelt = "\ufeff" + CARRIED.replace("\n", "\r\n\n").replace("run,A", '"run","A"').replace("24,", '"24",')
-        self.assertEqual(self.pieces(spelt, 12), self.pieces(CARRIED, 12))
+        spelt = spelt.replace("wake,B\r\n", "wake,B\r")
+        room = Room(self)
+        trace, system = room.file("trace", spelt), room.file("system", system_text(["cpu0"], AB))
+        self.assertEqual(run("host", "split", trace, room.folder / "out", "--system", system, "--seconds=0.000012")[0], 0)
+        self.assertEqual([(since, piece.splitlines()[1:]) for since, piece in pieces_of(room.folder / "out")], self.pieces(CARRIED, 12))
+
+    def test_traces_one_behind_another(self):
+        """Each VCPU starts anew in the next one, behind a gap; of one without an end the piece that is whole is kept."""
+        second = "at,core,what,vcpu\n40,cpu0,start,A\n45,cpu0,run,A\n60,,end,\n"
+        wanted = [(40, ["0,cpu0,start,A", "5,cpu0,run,A", "10,cpu0,stop,", "10,cpu0,block,A", "10,,end,"]),
+                  (50, ["0,cpu0,start,A", "0,cpu0,run,A", "10,,end,"])]
+        for front, first in (("0,cpu0,start,A\n13,cpu0,run,A\n15,,end,\n", [
+                (0, ["0,cpu0,start,A", "10,cpu0,block,A", "10,,end,"]), (10, ["0,cpu0,start,A", "3,cpu0,run,A", "5,,end,"])]),
+                ("0,cpu0,start,A\n13,cpu0,run,A\n15,cpu0,stop,\n", [(0, ["0,cpu0,start,A", "10,cpu0,block,A", "10,,end,"])]), ("", [])):
+            self.assertEqual(self.pieces("at,core,what,vcpu\n" + front + second, 10), first + wanted)
+        with self.assertRaisesRegex(tool.Refused, "trace:5: TimeFalls"):
+            self.pieces("at,core,what,vcpu\n0,cpu0,start,A\n50,,end,\n" + second, 10)
 
 
 class Lines:
@@ -387,23 +360,20 @@ class Lines:
         self.text = self.lines(rows)
 
     def lines(self, rows):
-        yield b"at,core,what,vcpu\n0,cpu0,start,A\n0,cpu0,start,B\n"
+        yield from ("at,core,what,vcpu\n", "0,cpu0,start,A\n", "0,cpu0,start,B\n")
         for at in range(rows):
-            yield b"%d,cpu0,run,%b\n" % (at, b"AB"[at % 2:at % 2 + 1])
-        yield b"%d,,end,\n" % rows
+            yield f"{at},cpu0,run,{'AB'[at % 2]}\n"
+        yield f"{rows},,end,\n"
 
     def readline(self, _):
-        """A line; the first three are handed out as one file would."""
-        if not hasattr(self, "front"):
-            self.front = next(self.text).splitlines(keepends=True)
-        return self.front.pop(0) if self.front else next(self.text, b"")
+        return next(self.text, "")
 
 
 class Size(unittest.TestCase):
     def peak(self, rows):
         with tempfile.TemporaryDirectory() as folder:
             tracemalloc.start()
-            tool.split(Lines(rows), names_of(AB), 500_000, pathlib.Path(folder), lambda _: None)
+            tool.split("trace", Lines(rows), names_of(AB), 500_000, pathlib.Path(folder), lambda _: None)
             most = tracemalloc.get_traced_memory()[1]
             tracemalloc.stop()
             self.assertGreaterEqual(len(os.listdir(folder)), rows // 500)
@@ -454,22 +424,14 @@ period = 10
 
 class Refusals(unittest.TestCase):
     def setUp(self):
-        folder = tempfile.TemporaryDirectory()
-        self.addCleanup(folder.cleanup)
-        self.folder = pathlib.Path(folder.name)
-        self.system, self.trace, self.out = (self.folder / name for name in ("system.toml", "trace.csv", "out"))
-        self.system.write_text(SYSTEM)
+        self.room = Room(self)
+        self.folder, self.out, self.system = self.room.folder, self.room.folder / "out", self.room.file("system.toml", SYSTEM)
 
-    def run_tool(self, text, *more, seconds="0.00002"):
+    def run_tool(self, text, seconds="0.00002"):
         """The status of a run over a text, and what it wrote on both outputs."""
-        self.trace.write_bytes(text.encode())
-        out, err = io.StringIO(), io.StringIO()
-        with contextlib.redirect_stdout(out), contextlib.redirect_stderr(err):
-            try:
-                status = tool.main([str(self.trace), str(self.out), "--system", str(self.system), "--seconds", seconds, *more])
-            except SystemExit as ended:
-                status = ended.code
-        return status, out.getvalue(), err.getvalue().replace(f"{self.folder}/", "")
+        self.trace = self.room.file("trace.csv", text)
+        status, out, err = run("host", "split", self.trace, self.out, "--system", self.system, "--seconds", seconds)
+        return status, out, err.replace(f"{self.folder}/", "")
 
     def test_each_rule_by_its_line(self):
         start, front = "0,cpu0,start,A\n", "at,core,what,vcpu\n"
@@ -483,12 +445,13 @@ class Refusals(unittest.TestCase):
             ("BadRow", 3, front + start + "1,cpu0,stop,A\n"),
             ("BadRow", 3, front + start + "1,cpu0,end,\n"),
             ("BadRow", 3, front + start + '1,cpu0,run,"A\n'),
-            ("BadRow", 3, front + start + "1,cpu0,run,A\rB\n"),
+            ("BadRow", 4, front + start + "0,cpu0,run,A\rB\n"),
             ("BadRow", 3, front + start + f"1,cpu0,run,{'A' * 9000}\n"),
             ("BadRow", 3, front + start + "1\n"),
             ("OutOfRange", 3, front + start + "1000000000000001,,end,\n"),
             ("OutOfRange", 3, front + start + "9" * 40 + ",,end,\n"),
             ("OutOfRange", 3, front + start + "20000000,,end,\n"),
+            ("BadRow", 3, front + start + "١,cpu0,run,A\n"),
             ("TimeFalls", 3, front + "5,cpu0,start,A\n4,cpu0,run,A\n"),
             ("Unknown", 3, front + start + "0,cpu9,run,A\n"),
             ("Unknown", 3, front + start + "0,cpu0,start,inner\n"),
@@ -544,6 +507,8 @@ class Refusals(unittest.TestCase):
             self.assertEqual(self.run_tool(text, seconds=seconds)[0], 2)
         self.assertEqual(self.run_tool(text, seconds="999.99999")[0], 0)
         self.assertEqual(self.run_tool(text), (1, "", "out: is not empty\n"))
+        self.system.write_text(SYSTEM.replace("period = 10", "period = 0", 1))
+        self.assertIn("system.toml: no system file, by what it has: the period of A is 0", self.run_tool(text)[2])
 
     def test_files_that_are_none(self):
         self.system.write_text("format = 1\n[[core]]\n")
@@ -553,13 +518,13 @@ class Refusals(unittest.TestCase):
         self.system.unlink()
         self.assertEqual(self.run_tool("at,core,what,vcpu\n")[2], "system.toml: No such file or directory\n")
         self.system.write_text(SYSTEM)
-        self.assertEqual(self.run_tool("")[2], "trace.csv: BadHeader: the header is `at,core,what,vcpu` or `at_ns,core,what,vcpu`\n")
+        self.assertEqual(self.run_tool("")[2], "trace.csv:1: BadHeader: the header is `at,core,what,vcpu` or `at_ns,core,what,vcpu`\n")
 
     def test_a_period_that_no_piece_holds(self):
         text = "at,core,what,vcpu\n0,cpu0,start,A\n" + "1,cpu0,run,A\n" * 20 + "2,,end,\n"
         with self.assertRaises(tool.Refused) as refused:
             cut(text, AB, 10, self.out, 200)
-        cause = "a period has more rows than a piece holds (pieces that were whole before, and are kept: 0)"
+        cause = "trace:13: a period has more rows than a piece holds (pieces that were whole before, and are kept: 0)"
         self.assertEqual(str(refused.exception), cause)
         self.assertEqual(os.listdir(self.out), ["table.csv"])
 
@@ -568,13 +533,12 @@ class Pipe(unittest.TestCase):
     """A recording that goes on, and one that is cut off."""
 
     def setUp(self):
-        folder = tempfile.TemporaryDirectory()
-        self.addCleanup(folder.cleanup)
-        self.folder = pathlib.Path(folder.name)
-        (self.folder / "system.toml").write_text(SYSTEM)
+        room = Room(self)
+        self.folder = room.folder
+        room.file("system.toml", SYSTEM)
 
     def piped(self):
-        words = [sys.executable, "-B", str(top / "tools/split"), "-", "--system", "system.toml", "--seconds", "0.00002", "out"]
+        words = [sys.executable, "-B", str(top / "tools/host"), "split", "-", "--system", "system.toml", "--seconds", "0.00002", "out"]
         return subprocess.Popen(
             words, cwd=self.folder, text=True, stdin=subprocess.PIPE, stdout=subprocess.PIPE, stderr=subprocess.PIPE)
 
@@ -595,20 +559,6 @@ class Pipe(unittest.TestCase):
         self.assertEqual(complaint, "-:4: BadRow: a row has four fields (pieces that were whole before, and are kept: 1)\n")
         self.assertEqual(sorted(os.listdir(self.folder / "out")), ["piece-000001.csv", "table.csv"])
         self.assertEqual((self.folder / "out/table.csv").read_text().splitlines()[1:], ["piece-000001.csv,0,20000,20000,A,0,2"])
-
-
-@unittest.skipUnless(program(), "no program is named (RTADMIT) or built")
-class Linux(unittest.TestCase):
-    """The recording of examples/linux, in pieces of a tenth of a second."""
-
-    def test_the_same_periods_and_the_same_first_broken_one(self):
-        for name in ("reserved.toml", "tick.toml", "overrun.toml"):
-            with tempfile.TemporaryDirectory() as folder, contextlib.redirect_stdout(io.StringIO()):
-                tool.main([str(LINUX / "trace.csv"), folder, "--system", str(LINUX / name), "--seconds", "0.1"])
-                since = {row["piece"]: row["from_ns"] for row in table_of(pathlib.Path(folder))[0]}
-                answers = [answer(LINUX / name, pathlib.Path(folder, piece), since[piece]) for piece in sorted(since)]
-                vcpus = [part[0].decode() for part in tool.system_of(LINUX / name)[1]]
-                self.assertEqual(joined(answers, vcpus), answer(LINUX / name, LINUX / "trace.csv", 0))
 
 
 if __name__ == "__main__":

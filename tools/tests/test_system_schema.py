@@ -1,24 +1,22 @@
-"""docs/system.schema.json beside docs/formats.md, and beside the program that reads a system file.
+"""docs/use/system.schema.json beside docs/use/formats.md, and beside the program that reads a system file.
 
 Where the validator (Python's jsonschema) or the program is missing, the comparison with the program is skipped, and standard error
 says so. What a schema cannot say stands in CANNOT_SAY, each with files that show it."""
 import json
-import pathlib
 import re
 import subprocess
 import sys
-import tempfile
 import tomllib
 import unittest
 
-from load import program, top
+from support import program, top
 
 try:
     import jsonschema
 except ImportError:
     jsonschema = None
 
-SCHEMA = json.loads((top / "docs/system.schema.json").read_text())
+SCHEMA = json.loads((top / "docs/use/system.schema.json").read_text())
 HIGHEST = 1_000_000_000
 CORE = "[[core]]\nname = 'c'\nsched = 'edf'\n"
 PART = "[[part]]\nname = 'p'\nparent = 'c'\nsched = 'rm'\nperiod = 10\n"
@@ -33,11 +31,6 @@ def with_key(text, table, line):
     return text.replace(f"[[{table}]]\n", f"[[{table}]]\n{line}\n")
 
 
-def without(text, line):
-    assert text.count(line + "\n") >= 1, line
-    return text.replace(line + "\n", "", 1)
-
-
 def many(count, text):
     return "".join(text.replace("'n'", f"'n{place}'") for place in range(count))
 
@@ -50,28 +43,43 @@ GOOD = {
     "format 2 without jitter": LATE,
     "jitter": with_key(LATE, "part.task", "jitter = 43"),
     "jitter of 0": with_key(LATE, "part.task", "jitter = 0"),
-    "the highest jitter": with_key(LATE, "part.task", f"jitter = {HIGHEST - 1}").replace("period = 50\nwork = 7", f"period = {HIGHEST}\nwork = 1"),
-    "the highest times": FILE.replace("50", str(HIGHEST)).replace("work = 7", f"work = {HIGHEST}").replace("period = 10\n", f"period = {HIGHEST}\nbudget = {HIGHEST}\n"),
+    "the highest jitter": with_key(LATE, "part.task", f"jitter = {HIGHEST - 1}").replace("50\nwork = 7", f"{HIGHEST}\nwork = 1"),
+    "the highest times": (
+        FILE.replace("50", str(HIGHEST)).replace("work = 7", f"work = {HIGHEST}").replace("10\n", f"{HIGHEST}\nbudget = {HIGHEST}\n")
+    ),
     "a supply": with_key(FILE, "core", f"supply_period = {HIGHEST}\nsupply_budget = 1"),
     "all keys of a part": with_key(FILE, "part", "budget = 1\nextra = true"),
     "extra that is false": with_key(FILE, "part", "extra = false"),
     "a deadline": with_key(FILE, "part.task", "deadline = 7"),
     "each scheduler": FILE.replace("'edf'", "'listed'").replace("'rm'", "'dm'"),
     "a name of 32": FILE.replace("'t'", "'" + "T" + "_-9" * 10 + "a'"),
-    "a part on a part, with no tasks by an empty array": FILE.replace(PART, with_key(PART.replace("'p'", "'q'"), "part", "task = []") + PART.replace("'c'", "'q'")),
+    "a part on a part, with no tasks by an empty array": (
+        FILE.replace(PART, with_key(PART.replace("'p'", "'q'"), "part", "task = []") + PART.replace("'c'", "'q'"))
+    ),
     "64 cores": "format = 1\n" + many(64, CORE.replace("'c'", "'n'")),
     "512 parts": "format = 1\n" + CORE + many(512, PART.replace("'p'", "'n'") + "budget = 1\n" + TASK),
     "256 tasks": "format = 1\n" + CORE + PART + "budget = 1\n" + many(256, TASK.replace("'t'", "'n'")),
 }
 
-# Files that both refuse, and the program's word.
+# A file with all keys.
+FULL = {
+    "": {"format": "2"},
+    "core": {"name": "'c'", "sched": "'edf'", "supply_period": "5", "supply_budget": "5"},
+    "part": {"name": "'p'", "parent": "'c'", "sched": "'rm'", "period": "10", "budget": "10", "extra": "true"},
+    "part.task": {"name": "'t'", "period": "50", "deadline": "50", "jitter": "0", "work": "7"},
+}
+# Values that a key of a kind, or of a name, may not have, and the program's word.
+WRONG = {
+    "integer": [("WrongKind", "'1'"), ("WrongKind", "true"), ("WrongKind", "1.5")],
+    "boolean": [("WrongKind", "1"), ("WrongKind", "'yes'")],
+    "string": [("WrongKind", "7")],
+    "name": [("BadName", f"'{name}'") for name in ("", "1t", "a b", "t" * 33, "t\u00e4")],
+    "sched": [("OutOfRange", "'EDF'")],
+    "parent": [("NoSuchParent", "'0'")],
+}
+
+# Files that both refuse beside those that have one of these values, and the program's word.
 BROKEN = {
-    "no format": ("MissingKey", without(FILE, "format = 1")),
-    "format 0": ("OutOfRange", FILE.replace("format = 1", "format = 0")),
-    "format 3": ("OutOfRange", FILE.replace("format = 1", "format = 3")),
-    "a format that is a text": ("WrongKind", FILE.replace("format = 1", "format = '1'")),
-    "a format that is a flag": ("WrongKind", FILE.replace("format = 1", "format = true")),
-    "another key at the top": ("UnknownKey", "title = 'a'\n" + FILE),
     "no core": ("MissingKey", "format = 1\n"),
     "cores that are no array": ("WrongKind", "format = 1\ncore = 1\n"),
     "cores that are a table": ("WrongKind", "format = 1\n[core]\nname = 'c'\nsched = 'edf'\n"),
@@ -81,50 +89,41 @@ BROKEN = {
     "parts that are no array": ("WrongKind", "format = 1\npart = 'p'\n" + CORE),
     "513 parts": ("TooMany", "format = 1\n" + CORE + many(513, PART.replace("'p'", "'n'") + TASK)),
     "257 tasks": ("TooMany", "format = 1\n" + CORE + PART + many(257, TASK.replace("'t'", "'n'"))),
-    "another key of a core": ("UnknownKey", with_key(FILE, "core", "speed = 1")),
-    "no name of a core": ("MissingKey", FILE.replace("name = 'c'\n", "")),
-    "no scheduler of a core": ("MissingKey", without(FILE, "sched = 'edf'")),
-    "another scheduler": ("OutOfRange", FILE.replace("'edf'", "'EDF'")),
-    "a scheduler that is a number": ("WrongKind", FILE.replace("'edf'", "1")),
-    "a supply's period alone": ("MissingKey", with_key(FILE, "core", "supply_period = 1")),
-    "a supply's budget alone": ("MissingKey", with_key(FILE, "core", "supply_budget = 1")),
-    "a supply's period of 0": ("OutOfRange", with_key(FILE, "core", "supply_period = 0\nsupply_budget = 1")),
-    "a supply's period too high": ("OutOfRange", with_key(FILE, "core", f"supply_period = {HIGHEST + 1}\nsupply_budget = 1")),
-    "a supply's budget of 0": ("OutOfRange", with_key(FILE, "core", "supply_period = 1\nsupply_budget = 0")),
-    "another key of a part": ("UnknownKey", with_key(FILE, "part", "priority = 1")),
-    "no name of a part": ("MissingKey", FILE.replace("name = 'p'\n", "")),
-    "no parent": ("MissingKey", without(FILE, "parent = 'c'")),
-    "a parent that is a number": ("WrongKind", FILE.replace("parent = 'c'", "parent = 0")),
-    "no scheduler of a part": ("MissingKey", without(FILE, "sched = 'rm'")),
-    "no period of a part": ("MissingKey", without(FILE, "period = 10")),
-    "a period of 0": ("OutOfRange", FILE.replace("period = 10\n", "period = 0\n")),
-    "a period below 0": ("OutOfRange", FILE.replace("period = 10\n", "period = -1\n")),
-    "a period too high": ("OutOfRange", FILE.replace("period = 10\n", f"period = {HIGHEST + 1}\n")),
-    "a period with a fraction": ("WrongKind", FILE.replace("period = 10\n", "period = 10.5\n")),
-    "a period that is a text": ("WrongKind", FILE.replace("period = 10\n", "period = '10'\n")),
-    "a budget of 0": ("OutOfRange", with_key(FILE, "part", "budget = 0")),
-    "extra that is a number": ("WrongKind", with_key(FILE, "part", "extra = 1")),
-    "extra that is a text": ("WrongKind", with_key(FILE, "part", "extra = 'yes'")),
     "tasks that are no array": ("WrongKind", with_key("format = 1\n" + CORE + PART, "part", "task = 1")),
     "a task that is no table": ("WrongKind", with_key("format = 1\n" + CORE + PART, "part", "task = [1]")),
-    "another key of a task": ("UnknownKey", with_key(FILE, "part.task", "priority = 1")),
     "jitter in format 1": ("UnknownKey", with_key(FILE, "part.task", "jitter = 0")),
-    "no name of a task": ("MissingKey", FILE.replace("name = 't'\n", "")),
-    "no period of a task": ("MissingKey", without(FILE, "period = 50")),
-    "no work": ("MissingKey", without(FILE, "work = 7")),
-    "a work of 0": ("OutOfRange", FILE.replace("work = 7", "work = 0")),
-    "a deadline of 0": ("OutOfRange", with_key(FILE, "part.task", "deadline = 0")),
-    "jitter below 0": ("OutOfRange", with_key(LATE, "part.task", "jitter = -1")),
-    "jitter with a fraction": ("WrongKind", with_key(LATE, "part.task", "jitter = 0.5")),
-    "jitter as high as a deadline can be": ("OutOfRange", with_key(LATE, "part.task", f"jitter = {HIGHEST}")),
-    "an empty name": ("BadName", FILE.replace("'t'", "''")),
-    "a name that begins with a digit": ("BadName", FILE.replace("'t'", "'1t'")),
-    "a name with a blank": ("BadName", FILE.replace("'t'", "'a b'")),
-    "a name of 33": ("BadName", FILE.replace("'t'", "'" + "t" * 33 + "'")),
-    "a name with a letter that is not ASCII": ("BadName", FILE.replace("'t'", "'tä'")),
-    "a name that is a number": ("WrongKind", FILE.replace("'t'", "7")),
-    "a parent with a name that there cannot be": ("NoSuchParent", FILE.replace("parent = 'c'", "parent = '0'")),
 }
+
+
+def full(table, key, value):
+    """The file with all keys, with another value of one of them; None leaves it out."""
+    tables = FULL | {table: FULL[table] | {key: value}}
+    heads = {name: [f"[[{name}]]"] if name else [] for name in tables}
+    return "\n".join(line for name, keys in tables.items() for line in [*heads[name], *(f"{key} = {it}" for key, it in keys.items() if it)])
+
+
+def resolved(value):
+    """What the schema says of a key, with what it refers to."""
+    for held in value.get("allOf", [value]):
+        reference = held.get("$ref", "").removeprefix("#/definitions/")
+        value = {**value, **SCHEMA["definitions"].get(reference, {}), **{k: v for k, v in value.items() if k != "allOf"}}
+    return value
+
+
+def wrong_values():
+    """Files that have all keys but for one that is missing, unknown or of a wrong value, each with its program's word."""
+    for name, keys in FULL.items():
+        table = SCHEMA["definitions"].get(name.removeprefix("part."), SCHEMA)
+        yield f"another key of {name}", "UnknownKey", full(name, "priority", "1")
+        for key in keys:
+            value = resolved(table["properties"][key])
+            wrong = WRONG[value["type"]] + WRONG.get(key, [])
+            if value["type"] == "integer":
+                least, most = value.get("enum") or (value["minimum"], value["maximum"])
+                wrong = wrong + [("OutOfRange", str(least - 1)), ("OutOfRange", str(most + 1))]
+            wrong = wrong + [("MissingKey", None)] * (key in table["required"] or key in table.get("dependencies", ()))
+            yield from ((f"{name} {key} = {it}", word, full(name, key, it)) for word, it in wrong)
+
 
 # What a schema cannot say: the program refuses, and the validator does not.
 CANNOT_SAY = {
@@ -151,22 +150,16 @@ CANNOT_SAY = {
 
 
 def ranges():
-    """The least and the highest number of each key, by table, as docs/formats.md tells them."""
-    text = (top / "docs/formats.md").read_text().split("\n## System file\n", 1)[1].split("\n### ", 1)[0]
+    """The least and the highest number of each key, by table, as docs/use/formats.md tells them."""
+    text = (top / "docs/use/formats.md").read_text().split("\n## System file\n", 1)[1].split("\n### ", 1)[0]
     tables = re.split(r"^\| Key \| Value \|\n\|---\|---\|\n", text, flags=re.M)[1:]
     return [dict(re.findall(r"^\| `(\w+)` \| (.*) \|$", table, re.M)) for table in tables]
 
 
 class Page(unittest.TestCase):
-    """The schema has the keys of docs/formats.md, with their kinds, ranges and defaults."""
+    """The schema has the keys of docs/use/formats.md, with their kinds, ranges and defaults."""
 
     TABLES = [SCHEMA, *(SCHEMA["definitions"][name] for name in ("core", "part", "task"))]
-
-    def resolved(self, value):
-        for held in value.get("allOf", [value]):
-            reference = held.get("$ref", "").removeprefix("#/definitions/")
-            value = {**value, **SCHEMA["definitions"].get(reference, {}), **{k: v for k, v in value.items() if k != "allOf"}}
-        return value
 
     def test_the_keys(self):
         for told, table in zip(ranges(), self.TABLES, strict=True):
@@ -177,7 +170,7 @@ class Page(unittest.TestCase):
     def test_the_ranges(self):
         for told, table in zip(ranges(), self.TABLES, strict=True):
             for key, text in told.items():
-                value = self.resolved(table["properties"][key])
+                value = resolved(table["properties"][key])
                 found = re.search(r"\b(\d+) to (?:`(\w+)`|([\d,]+))( - (?:1|`jitter`))?", text)
                 if key == "format":
                     self.assertEqual((value["type"], value["enum"]), ("integer", [1, 2]))
@@ -196,7 +189,7 @@ class Page(unittest.TestCase):
         """What is left out has a default where it is the same in every file."""
         for told, table in zip(ranges(), self.TABLES, strict=True):
             for key, text in told.items():
-                value = self.resolved(table["properties"][key])
+                value = resolved(table["properties"][key])
                 usual = re.search("else (false|0)", text)
                 expected = json.loads(usual[1]) if usual else [] if value["type"] == "array" and key != "core" else None
                 self.assertEqual(value.get("default"), expected, key)
@@ -209,18 +202,14 @@ class Reader(unittest.TestCase):
     def setUpClass(cls):
         missing = "no validator (Python's jsonschema)" if jsonschema is None else None if program() else "no program is built"
         if missing:
-            print(f"docs/system.schema.json was not compared with the reader: {missing}", file=sys.stderr)
+            print(f"docs/use/system.schema.json was not compared with the reader: {missing}", file=sys.stderr)
             raise unittest.SkipTest(missing)
         jsonschema.Draft7Validator.check_schema(SCHEMA)
         cls.validator = jsonschema.Draft7Validator(SCHEMA)
-        held = tempfile.TemporaryDirectory()
-        cls.addClassCleanup(held.cleanup)
-        cls.path = pathlib.Path(held.name, "system.toml")
 
     def fault(self, text):
         """The word of the program's fault, or None where it reads the file."""
-        self.path.write_text(text)
-        ran = subprocess.run([program(), "admit", self.path], stdout=subprocess.PIPE, text=True)
+        ran = subprocess.run([program(), "admit", "/dev/stdin"], stdout=subprocess.PIPE, text=True, input=text)
         self.assertEqual(ran.returncode == 3, ran.stdout.startswith("fault="), ran)
         self.assertIn(ran.returncode, (0, 1, 3, 4))
         return re.match("fault=(\\w+)", ran.stdout)[1] if ran.returncode == 3 else None
@@ -238,7 +227,9 @@ class Reader(unittest.TestCase):
             self.assertEqual(self.validator.is_valid(tomllib.loads(path.read_text())), fault is None, path)
 
     def test_broken_files(self):
-        for what, (word, text) in BROKEN.items():
+        files = [*wrong_values(), *((what, word, text) for what, (word, text) in BROKEN.items())]
+        self.assertGreater(len(files), 90)
+        for what, word, text in files:
             self.assertEqual(self.fault(text), word, what)
             self.assertFalse(self.validator.is_valid(tomllib.loads(text)), what)
 

@@ -1,19 +1,15 @@
-"""Tests of tools/timeline: what it tells of each period, traces that are too dense for boxes, and what it refuses."""
-import contextlib
-import io
+"""Tests of tools/host timeline: what it tells of each period, traces that are too dense for boxes, and what it refuses."""
 import itertools
-import pathlib
-import random
 import re
 import resource
 import subprocess
 import sys
-import tempfile
 import unittest
 
-from load import load, program, top
+from support import Room, program, run, top, verb
+from rtadmit_tools import trace
 
-tool = load("timeline")
+tool = verb("host", "timeline")
 HEAD = 'format = 1\n[[core]]\nname = "cpu0"\nsched = "edf"\n'
 
 
@@ -26,23 +22,22 @@ def part(name, period, budget=None, extra=False):
 
 class Case(unittest.TestCase):
     def setUp(self):
-        scratch = tempfile.TemporaryDirectory()
-        self.addCleanup(scratch.cleanup)
-        self.trace, self.system = pathlib.Path(scratch.name, "trace.csv"), pathlib.Path(scratch.name, "system.toml")
+        self.room = Room(self)
+        self.trace, self.system = self.room.folder / "trace.csv", self.room.folder / "system.toml"
 
     def run_tool(self, rows, *words, parts=None, head="at,core,what,vcpu"):
         """The status of a run over rows, the picture, and what standard error has."""
-        self.trace.write_text("\n".join([head, *rows, ""]))
+        self.room.file("trace.csv", "\n".join([head, *rows, ""]))
         if parts:
-            self.system.write_text(HEAD + "".join(parts))
+            self.room.file("system.toml", HEAD + "".join(parts))
             words = [*words, f"--system={self.system}"]
-        out, err = io.StringIO(), io.StringIO()
-        with contextlib.redirect_stdout(out), contextlib.redirect_stderr(err):
-            try:
-                status = tool.main([str(self.trace), *words])
-            except SystemExit as ended:
-                status = ended.code
-        return status, out.getvalue(), err.getvalue()
+        return run("host", "timeline", self.trace, *words)
+
+    @staticmethod
+    def drawn(view, server, start=0):
+        """What is drawn of the periods of a VCPU, and these, which tell it."""
+        drawn = tool.Drawn(view, server)
+        return drawn, trace.Periods(server, start, drawn.tell, view.begin, view.end)
 
     @staticmethod
     def texts(picture):
@@ -66,38 +61,11 @@ class Periods(Case):
 
     def test_the_picture_of_the_pages(self):
         for trace, picture, words in (
-            ("docs/timeline.csv", "docs/timeline.svg", [f"--system={top / 'docs/timeline.toml'}"]),
-            ("examples/linux/trace.csv", "examples/linux/timeline.svg", [f"--system={top / 'examples/linux/reserved.toml'}", "--until=160000"]),
+            ("docs/pictures/timeline.csv", "docs/pictures/timeline.svg", [f"--system={top / 'docs/pictures/timeline.toml'}"]),
+            ("examples/linux/trace.csv", "examples/linux/timeline.svg",
+             [f"--system={top / 'examples/linux/reserved.toml'}", "--until=160000"]),
         ):
-            out = io.StringIO()
-            with contextlib.redirect_stdout(out):
-                self.assertEqual(tool.main([str(top / trace), *words]), 0)
-            self.assertEqual(out.getvalue(), (top / picture).read_text())
-
-    def test_against_sums_over_all_spans(self):
-        """Random traces: each period has what the overlaps with all spans sum up to, and is judged by them."""
-        for seed in range(40):
-            chance = random.Random(seed)
-            runs, blocks, at = [], [], 0
-            start = at = chance.randint(0, 9)
-            while at < 300:
-                kind, length = chance.choice(("run", "block", "wait")), chance.randint(1, 25)
-                {"run": runs, "block": blocks, "wait": []}[kind].append((at, at + length))
-                at += length
-            period, budget, end = chance.randint(3, 40), 3, at
-            server = tool.Server(period, budget, False)
-            periods = tool.Periods(tool.View(0, end), server, start)
-            for first, last, take in sorted([(*span, periods.run) for span in runs] + [(*span, periods.block) for span in blocks], key=lambda span: span[0]):
-                take(first, last)
-            periods.end(end)
-            self.assertFalse(periods.is_band)
-            over = lambda spans, a, b: sum(max(0, min(d, b) - max(c, a)) for c, d in spans)
-            told = []
-            for a in range(start, end, period):
-                b, got = a + period, over(runs, a, min(a + period, end))
-                short = b <= end and got < budget and over(blocks, a, b) == 0
-                told.append((a, b, got, tool.SHORT if short else tool.OVER if got > budget else None, b <= end))
-            self.assertEqual(periods.boxes, told, seed)
+            self.assertEqual(run("host", "timeline", top / trace, *words), (0, (top / picture).read_text(), ""))
 
     def test_nanoseconds(self):
         rows = ["0,cpu0,start,A", "0,cpu0,run,A", "60000,cpu0,stop,", "100000,,end,"]
@@ -109,7 +77,8 @@ class Periods(Case):
 
 class Parts(Case):
     """--from, --until and --around."""
-    ROWS = ["0,cpu0,start,A", *(f"{100 * i + (0 if run else 20)},cpu0,{'run,A' if run else 'stop,'}" for i in range(20) for run in (1, 0)), "2000,,end,"]
+    TURNS = ((f"{100 * i},cpu0,run,A", f"{100 * i + 20},cpu0,stop,") for i in range(20))
+    ROWS = ["0,cpu0,start,A", *itertools.chain(*TURNS), "2000,,end,"]
 
     def test_from_and_until(self):
         status, picture, _ = self.run_tool(self.ROWS, "--from=350", "--until=620", parts=[part("A", 100, 20)])
@@ -155,8 +124,7 @@ class Dense(Case):
         """A core that is never idle, on which each VCPU has its turn in each period; the first a little more, once."""
         rows = [f"0,cpu0,start,{name}" for name in names]
         turn = period // len(names)
-        for place in range(count):
-            rows += [f"{place * period + i * turn},cpu0,run,{name}" for i, name in enumerate(names)]
+        rows += [f"{place * period + i * turn},cpu0,run,{name}" for place in range(count) for i, name in enumerate(names)]
         return rows + [f"{count * period},,end,"]
 
     def test_a_busy_core_is_drawn_as_busy(self):
@@ -173,22 +141,18 @@ class Dense(Case):
 
     def test_the_band_of_a_column(self):
         """4400 periods of 10 in 440 columns: in the first column the ten periods got 1 to 10, in the others 5 each."""
-        view, server = tool.View(0, 44000), tool.Server(10, 5, True)
-        periods = tool.Periods(view, server, 0)
-        self.assertTrue(periods.is_band)
+        drawn, periods = self.drawn(tool.View(0, 44000), tool.Server(10, 5, True))
+        self.assertTrue(drawn.is_band)
         for place in range(4400):
-            periods.run(10 * place, 10 * place + (place + 1 if place < 10 else 5))
+            periods.take(True, 10 * place, 10 * place + (place + 1 if place < 10 else 5))
         periods.end(44000)
-        self.assertEqual(periods.columns, [list(range(1, 11))] + [[5] * 10] * 439)
-        self.assertEqual(periods.broken, [{tool.SHORT}] + [set()] * 439)
-        self.assertEqual(periods.counts, {tool.SHORT: 4, tool.OVER: 0})
-        self.assertEqual(periods.boxes, [])
+        self.assertEqual(drawn.columns, [list(range(1, 11))] + [[5] * 10] * 439)
+        self.assertEqual(drawn.broken, [{"short"}] + [set()] * 439)
+        self.assertEqual((drawn.counts, drawn.boxes), ({"short": 4, "over": 0}, []))
 
     def test_boxes_and_bands(self):
         """A period of 3 pixels is a box, and one of less is in a band."""
-        server = tool.Server(3, 1, False)
-        self.assertFalse(tool.Periods(tool.View(0, 880), server, 0).is_band)
-        self.assertTrue(tool.Periods(tool.View(0, 881), server, 0).is_band)
+        self.assertEqual([tool.Drawn(tool.View(0, length), tool.Server(3, 1)).is_band for length in (880, 881)], [False, True])
 
     def test_what_is_told_of_a_band(self):
         status, picture, _ = self.run_tool(self.busy(5000, ["A", "B"]), parts=[part("A", 1000, 600), part("B", 1000, 400)])
@@ -221,7 +185,8 @@ class Dense(Case):
         rows = ["0,cpu0,start,A", "900000000,cpu0,run,A", "900000007,cpu0,stop,", "900000100,,end,"]
         status, picture, _ = self.run_tool(rows, "--from=899999980", parts=[part("A", 10, 3, True)])
         self.assertEqual(status, 0)
-        self.assertEqual([text for text in self.texts(picture) if "/" in text and "below" not in text], ["0/3 short"] * 2 + ["7/3"] + ["0/3 short"] * 9)
+        told = [text for text in self.texts(picture) if "/" in text and "below" not in text]
+        self.assertEqual(told, ["0/3 short"] * 2 + ["7/3"] + ["0/3 short"] * 9)
 
 
 class Names(Case):
@@ -270,9 +235,9 @@ class Colours(unittest.TestCase):
     def test_all_are_told_apart(self):
         for first, second in itertools.combinations(tool.COLOURS, 2):
             self.assertGreater(self.apart(first, second), 25, (first, second))
-        for first, second in itertools.combinations([tool.SHORT, tool.OVER, tool.BLOCKED], 2):
+        for first, second in itertools.combinations(tool.COLOUR_OF.values(), 2):
             self.assertGreater(self.apart(first, second), 25, (first, second))
-        for first, second in itertools.product(tool.COLOURS, [tool.SHORT, tool.OVER, tool.BLOCKED, "#ffffff"]):
+        for first, second in itertools.product(tool.COLOURS, [*tool.COLOUR_OF.values(), "#ffffff"]):
             self.assertGreater(self.apart(first, second), 15, (first, second))
 
     def test_red_and_green_of_before_were_not(self):
@@ -282,26 +247,17 @@ class Colours(unittest.TestCase):
 class Budgets(Case):
     ROWS = ["0,cpu0,start,A", "0,cpu0,run,A", "60,cpu0,stop,", "100,,end,"]
 
-    def pretended(self, text, status):
-        """A program that answers so."""
-        path = self.trace.with_name("program")
-        path.write_text(f"#!/bin/sh\ncat <<'END'\n{text}\nEND\nexit {status}\n")
-        path.chmod(0o755)
-        return str(path)
-
     def test_a_budget_that_was_left_out_is_asked_of_the_program(self):
-        asked = self.pretended("verdict=yes\npart A period=100 budget=45 computed\nwitness A budget=44 start=44", 0)
+        asked = self.room.answering("verdict=yes\npart A period=100 budget=45 computed\nwitness A budget=44 start=44\n")
         status, picture, err = self.run_tool(self.ROWS, f"--program={asked}", parts=[part("A", 100)])
-        self.assertEqual((status, err), (0, ""))
-        self.assertIn("60/45 over", self.texts(picture))
+        self.assertEqual((status, "60/45 over" in self.texts(picture), err), (0, True, ""))
         status, picture, _ = self.run_tool(self.ROWS, f"--program={asked}", "--budget=A=70", parts=[part("A", 100)])
         self.assertIn("60/70 short", self.texts(picture))
 
     def test_where_the_program_has_none(self):
-        asked = self.pretended("verdict=no\noverfull part A at=7", 1)
+        asked = self.room.answering("verdict=no\noverfull part A at=7\n", 1)
         status, picture, err = self.run_tool(self.ROWS, f"--program={asked}", parts=[part("A", 100)])
-        self.assertEqual(status, 0)
-        self.assertIn("verdict=no overfull part A at=7 (status 1)", err)
+        self.assertEqual((status, err), (0, f"{self.system}: admit gives no budgets: verdict=no overfull part A at=7 (status 1)\n"))
         self.assertIn("60/?", self.texts(picture))
 
     def test_the_program_itself(self):
@@ -330,25 +286,18 @@ class Refusals(Case):
         self.assertIn(cause, err)
 
     def test_rows_that_break_the_rules(self):
+        """As tools/host split refuses them, which its tests go through; here the VCPUs and cores are those that the trace names."""
         start, end = "0,cpu0,start,A", "9,,end,"
-        self.refused(3, "wake of A, which is not blocked", start, "5,cpu0,wake,A", end)
-        self.refused(4, "block of A, which is blocked", start, "5,cpu0,block,A", "6,cpu0,block,A", end)
-        self.refused(4, "run of A, which is blocked", start, "5,cpu0,block,A", "6,cpu0,run,A", end)
-        self.refused(4, "block of A, which has its core", start, "5,cpu0,run,A", "6,cpu0,block,A", end)
-        self.refused(3, "a second start of A", start, "5,cpu0,start,A", end)
-        self.refused(2, "run of A, which was not started", "5,cpu0,run,A", end)
-        self.refused(3, "run of A on cpu1", start, "5,cpu1,run,A", end)
-        self.refused(3, "stop of cpu0, and nothing has it", start, "5,cpu0,stop,", end)
-        self.refused(4, "time falls from 5 to 4", start, "5,cpu0,run,A", "4,cpu0,stop,", end)
-        self.refused(3, "`sleep` is no word of a trace", start, "5,cpu0,sleep,A", end)
-        self.refused(3, "not four fields", start, "5,cpu0,run", end)
-        self.refused(3, "not four fields", start, "x,cpu0,run,A", end)
-        self.refused(3, "more than 13 digits", start, "9" * 5000 + ",cpu0,run,A", end)
-        self.refused(3, "no row of a trace", start, "5,cpu0,run," + "A" * 140_000, end)
-        self.refused(3, "a `run` with this core and this VCPU", start, "5,cpu0,run,", end)
+        for line, cause, *rows in (
+            (3, "NotBlocked: A is not blocked", start, "5,cpu0,wake,A"), (2, "NotStarted: A was not started", "5,cpu0,run,A"),
+            (3, "WrongCore: A stands on cpu0", start, "5,cpu1,run,A"), (3, "CoreIdle: nothing has the core", start, "5,cpu0,stop,"),
+            (3, "BadRow: a row has four fields", start, "5,cpu0,run"), (3, "OutOfRange: ", start, "9" * 5000 + ",cpu0,run,A"),
+            (3, "BadRow: a line of more than", start, "5,cpu0,run," + "A" * 140_000),
+        ):
+            self.refused(line, cause, *rows, end)
 
     def test_what_is_no_trace(self):
-        self.refused(1, "no trace", "0,,end,", head="at,core,event,vcpu")
+        self.refused(1, "BadHeader", "0,,end,", head="at,core,event,vcpu")
         self.refused(None, "its last row is no `end`", "0,cpu0,start,A")
         status, _, err = self.run_tool(["0,,end,"], "--system=/nowhere/system.toml")
         self.assertEqual((status, err), (1, "/nowhere/system.toml: No such file or directory\n"))
@@ -356,7 +305,7 @@ class Refusals(Case):
     def test_what_the_format_lets_pass(self):
         """Quotes, line ends of both kinds, empty lines, and a byte order mark; and a pipe."""
         text = '\ufeffat,core,what,vcpu\r\n\r\n0,"cpu0",start,A\r\n5,cpu0,run,A\n6,cpu0,run,A\n\n9,,end,\r\n\r\n'
-        ended = subprocess.run([sys.executable, "-B", str(top / "tools/timeline"), "-"], input=text.encode(), capture_output=True)
+        ended = subprocess.run([sys.executable, "-B", str(top / "tools/host"), "timeline", "-"], input=text.encode(), capture_output=True)
         self.assertEqual((ended.returncode, ended.stderr), (0, b""))
         self.assertIn(b">A</text>", ended.stdout)
 

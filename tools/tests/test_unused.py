@@ -1,15 +1,10 @@
-"""Tests of tools/unused: what calls what, by crates of a few lines, beside pages that name it or not; and of the repository."""
-import contextlib
-import io
-import pathlib
-import tempfile
+"""tools/gate unused: what calls what, by crates of a few lines, beside pages that name it or not; and the repository."""
 import unittest
 
-from load import load
+from support import Checkout, run
 
-tool = load("unused")
 CRATES = {
-    "base": """\
+    "base/src/lib": """\
 pub fn twice(x: u64) -> u64 {
     2 * x
 }
@@ -19,7 +14,7 @@ pub fn settle(x: u64) -> u64 {
     x
 }
 """,
-    "low": """\
+    "low/src/lib": """\
 //! A crate.
 mod more;
 pub use base::twice;
@@ -45,7 +40,9 @@ pub fn unused(x: u64) -> u64 {
     helper(x)
 }
 
-fn helper(x: u64) -> u64 { x }
+fn helper(x: u64) -> u64 {
+    x
+}
 
 fn settle(x: u64) -> u64 {
     x
@@ -99,13 +96,13 @@ impl Shape for Circle {
     }
 }
 """,
-    "low/more": """\
+    "low/src/more": """\
 // of a name that is not imported where it is said
 pub fn value(x: u64) -> u64 {
     x
 }
 """,
-    "rtadmit": """\
+    "rtadmit/src/lib": """\
 use low::{reached, Square};
 
 fn main(rt: HostRuntime) -> ExitCode {
@@ -114,7 +111,7 @@ fn main(rt: HostRuntime) -> ExitCode {
     low::twice(square.area())
 }
 """,
-    "low_tests": """\
+    "low_tests/src/lib": """\
 use low::unused;
 
 fn a_test() {
@@ -139,64 +136,44 @@ PAGE = """\
 GOOD = "| `low`, `rtadmit` | `unused`, `Square::corners`; `Circle`, `value`, `unused_too` | others |"
 
 
-class Unused(unittest.TestCase):
-    def told(self, row, status, *words):
+class Unused(Checkout):
+    def unused(self, row, *words):
         """What is said of the crates above, beside a page with a row more."""
-        with tempfile.TemporaryDirectory() as room:
-            top = pathlib.Path(room)
-            (top / "docs").mkdir()
-            (top / "docs" / "architecture.md").write_text(PAGE.format(row=row))
-            (top / "crates.txt").write_text("# crates\nbase:\nlow: base\nlow_tests: low\nrtadmit: low\n")
-            for name, text in CRATES.items():
-                crate, _, module = name.partition("/")
-                (top / "crates" / crate / "src").mkdir(parents=True, exist_ok=True)
-                (top / "crates" / crate / "src" / f"{module or 'lib'}.rt").write_text(text)
-            before, tool.top = tool.top, top
-            out = io.StringIO()
-            try:
-                with contextlib.redirect_stdout(out):
-                    self.assertEqual(tool.main(list(words)), status)
-            finally:
-                tool.top = before
-        return out.getvalue().splitlines()
+        self.write({f"crates/{name}.rt": text for name, text in CRATES.items()})
+        self.write({"docs/work/architecture.md": PAGE.format(row=row), "crates.txt": "base:\nlow: base\nlow_tests: low\nrtadmit: low\n"})
+        return self.told("unused", *words)
 
     def test_list(self):
         """A private function that only such ones call is listed, and need not be named."""
-        told = self.told(GOOD, 0, "--list")
-        self.assertEqual([line.removesuffix(" tests").split()[-1] for line in told],
-                         ["settle", "unused", "helper", "unused_too", "corners", "new", "area", "value"])
-        self.assertEqual(told[1], "low                crates/low/src/lib.rt:22 3 pub unused tests")
-        self.assertEqual(told[2], "low                crates/low/src/lib.rt:26 1 helper")
+        status, told = self.unused(GOOD, "--list")
+        names = ["settle", "unused", "helper", "unused_too", "corners", "new", "area", "value"]
+        self.assertEqual((status, [line.removesuffix(" tests").split()[-1] for line in told]), (0, names))
+        self.assertEqual(told[1:3], [f"low                crates/low/src/lib.rt:{end}" for end in ("22 3 pub unused tests", "26 3 helper")])
 
-    def test_all_is_named(self):
-        self.assertEqual(self.told(GOOD, 0), [])
-
-    def test_what_is_not_named(self):
-        told = self.told(GOOD.replace(", `value`", "").replace("`unused`, ", ""), 1)
-        ends = ["lib.rt:22: no command reaches unused", "lib.rt:26: no command reaches helper", "more.rt:2: no command reaches value"]
-        self.assertEqual(told, [f"crates/low/src/{end}, and docs/architecture.md does not name it" for end in ends])
-
-    def test_what_is_named_and_is_not_there(self):
-        told = self.told(GOOD + "\n| `low` | `gone`, `twice` | nobody |", 1)
-        self.assertEqual(told, [f"docs/architecture.md names {name}, which `low` does not have" for name in ("gone", "twice")])
-
-    def test_what_is_named_and_reached(self):
+    def test_what_is_named(self):
         """`settle` of `low` is not that of `base`."""
-        told = self.told(GOOD + "\n| `low` | `Square`, `settle` | others |", 1)
-        self.assertEqual(told, [
-            "docs/architecture.md names Square, and a command reaches crates/low/src/lib.rt:42",
-            "docs/architecture.md names Square, and a command reaches crates/low/src/lib.rt:52",
-            "docs/architecture.md names settle, and a command reaches crates/low/src/lib.rt:28",
-        ])
+        unnamed = {"lib.rt:22": "unused", "lib.rt:26": "helper", "more.rt:2": "value"}
+        reached = {44: "Square", 54: "Square", 30: "settle"}
+        rows = [
+            (GOOD, []),
+            (GOOD.replace(", `value`", "").replace("`unused`, ", ""),
+             [f"crates/low/src/{at}: no command reaches {it}, and docs/work/architecture.md does not name it" for at, it in unnamed.items()]),
+            (GOOD + "\n| `low` | `gone`, `twice` | nobody |",
+             [f"docs/work/architecture.md names {it}, which `low` does not have" for it in ("gone", "twice")]),
+            (GOOD + "\n| `low` | `Square`, `settle` | others |",
+             [f"docs/work/architecture.md names {name}, and a command reaches crates/low/src/lib.rt:{line}" for line, name in reached.items()]),
+        ]
+        for row, told in rows:
+            with self.subTest(row):
+                self.assertEqual(self.unused(row), (int(bool(told)), told))
 
-    def test_the_repository(self):
-        """The page and the program agree."""
-        out = io.StringIO()
-        with contextlib.redirect_stdout(out):
-            self.assertEqual(tool.main(["--list"]), 0)
-        listed = out.getvalue().splitlines()
-        self.assertTrue(any(line.split()[4:] == ["run_tree", "tests"] for line in listed))
-        self.assertFalse(any(line.startswith(("rt_top ", "rtadmit ")) for line in listed))
+
+class Repository(unittest.TestCase):
+    def test_the_page_and_the_program_agree(self):
+        status, out, _ = run("gate", "unused", "--list")
+        self.assertEqual(status, 0)
+        self.assertTrue(any(line.split()[4:] == ["run_tree", "tests"] for line in out.splitlines()))
+        self.assertFalse(any(line.startswith(("rt_top ", "rtadmit ")) for line in out.splitlines()))
 
 
 if __name__ == "__main__":

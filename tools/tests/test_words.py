@@ -1,4 +1,4 @@
-"""The manual page and the completion for bash know the same words as docs/formats.md, and complete what stands at each place."""
+"""The manual page and the completion for bash know the same words as docs/use/formats.md, and complete what stands at each place."""
 import os
 import pathlib
 import re
@@ -9,8 +9,8 @@ import unittest
 
 from support import command_line, run, top
 
-FORMATS = (top / "docs/formats.md").read_text()
-MANUAL = (top / "docs/rtadmit.1").read_text()
+FORMATS = (top / "docs/use/formats.md").read_text()
+MANUAL = (top / "docs/use/rtadmit.1").read_text()
 COMPLETION = top / "tools/rtadmit.bash-completion"
 FORMS = re.search(r"^    usage: (.*)$", FORMATS, re.M)[1].removeprefix("rtadmit ").split(" | ")
 COMMANDS = [form.split()[0] for form in FORMS]
@@ -33,7 +33,7 @@ class Manual(unittest.TestCase):
     def test_it_is_set_without_a_warning(self):
         if shutil.which("groff") is None:
             self.skipTest("no groff")
-        ran = subprocess.run(["groff", "-man", "-Tutf8", "-ww", top / "docs/rtadmit.1"], capture_output=True, text=True)
+        ran = subprocess.run(["groff", "-man", "-Tutf8", "-ww", top / "docs/use/rtadmit.1"], capture_output=True, text=True)
         self.assertEqual((ran.returncode, ran.stderr), (0, ""))
         self.assertIn("virtual machines", " ".join(ran.stdout.split()))
 
@@ -73,7 +73,8 @@ class Completion(unittest.TestCase):
     def test_files_of_each_place(self):
         systems = ["a b.toml", "a.toml", "more"]
         kinds = {"FILE": systems, "CERT": ["c.cert", "c.json", "more"], "PATTERN": ["early", "late", "worst"]}
-        kinds.update(dict.fromkeys(("RELEASES", "WORKLOAD", "TRACE", "SCRIPT", "GUESTS"), ["more", "t.csv"]), SLOTS=[], N=[], PART=[], DEADLINE=[], LOW=[], HIGH=[])
+        kinds |= dict.fromkeys(("RELEASES", "WORKLOAD", "TRACE", "SCRIPT", "GUESTS"), ["more", "t.csv"])
+        kinds |= dict.fromkeys(("SLOTS", "N", "PART", "DEADLINE", "LOW", "HIGH"), [])
         for form in FORMS:
             words = form.split()
             for place in range(1, len(words)):

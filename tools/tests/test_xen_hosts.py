@@ -149,7 +149,7 @@ class ToXl(unittest.TestCase):
     def test_who_is_exposed_is_said_beside_the_calls(self):
         status, out, err = self.call(answer=ANSWER + "isolated Domain-0-1 last=9 of=9\nexposed audio-0 by=block\n")
         self.assertEqual((status, out.count("xl sched-rtds")), (0, 2))
-        self.assertEqual(err, "host.toml: audio-0 is exposed (by=block): its budget is not proved safe when others of its core sleep (docs/no.md)\n")
+        self.assertEqual(err, "host.toml: audio-0 is exposed (by=block): its budget is not proved safe when others of its core sleep (docs/use/no.md)\n")
 
     def test_the_names_of_domains(self):
         named, other = "# --name 'a b=audio'\n# --name c=gone\n" + HOST, Room(self).file("other", "# --name 'a b=audio'\n")

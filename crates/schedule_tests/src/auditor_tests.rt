@@ -40,7 +40,7 @@ fn found_of_events(
     }
 }
 
-/// Each other finding and fault stands in a table of `cases/`.
+/// Each other finding and fault stands in a table of `tests/cases/`.
 const CASES: [(&str, Result<Finding, TraceFault>); 3] = [
     (SHARED, Ok(Finding::Yes { periods: 2 })),
     (TOO_FEW, Ok(SHORT)),
@@ -53,11 +53,8 @@ fn a_text_is_audited_as_its_events(rt: HostRuntime) {
     let plan = planned(&rt, rt.alloc(), &sys);
     for (text, found) in &CASES {
         let told = audit_bytes(rt.alloc(), &sys, &plan, text.as_bytes());
-        assert!(rt; told == *found, "{text}");
-        assert!(rt;
-            found_of_events(rt.alloc(), &sys, &plan, text) == told,
-            "{text}"
-        );
+        assert!(rt; told == *found);
+        assert!(rt; found_of_events(rt.alloc(), &sys, &plan, text) == told);
     }
 }
 
@@ -104,9 +101,9 @@ fn a_text_is_audited_in_any_pieces(rt: HostRuntime) {
         let checked = check_bytes(rt.alloc(), &sys, text);
         for at in 0..text.len() {
             let told = found_in_two(rt.alloc(), &sys, &plan, text, at).expect(&rt, MEMORY);
-            assert!(rt; told == *found, "{at}");
+            assert!(rt; told == *found);
             let told = checked_in_two(rt.alloc(), &sys, text, at).expect(&rt, MEMORY);
-            assert!(rt; told == checked, "{at}");
+            assert!(rt; told == checked);
         }
     }
 }

@@ -51,7 +51,7 @@ pub fn planned(rt: &impl Abort, alloc: Global, sys: &System) -> Plan
 {
     match assign(alloc, sys) {
         Ok(plan) => plan,
-        Err(refusal) => panic!(rt; "{refusal:?}"),
+        Err(_) => panic!(rt; "no budgets"),
     }
 }
 
@@ -105,5 +105,5 @@ pub fn told_run(alloc: Global, run: &[Option<u32>]) -> Result<String, AllocError
 }
 
 pub fn expect(rt: &impl Abort, told: String, wanted: &str) {
-    assert_eq!(rt; told.as_str(), wanted);
+    assert!(rt; told.as_str() == wanted);
 }

@@ -7,8 +7,6 @@ mod auditor_tests;
 #[cfg(test)]
 mod bulk_host_tests;
 #[cfg(test)]
-mod bulk_run_tests;
-#[cfg(test)]
 mod guest_sched_tests;
 #[cfg(test)]
 mod helpers;

@@ -18,7 +18,7 @@ fn workload(rt: &impl Abort, alloc: Global, sys: &System, rows: &str) -> Vec<Wak
 {
     match read_workload(alloc, sys, rows.as_bytes()) {
         Ok(wakes) => wakes,
-        Err(fault) => panic!(rt; "{fault:?}"),
+        Err(_) => panic!(rt; "no workload"),
     }
 }
 
@@ -71,7 +71,7 @@ const EXTRA: &str = "at,core,what,vcpu
 10,,end,
 ";
 
-/// More runs stand in `cases/`.
+/// More runs stand in `tests/cases/`.
 #[test]
 fn extra_time_comes_after_budgets(rt: HostRuntime) {
     let rows = "at,vcpu,what\n0,A,start\n0,B,start\n";

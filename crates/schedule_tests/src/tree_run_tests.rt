@@ -30,7 +30,7 @@ fn no_jobs(rt: &impl Abort, alloc: Global, sys: &System) -> Vec<Vec<Job>>
             assert!(rt; jobs.len() == sys.parts().len());
             jobs
         }
-        Err(fault) => panic!(rt; "{fault:?}"),
+        Err(_) => panic!(rt; "no releases"),
     }
 }
 

@@ -1,13 +1,9 @@
-use crate::helpers::{MEMORY, add_task, inner, name, task};
-use admission_session::{
-    Answer, Edit, EditFault, Leaf, Op, Row, Session, copy_system, is_new_leaf,
-};
-use compose_tree::compose;
-use slot_model::{Sched, Short};
+use crate::helpers::{MEMORY, add_task, inner, name, system_of, task};
+use admission_session::{Answer, Edit, EditFault, Leaf, Op, Row, Session};
+use slot_model::Sched;
 use std::alloc::Global;
 use std::process::Abort;
-use system_file::read_system;
-use tree_model::{Parent, Place, Refusal};
+use tree_model::Parent;
 
 /// On a full core: a leaf, and a middle server with two leaves.
 const HOST: &str = "format = 1
@@ -38,9 +34,8 @@ task = [{name = 't', period = 400, work = 40}]
 ";
 
 fn open(rt: &impl Abort, alloc: Global) -> Session {
-    let sys = read_system(alloc, HOST.as_bytes()).expect(rt, "a system file");
-    let copy = copy_system(alloc, &sys).expect(rt, MEMORY);
-    Session::open(alloc, copy).ok().expect(rt, "admitted")
+    let sys = system_of(rt, alloc, HOST);
+    Session::open(alloc, sys).ok().expect(rt, "admitted")
 }
 
 /// A leaf with an open budget, whose one task asks for `work` slots of 400.
@@ -66,58 +61,6 @@ fn addition(rt: &impl Abort, alloc: Global, text: &str, work: u64) -> Edit {
 
 fn removal(rt: &impl Abort, alloc: Global, text: &str) -> Edit {
     Edit::Remove(name(rt, alloc, text))
-}
-
-/// The plan of the session is the one that its whole system gets.
-fn assert_composed(rt: &impl Abort, alloc: Global, session: &Session) {
-    let plan = session.plan(alloc).expect(rt, MEMORY);
-    let composed = compose(alloc, session.system());
-    let composed = composed.ok().expect(rt, "admitted");
-    assert!(rt; plan.budgets() == composed.budgets());
-}
-
-fn applied(rt: &impl Abort, session: &mut Session, edit: Edit) -> Answer {
-    session.apply(edit).expect(rt, MEMORY)
-}
-
-#[test]
-fn edits_are_answered_and_the_plan_is_that_of_the_whole_system(rt: HostRuntime) {
-    let alloc = rt.alloc();
-    let mut session = open(&rt, alloc);
-    assert_composed(&rt, alloc, &session);
-    let answer = applied(&rt, &mut session, removal(&rt, alloc, "w"));
-    assert!(rt; matches!(answer, Answer::Done));
-    assert_composed(&rt, alloc, &session);
-    let answer = applied(&rt, &mut session, Edit::Change(leaf(&rt, alloc, "y", 60)));
-    assert!(rt; matches!(answer, Answer::Done));
-    assert_composed(&rt, alloc, &session);
-}
-
-#[test]
-fn an_edit_is_refused_or_denied(rt: HostRuntime) {
-    let alloc = rt.alloc();
-    let mut session = open(&rt, alloc);
-    let answer = applied(&rt, &mut session, removal(&rt, alloc, "w"));
-    assert!(rt; matches!(answer, Answer::Done));
-    let answer = applied(&rt, &mut session, Edit::Change(leaf(&rt, alloc, "y", 60)));
-    assert!(rt; matches!(answer, Answer::Done));
-    let answer = applied(&rt, &mut session, addition(&rt, alloc, "y", 1));
-    assert!(rt; matches!(answer, Answer::Refused(EditFault::NameTaken)));
-    match applied(&rt, &mut session, addition(&rt, alloc, "z", 400)) {
-        Answer::Denied { refusal, system } => {
-            assert!(rt; system.parts().len() == 4);
-            assert!(rt; refusal == Refusal::Overfull(Place::Core(0), Short::At(100)));
-        }
-        _ => panic!(rt; "not denied"),
-    }
-    assert!(rt; session.into_system().parts().len() == 3);
-}
-
-#[test]
-fn a_leaf_whose_name_is_taken_is_no_new_one(rt: HostRuntime) {
-    let session = open(&rt, rt.alloc());
-    let part = session.system().parts().first().expect(&rt, "a part");
-    assert!(rt; !is_new_leaf(session.system(), part));
 }
 
 #[test]

@@ -47,11 +47,11 @@ fn are_pairs(rt: &impl Abort, alloc: Global, text: &str, pairs: &[(&str, &str)])
     let mut records = Records::new(alloc, text.as_bytes());
     for (first, second) in pairs {
         let found = advances(rt, &mut records) && is_pair(&records, first, second);
-        assert!(rt; found, "{first} {second}");
+        assert!(rt; found);
     }
     // and the end of the text is read twice
     let is_over = !advances(rt, &mut records) && !advances(rt, &mut records);
-    assert!(rt; is_over, "{text}");
+    assert!(rt; is_over);
 }
 
 /// With a mark at the front, an empty line, quotes, and no line end at the end.
@@ -114,7 +114,7 @@ fn is_written(rt: &impl Abort, alloc: Global, text: &[u8], wanted: &str) {
     for to in 0..text.len() {
         for from in 0..to {
             let written = in_three(alloc, text, from, to).expect(rt, MEMORY);
-            assert!(rt; written.text.as_slice() == wanted.as_bytes(), "{from} {to}");
+            assert!(rt; written.text.as_slice() == wanted.as_bytes());
         }
     }
 }
@@ -151,7 +151,7 @@ const FIELDS: [(&str, bool); 8] = [
 #[test]
 fn plain_numbers_have_no_sign_and_no_leading_zero(rt: HostRuntime) {
     for (field, plain) in &FIELDS {
-        assert!(rt; is_plain(field.as_bytes()) == *plain, "{field}");
+        assert!(rt; is_plain(field.as_bytes()) == *plain);
     }
 }
 
@@ -169,7 +169,7 @@ const NUMBERS: [(&str, Plain); 8] = [
 #[test]
 fn plain_numbers_have_a_limit(rt: HostRuntime) {
     for (field, plain) in &NUMBERS {
-        assert!(rt; plain_number(field.as_bytes(), 1000) == *plain, "{field}");
+        assert!(rt; plain_number(field.as_bytes(), 1000) == *plain);
     }
 }
 
@@ -182,6 +182,6 @@ const LIMITED: [(&str, Option<u64>); 3] = [
 #[test]
 fn numbers_have_a_limit(rt: HostRuntime) {
     for (field, found) in &LIMITED {
-        assert!(rt; number(field.as_bytes(), 1000) == *found, "{field}");
+        assert!(rt; number(field.as_bytes(), 1000) == *found);
     }
 }

@@ -1,21 +1,20 @@
 //! What the tests of several crates make.
 
-ghost use Rattle.tree_model.specs.Plans.{IsPlan};
-
-use compose_tree::assign;
 use slot_model::{Name, Sched, Task};
 use std::alloc::Global;
 use std::process::Abort;
 use system_file::read_system;
-use tree_model::{Named, Parent, Part, Plan, System};
+use tree_model::{Named, Parent, Part, System};
 
 pub const OUT: &str = "out of range";
 
 pub const MEMORY: &str = "out of memory";
 
 pub fn name(rt: &impl Abort, alloc: Global, text: &str) -> Name {
-    let made = Name::new(alloc, text.as_bytes()).expect(rt, MEMORY);
-    made.expect(rt, OUT)
+    match Name::new(alloc, text.as_bytes()) {
+        Ok(Some(name)) => name,
+        _ => panic!(rt; "no name"),
+    }
 }
 
 pub fn task(rt: &impl Abort, period: u64, deadline: u64, work: u64) -> Task {
@@ -51,20 +50,7 @@ pub fn add_task(rt: &impl Abort, alloc: Global, part: &mut Part, text: &str, tas
     part.tasks.push(named).expect(rt, MEMORY);
 }
 
-/// A file of one full core under earliest deadline first begins like this.
-pub const HEAD: &str = "format = 1\n[[core]]\nname = 'cpu0'\nsched = 'edf'\n";
-
 /// The system of a file.
 pub fn system_of(rt: &impl Abort, alloc: Global, text: &str) -> System {
     read_system(alloc, text.as_bytes()).expect(rt, "a system file")
-}
-
-/// The budgets that its file gives.
-pub fn planned(rt: &impl Abort, alloc: Global, sys: &System) -> Plan
-    ensures { IsPlan sys.now result }
-{
-    match assign(alloc, sys) {
-        Ok(plan) => plan,
-        Err(refusal) => panic!(rt; "{refusal:?}"),
-    }
 }

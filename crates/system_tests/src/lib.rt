@@ -1,13 +1,9 @@
-//! Tests of systems, with the budgets up their trees, and of all files that are read and printed:
-//! systems, traces, releases, scripts and certificates.
+//! Tests of what no command shows of systems and of files: calls that no command reaches, and how
+//! a text is taken.
 #![tactic(auto)]
 
 #[cfg(test)]
 mod admission_session_tests;
-#[cfg(test)]
-mod certificate_tests;
-#[cfg(test)]
-mod compose_tree_tests;
 #[cfg(test)]
 mod csv_rows_tests;
 #[cfg(test)]
@@ -15,15 +11,7 @@ mod helpers;
 #[cfg(test)]
 mod outside_tests;
 #[cfg(test)]
-mod placement_tests;
-#[cfg(test)]
-mod print_tests;
-#[cfg(test)]
-mod release_file_tests;
-#[cfg(test)]
 mod script_file_tests;
-#[cfg(test)]
-mod system_file_tests;
 #[cfg(test)]
 mod toml_items_tests;
 #[cfg(test)]

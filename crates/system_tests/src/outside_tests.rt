@@ -1,11 +1,10 @@
 ghost use Rattle.std.specs.Prelude.{◌≤◌, None};
 
-use crate::helpers::MEMORY;
+use crate::helpers::{MEMORY, name};
 use outside::{
     DiskStore, MemorySink, MemoryStore, ReadFault, Sink, SinkFault, StdoutSink, Store, StoreFault,
     WriteFault, read_all, write_all,
 };
-use slot_model::Name;
 use std::alloc::Global;
 use std::io::BufWriter;
 use std::process::Abort;
@@ -13,20 +12,14 @@ use std::{fs, io};
 
 const TEXT: &[u8] = b"format = 1";
 
-fn name(rt: &impl Abort, alloc: Global, text: &[u8]) -> Name {
-    Name::new(alloc, text)
-        .expect(rt, MEMORY)
-        .expect(rt, "no name")
-}
-
 // A store of the file `sys` of ten bytes and the file `empty`.
 fn two_files(rt: &impl Abort, alloc: Global, bite: usize, fails: Vec<u64>) -> MemoryStore
     requires { 1 ≤ bite }
 {
     let text = TEXT.to_vec(alloc).expect(rt, MEMORY);
     let files = [
-        (name(rt, alloc, b"sys"), text),
-        (name(rt, alloc, b"empty"), Vec::new(alloc)),
+        (name(rt, alloc, "sys"), text),
+        (name(rt, alloc, "empty"), Vec::new(alloc)),
     ];
     let files = Vec::from_array(alloc, files).expect(rt, MEMORY);
     MemoryStore::new(files, bite, fails)
@@ -39,17 +32,17 @@ fn a_file_is_read_whole_or_past_its_limit(rt: HostRuntime) {
         let mut store = two_files(&rt, alloc, bite, Vec::new(alloc));
         for limit in [10, 11, 100_000] {
             let bytes = read_all(alloc, &mut store, "sys", limit).expect(&rt, "read");
-            assert_eq!(rt; bytes.as_slice(), TEXT, "bite {bite}, limit {limit}");
+            assert!(rt; bytes.as_slice() == TEXT);
         }
         let bytes = read_all(alloc, &mut store, "empty", 0).expect(&rt, "read");
-        assert_eq!(rt; bytes.len(), 0, "bite {bite}");
+        assert!(rt; bytes.is_empty());
         for (name, limit, want) in [
             ("sys", 9, ReadFault::TooLong),
             ("sys", 0, ReadFault::TooLong),
             ("other", 9, ReadFault::Absent),
         ] {
             let fault = read_all(alloc, &mut store, name, limit).err();
-            assert_eq!(rt; fault, Some(want), "bite {bite}, {name} up to {limit}");
+            assert!(rt; fault == Some(want));
         }
     }
 }
@@ -63,7 +56,7 @@ fn each_failing_call_of_a_store_is_told(rt: HostRuntime) {
         let mut store = two_files(&rt, alloc, 5, fails);
         let want = if k < 4 { Some(ReadFault::Failed) } else { None };
         let fault = read_all(alloc, &mut store, "sys", 100).err();
-        assert_eq!(rt; fault, want, "call {k}");
+        assert!(rt; fault == want);
     }
 }
 
@@ -82,8 +75,8 @@ fn a_sink_keeps_what_was_written_before_it_failed(rt: HostRuntime) {
         let fails = vec![in alloc; fails].expect(&rt, MEMORY);
         let mut sink = MemorySink::new(alloc, room, bite, fails).expect(&rt, MEMORY);
         let written = write_all(&mut sink, b"verdict=yes\n").is_ok();
-        assert_eq!(rt; written, want.len() == 12, "room {room}, bite {bite}");
-        assert_eq!(rt; sink.written(), want.as_bytes(), "room {room}, bite {bite}");
+        assert!(rt; written == (want.len() == 12));
+        assert!(rt; sink.written() == want.as_bytes());
     }
 }
 
@@ -134,8 +127,8 @@ fn the_largest_file_is_read(rt: HostRuntime) {
             taken: 0,
         };
         let read = read_all(alloc, &mut store, "zeros", 67_108_864).map(|bytes| bytes.len());
-        assert_eq!(rt; read, want);
-        assert_eq!(rt; store.taken, size as u64);
+        assert!(rt; read == want);
+        assert!(rt; store.taken == size as u64);
     }
 }
 
@@ -144,7 +137,7 @@ fn a_disk_names_its_causes(rt: HostRuntime) {
     let alloc = rt.alloc();
     let mut store = DiskStore::new(rt);
     let bytes = read_all(alloc, &mut store, "/proc/sys/kernel/ostype", 100).expect(&rt, "read");
-    assert_eq!(rt; bytes.as_slice(), b"Linux\n".as_slice());
+    assert!(rt; bytes.as_slice() == b"Linux\n".as_slice());
     for (name, want) in [
         ("/dev/null", None),
         ("/no such file", Some(ReadFault::Absent)),
@@ -153,33 +146,28 @@ fn a_disk_names_its_causes(rt: HostRuntime) {
         ("/dev/zero", Some(ReadFault::TooLong)),
     ] {
         let fault = read_all(alloc, &mut store, name, 100_000).err();
-        assert_eq!(rt; fault, want, "{name}");
+        assert!(rt; fault == want);
     }
 }
 
 #[test]
 fn an_output_writes_or_fails(rt: HostRuntime) {
     let mut out = StdoutSink::new(io::writer(&rt));
-    assert_eq!(rt; out.write(b""), Ok(0));
+    assert!(rt; out.write(b"") == Ok(0));
     for (name, want) in [
         ("/dev/null", Ok(())),
         ("/dev/full", Err(WriteFault::Failed)),
     ] {
         let mut sink = StdoutSink::new(fs::create(&rt, name).expect(&rt, "open"));
-        assert_eq!(rt; write_all(&mut sink, b"verdict=yes\n"), want, "{name}");
+        assert!(rt; write_all(&mut sink, b"verdict=yes\n") == want);
     }
     // a writer that keeps what it takes till it is flushed
     let full = fs::create(&rt, "/dev/full").expect(&rt, "open");
     let kept = BufWriter::new(rt.alloc(), full).expect(&rt, MEMORY);
-    assert_eq!(rt;
-        StdoutSink::new(kept).write(b"verdict=yes\n"),
-        Err(SinkFault::Failed)
-    );
+    let written = StdoutSink::new(kept).write(b"verdict=yes\n");
+    assert!(rt; written == Err(SinkFault::Failed));
     // a writer that takes nothing
     let mut room = [0u8; 7];
     let mut sink = StdoutSink::new(room.as_mut_slice());
-    assert_eq!(rt;
-        write_all(&mut sink, b"verdict=yes\n"),
-        Err(WriteFault::Failed)
-    );
+    assert!(rt; write_all(&mut sink, b"verdict=yes\n") == Err(WriteFault::Failed));
 }

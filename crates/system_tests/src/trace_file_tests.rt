@@ -69,7 +69,7 @@ fn traces_are_printed(rt: HostRuntime) {
         (ODD, ODD),
     ] {
         let printed = printed(&rt, rt.alloc(), &sys, text);
-        assert!(rt; printed.as_slice() == wanted.as_bytes(), "{text}");
+        assert!(rt; printed.as_slice() == wanted.as_bytes());
     }
 }
 
@@ -81,19 +81,13 @@ fn both_versions_tell_the_same(rt: HostRuntime) {
         let trace = read_trace(alloc, &sys, text.as_bytes())
             .ok()
             .expect(&rt, "a trace");
-        assert!(rt; trace.events() == shared().as_slice(), "{text}");
-        assert!(rt;
-            check_events(alloc, &sys, trace.events()) == Ok(()),
-            "{text}"
-        );
-        assert!(rt;
-            check_bytes(alloc, &sys, text.as_bytes()) == Ok(()),
-            "{text}"
-        );
+        assert!(rt; trace.events() == shared().as_slice());
+        assert!(rt; check_events(alloc, &sys, trace.events()) == Ok(()));
+        assert!(rt; check_bytes(alloc, &sys, text.as_bytes()) == Ok(()));
     }
 }
 
-/// Each fault stands in a table of `cases/`.
+/// Each fault stands in a table of `tests/cases/`.
 #[test]
 fn the_first_fault_is_told(rt: HostRuntime) {
     let sys = system_of(&rt, rt.alloc(), HOST);

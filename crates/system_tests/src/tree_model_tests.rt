@@ -57,7 +57,7 @@ fn tasks_at(
     place: Place,
     into: &mut [Task],
 ) -> Option<usize> {
-    assert_eq!(rt; budgets.len(), sys.parts().len());
+    assert!(rt; budgets.len() == sys.parts().len());
     assert!(rt; are_in_period(sys, budgets));
     assert_node(rt, sys, place);
     tasks_of(sys, budgets, place, into)
@@ -170,7 +170,7 @@ const PARENTS: [(Parent, Parent, bool); 4] = [
 fn a_parent_stands_earlier_and_has_no_tasks(rt: HostRuntime) {
     for (first, second, want) in PARENTS {
         let found = are_system(&rt, rt.alloc(), first, "db", second, &[1]);
-        assert!(rt; found == want, "{first:?} {second:?}");
+        assert!(rt; found == want);
     }
 }
 
@@ -185,6 +185,6 @@ const NAMES: [(&str, &[u64], bool); 4] = [
 fn names_differ_and_parts_are_not_empty(rt: HostRuntime) {
     for (name, works, want) in NAMES {
         let found = are_system(&rt, rt.alloc(), CORE, name, CORE, works);
-        assert!(rt; found == want, "{name}");
+        assert!(rt; found == want);
     }
 }

@@ -57,8 +57,8 @@ version: {origin.version}
 logic: {origin.gate.logic}
 gate: passed over this commit; its last line: {origin.gate.line}
 
-README.md says what the program answers, docs/claims.md what is proved of it; docs/guide.md goes from a Xen host to a verdict;
-docs/formats.md has the files, the words and the statuses. `examples/compare` runs every example here, and ends with 0
+README.md says what the program answers, docs/proof/claims.md what is proved of it; docs/use/guide.md goes from a Xen host to a verdict;
+docs/use/formats.md has the files, the words and the statuses. `examples/compare` runs every example here, and ends with 0
 where each prints what its page says. Pages and folders of README.md that are not here (crates/, tools/gate) stand
 in the repository at this commit.
 """

@@ -3,7 +3,7 @@
 WORDS are the program's: tools/host ask admit FILE --json. Without --json and --annotate its text is printed as it is. The status is the
 program's; it is 1 as well where this tool refuses, with the cause on standard error, and 2 where the words are wrong.
 
---json prints an object by docs/answer.schema.json: the words, the status with its name in docs/formats.md, the verdict or null, and the
+--json prints an object by docs/use/answer.schema.json: the words, the status with its name in docs/use/formats.md, the verdict or null, and the
 other lines of the text, each as an object. Its `kind` is the first word of the line, its words that stand alone have keys as `name`, and
 KEY=VALUE is what it says; a whole number is a number, and `-` is null. In an answer of `session` the number in front is `row`. What is no
 such text has a key of its own: `events` of `rtds`, `system` of `place`, `certificate` of `certify`.
@@ -42,7 +42,7 @@ def objects(lines):
     for line in lines:
         told = line_object(line)
         if told is None:
-            raise Refused(None, None, f"the program answers a line that docs/formats.md does not have: {line}")
+            raise Refused(None, None, f"the program answers a line that docs/use/formats.md does not have: {line}")
         yield told
 
 

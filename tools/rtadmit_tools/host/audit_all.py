@@ -12,12 +12,12 @@ standard input, and each is asked about as its name comes. It prints
                                                            for each broken period, by its moment in the recording
     vcpu NAME begun=N judged=N short=N over=N least_ns=X most_ns=Y, for each part on a core
 
-Each period counts once; docs/audit.md says what is counted by whom. Where the broken periods of a piece that are looked up here are not
+Each period counts once; docs/use/audit.md says what is counted by whom. Where the broken periods of a piece that are looked up here are not
 as many as the program counts, or the first is another, there is no answer. A program without `tally` is asked `audit`: then the first
 broken period of each piece is told, and no counts.
 
---parallel prints for each piece a line that asks about it, and keeps the answer beside it, as PIECE.told. GNU parallel runs such lines, also
-on other machines that have the folder. --told takes these answers in place of asking.
+--parallel prints for each piece a line that asks about it, and keeps the answer beside it, as PIECE.told. GNU parallel runs such lines,
+also on other machines that have the folder. --told takes these answers in place of asking.
 
 The status is 0 on yes, 1 on no, 2 where the words are wrong, and 3 where there is no answer, with the cause on standard error: a piece
 that is missing or that the program does not judge; a table that breaks its form. A recording that was cut off, whose table has no last
@@ -38,6 +38,7 @@ from ..trace import Host, Reader, Server, judged, opened
 from .split import TABLE
 
 REFUSED = 3
+COUNTS = {"begun": sum, "judged": sum, "short": sum, "over": sum, "least_ns": min, "most_ns": max}
 STATUS_LINE = re.compile(r"status (\d+)\n\Z")
 
 
@@ -50,8 +51,9 @@ class Piece:
     periods: dict = field(default_factory=dict)
 
 
-def table_rows(path):
-    """The rows of a table behind its header, each with its line."""
+def pieces_of(folder):
+    """The pieces of a folder by name, and whether the recording was cut to its end."""
+    pieces, whole, path = {}, False, folder / "table.csv"
     with open(path, newline="") as file:
         rows = csv.reader(file)
         if next(rows, None) != TABLE:
@@ -60,20 +62,14 @@ def table_rows(path):
             numbers = [3] if row[:1] == ["end"] else [1, 2, 3, 5, 6]
             if len(row) != 7 or not all(row[at].isascii() and row[at].isdecimal() for at in numbers):
                 raise Refused(path, rows.line_num, "no row of a table of tools/host split")
-            yield rows.line_num, row
-
-
-def pieces_of(folder):
-    """The pieces of a folder by name, and whether the recording was cut to its end."""
-    pieces, whole, path = {}, False, folder / "table.csv"
-    for line, row in table_rows(path):
-        if whole:
-            raise Refused(path, line, "a row behind the last one")
-        whole = row[0] == "end"
-        if not whole:
+            if whole:
+                raise Refused(path, rows.line_num, "a row behind the last one")
+            whole = row[0] == "end"
+            if whole:
+                continue
             piece = pieces.setdefault(row[0], Piece(folder / row[0], int(row[1])))
             if row[4] in piece.periods or int(row[1]) != piece.from_ns:
-                raise Refused(path, line, f"another row of {row[4]} in {row[0]}, or another beginning of it")
+                raise Refused(path, rows.line_num, f"another row of {row[4]} in {row[0]}, or another beginning of it")
             piece.periods[row[4]] = int(row[6])
     return pieces, whole
 
@@ -111,43 +107,21 @@ def broken_in(piece, servers):
     return sorted(found)
 
 
-@dataclass
-class Counts:
-    """What is counted of a VCPU, over all pieces so far."""
-
-    begun: int = 0
-    judged: int = 0
-    short: int = 0
-    over: int = 0
-    least: list = field(default_factory=list)
-    most: list = field(default_factory=list)
-
-    def add(self, periods, found):
-        """Adds a line of `tally`; of those that begin, the piece's own periods count."""
-        self.begun += periods
-        self.judged, self.short, self.over = self.judged + int(found[3]), self.short + int(found[4]), self.over + int(found[5])
-        self.least = [min(self.least + [int(found[6])])] if found[6] != "-" else self.least
-        self.most = [max(self.most + [int(found[7])])] if found[7] != "-" else self.most
-
-    def line(self, name):
-        least, most = (*self.least, "-")[0], (*self.most, "-")[0]
-        return f"vcpu {name} begun={self.begun} judged={self.judged} short={self.short} over={self.over} least_ns={least} most_ns={most}"
-
-
 class Audit:
     """The answers about pieces, summed up."""
 
     def __init__(self, path, program):
         self.path, self.program, self.system = path, program, read_system(path)
         self.nodes = [part for part in self.system.parts() if self.system.nodes[part.parent].kind == "core"]
-        self.counts = {node.name: Counts() for node in self.nodes}
+        self.counts = {node.name: {key: [] for key in COUNTS} for node in self.nodes}
         self.command = "audit" if program.ask("tally", path, os.devnull).status == 2 else "tally"
         self.broken, self.periods, self.known = [], 0, None
 
     def servers(self):
         """The servers with their budgets, asked of the program once they are needed."""
         if self.known is None:
-            self.known = {node.name: Server(node.period, budget_of(self.system, node.name, self.program), node.extra) for node in self.nodes}
+            budgets = [budget_of(self.system, node.name, self.program) for node in self.nodes]
+            self.known = {node.name: Server(node.period, budget, node.extra) for node, budget in zip(self.nodes, budgets)}
         return self.known
 
     def ask(self, piece):
@@ -168,27 +142,34 @@ class Audit:
         self.broken += self.looked_up(piece, lines, told) if self.command == "tally" else [told]
 
     def count(self, piece, lines):
+        """Adds the lines of `tally`; of the periods that begin, the piece's own count."""
         if [found[1] for found in lines] != list(self.counts):
             raise Refused(piece.path, None, "the program does not count each part that stands on a core")
         for found in lines:
             own = piece.periods.get(found[1], 0)
             if int(found[2]) < own or (own == 0) != (int(found[2]) == 0):
                 raise Refused(piece.path, None, f"the program counts {found[2]} periods of {found[1]}, and the table has {own}")
-            self.counts[found[1]].add(own, found)
+            for key, text in zip(COUNTS, [str(own), *found.groups()[2:]]):
+                self.counts[found[1]][key] += [int(text)] if text != "-" else []
 
     def looked_up(self, piece, lines, told):
         """The broken periods of a piece, where they are those that the program counts and tells."""
         broken = broken_in(piece, self.servers())
         kinds = [(period.name, period.what) for period in broken]
-        if any((kinds.count((line[1], "short")), kinds.count((line[1], "over"))) != (int(line[4]), int(line[5])) for line in lines) or broken[0] != told:
+        fits = all(kinds.count((line[1], what)) == int(line[place]) for line in lines for place, what in ((4, "short"), (5, "over")))
+        if not fits or broken[0] != told:
             cause = f"{told.what} {told.name} from_ns={told.from_ns - piece.from_ns} got_ns={told.got_ns} of_ns={told.of_ns}"
             raise Refused(piece.path, None, f"the broken periods that are found in it are not those that the program tells: {cause}")
         return broken
 
     def text(self, whole):
         """The whole answer."""
-        told = ["verdict=no", *map(str, sorted(self.broken))] if self.broken else [f"verdict={'yes' if whole else 'unknown'}", f"periods={self.periods}"]
-        told += [counts.line(name) for name, counts in self.counts.items() if self.command == "tally"]
+        told = ["verdict=no", *map(str, sorted(self.broken))]
+        if not self.broken:
+            told = [f"verdict={'yes' if whole else 'unknown'}", f"periods={self.periods}"]
+        for name, counts in self.counts.items() if self.command == "tally" else ():
+            numbers = (f"{key}={how(counts[key]) if counts[key] or how is sum else '-'}" for key, how in COUNTS.items())
+            told.append(f"vcpu {name} {' '.join(numbers)}")
         return "".join(f"{line}\n" for line in told)
 
 
@@ -226,19 +207,19 @@ def asked(audit, folder, names, jobs):
 def add_words(parser):
     parser.add_argument("file", metavar="FILE", help="the system file")
     parser.add_argument("pieces", metavar="PIECES", help="the folder of tools/host split; - for names of pieces on standard input")
-    parser.add_argument("--jobs", type=int, default=os.cpu_count(), metavar="N", help="so many pieces at a time; one a processor where it is not said")
+    parser.add_argument("--jobs", type=int, default=os.cpu_count(), metavar="N", help="so many pieces at a time; else one a processor")
     parser.add_argument("--parallel", action="store_true", help="prints the work as lines for GNU parallel, and asks nothing")
     parser.add_argument("--told", action="store_true", help="takes the answers that such lines kept")
     add_program(parser)
     parser.set_defaults(refuse=parser.error)
 
 
-def run(given, program=None):
+def run(given):
     if given.jobs < 1:
         given.refuse("--jobs is at least 1")
     if given.parallel and given.told or given.pieces == "-" and (given.parallel or given.told):
         given.refuse("--parallel and --told are each of a folder that is whole")
-    audit = Audit(given.file, program or program_of(given.program))
+    audit = Audit(given.file, program_of(given.program))
     folder = None if given.pieces == "-" else pathlib.Path(given.pieces)
     if given.parallel:
         return "".join(parallel_line(audit, piece) for piece in pieces_of(folder)[0].values())

@@ -7,7 +7,7 @@ work and that of all which rank above it, up to the window in which it must be d
 TASK; or of the one that ranks last.
 
 The budget and the window that is short are those of `admit FILE`, and they are marked. The curves are computed here, by the formulas of
-docs/certificate.md; where they do not say the same of the marked window, there is no picture. Where the part itself is refused, its curve
+docs/use/certificate.md; where they do not say the same of the marked window, there is no picture. Where the part itself is refused, its curve
 is that of the budget that is too small, or of all slots. Where something else is refused, no budget is told, and there is no picture of
 it. A second plot is close around the marked window, where the first does not show what is missing. More windows than a picture has
 columns are drawn at every half column.

@@ -4,7 +4,7 @@ GATE holds what the gate printed (`bash .ci/run | tee GATE`). Its last line, by 
 the gate left, the commit and the logic; the program that is asked has to have that sum. OUT must not be there yet; it becomes a folder with
 
     system.toml, trace.csv    copies of FILE and TRACE
-    certificate.json          what `certify` writes, where it is a yes (docs/certificate.md)
+    certificate.json          what `certify` writes, where it is a yes (docs/use/certificate.md)
     verdicts.txt              each command that was asked, its answer and its status; of commands that the program does not have, that
     report.html               the page of tools/host report
     version.txt               the answer of `version`, and the sum, the commit and the logic of the program

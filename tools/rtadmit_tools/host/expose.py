@@ -1,6 +1,6 @@
 """A workload by which a guest is short although it never blocks in that period: what `exposed NAME by=block` of `isolate` means.
 
-FILE is the system file and NAME a part that `isolate` tells as exposed by=block. OUT gets the workload (docs/formats.md). It is that of
+FILE is the system file and NAME a part that `isolate` tells as exposed by=block. OUT gets the workload (docs/use/formats.md). It is that of
 the proof: let r be twice the longest period of the core. Each VCPU of the core starts in its first period, so that one of its periods ends
 where the period of NAME ends that begins at r, or a slot before where it stands behind NAME in the file. It blocks a slot later, and wakes
 at r. So all others wake with NAME, with whole budgets, in periods that end no later than its own.

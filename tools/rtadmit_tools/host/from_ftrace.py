@@ -6,7 +6,7 @@ sched_switch and sched_wakeup, in perf's text sched_waking in its place, and tak
 over. WHO is the number or the name of a thread, N the number of a processor. The trace goes to standard output without --out. It counts
 nanoseconds where the recording does, else microseconds, from the first `start` on.
 
-docs/audit.md says which events become which rows, and when a VCPU starts: only where a period of it begins for sure. The periods, and the
+docs/use/audit.md says which events become which rows, and when a VCPU starts: only where a period of it begins for sure. The periods, and the
 budgets that the threads have at least, are those of the system file (--system). What a thread does before its start is no row.
 
 The `end` is where a mark says that the recording was stopped, at --until, or else at the last event: then standard error says so, since
@@ -38,10 +38,12 @@ from dataclasses import dataclass, field
 
 from ..command_line import Refused, pairs
 from ..system_file import NAME
-from ..trace import LONGEST_LINE, LONGEST_NS, opened, parts_of
+from ..trace import LONGEST_NS, lines_of, opened, parts_of
 
 # while a recording goes on: how late an event may come, and how long a row may wait to be written
 LATEST_NS, WAITING_NS = 10_000_000, 100_000_000
+# the longest of a kernel, in microseconds
+TICK = 10_000
 SECONDS = re.compile(r"(\d{1,12})(?:\.(\d{1,9}))?")
 COUNTS = re.compile(r"# entries-in-buffer/entries-written: (\d{1,12})/(\d{1,12})")
 LOST = re.compile(r"(?:\S+:\s+)?CPU:(\d{1,12}) (\[.*(?:LOST|DROPPED).*\])|.*\[(\d{1,12})\]\s+\d+\.\d+:\s+(PERF_RECORD_LOST.*)")
@@ -53,7 +55,8 @@ PERF = re.compile(r".+?\s\d+(?:/\d+)?\s+\[(\d{1,12})\]\s+(\d{1,12})\.(\d{6}|\d{9
 NO_CLOCK = re.compile(r".+?-\d+\s+(?:\([ \d-]+\)\s+)?\[\d+\]\s+(?:\S+\s+)?\d+:\s+\w+:.*|#.*\bclock:? +(?:counter|x86-tsc)\b.*")
 # each as the kernel prints it, and as trace-cmd does
 SWITCHES = (
-    re.compile(r"prev_comm=(.*) prev_pid=(\d{1,12}) prev_prio=-?\d+ prev_state=(\S+) ==> next_comm=(.*) next_pid=(\d{1,12}) next_prio=-?\d+"),
+    re.compile(r"prev_comm=(.*) prev_pid=(\d{1,12}) prev_prio=-?\d+ prev_state=(\S+) ==> "
+               r"next_comm=(.*) next_pid=(\d{1,12}) next_prio=-?\d+"),
     re.compile(r"(.*):(\d{1,12}) \[-?\d+\] (\S+) ==> (.*):(\d{1,12}) \[-?\d+\]"),
 )
 WAKEUPS = (
@@ -71,7 +74,7 @@ KINDS = {
 # how files begin that are no text of events, and what to do with them
 PACKED = {"gzip": b"\x1f\x8b", "xz": b"\xfd7zXZ\0", "zstd": b"\x28\xb5\x2f\xfd", "bzip2": b"BZh"}
 LOOKS = {
-    **{magic: f"it is packed by {by}: unpack it first, as by `{by} -dc FILE | tools/host from-ftrace - ..`" for by, magic in PACKED.items()},
+    **{magic: f"it is packed by {by}: unpack it, as by `{by} -dc FILE | tools/host from-ftrace - ..`" for by, magic in PACKED.items()},
     b"\x17\x08\x44tracing": "it is trace-cmd's own file: print it as text by `trace-cmd report -t FILE`",
     b"PERFILE2": "it is perf's own file: print it as text by `perf script --ns --show-lost-events -i FILE`",
     b"at,core,what,vcpu": "it is a trace already, which the auditor takes as it is",
@@ -79,20 +82,12 @@ LOOKS = {
 }
 
 
-class Wrong(Exception):
-    """The recording has no trace: a cause, and the line."""
-
-    def __init__(self, line, cause):
-        super().__init__(cause)
-        self.line = line
-
-
-class Gap(Wrong):
+class Gap(Exception):
     """An event is missing. `sure` is the last event before the gap up to which all is known, or None where nothing is."""
 
     def __init__(self, line, cause, sure):
-        super().__init__(line, cause)
-        self.sure = sure
+        super().__init__(cause)
+        self.line, self.sure = line, sure
 
 
 @dataclass(slots=True)
@@ -109,25 +104,21 @@ class Event:
 
 @dataclass(slots=True)
 class Vcpu:
-    """What is known of a thread of the map so far. Its state is "asleep", "ready", "running", or None where it is not known."""
+    """What is known of a thread of the map so far. Its state is "asleep", "ready", "running", or None where it is not known. Its server has
+    its period and the longest time that its deadline may be away."""
 
     name: str
     period: int | None = None
-    budget: int | None = None
+    owed: int | None = None
     pid: int | None = None
     cpu: int | None = None
     state: str | None = None
     since: Event | None = None
-    longest_run: int = 0
     longest_sleep: int = 0
     # where its budget comes anew, by the timer that was started when it was used up, and from when on a wake-up begins a period
     due: int | None = None
     fresh: int | None = None
     started: bool = False
-
-    def owed(self):
-        """The longest time for which its budgets may be used up at once, by a run over them; None where that is not known."""
-        return self.period * (1 + self.longest_run // self.budget) if self.budget else None
 
 
 # Reading
@@ -138,21 +129,13 @@ def at_of(seconds, fraction):
     return int(seconds) * 1_000_000_000 + int(fraction.ljust(9, "0"))
 
 
-def numbered_lines(file):
-    number = 0
-    while line := file.readline(LONGEST_LINE):
-        number += 1
-        if len(line) == LONGEST_LINE:
-            raise Wrong(number, f"a line of more than {LONGEST_LINE - 1} bytes: no text of a trace buffer")
-        yield number, line.rstrip("\r\n")
-
-
-def refuse_by_looks(file):
+def refuse_by_looks(path, file):
     """Refuses a file that begins like something else than the text of events."""
     front = file.buffer.peek(4096)[:4096]
     advice = next((advice for magic, advice in LOOKS.items() if front.startswith(magic)), None)
     if advice or b"\0" in front:
-        raise Wrong(None, f"no text of a trace buffer: {advice or 'it has zero bytes; print it as text by the tool that recorded it'}")
+        advice = advice or "it has zero bytes; print it as text by the tool that recorded it"
+        raise Refused(path, None, f"no text of a trace buffer: {advice}")
 
 
 class Reader:
@@ -160,49 +143,41 @@ class Reader:
     "lost", with its cause as text: it lasted up to the event that follows, so it has that one's moment. Events that come up to
     `latest` nanoseconds late are put in order."""
 
-    def __init__(self, lines, latest=0):
-        self.lines, self.latest, self.promised, self.seen, self.last = lines, latest, 0, 0, None
+    def __init__(self, path, lines, latest=0):
+        self.path, self.lines, self.latest, self.promised, self.seen, self.last = path, lines, latest, 0, 0, None
 
     def events(self):
         since = 0
-        for event, losses in self.in_order():
+        for *_, event in self.in_order():
             if event.at < since:
-                raise Wrong(event.line, "time falls: this event is earlier than the one before")
+                raise Refused(self.path, event.line, "time falls: this event is earlier than the one before")
             since = event.at
-            for lost in losses:
-                lost.at = event.at
-                yield lost
             yield event
         if self.last is None:
-            raise Wrong(None, "no event")
+            raise Refused(self.path, None, "no event")
 
     def in_order(self):
-        """The events, each with the losses before it, and held back as long as an earlier one may come."""
-        held = []
-        for event, losses in self.as_read():
-            heapq.heappush(held, (event.at, event.line, event, losses))
-            while held and held[0][0] + self.latest <= event.at:
-                yield heapq.heappop(held)[2:]
-        while held:
-            yield heapq.heappop(held)[2:]
-
-    def as_read(self):
-        """The events, each with the losses that are told before it. What was lost behind the last one has its moment."""
-        losses = []
+        """The events, held back as long as an earlier one may come."""
+        held, losses = [], []
         for line, text in self.lines:
             event = self.event(line, text)
             if event is None:
                 continue
+            losses.append(event)
             if event.kind == "lost":
-                losses.append(event)
                 continue
             self.seen += 1
             if self.last is None or event.at >= self.last.at:
                 self.last = event
-            yield event, losses
+            for lost in losses:
+                lost.at = event.at
+                heapq.heappush(held, (event.at, event.line, lost.line, lost))
             losses = []
-        for lost in losses:
-            yield lost, []
+            while held and held[0][0] + self.latest <= event.at:
+                yield heapq.heappop(held)
+        while held:
+            yield heapq.heappop(held)
+        yield from (((lost,) for lost in losses) if self.last else ())
 
     def event(self, line, text):
         """The event of a line, or None where it has none."""
@@ -216,7 +191,8 @@ class Reader:
     def other(self, line, text):
         """What a line tells that has no event: None, or that events were lost."""
         if NO_CLOCK.fullmatch(text):
-            raise Wrong(line, "its clock counts no time: `echo mono > trace_clock` (`trace-cmd record -C mono`), and record anew")
+            advice = "`echo mono > trace_clock` (`trace-cmd record -C mono`), and record anew"
+            raise Refused(self.path, line, f"its clock counts no time: {advice}")
         counts, lost, begun = COUNTS.match(text), LOST.fullmatch(text), BEGUN.fullmatch(text)
         cpu, cause = None, None
         if counts:
@@ -227,17 +203,8 @@ class Reader:
         elif begun:
             cause = f"processor {begun[1]} has none from before this line" if self.last else None
         elif not NO_EVENT.fullmatch(text):
-            raise Wrong(line, "no line of a trace buffer, of `trace-cmd report` or of `perf script`")
+            raise Refused(self.path, line, "no line of a trace buffer, of `trace-cmd report` or of `perf script`")
         return cause and Event(line, self.last.at if self.last else 0, cpu, "lost", f"events were lost: {cause}")
-
-
-def fields(event, forms):
-    """The fields of an event's text, in the first form that it has."""
-    for form in forms:
-        found = form.fullmatch(event.text)
-        if found:
-            return found.groups()
-    raise Wrong(event.line, f"no text of a {'sched_switch' if event.kind == 'switch' else 'sched_wakeup or migration'}")
 
 
 # From events to rows
@@ -245,8 +212,9 @@ def fields(event, forms):
 
 @dataclass
 class Map:
-    """What the words say: the cores by processor, the VCPUs by thread, and their servers by name, in nanoseconds."""
+    """What the words say: the recording, the cores by processor, the VCPUs by thread, and their servers by name (see servers_of)."""
 
+    path: str
     cores: dict
     threads: dict
     servers: dict = field(default_factory=dict)
@@ -255,15 +223,20 @@ class Map:
 class Host:
     """The threads and processors of the map, as of the events so far; `write` gets the rows that come of them, each with its line."""
 
-    def __init__(self, named, write, timers):
-        self.cores, self.write = named.cores, write
+    def __init__(self, named, write):
+        self.path, self.cores, self.write = named.path, named.cores, write
         self.threads = {who: Vcpu(name, *named.servers.get(name, ())) for who, name in named.threads.items()}
-        self.holders, self.seen, self.switched, self.event = {}, {}, {}, None
-        # the name of the thread that ran whenever a timer was started, or None where it is not always the same
-        self.timers = timers
+        # of each timer the name of the thread that ran whenever it was started, or None where it is not always the same
+        self.holders, self.seen, self.switched, self.timers, self.event = {}, {}, {}, {}, None
 
     def refuse(self, cause):
-        raise Wrong(self.event.line, cause)
+        raise Refused(self.path, self.event.line, cause)
+
+    def fields(self, forms):
+        """The fields of the event's text, in the first form that it has."""
+        found = next(filter(None, (form.fullmatch(self.event.text) for form in forms)), None)
+        kind = "sched_switch" if forms is SWITCHES else "sched_wakeup or migration"
+        return found.groups() if found else self.refuse(f"no text of a {kind}")
 
     def missing(self, cause, sure):
         raise Gap(self.event.line, f"{cause}: an event is missing", sure)
@@ -297,6 +270,8 @@ class Host:
         if vcpu.state != "asleep":
             return
         vcpu.state = "ready"
+        if vcpu.due is not None and vcpu.due <= self.event.at:
+            vcpu.due = None
         if vcpu.since is not None:
             vcpu.longest_sleep = max(vcpu.longest_sleep, self.event.at - vcpu.since.at)
         if vcpu.started:
@@ -337,13 +312,10 @@ class Host:
         self.switched[cpu] = self.event
         if before is None:
             return
-        ran_from = before.since.at if before.state == "running" else self.first.at
-        before.longest_run = max(before.longest_run, self.event.at - ran_from)
         before.state, before.since = "asleep" if asleep else "ready", self.event
-        if asleep:
-            owed = before.owed()
-            known = before.due or self.event.at if self.timers else self.event.at + (owed or 0)
-            before.fresh = owed and known + owed
+        if asleep and before.owed is not None:
+            known = before.due or self.event.at if self.timers else self.event.at + before.owed
+            before.fresh = known + before.owed
         if asleep and before.started:
             self.row(cpu, "block", before.name)
 
@@ -364,11 +336,12 @@ class Host:
     def timer(self, found):
         """The kernel starts the timer of a thread whose budget is used up, while that thread has its processor. Another timer of this
         kind belongs to no thread, and is started in whichever has the processor."""
-        holder = self.holders.get(self.event.cpu)
-        owner = self.timers.setdefault(found[1], holder and holder.name)
-        if not holder or owner != holder.name:
+        if self.event.cpu not in self.holders:
+            return
+        holder = self.holders[self.event.cpu]
+        if not holder or self.timers.setdefault(found[1], holder.name) != holder.name:
             self.timers[found[1]] = None
-        elif holder.period and 0 < int(found[2]) - self.event.at <= (holder.owed() or holder.period):
+        elif holder.owed is not None and 0 < int(found[2]) - self.event.at <= holder.owed:
             holder.due = int(found[2])
 
     def renew(self):
@@ -380,22 +353,20 @@ class Host:
 
     def take(self, event):
         """Takes one event."""
-        if self.event is None:
-            self.first = event
         self.event = event
         self.renew()
         if event.kind == "switch":
-            name, pid, state, next_name, next_pid = fields(event, SWITCHES)
+            name, pid, state, next_name, next_pid = self.fields(SWITCHES)
             before, after = self.vcpu(pid, name), self.vcpu(next_pid, next_name)
             if before or after or self.holders.get(event.cpu):
                 self.switch(before, after, event.cpu, not state.startswith("R"))
         elif event.kind == "wakeup":
-            name, pid, cpu = fields(event, WAKEUPS)
+            name, pid, cpu = self.fields(WAKEUPS)
             vcpu = self.vcpu(pid, name)
             if vcpu is not None:
                 self.wake(vcpu, int(cpu))
         elif event.kind == "move":
-            name, pid, cpu, other = fields(event, MIGRATIONS)
+            name, pid, cpu, other = self.fields(MIGRATIONS)
             vcpu = self.vcpu(pid, name)
             if vcpu is not None and vcpu.started:
                 self.refuse(f"{vcpu.name} migrates from processor {cpu} to {other}")
@@ -413,24 +384,24 @@ def why_not(vcpu):
     if vcpu.fresh == 0:
         return "it slept throughout"
     cause = "no mark says where a period of it begins, and "
-    if not vcpu.owed():
+    if vcpu.owed is None:
         return cause + "its period or its budget is not known: give the system file by --system"
     seen = f"its longest was {vcpu.longest_sleep // 1000} us" if vcpu.longest_sleep else "it is seen to wake from none"
     return (
-        f"{cause}no sleep of it is long enough for one to begin behind it: {2 * vcpu.owed() // 1000} us are, which is twice its period, or more "
-        f"where it ran for more than its budget at once ({seen}): record with tools/host record, or with timer:hrtimer_start, or let it "
-        "sleep that long while the recording is on"
+        f"{cause}no sleep of it is so long that one begins behind it: {2 * vcpu.owed // 1000} us are ({seen}): record with tools/host "
+        "record, or with timer:hrtimer_start, or let it sleep that long while the recording is on"
     )
 
 
 @dataclass
 class Stretch:
-    """A part of the recording in which no event is missing: its first and its last event, its end, where its rows begin in the file, its
-    first start, and for each VCPU that starts in it the line that tells so."""
+    """A part of the recording in which no event is missing: its first and its last event, its end, whether no gap ends it, where its rows
+    begin in the file, its first start, and for each VCPU that starts in it the line that tells so."""
 
     first: Event
     last: Event
     end: int = 0
+    whole: bool = False
     place: int = 0
     begin: int | None = None
     starts: dict = field(default_factory=dict)
@@ -439,8 +410,8 @@ class Stretch:
         self.starts[name] = line
         self.begin = at if self.begin is None else self.begin
 
-    def close(self, last, end=None):
-        self.last, self.end = last, last.at if end is None else end
+    def close(self, last, end=None, whole=False):
+        self.last, self.end, self.whole = last, last.at if end is None else end, whole
         self.starts = {name: line for name, line in self.starts.items() if line <= last.line}
 
 
@@ -449,8 +420,8 @@ class Rows:
 
     latest = 0
 
-    def __init__(self, file, any_length=False):
-        self.file, self.any_length, self.residues = file, any_length, set()
+    def __init__(self, path, file, any_length=False):
+        self.path, self.file, self.any_length, self.residues = path, file, any_length, set()
 
     def open(self, stretch):
         self.file.write("\n")
@@ -466,7 +437,7 @@ class Rows:
         """Refuses a moment that a trace cannot hold."""
         if self.stretch.begin is not None and at - self.stretch.begin > LONGEST_NS and not self.any_length:
             cause = "a trace holds 1000 seconds from its first start, and this is later"
-            raise Wrong(line, f"{cause}: give --until, or --any-length for tools/host split")
+            raise Refused(self.path, line, f"{cause}: give --until, or --any-length for tools/host split")
 
     def told(self, stretches):
         """The lines of the traces of stretches. Moments count from the first row."""
@@ -482,7 +453,7 @@ class Rows:
 
 
 class Stream:
-    """The rows of traces, written as they come, in nanoseconds. Moments count from the first row. Of the traces the last alone has an end."""
+    """The rows of traces, written as they come, in nanoseconds. Moments count from the first row. One that a gap ends has no end."""
 
     latest = LATEST_NS
 
@@ -508,18 +479,18 @@ class Stream:
             self.written = at
 
     def told(self, stretches):
-        return [f"{self.stretch.end - self.first},,end,\n"] if self.stretch.end else []
+        return [f"{self.stretch.end - self.first},,end,\n"] if self.stretch.whole else []
 
 
 def translate(lines, named, rows, since=0, until=None, longest=False, missing=lambda gap: None):
     """Makes the rows that a recording's numbered lines tell, and tells each gap. Answers the stretches that have a trace, or the longest
     alone, and the last event where the last trace ends with it for want of anything that tells the end."""
-    reader, timers, stretches, host, stopped = Reader(lines, rows.latest), {}, [], None, None
+    reader, stretches, host, stopped = Reader(named.path, lines, rows.latest), [], None, None
 
     def begin(event):
         stretches.append(Stretch(event, event))
         rows.open(stretches[-1])
-        return Host(named, rows.write, timers)
+        return Host(named, rows.write)
 
     for event in reader.events():
         if stopped is not None or event.at < since or until is not None and event.at > until:
@@ -547,15 +518,15 @@ def translate(lines, named, rows, since=0, until=None, longest=False, missing=la
         last = event
         stopped = event.at if event.kind == "mark" and STOPPED_MARK.fullmatch(event.text) else None
     if reader.seen < reader.promised and not longest:
-        raise Wrong(None, f"lines were removed: its head tells {reader.promised} events, and {reader.seen} are there")
+        raise Refused(named.path, None, f"lines were removed: its head tells {reader.promised} events, and {reader.seen} are there")
     end = min((at for at in (stopped, until) if at is not None and at <= reader.last.at), default=None)
     if host:
-        stretches[-1].close(last, end)
+        stretches[-1].close(last, end, True)
     stretches = [stretch for stretch in stretches if stretch.starts]
     stretches = [max(stretches, key=lambda stretch: stretch.last.at - stretch.first.at)] if longest and stretches else stretches
-    for who, vcpu in (host or Host(named, rows.write, {})).threads.items():
+    for who, vcpu in (host or Host(named, rows.write)).threads.items():
         if not any(vcpu.name in stretch.starts for stretch in stretches):
-            raise Wrong(None, f"{vcpu.name} (thread {who}) has no start: {why_not(vcpu)}")
+            raise Refused(named.path, None, f"{vcpu.name} (thread {who}) has no start: {why_not(vcpu)}")
     return stretches, last if host and end is None and stretches[-1].last is last else None
 
 
@@ -586,12 +557,19 @@ def map_of(given):
             given.refuse(f"{name!r} is no name of 1 to 32 letters, digits, _ and -")
     if not all(cpu.isdecimal() for cpu in cores):
         given.refuse("N of --cpu N=CORE is the number of a processor")
-    return Map({int(cpu): core for cpu, core in cores.items()}, threads, servers_of(given.system, threads.values()) if given.system else {})
+    servers = servers_of(given.system, threads.values(), given.tick) if given.system else {}
+    return Map(given.recording, {int(cpu): core for cpu, core in cores.items()}, threads, servers)
 
 
-def servers_of(path, names):
-    """The period and the budget that a system file gives each VCPU of these names, in nanoseconds."""
-    parts = {part.name: (part.period * 1000, part.budget and part.budget * 1000) for part in parts_of(path)[1]}
+def server(period, budget, tick):
+    """The period of a server, in nanoseconds, and how far away its deadline may be: a period, and one more for each budget that it may
+    have run over at once, up to a tick; None where no budget is given. All are microseconds."""
+    return period * 1000, budget and period * 1000 * (1 + tick // budget)
+
+
+def servers_of(path, names, tick=TICK):
+    """The server of each VCPU of these names, by a system file."""
+    parts = {part.name: server(part.period, part.budget, tick) for part in parts_of(path)[1]}
     for name in names:
         if name not in parts:
             raise Refused(path, None, f"it has no part {name}")
@@ -599,49 +577,47 @@ def servers_of(path, names):
 
 
 def add_words(parser):
-    parser.add_argument("recording", metavar="RECORDING", help="what `trace`, `trace-cmd report`, `perf script` or `perf sched script` printed")
+    parser.add_argument("recording", metavar="RECORDING", help="the text of the buffer; - for standard input")
     parser.add_argument("--cpu", action="append", required=True, metavar="N=CORE", help="a processor, and its core in the system file")
     parser.add_argument("--thread", action="append", required=True, metavar="WHO=VCPU", help="a thread by number or name, and its part")
     parser.add_argument("--system", metavar="FILE", help="the system file, for the periods and the budgets of the VCPUs")
     parser.add_argument("--out", metavar="TRACE", help="gets the trace")
     parser.add_argument("--from", dest="since", type=moment, default=0, metavar="SECONDS", help="passes over what the recording has before")
     parser.add_argument("--until", type=moment, metavar="SECONDS", help="ends the trace there")
+    parser.add_argument("--tick", type=int, default=TICK, metavar="US",
+                        help=f"how long a thread may run over its runtime at once; {TICK} us where it is not said")
     parser.add_argument("--longest-whole", action="store_true", help="takes the longest stretch without a gap alone")
     length = parser.add_mutually_exclusive_group()
     length.add_argument("--any-length", action="store_true", help="the trace may pass 1000 seconds, for tools/host split")
-    length.add_argument("--as-it-comes", action="store_true", help="writes rows while the recording is read, of any length, for tools/host split")
+    length.add_argument("--as-it-comes", action="store_true", help="writes rows while it is read, of any length, for tools/host split")
     parser.set_defaults(refuse=parser.error)
 
 
-def say(given, line, text):
-    print(f"{given.recording}:{f'{line}:' if line else ''} {text}", file=sys.stderr)
+def say(given, text, line=""):
+    print(f"{given.recording}:{line}{':' if line else ''} {text}", file=sys.stderr)
 
 
 def run(given):
     if given.as_it_comes and given.longest_whole:
         given.refuse("--longest-whole is known once the recording has ended, and --as-it-comes writes before")
-    named = map_of(given)
+    named, gaps = map_of(given), []
     with contextlib.ExitStack() as stack:
-        file = stack.enter_context(opened(given.recording, "\n"))
-        whole = stack.enter_context(tempfile.TemporaryFile("w+"))
-        out = None if not given.as_it_comes else sys.stdout if given.out is None else stack.enter_context(open(given.out, "w"))
-        rows, gaps = Stream(out) if given.as_it_comes else Rows(whole, given.any_length), []
-        try:
-            refuse_by_looks(file)
-            stretches, last = translate(
-                numbered_lines(file), named, rows, given.since, given.until, given.longest_whole,
-                lambda gap: gaps.append(gap) or say(given, gap.line, gap))
-        except Wrong as wrong:
-            raise Refused(given.recording, wrong.line, wrong) from None
+        file, kept = stack.enter_context(opened(given.recording, "\n")), stack.enter_context(tempfile.TemporaryFile("w+"))
+        write_to = lambda: sys.stdout if given.out is None else stack.enter_context(open(given.out, "w"))
+        rows = Stream(write_to()) if given.as_it_comes else Rows(given.recording, kept, given.any_length)
+        refuse_by_looks(given.recording, file)
+        stretches, last = translate(
+            lines_of(given.recording, file), named, rows, given.since, given.until, given.longest_whole,
+            lambda gap: gaps.append(gap) or say(given, gap, gap.line))
         for stretch in stretches if gaps else ():
             without = "".join(f", without {name}" for name in named.threads.values() if name not in stretch.starts)
             lines = f"lines {stretch.first.line} to {stretch.last.line}"
-            say(given, None, f"whole from {shown(stretch.first.at)} until {shown(stretch.last.at)}, {lines}{without}")
+            say(given, f"whole from {shown(stretch.first.at)} until {shown(stretch.last.at)}, {lines}{without}")
         if last is not None:
-            say(given, last.line, "no mark says when the recording was stopped: the trace ends with the last event, and what waited to the end "
-                "may not be seen (docs/audit.md)")
+            say(given, "no mark says when the recording was stopped: the trace ends with the last event, and what waited to the end "
+                "may not be seen (docs/use/audit.md)", last.line)
         if len(stretches) > 1:
-            say(given, None, f"{len(stretches)} traces stand one behind another: tools/host split cuts them")
-        out = out or (sys.stdout if given.out is None else stack.enter_context(open(given.out, "w")))
+            say(given, f"{len(stretches)} traces stand one behind another: tools/host split cuts them")
+        out = rows.file if given.as_it_comes else write_to()
         out.writelines(rows.told(stretches))
         out.flush()

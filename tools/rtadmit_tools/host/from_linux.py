@@ -40,7 +40,7 @@ HEAD = [
 ]
 HINT = """no thread reserves time (SCHED_DEADLINE). To begin, write a file with a core for each processor and a part for each
 thread that is to reserve time, as examples/linux/tick.toml (those of KVM are called CPU 0/KVM and so on: ps -eLo tid,comm), without
-budgets; ask rtadmit admit, and let tools/host to-linux print the calls that reserve what it computes (docs/guide.md, "Linux and KVM")"""
+budgets; ask rtadmit admit, and let tools/host to-linux print the calls that reserve what it computes (docs/use/guide.md, "Linux and KVM")"""
 
 
 @dataclass
@@ -162,7 +162,7 @@ def wrong_with(thread):
     if not 1000 <= runtime <= period <= deadline or period > LIMIT * 1000:
         return f"has not 1 <= runtime <= period <= {LIMIT} microseconds"
     if not thread.affinity.isdecimal():
-        return f"may use the processors {thread.affinity}: give it one of its own by a cpuset (docs/guide.md)"
+        return f"may use the processors {thread.affinity}: give it one of its own by a cpuset (docs/use/guide.md)"
     return None
 
 

@@ -1,7 +1,7 @@
 """A trace for the auditor, out of what `xenalyze --dump-all` prints of a host under RTDS.
 
 Each line of DUMP has its moment in seconds with nine digits, a field in which the place of the `x` is the physical processor, what
-ran there, and the event (docs/audit.md). These lines matter, for the VCPUs of the map; the others only move the end:
+ran there, and the event (docs/use/audit.md). These lines matter, for the VCPUs of the map; the others only move the end:
 
     rtds:repl_budget d1v0 ..                       its budget is replenished: its first one is its start
     runstate_change d1v0 OLD->running              it has the processor of the line: run

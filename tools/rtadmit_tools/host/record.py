@@ -5,13 +5,10 @@ to its next period. With --random it works as guests do that halt: for a random 
 two periods, in step with nothing; a SEED gives the same times again. All times are microseconds. OUT gets the text of the kernel's trace
 buffer: the switches and wakeups of these threads, which tools/host from-ftrace turns into a trace.
 
-Each core gets a cpuset of its own for the time, since the kernel reserves time on a set of cores as a whole and keeps a thread on one core
-only where that is all of its set. The events go to a buffer of their own (an instance of the trace filesystem), so no other tracing is
-touched. Every thread sleeps with its reservation made until the recording is on, and longer than its period: so a period of it begins with
-its first wakeup. A mark in the buffer says so of each thread, and another one when the recording was stopped. On each core a filler of the
-lowest priority (SCHED_IDLE) runs where nothing else does, so that no switch is from the idle thread: a kernel may leave those out of its
-buffer. A recording in which a switch is missing all the same, by the rules of tools/host from-ftrace, is made again, up to N times in all
-(8); where the last one has a gap too it is written, and standard error tells the line.
+On each core runs a filler of the lowest priority, so that no switch is from the idle thread, and marks in the buffer say that each thread
+slept, with its time reserved, and when the recording was stopped (docs/use/audit.md). A recording in which a switch is missing all the same, by
+the rules of tools/host from-ftrace, is made again, up to N times in all; where the last one has a gap too it is written, and standard
+error tells the line.
 
 Root is needed. Everything is put back as it was, also where the recording fails or is stopped (SIGINT, SIGTERM, SIGHUP); nothing is
 written then. The status is 0; 1 where OUT can't be written; 2 where the words are wrong; 3 where the machine does not allow the recording,
@@ -31,7 +28,7 @@ import time
 from dataclasses import dataclass
 
 from ..command_line import Refused
-from .from_ftrace import Map, Rows, Wrong, translate
+from .from_ftrace import Map, Rows, translate
 
 REFUSED = 3
 SETATTR = {"x86_64": 314, "aarch64": 274, "riscv64": 274}
@@ -136,7 +133,7 @@ def make(stack, folder):
     try:
         os.mkdir(folder)
     except FileExistsError:
-        raise NotAllowed(f"{folder} is there: another recording runs, or one was killed (docs/audit.md)") from None
+        raise NotAllowed(f"{folder} is there: another recording runs, or one was killed (docs/use/audit.md)") from None
     except OSError as fault:
         raise NotAllowed(f"{folder} can't be made: {fault.strerror}") from None
     stack.callback(remove, folder)
@@ -395,8 +392,8 @@ def record(threads, seconds, seed, pause):
             each.reserve(tasks[each.thread.cpu])
         fillers = {cpu: child(stack, lambda file=file: fill(file)) for cpu, file in tasks.items()}
         # the recorder stays off the recorded processors, where there are others, so that all threads start at once
-        others = os.sched_getaffinity(0) - set(cpus)
-        os.sched_setaffinity(0, others or cpus)
+        if others := os.sched_getaffinity(0) - set(cpus):
+            os.sched_setaffinity(0, others)
         pause.wait(2 * longest)
         for cpu, pid in fillers.items():
             check_state(pid, "R", f"the filler of processor {cpu} does not run")
@@ -407,9 +404,9 @@ def record(threads, seconds, seed, pause):
 
 def gaps_of(text, threads):
     """The gaps of a recording."""
-    gaps, named = [], Map({thread.cpu: f"cpu{thread.cpu}" for thread in threads}, {thread.name: thread.name for thread in threads})
-    with tempfile.TemporaryFile("w+") as file, contextlib.suppress(Wrong):
-        translate(enumerate(text.splitlines(), 1), named, Rows(file), missing=gaps.append)
+    gaps, named = [], Map("", {thread.cpu: f"cpu{thread.cpu}" for thread in threads}, {thread.name: thread.name for thread in threads})
+    with tempfile.TemporaryFile("w+") as file, contextlib.suppress(Refused):
+        translate(enumerate(text.splitlines(), 1), named, Rows("", file), missing=gaps.append)
     return gaps
 
 

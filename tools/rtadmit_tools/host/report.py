@@ -44,11 +44,11 @@ STAND_IN = "Stand-in: nothing is known of its tasks. One slot a second stands fo
 TALLIED = """Periods that begin in the recording, those that were judged, and the least and the most that a period got: the least of
 those that were judged, the most of all."""
 LINUX = """<b>A host of Linux.</b> Its kernel lets a period begin anew at a wake-up, and the audit counts each guest's periods from its
-start. So behind a sleep `over` or `short` may be told of a kernel that kept its own rule (docs/audit.md)."""
-RTDS_ONLY = "That is of Xen's RTDS; this is a host of Linux, whose kernel goes by another rule (docs/guide.md)."
+start. So behind a sleep `over` or `short` may be told of a kernel that kept its own rule (docs/use/audit.md)."""
+RTDS_ONLY = "That is of Xen's RTDS; this is a host of Linux, whose kernel goes by another rule (docs/use/guide.md)."
 CURVES = """For each length of a window what the guest asks for, and the least that its budget gives; computed by the formulas of
-docs/certificate.md and compared with the program's answer at the marked window."""
-CLAIMS = "What the words mean, what is proved of them and what is not claimed stands in docs/claims.md of rtadmit."
+docs/use/certificate.md and compared with the program's answer at the marked window."""
+CLAIMS = "What the words mean, what is proved of them and what is not claimed stands in docs/proof/claims.md of rtadmit."
 PAPER = {"white": "paper", svg.INK: "ink", svg.GREY: "soft", svg.FAINT: "line", curves.ASKED: "asked"}
 
 

@@ -1,6 +1,6 @@
 """Draws a recorded trace as an SVG: one row a core and one a VCPU.
 
-TRACE is a trace (docs/formats.md); `-` is standard input. The picture's scale has the trace's unit, and so have --from and --until, the
+TRACE is a trace (docs/use/formats.md); `-` is standard input. The picture's scale has the trace's unit, and so have --from and --until, the
 moments between which it is drawn. --around draws a period of a VCPU and two before and behind it: NAME and FROM_NS are those of the
 answer of `audit`, `over NAME from_ns=FROM_NS ..`. Without OUT the picture goes to standard output.
 
@@ -14,15 +14,13 @@ and the most that a period of it got, with a line at the middle one (the median)
 where one is short or over. Where a row has more spans than columns, each column is filled by the share of time: a core by which
 VCPU had it, a VCPU by the time that it ran, from below, and was blocked, from above.
 
-A trace that breaks the rules of docs/formats.md is refused with its line, as far as it is read. The status is 1 then, and 2 where
+A trace that breaks the rules of docs/use/formats.md is refused with its line, as far as it is read. The status is 1 then, and 2 where
 the words are wrong."""
 import argparse
 import collections
-import contextlib
-import shutil
+import io
 import statistics
 import sys
-import tempfile
 from dataclasses import dataclass, field
 
 from ..command_line import Refused
@@ -41,7 +39,8 @@ COLOUR_OF = {"short": "#d55e00", "over": "#0072b2", "blocked": "#d9d9d9"}
 NOTES = {"short": "short: less than the budget", "over": "over: more than the budget", "blocked": "blocked"}
 HATCHES = "\n".join(["<defs>", *(
     f'<pattern id="{what}" width="6" height="6" patternUnits="userSpaceOnUse" patternTransform="rotate({angle})">'
-    f'<rect width="2.4" height="6" fill="{COLOUR_OF[what]}" fill-opacity="0.55"/></pattern>' for what, angle in (("short", 45), ("over", -45))
+    f'<rect width="2.4" height="6" fill="{COLOUR_OF[what]}" fill-opacity="0.55"/></pattern>'
+    for what, angle in (("short", 45), ("over", -45))
 ), "</defs>"])
 WORDS = {1000: "µs", 1: "ns"}
 
@@ -168,7 +167,8 @@ class Picture(Canvas):
         for core in self.cores:
             names = [vcpu.name for vcpu in vcpus if vcpu.core.name == core]
             self.colours.update({name: COLOURS[place % len(COLOURS)] for place, name in enumerate(names)})
-        texts = [(name, 7.3) for name in (*self.cores, *self.colours)] + [(text, 6.1) for periods in drawn.values() for text in periods.notes()]
+        texts = [(name, 7.3) for name in (*self.cores, *self.colours)]
+        texts += [(text, 6.1) for periods in drawn.values() for text in periods.notes()]
         self.left = max([LEAST_LEFT, *(22 + round(len(text) * size) for text, size in texts)])
 
     def x(self, at):
@@ -259,7 +259,8 @@ class Picture(Canvas):
             self.box(start, stop, base + 2, 16, f"url(#{verdict})")
         if verdict and not narrow:
             self.box(start, stop, y - 2, base - y + 20, "none", f'stroke="{colour}" stroke-width="1.5"')
-        told = f"{got}/{'?' if drawn.server.budget is None else drawn.server.budget}{f' {verdict}' if verdict else ''}{'' if whole else ' so far'}"
+        budget = "?" if drawn.server.budget is None else drawn.server.budget
+        told = f"{got}/{budget}{f' {verdict}' if verdict else ''}{'' if whole else ' so far'}"
         left, right = self.x(start), self.x(stop)
         if verdict and right - left > 6.9 * len(told) + 2:
             self.rect((left + right) / 2 - 3.4 * len(told), base + 3, 6.8 * len(told), 14, "white", 'fill-opacity="0.8"')
@@ -282,7 +283,8 @@ class Picture(Canvas):
         if budget is not None:
             self.line(self.left, level(budget), self.left + PLOT, level(budget), INK, 1, 'stroke-dasharray="6 4"')
         for verdict, top in (("short", y + height + 1), ("over", y + height + 5)):
-            self.boxes([(column_x(place), top, COLUMN, 4) for place, broken in enumerate(drawn.broken) if verdict in broken], COLOUR_OF[verdict])
+            places = [place for place, broken in enumerate(drawn.broken) if verdict in broken]
+            self.boxes([(column_x(place), top, COLUMN, 4) for place in places], COLOUR_OF[verdict])
 
     def legend(self, y):
         x = 10
@@ -291,8 +293,8 @@ class Picture(Canvas):
             self.text(x + 20, y + 10, NOTES[what], size=11)
             x += 40 + 6.6 * len(NOTES[what])
         bands = any(drawn.is_band for drawn in self.drawn.values())
-        told = "band: least to most that periods got, line: the middle, dashes: the budget" if bands else "below each period: time got / budget"
-        self.text(x, y + 10, told + "; + has extra time", size=11, fill=GREY)
+        told = "band: least to most that periods got, line: the middle, dashes: the budget"
+        self.text(x, y + 10, f"{told if bands else 'below each period: time got / budget'}; + has extra time", size=11, fill=GREY)
 
     def all(self):
         """The text of the picture."""
@@ -324,7 +326,8 @@ def view_of(given, servers, end, scale):
     else:
         name, at = given.around
         if name not in servers:
-            raise Refused(given.system or given.trace, None, f"it has no part {name}, whose period is drawn: --around needs the system file")
+            cause = f"it has no part {name}, whose period is drawn: --around needs the system file"
+            raise Refused(given.system or given.trace, None, cause)
         at, period = at * scale // 1000, servers[name].period
         view, framed = View(max(0, at - 2 * period), min(end, at + 3 * period)), (name, at)
     if view.begin >= view.end:
@@ -349,20 +352,16 @@ def end_of(path, file):
 
 def picture_of(given):
     """The text of the picture that the words ask for."""
-    with contextlib.ExitStack() as stack:
-        file = stack.enter_context(opened(given.trace))
-        if not file.seekable():
-            kept = stack.enter_context(tempfile.TemporaryFile("w+", encoding="utf-8", errors="surrogateescape"))
-            shutil.copyfileobj(file, kept)
-            file = kept
-            file.seek(0)
+    with opened(given.trace) as file:
+        file = file if file.seekable() else io.StringIO(file.read())
         end = end_of(given.trace, file)
         reader, host = Reader(given.trace, file), Host()
         scale = 1000 // reader.unit
         servers = servers_of(given.system, dict(given.budget), given.program, scale) if given.system else {}
         view, framed = view_of(given, servers, end, scale)
         spans, drawn = collections.defaultdict(lambda: Spans(view)), {name: Drawn(view, server) for name, server in servers.items()}
-        for vcpu, runs, since, until in judged(reader, host, servers, lambda name, *period: drawn[name].tell(*period), view.begin, view.end):
+        tell = lambda name, *period: drawn[name].tell(*period)
+        for vcpu, runs, since, until in judged(reader, host, servers, tell, view.begin, view.end):
             spans["vcpu", vcpu.name].add(since, until, "run" if runs else "blocked")
             if runs:
                 spans["core", vcpu.core.name].add(since, until, vcpu.name)
@@ -381,7 +380,7 @@ def add_words(parser):
                         help="a budget in place of the system file's")
     parser.add_argument("--from", dest="since", type=int, metavar="AT", help="draws from this moment of the trace on")
     parser.add_argument("--until", type=int, metavar="AT", help="draws up to this moment of the trace")
-    parser.add_argument("--around", type=at_sign, metavar="NAME@FROM_NS", help="draws the period of NAME that begins there, as `audit` tells it")
+    parser.add_argument("--around", type=at_sign, metavar="NAME@FROM_NS", help="draws the period of NAME that `audit` tells so")
     add_program(parser)
     parser.set_defaults(refuse=parser.error)
 

@@ -7,7 +7,7 @@ comments: --names OTHER reads them in the file that it was made of. --name may b
 --name 'vm 3=vm3'. A part that stands on a part is a reservation inside its guest, and has no call.
 
 Where the program knows `isolate`, standard error has a line for each VCPU that it calls exposed: one whose budget is not proved safe
-when others of its core sleep (docs/no.md). The calls are printed all the same.
+when others of its core sleep (docs/use/no.md). The calls are printed all the same.
 
 Refused, with the file and the line, and nothing printed: a file that is not admitted; a part that is not named for a domain and a VCPU's
 number; a comment `# --name` that tells no domain and name, or one of them twice; a period or a budget below the 10 microseconds that
@@ -27,7 +27,7 @@ NAMED = re.compile(r"# --name (.*)")
 
 
 def named_in(path, file):
-    """The domain that each name stands for, as the comments of tools/from-xl tell it."""
+    """The domain that each name stands for, as the comments of tools/host from-xl tell it."""
     domains = {}
     for line, text in enumerate(file.split("\n"), 1):
         found = NAMED.fullmatch(text)
@@ -65,7 +65,7 @@ def tell_exposed(path, program):
     for line in program.ask("isolate", path).lines:
         if line.startswith("exposed "):
             _, name, by, *_ = line.split()
-            told = f"{name} is exposed ({by}): its budget is not proved safe when others of its core sleep (docs/no.md)"
+            told = f"{name} is exposed ({by}): its budget is not proved safe when others of its core sleep (docs/use/no.md)"
             print(f"{path}: {told}", file=sys.stderr)
 
 

@@ -2,7 +2,7 @@
 
 It asks the program (`admit FILE`). On a no it tells of the node that is told what it serves: for each of its tasks, or of the parts that
 stand on it, what is asked for in the window that is told and how large its share is, and what the supply is sure to give in that
-window. The numbers are of the formulas of docs/certificate.md; where they do not say the same of the window, there is no answer.
+window. The numbers are of the formulas of docs/use/certificate.md; where they do not say the same of the window, there is no answer.
 
 Then it looks for changes that make the answer a yes, each by itself, by asking the program about changed copies of the file:
 
@@ -19,7 +19,7 @@ tasks. Where no change helps by itself, those are told with which the program go
 the smallest five are told, and with --all all. Of more than 24 tasks, or parts, those with the greatest shares are tried.
 
 Where the program refuses FILE, or SECOND behind it, it tells the line, the table and the key, or the field of the row, what is wrong there
-and the rule of docs/formats.md. SECOND is a trace, a workload, a release file, a script, guests for `place` or a certificate, as its
+and the rule of docs/use/formats.md. SECOND is a trace, a workload, a release file, a script, guests for `place` or a certificate, as its
 first line says, or --as. The program names the fault, and the place is found by reading the file here once more; where that reading finds
 no such fault there, or does not take the file (Python's reader of TOML is one of TOML 1.0), it says so.
 
