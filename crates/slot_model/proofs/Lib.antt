@@ -26,17 +26,10 @@ mod Apart
 pub mod MissedJobs
 pub mod FirstMiss
 pub mod LegalJobs
-mod SlotExamples
-mod BoundExamples
-mod DeadlineExamples
-mod RunExamples
-mod MissExamples
 pub mod Constrained
 pub mod WorstLists
 pub mod Budgets
 pub mod BudgetSupplies
 pub mod Points
 pub mod Covers
-mod PointExamples
 pub mod Keys
-mod KeyExamples

@@ -6,7 +6,7 @@ use Rattle.slot_model.specs.Task.{SporadicTask, plain_task}
 use Rattle.slot_model.specs.Order.{ranks_above}
 use Rattle.slot_model.specs.Bound.{sbf, dbf, rbf}
 use Rattle.slot_model.specs.Points.{IsCover, IsBackward, CoversShow, IsChain}
-use Rattle.slot_model.proofs.BoundExamples.{two_tasks, with_jitter, too_much}
+use Rattle.model_examples.proofs.BoundExamples.{two_tasks, with_jitter, too_much}
 
 -- one task of 3 slots in 10, where a window of t slots has t
 
