@@ -6,6 +6,8 @@ pub mod Counts
 pub mod Places
 pub mod Windows
 pub mod Rising
+pub mod Gathered
+pub mod OneList
 pub mod Demand
 pub mod Arrivals
 pub mod Served
