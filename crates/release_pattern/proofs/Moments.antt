@@ -9,14 +9,6 @@ use Rattle.slot_model.specs.declared.job.Job.{Job}
 use Rattle.slot_model.proofs.Synchronous.{early_at, early_at-le, periods_at}
 use Rattle.release_pattern.specs.Due.{IsNext, NoneRelease}
 
-pushed : (jobs : List Job) (b : Bool) (job : Job) → b ≡ true → push_if jobs b job ≡ jobs ++ job ∷ []
-pushed jobs true job e = refl
-pushed jobs false job e = cc
-
-kept : (jobs : List Job) (b : Bool) (job : Job) → b ≡ false → push_if jobs b job ≡ jobs
-kept jobs true job e = cc
-kept jobs false job e = refl
-
 -- one task more, which releases or does not
 pub one_releases : (tasks : List SporadicTask) (start x i : ℕ) (jobs : List Job)
     → releases_now (task_at tasks i) x ≡ true
@@ -24,14 +16,14 @@ pub one_releases : (tasks : List SporadicTask) (start x i : ℕ) (jobs : List Jo
 unfolding releases_at
 one_releases tasks start x i jobs e =
     ap (λ (z : ℕ). releases_at tasks start x z jobs) (let q : i + 1 ≡ suc i = omega arith in q)
-    ∙ pushed (releases_at tasks start x i jobs) (releases_now (task_at tasks i) x) (release_of tasks start x i) e
+    ∙ ap (λ (b : Bool). push_if (releases_at tasks start x i jobs) b (release_of tasks start x i)) e
 
 pub one_waits : (tasks : List SporadicTask) (start x i : ℕ) (jobs : List Job) → releases_now (task_at tasks i) x ≡ false
     → releases_at tasks start x (i + 1) jobs ≡ releases_at tasks start x i jobs
 unfolding releases_at
 one_waits tasks start x i jobs e =
     ap (λ (z : ℕ). releases_at tasks start x z jobs) (let q : i + 1 ≡ suc i = omega arith in q)
-    ∙ kept (releases_at tasks start x i jobs) (releases_now (task_at tasks i) x) (release_of tasks start x i) e
+    ∙ ap (λ (b : Bool). push_if (releases_at tasks start x i jobs) b (release_of tasks start x i)) e
 
 -- k tasks that do not release
 pub some_wait : (tasks : List SporadicTask) (start x i k : ℕ) (jobs : List Job)
@@ -46,7 +38,7 @@ some_wait tasks start x i (suc k) jobs h =
 
 pub next_moment : (tasks : List SporadicTask) (start x : ℕ)
     → synchronous tasks start (suc x) ≡ releases_at tasks start x (length tasks) (synchronous tasks start x)
-unfolding synchronous
+unfolding synchronous releases_at
 next_moment tasks start x = refl
 
 pub no_moment : (tasks : List SporadicTask) (start : ℕ) → synchronous tasks start 0 ≡ []

@@ -4,7 +4,9 @@ use Rattle.std.proofs.Common.{◌≡◌, ℕ, zero, suc, ◌*◌, ◌≤◌, Lis
 use Rattle.std.proofs.lemmas.List.{length-map}
 use Rattle.slot_model.specs.declared.job.Job.{Job}
 use Rattle.slot_model.specs.Task.{SporadicTask, AreConstrained, plain_job, task_at}
-use Rattle.slot_model.specs.Release.{LegalRelease, push_if, begins_now, staggered_at, staggered, start_at, synchronous}
+use Rattle.slot_model.specs.Release.{LegalRelease, begins_now, task_begins, begun_of, staggered, start_at, synchronous}
+use Rattle.slot_model.specs.Slots.{gathered}
+use Rattle.slot_model.proofs.Gathered.{gathered_same}
 use Rattle.slot_model.proofs.Staggered.{staggered_at_zero, legal_staggered}
 use Rattle.release_pattern.specs.Multiples.{at_multiples, ArePrompt}
 use Rattle.release_pattern.specs.inner.Prompt.{prompt_task, prompt_tasks}
@@ -24,24 +26,16 @@ prompt_at (t ∷ tasks) (suc i) = prompt_at tasks i
 pub are_prompt : (tasks : List SporadicTask) → ArePrompt (prompt_tasks tasks)
 are_prompt tasks i l = ap (λ (t : SporadicTask). t.jitter) (prompt_at tasks i)
 
-same_moment : (tasks : List SporadicTask) (starts : List ℕ) (x i : ℕ) (one two : List Job) → one ≡ two
-    → staggered_at (prompt_tasks tasks) starts x i one ≡ staggered_at tasks starts x i two
-unfolding staggered_at
-same_moment tasks starts x zero one two e = e
-same_moment tasks starts x (suc i) one two e =
-    ap (λ (t : SporadicTask). push_if (staggered_at (prompt_tasks tasks) starts x i one)
-    (begins_now t (start_at starts i) x) (plain_job i x t.work)) (prompt_at tasks i)
-    ∙ ap (λ (js : List Job). push_if js (begins_now (task_at tasks i) (start_at starts i) x)
-    (plain_job i x (task_at tasks i).work)) (same_moment tasks starts x i one two e)
-
 same_staggered : (tasks : List SporadicTask) (starts : List ℕ) (n : ℕ)
     → staggered (prompt_tasks tasks) starts n ≡ staggered tasks starts n
 unfolding staggered
-same_staggered tasks starts zero = refl
-same_staggered tasks starts (suc n) =
-    ap (λ (k : ℕ). staggered_at (prompt_tasks tasks) starts n k (staggered (prompt_tasks tasks) starts n))
+same_staggered tasks starts n =
+    ap (λ (k : ℕ). gathered (task_begins (prompt_tasks tasks) starts) (begun_of (prompt_tasks tasks)) k n)
     (length-map tasks prompt_task)
-    ∙ same_moment tasks starts n (length tasks) _ _ (same_staggered tasks starts n)
+    ∙ gathered_same (task_begins (prompt_tasks tasks) starts) (task_begins tasks starts)
+    (begun_of (prompt_tasks tasks)) (begun_of tasks) (length tasks)
+    (λ x i l. ap (λ (t : SporadicTask). begins_now t (start_at starts i) x) (prompt_at tasks i))
+    (λ x i l. ap (λ (t : SporadicTask). plain_job i x t.work) (prompt_at tasks i)) n
 
 -- so they are the synchronous release of the tasks without jitter
 pub prompt_synchronous : (tasks : List SporadicTask) (n : ℕ)

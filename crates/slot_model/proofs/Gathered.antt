@@ -1,11 +1,11 @@
 -- What is gathered of places at moments: where each entry stands and comes from, that they stand
 -- by moment and then by place, how many they are, and sums over them.
-use Rattle.std.proofs.Common.{◌≡◌, ◌⊎◌, ℕ, zero, suc, ◌+◌, ◌<◌, ◌≤◌, Bool, true, false, cond, List, [], length, get_or, sum_by, refl, sym, ◌∙◌, ap, arith, subst, inl, inr}
+use Rattle.std.proofs.Common.{◌≡◌, ◌⊎◌, ℕ, zero, suc, ◌+◌, ◌*◌, ◌<◌, ◌≤◌, Bool, true, false, cond, List, [], length, get_or, sum_by, refl, sym, ◌∙◌, ap, arith, subst, inl, inr}
 use Rattle.std.proofs.lemmas.Bool.{cases_eq, cases_lt, cases_Bool, cond-true, cond-false}
 use Rattle.slot_model.specs.Slots.{sum_below, count_below, push_if, gathered_at, gathered}
 use Rattle.slot_model.proofs.Places.{length-push_if, push_if-kept, push_if-last, push_if-same, sum_by-push_if}
 use Rattle.slot_model.proofs.Sums.{sum_below-zero, sum_below-suc, sum_below-swap}
-use Rattle.slot_model.proofs.Rising.{never_falls_far}
+use Rattle.slot_model.proofs.Runs.{count_below-le}
 
 -- a list that begins with another
 record Extends {X : Type 0} (d : X) (xs ys : List X) : Type 0 where
@@ -158,6 +158,13 @@ module _ {X : Type 0} (there : ℕ → ℕ → Bool) (what : ℕ → ℕ → X) 
     ]
   ]
 
+  -- what stands behind the entries of the moments before y comes at y or later
+  pub source_late : (y t k : ℕ) → length (all y) ≤ k → (s : Source t k) → y ≤ s.x
+  source_late y t k l s = elim (cases_lt s.x y) [
+    | inr late ↦ late
+    | inl m ↦ absurd (omega (arith, l, s.at, stands_within s.x y s.i m s.inside s.now))
+  ]
+
   -- so what holds of all that is there holds of each entry, and of two in turn of each two
   pub each_gathered : (P : X → Type 0) (t : ℕ)
       → ((x i : ℕ) → x < t → i < n → there x i ≡ true → P (what x i))
@@ -208,6 +215,10 @@ module _ {X : Type 0} (there : ℕ → ℕ → Bool) (what : ℕ → ℕ → X) 
   length_row x zero = omega (arith, sum_below-zero (λ j. cond {A = ℕ} (there x j) 1 0))
   length_row x (suc i) =
       omega (arith, length_row x i, next_stand x i, sum_below-suc (λ j. cond {A = ℕ} (there x j) 1 0) i)
+
+  pub length_at_most : (t : ℕ) → length (all t) ≤ t * n
+  length_at_most zero = omega arith
+  length_at_most (suc t) = omega (arith, length_at_most t, length_row t n, count_below-le (there t) n)
 
 -- the same of what is there alike
 row_same : {X : Type 0} (there there' : ℕ → ℕ → Bool) (what what' : ℕ → ℕ → X) (n : ℕ)
