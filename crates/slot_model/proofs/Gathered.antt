@@ -1,8 +1,8 @@
 -- What is gathered of places at moments: where each entry stands and comes from, that they stand
 -- by moment and then by place, how many they are, and sums over them.
-use Rattle.std.proofs.Common.{◌≡◌, ◌⊎◌, ℕ, zero, suc, ◌+◌, ◌*◌, ◌<◌, ◌≤◌, Bool, true, false, cond, List, [], length, get_or, sum_by, refl, sym, ◌∙◌, ap, arith, subst, inl, inr}
+use Rattle.std.proofs.Common.{◌≡◌, ◌⊎◌, ℕ, zero, suc, ◌+◌, ◌*◌, ◌<◌, ◌≤◌, Bool, true, cond, List, length, get_or, sum_by, refl, sym, ◌∙◌, ap, arith, subst, inl, inr}
 use Rattle.std.proofs.lemmas.Bool.{cases_eq, cases_lt, cases_Bool, cond-true, cond-false}
-use Rattle.slot_model.specs.Slots.{sum_below, count_below, push_if, gathered_at, gathered}
+use Rattle.slot_model.specs.Slots.{sum_below, count_below, gathered_at, gathered}
 use Rattle.slot_model.proofs.Places.{length-push_if, push_if-kept, push_if-last, push_if-same, sum_by-push_if}
 use Rattle.slot_model.proofs.Sums.{sum_below-zero, sum_below-suc, sum_below-swap}
 use Rattle.slot_model.proofs.Runs.{count_below-le}
@@ -78,7 +78,7 @@ module _ {X : Type 0} (there : ℕ → ℕ → Bool) (what : ℕ → ℕ → X) 
       )
 
   -- an entry that is there stands behind all that come sooner
-  stand_there : (x i : ℕ) → there x i ≡ true → stand x (suc i) ≡ suc (stand x i)
+  pub stand_there : (x i : ℕ) → there x i ≡ true → stand x (suc i) ≡ suc (stand x i)
   stand_there x i e = omega (arith, next_stand x i, cond-true {A = ℕ} (there x i) 1 0 e)
 
   pub stands_within : (x t i : ℕ) → x < t → i < n → there x i ≡ true → stand x i < length (all t)

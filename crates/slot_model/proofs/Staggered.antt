@@ -1,8 +1,7 @@
 -- The staggered release is legal, has each job, and is the synchronous one where all starts are 0.
-use Rattle.std.proofs.Common.{◌≡◌, ℕ, zero, suc, ◌+◌, ◌*◌, ◌-◌, ◌/◌, ◌%◌, ◌<◌, ◌≤◌, Bool, true, false, cond, eqb, leb, ◌&&◌, ◌||◌, List, [], ◌∷◌, ◌++◌, length, refl, sym, ◌∙◌, ap, arith, subst, inl, inr, eq-eqb, eqb-true, leb-true, le-leb, zero-add}
+use Rattle.std.proofs.Common.{◌≡◌, ℕ, ◌+◌, ◌*◌, ◌-◌, ◌/◌, ◌%◌, ◌<◌, ◌≤◌, Bool, true, cond, eqb, leb, ◌&&◌, ◌||◌, List, length, sym, ◌∙◌, ap, arith, subst, inl, inr, eq-eqb, eqb-true, leb-true, le-leb, zero-add}
 use Rattle.std.proofs.Math.Nat.{mul-mod_left}
 use Rattle.std.proofs.lemmas.Bool.{cases_eq, and_from, and_parts, ne_eqb}
-use Rattle.std.proofs.lemmas.List.{get_or_append_left}
 use Rattle.slot_model.specs.Release.{LegalRelease, releases_now, task_releases, release_of, synchronous, start_at, begins_now, task_begins, begun_of, staggered}
 use Rattle.slot_model.specs.Task.{AreConstrained, ArrivesAfter, plain_job, early_job, default_job, job_at, task_at, SporadicTask}
 use Rattle.slot_model.specs.declared.job.Job.{Job}
@@ -32,7 +31,8 @@ begins_apart b s x y l e f =
     omega (arith, p.1, q.1, multiples_apart p.0 q.0 b.period (omega (arith, p.1, q.1)))
 
 each_begun : (P : Job → Type 0) (tasks : List SporadicTask) (starts : List ℕ) (n : ℕ)
-    → ((x i : ℕ) → i < length tasks → begins_now (task_at tasks i) (start_at starts i) x ≡ true → P (begun_of tasks x i))
+    → ((x i : ℕ) → i < length tasks → begins_now (task_at tasks i) (start_at starts i) x ≡ true
+    → P (begun_of tasks x i))
     → (k : ℕ) → k < length (staggered tasks starts n) → P (job_at (staggered tasks starts n) k)
 unfolding staggered
 each_begun P tasks starts n h =
