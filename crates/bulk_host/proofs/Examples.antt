@@ -3,7 +3,7 @@ use Rattle.std.proofs.Common.{◌≡◌, [], ◌∷◌, length, false, None, cod
 use Rattle.std.specs.Fmt.{digits}
 use Rattle.slot_model.specs.declared.sched.Sched.TheVariants.{Edf, Rm}
 use Rattle.slot_model.specs.Task.{jittery_task, plain_task, plain_job}
-use Rattle.slot_model.specs.Release.{staggered_at, staggered}
+use Rattle.slot_model.specs.Release.{staggered}
 use Rattle.tree_model.specs.declared.place.Parent.TheVariants.{Core}
 use Rattle.tree_model.specs.System.{part_at}
 use Rattle.tree_model.specs.View.{SystemView}
@@ -89,5 +89,5 @@ small =
 
 jobs_in_five : full_jobs small 5
     ≡ (plain_job 0 0 1 ∷ plain_job 1 0 2 ∷ plain_job 0 2 1 ∷ plain_job 1 3 2 ∷ plain_job 0 4 1 ∷ []) ∷ []
-unfolding small staggered_at staggered
+unfolding small staggered
 jobs_in_five = refl

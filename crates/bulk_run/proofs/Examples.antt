@@ -5,7 +5,8 @@ use Rattle.std.specs.Prelude.{sum_by}
 use Rattle.std.proofs.lemmas.Bool.{cases_lt, ne_eqb}
 use Rattle.slot_model.specs.declared.job.Job.{Job}
 use Rattle.slot_model.specs.Task.{SporadicTask, plain_task, plain_job, task_at}
-use Rattle.slot_model.specs.Release.{begins_now, staggered_at, staggered}
+use Rattle.slot_model.specs.Slots.{push_if}
+use Rattle.slot_model.specs.Release.{begins_now, staggered}
 use Rattle.slot_model.proofs.Places.{length-push_if}
 use Rattle.bulk_run.specs.Summary.{counts_in}
 
@@ -52,13 +53,13 @@ five_more x = elim (cases_lt 0 (x % 20000)) [
 ]
 
 released : (n : ℕ) → length (staggered tasks [] n) ≡ ten n + five n
-unfolding staggered staggered_at
+unfolding staggered
 released zero = refl
 released (suc x) =
     let before : List Job = staggered tasks [] x in
     let first : Bool = begins_now (task_at tasks 0) 0 x in
     let second : Bool = begins_now (task_at tasks 1) 0 x in
-    let one : List Job = staggered_at tasks [] x 1 before in
+    let one : List Job = push_if before first (plain_job 0 x 250) in
     omega (
       arith,
       released x,

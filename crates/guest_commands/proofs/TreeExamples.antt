@@ -11,7 +11,7 @@ use Rattle.slot_model.specs.Slots.{sum_below}
 use Rattle.slot_model.specs.Supply.{IsFull}
 use Rattle.slot_model.specs.Task.{plain_task, plain_job, SporadicTask, job_at, deadline_of}
 use Rattle.slot_model.specs.Order.{before_of}
-use Rattle.slot_model.specs.Release.{LegalRelease, staggered_at, staggered}
+use Rattle.slot_model.specs.Release.{LegalRelease, staggered}
 use Rattle.slot_model.specs.Run.{server, guest, Pending}
 use Rattle.tree_model.specs.declared.place.Parent.TheVariants.{Core as on_core}
 use Rattle.tree_model.specs.declared.place.Place.TheVariants.{Core}
@@ -53,12 +53,12 @@ abbrev server_jobs : List Job
 server_jobs = plain_job 0 1 1 ∷ plain_job 1 1 1 ∷ plain_job 0 3 1 ∷ plain_job 1 3 1 ∷ []
 
 they_begin_at_1 : started_jobs shared ones ones (Core 0) 5 ≡ server_jobs
-unfolding staggered_at staggered
+unfolding staggered
 they_begin_at_1 = refl
 
 the_first_has_the_outer_slots : started_supply shared ones ones 5 (core_run ∷ []) [] 0
     ≡ true ∷ false ∷ false ∷ true ∷ []
-unfolding sum_below staggered_at staggered
+unfolding sum_below staggered
 the_first_has_the_outer_slots = refl
 
 -- its job comes just after its first slot, so it waits for the fourth
@@ -172,7 +172,7 @@ none_waits_before (suc (suc (suc (suc zero)))) j k l e p t =
 none_waits_before (suc (suc (suc (suc (suc x))))) j k l e p t = omega arith
 
 the_core_serves : StartedServers shared ones ones 5 (Core 0) slots core_run
-unfolding staggered_at staggered
+unfolding staggered
 the_core_serves = record {
   same_length = refl;
   no_slot = λ x l e. absurd (both_ways _ e (all_are_given x l));
@@ -249,7 +249,7 @@ the_second_guest_rests = record {
 
 it_is_permitted : StartedTree shared ones ones 5 (slots ∷ []) (jobs ∷ [] ∷ []) (core_run ∷ [])
     (run ∷ nothing ∷ [])
-unfolding sum_below staggered_at staggered
+unfolding sum_below staggered
 it_is_permitted = record {
   run_each_core = refl;
   run_each_part = refl;

@@ -12,7 +12,7 @@ use Rattle.slot_model.specs.Run.{Level, server, guest, Pending, PermittedRun}
 use Rattle.tree_model.specs.declared.place.Parent.TheVariants.{Core as on_core, Part as on_part}
 use Rattle.tree_model.specs.declared.place.Place.TheVariants.{Core, Part}
 use Rattle.tree_model.specs.View.{PartView, SystemView}
-use Rattle.slot_model.specs.Release.{staggered_at, staggered}
+use Rattle.slot_model.specs.Release.{staggered}
 use Rattle.tree_model.proofs.FewPlaces.{only, both, each_of_three}
 use Rattle.tree_model.specs.Tree.{run_at, started_jobs, started_supply, StartedServers, StartedTree}
 
@@ -39,13 +39,13 @@ ones = 1 ∷ 1 ∷ []
 -- each server's periods count from its own start, neither from moment 0 nor from one start for all
 periods_count_from_each_start : started_jobs two ones (0 ∷ 1 ∷ []) (Core 0) 4
     ≡ plain_job 0 0 1 ∷ plain_job 1 1 1 ∷ plain_job 0 2 1 ∷ plain_job 1 3 1 ∷ []
-unfolding staggered_at staggered
+unfolding staggered
 periods_count_from_each_start = refl
 
 -- a start past a period is no start at the remainder
 no_job_before_the_start : started_jobs two ones (0 ∷ 3 ∷ []) (Core 0) 4
     ≡ plain_job 0 0 1 ∷ plain_job 0 2 1 ∷ plain_job 1 3 1 ∷ []
-unfolding staggered_at staggered
+unfolding staggered
 no_job_before_the_start = refl
 
 -- the run of the core, and what each part gets of it, from its start on
@@ -54,11 +54,11 @@ core_runs = (Some 0 ∷ Some 1 ∷ Some 2 ∷ Some 3 ∷ []) ∷ []
 
 the_first_has_every_second_slot : started_supply two ones (0 ∷ 1 ∷ []) 4 core_runs [] 0
     ≡ true ∷ false ∷ true ∷ false ∷ []
-unfolding sum_below staggered_at staggered
+unfolding sum_below staggered
 the_first_has_every_second_slot = refl
 
 the_second_begins_with_a_slot : started_supply two ones (0 ∷ 1 ∷ []) 4 core_runs [] 1 ≡ true ∷ false ∷ true ∷ []
-unfolding sum_below staggered_at staggered
+unfolding sum_below staggered
 the_second_begins_with_a_slot = refl
 
 -- an inner part with its whole period that starts at 1, and a leaf that starts at 1 within it
@@ -101,19 +101,19 @@ abbrev nested_parts : List (List (Option ℕ))
 nested_parts = (None ∷ Some 0 ∷ []) ∷ (Some 0 ∷ []) ∷ []
 
 the_core_serves_from_1_on : started_jobs nested budgets later (Core 0) 3 ≡ plain_job 0 1 2 ∷ []
-unfolding staggered_at staggered
+unfolding staggered
 the_core_serves_from_1_on = refl
 
 the_inner_part_serves_from_its_own_1_on : started_jobs nested budgets later (Part 0) 3 ≡ plain_job 0 1 1 ∷ []
-unfolding staggered_at staggered
+unfolding staggered
 the_inner_part_serves_from_its_own_1_on = refl
 
 the_inner_part_has_two_slots : started_supply nested budgets later 3 nested_cores nested_parts 0 ≡ true ∷ true ∷ []
-unfolding sum_below staggered_at staggered
+unfolding sum_below staggered
 the_inner_part_has_two_slots = refl
 
 the_leaf_has_the_last_slot : started_supply nested budgets later 3 nested_cores nested_parts 1 ≡ true ∷ []
-unfolding sum_below staggered_at staggered
+unfolding sum_below staggered
 the_leaf_has_the_last_slot = refl
 
 -- what is to be seen at a place of a run of one job over slots that are all given: none before its
@@ -169,7 +169,7 @@ not_yet level tasks jobs run x e l = record {
 
 -- so this is a permitted run of the tree: it has runs where the starts differ
 a_start_inside_a_parent : StartedTree nested budgets later 3 supplies jobs nested_cores nested_parts
-unfolding sum_below staggered_at staggered
+unfolding sum_below staggered
 a_start_inside_a_parent = record {
   run_each_core = refl;
   run_each_part = refl;
@@ -197,14 +197,14 @@ a_start_inside_a_parent = record {
 -- a run that serves the inner part from moment 0 on is not permitted: its server is not released
 a_server_before_its_start_is_not_permitted : StartedTree nested budgets later 3 supplies jobs
     ((Some 0 ∷ Some 0 ∷ None ∷ []) ∷ []) nested_parts → ⊥
-unfolding staggered_at staggered
+unfolding staggered
 a_server_before_its_start_is_not_permitted tree =
     omega (arith, ((tree.cores 0 (lit< tt)).served 0 0 (lit< tt) refl).released)
 
 -- nor is one whose inner part counts from the core's moment 0: it has two slots and not three
 a_part_counts_from_its_own_start : StartedTree nested budgets later 3 supplies jobs nested_cores
     ((None ∷ None ∷ Some 0 ∷ []) ∷ (Some 0 ∷ []) ∷ []) → ⊥
-unfolding staggered_at staggered
+unfolding staggered
 a_part_counts_from_its_own_start tree =
     let long : 3 ≡ 2 = (tree.inner 0 (lit< tt) refl).same_length in omega (arith, long)
 
@@ -287,7 +287,7 @@ nothing_twice = None ∷ None ∷ []
 
 two_starts_on_a_core : StartedTree two ones (0 ∷ 1 ∷ []) 2 ((true ∷ true ∷ []) ∷ []) ([] ∷ [] ∷ []) (two_run ∷ [])
     ((None ∷ None ∷ []) ∷ (None ∷ []) ∷ [])
-unfolding staggered_at staggered
+unfolding staggered
 two_starts_on_a_core = record {
   run_each_core = refl;
   run_each_part = refl;
