@@ -35,7 +35,7 @@ impl<'a> LinedLevel<'a> {
 /// A window, in slots, past which no window asks for more slots than the supply gives at the least:
 /// where the line above the demand bound meets the line below the supply's bound (the classic bound
 /// of Baruah, Rosier and Howell, 1990, over a supply bound). None where the tasks' utilisation is
-/// not surely below the rate of the supply. The line of the level need not be found for each supply.
+/// not surely below the rate of the supply. The level's line is not found again for each supply.
 pub fn settled_by<S: Supply>(lined: &LinedLevel, s: &S) -> Option<u128>
     ensures settled { let T = sporadic_tasks lined.now.level.tasks.now in
         IfSome result (λ last. IsSettledPast T (S.bound s.now) last) }

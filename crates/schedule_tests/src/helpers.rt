@@ -1,5 +1,7 @@
 //! What the tests of several crates make.
 
+ghost use Rattle.std.specs.Prelude.{IfOk};
+ghost use Rattle.guest_sched.specs.Spans.{AreWindows};
 ghost use Rattle.tree_model.specs.Plans.{IsPlan};
 
 use compose_tree::assign;

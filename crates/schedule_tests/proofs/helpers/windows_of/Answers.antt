@@ -8,7 +8,7 @@ later windows n m h l =
     record { some = h.some; in_slots = λ i li. omega (arith, h.in_slots i li, l); in_turn = h.in_turn }
 
 pub loop-row-preserved : goal.loop-row-preserved
-loop-row-preserved c = record {
+loop-row-preserved g c = record {
   windows =
       subst (λ (ws : List Window). AreWindows ws _) (sym c.in_ok-push.ensures.items)
       (one_window _ _ _ (later _ _ _ c.loop-row.invariant.windows (omega arith)) (omega arith)).windows;
@@ -16,4 +16,4 @@ loop-row-preserved c = record {
 }
 
 pub returns : goal.returns
-returns c = later _ _ _ c.loop-row.invariant.windows c.loop-row.invariant.within
+returns g c = later _ _ _ c.loop-row.invariant.windows c.loop-row.invariant.within
