@@ -1,7 +1,7 @@
 ghost use Rattle.std.specs.Prelude.{◌≡◌, ◌↔◌, ◌-◌, ◌*◌, ◌/◌, ◌^◌, ◌%◌, ◌≤◌, IsTrue, MatchOption, All};
 ghost use Rattle.slot_model.specs.Task.{sporadic_task, sporadic_tasks};
 ghost use Rattle.slot_model.specs.Bound.{IsCommonMultiple};
-ghost use Rattle.edf_test.specs.Rates.{IsSettledPast};
+ghost use Rattle.edf_test.specs.inner.Settled.{IsSettledPast};
 ghost use Rattle.edf_test.specs.inner.Rates.{task_ahead, ahead_over, behind_over, NeverMeets};
 
 use crate::amount::amount_of;

@@ -2,7 +2,8 @@ ghost use Rattle.std.specs.Prelude.{◌≡◌, ◌^◌, ◌<◌, ◌≤◌, leng
 ghost use Rattle.std.specs.Option.{ForSome, ForNone};
 ghost use Rattle.slot_model.specs.Task.{sporadic_tasks};
 ghost use Rattle.edf_test.specs.Lines.{IsDemandLine};
-ghost use Rattle.edf_test.specs.Rates.{IsSettledPast, asked_rate, given_rate, settled_point};
+ghost use Rattle.edf_test.specs.Rates.{asked_rate};
+ghost use Rattle.edf_test.specs.inner.Settled.{IsSettledPast, given_rate, settled_point};
 
 use crate::line::Line;
 use crate::settled::{crossing, demand_line};
@@ -31,7 +32,10 @@ impl<'a> LinedLevel<'a> {
     }
 }
 
-/// As `settled_past`, by the line of the level, which need not be found for each supply.
+/// A window, in slots, past which no window asks for more slots than the supply gives at the least:
+/// where the line above the demand bound meets the line below the supply's bound (the classic bound
+/// of Baruah, Rosier and Howell, 1990, over a supply bound). None where the tasks' utilisation is
+/// not surely below the rate of the supply. The level's line is not found again for each supply.
 pub fn settled_by<S: Supply>(lined: &LinedLevel, s: &S) -> Option<u128>
     ensures settled { let T = sporadic_tasks lined.now.level.tasks.now in
         IfSome result (λ last. IsSettledPast T (S.bound s.now) last) }

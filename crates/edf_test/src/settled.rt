@@ -1,8 +1,8 @@
 ghost use Rattle.std.specs.Prelude.{◌≡◌, ℕ, ◌+◌, ◌-◌, ◌*◌, ◌/◌, ◌^◌, ◌<◌, ◌≤◌, max, length, IfSome, MatchOption};
-ghost use Rattle.slot_model.specs.Task.{sporadic_task, sporadic_tasks};
-ghost use Rattle.slot_model.specs.Bound.{dbf};
+ghost use Rattle.slot_model.specs.Task.{sporadic_task};
 ghost use Rattle.edf_test.specs.Lines.{IsDemandLine};
-ghost use Rattle.edf_test.specs.Rates.{IsSettledPast, rate_up, asked_rate, given_rate, given_behind, settled_point};
+ghost use Rattle.edf_test.specs.Rates.{rate_up};
+ghost use Rattle.edf_test.specs.inner.Settled.{given_rate, given_behind};
 
 use crate::amount::amount_of;
 use crate::line::Line;
@@ -12,22 +12,6 @@ use window_terms::room_of;
 
 /// One slot, in the unit of `Line`.
 const ONE: u128 = 1 << 60;
-
-/// A window, in slots, past which no window asks for more slots than the supply gives at the least:
-/// where the line above the demand bound meets the line below the supply's bound (the classic bound
-/// of Baruah, Rosier and Howell, 1990, over a supply bound). None where the tasks' utilisation is
-/// not surely below the rate of the supply.
-pub fn settled_past<S: Supply>(tasks: &[Task], s: &S) -> Option<u128>
-    ensures settled { let T = sporadic_tasks tasks.now in
-        IfSome result (λ last. IsSettledPast T (S.bound s.now) last) }
-    ensures exact { let T = sporadic_tasks tasks.now in
-        MatchOption result
-        (length tasks.now < 2 ^ 32 →
-        given_rate (S.amount s.now) (S.cycle_of s.now) ≤ asked_rate T)
-        (λ last. last ≡ settled_point T (S.bound s.now) (S.amount s.now) (S.cycle_of s.now)) }
-{
-    crossing(demand_line(tasks)?, s)
-}
 
 /// Where this line meets the line below the supply's bound: what is at most the line is no more
 /// than the bound from there on.

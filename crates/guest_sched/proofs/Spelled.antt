@@ -95,12 +95,6 @@ abbrev pub left_from : ℕ → Option Window → ℕ
 left_from n None = 0
 left_from n (Some window) = n - window.from
 
-pub fewer_left : (pattern : ℕ → Bool) (m n : ℕ) (window : Window) (next : Option Window)
-    → IsNextWindow pattern m n (Some window) → IsNextWindow pattern window.until n next
-    → left_from n next < n - window.from
-fewer_left pattern m n window None h g = omega (arith, h.some, h.in_slots)
-fewer_left pattern m n window (Some w) h g = omega (arith, h.some, h.in_slots, g.not_before, g.some, g.in_slots)
-
 pub one_more_spelled : (pattern : ℕ → Bool) (n : ℕ) (windows : List Window) (next after : Option Window)
     (window : Window) → SpellsToNext pattern n windows next → next ≡ Some window
     → IsNextWindow pattern window.until n after → SpellsToNext pattern n (windows ++ window ∷ []) after

@@ -4,9 +4,7 @@ use crate::helpers::{
     MEMORY, OUT, expect, expect_at, five_rates, periodic, task, two_late_tasks, two_tasks,
 };
 use edf_demand::{DemandLevel, horizon};
-use edf_test::{
-    LinedLevel, cover, first_short, first_short_by, is_short, last_short_by, passes, settled_past,
-};
+use edf_test::{LinedLevel, cover, first_short, first_short_by, is_short, last_short_by, passes};
 use slot_model::Task;
 use std::alloc::Global;
 use std::process::Abort;
@@ -136,16 +134,6 @@ fn a_rate_that_is_above_the_supply(rt: HostRuntime) {
     let supply = periodic(&rt, 10, 3);
     expect(&rt, passes(&third, &supply, 60), false);
     expect(&rt, first_short(&third, &supply, 60), Some(50));
-}
-
-#[test]
-fn settled_points(rt: HostRuntime) {
-    let tasks = two_tasks(&rt);
-    expect(&rt, settled_past(&tasks, &Full), Some(1));
-    let third = periodic(&rt, 10, 3);
-    // the rates 0.26 and 0.3 meet where the bound is at most 17 slots late: 0.3 * 17 / 0.04 = 127.5
-    expect(&rt, settled_past(&tasks, &third), Some(127));
-    expect(&rt, settled_past(&[task(&rt, 50, 50, 15)], &third), None);
 }
 
 #[test]

@@ -1,23 +1,13 @@
--- Where the answers of a replay stand, and which job is the first of its task, by hand; and what is
--- said of the run. A definition that says less breaks one of these.
-use Rattle.std.proofs.Common.{◌≡◌, ℕ, zero, suc, ◌<◌, Bool, List, [], ◌∷◌, length, Option, Some, None, refl, arith}
+-- Which job is the first of its task, by hand; and what is said of the run of a replay. A
+-- definition that says less breaks one of these.
+use Rattle.std.proofs.Common.{◌≡◌, ℕ, zero, suc, ◌<◌, Bool, List, [], ◌∷◌, Option, refl, arith}
 use Rattle.slot_model.specs.declared.job.Job.{Job}
 use Rattle.slot_model.specs.Task.{SporadicTask, job_at, plain_job}
 use Rattle.slot_model.specs.Release.{synchronous}
-use Rattle.slot_model.specs.Run.{guest, service, FirstRun}
+use Rattle.slot_model.specs.Run.{guest, FirstRun}
 use Rattle.slot_model.specs.Miss.{WorstList}
 use Rattle.response_times.specs.Response.{IsResponse}
-use Rattle.response_times.specs.Replay.{IsFirstJob, IsWorstRun, ShowsAnswer, seen_at}
-
-abbrev three_answers : List (Option ℕ)
-three_answers = Some 4 ∷ None ∷ Some 9 ∷ []
-
-each_at_its_own_place : (seen_at three_answers 0 ≡ Some 4) × (seen_at three_answers 1 ≡ None)
-    × (seen_at three_answers 2 ≡ Some 9)
-each_at_its_own_place = (refl, refl, refl)
-
-past_the_end_nothing : seen_at three_answers 3 ≡ None
-past_the_end_nothing = refl
+use Rattle.response_times.specs.Replay.{IsFirstJob, IsWorstRun, ShowsResponse}
 
 -- a job of the second task, one of the first, and another of the second
 abbrev three_jobs : List Job
@@ -39,20 +29,13 @@ not_a_later_one h = h.none_before 0 (omega arith) refl
 not_one_of_another_task : IsFirstJob three_jobs 0 0 → ⊥
 not_one_of_another_task h = omega (arith, h.mine)
 
--- what is said where nothing is told of a task, and where a response is
-what_none_says : (before : Job → Job → Bool) (tasks : List SporadicTask) (pattern : ℕ → Bool) (start span i : ℕ)
-    → ShowsAnswer before tasks pattern start span i None
-    → (run : List (Option ℕ)) × IsWorstRun before tasks pattern start span run
-    × ((job : ℕ) × IsFirstJob (synchronous tasks start span) i job
-    × (service run job (length run) < (job_at (synchronous tasks start span) job).work))
-what_none_says before tasks pattern start span i h = (h.run, h.is_worst, (h.job, h.first_job, h.lacks))
-
-what_some_says : (before : Job → Job → Bool) (tasks : List SporadicTask) (pattern : ℕ → Bool) (start span i t : ℕ)
-    → ShowsAnswer before tasks pattern start span i (Some t)
+-- what is said of a response that is shown
+what_is_shown : (before : Job → Job → Bool) (tasks : List SporadicTask) (pattern : ℕ → Bool) (start span i t : ℕ)
+    → ShowsResponse before tasks pattern start span i t
     → (run : List (Option ℕ)) × IsWorstRun before tasks pattern start span run
     × ((job : ℕ) × IsFirstJob (synchronous tasks start span) i job
     × IsResponse (synchronous tasks start span) run job t)
-what_some_says before tasks pattern start span i t h = (h.run, h.is_worst, (h.job, h.first_job, h.responds))
+what_is_shown before tasks pattern start span i t h = (h.run, h.is_worst, (h.job, h.first_job, h.responds))
 
 -- and of the run: the worst pattern up to its end, and all tasks released at the start
 what_worst_says : (before : Job → Job → Bool) (tasks : List SporadicTask) (pattern : ℕ → Bool) (start span : ℕ)

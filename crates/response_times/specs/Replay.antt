@@ -1,9 +1,9 @@
 -- The replay of a greatest response.
-use Rattle.std.specs.Prelude.{◌≡◌, ◌≢◌, ℕ, ◌+◌, ◌<◌, ◌≤◌, Bool, List, length, slice_index_or, Option, None, MatchOption}
+use Rattle.std.specs.Prelude.{◌≡◌, ◌≢◌, ℕ, ◌+◌, ◌<◌, ◌≤◌, Bool, List, length, Option}
 use Rattle.slot_model.specs.declared.job.Job.{Job}
 use Rattle.slot_model.specs.Task.{SporadicTask, job_at}
 use Rattle.slot_model.specs.Release.{synchronous}
-use Rattle.slot_model.specs.Run.{guest, service, FirstRun}
+use Rattle.slot_model.specs.Run.{guest, FirstRun}
 use Rattle.slot_model.specs.Miss.{WorstList}
 use Rattle.fp_test.specs.Hits.{IsLeastHit}
 use Rattle.response_times.specs.Response.{IsResponse}
@@ -38,23 +38,3 @@ pub record ShowsResponse (before : Job → Job → Bool) (tasks : List SporadicT
   pub job : ℕ
   pub first_job : IsFirstJob (synchronous tasks start span) i job
   pub responds : IsResponse (synchronous tasks start span) run job t
-
--- there the first job of task i lacks work at the end
-pub record ShowsLack (before : Job → Job → Bool) (tasks : List SporadicTask) (pattern : ℕ → Bool)
-    (start span i : ℕ) : Type 0 where
-  pub run : List (Option ℕ)
-  pub is_worst : IsWorstRun before tasks pattern start span run
-  pub job : ℕ
-  pub first_job : IsFirstJob (synchronous tasks start span) i job
-  pub lacks : service run job (length run) < (job_at (synchronous tasks start span) job).work
-
--- what is seen there of task i: the response of its first job, or nothing where that lacks work
-abbrev pub ShowsAnswer : (Job → Job → Bool) → List SporadicTask → (ℕ → Bool) →
-    (start span i : ℕ) → Option ℕ → Type 0
-ShowsAnswer before tasks pattern start span i seen =
-    MatchOption seen (ShowsLack before tasks pattern start span i)
-    (ShowsResponse before tasks pattern start span i)
-
--- what is seen at a place of a list of answers; past its end nothing
-abbrev pub seen_at : List (Option ℕ) → ℕ → Option ℕ
-seen_at seen i = slice_index_or seen i None

@@ -1,2 +1,2 @@
 -- What only private functions promise each other.
-pub mod Answered
+pub mod Ends

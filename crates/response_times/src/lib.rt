@@ -5,8 +5,7 @@
 mod greatest;
 mod jobs;
 mod replays;
-mod waited;
 
 pub use greatest::{response, response_in};
 pub use jobs::response_jobs;
-pub use replays::{replay, replay_tasks};
+pub use replays::replay;

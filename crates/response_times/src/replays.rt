@@ -1,14 +1,15 @@
-ghost use Rattle.std.specs.Prelude.{◌≡◌, ◌≢◌, ℕ, ◌+◌, ◌<◌, ◌≤◌, Option, Some, length, IfOk, MatchOption};
+ghost use Rattle.std.specs.Prelude.{◌≡◌, ◌≢◌, ℕ, ◌+◌, ◌<◌, ◌≤◌, Option, Some, length, IfOk};
 ghost use Rattle.slot_model.specs.Task.{sporadic_tasks};
 ghost use Rattle.slot_model.specs.Order.{ranks_above, before_of};
 ghost use Rattle.fp_test.specs.Hits.{IsLeastHit, AnswersLeastHit};
-ghost use Rattle.response_times.specs.Replay.{IsReplayable, ShowsResponse, ShowsAnswer, seen_at};
+ghost use Rattle.guest_sched.specs.Spans.{AreSpans, run_of};
+ghost use Rattle.response_times.specs.Replay.{IsReplayable, IsWorstRun, ShowsResponse};
 ghost use Rattle.response_times.specs.Response.{IsGreatestResponse};
+ghost use Rattle.response_times.specs.inner.Ends.{EndsWith};
 
 use crate::greatest::response;
 use crate::jobs::response_jobs;
-use crate::waited::first_responses;
-use guest_sched::{Keep, ReleasedLevel, pattern_windows};
+use guest_sched::{Keep, ReleasedLevel, Span, pattern_windows, spans_by};
 use slot_model::{Sched, Task};
 use std::alloc::{AllocError, Global};
 use supply_bound::Supply;
@@ -43,38 +44,25 @@ pub fn replay<S: Supply>(
     let Some(span) = response(sched, tasks, i, s) else {
         unreachable!()
     };
-    let seen = replay_tasks(alloc, sched, tasks, s, span)?;
-    let Some(shown) = seen[i as usize] else {
-        unreachable!()
-    };
-    Ok(shown)
+    let spans = worst_spans(alloc, sched, tasks, s, span)?;
+    Ok(end_with(&spans, i) - s.start())
 }
 
-/// The responses of the first jobs of all tasks, in slots, as one run shows them: over the worst
-/// pattern of the supply all tasks release at its start, and the run ends `span` slots after that.
-/// None of a job that lacks work at the end. So the greatest response of each task for which it is
-/// at most `span`.
-pub fn replay_tasks<S: Supply>(
+/// The first run of a guest in the worst case: over the worst pattern of the supply all tasks
+/// release at its start, and the run ends `span` slots after that.
+fn worst_spans<S: Supply>(
     alloc: Global,
     sched: Sched,
     tasks: &[Task],
     s: &S,
     span: u64,
-) -> Result<Vec<Option<u64>>, AllocError>
-    requires fixed { sched ≢ Sched.Edf }
+) -> Result<Vec<Span>, AllocError>
     requires few { length tasks.now ≤ 256 }
-    requires some_span { 1 ≤ span }
     requires in_reach { S.start_of s.now + span ≤ 1000000 }
-    ensures long { IfOk result (λ seen. length seen.items ≡ length tasks.now) }
-    // what is seen in the run
-    ensures shown { let T = sporadic_tasks tasks.now in
-        IfOk result (λ seen. (i : ℕ) → i < length T → ShowsAnswer (before_of sched T) T
-        (S.pattern s.now) (S.start_of s.now) span i (seen_at seen.items i)) }
-    // it is the least hit of each task that has one within the span
-    ensures exact { let T = sporadic_tasks tasks.now in
-        IfOk result (λ seen. (i t : ℕ) → i < length T →
-        IsLeastHit (ranks_above sched T) T (S.bound s.now) i t →
-        MatchOption (seen_at seen.items i) (span < t) (λ u. (u ≡ t) × (t ≤ span))) }
+    ensures spans { IfOk result (λ spans. AreSpans spans.items (S.start_of s.now + span)) }
+    ensures worst { let T = sporadic_tasks tasks.now in
+        IfOk result (λ spans. IsWorstRun (before_of sched T) T (S.pattern s.now) (S.start_of s.now)
+        span (run_of spans.items)) }
 {
     let start = s.start();
     let jobs = response_jobs(alloc, tasks, start, span)?;
@@ -86,5 +74,19 @@ pub fn replay_tasks<S: Supply>(
         given: &windows,
         slots: start + span,
     };
-    first_responses(alloc, &level, sched, tasks.len())
+    spans_by(alloc, &level, sched)
+}
+
+/// Where a run ends that ends with a slot of job `j`.
+fn end_with(spans: &[Span], j: u32) -> u64
+    requires { (n : ℕ) × AreSpans spans.now n × EndsWith (run_of spans.now) n j }
+    ensures { (n : ℕ) → AreSpans spans.now n → result ≡ n }
+{
+    let Some(last) = spans.last() else {
+        unreachable!()
+    };
+    if last.job != Some(j) {
+        unreachable!()
+    }
+    last.until
 }

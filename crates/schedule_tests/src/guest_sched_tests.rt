@@ -1,6 +1,6 @@
 use crate::helpers::{expect, jobs_of, tasks_of, told_run, windows_of};
 use guest_sched::{
-    Keep, ReleasedLevel, Span, are_windows, pattern_windows, run_level, run_over, run_spans,
+    Keep, ReleasedLevel, Span, pattern_windows, run_level, run_over, run_spans,
     spans_by,
 };
 use slot_model::{Edf, Sched, is_legal};
@@ -186,8 +186,8 @@ fn told_of(
 ) -> Result<String, AllocError> {
     let tasks = tasks_of(alloc, case.tasks)?;
     let jobs = jobs_of(alloc, case.jobs)?;
-    let given = windows_of(alloc, case.windows)?;
-    assert!(rt; is_legal(&tasks, &jobs) && jobs.len() < 1000 && are_windows(&given, case.slots));
+    let given = windows_of(rt, alloc, case.windows, case.slots)?;
+    assert!(rt; is_legal(&tasks, &jobs) && jobs.len() < 1000);
     let level = ReleasedLevel {
         keep,
         tasks: &tasks,
@@ -238,8 +238,8 @@ fn windows_of_the_worst_pattern(rt: HostRuntime) -> Result<(), Fail> {
 fn told_by(rt: &impl Abort, alloc: Global, sched: Sched, keep: Keep) -> Result<String, AllocError> {
     let tasks = tasks_of(alloc, &[(9, 5), (4, 3)])?;
     let jobs = jobs_of(alloc, &[(0, 0, 5), (1, 1, 3)])?;
-    let given = windows_of(alloc, &[(0, 12)])?;
-    assert!(rt; is_legal(&tasks, &jobs) && jobs.len() < 1000 && are_windows(&given, 12));
+    let given = windows_of(rt, alloc, &[(0, 12)], 12)?;
+    assert!(rt; is_legal(&tasks, &jobs) && jobs.len() < 1000);
     let level = ReleasedLevel {
         keep,
         tasks: &tasks,

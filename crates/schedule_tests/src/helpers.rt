@@ -1,5 +1,7 @@
 //! What the tests of several crates make.
 
+ghost use Rattle.std.specs.Prelude.{IfOk};
+ghost use Rattle.guest_sched.specs.Spans.{AreWindows};
 ghost use Rattle.tree_model.specs.Plans.{IsPlan};
 
 use compose_tree::assign;
@@ -80,14 +82,22 @@ pub fn jobs_of(alloc: Global, rows: &[(u32, u64, u64)]) -> Result<Vec<Job>, Allo
     Ok(jobs)
 }
 
-/// Windows from and up to these slots.
-pub fn windows_of(alloc: Global, rows: &[(u64, u64)]) -> Result<Vec<Window>, AllocError> {
+/// Windows from and up to these slots, which stand in order below `slots`.
+pub fn windows_of(
+    rt: &impl Abort,
+    alloc: Global,
+    rows: &[(u64, u64)],
+    slots: u64,
+) -> Result<Vec<Window>, AllocError>
+    ensures { IfOk result (λ windows. AreWindows windows.items slots) }
+{
     let mut windows = Vec::new(alloc);
-    for (from, until) in rows {
-        windows.push(Window {
-            from: *from,
-            until: *until,
-        })?;
+    let mut end = 0;
+    for row in rows {
+        let (from, until) = *row;
+        assert!(rt; end <= from && from < until && until <= slots);
+        windows.push(Window { from, until })?;
+        end = until;
     }
     Ok(windows)
 }

@@ -14,7 +14,7 @@ use Rattle.guest_sched.proofs.SpanByOne.{Holds, span_job}
 use Rattle.span_counts.specs.declared.pending.Wait.{Wait}
 use Rattle.span_counts.specs.Counts.{ServedTo}
 use Rattle.span_counts.specs.inner.Services.{AreServices, AreDues}
-use Rattle.span_counts.specs.Pending.{HasWorkFrom, WaitsTo, wait_at, AreWaitsTo}
+use Rattle.span_counts.specs.inner.Waits.{HasWorkFrom, WaitsTo, wait_at, AreWaitsTo}
 use Rattle.span_counts.proofs.Counting.{idle_served, job_served}
 use Rattle.span_counts.proofs.Waiting.{IsServed, all_kept, one_served, service-mono}
 

@@ -7,5 +7,5 @@ mod pending;
 mod services;
 
 pub use counts::{Counts, count_level, counts_by, first_miss, misses, slots_given};
-pub use pending::{Wait, Waits, count_pending, waits_by};
+pub use pending::count_pending;
 pub use services::{Services, first_miss_by};

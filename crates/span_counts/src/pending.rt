@@ -1,14 +1,13 @@
 ghost use Rattle.std.specs.Prelude.{◌≡◌, ◌↔◌, ℕ, ◌+◌, ◌-◌, ◌*◌, ◌^◌, ◌≤◌, ◌<◌, List, [], Option, length, IfOk, IsTrue};
-ghost use Rattle.slot_model.specs.Task.{SporadicTask, sporadic_tasks, job_at};
-ghost use Rattle.slot_model.specs.Order.{before_of};
+ghost use Rattle.slot_model.specs.Task.{SporadicTask, job_at};
 ghost use Rattle.slot_model.specs.Run.{guest, Pending};
 ghost use Rattle.slot_model.specs.Miss.{HoldsReleased};
 ghost use Rattle.guest_sched.specs.Spans.{AreSpans, run_of};
-ghost use Rattle.guest_sched.specs.Levels.{FirstRunOf};
-ghost use Rattle.span_counts.specs.Pending.{is_pending, pairs_pending, wait_at, AreWaitsTo};
+ghost use Rattle.span_counts.specs.Pending.{is_pending, pairs_pending};
+ghost use Rattle.span_counts.specs.inner.Waits.{wait_at, AreWaitsTo};
 
-use guest_sched::{Follow, ReleasedLevel, Span, follow_by, follow_spans};
-use slot_model::{Job, Sched};
+use guest_sched::{Follow, Span, follow_spans};
+use slot_model::Job;
 use std::alloc::{AllocError, Global};
 
 /// What a job still lacks of its work, and the moment from which it has all of it, as far as is
@@ -64,7 +63,7 @@ impl<'a> Waits<'a> {
 
 impl<'a> Follow for Waits<'a> {
     ghost use Rattle.std.specs.Prelude.{◌<◌, ◌∷◌, length, map};
-    ghost use Rattle.span_counts.specs.Pending.{AreWaitsTo};
+    ghost use Rattle.span_counts.specs.inner.Waits.{AreWaitsTo};
 
     ghost follows = { λ w run. AreWaitsTo w.jobs.now run w.slots (length run) w.waits.items };
 
@@ -82,19 +81,7 @@ impl<'a> Follow for Waits<'a> {
     }
 }
 
-/// What each job lacks of its work at the end of the schedule of a guest by a scheduler, and the
-/// moment from which it has all of it: the end of the run where it lacks some. No span is kept.
-pub fn waits_by(alloc: Global, level: &ReleasedLevel, sched: Sched) -> Result<Vec<Wait>, AllocError>
-    ensures { let T = sporadic_tasks level.now.tasks.now in
-        IfOk result (λ waits. (run : List (Option ℕ)) × FirstRunOf level.now (before_of sched T) run
-        × AreWaitsTo level.now.jobs.now run level.now.slots level.now.slots waits.items) }
-{
-    let mut waits = Waits::new(alloc, level.jobs, level.slots)?;
-    follow_by(alloc, level, sched, &mut waits)?;
-    Ok(waits.waits)
-}
-
-/// The same of a run of spans of `slots` slots.
+/// What each job lacks of its work at the end of a run of spans of `slots` slots.
 fn waits_of(
     alloc: Global,
     jobs: &[Job],

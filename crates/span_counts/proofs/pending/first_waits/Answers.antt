@@ -1,7 +1,7 @@
 use Rattle.std.proofs.Common.{sym, subst, arith}
 use Rattle.slot_model.specs.Task.{job_at}
 use Rattle.span_counts.specs.declared.pending.Wait.{Wait}
-use Rattle.span_counts.specs.Pending.{WaitsTo}
+use Rattle.span_counts.specs.inner.Waits.{WaitsTo}
 use Rattle.span_counts.proofs.Waiting.{first_wait}
 use Rattle.span_counts.proofs.pending.first_waits.Goals as goal
 

@@ -1,6 +1,6 @@
 use Rattle.std.proofs.Common.{◌≡◌, ℕ, ◌<◌, length}
 use Rattle.slot_model.specs.Task.{job_at}
-use Rattle.span_counts.specs.Pending.{wait_at}
+use Rattle.span_counts.specs.inner.Waits.{wait_at}
 use Rattle.span_counts.proofs.pending.first_waits.Given as goal
 
 abbrev pub invariant-loop-job : goal.invariant-loop-job

@@ -1,7 +1,8 @@
 use Rattle.std.proofs.Common.{◌+◌, ◌≤◌, length, sym, ap, arith, mul-le-mul_right, add-one}
 use Rattle.slot_model.specs.Slots.{sum_below}
 use Rattle.slot_model.proofs.Sums.{sum_below-zero, sum_below-suc}
-use Rattle.span_counts.specs.Pending.{slots_pending, wait_at}
+use Rattle.span_counts.specs.Pending.{slots_pending}
+use Rattle.span_counts.specs.inner.Waits.{wait_at}
 use Rattle.span_counts.proofs.Waiting.{pending_is_wait}
 use Rattle.span_counts.proofs.pending.sum_of_waits.Goals as goal
 

@@ -1,6 +1,7 @@
 use Rattle.std.proofs.Common.{◌≡◌, ℕ, ◌*◌, ◌≤◌, List, Option, length}
 use Rattle.slot_model.specs.Slots.{sum_below}
-use Rattle.span_counts.specs.Pending.{slots_pending, AreWaitsTo}
+use Rattle.span_counts.specs.Pending.{slots_pending}
+use Rattle.span_counts.specs.inner.Waits.{AreWaitsTo}
 use Rattle.span_counts.proofs.pending.sum_of_waits.Given as goal
 
 abbrev pub invariant-loop-place : goal.invariant-loop-place

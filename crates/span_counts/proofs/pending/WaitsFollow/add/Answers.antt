@@ -3,7 +3,7 @@ use Rattle.std.proofs.lemmas.List.{get_or_read}
 use Rattle.guest_sched.specs.declared.spans.Span.{Span}
 use Rattle.span_counts.specs.declared.pending.Wait.{Wait}
 use Rattle.span_counts.specs.declared.pending.Waits.{Waits}
-use Rattle.span_counts.specs.Pending.{AreWaitsTo, wait_at}
+use Rattle.span_counts.specs.inner.Waits.{AreWaitsTo, wait_at}
 use Rattle.span_counts.proofs.Waiting.{IsServed}
 use Rattle.span_counts.proofs.Following.{more_run, waits_idle, waits_job}
 use Rattle.span_counts.proofs.pending.WaitsFollow.add.Goals as goal
