@@ -1,22 +1,26 @@
 -- The arrays and the tables of a document, which are seen through a map.
 use Rattle.std.proofs.lemmas.List.{drop_more}
 use Rattle.std.proofs.lemmas.Map.Text.{is_eq-slice_cmp}
-use Rattle.std.specs.Cmp.Lexicographic.{slice_cmp}
-use Rattle.std.specs.Ordering.{match_ordering}
-use Rattle.std.proofs.Common.{◌≡◌, ℕ, ◌+◌, cond, List, [], ◌∷◌, map, length, ◌<◌, get_or, drop, Option, Some, Ordering, Less, Equal, Greater, nat_cmp, is_eq, refl, sym, ap, ◌∙◌, Bor}
+use Rattle.std.proofs.Common.{◌≡◌, ℕ, ◌+◌, cond, List, [], ◌∷◌, map, length, ◌<◌, get_or, drop, Some, refl, sym, ap, ◌∙◌, Bor}
 use Rattle.std.specs.Prelude.{bytes_eq}
 use Rattle.std.specs.List.{list_any, list_all}
 use Rattle.toml.specs.Data.{Data, get_member}
+use Rattle.toml.specs.View.{items_of}
 use Rattle.toml_items.specs.Item.{item_view, list_view, entries_view}
 use Rattle.toml_items.specs.declared.item.Item.{Item}
+use Rattle.toml_items.proofs.Members.{get_member-first}
 use Rattle.tree_model.proofs.Lists.{list_any_map}
 use Rattle.system_file.specs.Document.{elements_of}
 use Rattle.system_file.specs.Faults.{has_only}
 
+-- the elements of an array that is made of them
+pub elements_back : (ds : List Data) → elements_of (items_of ds) ≡ ds
+elements_back [] = refl
+elements_back (d ∷ ds) = ap (λ es. d ∷ es) (elements_back ds)
+
 -- the elements of an array are the views of its values
 pub elements_view : (vs : List Item) → elements_of (list_view vs) ≡ map item_view vs
-elements_view [] = refl
-elements_view (v ∷ vs) = ap (λ ds. item_view v ∷ ds) (elements_view vs)
+elements_view vs = elements_back (map item_view vs)
 
 abbrev pub Entry : Type 0
 Entry = Bor (List ℕ) × Item
@@ -28,11 +32,6 @@ pub only_listed : (listed : List (Bor (List ℕ))) (es : List Entry)
 only_listed listed [] = refl
 only_listed listed (e ∷ es) = rw (list_any_map (bytes_eq e.0.now) (λ l. l.now) listed, only_listed listed es)
 
-at_equal : (o : Ordering) (x y : Option Data) → match_ordering o y x y ≡ cond (is_eq o) x y
-at_equal Less x y = refl
-at_equal Equal x y = refl
-at_equal Greater x y = refl
-
 -- a look-up among the entries from a place on
 pub looked_at : (k : List ℕ) (es : List Entry) (i : ℕ) (e : Entry)
     → i < length es → e ≡ get_or es i e → get_member k (entries_view (drop i es))
@@ -40,6 +39,6 @@ pub looked_at : (k : List ℕ) (es : List Entry) (i : ℕ) (e : Entry)
 looked_at k es i e h is =
     ap (λ t. get_member k (entries_view t)) (drop_more es i e h)
     ∙ ap (λ t. get_member k (entries_view (t ∷ drop (i + 1) es))) (sym is)
-    ∙ at_equal (slice_cmp nat_cmp k e.0.now) (Some (item_view e.1)) _
+    ∙ get_member-first k e.0.now (item_view e.1) _
     ∙ ap (λ b. cond b (Some (item_view e.1)) (get_member k (entries_view (drop (i + 1) es))))
     (is_eq-slice_cmp k e.0.now)

@@ -1,5 +1,5 @@
 -- Values of their kind and in their range have no fault.
-use Rattle.std.proofs.Common.{◌≡◌, ℕ, ◌<◌, ◌≤◌, pos, negsuc, Bool, true, false, not, ◌&&◌, nat_le, nat_lt, List, [], ◌∷◌, map, length, take, get_or, Option, Some, None, refl, sym, ap, ◌∙◌, codes, arith, bytes_eq, length-take-le, unwrap_or, if◌then◌else◌, ◌==◌}
+use Rattle.std.proofs.Common.{◌≡◌, ℕ, ◌<◌, ◌≤◌, pos, Bool, true, false, not, ◌&&◌, nat_le, nat_lt, List, [], ◌∷◌, map, length, take, get_or, Option, Some, None, refl, sym, ap, ◌∙◌, codes, arith, bytes_eq, length-take-le, unwrap_or, if◌then◌else◌, ◌==◌}
 use Rattle.std.proofs.lemmas.Bool.Decides.{nat_tests}
 use Rattle.std.proofs.lemmas.List.{get_or_default, get_or-map, get_or-take}
 use Rattle.std.proofs.lemmas.List.Folds.{list_any_none}
@@ -8,7 +8,7 @@ use Rattle.std.proofs.lemmas.Bool.{le-ltb}
 use Rattle.std.specs.List.{list_any}
 use Rattle.slot_model.specs.Name.{is_name}
 use Rattle.slot_model.specs.declared.task.TheConstants.{LIMIT}
-use Rattle.toml.specs.Data.{Data, string, integer, float, boolean, datetime, array, table, get}
+use Rattle.toml.specs.Data.{Data, integer, boolean, get}
 use Rattle.tree_model.specs.System.{IsGivenBudget, IsCoreSupply, AreDistinct}
 use Rattle.tree_model.specs.Lists.{fault_if}
 use Rattle.tree_model.proofs.Lists.{length_map, none_both}
@@ -53,14 +53,8 @@ in_range spot n highest low high =
 
 pub number_fits : (spot : Spot) (highest : ℕ) (d : Data) → IsWhole d → 1 ≤ number_of (Some d)
     → number_of (Some d) ≤ highest → range_faults spot highest d ≡ []
-number_fits spot highest (string s) w low high = let e = w.1 in cc
-number_fits spot highest (integer (pos n)) w low high = in_range spot n highest low high
-number_fits spot highest (integer (negsuc n)) w low high = let e = w.1 in cc
-number_fits spot highest (float x) w low high = let e = w.1 in cc
-number_fits spot highest (boolean b) w low high = let e = w.1 in cc
-number_fits spot highest (datetime t) w low high = let e = w.1 in cc
-number_fits spot highest (array ds) w low high = let e = w.1 in cc
-number_fits spot highest (table m) w low high = let e = w.1 in cc
+number_fits spot highest d w low high =
+    ap (range_faults spot highest) w.1 ∙ in_range spot w.0 highest (rw w.1 at low) (rw w.1 at high)
 
 pub required_fits : (spot : Spot) (highest : ℕ) (o : Option Data) → There IsWhole o → 1 ≤ number_of o
     → number_of o ≤ highest → required spot (range_faults spot highest) o ≡ []
@@ -81,15 +75,10 @@ default_fits spot highest (Some d) w low high = number_fits spot highest d w low
 pub below_fits : (spot : Spot) (bound : ℕ) (o : Option Data) → MayBe IsWhole o → number_of o < bound
     → optional (below_faults spot bound) o ≡ []
 below_fits spot bound None w h = refl
-below_fits spot bound (Some (string s)) w h = let e = w.1 in cc
-below_fits spot bound (Some (integer (pos n))) w h =
-    right _ _ (let e : not (nat_lt n bound) ≡ false = grind (arith, nat_tests) in e)
-below_fits spot bound (Some (integer (negsuc n))) w h = let e = w.1 in cc
-below_fits spot bound (Some (float x)) w h = let e = w.1 in cc
-below_fits spot bound (Some (boolean b)) w h = let e = w.1 in cc
-below_fits spot bound (Some (datetime t)) w h = let e = w.1 in cc
-below_fits spot bound (Some (array ds)) w h = let e = w.1 in cc
-below_fits spot bound (Some (table m)) w h = let e = w.1 in cc
+below_fits spot bound (Some d) w h = ap (below_faults spot bound) w.1 ∙ right _ _ (below w.0 (rw w.1 at h))
+  where
+    below : (n : ℕ) → n < bound → not (nat_lt n bound) ≡ false
+    below n lt = grind (arith, nat_tests)
 
 pub flag_fits : (spot : Spot) (o : Option Data) → MayBe IsFlag o → optional (flag_faults spot) o ≡ []
 flag_fits spot None w = refl
@@ -98,13 +87,8 @@ flag_fits spot (Some d) w = ap (flag_faults spot) w.1
 pub array_fits : (spot : Spot) (most : ℕ) (o : Option Data) → MayBe IsArray o → length (array_of o) ≤ most
     → optional (array_faults spot most) o ≡ []
 array_fits spot most None w few = refl
-array_fits spot most (Some (string s)) w few = let e = w.1 in cc
-array_fits spot most (Some (integer z)) w few = let e = w.1 in cc
-array_fits spot most (Some (float x)) w few = let e = w.1 in cc
-array_fits spot most (Some (boolean b)) w few = let e = w.1 in cc
-array_fits spot most (Some (datetime t)) w few = let e = w.1 in cc
-array_fits spot most (Some (table m)) w few = let e = w.1 in cc
-array_fits spot most (Some (array ds)) w few = right _ (TooMany spot) (le-ltb most (length (elements_of ds)) few)
+array_fits spot most (Some d) w few =
+    ap (array_faults spot most) w.1 ∙ right _ (TooMany spot) (le-ltb most (length (elements_of w.0)) (rw w.1 at few))
 
 pub supply_fits : (spot : Spot) (a b : Option Data) → BothOrNeither a b → IsCoreSupply (supply_of a b)
     → supply_faults spot a b ≡ []

@@ -1,6 +1,7 @@
 -- Tests along a list, and the first place that passes.
 use Rattle.std.proofs.Common.{◌≡◌, ℕ, ◌<◌, suc, zero, Bool, true, false, cond, ◌||◌, List, [], ◌∷◌, ◌++◌, length, take, get_or, Option, Some, None, option_map, refl, sym, ap, subst, ◌∙◌, arith, append_assoc}
-use Rattle.std.proofs.lemmas.List.{append-nil}
+use Rattle.std.proofs.lemmas.List.{append-nil, get_or_default}
+use Rattle.std.proofs.lemmas.List.Folds.{Any-from_list_any}
 use Rattle.std.proofs.lemmas.Bool.{or_parts}
 use Rattle.std.specs.Prelude.{position}
 use Rattle.std.specs.List.{list_any}
@@ -62,15 +63,14 @@ pub record PassesAt {A : Type 0} (p : A → Bool) (xs : List A) (e : A) : Type 0
   pub within : place < length xs
   pub passes : p (get_or xs place e) ≡ true
 
-any_step : {A : Type 0} (p : A → Bool) (x : A) (xs : List A) (e : A) (b : Bool) → p x ≡ b
-    → (list_any p xs ≡ true → PassesAt p xs e) → (b || list_any p xs) ≡ true → PassesAt p (x ∷ xs) e
-any_step p x xs e true px ih h = record { place = 0; within = omega arith; passes = px }
-any_step p x xs e false px ih h =
-    let a = ih h in record { place = suc a.place; within = let w = a.within in omega arith; passes = a.passes }
-
 pub any_at : {A : Type 0} (p : A → Bool) (xs : List A) (e : A) → list_any p xs ≡ true → PassesAt p xs e
-any_at p [] e h = cc
-any_at p (x ∷ xs) e h = any_step p x xs e (p x) refl (any_at p xs e) h
+any_at p xs e h =
+    let (k, x, within, at, passes) = Any-from_list_any p xs h in
+    record {
+      place = k;
+      within = within;
+      passes = ap p (get_or_default xs k e x within ∙ at) ∙ passes;
+    }
 
 -- no element has a fault, so there is none
 pub none_in_order : (f : List Data → Data → List SystemFault) (earlier ds : List Data) (e : Data)

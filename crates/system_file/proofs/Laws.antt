@@ -1,14 +1,14 @@
 -- The two laws of the system file: what is read is spelled by the document and is a system, and a
 -- document that is written by the rules is read where what it spells is a system.
-use Rattle.std.proofs.Common.{◌≡◌, ℕ, ◌+◌, ◌-◌, ◌<◌, ◌≤◌, nat_lt, suc, zero, Bool, true, false, not, ◌&&◌, ◌||◌, List, [], ◌∷◌, ◌++◌, map, length, take, drop, get_or, Option, Some, None, Result, Ok, Err, IfOk, IfErr, ◌≢◌, refl, sym, ap, subst, ◌∙◌, codes, arith, bytes_eq, length-take-le, length-append, unwrap_or}
-use Rattle.std.proofs.lemmas.Bool.Decides.{nat_tests}
-use Rattle.std.proofs.lemmas.List.{map-append, get_or-map, get_or-take, get_or-append-add, take-append-le, take-append-drop}
+use Rattle.std.proofs.Common.{◌≡◌, ℕ, ◌+◌, ◌<◌, ◌≤◌, Bool, true, false, not, ◌&&◌, List, [], ◌∷◌, ◌++◌, map, length, take, drop, get_or, Option, Some, None, Result, Ok, Err, IfOk, IfErr, ◌≢◌, refl, sym, ap, subst, ◌∙◌, codes, arith, bytes_eq, length-take-le, length-append, unwrap_or}
+use Rattle.std.proofs.lemmas.List.{map-append, get_or-map, get_or-take, get_or_append_left, get_or-append-add, take-append-le, take-append-drop}
+use Rattle.std.proofs.lemmas.List.Folds.{list_any_at}
 use Rattle.std.proofs.Math.Seq.{take-append-add}
 use Rattle.std.specs.Prelude.{position}
 use Rattle.std.specs.List.{list_any}
 use Rattle.slot_model.specs.Task.{default_task, room_of, SporadicTask, IsConstrained, task_at}
 use Rattle.slot_model.specs.declared.task.TheConstants.{LIMIT}
-use Rattle.toml.specs.Data.{Data, string, integer, float, boolean, datetime, array, table, Members, get}
+use Rattle.toml.specs.Data.{Data, boolean, table, Members, get}
 use Rattle.tree_model.specs.declared.pinned_core.Core.{Core as CoreView}
 use Rattle.tree_model.specs.declared.place.Parent.{Parent}
 use Rattle.tree_model.specs.declared.place.Parent.TheVariants.{Core as on_core, Part as on_part}
@@ -31,7 +31,7 @@ use Rattle.system_file.proofs.Places.{joined, position_append, leaf_tasks}
 use Rattle.system_file.proofs.Found.{position_holds, none_in_order}
 use Rattle.system_file.proofs.Systems.{core_names, part_names, sys, spelled, part_spelled, faultless_is_system}
 use Rattle.system_file.proofs.WrittenKinds.{faultless_is_written}
-use Rattle.system_file.proofs.Nodes.{get_front, part_place}
+use Rattle.system_file.proofs.Nodes.{each_of_both, part_place}
 use Rattle.system_file.proofs.Rules.{task_names}
 use Rattle.system_file.proofs.Fits.{right, keys_fit, name_fits, sched_fits, required_fits, optional_fits, default_fits, below_fits, flag_fits, array_fits, supply_fits, new_of_distinct, not_none}
 
@@ -105,14 +105,15 @@ parent_before cores earlier later s p h below =
     by None None (Some j) e =
         absurd (let is : p ≡ on_part (length earlier + j) = cc in let lt = below (length earlier + j) is in omega arith)
 
-parent_fits : (spot : Spot) (cores earlier later : List Data) (o : Option Data)
-    (t : IsParentText cores (earlier ++ later) o)
+parent_fits : (spot : Spot) (cores all earlier later : List Data) → all ≡ earlier ++ later → (o : Option Data)
+    (t : IsParentText cores all o)
     → ((r : ℕ) → t.parent ≡ on_part r → (r < length earlier) × (has_tasks (get_or earlier r (boolean false)) ≡ false))
     → required spot (text_faults spot (parent_faults spot cores earlier)) o ≡ []
-parent_fits spot cores earlier later o t stands =
+parent_fits spot cores all earlier later same o t stands =
     ap (required spot (text_faults spot (parent_faults spot cores earlier))) t.is
     ∙ ap (is_parent_faults spot earlier)
-    (parent_before cores earlier later t.text t.parent t.named (λ r e. (stands r e).0))
+    (parent_before cores earlier later t.text t.parent
+    (ap (λ ps. parent_named cores ps t.text) (sym same) ∙ t.named) (λ r e. (stands r e).0))
     ∙ by t.parent refl
   where
     by : (p : Parent) → t.parent ≡ p → is_parent_faults spot earlier (Some p) ≡ []
@@ -139,12 +140,12 @@ tasks_fit format cores all q d part written =
     (λ k w. (written k w).name) i h)
     (subst fits same (part.tasks i within)))
 
-part_fits : (format : Format) (cores earlier later : List Data) (d : Data)
-    (w : IsWrittenPart format cores (earlier ++ later) d) → list_any (is_named w.name.name) (cores ++ earlier) ≡ false
+part_fits : (format : Format) (cores all earlier later : List Data) → all ≡ earlier ++ later → (d : Data)
+    (w : IsWrittenPart format cores all d) → list_any (is_named w.name.name) (cores ++ earlier) ≡ false
     → ((r : ℕ) → w.parent.parent ≡ on_part r
     → (r < length earlier) × (has_tasks (get_or earlier r (boolean false)) ≡ false))
-    → IsPart (spelled_part cores (earlier ++ later) d) → part_faults format cores earlier d ≡ []
-part_fits format cores earlier later d w new stands part =
+    → IsPart (spelled_part cores all d) → part_faults format cores earlier d ≡ []
+part_fits format cores all earlier later same d w new stands part =
     let spot = Part (length earlier) in
     let few : length (array_of (get (codes "task") d)) ≤ 256
     = rw (length_map spelled_task (tasks_of d)) at part.few_tasks in
@@ -153,48 +154,22 @@ part_fits format cores earlier later d w new stands part =
     w.keys
     (none_both (part_key_faults spot cores earlier d) _
     (none_both _ _ (name_fits spot (cores ++ earlier) (get (codes "name") d) w.name new)
-    (none_both _ _ (parent_fits spot cores earlier later (get (codes "parent") d) w.parent stands)
+    (none_both _ _ (parent_fits spot cores all earlier later same (get (codes "parent") d) w.parent stands)
     (none_both _ _ (sched_fits spot (get (codes "sched") d) w.sched)
     (none_both _ _ (required_fits spot LIMIT (get (codes "period") d) w.period part.period.0 part.period.1)
     (none_both _ _
     (optional_fits spot (number_of (get (codes "period") d)) (get (codes "budget") d) w.budget part.budget)
     (none_both _ _ (flag_fits spot (get (codes "extra") d) w.extra)
     (array_fits spot 256 (get (codes "task") d) w.task few)))))))
-    (tasks_fit format cores (earlier ++ later) (length earlier) d part w.tasks))
-
-any_from : {A : Type 0} (p : A → Bool) (xs : List A) (k : ℕ) (e : A) → k < length xs → p (get_or xs k e) ≡ true
-    → list_any p xs ≡ true
-any_from p [] k e h here = absurd (omega arith)
-any_from p (x ∷ xs) zero e h here = ap (λ b. b || list_any p xs) here
-any_from p (x ∷ xs) (suc k) e h here = either (p x) (any_from p xs k e (omega arith) here)
-  where
-    either : (b : Bool) → list_any p xs ≡ true → (b || list_any p xs) ≡ true
-    either true r = refl
-    either false r = r
+    (tasks_fit format cores all (length earlier) d part w.tasks))
 
 module _ (format : Format) (cores parts : List Data) (wc : (c : ℕ) → c < length cores → IsWrittenCore (element cores c))
     (wp : (q : ℕ) → q < length parts → IsWrittenPart format cores parts (element parts q))
     (system : IsSystem (sys cores parts)) where
   all_named : (i : ℕ) → i < length (cores ++ parts)
       → IsNameText (get (codes "name") (get_or (cores ++ parts) i (boolean false)))
-  all_named i h = by (nat_lt i (length cores)) refl
-    where
-      whole : i < length cores + length parts
-      whole = rw (length-append {A = Data}) at h
-
-      by : (b : Bool) → nat_lt i (length cores) ≡ b
-          → IsNameText (get (codes "name") (get_or (cores ++ parts) i (boolean false)))
-      by true e =
-          let lt : i < length cores = grind (arith, nat_tests) in
-          subst (λ (d : Data). IsNameText (get (codes "name") d)) (sym (get_front cores parts i (boolean false) lt))
-          (wc i lt).name
-      by false e =
-          let le : length cores ≤ i = grind (arith, nat_tests) in
-          let at : length cores + (i - length cores) ≡ i = omega arith in
-          subst (λ (k : ℕ). IsNameText (get (codes "name") (get_or (cores ++ parts) k (boolean false)))) at
-          (subst (λ (d : Data). IsNameText (get (codes "name") d))
-          (sym (get_or-append-add cores parts (i - length cores) (boolean false)))
-          (wp (i - length cores) (omega (arith, whole))).name)
+  all_named =
+      each_of_both (λ i d. IsNameText (get (codes "name") d)) cores parts (λ c h. (wc c h).name) (λ q h. (wp q h).name)
 
   distinct : AreDistinct (map (λ d. text_of (get (codes "name") d)) (cores ++ parts))
   distinct = subst AreDistinct
@@ -218,7 +193,8 @@ module _ (format : Format) (cores parts : List Data) (wc : (c : ℕ) → c < len
       let supply : CoreView → Type 0 = λ x. IsCoreSupply x.supply in
       core_fits (take c cores) (get_or cores c (boolean false)) (wc c h)
       (ap (list_any (is_named (wc c h).name.name)) (sym (take-append-le c cores parts (omega arith)))
-      ∙ new_at c (get_or cores c (boolean false)) (wc c h).name whole (get_front cores parts c (boolean false) h))
+      ∙ new_at c (get_or cores c (boolean false)) (wc c h).name whole
+      (get_or_append_left cores parts (boolean false) c h))
       (subst supply (get_or-map spelled_core cores c (boolean false) _ h)
       (system.supplies c (rw (length_map spelled_core cores) h))))
 
@@ -244,39 +220,15 @@ module _ (format : Format) (cores parts : List Data) (wc : (c : ℕ) → c < len
       )
 
   no_part_fault : in_order (part_faults format cores) [] parts ≡ []
-  no_part_fault = none_in_order (part_faults format cores) [] parts (boolean false) (λ q h. at q h)
-    where
-      at : (q : ℕ) → q < length parts → part_faults format cores (take q parts) (get_or parts q (boolean false)) ≡ []
-      at q h =
-          let d = get_or parts q (boolean false) in
-          let all : take q parts ++ drop q parts ≡ parts = take-append-drop q parts in
-          let w = wp q h in
-          let parent : IsParentText cores (take q parts ++ drop q parts) (get (codes "parent") d) =
-          record {
-            text = w.parent.text;
-            is = w.parent.is;
-            parent = w.parent.parent;
-            named = ap (λ ps. parent_named cores ps w.parent.text) all ∙ w.parent.named;
-          } in
-          let whole : length cores + q < length (cores ++ parts) = rw (length-append {A = Data}) (omega arith) in
-          part_fits format cores (take q parts) (drop q parts) d
-          (record {
-            keys = w.keys;
-            name = w.name;
-            parent = parent;
-            sched = w.sched;
-            period = w.period;
-            budget = w.budget;
-            extra = w.extra;
-            task = w.task;
-            tasks = w.tasks;
-          })
-          (ap (list_any (is_named w.name.name)) (sym (take-append-add cores parts q))
-          ∙ new_at (length cores + q) d w.name whole (get_or-append-add cores parts q (boolean false)))
-          (stands q h)
-          (subst (λ (ps : List Data). IsPart (spelled_part cores ps d)) (sym all)
-          (subst IsPart (part_spelled cores parts q h)
-          (system.parts q (rw (length_map (spelled_part cores parts) parts) h))))
+  no_part_fault = none_in_order (part_faults format cores) [] parts (boolean false) (λ q h.
+      let d = get_or parts q (boolean false) in
+      let whole : length cores + q < length (cores ++ parts) = rw (length-append {A = Data}) (omega arith) in
+      part_fits format cores parts (take q parts) (drop q parts) (sym (take-append-drop q parts)) d (wp q h)
+      (ap (list_any (is_named (wp q h).name.name)) (sym (take-append-add cores parts q))
+      ∙ new_at (length cores + q) d (wp q h).name whole (get_or-append-add cores parts q (boolean false)))
+      (stands q h)
+      (subst IsPart (part_spelled cores parts q h)
+      (system.parts q (rw (length_map (spelled_part cores parts) parts) h))))
 
   linked : (q r : ℕ) → q < length parts → r < length parts
       → parent_at cores parts (get_or parts r (boolean false)) ≡ on_part q
@@ -285,22 +237,14 @@ module _ (format : Format) (cores parts : List Data) (wc : (c : ℕ) → c < len
       let text = (wp r hr).parent.text in
       let place : position (is_named text) parts ≡ Some q
       = part_place _ _ q ((wp r hr).parent.named ∙ ap Some (sym (parent_is r hr) ∙ is)) in
-      let holds : is_named text (get_or parts q (boolean false)) ≡ true
-      = position_holds (is_named text) parts q (boolean false) place in
-      any_from (λ child. is_text (text_of (get (codes "name") (get_or parts q (boolean false))))
+      let name = (wp q hq).name in
+      let alike : bytes_eq text name.name ≡ true
+      = sym (ap (is_text text) name.is) ∙ position_holds (is_named text) parts q (boolean false) place in
+      list_any_at (λ child. is_text (text_of (get (codes "name") (get_or parts q (boolean false))))
       (get (codes "parent") child)) parts r (boolean false) hr
       (ap (is_text (text_of (get (codes "name") (get_or parts q (boolean false))))) (wp r hr).parent.is
-      ∙ swapped text (get (codes "name") (get_or parts q (boolean false))) holds)
-    where
-      swapped : (text : List ℕ) (o : Option Data) → is_text text o ≡ true → bytes_eq (text_of o) text ≡ true
-      swapped text (Some (string s)) e = (bytes_eq-Decides s text).1 (sym ((bytes_eq-Decides text s).0 e))
-      swapped text (Some (integer z)) e = cc
-      swapped text (Some (float x)) e = cc
-      swapped text (Some (boolean b)) e = cc
-      swapped text (Some (datetime t)) e = cc
-      swapped text (Some (array ds)) e = cc
-      swapped text (Some (table m)) e = cc
-      swapped text None e = cc
+      ∙ ap (λ o. bytes_eq (text_of o) text) name.is
+      ∙ (bytes_eq-Decides name.name text).1 (sym ((bytes_eq-Decides text name.name).0 alike)))
 
   no_empty : in_order (empty_faults parts) [] parts ≡ []
   no_empty =

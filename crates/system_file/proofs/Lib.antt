@@ -22,8 +22,8 @@ pub mod PrintedWalk
 mod Examples
 mod FaultExamples
 pub mod PrintedPart
-pub mod PrintedParents
 pub mod PrintedSystem
+pub mod PrintedShape
 pub mod PrintedText
 pub mod PrintedPut
 pub mod OneText

@@ -1,5 +1,5 @@
 -- How many names elements have.
-use Rattle.std.proofs.Common.{◌≡◌, ℕ, List, map, length, codes, Some, sym, ap, ◌∙◌}
+use Rattle.std.proofs.Common.{◌≡◌, ℕ, List, length, codes, Some, sym, ap, ◌∙◌}
 use Rattle.toml.specs.Data.{Data, string, get}
 use Rattle.tree_model.proofs.Lists.{length_map}
 use Rattle.system_file.specs.inner.Reading.{HaveNames}

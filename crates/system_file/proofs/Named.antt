@@ -1,26 +1,19 @@
 -- Names that are looked for among elements.
 use Rattle.std.proofs.lemmas.List.{map-append}
-use Rattle.std.proofs.Common.{◌≡◌, ℕ, ◌||◌, List, [], ◌∷◌, ◌++◌, map, Some, refl, sym, ap, ◌∙◌, codes}
+use Rattle.std.proofs.Common.{◌≡◌, ℕ, List, [], ◌∷◌, ◌++◌, map, Some, sym, ap, ◌∙◌, codes}
 use Rattle.std.specs.Prelude.{bytes_eq}
 use Rattle.std.specs.List.{list_any}
 use Rattle.toml.specs.Data.{Data, string, get}
+use Rattle.tree_model.proofs.Lists.{list_any_map}
 use Rattle.system_file.specs.Document.{is_text, is_named}
 use Rattle.system_file.specs.inner.Reading.{HaveNames}
-
-named_by : (s : List ℕ) (ds : List Data)
-    → list_any (is_named s) ds ≡ list_any (is_text s) (map (λ d. get (codes "name") d) ds)
-named_by s [] = refl
-named_by s (d ∷ ds) = ap (λ b. is_named s d || b) (named_by s ds)
-
-text_in : (s : List ℕ) (names : List (List ℕ))
-    → list_any (is_text s) (map (λ name. Some (string name)) names) ≡ list_any (bytes_eq s) names
-text_in s [] = refl
-text_in s (n ∷ names) = ap (λ b. bytes_eq s n || b) (text_in s names)
 
 -- a name is taken by an element where it is among the names
 pub taken_is : (ds : List Data) (names : List (List ℕ)) (s : List ℕ) → HaveNames ds names
     → list_any (is_named s) ds ≡ list_any (bytes_eq s) names
-taken_is ds names s have = named_by s ds ∙ ap (list_any (is_text s)) have ∙ text_in s names
+taken_is ds names s have =
+    sym (list_any_map (is_text s) (λ d. get (codes "name") d) ds) ∙ ap (list_any (is_text s)) have
+    ∙ list_any_map (is_text s) (λ name. Some (string name)) names
 
 -- one more element and its name
 pub more_names : (ds : List Data) (names : List (List ℕ)) (d : Data) (s : List ℕ) → HaveNames ds names

@@ -1,8 +1,8 @@
 -- Cores and parts without faults: their names, and their parents by name and by place.
-use Rattle.std.proofs.Common.{◌≡◌, ℕ, ◌+◌, ◌-◌, ◌<◌, ◌≤◌, ◌==◌, suc, zero, Bool, true, false, ◌||◌, nat_lt, List, [], ◌∷◌, ◌++◌, length, take, drop, get_or, Option, Some, None, refl, sym, ap, subst, ◌∙◌, codes, arith, bytes_eq, length-take-le, length-append, unwrap_or}
+use Rattle.std.proofs.Common.{◌≡◌, ℕ, ◌+◌, ◌-◌, ◌<◌, ◌≤◌, ◌==◌, Bool, true, false, ◌||◌, nat_lt, List, [], ◌++◌, length, take, drop, get_or, Option, Some, None, refl, sym, ap, subst, ◌∙◌, codes, arith, bytes_eq, length-take-le, length-append, unwrap_or}
 use Rattle.std.proofs.lemmas.Bool.{false≢true, or_parts}
 use Rattle.std.proofs.lemmas.Bool.Decides.{nat_tests}
-use Rattle.std.proofs.lemmas.List.{get_or-take, get_or-append-add, take-append-le, take-append-drop}
+use Rattle.std.proofs.lemmas.List.{get_or-take, get_or_append_left, get_or-append-add, take-append-le, take-append-drop}
 use Rattle.std.proofs.lemmas.List.Folds.{list_any-append}
 use Rattle.std.proofs.Math.Seq.{take-append-add}
 use Rattle.std.proofs.lemmas.Slice.Eq.{bytes_eq-Decides}
@@ -21,11 +21,23 @@ use Rattle.system_file.proofs.Found.{position_none, position_first, position_hol
 use Rattle.system_file.proofs.Faultless.{NewName}
 use Rattle.system_file.proofs.Rules.{each, core_name, part_name, ParentThere, part_parent}
 
--- an element of the first list
-pub get_front : (xs ys : List Data) (i : ℕ) (e : Data) → i < length xs → get_or (xs ++ ys) i e ≡ get_or xs i e
-get_front [] ys i e h = absurd (omega arith)
-get_front (x ∷ xs) ys zero e h = refl
-get_front (x ∷ xs) ys (suc i) e h = get_front xs ys i e (omega arith)
+-- what holds of each element of two lists holds of each of both
+pub each_of_both : (Holds : ℕ → Data → Type 0) (xs ys : List Data)
+    → ((i : ℕ) → i < length xs → Holds i (get_or xs i (boolean false)))
+    → ((k : ℕ) → k < length ys → Holds (length xs + k) (get_or ys k (boolean false)))
+    → (i : ℕ) → i < length (xs ++ ys) → Holds i (get_or (xs ++ ys) i (boolean false))
+each_of_both Holds xs ys front back i h = by (nat_lt i (length xs)) refl
+  where
+    by : (b : Bool) → nat_lt i (length xs) ≡ b → Holds i (get_or (xs ++ ys) i (boolean false))
+    by true e =
+        let lt : i < length xs = grind (arith, nat_tests) in
+        subst (Holds i) (sym (get_or_append_left xs ys (boolean false) i lt)) (front i lt)
+    by false e =
+        let le : length xs ≤ i = grind (arith, nat_tests) in
+        let at : length xs + (i - length xs) ≡ i = omega arith in
+        subst (λ (k : ℕ). Holds k (get_or (xs ++ ys) k (boolean false))) at
+        (subst (Holds (length xs + (i - length xs))) (sym (get_or-append-add xs ys (i - length xs) (boolean false)))
+        (back (i - length xs) (omega (arith, h, length-append xs ys))))
 
 -- what a parent says of the look-ups
 pub part_place : (a o : Option ℕ) (k : ℕ) → core_or_part a o ≡ Some (on_part k) → o ≡ Some k
@@ -57,38 +69,16 @@ module _ (format : Format) (cores parts : List Data) (no_core : in_order core_fa
   pub part_new : (q : ℕ) → q < length parts → NewName (cores ++ take q parts) (get_or parts q (boolean false))
   part_new q h = part_name format cores (take q parts) (get_or parts q (boolean false)) (part_none q h)
 
-  front : (j : ℕ) → j < length cores → NewName (take j (cores ++ parts)) (get_or (cores ++ parts) j (boolean false))
-  front j h =
-      subst (λ (d : Data). NewName (take j (cores ++ parts)) d) (sym (get_front cores parts j (boolean false) h))
-      (subst (λ (ds : List Data). NewName ds (get_or cores j (boolean false)))
-      (sym (take-append-le j cores parts (omega arith)))
-      (core_name (take j cores) (get_or cores j (boolean false))
-      (each core_faults [] cores j (boolean false) h no_core)))
-
-  back : (k : ℕ) → k < length parts
-      → NewName (take (length cores + k) (cores ++ parts)) (get_or (cores ++ parts) (length cores + k) (boolean false))
-  back k h =
-      subst (λ (d : Data). NewName (take (length cores + k) (cores ++ parts)) d)
-      (sym (get_or-append-add cores parts k (boolean false)))
-      (subst (λ (ds : List Data). NewName ds (get_or parts k (boolean false))) (sym (take-append-add cores parts k))
-      (part_new k h))
-
   -- each core and part has a name that no core or part before it has
   pub all_new : (j : ℕ) → j < length (cores ++ parts)
       → NewName (take j (cores ++ parts)) (get_or (cores ++ parts) j (boolean false))
-  all_new j h = by (nat_lt j (length cores)) refl
-    where
-      whole : j < length cores + length parts
-      whole = rw (length-append {A = Data}) at h
-
-      by : (b : Bool) → nat_lt j (length cores) ≡ b
-          → NewName (take j (cores ++ parts)) (get_or (cores ++ parts) j (boolean false))
-      by true e = let lt : j < length cores = grind (arith, nat_tests) in front j lt
-      by false e =
-          let le : length cores ≤ j = grind (arith, nat_tests) in
-          let at : length cores + (j - length cores) ≡ j = omega arith in
-          subst (λ (i : ℕ). NewName (take i (cores ++ parts)) (get_or (cores ++ parts) i (boolean false))) at
-          (back (j - length cores) (omega (arith, whole)))
+  all_new =
+      each_of_both (λ j d. NewName (take j (cores ++ parts)) d) cores parts
+      (λ c h. subst (λ (ds : List Data). NewName ds (get_or cores c (boolean false)))
+      (sym (take-append-le c cores parts (omega (arith, h)))) (core_name (take c cores) (get_or cores c (boolean false))
+      (each core_faults [] cores c (boolean false) h no_core)))
+      (λ q h. subst (λ (ds : List Data). NewName ds (get_or parts q (boolean false)))
+      (sym (take-append-add cores parts q)) (part_new q h))
 
   -- a part's parent, found among the parts before it, is found among all
   pub parent_there : (r : ℕ) → r < length parts → ParentThere cores (take r parts) (get_or parts r (boolean false))

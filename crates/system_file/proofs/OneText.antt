@@ -1,41 +1,23 @@
--- There is one text of a document without floats, so of a system.
-use Rattle.std.proofs.Common.{◌≡◌, ℕ, Bool, true, false, ◌&&◌, ◌==◌, cond, List, [], ◌∷◌, ◌++◌, map, Option, Some, None, refl, sym, ◌∙◌, ap, codes}
+-- There is one text of a document without floats and date-times, so of a system.
+use Rattle.std.proofs.Common.{◌≡◌, ℕ, Bool, true, false, cond, List, [], ◌∷◌, ◌++◌, sym, ◌∙◌, ap, codes}
 use Rattle.std.proofs.lemmas.Bool.{and_parts, false≢true}
 use Rattle.toml_parser.specs.Strings.{Key}
 use Rattle.toml_writer.specs.Text.{key_text, dotted_text}
 use Rattle.toml.specs.Data.{Data, string, integer, float, boolean, datetime, array, table, Items, no_items, item, Members, no_members, member}
 use Rattle.toml.specs.Tables.{key_value, std_table, array_table, Expression}
 use Rattle.toml.specs.Text.{IsValueText, IsItemsText, IsMembersText, IsLinesText, IsDocumentText, breaks_lines, before_item, after_item, before_member, is_section, are_tables, needs_header, pairs, header_of, sections, section, elements, expressions}
-use Rattle.toml.specs.View.{items_of}
-use Rattle.tree_model.specs.declared.pinned_core.Core.{Core as CoreView}
-use Rattle.tree_model.specs.View.{NamedTask, PartView, SystemView}
-use Rattle.system_file.specs.SystemFile.{needed_format}
-use Rattle.system_file.specs.Printed.{printed_core, printed_task, printed_part, printed, top_members}
+use Rattle.tree_model.specs.View.{SystemView}
+use Rattle.system_file.specs.Printed.{printed}
+use Rattle.system_file.proofs.PrintedShape.{is_exact, items_exact, members_exact, printed_fits}
 
--- no float stands inside
-abbrev mutual
-  is_exact : Data → Bool
-  is_exact (float x) = false
-  is_exact (array ds) = items_exact ds
-  is_exact (table ms) = members_exact ms
-  is_exact _ = true
-
-  items_exact : Items → Bool
-  items_exact no_items = true
-  items_exact (item d ds) = is_exact d && items_exact ds
-
-  members_exact : Members → Bool
-  members_exact no_members = true
-  members_exact (member k d ms) = is_exact d && members_exact ms
-
--- then there is one text of each value
+-- there is one text of each value that is exact
 mutual
   one_value : (d : Data) (t u : List ℕ) → is_exact d ≡ true → IsValueText false d t → IsValueText false d u → t ≡ u
   one_value (string s) t u e p q = p ∙ sym q
   one_value (integer z) t u e p q = p.0 ∙ sym q.0
   one_value (float x) t u e p q = absurd (false≢true e)
   one_value (boolean b) t u e p q = p ∙ sym q
-  one_value (datetime dt) t u e p q = p ∙ sym q
+  one_value (datetime dt) t u e p q = absurd (false≢true e)
   one_value (array ds) t u e p q =
       let (a, is, some) = p in
       let (b, was, others) = q in
@@ -106,7 +88,7 @@ one_lines ((key, array_table) ∷ es) started t u e p q =
     ∙ (ap (λ (z : List ℕ). z ++ rest) (line ∙ sym other)
     ∙ (ap (λ (z : List ℕ). that ++ z) (one_lines es true rest left e later after) ∙ sym was))
 
--- the lines of a document without floats have none
+-- the lines of such a document have neither
 exact_append : (es fs : List Expression) → AreExact es → AreExact fs → AreExact (es ++ fs)
 exact_append [] fs e f = f
 exact_append ((key, key_value d) ∷ es) fs e f = (e.0, exact_append es fs e.1 f)
@@ -158,72 +140,12 @@ mutual
   elements_exact (item (integer z) ds) key e = elements_exact ds key e
   elements_exact (item (float x) ds) key e = absurd (false≢true e)
   elements_exact (item (boolean b) ds) key e = elements_exact ds key e
-  elements_exact (item (datetime dt) ds) key e = elements_exact ds key e
+  elements_exact (item (datetime dt) ds) key e = absurd (false≢true e)
   elements_exact (item (array es) ds) key e = elements_exact ds key (and_parts (items_exact es) (items_exact ds) e).1
-
--- a printed system has no float
-items_are_exact : {X : Type 0} (element : X → Data) → ((x : X) → is_exact (element x) ≡ true) → (xs : List X)
-    → items_exact (items_of (map element xs)) ≡ true
-items_are_exact element each [] = refl
-items_are_exact element each (x ∷ xs) = rw (each x, items_are_exact element each xs)
-
-task_exact : (t : NamedTask) → is_exact (printed_task t) ≡ true
-task_exact t = by (t.task.deadline == t.task.period) (t.task.jitter == 0) refl refl
-  where
-    by : (due all : Bool) → (t.task.deadline == t.task.period) ≡ due → (t.task.jitter == 0) ≡ all
-        → is_exact (printed_task t) ≡ true
-    by true true due all = rw (due, all)
-    by true false due all = rw (due, all)
-    by false true due all = rw (due, all)
-    by false false due all = rw (due, all)
-
-core_exact : (core : CoreView) → is_exact (printed_core core) ≡ true
-core_exact core = by core.supply
-  where
-    by : (supply : Option (ℕ × ℕ))
-        → is_exact (printed_core (record { name = core.name; sched = core.sched; supply = supply })) ≡ true
-    by None = refl
-    by (Some supply) = refl
-
-part_exact : (sys : SystemView) (part : PartView) → is_exact (printed_part sys part) ≡ true
-part_exact sys part = by part.budget part.extra part.tasks
-  where
-    by : (budget : Option ℕ) (extra : Bool) (tasks : List NamedTask) →
-        is_exact (printed_part sys (record {
-          name = part.name;
-          parent = part.parent;
-          sched = part.sched;
-          period = part.period;
-          budget = budget;
-          extra = extra;
-          tasks = tasks;
-        })) ≡ true
-    by None true [] = refl
-    by None true (t ∷ ts) = rw (task_exact t, items_are_exact printed_task task_exact ts)
-    by None false [] = refl
-    by None false (t ∷ ts) = rw (task_exact t, items_are_exact printed_task task_exact ts)
-    by (Some b) true [] = refl
-    by (Some b) true (t ∷ ts) = rw (task_exact t, items_are_exact printed_task task_exact ts)
-    by (Some b) false [] = refl
-    by (Some b) false (t ∷ ts) = rw (task_exact t, items_are_exact printed_task task_exact ts)
-
-printed_exact : (sys : SystemView) → members_exact (printed sys) ≡ true
-printed_exact sys = by sys.parts
-  where
-    by : (parts : List PartView)
-        → members_exact (top_members (needed_format sys) (map printed_core sys.cores) (map (printed_part sys) parts))
-        ≡ true
-    by [] = rw (items_are_exact printed_core core_exact sys.cores)
-    by (part ∷ parts) =
-        rw (
-          items_are_exact printed_core core_exact sys.cores,
-          part_exact sys part,
-          items_are_exact (printed_part sys) (part_exact sys) parts,
-        )
 
 pub one_printed_text : (sys : SystemView) (t u : List ℕ) → IsDocumentText false (printed sys) t
     → IsDocumentText false (printed sys) u → t ≡ u
 one_printed_text sys t u p q =
     one_lines (expressions (printed sys)) false t u
-    (exact_append (pairs (printed sys)) (sections [] (printed sys)) (pairs_exact (printed sys) (printed_exact sys))
-    (sections_exact (printed sys) [] (printed_exact sys))) p q
+    (exact_append (pairs (printed sys)) (sections [] (printed sys)) (pairs_exact (printed sys) (printed_fits sys).0)
+    (sections_exact (printed sys) [] (printed_fits sys).0)) p q

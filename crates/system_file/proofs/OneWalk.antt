@@ -1,9 +1,7 @@
 -- A format, cores and then parts that are read to the end of a text are those of its document.
-use Rattle.std.proofs.Common.{◌≡◌, ℕ, Bool, true, false, ◌&&◌, ◌||◌, Ordering, Less, Equal, Greater, nat_cmp, List, [], ◌∷◌, ◌++◌, length, Some, None, refl, sym, ap, subst, ◌∙◌, codes, bytes_eq}
+use Rattle.std.proofs.Common.{◌≡◌, ℕ, Bool, true, false, ◌||◌, List, [], ◌∷◌, ◌++◌, length, Some, None, refl, sym, ap, subst, ◌∙◌, codes}
 use Rattle.std.proofs.lemmas.Bool.{and_parts}
 use Rattle.std.proofs.lemmas.Slice.Eq.{bytes_eq-Decides}
-use Rattle.std.specs.Cmp.Lexicographic.{slice_cmp}
-use Rattle.std.specs.List.{list_any}
 use Rattle.toml_parser.specs.Lexical.{skip_blank}
 use Rattle.toml.specs.Data.{Data, array, table, Items, Members, no_members, member, get, get_member}
 use Rattle.toml_items.specs.Plain.{insert_member, ReadsArray, HasArray}
@@ -20,21 +18,7 @@ use Rattle.system_file.specs.inner.Reading.{AreNodes}
 use Rattle.system_file.specs.inner.Plain.{BeginsWithFormat, BeginsArray, ReadsCores, ReadsParts, SpellsNodes}
 use Rattle.system_file.proofs.Fits.{keys_fit, array_fits}
 use Rattle.system_file.proofs.Laws.{cores_fit}
-
--- a listed key that is put leaves a table's keys listed
-pub put_listed : (listed : List (List ℕ)) (k : List ℕ) (d : Data) (ms : Members)
-    → list_any (bytes_eq k) listed ≡ true → has_only listed ms ≡ true
-    → has_only listed (insert_member k d ms) ≡ true
-put_listed listed k d no_members here all = ap (λ b. b && true) here
-put_listed listed k d (member l e ms) here all =
-    by (slice_cmp nat_cmp k l) (put_listed listed k d ms here (and_parts _ _ all).1) refl
-  where
-    by : (o : Ordering) → has_only listed (insert_member k d ms) ≡ true → slice_cmp nat_cmp k l ≡ o
-        → has_only listed (insert_member k d (member l e ms)) ≡ true
-    by Less behind h = rw h (ap (λ b. b && has_only listed (member l e ms)) here ∙ all)
-    by Equal behind h = rw h all
-    by Greater behind h =
-        rw h (ap (λ b. b && has_only listed (insert_member k d ms)) (and_parts _ _ all).0 ∙ behind)
+use Rattle.system_file.proofs.ListedKeys.{put_listed}
 
 -- a table with no key but `format`
 record HasFormat (ms : Members) : Type 0 where

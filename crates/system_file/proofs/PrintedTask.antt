@@ -1,34 +1,28 @@
--- A printed task has no fault, and spells the task.
-use Rattle.std.proofs.Common.{◌≡◌, ℕ, ◌<◌, ◌≤◌, ◌==◌, Bool, true, false, not, List, [], length, Some, None, codes, refl, sym, ap, ◌∙◌, arith, nat_lt}
+-- A printed task is written by the rules, and spells the task.
+use Rattle.std.proofs.Common.{◌≡◌, ℕ, ◌==◌, Bool, true, false, not, List, Some, None, codes, refl, sym, ap, ◌∙◌, subst, arith}
 use Rattle.std.specs.Prelude.{unwrap_or}
 use Rattle.std.proofs.lemmas.Bool.{eqb-true}
-use Rattle.std.proofs.lemmas.Bool.Decides.{nat_tests}
-use Rattle.std.specs.List.{list_any}
 use Rattle.slot_model.specs.Name.{is_name}
-use Rattle.slot_model.specs.declared.task.TheConstants.{LIMIT}
-use Rattle.slot_model.specs.Task.{room_of, IsConstrained}
-use Rattle.toml.specs.Data.{Data, string, Members, no_members, get, get_member, same_key}
+use Rattle.toml.specs.Data.{string, Members, no_members, get, get_member, same_key}
 use Rattle.tree_model.specs.View.{NamedTask}
-use Rattle.tree_model.proofs.Lists.{none_both}
 use Rattle.system_file.specs.declared.format.Format.{Format}
 use Rattle.system_file.specs.declared.format.Format.TheVariants.{One, Two}
-use Rattle.system_file.specs.Document.{number_of, given_number, is_named, spelled_task}
-use Rattle.system_file.specs.Faults.{optional, range_faults, below_faults, has_only, task_keys, task_key_faults, task_faults}
+use Rattle.system_file.specs.Document.{number_of, given_number, spelled_task}
+use Rattle.system_file.specs.Faults.{has_only, task_keys}
 use Rattle.system_file.specs.SystemFile.{has_jitter}
+use Rattle.system_file.specs.Written.{IsWhole, MayBe, IsWrittenTask}
 use Rattle.toml_items.specs.Plain.{insert_member}
 use Rattle.system_file.specs.Printed.{with_some, number, other_number, task_members, printed_task}
-use Rattle.system_file.specs.declared.fault.Spot.{Spot}
-use Rattle.system_file.specs.declared.fault.Spot.TheVariants.{Task}
 use Rattle.system_file.proofs.PrintedMembers.{other_key, own_key, listed_key}
-use Rattle.system_file.proofs.PrintedKeys.{range_ok, new_name_ok}
+use Rattle.system_file.proofs.PrintedKeys.{number_written, other_written}
 
 -- what is always written, and with the deadline
-abbrev fixed_members : NamedTask → Members
+abbrev pub fixed_members : NamedTask → Members
 fixed_members t =
     insert_member (codes "work") (number t.task.work)
     (insert_member (codes "period") (number t.task.period) (insert_member (codes "name") (string t.name) no_members))
 
-abbrev due_members : NamedTask → Members
+abbrev pub due_members : NamedTask → Members
 due_members t = with_some (codes "deadline") (other_number t.task.period t.task.deadline) (fixed_members t)
 
 -- the keys of a task: those that are always there, and the two that may be left out
@@ -38,7 +32,7 @@ always k t jitter deadline =
     other_key k (codes "jitter") (other_number 0 t.task.jitter) (due_members t) jitter
     ∙ other_key k (codes "deadline") (other_number t.task.period t.task.deadline) (fixed_members t) deadline
 
-pub task_name : (t : NamedTask) → get (codes "name") (printed_task t) ≡ Some (string t.name)
+task_name : (t : NamedTask) → get (codes "name") (printed_task t) ≡ Some (string t.name)
 task_name t = always (codes "name") t refl refl
 
 task_period : (t : NamedTask) → get (codes "period") (printed_task t) ≡ Some (number t.task.period)
@@ -50,11 +44,11 @@ task_work t = always (codes "work") t refl refl
 task_deadline : (t : NamedTask) → get (codes "deadline") (printed_task t) ≡ other_number t.task.period t.task.deadline
 task_deadline t =
     other_key (codes "deadline") (codes "jitter") (other_number 0 t.task.jitter) (due_members t) refl
-    ∙ own_key (codes "deadline") (other_number t.task.period t.task.deadline) (fixed_members t) refl refl
+    ∙ own_key (codes "deadline") (other_number t.task.period t.task.deadline) (fixed_members t) refl
 
 task_jitter : (t : NamedTask) → get (codes "jitter") (printed_task t) ≡ other_number 0 t.task.jitter
 task_jitter t =
-    own_key (codes "jitter") (other_number 0 t.task.jitter) (due_members t) refl
+    own_key (codes "jitter") (other_number 0 t.task.jitter) (due_members t)
     (other_key (codes "jitter") (codes "deadline") (other_number t.task.period t.task.deadline) (fixed_members t) refl)
 
 -- a number that may be left out is read back
@@ -77,41 +71,6 @@ task_spelled t =
     rw (task_name t, task_period t, task_work t, task_deadline t, task_jitter t)
     (rw (given_back t.task.period t.task.deadline, number_back t.task.jitter))
 
--- and has no fault
-deadline_ok : (spot : Spot) (period deadline : ℕ) → 1 ≤ deadline → deadline ≤ period
-    → optional (range_faults spot period) (other_number period deadline) ≡ []
-deadline_ok spot period deadline some within = by (deadline == period) refl
-  where
-    by : (b : Bool) → (deadline == period) ≡ b → optional (range_faults spot period) (other_number period deadline) ≡ []
-    by true same = rw same
-    by false other = rw other (range_ok spot period deadline some within)
-
-jitter_ok : (spot : Spot) (bound jitter : ℕ) → jitter < bound
-    → optional (below_faults spot bound) (other_number 0 jitter) ≡ []
-jitter_ok spot bound jitter below = by (jitter == 0) refl
-  where
-    is_less : nat_lt jitter bound ≡ true
-    is_less = grind (arith, nat_tests)
-
-    by : (b : Bool) → (jitter == 0) ≡ b → optional (below_faults spot bound) (other_number 0 jitter) ≡ []
-    by true none = rw none
-    by false some = rw (some, is_less)
-
-task_keys_faultless : (spot : Spot) (earlier : List Data) (t : NamedTask) → is_name t.name ≡ true
-    → list_any (is_named t.name) earlier ≡ false → IsConstrained t.task → t.task.period ≤ LIMIT
-    → task_key_faults spot earlier (printed_task t) ≡ []
-task_keys_faultless spot earlier t name new is limit =
-    let works = is.works in
-    let in_deadline = is.in_deadline in
-    let in_period = is.in_period in
-    rw (task_name t, task_period t, task_work t, task_deadline t, task_jitter t)
-    (rw (given_back t.task.period t.task.deadline, number_back t.task.jitter)
-    (none_both _ _ (new_name_ok spot earlier t.name name new)
-    (none_both _ _ (range_ok spot LIMIT t.task.period (omega arith) limit)
-    (none_both _ _ (deadline_ok spot t.task.period t.task.deadline (omega arith) in_period)
-    (none_both _ _ (jitter_ok spot t.task.deadline t.task.jitter (omega arith))
-    (range_ok spot (room_of t.task) t.task.work works (omega arith)))))))
-
 -- a format in which the jitter can be told
 abbrev pub Tells : Format → NamedTask → Type 0
 Tells One t = has_jitter t ≡ false
@@ -121,16 +80,23 @@ task_listed : (format : Format) (t : NamedTask) → Tells format t → has_only 
 task_listed One t none =
     ap (λ jitter. has_only (task_keys One) (with_some (codes "jitter") jitter (due_members t)))
     (left_out t.task.jitter none)
-    ∙ listed_key (task_keys One) (codes "deadline") (other_number t.task.period t.task.deadline) (fixed_members t) refl
+    ∙ listed_key (task_keys One) (codes "deadline") (other_number t.task.period t.task.deadline) (fixed_members t)
+    refl refl
   where
     left_out : (n : ℕ) → not (n == 0) ≡ false → other_number 0 n ≡ None
     left_out n e = let zero : (n == 0) ≡ true = grind arith in rw zero
 task_listed Two t told =
     listed_key (task_keys Two) (codes "jitter") (other_number 0 t.task.jitter) (due_members t) refl
-    ∙ listed_key (task_keys Two) (codes "deadline") (other_number t.task.period t.task.deadline) (fixed_members t) refl
+    (listed_key (task_keys Two) (codes "deadline") (other_number t.task.period t.task.deadline) (fixed_members t)
+    refl refl)
 
-pub task_faultless : (format : Format) (q : ℕ) (earlier : List Data) (t : NamedTask) → Tells format t
-    → is_name t.name ≡ true → list_any (is_named t.name) earlier ≡ false → IsConstrained t.task → t.task.period ≤ LIMIT
-    → task_faults format q earlier (printed_task t) ≡ []
-task_faultless format q earlier t tells name new is limit =
-    rw (task_listed format t tells, task_keys_faultless (Task q (length earlier)) earlier t name new is limit)
+pub task_written : (format : Format) (t : NamedTask) → Tells format t → is_name t.name ≡ true
+    → IsWrittenTask format (printed_task t)
+task_written format t tells named = record {
+  keys = record { members = task_members t; is = refl; only = task_listed format t tells };
+  name = record { name = t.name; is = task_name t; valid = named };
+  period = number_written _ t.task.period (task_period t);
+  deadline = subst (MayBe IsWhole) (sym (task_deadline t)) (other_written t.task.period t.task.deadline);
+  jitter = subst (MayBe IsWhole) (sym (task_jitter t)) (other_written 0 t.task.jitter);
+  work = number_written _ t.task.work (task_work t);
+}

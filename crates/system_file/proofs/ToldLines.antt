@@ -22,7 +22,7 @@ use Rattle.system_file.specs.inner.Told.{of_number, of_text, told_at, Stands, Te
 use Rattle.system_file.proofs.Faultless.{name_fits as name_faultless}
 use Rattle.system_file.proofs.Laws.{task_fits}
 use Rattle.system_file.proofs.Named.{taken_is, more_names}
-use Rattle.system_file.proofs.OneWalk.{put_listed}
+use Rattle.system_file.proofs.ListedKeys.{put_listed}
 
 -- nothing is told
 pub none_told : (format : Format) (told : Told) → told.name ≡ None → told.period ≡ None → told.deadline ≡ None

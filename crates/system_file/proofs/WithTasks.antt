@@ -22,7 +22,7 @@ use Rattle.system_file.specs.inner.Reading.{HaveNames, Known}
 use Rattle.system_file.specs.inner.Plain.{ReadsList, ReadsPart, ReadsServer}
 use Rattle.system_file.proofs.Faultless.{not_wrong}
 use Rattle.system_file.proofs.Fits.{array_fits, right}
-use Rattle.system_file.proofs.OneWalk.{put_listed}
+use Rattle.system_file.proofs.ListedKeys.{put_listed}
 use Rattle.system_file.proofs.Places.{as_many}
 
 not-true : (b : Bool) → not b ≡ false → b ≡ true

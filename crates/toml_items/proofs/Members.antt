@@ -24,16 +24,20 @@ get_member-insert k d (member l e ms) =
     by Equal behind h = rw (h, h)
     by Greater behind h = rw (h, h) behind
 
-either : {A : Type 0} (o : Ordering) (x y : A) → match_ordering o y x y ≡ cond (is_eq o) x y
-either Less x y = refl
-either Equal x y = refl
-either Greater x y = refl
+-- what stands at a key is the first member, where that is of the key
+pub get_member-first : (j l : List ℕ) (e : Data) (ms : Members) →
+    get_member j (member l e ms) ≡ cond (same_key j l) (Some e) (get_member j ms)
+get_member-first j l e ms = by (slice_cmp nat_cmp j l)
+  where
+    by : (o : Ordering) → match_ordering o (get_member j ms) (Some e) (get_member j ms)
+        ≡ cond (is_eq o) (Some e) (get_member j ms)
+    by Less = refl
+    by Equal = refl
+    by Greater = refl
 
 passed : (j l : List ℕ) (e : Data) (ms : Members) → same_key j l ≡ false →
     get_member j (member l e ms) ≡ get_member j ms
-passed j l e ms other =
-    either (slice_cmp nat_cmp j l) (Some e) (get_member j ms)
-    ∙ ap (λ b. cond b (Some e) (get_member j ms)) other
+passed j l e ms other = get_member-first j l e ms ∙ ap (λ b. cond b (Some e) (get_member j ms)) other
 
 same_keys : (k l : List ℕ) → slice_cmp nat_cmp k l ≡ Equal → k ≡ l
 same_keys k l h = (bytes_eq-Decides k l).0 (sym (is_eq-slice_cmp k l) ∙ ap is_eq h)

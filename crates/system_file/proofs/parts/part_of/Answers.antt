@@ -1,5 +1,5 @@
-use Rattle.std.proofs.Common.{◌≡◌, ℕ, true, List, [], ◌∷◌, ◌++◌, codes, length, Some, refl, ap, ◌∙◌, ◌+◌, append_assoc, arith, length-append}
-use Rattle.toml.specs.Data.{Data, Members, table, get}
+use Rattle.std.proofs.Common.{◌≡◌, ℕ, true, List, [], ◌∷◌, ◌++◌, length, refl, ap, ◌∙◌, ◌+◌, append_assoc, arith, length-append}
+use Rattle.toml.specs.Data.{Data, Members, table}
 use Rattle.toml_items.specs.Item.{entries_view}
 use Rattle.tree_model.specs.Lists.{first_of}
 use Rattle.tree_model.proofs.Lists.{first_here, first_later, none_both}

@@ -5,7 +5,8 @@ use Rattle.toml.specs.Data.{members_have_valid_dates}
 use Rattle.toml.specs.View.{table_view}
 use Rattle.toml.specs.Parse.{parse_document}
 use Rattle.system_file.specs.Printed.{printed}
-use Rattle.system_file.proofs.PrintedText.{printed_dated, printed_depth, reads_back, format_told}
+use Rattle.system_file.proofs.PrintedShape.{printed_dated, printed_depth}
+use Rattle.system_file.proofs.PrintedText.{reads_back, format_told}
 use Rattle.system_file.proofs.print.print_system.Goals as goal
 
 pub returns-in-Ok : goal.returns-in-Ok
