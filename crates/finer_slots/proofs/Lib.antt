@@ -1,0 +1,5 @@
+mod Quotients
+mod Demands
+mod Requests
+mod Passing
+mod Examples
