@@ -1,10 +1,9 @@
 -- Where the jobs of servers stand among all: each moment's after those of earlier ones.
-use Rattle.std.proofs.Common.{◌≡◌, ℕ, suc, ◌+◌, ◌<◌, ◌≤◌, true, List, length, refl, ◌∙◌, ap, arith}
-use Rattle.slot_model.specs.Slots.{gathered}
+use Rattle.std.proofs.Common.{◌≡◌, ℕ, suc, ◌+◌, ◌<◌, ◌≤◌, true, List, length, ◌∙◌, ap, arith}
 use Rattle.slot_model.specs.Task.{SporadicTask, task_at, job_at, default_job}
 use Rattle.slot_model.specs.Release.{releases_now, task_releases, release_of, releases_at, synchronous}
 use Rattle.slot_model.specs.declared.job.Job.{Job}
-use Rattle.slot_model.proofs.Gathered.{Source, source, source_is, source_late, gathered_longer, gathered_stays, stand_there, stands_within, stands_there}
+use Rattle.slot_model.proofs.Gathered.{Source, source, source_is, source_late, gathered_longer, stand_there, stands_within, stands_there}
 use Rattle.slot_model.proofs.Synchronous.{each_release}
 
 -- the jobs released before a moment, and before a later one

@@ -1,13 +1,13 @@
 -- The run of a level of servers, one span more, and what each server's job lacks then.
-use Rattle.std.proofs.Common.{◌≡◌, ◌≢◌, ◌⊎◌, ℕ, ◌+◌, ◌-◌, ◌<◌, ◌≤◌, ◌&&◌, ◌||◌, min, Bool, true, false, List, ◌++◌, length, set, replicate, Option, Some, None, eqb, refl, sym, ◌∙◌, ap, arith, subst, inl, inr, lt-ltb, le-ltb, eq-eqb, ne_eqb, length-set, get_or, get_or-set_same, get_or-set_other}
+use Rattle.std.proofs.Common.{◌≡◌, ◌≢◌, ◌⊎◌, ℕ, ◌+◌, ◌-◌, ◌<◌, ◌≤◌, min, Bool, true, false, List, ◌++◌, length, set, replicate, Option, Some, None, eqb, refl, sym, ◌∙◌, ap, arith, subst, inl, inr, lt-ltb, eq-eqb, ne_eqb, length-set, get_or, get_or-set_same, get_or-set_other}
 use Rattle.std.proofs.lemmas.Bool.Decides.{nat_tests}
-use Rattle.std.proofs.lemmas.Bool.{cases_eq, cases_lt, both_ways, true≢false, or_left, or_right, and_from, cond-true, cond-false, cases_Bool}
+use Rattle.std.proofs.lemmas.Bool.{cases_eq, cases_lt, both_ways, true≢false, or_left, cond-true, cond-false}
 use Rattle.std.proofs.lemmas.Option.{same_Some}
 use Rattle.slot_model.specs.declared.job.Job.{Job}
 use Rattle.slot_model.specs.declared.sched.Sched.{Sched}
 use Rattle.slot_model.specs.declared.sched.Sched.TheVariants.{Edf, Rm, Dm, Listed}
 use Rattle.slot_model.specs.Task.{SporadicTask, task_at, job_at, deadline_of, AreConstrained}
-use Rattle.slot_model.specs.Order.{IsRank, ranks_by, ranks_above, fixed_before, arrives_before, before_of}
+use Rattle.slot_model.specs.Order.{IsRank, ranks_by, ranks_above, fixed_before, before_of}
 use Rattle.slot_model.specs.Release.{synchronous}
 use Rattle.slot_model.specs.Run.{service, server, Pending, MayHold, Entry}
 use Rattle.slot_model.proofs.FirstRuns.{none_some}

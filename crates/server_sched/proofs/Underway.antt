@@ -20,8 +20,6 @@ use Rattle.guest_sched.specs.MoreWindows.{AddsWindow}
 use Rattle.guest_sched.proofs.SpanByOne.{Holds}
 use Rattle.guest_sched.proofs.Steady.{span_run, gap_run}
 use Rattle.server_sched.specs.declared.serving.Server.{Server}
-use Rattle.server_sched.specs.declared.serving.Come.{Come}
-use Rattle.server_sched.specs.declared.tally.Tally.{Tally}
 use Rattle.server_sched.specs.declared.level.Level.{Level}
 use Rattle.tree_spans.specs.Shares.{share_at}
 use Rattle.server_sched.specs.inner.Serving.{AreServerTasks, no_server, server_at, IsChosen, AtMoment, AtRest, AreSharesTo, Tallies, is_late, IsUnderway}
