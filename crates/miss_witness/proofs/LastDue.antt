@@ -1,17 +1,17 @@
 -- The jobs of a synchronous release that are due at the end of its window: when they are released,
 -- how they stand in the list, and what they ask for, task by task.
-use Rattle.std.proofs.Common.{◌≡◌, ◌⊎◌, ℕ, ◌+◌, ◌-◌, ◌%◌, ◌<◌, ◌≤◌, nat_lt, Bool, true, false, cond, eqb, leb, ◌&&◌, ◌||◌, List, length, refl, sym, ◌∙◌, ap, arith, subst, inl, inr, eq-eqb, eqb-true, le-leb, leb-true, lt-ltb, le-ltb, ltb-true}
-use Rattle.std.proofs.lemmas.Bool.{cases_lt, cases_order, and_parts, and_from, or_left, or_right, or_from, or_cases, and_left, and_right, lt-leb, ne_eqb, false≢true}
+use Rattle.std.proofs.Common.{◌≡◌, ◌⊎◌, ℕ, ◌+◌, ◌-◌, ◌%◌, ◌<◌, ◌≤◌, nat_lt, Bool, true, false, cond, eqb, leb, ◌&&◌, ◌||◌, List, length, refl, sym, ◌∙◌, ap, arith, subst, inl, inr, eq-eqb, eqb-true, le-leb, leb-true}
+use Rattle.std.proofs.lemmas.Bool.Decides.{nat_tests}
+use Rattle.std.proofs.lemmas.Bool.{cases_lt, cases_order, and_parts, and_from, or_left, or_right, lt-leb, false≢true}
 use Rattle.std.proofs.Math.Nat.{mod-eq_of_lt}
 use Rattle.slot_model.specs.Slots.{sum_below}
 use Rattle.slot_model.specs.Task.{AreConstrained, IsConstrained, SporadicTask, deadline_of, default_job, job_at, room_of, task_at}
-use Rattle.slot_model.specs.Release.{releases_now, release_of, synchronous}
+use Rattle.slot_model.specs.Release.{releases_now, synchronous}
 use Rattle.slot_model.specs.declared.job.Job.{Job}
 use Rattle.slot_model.proofs.Sums.{sum_below-same, sum_below_one}
-use Rattle.slot_model.proofs.Synchronous.{early_at, early_at-start, early_at-later, released_at, sum_synchronous}
+use Rattle.slot_model.proofs.Synchronous.{early_at, early_at-start, early_at-later, released_at, each_release, sum_synchronous, synchronous_in_turn}
 use Rattle.slot_model.proofs.Windows.{sum_by-places}
 use Rattle.miss_witness.specs.inner.DueLast.{is_due_last, last_release, stands_from, part_from, work_from}
-use Rattle.miss_witness.proofs.InTurn.{IsRelease, synchronous_made, synchronous_in_turn}
 
 -- a release x slots after the start that is due n slots after it
 record DueAt (b : SporadicTask) (n x : ℕ) : Type 0 where
@@ -139,55 +139,31 @@ work_behind tasks fits a n i some =
     ∙ sum_below-same _ (part_from tasks n i) (length tasks)
     (λ k l. one_task (task_at tasks k) (fits k l) (stands_from tasks n i k) a n some))
 
--- a release that is due then is that of its task
-last_release_is : (tasks : List SporadicTask) → AreConstrained tasks → (a n : ℕ) (b : Job) → IsRelease tasks a b
-    → deadline_of tasks b ≡ a + n
-    → (b.release ≡ a + last_release (task_at tasks b.task) n) × (is_due_last (task_at tasks b.task) n ≡ true)
-unfolding early_at
-last_release_is tasks fits a n b h e =
-    let at : deadline_of tasks (release_of tasks a h.x h.i) ≡ a + n
-    = subst (λ (z : Job). deadline_of tasks z ≡ a + n) h.is e in
-    let d : DueAt (task_at tasks h.i) n h.x
-    = due_where_released (task_at tasks h.i) (fits h.i h.inside) a n h.x h.now at in
-    subst (λ (z : Job). (z.release ≡ a + last_release (task_at tasks z.task) n)
-    × (is_due_last (task_at tasks z.task) n ≡ true)) (sym h.is) (ap (λ (z : ℕ). a + z) d.moment, d.due)
-
--- so is each such job of the list
+-- a job that is due then is the one release of its task that is
 pub last_job : (tasks : List SporadicTask) → AreConstrained tasks → (a n k : ℕ) → k < length (synchronous tasks a n)
     → deadline_of tasks (job_at (synchronous tasks a n) k) ≡ a + n
     → ((job_at (synchronous tasks a n) k).release
     ≡ a + last_release (task_at tasks (job_at (synchronous tasks a n) k).task) n)
     × (is_due_last (task_at tasks (job_at (synchronous tasks a n) k).task) n ≡ true)
-last_job tasks fits a n k l due =
-    last_release_is tasks fits a n (job_at (synchronous tasks a n) k) (synchronous_made tasks a n k l) due
+unfolding early_at
+last_job tasks fits a n =
+    each_release (λ b. deadline_of tasks b ≡ a + n → (b.release ≡ a + last_release (task_at tasks b.task) n)
+    × (is_due_last (task_at tasks b.task) n ≡ true)) tasks a n (λ x i _ l r due.
+    let d : DueAt (task_at tasks i) n x = due_where_released (task_at tasks i) (fits i l) a n x r due in
+    (ap (λ (z : ℕ). a + z) d.moment, d.due))
 
 -- the order of two releases, told by their numbers: by release and then by place
 abbrev pub behind : ℕ → ℕ → ℕ → ℕ → Bool
 behind r i s k = nat_lt r s || (eqb r s && leb i k)
 
 pub behind_where : (r i s k : ℕ) → (r < s) ⊎ ((r ≡ s) × (i ≤ k)) → behind r i s k ≡ true
-behind_where r i s k h = elim h [
-  | inl l ↦ or_left (nat_lt r s) (eqb r s && leb i k) (lt-ltb r s l)
-  | inr e ↦ or_right (nat_lt r s) (eqb r s && leb i k) (and_from (eqb r s) (leb i k) (eq-eqb r s e.0) (le-leb i k e.1))
-]
+behind_where r i s k h = grind (arith, nat_tests)
 
 pub ahead_where : (r i s k : ℕ) → (s < r) ⊎ ((s ≡ r) × (k < i)) → behind r i s k ≡ false
-ahead_where r i s k h = elim h [
-  | inl l ↦
-      or_from (nat_lt r s) (eqb r s && leb i k) (le-ltb r s (omega (arith, l)))
-      (and_left (eqb r s) (leb i k) (ne_eqb r s (λ e. omega (arith, e, l))))
-  | inr e ↦
-      or_from (nat_lt r s) (eqb r s && leb i k) (le-ltb r s (omega (arith, e.0)))
-      (and_right (eqb r s) (leb i k) (lt-leb i k e.1))
-]
+ahead_where r i s k h = grind (arith, nat_tests)
 
 pub where_behind : (r i s k : ℕ) → behind r i s k ≡ true → (r < s) ⊎ ((r ≡ s) × (i ≤ k))
-where_behind r i s k h = elim (or_cases (nat_lt r s) (eqb r s && leb i k) h) [
-  | inl l ↦ inl (ltb-true r s l)
-  | inr e ↦
-      let both = and_parts (eqb r s) (leb i k) e in
-      inr (eqb-true r s both.0, leb-true i k both.1)
-]
+where_behind r i s k h = grind (arith, nat_tests)
 
 -- the places of the list tell it
 pub places_tell : (tasks : List SporadicTask) → AreConstrained tasks → (a n j k : ℕ)

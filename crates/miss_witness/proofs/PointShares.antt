@@ -13,10 +13,9 @@ use Rattle.slot_model.specs.declared.job.Job.{Job}
 use Rattle.slot_model.specs.declared.miss.Miss.{Miss}
 use Rattle.slot_model.proofs.Runs.{count_below-mono, count_reaches, holds-is, service-le-work}
 use Rattle.slot_model.proofs.Sums.{sum_below-add, sum_below-same, sum_below_one}
-use Rattle.slot_model.proofs.Synchronous.{legal_synchronous, synchronous_whole}
+use Rattle.slot_model.proofs.Synchronous.{legal_synchronous, synchronous_whole, synchronous_in_turn}
 use Rattle.edf_test.proofs.EdfKeeps.{due_by}
 use Rattle.miss_witness.specs.inner.DueLast.{LacksFirst, stands_from, work_from, miss_at}
-use Rattle.miss_witness.proofs.InTurn.{synchronous_in_turn}
 use Rattle.miss_witness.proofs.LastDue.{asked_behind, last_job, places_tell, work_behind}
 use Rattle.miss_witness.proofs.PointMiss.{AtPoint, permitted_of, none_sooner, got_by, asked_by_end, all_given, all_asked, first_missed}
 

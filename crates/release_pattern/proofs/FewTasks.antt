@@ -1,6 +1,5 @@
 -- At least as many jobs as tasks, where there is a slot.
-use Rattle.std.proofs.Common.{◌≡◌, ℕ, ◌≤◌, List, length, refl, arith}
-use Rattle.slot_model.specs.Slots.{gathered}
+use Rattle.std.proofs.Common.{ℕ, ◌≤◌, List, length, refl, arith}
 use Rattle.slot_model.specs.Task.{SporadicTask, default_job}
 use Rattle.slot_model.specs.Release.{task_releases, release_of, synchronous}
 use Rattle.slot_model.proofs.Counts.{count_all}

@@ -91,7 +91,7 @@ one_renewed sched T fits are n run x p released servers s m holds l room due lef
     } in
     record {
       one_each = length-set servers p s ∙ h.one_each;
-      counted = omega (arith, h.counted, come_more T x p l now);
+      counted = omega (arith, h.counted, come_more T x p now);
       past = λ i a b. elim (cases_eq i p) [
         | inl e ↦
             subst (λ (z : ℕ). IsNext (task_at T z) (x + 1) (server_at (set servers p s) z).next) (sym e)

@@ -1,12 +1,13 @@
 -- The run of a level of servers, one span more, and what each server's job lacks then.
-use Rattle.std.proofs.Common.{◌≡◌, ◌≢◌, ◌⊎◌, ℕ, ◌+◌, ◌-◌, ◌<◌, ◌≤◌, ◌&&◌, ◌||◌, min, Bool, true, false, List, ◌++◌, length, set, replicate, Option, Some, None, eqb, refl, sym, ◌∙◌, ap, arith, subst, inl, inr, lt-ltb, le-ltb, eq-eqb, ne_eqb, length-set, get_or, get_or-set_same, get_or-set_other}
-use Rattle.std.proofs.lemmas.Bool.{cases_eq, cases_lt, both_ways, true≢false, or_left, or_right, and_from, cond-true, cond-false, cases_Bool}
+use Rattle.std.proofs.Common.{◌≡◌, ◌≢◌, ◌⊎◌, ℕ, ◌+◌, ◌-◌, ◌<◌, ◌≤◌, min, Bool, true, false, List, ◌++◌, length, set, replicate, Option, Some, None, eqb, refl, sym, ◌∙◌, ap, arith, subst, inl, inr, lt-ltb, eq-eqb, ne_eqb, length-set, get_or, get_or-set_same, get_or-set_other}
+use Rattle.std.proofs.lemmas.Bool.Decides.{nat_tests}
+use Rattle.std.proofs.lemmas.Bool.{cases_eq, cases_lt, both_ways, true≢false, or_left, cond-true, cond-false}
 use Rattle.std.proofs.lemmas.Option.{same_Some}
 use Rattle.slot_model.specs.declared.job.Job.{Job}
 use Rattle.slot_model.specs.declared.sched.Sched.{Sched}
 use Rattle.slot_model.specs.declared.sched.Sched.TheVariants.{Edf, Rm, Dm, Listed}
 use Rattle.slot_model.specs.Task.{SporadicTask, task_at, job_at, deadline_of, AreConstrained}
-use Rattle.slot_model.specs.Order.{IsRank, ranks_by, ranks_above, fixed_before, arrives_before, before_of}
+use Rattle.slot_model.specs.Order.{IsRank, ranks_by, ranks_above, fixed_before, before_of}
 use Rattle.slot_model.specs.Release.{synchronous}
 use Rattle.slot_model.specs.Run.{service, server, Pending, MayHold, Entry}
 use Rattle.slot_model.proofs.FirstRuns.{none_some}
@@ -24,7 +25,7 @@ pub have_come : (sched : Sched) (T : List SporadicTask) (n : ℕ) (run : List (O
     → j < length (synchronous T 0 n) → (job_at (synchronous T 0 n) j).release ≤ y → j < released
 have_come sched T n run x released next servers h j y l m is_job by = elim (cases_lt j released) [
   | inl a ↦ a
-  | inr b ↦ absurd (omega (arith, later_jobs T (min next n) n j (omega arith) (omega (arith, b, h.counted)) is_job))
+  | inr b ↦ absurd (omega (arith, later_jobs T (min next n) n j (omega (arith, b, h.counted)) is_job))
 ]
 
 pub in_jobs : (sched : Sched) (T : List SporadicTask) (n : ℕ) (run : List (Option ℕ)) (x released next : ℕ)
@@ -80,24 +81,12 @@ own_pending sched T n run x released next servers h l i li some =
 above_first : (above : ℕ → ℕ → Bool) → IsRank above → (a b : Job) → a.task ≢ b.task → above a.task b.task ≡ true
     → (fixed_before above b a ≡ false) × (fixed_before above a b ≡ true)
 above_first above rank a b ne e =
-    let not_above : above b.task a.task ≡ false
-    = elim (cases_Bool (above b.task a.task)) [
-      | inl up ↦
-          absurd (both_ways _ (rank.not_itself a.task) (rank.in_turn a.task b.task a.task e up))
-      | inr fails ↦
-          fails
-    ] in (
-      neither (above b.task a.task) (eqb b.task a.task) (arrives_before b a) not_above
-          (ne_eqb b.task a.task (λ q. ne (sym q))),
-      or_left _ _ e,
-    )
-  where
-    neither : (u v w : Bool) → u ≡ false → v ≡ false → u || (v && w) ≡ false
-    neither u v w p q = grind arith
+    let up : above b.task a.task ≡ true → above a.task a.task ≡ true = rank.in_turn a.task b.task a.task e in
+    let fails : above b.task a.task ≡ false = grind (arith, up, rank.not_itself a.task) in
+    (grind (arith, nat_tests), or_left _ _ e)
 
 keyed_above : (key : ℕ → ℕ) (i j : ℕ) → (key i < key j) ⊎ ((key i ≡ key j) × (i ≤ j)) → i ≢ j → ranks_by key i j ≡ true
-keyed_above key i j (inl l) ne = or_left _ _ (lt-ltb _ _ l)
-keyed_above key i j (inr h) ne = or_right _ _ (and_from _ _ (eq-eqb _ _ h.0) (lt-ltb _ _ (omega (arith, h.1, ne))))
+keyed_above key i j h ne = grind (arith, nat_tests)
 
 -- what the order says of the jobs of two servers of which the first goes first
 record Beats (before : Job → Job → Bool) (a b : Job) (p q : ℕ) : Type 0 where
@@ -106,10 +95,7 @@ record Beats (before : Job → Job → Bool) (a b : Job) (p q : ℕ) : Type 0 wh
 
 edf_beats : (T : List SporadicTask) (a b : Job) (s t : Server) → s.key ≡ deadline_of T a → t.key ≡ deadline_of T b
     → s.tie ≡ s.place → t.tie ≡ t.place → goes_first s t → Beats (before_of Edf T) a b s.place t.place
-edf_beats T a b s t e f g h (inl l) =
-    record { not_before = le-ltb _ _ (omega (arith, e, f, l)); earlier = λ m. lt-ltb _ _ (omega (arith, e, f, l)) }
-edf_beats T a b s t e f g h (inr w) =
-    record { not_before = le-ltb _ _ (omega (arith, e, f, w.0)); earlier = λ m. absurd (omega (arith, g, h, w.1)) }
+edf_beats T a b s t e f g h k = grind (arith, nat_tests)
 
 fixed_beats : (above : ℕ → ℕ → Bool) → IsRank above → (a b : Job) (p q : ℕ) → a.task ≢ b.task
     → above a.task b.task ≡ true → Beats (fixed_before above) a b p q
@@ -118,12 +104,10 @@ fixed_beats above rank a b p q ne e =
 
 key_order : (key : ℕ → ℕ) (i j : ℕ) (s t : Server) → s.key ≡ key i → t.key ≡ key j → s.tie ≡ i → t.tie ≡ j
     → goes_first s t → (key i < key j) ⊎ ((key i ≡ key j) × (i ≤ j))
-key_order key i j s t e f g h (inl l) = inl (omega (arith, e, f))
-key_order key i j s t e f g h (inr w) = inr (omega (arith, e, f, w.0), omega (arith, g, h, w.1))
+key_order key i j s t e f g h k = grind arith
 
 listed_order : (i j : ℕ) (s t : Server) → s.key ≡ 0 → t.key ≡ 0 → s.tie ≡ i → t.tie ≡ j → i ≢ j → goes_first s t → i < j
-listed_order i j s t e f g h ne (inl l) = absurd (omega (arith, e, f, l))
-listed_order i j s t e f g h ne (inr w) = omega (arith, g, h, w.1, ne)
+listed_order i j s t e f g h ne k = grind arith
 
 beats : (sched : Sched) (T : List SporadicTask) (a b : Job) (s t : Server) → a.task ≢ b.task
     → IsKeyed sched (task_at T a.task) a.task s → IsKeyed sched (task_at T b.task) b.task t → s.next ≡ deadline_of T a
@@ -223,7 +207,7 @@ steady_rest sched T fits n slots run x released next servers h l m k u v given e
         | inl b ↦
             inl (h.by_now j b)
         | inr b ↦
-            inr (omega (arith, later_jobs T (min next n) n j (omega arith) (omega (arith, b, h.counted)) a))
+            inr (omega (arith, later_jobs T (min next n) n j (omega (arith, b, h.counted)) a))
       ];
   still_open = λ j y p a.
       let own = is_own sched T fits n run x released next servers h l m j p in

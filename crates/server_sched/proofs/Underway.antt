@@ -20,8 +20,6 @@ use Rattle.guest_sched.specs.MoreWindows.{AddsWindow}
 use Rattle.guest_sched.proofs.SpanByOne.{Holds}
 use Rattle.guest_sched.proofs.Steady.{span_run, gap_run}
 use Rattle.server_sched.specs.declared.serving.Server.{Server}
-use Rattle.server_sched.specs.declared.serving.Come.{Come}
-use Rattle.server_sched.specs.declared.tally.Tally.{Tally}
 use Rattle.server_sched.specs.declared.level.Level.{Level}
 use Rattle.tree_spans.specs.Shares.{share_at}
 use Rattle.server_sched.specs.inner.Serving.{AreServerTasks, no_server, server_at, IsChosen, AtMoment, AtRest, AreSharesTo, Tallies, is_late, IsUnderway}
@@ -189,21 +187,13 @@ job_served sched T fits are slots level new h k b l u m v given best enough wind
     (holds_more h.run level.time k (Some p) h.first.long) (omega (arith, own.own, best.0, h.rest.one_each))
     (subst (λ (z : ℕ). AddsWindow (share_at lists z) level.time (level.time + k) window) (sym own.own) adds)) in
     of_parts sched T slots new later n (sym same_slots) chosen (
-      (subst (λ (z : ℕ). FirstRunTo server (before_of sched T) T jobs slots z later) (sym time) first),
-      (omega (arith, time, v)),
-      (subst (λ (s : List Server). AtRest sched T n later new.time new.come.released new.come.next s) (sym servers)
-          (subst (λ (c : Come). AtRest sched T n later new.time c.released c.next (given_to level.servers.items b k))
-          (sym come) (subst (λ (z : ℕ). AtRest sched T n later z level.come.released level.come.next
-          (given_to level.servers.items b k)) (sym time) rest))),
-      (subst (λ (s : List (List Window)). AreSharesTo jobs later new.time (length T) s) (sym shares)
-          (subst (λ (z : ℕ). AreSharesTo jobs later z (length T) (set lists b window)) (sym time)
-          (from_shared jobs later (level.time + k) (length T) (set lists b window) shared))),
-      (subst (λ (w : Tally). Tallies T jobs later (is_late T jobs later new.come.next 0) w.missed w.first) (sym tally)
-          (subst
-          (λ (c : Come). Tallies T jobs later (is_late T jobs later c.next 0) level.tally.missed level.tally.first)
-          (sym come)
-          (tallies_longer sched T fits are n h.run level.time level.come.released level.come.next level.servers.items
-          h.first.long h.rest (replicate k (Some p)) level.tally.missed level.tally.first h.tallied))),
+      rw time first,
+      omega (arith, time, v),
+      rw servers (rw come (rw time rest)),
+      rw shares (rw time (from_shared jobs later (level.time + k) (length T) (set lists b window) shared)),
+      rw tally (rw come (tallies_longer sched T fits are n h.run level.time level.come.released level.come.next
+          level.servers.items h.first.long h.rest (replicate k (Some p)) level.tally.missed level.tally.first
+          h.tallied)),
     )
 
 -- what the numbers of such a level are at the most
@@ -262,28 +252,19 @@ pub begun : (sched : Sched) (T : List SporadicTask) (slots : List Bool) (level :
     → level.tally ≡ record { missed = 0; first = None } → level.best ≡ None → IsUnderway sched T slots level
 begun sched T slots level time come servers shares tally best =
     let jobs = synchronous T 0 level.slots in
-    of_parts sched T slots level [] level.slots refl (subst (IsChosen level.servers.items) (sym best)
-    (subst (λ (s : List Server). IsChosen s None) (sym servers) none_lacks)) (
-      subst (λ (z : ℕ). FirstRunTo server (before_of sched T) T jobs slots z []) (sym time)
-          (record { long = refl; each = λ x l. absurd (omega arith) }),
+    of_parts sched T slots level [] level.slots refl (rw best (rw servers none_lacks)) (
+      rw time (record { long = refl; each = λ x l. absurd (omega arith) }),
       omega (arith, time),
-      subst (λ (s : List Server). AtRest sched T level.slots [] level.time level.come.released level.come.next s)
-          (sym servers) (subst (λ (c : Come). AtRest sched T level.slots [] level.time c.released c.next
-          (replicate (length T) no_server)) (sym come) (subst
-          (λ (z : ℕ). AtRest sched T level.slots [] z 0 0 (replicate (length T) no_server)) (sym time)
-          (none_come level.slots))),
-      subst (λ (s : List (List Window)). AreSharesTo jobs [] level.time (length T) s) (sym shares)
-          (subst (λ (z : ℕ). AreSharesTo jobs [] z (length T) (replicate (length T) [])) (sym time)
-          (from_shared jobs [] 0 (length T) (replicate (length T) []) (none_shared jobs [] (length T)))),
-      subst (λ (w : Tally). Tallies T jobs [] (is_late T jobs [] level.come.next 0) w.missed w.first) (sym tally)
-          (subst (λ (c : Come). Tallies T jobs [] (is_late T jobs [] c.next 0) 0 None) (sym come)
-          (record {
-            count =
-                sym (count_below-none (is_late T jobs [] 0 0) (length jobs)
-                (λ k l. none_late T jobs [] 0 k (omega arith)));
-            some = tt;
-            none = λ e. refl;
-          })),
+      rw servers (rw come (rw time (none_come level.slots))),
+      rw shares
+          (rw time (from_shared jobs [] 0 (length T) (replicate (length T) []) (none_shared jobs [] (length T)))),
+      rw tally (rw come (record {
+        count =
+            sym (count_below-none (is_late T jobs [] 0 0) (length jobs)
+            (λ k l. none_late T jobs [] 0 k (omega arith)));
+        some = tt;
+        none = λ e. refl;
+      })),
     )
   where
     none_lacks : IsChosen (replicate (length T) no_server) None
