@@ -298,14 +298,6 @@ unsettled sys budgets events v off =
     go None e = refl
     go (Some event) e = absurd (false≢true (sym e))
 
--- a period that is cut is not judged
-pub cut_judged : (w : Watch) (b : Option Breach) → (cut_tally w b).judged ≡ w.tally.judged
-cut_judged w b = go (ltb w.from w.now)
-  where
-    go : (is : Bool) → (cond {A = Tally} is (counted w.tally 1 false w.got b) w.tally).judged ≡ w.tally.judged
-    go true = omega arith
-    go false = refl
-
 -- the tallies of one part more
 pub tallies_more : (sys : SystemView) (budgets : List ℕ) (events : List Event) (n : ℕ) (ts us : List Tally) (t : Tally)
     → length ts ≡ n → us ≡ ts ++ t ∷ [] → ((u : ℕ) → u < n → IsTally sys budgets events u (tally_at ts u))

@@ -1,12 +1,3 @@
-ghost use Rattle.std.specs.Prelude.{◌≡◌, ◌⊎◌, IfOk, IfErr};
-ghost use Rattle.csv_rows.specs.Reading.{records_of};
-ghost use Rattle.tree_model.specs.Plans.{IsPlan};
-ghost use Rattle.trace_file.specs.declared.fault.TraceFault.TheVariants.{NoMemory};
-ghost use Rattle.trace_file.specs.File.{IsFileFault, rows_of};
-ghost use Rattle.auditor.specs.Finding.{IsFindingOf};
-ghost use Rattle.auditor.specs.Tally.{IsTalliedOf};
-ghost use Rattle.auditor.specs.Pieces.{HasAudited};
-
 use crate::Finding;
 use crate::verdict::{Tallied, both_of, finding};
 use crate::watches::Watches;
@@ -76,7 +67,8 @@ impl<'s> Audit<'s> {
         self.feed.take(piece)
     }
 
-    /// What `audit_bytes` answers of the whole text.
+    /// What `audit` answers of the events of the whole text, or the first rule that the text
+    /// breaks, with its row.
     pub fn finish(self) -> Result<Finding, TraceFault>
         requires { (sys : SystemView) × (budgets text : List ℕ) × HasAudited sys budgets text self }
         ensures found { (sys : SystemView) (budgets text : List ℕ)
@@ -94,7 +86,7 @@ impl<'s> Audit<'s> {
         }
     }
 
-    /// What `tally_bytes` answers of the whole text.
+    /// What `finish` answers, with the tallies of the VCPUs. The same walk makes both.
     pub fn finish_tallied(self, alloc: Global) -> Result<Tallied, TraceFault>
         requires { (sys : SystemView) × (budgets text : List ℕ) × HasAudited sys budgets text self }
         ensures tallied { (sys : SystemView) (budgets text : List ℕ)
@@ -110,58 +102,5 @@ impl<'s> Audit<'s> {
             Ok(w) => both_of(alloc, sys, &w.rows, &w.watcher.watches),
             Err(fault) => Err(fault),
         }
-    }
-}
-
-/// The audit of bytes that are all there.
-fn audited<'s>(
-    alloc: Global,
-    sys: &'s System,
-    plan: &Plan,
-    bytes: &[u8],
-) -> Result<Audit<'s>, AllocError>
-    requires { IsPlan sys.now plan.now }
-    ensures { IfOk result (HasAudited sys.now plan.now bytes.now) }
-{
-    let mut audit = Audit::new(alloc, sys, plan)?;
-    audit.take(bytes)?;
-    Ok(audit)
-}
-
-/// What `audit` answers of the events of the text of a trace, none of which is kept, or the first
-/// rule that the text breaks, with its row.
-pub fn audit_bytes(
-    alloc: Global,
-    sys: &System,
-    plan: &Plan,
-    bytes: &[u8],
-) -> Result<Finding, TraceFault>
-    requires { IsPlan sys.now plan.now }
-    ensures found { IfOk result (IsFindingOf sys.now plan.now bytes.now) }
-    ensures fault { IfErr result (λ fault. (fault ≡ NoMemory)
-        ⊎ IsFileFault sys.now (rows_of (records_of bytes.now)) fault) }
-{
-    match audited(alloc, sys, plan, bytes) {
-        Ok(audit) => audit.finish(),
-        Err(_) => Err(TraceFault::NoMemory),
-    }
-}
-
-/// What `audit_bytes` answers, with the tallies of the VCPUs. The same walk makes both.
-pub fn tally_bytes(
-    alloc: Global,
-    sys: &System,
-    plan: &Plan,
-    bytes: &[u8],
-) -> Result<Tallied, TraceFault>
-    requires { IsPlan sys.now plan.now }
-    ensures tallied { IfOk result (λ t.
-        IsTalliedOf sys.now plan.now bytes.now t.finding t.vcpus.items) }
-    ensures fault { IfErr result (λ fault. (fault ≡ NoMemory)
-        ⊎ IsFileFault sys.now (rows_of (records_of bytes.now)) fault) }
-{
-    match audited(alloc, sys, plan, bytes) {
-        Ok(audit) => audit.finish_tallied(alloc),
-        Err(_) => Err(TraceFault::NoMemory),
     }
 }

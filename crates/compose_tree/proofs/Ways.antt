@@ -1,6 +1,6 @@
 -- Where every node but one and that on which it stands is settled, all that is visited before it
 -- is. Once it is settled too, every node is but that on which it stands and the one under that.
-use Rattle.std.proofs.Common.{◌≡◌, ◌≢◌, ℕ, suc, ◌<◌, ◌≤◌, true, List, length, set, arith, refl, sym, ◌∙◌, ap, subst, inl, inr, length-set, get_or-set_other}
+use Rattle.std.proofs.Common.{◌≡◌, ◌≢◌, ℕ, ◌<◌, ◌≤◌, true, List, length, set, arith, refl, sym, ◌∙◌, ap, subst, inl, inr, length-set, get_or-set_other}
 use Rattle.std.proofs.lemmas.Bool.{cases_Bool, cases_eq, eqb-true, false≢true}
 use Rattle.tree_model.specs.declared.place.Parent.{Parent}
 use Rattle.tree_model.specs.declared.place.Parent.TheVariants.{Core as on_core, Part as on_part}
@@ -36,13 +36,6 @@ under_node sys is q h = go (part_at sys q).parent (is.parents q h)
     go : (parent : Parent) → Stands sys q parent → IsNode sys (place_of parent)
     go (on_core c) s = s
     go (on_part p) s = omega (arith, s.0, h)
-
-pub fewer_left : (sys : SystemView) → IsSystem sys → (q : ℕ) → q < length sys.parts → visited_from (under sys q) < suc q
-fewer_left sys is q h = go (part_at sys q).parent (is.parents q h)
-  where
-    go : (parent : Parent) → Stands sys q parent → visited_from (place_of parent) < suc q
-    go (on_core c) s = omega arith
-    go (on_part p) s = omega (arith, s.0)
 
 -- all that is visited before the node is settled
 settled_later : (sys : SystemView) → IsSystem sys → (kept : List ℕ) (node : Place) → IsKept sys kept node

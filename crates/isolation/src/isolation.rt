@@ -3,8 +3,7 @@ ghost use Rattle.tree_model.specs.declared.place.Place.TheVariants.{Core};
 ghost use Rattle.tree_model.specs.Plans.{IsPlan};
 ghost use Rattle.tree_model.specs.System.{IsSystem};
 ghost use Rattle.tree_model.specs.Tree.{is_child};
-ghost use Rattle.rtds_sim.specs.Giving.{ServersFit};
-ghost use Rattle.isolation.specs.Answer.{IsIsolation, Means, MeansInTrace};
+ghost use Rattle.isolation.specs.Answer.{IsIsolation};
 ghost use Rattle.isolation.specs.Answers.{is_isolated};
 ghost use Rattle.isolation.specs.inner.Neighbours.{AreNeighbours};
 
@@ -34,20 +33,8 @@ impl Isolation {
     }
 }
 
-/// What VCPU `v` of core `core` keeps. Extra time does not matter.
-pub fn isolation_on(sys: &System, plan: &Plan, core: u32, v: usize) -> Isolation
-    requires plan { IsPlan sys.now plan.now }
-    requires is_part { v < length sys.now.parts }
-    requires on_core { is_child sys.now (Core core) v ≡ true }
-    ensures is { IsIsolation sys.now plan.now core v result }
-    ensures means { Means sys.now plan.now core v result }
-    ensures in_trace { ServersFit sys.now plan.now core →
-        MeansInTrace sys.now plan.now core v result }
-{
-    isolation_among(sys, plan, &Neighbours::new(sys), core, v)
-}
-
-/// The same where the VCPUs of each core are known.
+/// What VCPU `v` of core `core` keeps, where the VCPUs of each core are known. Extra time does not
+/// matter.
 pub fn isolation_among(
     sys: &System,
     plan: &Plan,

@@ -8,5 +8,5 @@ mod ties;
 mod vcpus;
 mod window;
 
-pub use isolation::{Isolation, isolation_on};
+pub use isolation::Isolation;
 pub use vcpus::{PartIsolation, are_isolated, isolations};

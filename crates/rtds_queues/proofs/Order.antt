@@ -22,10 +22,3 @@ first_in_turn l d p l' d' p' m e q h g = grind (arith, nat_tests)
 -- a lower level goes first, and at one level an earlier deadline
 pub first_by_level : (l d p l' d' p' : ℕ) → l < l' → goes_first l d p l' d' p' ≡ true
 first_by_level l d p l' d' p' h = grind (arith, nat_tests)
-
-pub first_by_deadline : (l d p l' d' p' : ℕ) → l ≡ l' → d < d' → goes_first l d p l' d' p' ≡ true
-first_by_deadline l d p l' d' p' e h = grind (arith, nat_tests)
-
--- where one goes before another, that does not go before it
-pub first_one_way : (l d p l' d' p' : ℕ) → goes_first l d p l' d' p' ≡ true → goes_first l' d' p' l d p ≡ false
-first_one_way l d p l' d' p' h = grind (arith, nat_tests)

@@ -2,10 +2,10 @@ ghost use Rattle.std.specs.Prelude.{◌≤◌, length};
 ghost use Rattle.tree_model.specs.Plans.{IsPlan};
 
 use crate::helpers::{HOST, MEMORY, planned, system_of};
-use auditor::{Audit, Finding, Tally, audit, audit_bytes, tally_bytes};
+use auditor::{Audit, Finding, Tallied, Tally, audit};
 use std::alloc::{AllocError, Global};
 use std::process::Abort;
-use trace_file::{TraceCheck, TraceFault, check_bytes, read_trace};
+use trace_file::{TraceCheck, TraceFault, read_trace};
 use tree_model::{Plan, System};
 
 /// B has 3 of its 4 slots.
@@ -47,17 +47,6 @@ const CASES: [(&str, Result<Finding, TraceFault>); 3] = [
     (WITHOUT_END, Err(TraceFault::NoEnd(6))),
 ];
 
-#[test]
-fn a_text_is_audited_as_its_events(rt: HostRuntime) {
-    let sys = system_of(&rt, rt.alloc(), HOST);
-    let plan = planned(&rt, rt.alloc(), &sys);
-    for (text, found) in &CASES {
-        let told = audit_bytes(rt.alloc(), &sys, &plan, text.as_bytes());
-        assert!(rt; told == *found);
-        assert!(rt; found_of_events(rt.alloc(), &sys, &plan, text) == told);
-    }
-}
-
 /// What is found of a text that is taken in two pieces.
 fn found_in_two(
     alloc: Global,
@@ -93,12 +82,16 @@ fn checked_in_two(
 }
 
 #[test]
-fn a_text_is_audited_in_any_pieces(rt: HostRuntime) {
+fn a_text_is_audited_as_its_events_in_any_pieces(rt: HostRuntime) {
     let sys = system_of(&rt, rt.alloc(), HOST);
     let plan = planned(&rt, rt.alloc(), &sys);
     for (text, found) in &CASES {
+        assert!(rt; found_of_events(rt.alloc(), &sys, &plan, text) == *found);
         let text = text.as_bytes();
-        let checked = check_bytes(rt.alloc(), &sys, text);
+        let checked = match found {
+            Ok(_) => Ok(()),
+            Err(fault) => Err(*fault),
+        };
         for at in 0..text.len() {
             let told = found_in_two(rt.alloc(), &sys, &plan, text, at).expect(&rt, MEMORY);
             assert!(rt; told == *found);
@@ -130,11 +123,25 @@ const fn counted(short: u64, time: u64) -> Tally {
     }
 }
 
+/// What is found and counted of a text.
+fn tallied(
+    alloc: Global,
+    sys: &System,
+    plan: &Plan,
+    text: &[u8],
+) -> Result<Result<Tallied, TraceFault>, AllocError>
+    requires { IsPlan sys.now plan.now }
+{
+    let mut audit = Audit::new(alloc, sys, plan)?;
+    audit.take(text)?;
+    Ok(audit.finish_tallied(alloc))
+}
+
 #[test]
 fn what_is_counted_of_a_text(rt: HostRuntime) {
     let sys = system_of(&rt, rt.alloc(), HOST);
     let plan = planned(&rt, rt.alloc(), &sys);
-    let told = tally_bytes(rt.alloc(), &sys, &plan, TOO_FEW.as_bytes());
+    let told = tallied(rt.alloc(), &sys, &plan, TOO_FEW.as_bytes()).expect(&rt, MEMORY);
     let tallied = told.ok().expect(&rt, "a trace");
     assert!(rt; tallied.finding == SHORT);
     let wanted = [counted(0, 7000), counted(1, 3000), UNSTARTED];

@@ -1,7 +1,6 @@
 use crate::helpers::{expect, jobs_of, tasks_of, told_run, windows_of};
 use guest_sched::{
-    Keep, ReleasedLevel, Span, pattern_windows, run_level, run_over, run_spans,
-    spans_by,
+    Keep, ReleasedLevel, Span, pattern_windows, run_level, run_over, run_spans, spans_by,
 };
 use slot_model::{Edf, Sched, is_legal};
 use std::alloc::{AllocError, Global};

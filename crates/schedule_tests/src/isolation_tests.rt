@@ -1,19 +1,21 @@
 ghost use Rattle.tree_model.specs.Plans.{IsPlan};
 
-use crate::helpers::{HOST, planned, system_of};
-use isolation::{Isolation, isolation_on};
+use crate::helpers::{HOST, MEMORY, planned, system_of};
+use isolation::{Isolation, isolations};
+use std::alloc::Global;
 use std::process::Abort;
-use tree_model::{Place, Plan, System};
+use tree_model::{Plan, System};
 
 /// What VCPU `v` of the first core keeps.
-fn isolation_in(rt: &impl Abort, sys: &System, plan: &Plan, v: usize) -> Isolation
+fn isolation_in(rt: &impl Abort, alloc: Global, sys: &System, plan: &Plan, v: u32) -> Isolation
     requires { IsPlan sys.now plan.now }
 {
-    if v < sys.parts().len() && sys.parts()[v].is_child_of(Place::Core(0)) {
-        isolation_on(sys, plan, 0, v)
-    } else {
-        panic!(rt; "no part of the first core");
+    for row in &isolations(alloc, sys, plan).expect(rt, MEMORY) {
+        if row.part == v {
+            return row.isolation;
+        }
     }
+    panic!(rt; "no part of a core");
 }
 
 /// Of two cores the first is full: 3 slots in 6, ahead of 2 in 4. Neither the part of the second
@@ -54,9 +56,9 @@ task = [{name = 't', period = 100, work = 1}]
 fn ties_decide_for_the_first_and_the_second_is_exposed(rt: HostRuntime) {
     let sys = system_of(&rt, rt.alloc(), PAIR);
     let plan = planned(&rt, rt.alloc(), &sys);
-    let first = isolation_in(&rt, &sys, &plan, 0);
+    let first = isolation_in(&rt, rt.alloc(), &sys, &plan, 0);
     assert!(rt; first == Isolation::ByTies { last: 5 });
-    assert!(rt; isolation_in(&rt, &sys, &plan, 1) == Isolation::ByBlock);
+    assert!(rt; isolation_in(&rt, rt.alloc(), &sys, &plan, 1) == Isolation::ByBlock);
 }
 
 /// Budgets of one period that fit on a core: whoever wakes late, 3 slots and 4 fit in 7.
@@ -64,6 +66,6 @@ fn ties_decide_for_the_first_and_the_second_is_exposed(rt: HostRuntime) {
 fn equal_periods_are_isolated(rt: HostRuntime) {
     let sys = system_of(&rt, rt.alloc(), HOST);
     let plan = planned(&rt, rt.alloc(), &sys);
-    let kept = isolation_in(&rt, &sys, &plan, 0);
+    let kept = isolation_in(&rt, rt.alloc(), &sys, &plan, 0);
     assert!(rt; kept == Isolation::Isolated { last: 7 });
 }

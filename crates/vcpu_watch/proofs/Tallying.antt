@@ -205,29 +205,6 @@ tallied_same test other time another breach third n t ej eg eb h = record {
       h.most;
 }
 
-cond_at_most : (v : Bool) (m : ℕ) → cond {A = ℕ} v m 0 ≤ m
-cond_at_most true m = omega arith
-cond_at_most false m = omega arith
-
--- its counts
-pub at_most_more : (t : Tally) (m : ℕ) (j : Bool) (g : ℕ) (b : Option Breach) (limit later : ℕ) → limit + m ≤ later
-    → AreAtMost t limit → AreAtMost (counted t m j g b) later
-at_most_more t m j g b limit later l h = record {
-  begun = omega (arith, h.begun);
-  judged = omega (arith, h.judged, cond_at_most j m);
-  short = omega (arith, h.short, cond_at_most (is_short_breach b) m);
-  over = omega (arith, h.over, cond_at_most (is_over_breach b) m);
-}
-
-pub at_most_later : (t : Tally) (limit later : ℕ) → limit ≤ later → AreAtMost t limit → AreAtMost t later
-at_most_later t limit later l h =
-    record {
-      begun = omega (arith, h.begun);
-      judged = omega (arith, h.judged);
-      short = omega (arith, h.short);
-      over = omega (arith, h.over);
-    }
-
 pub tallied_at_most : (test : ℕ → Bool) (time : ℕ → ℕ) (breach : ℕ → Option Breach) (n limit : ℕ) (t : Tally)
     → n ≤ limit → IsTallied test time breach n t → AreAtMost t limit
 tallied_at_most test time breach n limit t l h = record {
