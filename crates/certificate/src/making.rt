@@ -33,7 +33,7 @@ pub fn certify(alloc: Global, sys: &System) -> Result<Certificate, Refusal>
     // where budgets admit the system, they are the certificate's
     ensures complete { (budgets : List ℕ) → Admitted sys.now budgets →
         MatchResult result (λ c. budgets_of sys.now c.nodes ≡ budgets) (λ r. r ≡ Refusal.NoMemory) }
-    // what a certificate and a refusal say of every supply and every release
+    // what a certificate and a refusal say of supplies and releases
     ensures no_loss { IfOk result (λ c. NoLoss sys.now (budgets_of sys.now c.nodes)) }
     ensures tight { IfOk result (λ c. IsTight sys.now (budgets_of sys.now c.nodes)) }
     ensures holds { IfErr result (λ r. RefusalHolds sys.now r) }

@@ -1,5 +1,5 @@
 pub mod Keeping
-mod TreeRuns
+pub mod TreeRuns
 mod TreeExists
 pub mod Sound
 mod CoreMisses

@@ -53,12 +53,12 @@ child_gets sys budgets starts n node q l e before slots run len permitted fine =
     )
 
 -- a system with its budgets, its starts, its inputs and a permitted run
-record Running (sys : SystemView) (budgets starts : List ℕ) (n : ℕ) (supplies : List (List Bool))
+pub record Running (sys : SystemView) (budgets starts : List ℕ) (n : ℕ) (supplies : List (List Bool))
     (jobs : List (List Job)) (core_runs part_runs : List (List (Option ℕ))) : Type 0 where
-  fits : IsSystem sys
-  pass : Keeping sys budgets
-  inputs : TreeInputs sys n supplies jobs
-  tree : StartedTree sys budgets starts n supplies jobs core_runs part_runs
+  pub fits : IsSystem sys
+  pub pass : Keeping sys budgets
+  pub inputs : TreeInputs sys n supplies jobs
+  pub tree : StartedTree sys budgets starts n supplies jobs core_runs part_runs
 
 core_fine : (sys : SystemView) (budgets starts : List ℕ) (n : ℕ) (supplies : List (List Bool)) (jobs : List (List Job))
     (core_runs part_runs : List (List (Option ℕ))) → Running sys budgets starts n supplies jobs core_runs part_runs
@@ -120,6 +120,14 @@ part_gets sys budgets starts n supplies jobs core_runs part_runs h (suc m) q lm 
     (λ r lr. part_gets sys budgets starts n supplies jobs core_runs part_runs h m r (omega arith) (omega arith))
     (part_at sys q).parent (h.fits.parents q l) (same_itself (place_of (part_at sys q).parent))
 
+pub part_has_budget : (sys : SystemView) (budgets starts : List ℕ) (n : ℕ) (supplies : List (List Bool))
+    (jobs : List (List Job)) (core_runs part_runs : List (List (Option ℕ)))
+    → Running sys budgets starts n supplies jobs core_runs part_runs → (q : ℕ) → q < length sys.parts
+    → GivesBudget (part_at sys q).period (budget_at budgets q)
+    (started_supply sys budgets starts n core_runs part_runs q)
+part_has_budget sys budgets starts n supplies jobs core_runs part_runs h q l =
+    (part_gets sys budgets starts n supplies jobs core_runs part_runs h (suc q) q (omega arith) l).1
+
 -- nothing is lost anywhere
 pub tree_no_loss : (sys : SystemView) (budgets starts : List ℕ) (n : ℕ) (supplies : List (List Bool))
     (jobs : List (List Job)) (core_runs part_runs : List (List (Option ℕ))) → IsSystem sys → Keeping sys budgets
@@ -132,10 +140,10 @@ tree_no_loss sys budgets starts n supplies jobs core_runs part_runs fits pass in
       cores = core_fine sys budgets starts n supplies jobs core_runs part_runs h;
       inner =
           λ q l inner. inner_fine sys budgets starts n supplies jobs core_runs part_runs h q l inner
-          (part_gets sys budgets starts n supplies jobs core_runs part_runs h (suc q) q (omega arith) l).1;
+          (part_has_budget sys budgets starts n supplies jobs core_runs part_runs h q l);
       leaves =
           λ q l leaf. pass.leaves q l leaf guest (get_or jobs q [])
           (started_supply sys budgets starts n core_runs part_runs q) (run_at part_runs q)
-          (part_gets sys budgets starts n supplies jobs core_runs part_runs h (suc q) q (omega arith) l).1
+          (part_has_budget sys budgets starts n supplies jobs core_runs part_runs h q l)
           (inputs.releases q l leaf) (tree.leaves q l leaf);
     }

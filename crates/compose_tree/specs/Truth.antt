@@ -1,4 +1,4 @@
--- What a plan and a refusal say of every supply and every release.
+-- What a plan says of every supply and every release, and a refusal of some.
 use Rattle.std.specs.Prelude.{◌≡◌, ℕ, ◌<◌, ◌≤◌, Bool, true, List, [], length, slice_index_or, Option, Some, None}
 use Rattle.slot_model.specs.declared.job.Job.{Job}
 use Rattle.slot_model.specs.declared.sched.Short.{Short}

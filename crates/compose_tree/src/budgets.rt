@@ -33,7 +33,7 @@ pub fn compose(alloc: Global, sys: &System) -> Result<Plan, Refusal>
     ensures complete { (budgets : List ℕ) → Admitted sys.now budgets →
         MatchResult result (λ plan. plan ≡ budgets) (λ r. r ≡ Refusal.NoMemory) }
     ensures in_period { IfOk result (λ plan. IsPlan sys.now plan) }
-    // what a plan and a refusal say of every supply and every release
+    // what a plan and a refusal say of supplies and releases
     ensures no_loss { IfOk result (λ plan. NoLoss sys.now plan) }
     ensures tight { IfOk result (λ plan. IsTight sys.now plan) }
     ensures holds { IfErr result (λ r. RefusalHolds sys.now r) }

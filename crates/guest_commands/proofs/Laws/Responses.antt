@@ -3,7 +3,7 @@ use Rattle.std.proofs.Common.{◌≡◌, ℕ, List, sym, ◌∙◌, ap, subst, i
 use Rattle.tree_model.specs.View.{SystemView}
 use Rattle.tree_model.specs.System.{IsSystem}
 use Rattle.tree_model.specs.Tree.{NoLoss}
-use Rattle.compose_tree.proofs.Sound.{admitted_no_loss}
+use Rattle.compose_tree.proofs.Sound.{admitted_keeping, admitted_no_loss}
 use Rattle.rt_report.specs.declared.responses.Response.{Response}
 use Rattle.rt_report.specs.Responses.{responses_text}
 use Rattle.command_steps.specs.declared.status.Status.{Status}
@@ -45,7 +45,9 @@ responds_means sys is status text h = elim h [
         no_loss = no_loss;
         rows = a.said.rows;
         responses = a.said.responses;
-        in_tree = all_respond_in_tree sys is a.value no_loss a.said.rows a.said.responses.each;
+        in_tree =
+            all_respond_in_tree sys is a.value (admitted_keeping sys is a.value a.gives) a.said.rows
+            a.said.responses.each;
         told = a.said.told;
       })
   | inr a ↦
