@@ -10,11 +10,11 @@ use Rattle.tree_model.specs.Tree.{is_child, place_of, same_place, run_at}
 use Rattle.tree_model.specs.Plans.{IsPlan}
 use Rattle.trace_file.specs.Periods.{begins}
 use Rattle.release_file.specs.Workload.{start_of}
-use Rattle.rtds_sim.specs.Giving.{ServersFit}
-use Rattle.rtds_sim.proofs.Runs.{rtds_run, rtds_run-is}
+use Rattle.rtds_model.specs.Giving.{ServersFit}
+use Rattle.rtds_model.proofs.Runs.{rtds_run, rtds_run-is}
 use Rattle.isolation.specs.declared.isolation.Isolation.{Isolation}
 use Rattle.isolation.specs.declared.isolation.Isolation.TheVariants.{Isolated, ByTies, ByBlock}
-use Rattle.rtds_sim.specs.Demand.{later}
+use Rattle.rtds_model.specs.Demand.{later}
 use Rattle.isolation.specs.Demand.{AsksTooMuch}
 use Rattle.isolation.specs.Keeping.{IsExposed}
 use Rattle.isolation.specs.Answer.{IsIsolation, Means, MeansInTrace}

@@ -11,17 +11,17 @@ use Rattle.tree_model.specs.Tree.{is_child, budget_at}
 use Rattle.tree_model.specs.Plans.{IsPlan}
 use Rattle.release_file.specs.declared.workload.Wake.{Wake}
 use Rattle.release_file.specs.Workload.{is_started, start_of, IsWorkload}
-use Rattle.rtds_sim.specs.Rtds.{can_run}
+use Rattle.rtds_model.specs.Rtds.{can_run}
 use Rattle.rtds_queues.specs.Keys.{goes_first}
-use Rattle.rtds_sim.specs.Demand.{later}
+use Rattle.rtds_model.specs.Demand.{later}
 use Rattle.isolation.specs.Demand.{asked_of, no_tie, IsIsolatedBy}
 use Rattle.isolation.specs.Open.{goes_sooner, OpenRun}
 use Rattle.isolation.specs.Keeping.{IsAwakeLast, got_in, KeepsBudget, KeepsOpenly}
-use Rattle.rtds_sim.proofs.Demands.{last_demand}
+use Rattle.rtds_model.proofs.Demands.{last_demand}
 use Rattle.isolation.proofs.Asked.{last-le-asked}
-use Rattle.rtds_sim.proofs.Windows.{has_budget_late}
-use Rattle.rtds_sim.proofs.Goes.{Goes, place_goes}
-use Rattle.rtds_sim.proofs.Serving.{RunBy, by_place, serves, on_is, on_from, runs_from}
+use Rattle.rtds_model.proofs.Windows.{has_budget_late}
+use Rattle.rtds_model.proofs.Goes.{Goes, place_goes}
+use Rattle.rtds_model.proofs.Serving.{RunBy, by_place, serves, on_is, on_from, runs_from}
 
 -- where ties are left open
 sooner_by_level : (l d p l' d' p' : ℕ) → l < l' → goes_sooner l d p l' d' p' ≡ true

@@ -14,18 +14,18 @@ use Rattle.tree_model.specs.Plans.{IsPlan}
 use Rattle.trace_file.specs.Periods.{begins, count_between}
 use Rattle.release_file.specs.declared.workload.Wake.{Wake}
 use Rattle.release_file.specs.Workload.{is_started, is_started_at, is_blocked_at, start_of, IsWorkload}
-use Rattle.rtds_sim.specs.Rtds.{period_from, used, can_run, CoreRun}
+use Rattle.rtds_model.specs.Rtds.{period_from, used, can_run, CoreRun}
 use Rattle.rtds_queues.specs.Keys.{goes_first}
-use Rattle.rtds_sim.specs.Giving.{IsStartedOn, ServersFit}
-use Rattle.rtds_sim.specs.Demand.{later}
+use Rattle.rtds_model.specs.Giving.{IsStartedOn, ServersFit}
+use Rattle.rtds_model.specs.Demand.{later}
 use Rattle.isolation.specs.Demand.{asked_of, AsksTooMuch}
 use Rattle.isolation.specs.Keeping.{got_in}
-use Rattle.rtds_sim.proofs.Counts.{between_zero}
-use Rattle.rtds_sim.proofs.Demands.{steady_demand, last_demand}
+use Rattle.rtds_model.proofs.Counts.{between_zero}
+use Rattle.rtds_model.proofs.Demands.{steady_demand, last_demand}
 use Rattle.isolation.proofs.Asked.{asked-le-last}
-use Rattle.rtds_sim.proofs.Plain.{dbf-parts}
-use Rattle.rtds_sim.proofs.Goes.{place_goes}
-use Rattle.rtds_sim.proofs.Serving.{by_place, serves, on_is, on_from, runs_from}
+use Rattle.rtds_model.proofs.Plain.{dbf-parts}
+use Rattle.rtds_model.proofs.Goes.{place_goes}
+use Rattle.rtds_model.proofs.Serving.{by_place, serves, on_is, on_from, runs_from}
 use Rattle.isolation.proofs.Witness.{WakesAt, IsOther, falls_short}
 
 -- VCPU u has been blocked in the period that is under way at r, and one of its periods ends with

@@ -12,10 +12,10 @@ use Rattle.slot_model.proofs.Sums.{sum_below-le, sum_below-lt}
 use Rattle.slot_model.proofs.Runs.{search_below, back_to, holds-is}
 use Rattle.slot_model.proofs.FirstRuns.{none_some}
 use Rattle.trace_file.proofs.Counting.{between_none}
-use Rattle.rtds_sim.specs.Demand.{deferrable_demand, later}
-use Rattle.rtds_sim.proofs.Counts.{LastOf, last_of, few_counted, between_split, between_zero, between_le, all_counted}
-use Rattle.rtds_sim.proofs.Demands.{steady_demand, demand_of, last_demand, quotient_is, demand_rises, own}
-use Rattle.rtds_sim.proofs.Windows.{had, ends, later_in_turn, later_few, ServesByDeadline, urgent, urgent_of, IsUrgent, urgent_is, urgent_from, some_period, had_at, ends_at, past_due, Quiet, head, asks, lacks, got}
+use Rattle.rtds_model.specs.Demand.{deferrable_demand, later}
+use Rattle.rtds_model.proofs.Counts.{LastOf, last_of, few_counted, between_split, between_zero, between_le, all_counted}
+use Rattle.rtds_model.proofs.Demands.{steady_demand, demand_of, last_demand, quotient_is, demand_rises, own}
+use Rattle.rtds_model.proofs.Windows.{had, ends, later_in_turn, later_few, ServesByDeadline, urgent, urgent_of, IsUrgent, urgent_is, urgent_from, some_period, had_at, ends_at, past_due, Quiet, head, asks, lacks, got}
 
 module _ (m n : ℕ) (period budget start : ℕ → ℕ) (on : ℕ → Bool) (able : ℕ → ℕ → Bool) (run : List (Option ℕ))
     (serves : ServesByDeadline later m n period budget start on able run) where

@@ -11,11 +11,11 @@ ghost use Rattle.trace_file.specs.File.{Spells};
 ghost use Rattle.trace_file.specs.Periods.{Satisfied};
 ghost use Rattle.tree_model.specs.Plans.{IsPlan};
 ghost use Rattle.release_file.specs.Workload.{IsWorkload};
-ghost use Rattle.rtds_sim.specs.Rtds.{is_full, RtdsRun};
-ghost use Rattle.rtds_sim.specs.Printed.{printed, IsRtdsTrace};
-ghost use Rattle.rtds_sim.specs.RunText.{IsRunText};
+ghost use Rattle.rtds_model.specs.Rtds.{is_full, RtdsRun};
+ghost use Rattle.rtds_trace.specs.Printed.{printed, IsRtdsTrace};
+ghost use Rattle.rtds_trace.specs.RunText.{IsRunText};
 ghost use Rattle.rtds_sim.specs.Fault.{AllRtds, IsFirstOther, IsRtdsFault};
-ghost use Rattle.rtds_sim.specs.Giving.{AlwaysRunnable, ServersFit, AlwaysServed, GivesBudgets, NeverOver, NoneOver};
+ghost use Rattle.rtds_model.specs.Giving.{AlwaysRunnable, ServersFit, AlwaysServed, GivesBudgets, NeverOver, NoneOver};
 
 use crate::RtdsFault;
 use crate::host::Host;

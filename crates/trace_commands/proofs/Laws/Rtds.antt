@@ -19,10 +19,10 @@ use Rattle.release_file.specs.WorkloadFile.{wake_rows}
 use Rattle.release_file.proofs.OneWorkload.{one_workload, no_workload_fault, one_workload_fault}
 use Rattle.release_file.proofs.SpeltWorkload.{spelt_workload}
 use Rattle.system_file.specs.SystemFile.{system_of}
-use Rattle.rtds_sim.specs.Rtds.{is_full, is_rtds}
+use Rattle.rtds_model.specs.Rtds.{is_full, is_rtds}
 use Rattle.rtds_sim.specs.Fault.{AllRtds, IsFirstOther}
-use Rattle.rtds_sim.specs.Giving.{AlwaysServed, ServersFit}
-use Rattle.rtds_sim.proofs.RunTraces.{each_gives, each_never_over, trace_of, trace_none_over, trace_satisfied}
+use Rattle.rtds_model.specs.Giving.{AlwaysServed, ServersFit}
+use Rattle.rtds_trace.proofs.RunTraces.{each_gives, each_never_over, trace_of, trace_none_over, trace_satisfied}
 use Rattle.command_steps.specs.declared.status.Status.{Status}
 use Rattle.command_steps.specs.declared.status.Status.TheVariants.{Yes, BadFile}
 use Rattle.command_steps.specs.Answer.{Contents, IfNo, IsOne, IsReadable}

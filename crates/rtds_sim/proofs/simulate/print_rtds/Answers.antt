@@ -3,8 +3,8 @@ use Rattle.csv_rows.specs.Printing.{text_of}
 use Rattle.trace_file.specs.declared.event.Event.{Event}
 use Rattle.trace_file.specs.Periods.{Satisfied}
 use Rattle.trace_printer.specs.Printing.{printed_rows}
-use Rattle.rtds_sim.specs.Giving.{NoneOver}
-use Rattle.rtds_sim.proofs.RunTraces.{each_gives, each_never_over, trace_of, read_as}
+use Rattle.rtds_model.specs.Giving.{NoneOver}
+use Rattle.rtds_trace.proofs.RunTraces.{each_gives, each_never_over, trace_of, read_as}
 use Rattle.rtds_sim.proofs.simulate.print_rtds.Goals as goal
 
 pub returns-in-Some-clause-gives : goal.returns-in-Some-clause-gives

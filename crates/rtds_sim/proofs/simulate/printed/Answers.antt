@@ -5,8 +5,8 @@ use Rattle.trace_printer.specs.Printer.{HasPrinted}
 use Rattle.trace_printer.specs.Printing.{unit_for}
 use Rattle.trace_file.specs.Rules.{Kept}
 use Rattle.trace_printer.proofs.Printers.{own, as_from}
-use Rattle.rtds_sim.proofs.RunTraces.{trace_kept, trace_none_over, trace_satisfied}
-use Rattle.rtds_sim.proofs.Traced.{whole_unit}
+use Rattle.rtds_trace.proofs.RunTraces.{trace_kept, trace_none_over, trace_satisfied}
+use Rattle.rtds_trace.proofs.Traced.{whole_unit}
 use Rattle.rtds_sim.proofs.simulate.printed.Goals as goal
 
 pub returns : goal.returns

@@ -1,6 +1,6 @@
 use Rattle.std.proofs.Common.{List, [], ◌++◌, ◌∙◌, sym, ap, subst, append-nil}
 use Rattle.trace_file.specs.declared.event.Event.{Event}
-use Rattle.rtds_sim.specs.Printed.{IsRtdsTrace}
+use Rattle.rtds_trace.specs.Printed.{IsRtdsTrace}
 use Rattle.rtds_sim.proofs.simulate.simulated.Goals as goal
 
 -- a list that was empty has taken what it has

@@ -1,6 +1,6 @@
 use Rattle.std.proofs.Common.{List, refl, subst, inl}
 use Rattle.release_file.specs.declared.workload.Wake.{Wake}
-use Rattle.rtds_sim.specs.RunText.{IsRunText}
+use Rattle.rtds_trace.specs.RunText.{IsRunText}
 use Rattle.trace_commands.proofs.rtds.RtdsJudgeTwo.judge.Goals as goal
 
 pub returns-clause-answer : goal.returns-clause-answer

@@ -10,15 +10,15 @@ use Rattle.tree_model.specs.Tree.{is_child, budget_at}
 use Rattle.tree_model.specs.Plans.{IsPlan}
 use Rattle.release_file.specs.declared.workload.Wake.{Wake}
 use Rattle.release_file.specs.Workload.{is_started, start_of, IsWorkload}
-use Rattle.rtds_sim.specs.Demand.{later}
-use Rattle.rtds_sim.specs.Rtds.{can_run, CoreRun}
+use Rattle.rtds_model.specs.Demand.{later}
+use Rattle.rtds_model.specs.Rtds.{can_run, CoreRun}
 use Rattle.rtds_queues.specs.Keys.{goes_first}
-use Rattle.rtds_sim.specs.Giving.{IsStartedOn, AlwaysRunnable, ServersFit, GivesBudgets}
-use Rattle.rtds_sim.proofs.Demands.{steady_demand, demand_rises}
-use Rattle.rtds_sim.proofs.Goes.{place_goes}
-use Rattle.rtds_sim.proofs.Plain.{dbf-parts}
-use Rattle.rtds_sim.proofs.Serving.{by_place, serves, on_is, on_from, runs_from}
-use Rattle.rtds_sim.proofs.Windows.{has_budget_in}
+use Rattle.rtds_model.specs.Giving.{IsStartedOn, AlwaysRunnable, ServersFit, GivesBudgets}
+use Rattle.rtds_model.proofs.Demands.{steady_demand, demand_rises}
+use Rattle.rtds_model.proofs.Goes.{place_goes}
+use Rattle.rtds_model.proofs.Plain.{dbf-parts}
+use Rattle.rtds_model.proofs.Serving.{by_place, serves, on_is, on_from, runs_from}
+use Rattle.rtds_model.proofs.Windows.{has_budget_in}
 
 module _ (sys : SystemView) (budgets : List ℕ) (plan : IsPlan sys budgets) (rows : List Wake)
     (is_workload : IsWorkload sys rows) (n c : ℕ) (run : List (Option ℕ)) (is : CoreRun sys budgets rows n c run) where

@@ -10,7 +10,7 @@ use Rattle.tree_model.specs.declared.place.Parent.{Parent}
 use Rattle.tree_model.specs.declared.place.Parent.TheVariants.{Core as on_core, Part as on_part}
 use Rattle.tree_model.specs.declared.place.Place.TheVariants.{Core}
 use Rattle.tree_model.specs.View.{SystemView}
-use Rattle.tree_model.specs.System.{part_at, IsSystem}
+use Rattle.tree_model.specs.System.{part_at, IsSystem, Stands}
 use Rattle.tree_model.specs.Tree.{place_of, same_place, is_child, run_at}
 use Rattle.tree_model.proofs.Children.{same_itself}
 use Rattle.trace_file.proofs.Known.{child_vcpu}
@@ -25,17 +25,13 @@ use Rattle.release_file.specs.declared.workload.Wake.{Wake as Row}
 use Rattle.release_file.specs.declared.workload.WakeKind.{WakeKind}
 use Rattle.release_file.specs.declared.workload.WakeKind.TheVariants.{Start as ToStart, Wake as ToWake, Block as ToBlock}
 use Rattle.release_file.specs.Workload.{row_at, last_row, is_of, is_start, starts, is_block, blocks, started_after, blocked_after, is_started_at, is_blocked_at, may_follow, IsWorkload}
-use Rattle.rtds_sim.specs.Rtds.{can_run, RtdsRun}
-use Rattle.rtds_sim.specs.Printed.{moment_of_slot, push_some, gathered, core_of, what_of, event_of, on_at, on_core_at, switch_to, holder_before, is_blocked_one, holder_left, stop_at, row_event_at, switch_at, printed_at, printed_below, printed}
-use Rattle.rtds_sim.specs.inner.Accounts.{AreBefore}
-use Rattle.rtds_sim.proofs.Runs.{eligible_runs}
-use Rattle.rtds_sim.proofs.Gathered.{gathered-zero, gathered-suc, gathered-none, gathered-rest, push_behind}
-use Rattle.rtds_sim.proofs.Taking.{row_none, row_some}
-use Rattle.rtds_sim.proofs.Entering.{started_by, blocked_by}
-use Rattle.rtds_sim.proofs.Steady.{core_in}
-use Rattle.rtds_sim.proofs.Visits.{printed_below-zero, printed_below-suc}
+use Rattle.rtds_model.specs.Rtds.{can_run, RtdsRun}
+use Rattle.rtds_trace.specs.Printed.{moment_of_slot, push_some, gathered, core_of, what_of, event_of, on_at, on_core_at, switch_to, holder_before, is_blocked_one, holder_left, stop_at, row_event_at, switch_at, printed_at, printed_below, printed, AreBefore}
+use Rattle.rtds_model.proofs.Runs.{eligible_runs}
+use Rattle.rtds_trace.proofs.Gathered.{gathered-zero, gathered-suc, gathered-none, gathered-rest, push_behind, printed_below-zero, printed_below-suc}
+use Rattle.rtds_trace.proofs.Rows.{row_none, row_some, started_by, blocked_by}
 use Rattle.release_file.proofs.Rows.{ordered}
-use Rattle.rtds_sim.proofs.Pushing.{Keeps, After, after_same, after_more, after_end}
+use Rattle.rtds_trace.proofs.Pushing.{Keeps, After, after_same, after_more, after_end}
 
 -- the holders of the cores below c are the new ones
 abbrev upto : ℕ → (ℕ → Option ℕ) → (ℕ → Option ℕ) → ℕ → Option ℕ
@@ -195,6 +191,14 @@ module _ (sys : SystemView) (x : ℕ) (in_limit : moment_of_slot x ≤ LAST_MOME
 pub record OnCore (sys : SystemView) (v : ℕ) : Type 0 where
   pub is_core : core_of (part_at sys v).parent < length sys.cores
   pub child : is_child sys (Core (core_of (part_at sys v).parent)) v ≡ true
+
+core_in : (sys : SystemView) → IsSystem sys → (v : ℕ) → v < length sys.parts
+    → core_of (part_at sys v).parent < length sys.cores
+core_in sys is v l = go (part_at sys v).parent (is.parents v l)
+  where
+    go : (p : Parent) → Stands sys v p → core_of p < length sys.cores
+    go (on_core c) s = s
+    go (on_part q) s = omega (arith, is.some_core)
 
 pub vcpu_core : (sys : SystemView) → IsSystem sys → (v : ℕ) → is_vcpu sys v ≡ true → OnCore sys v
 vcpu_core sys is v h =

@@ -13,15 +13,15 @@ use Rattle.trace_file.specs.Rules.{Kept}
 use Rattle.trace_file.proofs.Same.{same_events}
 use Rattle.release_file.specs.declared.workload.Wake.{Wake}
 use Rattle.release_file.specs.Workload.{IsWorkload}
-use Rattle.rtds_sim.specs.Rtds.{RtdsRun}
-use Rattle.rtds_sim.specs.Printed.{printed, IsRtdsTrace}
-use Rattle.rtds_sim.specs.RunText.{IsRunText}
-use Rattle.rtds_sim.specs.Giving.{AlwaysRunnable, ServersFit, AlwaysServed, GivesBudgets, NeverOver, NoneOver}
-use Rattle.rtds_sim.proofs.Runs.{rtds_unique}
-use Rattle.rtds_sim.proofs.Giving.{gives_budgets}
-use Rattle.rtds_sim.proofs.Over.{never_over}
-use Rattle.rtds_sim.proofs.Keeping.{printed_keeps}
-use Rattle.rtds_sim.proofs.Traced.{satisfied, none_over}
+use Rattle.rtds_model.specs.Rtds.{RtdsRun}
+use Rattle.rtds_trace.specs.Printed.{printed, IsRtdsTrace}
+use Rattle.rtds_trace.specs.RunText.{IsRunText}
+use Rattle.rtds_model.specs.Giving.{AlwaysRunnable, ServersFit, AlwaysServed, GivesBudgets, NeverOver, NoneOver}
+use Rattle.rtds_model.proofs.Runs.{rtds_unique}
+use Rattle.rtds_model.proofs.Giving.{gives_budgets}
+use Rattle.rtds_model.proofs.Over.{never_over}
+use Rattle.rtds_trace.proofs.Keeping.{printed_keeps}
+use Rattle.rtds_trace.proofs.Traced.{satisfied, none_over}
 
 module _ (sys : SystemView) (budgets : List ℕ) (plan : IsPlan sys budgets) (rows : List Wake) where
   -- each core of a run gives the budgets, where its servers pass the test and none of its VCPUs

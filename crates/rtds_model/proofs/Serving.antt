@@ -11,12 +11,12 @@ use Rattle.tree_model.specs.Tree.{is_child, budget_at}
 use Rattle.tree_model.specs.Plans.{IsPlan}
 use Rattle.release_file.specs.declared.workload.Wake.{Wake}
 use Rattle.release_file.specs.Workload.{is_started, is_started_at, is_blocked_at, start_of, IsWorkload}
-use Rattle.rtds_sim.specs.Rtds.{deadline_at, used, level_at, can_run, is_eligible, CoreRun}
+use Rattle.rtds_model.specs.Rtds.{deadline_at, used, level_at, can_run, is_eligible, CoreRun}
 use Rattle.rtds_queues.specs.Keys.{goes_first}
-use Rattle.rtds_sim.specs.Giving.{IsStartedOn}
-use Rattle.rtds_sim.proofs.Windows.{ServesByDeadline}
-use Rattle.rtds_sim.proofs.Goes.{Goes}
-use Rattle.rtds_sim.proofs.Starts.{started_from, started_some, started_by}
+use Rattle.rtds_model.specs.Giving.{IsStartedOn}
+use Rattle.rtds_model.proofs.Windows.{ServesByDeadline}
+use Rattle.rtds_model.proofs.Goes.{Goes}
+use Rattle.rtds_model.proofs.Starts.{started_from, started_some, started_by}
 
 -- a run by an order
 pub record RunBy (sooner : ℕ → ℕ → ℕ → ℕ → ℕ → ℕ → Bool) (sys : SystemView) (budgets : List ℕ) (rows : List Wake)

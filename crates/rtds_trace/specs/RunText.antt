@@ -9,8 +9,8 @@ use Rattle.trace_file.specs.Periods.{Satisfied}
 use Rattle.trace_printer.specs.Printing.{printed_rows}
 use Rattle.trace_file.specs.Rules.{Kept}
 use Rattle.release_file.specs.declared.workload.Wake.{Wake}
-use Rattle.rtds_sim.specs.Giving.{AlwaysServed, NoneOver}
-use Rattle.rtds_sim.specs.Printed.{IsRtdsTrace}
+use Rattle.rtds_model.specs.Giving.{AlwaysServed, NoneOver}
+use Rattle.rtds_trace.specs.Printed.{IsRtdsTrace}
 
 -- it tells the trace of the run, which keeps the rules, and is read back as its events; no period
 -- in the trace is over, and none is short where that holds of each core
