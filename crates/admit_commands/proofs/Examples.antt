@@ -24,11 +24,11 @@ use Rattle.miss_witness.specs.Defeat.{Defeats}
 use Rattle.miss_witness.specs.Replay.{AreReplays, AllDefeat}
 use Rattle.rt_report.specs.Admit.{admit_text}
 use Rattle.rt_report.specs.Refusal.{refusal_text}
-use Rattle.command_steps.specs.declared.status.Status.{Status}
-use Rattle.command_steps.specs.declared.status.Status.TheVariants.{Yes, No, Wide, BadFile}
-use Rattle.command_steps.specs.Budgets.{composing, refusal_status}
-use Rattle.command_steps.proofs.Attempt.{refused_first, said_of_given}
-use Rattle.command_steps.proofs.Budgets.{composing_decided}
+use Rattle.command_frame.specs.declared.status.Status.{Status}
+use Rattle.command_frame.specs.declared.status.Status.TheVariants.{Yes, No, Wide, BadFile}
+use Rattle.command_frame.specs.Budgets.{composing, refusal_status}
+use Rattle.command_frame.proofs.Attempt.{refused_first, said_of_given}
+use Rattle.command_frame.proofs.Budgets.{composing_decided}
 use Rattle.admit_commands.specs.Admit.{AdmitsSystem, IsAdmission, MeansOfSystem}
 use Rattle.tree_model.specs.CertificateView.{NodeView}
 use Rattle.cert_reader.specs.CertificateFile.{certificate_of}

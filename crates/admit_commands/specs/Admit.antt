@@ -8,11 +8,11 @@ use Rattle.system_file.specs.SystemFile.{system_of}
 use Rattle.miss_witness.specs.declared.replay.Replay.{Replay}
 use Rattle.rt_report.specs.Admit.{admit_text}
 use Rattle.miss_witness.specs.Replay.{AreReplays, AllDefeat}
-use Rattle.command_steps.specs.declared.status.Status.{Status}
-use Rattle.command_steps.specs.declared.status.Status.TheVariants.{Yes, No}
-use Rattle.command_steps.specs.Budgets.{OnAdmitted, IsTrulyOverfull}
-use Rattle.command_steps.specs.CommandSpec.{CommandSpec, IsVerdict}
-use Rattle.command_steps.specs.Answer.{Contents, AtFile, OnSystem, IfSystem, HasSystem}
+use Rattle.command_frame.specs.declared.status.Status.{Status}
+use Rattle.command_frame.specs.declared.status.Status.TheVariants.{Yes, No}
+use Rattle.command_frame.specs.Budgets.{OnAdmitted, IsTrulyOverfull}
+use Rattle.command_frame.specs.CommandSpec.{CommandSpec, IsVerdict}
+use Rattle.command_frame.specs.Answer.{Contents, AtFile, OnSystem, IfSystem, HasSystem}
 
 -- yes: the text tells the budgets, with the replay of each computed leaf
 pub record IsAdmission (sys : SystemView) (budgets : List ℕ) (status : Status) (text : List ℕ)

@@ -10,12 +10,12 @@ use Rattle.cert_verify.specs.Flaws.{FirstFlaw}
 use Rattle.rt_report.specs.declared.fault.FileFault.TheVariants.{Cert}
 use Rattle.rt_report.specs.Check.{check_text}
 use Rattle.rt_report.specs.Fault.{fault_text}
-use Rattle.command_steps.specs.declared.status.Status.{Status}
-use Rattle.command_steps.specs.declared.status.Status.TheVariants.{Yes, No, BadFile}
-use Rattle.command_steps.specs.CommandSpec.{CommandSpec, IsYesOrNo}
-use Rattle.command_steps.specs.Answer.{Contents}
-use Rattle.command_steps.specs.Attempt.{Attempt, OnAttempt}
-use Rattle.command_steps.specs.TwoFiles.{OnTwoFiles, SpellsSystem, AreReadable}
+use Rattle.command_frame.specs.declared.status.Status.{Status}
+use Rattle.command_frame.specs.declared.status.Status.TheVariants.{Yes, No, BadFile}
+use Rattle.command_frame.specs.CommandSpec.{CommandSpec, IsYesOrNo}
+use Rattle.command_frame.specs.Answer.{Contents}
+use Rattle.command_frame.specs.Attempt.{Attempt, OnAttempt}
+use Rattle.command_frame.specs.TwoFiles.{OnTwoFiles, SpellsSystem, AreReadable}
 use Rattle.admit_commands.specs.Certify.{IsProof}
 
 -- the bytes of the second file spell a certificate, or have a first fault

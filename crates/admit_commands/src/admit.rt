@@ -1,7 +1,7 @@
 ghost use Rattle.std.specs.Prelude.{refl};
 ghost use Rattle.admit_commands.specs.Admit.{AdmitsSystem, the_admit};
 
-use command_steps::{Answer, Ending, JudgeOne, Status, admitted_edges};
+use command_frame::{Answer, Ending, JudgeOne, Status, admitted_edges};
 use miss_witness::replay_all;
 use rt_report::admit_text;
 use std::alloc::Global;

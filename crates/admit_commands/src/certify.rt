@@ -2,7 +2,7 @@ ghost use Rattle.std.specs.Prelude.{refl};
 ghost use Rattle.admit_commands.specs.Certify.{CertifiesSystem, the_certify};
 
 use certificate::print_certificate;
-use command_steps::{Answer, Ending, JudgeOne, Status, refuse};
+use command_frame::{Answer, Ending, JudgeOne, Status, refuse};
 use std::alloc::Global;
 use tree_model::{Refusal, System};
 
@@ -17,7 +17,7 @@ impl JudgeOne for Certify {
 
     ghost laws = { λ s file. record { files = refl; answers = λ contents status text said. said } };
 
-    #[tactic(auto, using(command_steps::proofs::Budgets::refusal_told, crate::proofs::Laws::Certify::printed))]
+    #[tactic(auto, using(command_frame::proofs::Budgets::refusal_told, crate::proofs::Laws::Certify::printed))]
     fn judge(&self, alloc: Global, sys: &System) -> Result<Answer, Ending> {
         match certificate::certify(alloc, sys) {
             Ok(certificate) => Ok(Answer {

@@ -1,12 +1,12 @@
 ghost use Rattle.std.specs.Prelude.{◌≡◌, Ok, IfOk, IfErr, refl};
 ghost use Rattle.cert_reader.specs.CertificateFile.{certificate_of};
-ghost use Rattle.command_steps.specs.Attempt.{IsRefused};
+ghost use Rattle.command_frame.specs.Attempt.{IsRefused};
 ghost use Rattle.admit_commands.specs.Check.{spelling, ChecksNodes, ChecksBytes, the_check};
-ghost use Rattle.command_steps.specs.Steps.{IfAnswered, EndsJudged};
+ghost use Rattle.command_frame.specs.Steps.{IfAnswered, EndsJudged};
 
 use cert_reader::{CertFault, read_certificate};
 use cert_verify::verify;
-use command_steps::{Answer, Ending, JudgeTwo, Status, second_fault};
+use command_frame::{Answer, Ending, JudgeTwo, Status, second_fault};
 use rt_report::{FileFault, check_text};
 use std::alloc::{AllocError, Global};
 use tree_model::{Certificate, System};

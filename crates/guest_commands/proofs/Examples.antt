@@ -35,14 +35,14 @@ use Rattle.rt_report.specs.Interface.{interface_text}
 use Rattle.rt_report.specs.Refusal.{refusal_text}
 use Rattle.rt_report.specs.Responses.{responses_text}
 use Rattle.rt_report.specs.Slack.{slack_text}
-use Rattle.command_steps.specs.declared.status.Status.{Status}
-use Rattle.command_steps.specs.declared.status.Status.TheVariants.{Yes, No, Wide, BadFile}
-use Rattle.command_steps.specs.Answer.{Contents, IsReadable}
-use Rattle.command_steps.specs.Budgets.{composing, refusal_status, IsTrulyOverfull}
-use Rattle.command_steps.specs.CommandSpec.{IsVerdict}
-use Rattle.command_steps.specs.NamedLeaf.{HasNoLeaf, OnLeaf}
-use Rattle.command_steps.proofs.Attempt.{refused_first, said_of_given}
-use Rattle.command_steps.proofs.Budgets.{composing_decided}
+use Rattle.command_frame.specs.declared.status.Status.{Status}
+use Rattle.command_frame.specs.declared.status.Status.TheVariants.{Yes, No, Wide, BadFile}
+use Rattle.command_frame.specs.Answer.{Contents, IsReadable}
+use Rattle.command_frame.specs.Budgets.{composing, refusal_status, IsTrulyOverfull}
+use Rattle.command_frame.specs.CommandSpec.{IsVerdict}
+use Rattle.command_frame.specs.NamedLeaf.{HasNoLeaf, OnLeaf}
+use Rattle.command_frame.proofs.Attempt.{refused_first, said_of_given}
+use Rattle.command_frame.proofs.Budgets.{composing_decided}
 use Rattle.guest_commands.specs.Interface.{AtDeadline, InterfacesSystem, InterfaceTells, IsInterface, least_status, least_text, the_interface}
 use Rattle.guest_commands.specs.Choose.{ChoiceTells, ChoosesSystem, IsChosen, choice_status, the_choose}
 use Rattle.guest_commands.specs.Slack.{SlackensLeaf, SlackensSystem, SlackTells, TellsWorks, the_slack}

@@ -13,11 +13,11 @@ use Rattle.tree_model.specs.System.{part_at, own_tasks_at}
 use Rattle.tree_model.specs.NamedLeaf.{IsLeafNamed}
 use Rattle.system_file.specs.SystemFile.{system_of}
 use Rattle.rt_report.specs.Choose.{best_text, nothing_text}
-use Rattle.command_steps.specs.declared.status.Status.{Status}
-use Rattle.command_steps.specs.declared.status.Status.TheVariants.{Yes, No, Wide}
-use Rattle.command_steps.specs.CommandSpec.{CommandSpec}
-use Rattle.command_steps.specs.Answer.{Contents, AtFile, OnSystem, IfSystem, HasSystem}
-use Rattle.command_steps.specs.NamedLeaf.{HasNoLeaf, OnLeaf, IsVerdictUnless}
+use Rattle.command_frame.specs.declared.status.Status.{Status}
+use Rattle.command_frame.specs.declared.status.Status.TheVariants.{Yes, No, Wide}
+use Rattle.command_frame.specs.CommandSpec.{CommandSpec}
+use Rattle.command_frame.specs.Answer.{Contents, AtFile, OnSystem, IfSystem, HasSystem}
+use Rattle.command_frame.specs.NamedLeaf.{HasNoLeaf, OnLeaf, IsVerdictUnless}
 
 -- the status and the text that tell a choice for leaf q
 abbrev pub choice_status : Choice → Status

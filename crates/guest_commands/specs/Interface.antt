@@ -19,11 +19,11 @@ use Rattle.rt_report.specs.declared.fault.FileFault.TheVariants.{BadDeadline}
 use Rattle.rt_report.specs.Fault.{fault_text}
 use Rattle.rt_report.specs.Interface.{interface_text}
 use Rattle.rt_report.specs.Refusal.{refusal_text}
-use Rattle.command_steps.specs.declared.status.Status.{Status}
-use Rattle.command_steps.specs.declared.status.Status.TheVariants.{Yes, No, Wide, BadFile}
-use Rattle.command_steps.specs.CommandSpec.{CommandSpec}
-use Rattle.command_steps.specs.Answer.{Contents, AtFile, OnSystem, IfSystem, HasSystem}
-use Rattle.command_steps.specs.NamedLeaf.{HasNoLeaf, OnLeaf, IsVerdictUnless}
+use Rattle.command_frame.specs.declared.status.Status.{Status}
+use Rattle.command_frame.specs.declared.status.Status.TheVariants.{Yes, No, Wide, BadFile}
+use Rattle.command_frame.specs.CommandSpec.{CommandSpec}
+use Rattle.command_frame.specs.Answer.{Contents, AtFile, OnSystem, IfSystem, HasSystem}
+use Rattle.command_frame.specs.NamedLeaf.{HasNoLeaf, OnLeaf, IsVerdictUnless}
 
 -- the status and the text that tell the least budget of leaf q by a deadline, or that it has none
 abbrev pub least_status : Least → Status

@@ -16,11 +16,11 @@ use Rattle.tree_model.specs.Admission.{Admitted}
 use Rattle.system_file.specs.SystemFile.{system_of}
 use Rattle.rt_report.specs.declared.responses.Response.{Response}
 use Rattle.rt_report.specs.Responses.{responses_text}
-use Rattle.command_steps.specs.declared.status.Status.{Status}
-use Rattle.command_steps.specs.declared.status.Status.TheVariants.{Yes, No}
-use Rattle.command_steps.specs.Budgets.{OnAdmitted, IsTrulyOverfull}
-use Rattle.command_steps.specs.CommandSpec.{CommandSpec, IsVerdict}
-use Rattle.command_steps.specs.Answer.{Contents, AtFile, OnSystem, IfSystem, HasSystem}
+use Rattle.command_frame.specs.declared.status.Status.{Status}
+use Rattle.command_frame.specs.declared.status.Status.TheVariants.{Yes, No}
+use Rattle.command_frame.specs.Budgets.{OnAdmitted, IsTrulyOverfull}
+use Rattle.command_frame.specs.CommandSpec.{CommandSpec, IsVerdict}
+use Rattle.command_frame.specs.Answer.{Contents, AtFile, OnSystem, IfSystem, HasSystem}
 
 -- a leaf under a fixed priority, and so not under earliest deadline first
 abbrev pub is_fixed_leaf : PartView → Bool

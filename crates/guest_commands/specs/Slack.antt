@@ -8,12 +8,12 @@ use Rattle.tree_model.specs.Tree.{NoLoss}
 use Rattle.slack.specs.MostWork.{AreMostWorks, with_work}
 use Rattle.system_file.specs.SystemFile.{system_of}
 use Rattle.rt_report.specs.Slack.{slack_text}
-use Rattle.command_steps.specs.declared.status.Status.{Status}
-use Rattle.command_steps.specs.declared.status.Status.TheVariants.{Yes, No}
-use Rattle.command_steps.specs.CommandSpec.{CommandSpec}
-use Rattle.command_steps.specs.Answer.{Contents, AtFile, OnSystem, IfSystem, HasSystem}
-use Rattle.command_steps.specs.Budgets.{OnAdmitted, IsTrulyOverfull}
-use Rattle.command_steps.specs.NamedLeaf.{HasNoLeaf, OnLeaf, IsVerdictUnless}
+use Rattle.command_frame.specs.declared.status.Status.{Status}
+use Rattle.command_frame.specs.declared.status.Status.TheVariants.{Yes, No}
+use Rattle.command_frame.specs.CommandSpec.{CommandSpec}
+use Rattle.command_frame.specs.Answer.{Contents, AtFile, OnSystem, IfSystem, HasSystem}
+use Rattle.command_frame.specs.Budgets.{OnAdmitted, IsTrulyOverfull}
+use Rattle.command_frame.specs.NamedLeaf.{HasNoLeaf, OnLeaf, IsVerdictUnless}
 
 -- yes: the text tells the greatest work of each task of leaf q
 pub record TellsWorks (sys : SystemView) (q : ℕ) (status : Status) (text : List ℕ) : Type 0 where

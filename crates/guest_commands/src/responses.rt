@@ -2,7 +2,7 @@ ghost use Rattle.std.specs.Prelude.{refl};
 ghost use Rattle.guest_commands.specs.Responses.{RespondsSystem, the_responses};
 
 use crate::responding::respond_all;
-use command_steps::{Answer, Ending, JudgeOne, Status, admitted};
+use command_frame::{Answer, Ending, JudgeOne, Status, admitted};
 use rt_report::responses_text;
 use std::alloc::Global;
 use tree_model::System;

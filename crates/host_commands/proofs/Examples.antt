@@ -41,14 +41,14 @@ use Rattle.rt_report.specs.Fault.{fault_text}
 use Rattle.rt_report.specs.Place.{unplaced_text}
 use Rattle.rt_report.specs.Session.{session_text}
 use Rattle.rt_report.specs.Refusal.{refusal_text}
-use Rattle.command_steps.specs.Answer.{Contents, IsReadable}
-use Rattle.command_steps.specs.Budgets.{IsTrulyOverfull, composing, refusal_status}
-use Rattle.command_steps.specs.CommandSpec.{IsVerdict}
-use Rattle.command_steps.specs.TwoFiles.{SpellsSystem}
-use Rattle.command_steps.specs.declared.status.Status.{Status}
-use Rattle.command_steps.specs.declared.status.Status.TheVariants.{Yes, No, Usage, BadFile, Wide, Absent, TooLong, ReadFault, WriteFault}
-use Rattle.command_steps.proofs.Attempt.{refused_first}
-use Rattle.command_steps.proofs.Budgets.{composing_decided}
+use Rattle.command_frame.specs.Answer.{Contents, IsReadable}
+use Rattle.command_frame.specs.Budgets.{IsTrulyOverfull, composing, refusal_status}
+use Rattle.command_frame.specs.CommandSpec.{IsVerdict}
+use Rattle.command_frame.specs.TwoFiles.{SpellsSystem}
+use Rattle.command_frame.specs.declared.status.Status.{Status}
+use Rattle.command_frame.specs.declared.status.Status.TheVariants.{Yes, No, Usage, BadFile, Wide, Absent, TooLong, ReadFault, WriteFault}
+use Rattle.command_frame.proofs.Attempt.{refused_first}
+use Rattle.command_frame.proofs.Budgets.{composing_decided}
 use Rattle.host_commands.specs.Session.{EditsBytes, EditsSystem, IsSession, MeansOfEdits, scripting, the_session}
 use Rattle.host_commands.specs.Place.{IsSystemText, MeansOfPlaces, PlacesBytes, PlacesGuests, TellsUnplaced, guesting, guests_fault_text, place_fault_text, place_status, placing, the_place}
 use Rattle.host_commands.specs.Bulk.{HostKeepsDeadlines}

@@ -23,13 +23,13 @@ use Rattle.rt_report.specs.declared.fault.FileFault.TheVariants.{Script, BadGues
 use Rattle.rt_report.specs.Fault.{fault_text}
 use Rattle.rt_report.specs.Place.{unplaced_text}
 use Rattle.rt_report.specs.Refusal.{refusal_text}
-use Rattle.command_steps.specs.declared.status.Status.{Status}
-use Rattle.command_steps.specs.declared.status.Status.TheVariants.{Yes, No, BadFile, NoMemory as NoRoom}
-use Rattle.command_steps.specs.CommandSpec.{CommandSpec, IsVerdict}
-use Rattle.command_steps.specs.Answer.{Contents}
-use Rattle.command_steps.specs.Attempt.{Attempt, OnAttempt}
-use Rattle.command_steps.specs.Budgets.{refusal_status, IsTrulyOverfull}
-use Rattle.command_steps.specs.TwoFiles.{OnTwoFiles, SpellsSystem, AreReadable}
+use Rattle.command_frame.specs.declared.status.Status.{Status}
+use Rattle.command_frame.specs.declared.status.Status.TheVariants.{Yes, No, BadFile, NoMemory as NoRoom}
+use Rattle.command_frame.specs.CommandSpec.{CommandSpec, IsVerdict}
+use Rattle.command_frame.specs.Answer.{Contents}
+use Rattle.command_frame.specs.Attempt.{Attempt, OnAttempt}
+use Rattle.command_frame.specs.Budgets.{refusal_status, IsTrulyOverfull}
+use Rattle.command_frame.specs.TwoFiles.{OnTwoFiles, SpellsSystem, AreReadable}
 
 -- the bytes of the second file spell guests, or have a first fault
 abbrev pub guests_fault_text : GuestFault → List ℕ

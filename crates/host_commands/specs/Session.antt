@@ -17,13 +17,13 @@ use Rattle.script_file.specs.Script.{SpellsScript, IsScriptFault, script_rows}
 use Rattle.rt_report.specs.declared.fault.FileFault.TheVariants.{Script}
 use Rattle.rt_report.specs.Fault.{fault_text}
 use Rattle.rt_report.specs.Session.{session_text}
-use Rattle.command_steps.specs.declared.status.Status.{Status}
-use Rattle.command_steps.specs.declared.status.Status.TheVariants.{Yes, No, BadFile}
-use Rattle.command_steps.specs.CommandSpec.{CommandSpec, IsVerdict}
-use Rattle.command_steps.specs.Answer.{Contents}
-use Rattle.command_steps.specs.Attempt.{Attempt, OnAttempt}
-use Rattle.command_steps.specs.Budgets.{OnAdmitted, IsTrulyOverfull}
-use Rattle.command_steps.specs.TwoFiles.{OnTwoFiles, SpellsSystem, AreReadable}
+use Rattle.command_frame.specs.declared.status.Status.{Status}
+use Rattle.command_frame.specs.declared.status.Status.TheVariants.{Yes, No, BadFile}
+use Rattle.command_frame.specs.CommandSpec.{CommandSpec, IsVerdict}
+use Rattle.command_frame.specs.Answer.{Contents}
+use Rattle.command_frame.specs.Attempt.{Attempt, OnAttempt}
+use Rattle.command_frame.specs.Budgets.{OnAdmitted, IsTrulyOverfull}
+use Rattle.command_frame.specs.TwoFiles.{OnTwoFiles, SpellsSystem, AreReadable}
 
 -- the bytes of the second file spell edits, or have a first fault
 abbrev pub scripting : List ℕ → Attempt (List Edit) ScriptFault

@@ -1,12 +1,12 @@
 ghost use Rattle.std.specs.Prelude.{◌<◌, ◌^◌, length, IfOk, IfErr, refl};
 ghost use Rattle.csv_rows.specs.Reading.{records_of};
 ghost use Rattle.script_file.specs.Guests.{SpellsGuests};
-ghost use Rattle.command_steps.specs.Attempt.{IsRefused};
+ghost use Rattle.command_frame.specs.Attempt.{IsRefused};
 ghost use Rattle.host_commands.specs.Place.{guesting, placing, IsPlacement, IsSystemText, PlacesBytes, the_place};
-ghost use Rattle.command_steps.specs.Steps.{IfAnswered, IsJudged, EndsJudged};
+ghost use Rattle.command_frame.specs.Steps.{IfAnswered, IsJudged, EndsJudged};
 
 use crate::refusing::refuse_system;
-use command_steps::{Answer, Ending, JudgeTwo, Status, second_fault};
+use command_frame::{Answer, Ending, JudgeTwo, Status, second_fault};
 use csv_rows::row_of;
 use placement::{PlaceFault, place};
 use rt_report::{FileFault, unplaced_text};

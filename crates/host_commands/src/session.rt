@@ -2,14 +2,14 @@ ghost use Rattle.std.specs.Prelude.{◌≡◌, IfOk, IfErr, refl};
 ghost use Rattle.csv_rows.specs.Reading.{records_of};
 ghost use Rattle.admission_session.specs.Answers.{IsAdmitted};
 ghost use Rattle.script_file.specs.Script.{SpellsScript};
-ghost use Rattle.command_steps.specs.Attempt.{IsRefused};
+ghost use Rattle.command_frame.specs.Attempt.{IsRefused};
 ghost use Rattle.host_commands.specs.Session.{scripting, EditsBytes, the_session};
-ghost use Rattle.command_steps.specs.Steps.{ending_of, IfAnswered, EndsJudged};
+ghost use Rattle.command_frame.specs.Steps.{ending_of, IfAnswered, EndsJudged};
 
 use crate::editing::edit_all;
 use crate::refusing::refuse_system;
 use admission_session::{Edit, Session, copy_system};
-use command_steps::{Answer, Ending, JudgeTwo, Status, second_fault};
+use command_frame::{Answer, Ending, JudgeTwo, Status, second_fault};
 use rt_report::FileFault;
 use script_file::{ScriptFault, read_edits};
 use std::alloc::Global;

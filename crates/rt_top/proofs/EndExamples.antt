@@ -4,9 +4,9 @@ use Rattle.std.proofs.Common.{◌≡◌, ℕ, ◌≤◌, List, [], ◌∷◌, le
 use Rattle.std.specs.Prelude.{IsOk, Ok}
 use Rattle.tree_model.specs.View.{SystemView}
 use Rattle.system_file.specs.SystemFile.{system_of}
-use Rattle.command_steps.specs.declared.status.Status.TheVariants.{Usage, BadFile, Absent, TooLong, ReadFault, WriteFault}
-use Rattle.command_words.specs.Commands.{Command, responses, interface, choose, session, place, isolate, slack, tally, version}
-use Rattle.command_steps.specs.Answer.{Contents, IsReadable}
+use Rattle.command_frame.specs.declared.status.Status.TheVariants.{Usage, BadFile, Absent, TooLong, ReadFault, WriteFault}
+use Rattle.command_line.specs.Commands.{Command, responses, interface, choose, session, place, isolate, slack, tally, version}
+use Rattle.command_frame.specs.Answer.{Contents, IsReadable}
 use Rattle.host_commands.specs.Session.{IsScript}
 use Rattle.host_commands.specs.Place.{AreGuests, SpellsBadGuest}
 use Rattle.trace_commands.specs.Audit.{IsTrace}

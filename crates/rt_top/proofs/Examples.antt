@@ -6,11 +6,11 @@ use Rattle.std.specs.Io.KnownBytes.{Appends}
 use Rattle.outside.specs.Files.{Files, file_named}
 use Rattle.outside.specs.Written.{AppendsProperPrefix}
 use Rattle.system_file.specs.SystemFile.{system_of}
-use Rattle.command_steps.specs.declared.status.Status.{Status}
-use Rattle.command_steps.specs.declared.status.Status.TheVariants.{Yes, No, Usage, BadFile, Wide, TooLong, ReadFault, WriteFault, NoMemory}
-use Rattle.command_words.specs.Commands.{Command, admit, usage_line}
-use Rattle.command_steps.specs.Answer.{Contents, IfSystem}
-use Rattle.command_steps.specs.Budgets.{IsTrulyOverfull}
+use Rattle.command_frame.specs.declared.status.Status.{Status}
+use Rattle.command_frame.specs.declared.status.Status.TheVariants.{Yes, No, Usage, BadFile, Wide, TooLong, ReadFault, WriteFault, NoMemory}
+use Rattle.command_line.specs.Commands.{Command, admit, usage_line}
+use Rattle.command_frame.specs.Answer.{Contents, IfSystem}
+use Rattle.command_frame.specs.Budgets.{IsTrulyOverfull}
 use Rattle.admit_commands.specs.Admit.{AdmitMeans, KeepsDeadlines}
 use Rattle.rt_top.specs.Report.{IsAnswer, Reported}
 use Rattle.rt_top.specs.Causes.{HasNoAbsence, IsJudgeable, Stays}

@@ -25,12 +25,12 @@ use Rattle.server_sched.specs.declared.supplies.Pattern.{Pattern}
 use Rattle.tree_spans.specs.TreeCounts.{NoneMisses}
 use Rattle.cert_reader.specs.CertificateFile.{certificate_of}
 use Rattle.cert_verify.specs.Proves.{Proves}
-use Rattle.command_steps.specs.declared.status.Status.{Status}
-use Rattle.command_steps.specs.declared.status.Status.TheVariants.{Yes, No, Usage, BadFile, Wide, Absent, TooLong, ReadFault, WriteFault}
-use Rattle.command_words.specs.Commands.{Command, admit, certify, check, rtds, audit, simulate, bulk, version}
-use Rattle.command_steps.specs.Answer.{Contents, file_at, IfSystem, IsReadable}
-use Rattle.command_steps.specs.TwoFiles.{SpellsSystem}
-use Rattle.command_steps.specs.Budgets.{IsTrulyOverfull, IsTrulyUnassigned}
+use Rattle.command_frame.specs.declared.status.Status.{Status}
+use Rattle.command_frame.specs.declared.status.Status.TheVariants.{Yes, No, Usage, BadFile, Wide, Absent, TooLong, ReadFault, WriteFault}
+use Rattle.command_line.specs.Commands.{Command, admit, certify, check, rtds, audit, simulate, bulk, version}
+use Rattle.command_frame.specs.Answer.{Contents, file_at, IfSystem, IsReadable}
+use Rattle.command_frame.specs.TwoFiles.{SpellsSystem}
+use Rattle.command_frame.specs.Budgets.{IsTrulyOverfull, IsTrulyUnassigned}
 use Rattle.admit_commands.specs.Certify.{IsProof, TellsCertificate, CertifyMeans}
 use Rattle.admit_commands.specs.Check.{CheckMeans}
 use Rattle.trace_commands.specs.Rtds.{TellsRun, RunMeans, IsRunOf}

@@ -15,7 +15,7 @@ use Rattle.tree_model.specs.Tree.{run_at, budget_at}
 use Rattle.tree_model.specs.Admission.{Admitted, Assigned, FirstRefusal, FirstUnassigned}
 use Rattle.compose_tree.specs.Truth.{LeafIsOverfull, RefusalHolds}
 use Rattle.slot_model.specs.Slots.{sum_below}
-use Rattle.command_steps.specs.declared.status.Status.TheVariants.{Yes, No, BadFile}
+use Rattle.command_frame.specs.declared.status.Status.TheVariants.{Yes, No, BadFile}
 use Rattle.trace_file.specs.declared.event.Event.{Event}
 use Rattle.trace_file.specs.declared.fault.TraceFault.{TraceFault}
 use Rattle.trace_file.specs.declared.fault.TraceFault.TheVariants.{BadHeader, TimeFalls}
@@ -39,13 +39,13 @@ use Rattle.rt_report.specs.Fault.{fault_text, not_rtds_text}
 use Rattle.rt_report.specs.Isolation.{isolation_text}
 use Rattle.rt_report.specs.Refusal.{refusal_text}
 use Rattle.rt_report.specs.Tally.{tally_lines}
-use Rattle.command_steps.specs.declared.status.Status.{Status}
-use Rattle.command_steps.specs.Answer.{Contents, IfSystem, IsReadable}
-use Rattle.command_steps.specs.Attempt.{OnAttempt}
-use Rattle.command_steps.specs.Budgets.{AssignedOrNone, IsTrulyOverfull, IsTrulyUnassigned, OnAssigned, assigning, composing, refusal_status}
-use Rattle.command_steps.specs.CommandSpec.{IsVerdict}
-use Rattle.command_steps.proofs.Attempt.{refused_first}
-use Rattle.command_steps.proofs.Budgets.{assigning_decided, composing_decided}
+use Rattle.command_frame.specs.declared.status.Status.{Status}
+use Rattle.command_frame.specs.Answer.{Contents, IfSystem, IsReadable}
+use Rattle.command_frame.specs.Attempt.{OnAttempt}
+use Rattle.command_frame.specs.Budgets.{AssignedOrNone, IsTrulyOverfull, IsTrulyUnassigned, OnAssigned, assigning, composing, refusal_status}
+use Rattle.command_frame.specs.CommandSpec.{IsVerdict}
+use Rattle.command_frame.proofs.Attempt.{refused_first}
+use Rattle.command_frame.proofs.Budgets.{assigning_decided, composing_decided}
 use Rattle.rtds_sim.specs.Demand.{later}
 use Rattle.rtds_sim.specs.Fault.{AllRtds, IsFirstOther}
 use Rattle.system_file.specs.SystemFile.{system_of}

@@ -15,11 +15,11 @@ use Rattle.auditor.specs.declared.pieces.Audit.{Audit}
 use Rattle.auditor.specs.Pieces.{HasAudited}
 use Rattle.rt_report.specs.Audit.{audit_text, IsFindingOf as IsToldOf}
 use Rattle.rt_report.specs.Tally.{tally_text}
-use Rattle.command_steps.specs.declared.status.Status.{Status}
-use Rattle.command_steps.specs.declared.answer.Ending.{Ending}
-use Rattle.command_steps.specs.declared.answer.Ending.TheVariants.{Answered, Unread, NoMemory as NoRoom}
-use Rattle.command_steps.specs.Attempt.{IsRefused}
-use Rattle.command_steps.specs.Steps.{IfAnswered, HasTaken}
+use Rattle.command_frame.specs.declared.status.Status.{Status}
+use Rattle.command_frame.specs.declared.answer.Ending.{Ending}
+use Rattle.command_frame.specs.declared.answer.Ending.TheVariants.{Answered, Unread, NoMemory as NoRoom}
+use Rattle.command_frame.specs.Attempt.{IsRefused}
+use Rattle.command_frame.specs.Steps.{IfAnswered, HasTaken}
 use Rattle.trace_commands.specs.declared.walk.TraceWalk.{TraceWalk}
 use Rattle.trace_commands.specs.declared.walk.Walker.{Walker}
 use Rattle.trace_commands.specs.declared.walk.Walker.TheVariants.{Audits, Checks}

@@ -13,12 +13,12 @@ use Rattle.isolation.specs.InTrace.{KeepsInTrace, IsExposedInTrace}
 use Rattle.isolation.specs.Answers.{own_core, AreIsolations, are_isolated}
 use Rattle.rt_report.specs.Fault.{not_rtds_text}
 use Rattle.rt_report.specs.Isolation.{isolation_text}
-use Rattle.command_steps.specs.declared.status.Status.{Status}
-use Rattle.command_steps.specs.declared.status.Status.TheVariants.{Yes, No, BadFile}
-use Rattle.command_steps.specs.Attempt.{Attempt, OnAttempt}
-use Rattle.command_steps.specs.Budgets.{OnAdmitted, IsTrulyOverfull}
-use Rattle.command_steps.specs.CommandSpec.{CommandSpec}
-use Rattle.command_steps.specs.Answer.{Contents, AtFile, OnSystem, IfSystem, HasSystem}
+use Rattle.command_frame.specs.declared.status.Status.{Status}
+use Rattle.command_frame.specs.declared.status.Status.TheVariants.{Yes, No, BadFile}
+use Rattle.command_frame.specs.Attempt.{Attempt, OnAttempt}
+use Rattle.command_frame.specs.Budgets.{OnAdmitted, IsTrulyOverfull}
+use Rattle.command_frame.specs.CommandSpec.{CommandSpec}
+use Rattle.command_frame.specs.Answer.{Contents, AtFile, OnSystem, IfSystem, HasSystem}
 use Rattle.trace_commands.specs.Rtds.{IsVerdictOfRun}
 
 -- over cores that are all full and under earliest deadline first, what each part on a core keeps;

@@ -20,13 +20,13 @@ use Rattle.rtds_sim.specs.Fault.{AllRtds, IsFirstOther}
 use Rattle.rtds_sim.specs.Giving.{AlwaysRunnable, ServersFit, AlwaysServed, GivesBudgets, NeverOver, NoneOver}
 use Rattle.rt_report.specs.declared.fault.FileFault.TheVariants.{Release}
 use Rattle.rt_report.specs.Fault.{fault_text, not_rtds_text}
-use Rattle.command_steps.specs.declared.status.Status.{Status}
-use Rattle.command_steps.specs.declared.status.Status.TheVariants.{Yes, BadFile}
-use Rattle.command_steps.specs.CommandSpec.{CommandSpec, IsVerdict}
-use Rattle.command_steps.specs.Answer.{Contents, IfNo, IfSystem, IsReadable}
-use Rattle.command_steps.specs.Attempt.{Attempt, OnAttempt}
-use Rattle.command_steps.specs.Budgets.{OnAssigned, IsTrulyUnassigned}
-use Rattle.command_steps.specs.TwoFiles.{OnTwoFiles, SpellsSystem, AreReadable}
+use Rattle.command_frame.specs.declared.status.Status.{Status}
+use Rattle.command_frame.specs.declared.status.Status.TheVariants.{Yes, BadFile}
+use Rattle.command_frame.specs.CommandSpec.{CommandSpec, IsVerdict}
+use Rattle.command_frame.specs.Answer.{Contents, IfNo, IfSystem, IsReadable}
+use Rattle.command_frame.specs.Attempt.{Attempt, OnAttempt}
+use Rattle.command_frame.specs.Budgets.{OnAssigned, IsTrulyUnassigned}
+use Rattle.command_frame.specs.TwoFiles.{OnTwoFiles, SpellsSystem, AreReadable}
 
 -- the bytes of the second file spell a workload, or have a first fault
 abbrev pub waking : SystemView → List ℕ → Attempt (List Wake) ReleaseFault

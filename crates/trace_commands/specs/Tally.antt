@@ -11,11 +11,11 @@ use Rattle.auditor.specs.Finding.{IsFinding}
 use Rattle.auditor.specs.Tally.{AreTallies, tally_at}
 use Rattle.rt_report.specs.Audit.{audit_text}
 use Rattle.rt_report.specs.Tally.{tally_lines, tally_text}
-use Rattle.command_steps.specs.declared.status.Status.{Status}
-use Rattle.command_steps.specs.declared.status.Status.TheVariants.{Yes}
-use Rattle.command_steps.specs.CommandSpec.{CommandSpec, IsVerdict}
-use Rattle.command_steps.specs.Answer.{Contents, Saying}
-use Rattle.command_steps.specs.TwoFiles.{OnTwoFiles}
+use Rattle.command_frame.specs.declared.status.Status.{Status}
+use Rattle.command_frame.specs.declared.status.Status.TheVariants.{Yes}
+use Rattle.command_frame.specs.CommandSpec.{CommandSpec, IsVerdict}
+use Rattle.command_frame.specs.Answer.{Contents, Saying}
+use Rattle.command_frame.specs.TwoFiles.{OnTwoFiles}
 use Rattle.trace_commands.specs.Audit.{OnTrace, finding_status, TellsSatisfied, TraceMeans, CanAudit}
 
 -- the text tells the finding of an audit, and what is counted of each VCPU

@@ -1,9 +1,9 @@
 -- What is said of the commands that audit a trace, by what they tell of it.
 use Rattle.std.specs.Prelude.{ℕ, List, refl}
 use Rattle.tree_model.specs.View.{SystemView}
-use Rattle.command_steps.specs.Answer.{Saying}
-use Rattle.command_steps.specs.CommandSpec.{CommandSpec}
-use Rattle.command_steps.specs.Steps.{IsOverTwo}
+use Rattle.command_frame.specs.Answer.{Saying}
+use Rattle.command_frame.specs.CommandSpec.{CommandSpec}
+use Rattle.command_frame.specs.Steps.{IsOverTwo}
 use Rattle.trace_commands.specs.declared.audit.TraceCommand.{TraceCommand}
 use Rattle.trace_commands.specs.declared.audit.TraceCommand.TheVariants.{Audit, Tally}
 use Rattle.trace_commands.specs.Audit.{AuditsBytes, the_audit}

@@ -1,12 +1,12 @@
 ghost use Rattle.std.specs.Prelude.{◌≡◌, List, ℕ};
-ghost use Rattle.command_steps.specs.Steps.{ending_of, IfAnswered, EndsJudged};
+ghost use Rattle.command_frame.specs.Steps.{ending_of, IfAnswered, EndsJudged};
 ghost use Rattle.trace_commands.specs.Audit.{finding_status};
 ghost use Rattle.trace_commands.specs.Told.{trace_laws, trace_says, trace_spec};
 ghost use Rattle.trace_commands.specs.inner.Walk.{IsAuditUnder};
 
 use crate::walk::{TraceWalk, finished};
 use auditor::{Audit, Finding};
-use command_steps::{Answer, Ending, JudgePieces, Status};
+use command_frame::{Answer, Ending, JudgePieces, Status};
 use rt_report::{audit_text, tally_text};
 use std::alloc::Global;
 use tree_model::{Plan, System};

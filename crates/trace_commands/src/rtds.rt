@@ -4,14 +4,14 @@ ghost use Rattle.tree_model.specs.Plans.{IsPlan};
 ghost use Rattle.release_file.specs.Workload.{IsWorkload};
 ghost use Rattle.release_file.specs.WorkloadFile.{SpellsWorkload};
 ghost use Rattle.rt_report.specs.Fault.{not_rtds_text};
-ghost use Rattle.command_steps.specs.Attempt.{IsRefused};
+ghost use Rattle.command_frame.specs.Attempt.{IsRefused};
 ghost use Rattle.rtds_sim.specs.Fault.{AllRtds};
 ghost use Rattle.rtds_sim.specs.RunText.{IsRunText};
 ghost use Rattle.trace_commands.specs.Rtds.{waking, running, RunsBytes, the_rtds};
-ghost use Rattle.command_steps.specs.Steps.{IfAnswered, EndsJudged};
+ghost use Rattle.command_frame.specs.Steps.{IfAnswered, EndsJudged};
 
 use crate::slots::Slots;
-use command_steps::{Answer, Ending, JudgeTwo, Status, assigned, second_fault};
+use command_frame::{Answer, Ending, JudgeTwo, Status, assigned, second_fault};
 use release_file::{ReleaseFault, Wake, read_workload};
 use rt_report::{FileFault, not_rtds_text};
 use rtds_sim::{RtdsFault, print_rtds};

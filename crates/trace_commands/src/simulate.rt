@@ -4,13 +4,13 @@ ghost use Rattle.tree_model.specs.Plans.{IsPlan};
 ghost use Rattle.tree_model.specs.System.{IsSystem};
 ghost use Rattle.tree_model.specs.Releases.{AreReleases, jobs_at};
 ghost use Rattle.release_file.specs.ReleaseFile.{SpellsReleases};
-ghost use Rattle.command_steps.specs.Answer.{file_limit};
-ghost use Rattle.command_steps.specs.Attempt.{IsRefused};
+ghost use Rattle.command_frame.specs.Answer.{file_limit};
+ghost use Rattle.command_frame.specs.Attempt.{IsRefused};
 ghost use Rattle.trace_commands.specs.Simulate.{releasing, kept_status, IsSimulated, SimulatesBytes, the_simulate};
-ghost use Rattle.command_steps.specs.Steps.{IfAnswered, EndsJudged};
+ghost use Rattle.command_frame.specs.Steps.{IfAnswered, EndsJudged};
 
 use crate::slots::Slots;
-use command_steps::{Answer, Ending, JudgeTwo, Status, assigned, second_fault};
+use command_frame::{Answer, Ending, JudgeTwo, Status, assigned, second_fault};
 use release_file::{ReleaseFault, read_releases};
 use rt_report::{FileFault, counts_text};
 use server_sched::{Pattern, core_supplies, count_tree};

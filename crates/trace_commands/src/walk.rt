@@ -3,14 +3,14 @@ ghost use Rattle.csv_rows.specs.Reading.{records_of};
 ghost use Rattle.tree_model.specs.View.{SystemView};
 ghost use Rattle.trace_file.specs.declared.fault.TraceFault.TheVariants.{NoMemory as TraceNoMemory};
 ghost use Rattle.trace_file.specs.File.{IsFileFault, rows_of};
-ghost use Rattle.command_steps.specs.declared.answer.Ending.TheVariants.{NoMemory};
-ghost use Rattle.command_steps.specs.Attempt.{IsRefused};
-ghost use Rattle.command_steps.specs.Steps.{IfAnswered, EndsJudged};
+ghost use Rattle.command_frame.specs.declared.answer.Ending.TheVariants.{NoMemory};
+ghost use Rattle.command_frame.specs.Attempt.{IsRefused};
+ghost use Rattle.command_frame.specs.Steps.{IfAnswered, EndsJudged};
 ghost use Rattle.trace_commands.specs.Audit.{tracing};
 ghost use Rattle.trace_commands.specs.inner.Walk.{HasWalked, HasTakenTrace, IsAuditUnder, IsUnaudited};
 
 use auditor::Audit;
-use command_steps::{Ending, assigned, second_fault};
+use command_frame::{Ending, assigned, second_fault};
 use outside::ByteTaker;
 use rt_report::FileFault;
 use std::alloc::{AllocError, Global};

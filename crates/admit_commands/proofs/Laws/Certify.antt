@@ -14,16 +14,16 @@ use Rattle.cert_verify.proofs.Admits.{proves_admits}
 use Rattle.certificate.specs.Made.{IsCertificate}
 use Rattle.certificate.proofs.Shows.{certificate_proves}
 use Rattle.certificate.proofs.OneCertificate.{one_certificate}
-use Rattle.command_steps.specs.declared.status.Status.{Status}
-use Rattle.command_steps.specs.declared.status.Status.TheVariants.{Yes, No, Wide}
-use Rattle.command_steps.specs.Answer.{IsOne}
-use Rattle.command_steps.specs.CommandSpec.{IsVerdict}
+use Rattle.command_frame.specs.declared.status.Status.{Status}
+use Rattle.command_frame.specs.declared.status.Status.TheVariants.{Yes, No, Wide}
+use Rattle.command_frame.specs.Answer.{IsOne}
+use Rattle.command_frame.specs.CommandSpec.{IsVerdict}
 use Rattle.admit_commands.specs.Certify.{the_certify, certifying, IsPrinted, CertifiesSystem, IsProof, CertificateMeans}
-use Rattle.command_steps.specs.Steps.{IsJudged}
-use Rattle.command_steps.proofs.Attempt.{IsDecided, one_attempt, statuses_attempt}
-use Rattle.command_steps.proofs.Budgets.{refused_status, refused_means}
-use Rattle.command_steps.proofs.CommandLaws.{CommandLaws}
-use Rattle.command_steps.proofs.OneFile.{system_laws}
+use Rattle.command_frame.specs.Steps.{IsJudged}
+use Rattle.command_frame.proofs.Attempt.{IsDecided, one_attempt, statuses_attempt}
+use Rattle.command_frame.proofs.Budgets.{refused_status, refused_means}
+use Rattle.command_frame.proofs.CommandLaws.{CommandLaws}
+use Rattle.command_frame.proofs.OneFile.{system_laws}
 
 -- a system has one certificate or one refusal
 pub certifying_decided : (sys : SystemView) → IsSystem sys → IsDecided (certifying sys)

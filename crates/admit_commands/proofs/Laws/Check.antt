@@ -17,15 +17,15 @@ use Rattle.cert_verify.specs.Flaws.{FirstFlaw}
 use Rattle.cert_verify.proofs.Failing.{flaw_not_proves}
 use Rattle.cert_verify.proofs.OneFlaw.{one_flaw}
 use Rattle.rt_report.specs.Check.{check_text, IsFlawOf}
-use Rattle.command_steps.specs.declared.status.Status.{Status}
-use Rattle.command_steps.specs.declared.status.Status.TheVariants.{Yes, No, Usage, BadFile, Wide, Absent, TooLong, ReadFault, WriteFault, NoMemory}
-use Rattle.command_steps.specs.Answer.{Contents, IsOne}
-use Rattle.command_steps.specs.CommandSpec.{IsYesOrNo}
+use Rattle.command_frame.specs.declared.status.Status.{Status}
+use Rattle.command_frame.specs.declared.status.Status.TheVariants.{Yes, No, Usage, BadFile, Wide, Absent, TooLong, ReadFault, WriteFault, NoMemory}
+use Rattle.command_frame.specs.Answer.{Contents, IsOne}
+use Rattle.command_frame.specs.CommandSpec.{IsYesOrNo}
 use Rattle.admit_commands.specs.Check.{the_check, spelling, IsFlawed, ChecksNodes, Checks, TellsProof, CheckMeans}
-use Rattle.command_steps.specs.Steps.{IsJudged}
-use Rattle.command_steps.proofs.Attempt.{IsDecided}
-use Rattle.command_steps.proofs.CommandLaws.{CommandLaws}
-use Rattle.command_steps.proofs.ReadSecond.{JudgesRead, is_spelled_system, read_laws, said_of_read}
+use Rattle.command_frame.specs.Steps.{IsJudged}
+use Rattle.command_frame.proofs.Attempt.{IsDecided}
+use Rattle.command_frame.proofs.CommandLaws.{CommandLaws}
+use Rattle.command_frame.proofs.ReadSecond.{JudgesRead, is_spelled_system, read_laws, said_of_read}
 use Rattle.admit_commands.proofs.Laws.Certify.{proof_of}
 
 -- bytes spell one certificate or have one first fault

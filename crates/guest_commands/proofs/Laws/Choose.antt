@@ -21,14 +21,14 @@ use Rattle.tree_model.specs.View.{SystemView}
 use Rattle.tree_model.specs.System.{IsSystem, part_at, own_tasks_at}
 use Rattle.tree_model.specs.NamedLeaf.{IsLeafNamed}
 use Rattle.tree_model.proofs.Parents.{leaf_constrained}
-use Rattle.command_steps.specs.declared.status.Status.{Status}
-use Rattle.command_steps.specs.declared.status.Status.TheVariants.{Yes, No}
-use Rattle.command_steps.specs.Answer.{IsOne}
+use Rattle.command_frame.specs.declared.status.Status.{Status}
+use Rattle.command_frame.specs.declared.status.Status.TheVariants.{Yes, No}
+use Rattle.command_frame.specs.Answer.{IsOne}
 use Rattle.guest_commands.specs.Choose.{choice_status, choice_text, IsChosen, ChoosesSystem, ChoiceTells, EndsChoosing, the_choose}
-use Rattle.command_steps.specs.Steps.{IsJudged}
-use Rattle.command_steps.proofs.CommandLaws.{CommandLaws}
-use Rattle.command_steps.proofs.NamedLeaf.{one_on_leaf}
-use Rattle.command_steps.proofs.OneFile.{ending_laws}
+use Rattle.command_frame.specs.Steps.{IsJudged}
+use Rattle.command_frame.proofs.CommandLaws.{CommandLaws}
+use Rattle.command_frame.proofs.NamedLeaf.{one_on_leaf}
+use Rattle.command_frame.proofs.OneFile.{ending_laws}
 
 one_chosen : (sys : SystemView) (low high q : ℕ) → 1 ≤ low → IsOne (IsChosen sys low high q)
 one_chosen sys low high q some = λ s t x y a b.

@@ -18,15 +18,15 @@ use Rattle.tree_model.specs.NamedLeaf.{IsLeafNamed}
 use Rattle.tree_model.proofs.Parents.{leaf_constrained}
 use Rattle.rt_report.specs.declared.fault.FileFault.TheVariants.{BadDeadline}
 use Rattle.rt_report.specs.Fault.{fault_text}
-use Rattle.command_steps.specs.declared.status.Status.{Status}
-use Rattle.command_steps.specs.declared.status.Status.TheVariants.{Yes, No, Wide, BadFile}
-use Rattle.command_steps.specs.Answer.{IsOne}
+use Rattle.command_frame.specs.declared.status.Status.{Status}
+use Rattle.command_frame.specs.declared.status.Status.TheVariants.{Yes, No, Wide, BadFile}
+use Rattle.command_frame.specs.Answer.{IsOne}
 use Rattle.guest_commands.specs.Interface.{least_status, least_text, IsInterface, AtDeadline, InterfacesSystem, InterfaceTells, HasNoFit, the_interface}
-use Rattle.command_steps.specs.NamedLeaf.{IsVerdictUnless}
-use Rattle.command_steps.specs.Steps.{IsJudged}
-use Rattle.command_steps.proofs.CommandLaws.{CommandLaws}
-use Rattle.command_steps.proofs.NamedLeaf.{one_on_leaf}
-use Rattle.command_steps.proofs.OneFile.{ending_laws}
+use Rattle.command_frame.specs.NamedLeaf.{IsVerdictUnless}
+use Rattle.command_frame.specs.Steps.{IsJudged}
+use Rattle.command_frame.proofs.CommandLaws.{CommandLaws}
+use Rattle.command_frame.proofs.NamedLeaf.{one_on_leaf}
+use Rattle.command_frame.proofs.OneFile.{ending_laws}
 
 -- a period has one least budget by a deadline
 one_interface : (sys : SystemView) (q deadline : ℕ) → 1 ≤ deadline → deadline ≤ (part_at sys q).period

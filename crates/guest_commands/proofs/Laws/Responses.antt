@@ -6,17 +6,17 @@ use Rattle.tree_model.specs.Tree.{NoLoss}
 use Rattle.compose_tree.proofs.Sound.{admitted_no_loss}
 use Rattle.rt_report.specs.declared.responses.Response.{Response}
 use Rattle.rt_report.specs.Responses.{responses_text}
-use Rattle.command_steps.specs.declared.status.Status.{Status}
-use Rattle.command_steps.specs.declared.status.Status.TheVariants.{Yes, No, Wide}
-use Rattle.command_steps.specs.Answer.{IsOne}
-use Rattle.command_steps.specs.Budgets.{composing}
-use Rattle.command_steps.specs.CommandSpec.{IsVerdict}
+use Rattle.command_frame.specs.declared.status.Status.{Status}
+use Rattle.command_frame.specs.declared.status.Status.TheVariants.{Yes, No, Wide}
+use Rattle.command_frame.specs.Answer.{IsOne}
+use Rattle.command_frame.specs.Budgets.{composing}
+use Rattle.command_frame.specs.CommandSpec.{IsVerdict}
 use Rattle.guest_commands.specs.Responses.{the_responses, IsTold, RespondsSystem, ResponsesMean}
-use Rattle.command_steps.specs.Steps.{IsJudged}
-use Rattle.command_steps.proofs.Attempt.{one_attempt, statuses_attempt}
-use Rattle.command_steps.proofs.Budgets.{composing_decided, refused_status, refused_means}
-use Rattle.command_steps.proofs.CommandLaws.{CommandLaws}
-use Rattle.command_steps.proofs.OneFile.{system_laws}
+use Rattle.command_frame.specs.Steps.{IsJudged}
+use Rattle.command_frame.proofs.Attempt.{one_attempt, statuses_attempt}
+use Rattle.command_frame.proofs.Budgets.{composing_decided, refused_status, refused_means}
+use Rattle.command_frame.proofs.CommandLaws.{CommandLaws}
+use Rattle.command_frame.proofs.OneFile.{system_laws}
 use Rattle.guest_commands.proofs.OneResponses.{one_list_of_responses}
 use Rattle.guest_commands.proofs.TreeResponses.{all_respond_in_tree}
 

@@ -6,18 +6,18 @@ use Rattle.compose_tree.proofs.Sound.{admitted_no_loss}
 use Rattle.slack.proofs.OneMost.{one_list_of_works}
 use Rattle.slack.proofs.Grown.{grown_without_loss}
 use Rattle.rt_report.specs.Slack.{slack_text}
-use Rattle.command_steps.specs.declared.status.Status.{Status}
-use Rattle.command_steps.specs.declared.status.Status.TheVariants.{Yes, No, Wide}
-use Rattle.command_steps.specs.Answer.{IsOne}
-use Rattle.command_steps.specs.Budgets.{composing}
+use Rattle.command_frame.specs.declared.status.Status.{Status}
+use Rattle.command_frame.specs.declared.status.Status.TheVariants.{Yes, No, Wide}
+use Rattle.command_frame.specs.Answer.{IsOne}
+use Rattle.command_frame.specs.Budgets.{composing}
 use Rattle.guest_commands.specs.Slack.{TellsWorks, SlackensLeaf, SlackensSystem, SlackTells, LacksLeaf, the_slack}
-use Rattle.command_steps.specs.NamedLeaf.{IsVerdictUnless}
-use Rattle.command_steps.specs.Steps.{IsJudged}
-use Rattle.command_steps.proofs.Attempt.{one_attempt, statuses_attempt}
-use Rattle.command_steps.proofs.Budgets.{composing_decided, refused_status, refused_means}
-use Rattle.command_steps.proofs.CommandLaws.{CommandLaws}
-use Rattle.command_steps.proofs.NamedLeaf.{one_on_leaf}
-use Rattle.command_steps.proofs.OneFile.{ending_laws}
+use Rattle.command_frame.specs.NamedLeaf.{IsVerdictUnless}
+use Rattle.command_frame.specs.Steps.{IsJudged}
+use Rattle.command_frame.proofs.Attempt.{one_attempt, statuses_attempt}
+use Rattle.command_frame.proofs.Budgets.{composing_decided, refused_status, refused_means}
+use Rattle.command_frame.proofs.CommandLaws.{CommandLaws}
+use Rattle.command_frame.proofs.NamedLeaf.{one_on_leaf}
+use Rattle.command_frame.proofs.OneFile.{ending_laws}
 
 -- a leaf has one list of greatest works
 one_told : (sys : SystemView) (q : ℕ) → IsOne (TellsWorks sys q)

@@ -18,18 +18,18 @@ use Rattle.script_file.specs.Guests.{SpellsGuests}
 use Rattle.script_file.proofs.OneGuests.{one_guests, no_guest_fault, one_guest_fault}
 use Rattle.system_file.proofs.Laws.{read_is_spelled}
 use Rattle.system_file.proofs.OneText.{one_printed_text}
-use Rattle.command_steps.specs.declared.status.Status.{Status}
-use Rattle.command_steps.specs.declared.status.Status.TheVariants.{Yes, No, Wide, BadFile}
-use Rattle.command_steps.specs.Answer.{Contents, IsOne}
-use Rattle.command_steps.specs.Attempt.{IsRefused}
-use Rattle.command_steps.specs.TwoFiles.{SpellsSystem}
-use Rattle.command_steps.specs.Budgets.{composing}
+use Rattle.command_frame.specs.declared.status.Status.{Status}
+use Rattle.command_frame.specs.declared.status.Status.TheVariants.{Yes, No, Wide, BadFile}
+use Rattle.command_frame.specs.Answer.{Contents, IsOne}
+use Rattle.command_frame.specs.Attempt.{IsRefused}
+use Rattle.command_frame.specs.TwoFiles.{SpellsSystem}
+use Rattle.command_frame.specs.Budgets.{composing}
 use Rattle.host_commands.specs.Place.{the_place, guesting, placing, place_status, place_fault_text, IsPlaceFault, IsSystemText, PlacesGuests, Places, TellsUnplaced, MeansOfPlaces, PlaceMeans, AreGuests, CanPlace, EndsPlacing}
-use Rattle.command_steps.specs.Steps.{IsJudged}
-use Rattle.command_steps.proofs.Attempt.{IsDecided, one_attempt, statuses_attempt}
-use Rattle.command_steps.proofs.Budgets.{refused_status}
-use Rattle.command_steps.proofs.CommandLaws.{CommandLaws}
-use Rattle.command_steps.proofs.ReadSecond.{JudgesRead, is_spelled_system, read_laws, said_of_read}
+use Rattle.command_frame.specs.Steps.{IsJudged}
+use Rattle.command_frame.proofs.Attempt.{IsDecided, one_attempt, statuses_attempt}
+use Rattle.command_frame.proofs.Budgets.{refused_status}
+use Rattle.command_frame.proofs.CommandLaws.{CommandLaws}
+use Rattle.command_frame.proofs.ReadSecond.{JudgesRead, is_spelled_system, read_laws, said_of_read}
 
 pub guesting_decided : (bytes : List ℕ) → IsDecided (guesting bytes)
 guesting_decided bytes = record {

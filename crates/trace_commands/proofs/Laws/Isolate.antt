@@ -21,18 +21,18 @@ use Rattle.isolation.proofs.Exposed.{means, means_in_trace}
 use Rattle.isolation.proofs.Listed.{each_vcpu}
 use Rattle.isolation.proofs.OneIsolation.{one_list_of_isolations}
 use Rattle.rt_report.specs.Isolation.{isolation_text}
-use Rattle.command_steps.specs.declared.status.Status.{Status}
-use Rattle.command_steps.specs.declared.status.Status.TheVariants.{Yes, No, Wide, BadFile}
-use Rattle.command_steps.specs.Answer.{IsOne}
-use Rattle.command_steps.specs.Attempt.{OnAttempt}
-use Rattle.command_steps.specs.Budgets.{composing}
+use Rattle.command_frame.specs.declared.status.Status.{Status}
+use Rattle.command_frame.specs.declared.status.Status.TheVariants.{Yes, No, Wide, BadFile}
+use Rattle.command_frame.specs.Answer.{IsOne}
+use Rattle.command_frame.specs.Attempt.{OnAttempt}
+use Rattle.command_frame.specs.Budgets.{composing}
 use Rattle.trace_commands.specs.Isolate.{the_isolate, isolating, IsolatesAll, IsToldIsolation, IsolatesSystem, LineMeans, TellsIsolations, IsolationsMean}
 use Rattle.trace_commands.specs.Rtds.{IsVerdictOfRun}
-use Rattle.command_steps.specs.Steps.{IsJudged}
-use Rattle.command_steps.proofs.Attempt.{IsDecided, one_attempt, statuses_attempt}
-use Rattle.command_steps.proofs.Budgets.{composing_decided, refused_status, refused_means}
-use Rattle.command_steps.proofs.CommandLaws.{CommandLaws}
-use Rattle.command_steps.proofs.OneFile.{ending_laws}
+use Rattle.command_frame.specs.Steps.{IsJudged}
+use Rattle.command_frame.proofs.Attempt.{IsDecided, one_attempt, statuses_attempt}
+use Rattle.command_frame.proofs.Budgets.{composing_decided, refused_status, refused_means}
+use Rattle.command_frame.proofs.CommandLaws.{CommandLaws}
+use Rattle.command_frame.proofs.OneFile.{ending_laws}
 use Rattle.trace_commands.proofs.Laws.Rtds.{one_other, servers_fit}
 
 -- there is one list of what parts keep, or one first core that is not full under earliest deadline

@@ -23,17 +23,17 @@ use Rattle.rtds_sim.specs.Rtds.{is_full, is_rtds}
 use Rattle.rtds_sim.specs.Fault.{AllRtds, IsFirstOther}
 use Rattle.rtds_sim.specs.Giving.{AlwaysServed, ServersFit}
 use Rattle.rtds_sim.proofs.RunTraces.{each_gives, each_never_over, trace_of, trace_none_over, trace_satisfied}
-use Rattle.command_steps.specs.declared.status.Status.{Status}
-use Rattle.command_steps.specs.declared.status.Status.TheVariants.{Yes, BadFile}
-use Rattle.command_steps.specs.Answer.{Contents, IfNo, IsOne, IsReadable}
-use Rattle.command_steps.specs.Attempt.{OnAttempt}
-use Rattle.command_steps.specs.Budgets.{IsTrulyUnassigned, OnAssigned}
+use Rattle.command_frame.specs.declared.status.Status.{Status}
+use Rattle.command_frame.specs.declared.status.Status.TheVariants.{Yes, BadFile}
+use Rattle.command_frame.specs.Answer.{Contents, IfNo, IsOne, IsReadable}
+use Rattle.command_frame.specs.Attempt.{OnAttempt}
+use Rattle.command_frame.specs.Budgets.{IsTrulyUnassigned, OnAssigned}
 use Rattle.trace_commands.specs.Rtds.{the_rtds, waking, running, IsTraceOf, IsTraceText, Runs, IsRunOf, IsServed, TellsRun, RunMeans, IsRunnable, IsVerdictOfRun}
-use Rattle.command_steps.specs.Steps.{IsJudged}
-use Rattle.command_steps.proofs.Attempt.{IsDecided, one_attempt, statuses_attempt}
-use Rattle.command_steps.proofs.Budgets.{no_without_budgets, one_assigned, said_of_assigned, statuses_assigned}
-use Rattle.command_steps.proofs.CommandLaws.{CommandLaws}
-use Rattle.command_steps.proofs.ReadSecond.{JudgesRead, is_spelled_system, no_of_read, read_laws, said_of_read}
+use Rattle.command_frame.specs.Steps.{IsJudged}
+use Rattle.command_frame.proofs.Attempt.{IsDecided, one_attempt, statuses_attempt}
+use Rattle.command_frame.proofs.Budgets.{no_without_budgets, one_assigned, said_of_assigned, statuses_assigned}
+use Rattle.command_frame.proofs.CommandLaws.{CommandLaws}
+use Rattle.command_frame.proofs.ReadSecond.{JudgesRead, is_spelled_system, no_of_read, read_laws, said_of_read}
 
 pub waking_decided : (sys : SystemView) (bytes : List ℕ) → IsDecided (waking sys bytes)
 waking_decided sys bytes = record {

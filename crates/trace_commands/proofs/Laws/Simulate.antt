@@ -13,17 +13,17 @@ use Rattle.tree_spans.specs.TreeCounts.{CountsView, no_node_misses, AreTreeCount
 use Rattle.server_sched.proofs.Counted.{kept_exactly}
 use Rattle.rt_report.specs.Simulate.{simulate_text}
 use Rattle.rt_report.proofs.OneCounts.{one_counts}
-use Rattle.command_steps.specs.declared.status.Status.{Status}
-use Rattle.command_steps.specs.declared.status.Status.TheVariants.{Yes, No, Wide}
-use Rattle.command_steps.specs.Answer.{Contents, IsOne}
-use Rattle.command_steps.specs.Budgets.{AssignedOrNone, OnAssigned}
-use Rattle.command_steps.specs.CommandSpec.{IsVerdict}
+use Rattle.command_frame.specs.declared.status.Status.{Status}
+use Rattle.command_frame.specs.declared.status.Status.TheVariants.{Yes, No, Wide}
+use Rattle.command_frame.specs.Answer.{Contents, IsOne}
+use Rattle.command_frame.specs.Budgets.{AssignedOrNone, OnAssigned}
+use Rattle.command_frame.specs.CommandSpec.{IsVerdict}
 use Rattle.trace_commands.specs.Simulate.{the_simulate, releasing, RunsFirst, kept_status, IsSimulated, IsSimulationOf, Simulates, TellsNoMiss, SimulateMeans, AreJobs}
-use Rattle.command_steps.specs.Steps.{IsJudged}
-use Rattle.command_steps.proofs.Attempt.{IsDecided}
-use Rattle.command_steps.proofs.Budgets.{no_of_assigned, one_assigned, said_of_assigned, statuses_assigned}
-use Rattle.command_steps.proofs.CommandLaws.{CommandLaws}
-use Rattle.command_steps.proofs.ReadSecond.{JudgesRead, is_spelled_system, no_of_read, read_laws, said_of_read}
+use Rattle.command_frame.specs.Steps.{IsJudged}
+use Rattle.command_frame.proofs.Attempt.{IsDecided}
+use Rattle.command_frame.proofs.Budgets.{no_of_assigned, one_assigned, said_of_assigned, statuses_assigned}
+use Rattle.command_frame.proofs.CommandLaws.{CommandLaws}
+use Rattle.command_frame.proofs.ReadSecond.{JudgesRead, is_spelled_system, no_of_read, read_laws, said_of_read}
 
 pub releasing_decided : (sys : SystemView) (bytes : List ℕ) → IsDecided (releasing sys bytes)
 releasing_decided sys bytes = record {

@@ -10,17 +10,17 @@ use Rattle.trace_file.proofs.Same.{same_events, no_fault, one_file_fault}
 use Rattle.auditor.specs.declared.finding.Finding.{Finding}
 use Rattle.auditor.specs.declared.finding.Finding.TheVariants.{Yes as Kept, Short, Over}
 use Rattle.auditor.specs.Finding.{IsFinding}
-use Rattle.command_steps.specs.declared.status.Status.{Status}
-use Rattle.command_steps.specs.declared.status.Status.TheVariants.{Yes, No, Wide}
-use Rattle.command_steps.specs.Answer.{Contents, IsOne}
-use Rattle.command_steps.specs.Budgets.{AssignedOrNone, OnAssigned}
-use Rattle.command_steps.specs.CommandSpec.{CommandSpec, IsVerdict}
-use Rattle.command_steps.specs.Steps.{IsJudged}
-use Rattle.command_steps.specs.TwoFiles.{OnTwoFiles}
-use Rattle.command_steps.proofs.Attempt.{IsDecided}
-use Rattle.command_steps.proofs.Budgets.{no_of_assigned, one_assigned, said_of_assigned, statuses_assigned}
-use Rattle.command_steps.proofs.CommandLaws.{CommandLaws}
-use Rattle.command_steps.proofs.ReadSecond.{JudgesRead, is_spelled_system, no_of_read, read_laws, said_of_read}
+use Rattle.command_frame.specs.declared.status.Status.{Status}
+use Rattle.command_frame.specs.declared.status.Status.TheVariants.{Yes, No, Wide}
+use Rattle.command_frame.specs.Answer.{Contents, IsOne}
+use Rattle.command_frame.specs.Budgets.{AssignedOrNone, OnAssigned}
+use Rattle.command_frame.specs.CommandSpec.{CommandSpec, IsVerdict}
+use Rattle.command_frame.specs.Steps.{IsJudged}
+use Rattle.command_frame.specs.TwoFiles.{OnTwoFiles}
+use Rattle.command_frame.proofs.Attempt.{IsDecided}
+use Rattle.command_frame.proofs.Budgets.{no_of_assigned, one_assigned, said_of_assigned, statuses_assigned}
+use Rattle.command_frame.proofs.CommandLaws.{CommandLaws}
+use Rattle.command_frame.proofs.ReadSecond.{JudgesRead, is_spelled_system, no_of_read, read_laws, said_of_read}
 use Rattle.trace_commands.specs.Audit.{tracing, finding_status, IsAuditOf, OnTrace, TellsSatisfied, TraceMeans, CanAudit, IsTrace}
 
 pub tracing_decided : (sys : SystemView) (bytes : List ℕ) → IsDecided (tracing sys bytes)

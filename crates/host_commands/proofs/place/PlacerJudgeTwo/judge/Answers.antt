@@ -3,11 +3,11 @@ use Rattle.slot_model.proofs.HandedOn.{err_is}
 use Rattle.csv_rows.specs.Reading.{records_of}
 use Rattle.tree_model.specs.View.{PartView, SystemView}
 use Rattle.script_file.specs.Guests.{SpellsGuests}
-use Rattle.command_steps.specs.declared.answer.Ending.{Ending}
-use Rattle.command_steps.specs.declared.answer.Ending.TheVariants.{Answered, Unread, NoMemory}
-use Rattle.command_steps.specs.Attempt.{IsRefused}
+use Rattle.command_frame.specs.declared.answer.Ending.{Ending}
+use Rattle.command_frame.specs.declared.answer.Ending.TheVariants.{Answered, Unread, NoMemory}
+use Rattle.command_frame.specs.Attempt.{IsRefused}
 use Rattle.host_commands.specs.Place.{placing, PlacesBytes}
-use Rattle.command_steps.specs.Steps.{IfAnswered}
+use Rattle.command_frame.specs.Steps.{IfAnswered}
 use Rattle.host_commands.proofs.place.PlacerJudgeTwo.judge.Goals as goal
 
 -- guests that are spelled and not placed
