@@ -1,5 +1,4 @@
-ghost use Rattle.std.specs.Prelude.{refl};
-ghost use Rattle.admit_commands.specs.Certify.{CertifiesSystem, the_certify};
+ghost use Rattle.admit_commands.specs.Certify.{Certifies};
 
 use certificate::print_certificate;
 use command_frame::{Answer, Ending, JudgeOne, Status, refuse};
@@ -11,11 +10,7 @@ use tree_model::{Refusal, System};
 pub struct Certify;
 
 impl JudgeOne for Certify {
-    ghost says = { λ _. CertifiesSystem };
-
-    ghost spec = { λ _. the_certify };
-
-    ghost laws = { λ s file. record { files = refl; answers = λ contents status text said. said } };
+    ghost says = { λ _. Certifies };
 
     #[tactic(auto, using(command_frame::proofs::Budgets::refusal_told, crate::proofs::Laws::Certify::printed))]
     fn judge(&self, alloc: Global, sys: &System) -> Result<Answer, Ending> {

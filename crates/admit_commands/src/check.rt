@@ -1,7 +1,7 @@
-ghost use Rattle.std.specs.Prelude.{◌≡◌, Ok, IfOk, IfErr, refl};
+ghost use Rattle.std.specs.Prelude.{◌≡◌, Ok, IfOk, IfErr};
 ghost use Rattle.cert_reader.specs.CertificateFile.{certificate_of};
 ghost use Rattle.command_frame.specs.Attempt.{IsRefused};
-ghost use Rattle.admit_commands.specs.Check.{spelling, ChecksNodes, ChecksBytes, the_check};
+ghost use Rattle.admit_commands.specs.Check.{spelling, ChecksNodes, Checks};
 ghost use Rattle.command_frame.specs.Steps.{IfAnswered, EndsJudged};
 
 use cert_reader::{CertFault, read_certificate};
@@ -17,14 +17,7 @@ use tree_model::{Certificate, System};
 pub struct Check;
 
 impl JudgeTwo for Check {
-    ghost says = { λ _. ChecksBytes };
-
-    ghost spec = { λ _. the_check };
-
-    ghost laws = { λ s first second. record {
-      files = refl;
-      answers = λ contents status text said. said;
-    } };
+    ghost says = { λ _. Checks };
 
     fn judge(&self, alloc: Global, sys: &System, bytes: &[u8]) -> Result<Answer, Ending> {
         let certificate = spelled_certificate(alloc, bytes)?;

@@ -2,40 +2,25 @@
 -- and how what was read becomes the answer to a command.
 use Rattle.std.proofs.Common.{◌≡◌, ℕ, ◌≤◌, List, [], ◌∷◌, length, Option, Some, None, refl, sym, ap, subst, inl, inr, arith}
 use Rattle.std.proofs.lemmas.Bool.{cases_lt, false≢true}
-use Rattle.std.specs.Prelude.{IsOk, IfOk, IfSome, Result, Ok, Err, map}
+use Rattle.std.specs.Prelude.{IsOk, IfOk, IfSome, Result, Ok, Err}
 use Rattle.tree_model.specs.View.{SystemView}
 use Rattle.tree_model.specs.System.{IsSystem}
 use Rattle.system_file.specs.declared.fault.SystemFault.{SystemFault}
 use Rattle.system_file.specs.SystemFile.{system_of}
 use Rattle.system_file.proofs.Laws.{read_is_spelled}
-use Rattle.outside.specs.Files.{Files, Told, file_named}
+use Rattle.outside.specs.Files.{Files, Told}
 use Rattle.command_frame.specs.declared.status.Status.{Status}
 use Rattle.command_frame.specs.declared.status.Status.TheVariants.{TooLong, NoMemory}
 use Rattle.command_frame.specs.declared.answer.Ending.{Ending}
 use Rattle.command_frame.specs.declared.answer.Ending.TheVariants.{Answered, Unread, NoMemory as NoRoom}
-use Rattle.command_frame.specs.CommandSpec.{CommandSpec, IsVerdict}
-use Rattle.command_frame.specs.Answer.{Contents, AreContentsOf, file_at, file_limit, AtContent, AtFile, OnSystem, IfSystem, IsOne, IsReadable, HasSystem}
-use Rattle.command_frame.specs.Steps.{IfAnswered, IsJudged, IsOverOne, IsSaid}
+use Rattle.command_frame.specs.CommandSpec.{IsVerdict}
+use Rattle.command_frame.specs.OverFiles.{over_system, over_system_ending}
+use Rattle.command_frame.specs.Answer.{Contents, AreContentsOf, file_at, file_limit, AtContent, AtFile, OnSystem, OnOneFile, IsOne, IsReadable, HasSystem}
+use Rattle.command_frame.specs.Steps.{IfAnswered, IsJudged, IsSaidOver}
 use Rattle.command_frame.specs.inner.Steps.{IsSpelled, StopsAt}
 use Rattle.command_frame.proofs.AtFile.{more_at, more_on, one_at, one_on, statuses_at, statuses_on}
 use Rattle.command_frame.proofs.CommandLaws.{CommandLaws}
 use Rattle.command_frame.proofs.Statuses.{IsOfJob, job_of_judged}
-
--- the record of a command over a system file of whose system this is said, which means this, and
--- which ends so
-abbrev pub over_system_ending : List ℕ → (Says Tells : SystemView → Status → List ℕ → Type 0)
-    → (Contents → Status → Type 0) → CommandSpec
-over_system_ending name Says Tells EndsAs = record {
-  files = name ∷ [];
-  Answers = λ contents. AtFile 1 contents (λ bytes. OnSystem (system_of bytes) Says);
-  Means = λ contents status text. IfSystem contents (λ sys. Tells sys status text);
-  CanJudge = HasSystem;
-  EndsAs = EndsAs;
-}
-
--- one that ends with a verdict
-abbrev pub over_system : List ℕ → (Says Tells : SystemView → Status → List ℕ → Type 0) → CommandSpec
-over_system name Says Tells = over_system_ending name Says Tells (λ contents. IsVerdict)
 
 -- one thing is said of a system, and it means this; of a file that is too long nothing is told
 pub record AnswersSystem (Says Tells : SystemView → Status → List ℕ → Type 0) : Type 0 where
@@ -115,7 +100,7 @@ end_of_readable Says EndsAs ends contents status text can h =
 
 pub ending_laws : (name : List ℕ) (Says Tells : SystemView → Status → List ℕ → Type 0)
     (EndsAs : Contents → Status → Type 0) → AnswersSystem Says Tells → EndsSystem Says EndsAs
-    → CommandLaws (over_system_ending name Says Tells EndsAs)
+    → CommandLaws (over_system_ending Says Tells EndsAs name)
 ending_laws name Says Tells EndsAs answers ends = record {
   one_answer =
       λ contents. one_at 1 (λ bytes. OnSystem (system_of bytes) Says) (one_on Says answers.one) (file_at 1 contents);
@@ -131,55 +116,52 @@ ending_laws name Says Tells EndsAs answers ends = record {
 }
 
 pub system_laws : (name : List ℕ) (Says Tells : SystemView → Status → List ℕ → Type 0) → JudgesSystem Says Tells
-    → CommandLaws (over_system name Says Tells)
+    → CommandLaws (over_system Says Tells name)
 system_laws name Says Tells judges = ending_laws name Says Tells (λ contents. IsVerdict)
     (record { one = judges.one; judged = judges.judged; means = judges.means; long = judges.long })
     (record { verdict = λ contents sys spelled. judges.verdict sys; no_memory = λ contents. tt })
 
 -- the contents of the one file
-held_one : (spec : CommandSpec) (files : Option Files) (name : List ℕ) (content : Option (List ℕ))
-    → spec.files ≡ name ∷ [] → Told files name (λ told. told ≡ content)
-    → AreContentsOf spec.files files (content ∷ [])
-held_one spec None name content names told = tt
-held_one spec (Some files) name content names told =
-    subst (λ (ns : List (List ℕ)). content ∷ [] ≡ map (λ n. file_named n files) ns) (sym names)
-    (ap (λ (c : Option (List ℕ)). c ∷ []) (sym told))
+held_one : (files : Option Files) (name : List ℕ) (content : Option (List ℕ))
+    → Told files name (λ told. told ≡ content) → AreContentsOf (name ∷ []) files (content ∷ [])
+held_one None name content told = tt
+held_one (Some files) name content told = ap (λ (c : Option (List ℕ)). c ∷ []) (sym told)
 
 -- a file that is refused has its answer
-pub stop_said : (spec : CommandSpec) (name : List ℕ) (Says : SystemView → Status → List ℕ → Type 0)
-    → IsOverOne spec name Says → (files : Option Files) (stop : Ending)
+pub stop_said : (name : List ℕ) (Says : SystemView → Status → List ℕ → Type 0) (files : Option Files) (stop : Ending)
     → IfAnswered stop
     (λ a. StopsAt 1 files name (λ bytes. OnSystem (system_of bytes) (λ _ _ _. ⊥)) a.status a.text.items)
-    → IfAnswered stop (λ a. IsSaid spec files a.status a.text.items)
-stop_said spec name Says over files (Answered a) h = record {
+    → IfAnswered stop
+    (λ a. IsSaidOver (name ∷ []) (λ contents. OnOneFile contents Says) files a.status a.text.items)
+stop_said name Says files (Answered a) h = record {
   contents = h.content ∷ [];
-  held = held_one spec files name h.content over.files h.held;
+  held = held_one files name h.content h.held;
   answers =
-      over.answers (h.content ∷ []) a.status a.text.items (more_at 1 (λ bytes. OnSystem (system_of bytes) (λ _ _ _. ⊥))
-      (λ bytes. OnSystem (system_of bytes) Says) a.status a.text.items
-      (λ bytes. more_on Says (system_of bytes) a.status a.text.items) h.content h.answers);
+      more_at 1 (λ bytes. OnSystem (system_of bytes) (λ _ _ _. ⊥)) (λ bytes. OnSystem (system_of bytes) Says) a.status
+      a.text.items (λ bytes. more_on Says (system_of bytes) a.status a.text.items) h.content h.answers;
 }
-stop_said spec name Says over files Unread h = tt
-stop_said spec name Says over files NoRoom h = tt
+stop_said name Says files Unread h = tt
+stop_said name Says files NoRoom h = tt
 
 -- and so has a system that was judged
-pub system_said : (spec : CommandSpec) (name : List ℕ) (Says : SystemView → Status → List ℕ → Type 0)
-    → IsOverOne spec name Says → (files : Option Files) (sys : SystemView) → IsSpelled files name sys
-    → (end : Ending) → IfAnswered end (λ a. Says sys a.status a.text.items)
-    → IfAnswered end (λ a. IsSaid spec files a.status a.text.items)
-system_said spec name Says over files sys read (Answered a) said = record {
+pub system_said : (name : List ℕ) (Says : SystemView → Status → List ℕ → Type 0) (files : Option Files)
+    (sys : SystemView) → IsSpelled files name sys → (end : Ending)
+    → IfAnswered end (λ a. Says sys a.status a.text.items)
+    → IfAnswered end
+    (λ a. IsSaidOver (name ∷ []) (λ contents. OnOneFile contents Says) files a.status a.text.items)
+system_said name Says files sys read (Answered a) said = record {
   contents = Some read.bytes ∷ [];
-  held = held_one spec files name (Some read.bytes) over.files read.held;
-  answers = over.answers (Some read.bytes ∷ []) a.status a.text.items
-      (record {
+  held = held_one files name (Some read.bytes) read.held;
+  answers =
+      record {
         too_long = λ l. absurd (omega (arith, l, read.short));
         said =
             λ l. subst (λ (r : Result SystemView SystemFault). OnSystem r Says a.status a.text.items)
             (sym read.spelled) said;
-      });
+      };
 }
-system_said spec name Says over files sys read Unread said = tt
-system_said spec name Says over files sys read NoRoom said = tt
+system_said name Says files sys read Unread said = tt
+system_said name Says files sys read NoRoom said = tt
 
 pub is_system : (files : Option Files) (name : List ℕ) (sys : SystemView) → IsSpelled files name sys → IsSystem sys
 is_system files name sys read = (read_is_spelled read.bytes sys read.spelled).system

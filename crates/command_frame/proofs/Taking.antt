@@ -1,7 +1,7 @@
 -- How many bytes each step of a command takes of told files.
 use Rattle.std.proofs.Common.{◌≡◌, ℕ, ◌+◌, ◌≤◌, Bool, true, false, List, [], ◌∷◌, length, Option, Some, None, refl, sym, ◌∙◌, ap, subst, inl, inr, arith}
 use Rattle.std.proofs.lemmas.Bool.{cases_lt, cond-true, cond-false, le-leb, lt-leb}
-use Rattle.std.specs.Prelude.{Result, Ok, Err, is_ok, map, nat_le, ◌&&◌}
+use Rattle.std.specs.Prelude.{Result, Ok, Err, is_ok, nat_le, ◌&&◌}
 use Rattle.tree_model.specs.View.{SystemView}
 use Rattle.system_file.specs.declared.fault.SystemFault.{SystemFault}
 use Rattle.system_file.specs.SystemFile.{system_of}
@@ -10,7 +10,6 @@ use Rattle.outside.specs.Files.{Files, Told, file_named}
 use Rattle.command_frame.specs.declared.status.Status.{Status}
 use Rattle.command_frame.specs.declared.answer.Ending.{Ending}
 use Rattle.command_frame.specs.declared.answer.Ending.TheVariants.{Answered, Unread, NoMemory as NoRoom}
-use Rattle.command_frame.specs.CommandSpec.{CommandSpec}
 use Rattle.command_frame.specs.Answer.{file_limit, AtContent, OnSystem}
 use Rattle.command_frame.specs.Reading.{read_of, is_system_file, read_in}
 use Rattle.command_frame.specs.Steps.{IfAnswered, EndTakes}
@@ -115,19 +114,3 @@ ends_second told files first second sys Unread before between after e spelled on
     less_of_both told files first second sys before between after e spelled one two
 ends_second told files first second sys NoRoom before between after e spelled one two =
     less_of_both told files first second sys before between after e spelled one two
-
--- what was taken of the files that a command names is what it took
-pub one_takes : (spec : CommandSpec) (file : List ℕ) (all : Files) (end : Ending) (before after : ℕ)
-    → spec.files ≡ file ∷ [] → EndTakes end (read_of (file_named file all)) before after
-    → EndTakes end (read_in (map (λ name. file_named name all) spec.files)) before after
-one_takes spec file all end before after names took =
-    subst (λ (ns : List (List ℕ)). EndTakes end (read_in (map (λ name. file_named name all) ns)) before after)
-    (sym names) took
-
-pub two_take : (spec : CommandSpec) (first second : List ℕ) (all : Files) (end : Ending) (before after : ℕ)
-    → spec.files ≡ first ∷ second ∷ []
-    → EndTakes end (read_in (file_named first all ∷ file_named second all ∷ [])) before after
-    → EndTakes end (read_in (map (λ name. file_named name all) spec.files)) before after
-two_take spec first second all end before after names took =
-    subst (λ (ns : List (List ℕ)). EndTakes end (read_in (map (λ name. file_named name all) ns)) before after)
-    (sym names) took

@@ -1,7 +1,6 @@
 -- What is said over two files: which statuses it has, what is said of files that can be read, that
 -- it is one, and how what was read becomes the answer to a command.
 use Rattle.std.proofs.Common.{◌≡◌, ℕ, List, [], ◌∷◌, Option, Some, None, Result, refl, sym, ◌∙◌, ap, subst, arith}
-use Rattle.std.specs.Prelude.{map}
 use Rattle.tree_model.specs.View.{SystemView}
 use Rattle.tree_model.specs.System.{IsSystem}
 use Rattle.system_file.specs.declared.fault.SystemFault.{SystemFault}
@@ -11,10 +10,9 @@ use Rattle.command_frame.specs.declared.status.Status.{Status}
 use Rattle.command_frame.specs.declared.status.Status.TheVariants.{BadFile, Absent, TooLong}
 use Rattle.command_frame.specs.declared.answer.Ending.{Ending}
 use Rattle.command_frame.specs.declared.answer.Ending.TheVariants.{Answered, Unread, NoMemory as NoRoom}
-use Rattle.command_frame.specs.CommandSpec.{CommandSpec}
 use Rattle.command_frame.specs.Answer.{Contents, Saying, AreContentsOf, file_at, AtContent, AtFile, OnSystem, IsOne}
 use Rattle.command_frame.specs.TwoFiles.{OnTwoFiles, SpellsSystem}
-use Rattle.command_frame.specs.Steps.{IfAnswered, IsOverTwo, IsSaid}
+use Rattle.command_frame.specs.Steps.{IfAnswered, IsSaidOver}
 use Rattle.command_frame.specs.inner.Steps.{IsSpelled, IsHeld, StopsAt, AnswersTwo}
 use Rattle.command_frame.proofs.AtFile.{more_at, more_on, on_more, one_at, one_on, statuses_at, statuses_on}
 
@@ -163,23 +161,22 @@ stop_said files first second Says Unread h = tt
 stop_said files first second Says NoRoom h = tt
 
 -- and the answer over both files is that to a command over them
-two_held : (files : Option Files) (first second : List ℕ) (one two : Option (List ℕ)) (spec : CommandSpec)
-    → spec.files ≡ first ∷ second ∷ [] → Told files first (λ file. file ≡ one)
-    → Told files second (λ file. file ≡ two) → AreContentsOf spec.files files (one ∷ two ∷ [])
-two_held None first second one two spec names a b = tt
-two_held (Some files) first second one two spec names a b =
-    subst (λ (ns : List (List ℕ)). one ∷ two ∷ [] ≡ map (λ name. file_named name files) ns) (sym names)
-    (ap (λ (o : Option (List ℕ)). o ∷ two ∷ []) (sym a)
-    ∙ ap (λ (o : Option (List ℕ)). file_named first files ∷ o ∷ []) (sym b))
+two_held : (files : Option Files) (first second : List ℕ) (one two : Option (List ℕ))
+    → Told files first (λ file. file ≡ one) → Told files second (λ file. file ≡ two)
+    → AreContentsOf (first ∷ second ∷ []) files (one ∷ two ∷ [])
+two_held None first second one two a b = tt
+two_held (Some files) first second one two a b =
+    ap (λ (o : Option (List ℕ)). o ∷ two ∷ []) (sym a)
+    ∙ ap (λ (o : Option (List ℕ)). file_named first files ∷ o ∷ []) (sym b)
 
-pub two_said : (spec : CommandSpec) (first second : List ℕ) (Says : SystemView → Saying)
-    → IsOverTwo spec first second Says → (files : Option Files) (end : Ending)
+pub two_said : (files : Option Files) (first second : List ℕ) (Says : SystemView → Saying) (end : Ending)
     → IfAnswered end (λ a. AnswersTwo files first second Says a.status a.text.items)
-    → IfAnswered end (λ a. IsSaid spec files a.status a.text.items)
-two_said spec first second Says over files (Answered a) h = record {
+    → IfAnswered end
+    (λ a. IsSaidOver (first ∷ second ∷ []) (λ contents. OnTwoFiles contents Says) files a.status a.text.items)
+two_said files first second Says (Answered a) h = record {
   contents = h.one ∷ h.two ∷ [];
-  held = two_held files first second h.one h.two spec over.files h.held_first h.held_second;
-  answers = over.answers (h.one ∷ h.two ∷ []) a.status a.text.items h.answers;
+  held = two_held files first second h.one h.two h.held_first h.held_second;
+  answers = h.answers;
 }
-two_said spec first second Says over files Unread h = tt
-two_said spec first second Says over files NoRoom h = tt
+two_said files first second Says Unread h = tt
+two_said files first second Says NoRoom h = tt

@@ -58,6 +58,10 @@ OnSystem (Ok sys) Says status text = Says sys status text
 OnSystem (Err fault) Says status text =
     (status ≡ BadFile) × (text ≡ fault_text (System fault) 1)
 
+-- the only file is absent, too long or refused, or this is said of the system that it spells
+abbrev pub OnOneFile : Contents → (SystemView → Status → List ℕ → Type 0) → Status → List ℕ → Type 0
+OnOneFile contents Says = AtFile 1 contents (λ bytes. OnSystem (system_of bytes) Says)
+
 -- what holds of the system that the first file spells, where it spells one
 abbrev pub IfSystem : Contents → (SystemView → Type 0) → Type 0
 IfSystem contents P = IfSome (file_at 1 contents) (λ bytes. IfOk (system_of bytes) P)

@@ -28,3 +28,8 @@ abbrev pub OnAttempt : {Value Refusal : Type 0} → Attempt Value Refusal
     → (Value → Status → List ℕ → Type 0) → Status → List ℕ → Type 0
 OnAttempt attempt Says status text =
     IsGiven attempt Says status text ⊎ IsRefused attempt status text
+
+-- it may give a value
+pub record GivesSome {Value Refusal : Type 0} (attempt : Attempt Value Refusal) : Type 0 where
+  pub value : Value
+  pub gives : attempt.Gives value

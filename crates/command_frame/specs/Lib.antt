@@ -2,6 +2,7 @@ pub mod Answer
 pub mod Attempt
 pub mod Budgets
 pub mod TwoFiles
+pub mod OverFiles
 pub mod NamedLeaf
 pub mod CommandSpec
 pub mod Reading

@@ -1,25 +1,26 @@
--- How a command ends, what the counts say of it, and what a command over files is.
-use Rattle.std.specs.Prelude.{◌≡◌, ℕ, ◌+◌, ◌≤◌, List, [], ◌∷◌, length, map, Option, Some, Result, Ok, Err, ⊤}
+-- How a command ends, and what the counts say of it.
+use Rattle.std.specs.Prelude.{◌≡◌, ℕ, ◌+◌, ◌≤◌, List, length, map, Option, Some, Result, Ok, Err, ⊤}
 use Rattle.outside.specs.Counts.{Counts, IsQuiet, Rose, RoseBy, RoseBeyond}
 use Rattle.outside.specs.Files.{Files, file_named}
-use Rattle.tree_model.specs.View.{SystemView}
-use Rattle.system_file.specs.SystemFile.{system_of}
 use Rattle.command_frame.specs.declared.status.Status.{Status}
 use Rattle.command_frame.specs.declared.status.Status.TheVariants.{Yes, No, BadFile, Wide, Absent, TooLong}
 use Rattle.command_frame.specs.declared.answer.Answer.{Answer}
 use Rattle.command_frame.specs.declared.answer.Ending.{Ending}
 use Rattle.command_frame.specs.declared.answer.Ending.TheVariants.{Answered, Unread, NoMemory as NoRoom}
 use Rattle.command_frame.specs.CommandSpec.{CommandSpec}
-use Rattle.command_frame.specs.Answer.{Contents, Saying, AreContentsOf, AtFile, OnSystem, file_limit}
-use Rattle.command_frame.specs.TwoFiles.{OnTwoFiles}
+use Rattle.command_frame.specs.Answer.{Contents, AreContentsOf, file_limit}
 use Rattle.command_frame.specs.Reading.{read_in}
 
--- over what the files of the command hold, this status and this text are the answer
-pub record IsSaid (spec : CommandSpec) (files : Option Files) (status : Status) (text : List ℕ)
-    : Type 0 where
+-- over what the files of these names hold, this status and this text are the answer
+pub record IsSaidOver (names : List (List ℕ)) (Answers : Contents → Status → List ℕ → Type 0)
+    (files : Option Files) (status : Status) (text : List ℕ) : Type 0 where
   pub contents : Contents
-  pub held : AreContentsOf spec.files files contents
-  pub answers : spec.Answers contents status text
+  pub held : AreContentsOf names files contents
+  pub answers : Answers contents status text
+
+-- and so over those of a command
+abbrev pub IsSaid : CommandSpec → Option Files → Status → List ℕ → Type 0
+IsSaid spec files status text = IsSaidOver spec.files spec.Answers files status text
 
 -- what is said of the answer, where a command ends with one
 abbrev pub IfAnswered : Ending → (Answer → Type 0) → Type 0
@@ -53,11 +54,11 @@ EndTakes (Answered answer) bytes before after = RoseBy bytes before after
 EndTakes Unread bytes before after = after ≤ before + bytes
 EndTakes NoRoom bytes before after = after ≤ before + bytes
 
--- where the files are told, what a command over them took
-abbrev pub SpecTakes : CommandSpec → Option Files → Ending → ℕ → ℕ → Type 0
-SpecTakes spec files end before after =
+-- where the files are told, what a command over those of these names took
+abbrev pub NamesTake : List (List ℕ) → Option Files → Ending → ℕ → ℕ → Type 0
+NamesTake names files end before after =
     (all : Files) → files ≡ Some all
-    → EndTakes end (read_in (map (λ name. file_named name all) spec.files)) before after
+    → EndTakes end (read_in (map (λ name. file_named name all) names)) before after
 
 -- what began so has taken these bytes of a file that is short enough
 pub record HasTaken {A : Type 0} (Begins : A → Type 0) (has_taken : A → A → List ℕ → Type 0)
@@ -80,19 +81,3 @@ abbrev pub EndsJudged : Ending → Type 0
 EndsJudged (Answered answer) = IsJudged answer.status
 EndsJudged Unread = ⊥
 EndsJudged NoRoom = ⊤
-
--- a command over a system file, whose answer is what is said of its system
-pub record IsOverOne (spec : CommandSpec) (name : List ℕ)
-    (Says : SystemView → Status → List ℕ → Type 0) : Type 0 where
-  pub files : spec.files ≡ name ∷ []
-  pub answers : (contents : Contents) (status : Status) (text : List ℕ)
-      → AtFile 1 contents (λ bytes. OnSystem (system_of bytes) Says) status text
-      → spec.Answers contents status text
-
--- a command over a system file and a second file, whose answer is what is said of the system and of
--- the second file's bytes
-pub record IsOverTwo (spec : CommandSpec) (first second : List ℕ) (Says : SystemView → Saying)
-    : Type 0 where
-  pub files : spec.files ≡ first ∷ second ∷ []
-  pub answers : (contents : Contents) (status : Status) (text : List ℕ)
-      → OnTwoFiles contents Says status text → spec.Answers contents status text

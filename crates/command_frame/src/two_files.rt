@@ -5,9 +5,9 @@ ghost use Rattle.tree_model.specs.View.{SystemView};
 ghost use Rattle.tree_model.specs.System.{IsSystem};
 ghost use Rattle.command_frame.specs.declared.answer.Ending.TheVariants.{NoMemory};
 ghost use Rattle.command_frame.specs.Answer.{Saying, file_limit};
-ghost use Rattle.command_frame.specs.CommandSpec.{CommandSpec};
+ghost use Rattle.command_frame.specs.TwoFiles.{OnTwoFiles};
 ghost use Rattle.command_frame.specs.Reading.{read_in};
-ghost use Rattle.command_frame.specs.Steps.{ending_of, IfAnswered, Explains, SpecTakes, IsSaid, HasTaken, IsOverTwo, EndsJudged};
+ghost use Rattle.command_frame.specs.Steps.{ending_of, IfAnswered, Explains, NamesTake, IsSaidOver, HasTaken, EndsJudged};
 ghost use Rattle.command_frame.specs.inner.Steps.{ExplainsStep, StepTakes, FileTakes, IsSpelled, HasTakenFile, StopsAt, AnswersTwo};
 
 use crate::answer::{Answer, Ending};
@@ -23,13 +23,6 @@ pub trait JudgePieces<'s> {
     type Taker: ByteTaker + Drop;
 
     ghost says: { Self → SystemView → Saying };
-
-    /// What there is to say of the command over the files of these names.
-    ghost spec: { Self → List ℕ → List ℕ → CommandSpec };
-
-    // it stands above the methods, so that it can be cited whatever the lifetime is
-    ghost laws: { (s : Self) (first second : List ℕ)
-        → IsOverTwo (spec s first second) first second (says s) };
 
     /// Which takers begin with a system.
     ghost begins: { Self → SystemView → Self.Taker → Type 0 };
@@ -64,15 +57,15 @@ pub fn over_pieces<'s, S: Store, J: JudgePieces<'s>>(
     judge: &J,
     room: &'s mut Option<System>,
 ) -> Result<Answer, Ending>
-    ensures answer { let spec = J.spec judge.now first.now second.now in
+    ensures answer { let says = λ contents. OnTwoFiles contents (J.says judge.now) in
         IfAnswered (ending_of result) (λ a.
-        IsSaid spec (S.files store.old) a.status a.text.items) }
+        IsSaidOver (first.now ∷ second.now ∷ []) says (S.files store.old)
+        a.status a.text.items) }
     ensures explained { let counts = counts_of S.faults S.absences S.taken in
         Explains (ending_of result) (counts store.old) (counts store.new) }
     ensures same_files { S.files store.new ≡ S.files store.old }
-    ensures taken { let spec = J.spec judge.now first.now second.now in
-        SpecTakes spec (S.files store.old) (ending_of result)
-        (S.taken store.old) (S.taken store.new) }
+    ensures taken { NamesTake (first.now ∷ second.now ∷ []) (S.files store.old)
+        (ending_of result) (S.taken store.old) (S.taken store.new) }
 {
     let (sys, taker) = take_two(alloc, store, first, second, judge, room)?;
     judge.end(alloc, sys, taker)
@@ -138,12 +131,6 @@ fn take_second<'s, S: Store, J: JudgePieces<'s>>(
 pub trait JudgeTwo {
     ghost says: { Self → SystemView → Saying };
 
-    /// What there is to say of the command over the files of these names.
-    ghost spec: { Self → List ℕ → List ℕ → CommandSpec };
-
-    ghost laws: { (s : Self) (first second : List ℕ)
-        → IsOverTwo (spec s first second) first second (says s) };
-
     /// The answer to a system and bytes.
     fn judge(&self, alloc: Global, sys: &System, bytes: &[u8]) -> Result<Answer, Ending>
         requires system { IsSystem sys.now }
@@ -161,15 +148,15 @@ pub fn over_two<S: Store, J: JudgeTwo>(
     second: &str,
     judge: &J,
 ) -> Result<Answer, Ending>
-    ensures answer { let spec = J.spec judge.now first.now second.now in
+    ensures answer { let says = λ contents. OnTwoFiles contents (J.says judge.now) in
         IfAnswered (ending_of result) (λ a.
-        IsSaid spec (S.files store.old) a.status a.text.items) }
+        IsSaidOver (first.now ∷ second.now ∷ []) says (S.files store.old)
+        a.status a.text.items) }
     ensures explained { let counts = counts_of S.faults S.absences S.taken in
         Explains (ending_of result) (counts store.old) (counts store.new) }
     ensures same_files { S.files store.new ≡ S.files store.old }
-    ensures taken { let spec = J.spec judge.now first.now second.now in
-        SpecTakes spec (S.files store.old) (ending_of result)
-        (S.taken store.old) (S.taken store.new) }
+    ensures taken { NamesTake (first.now ∷ second.now ∷ []) (S.files store.old)
+        (ending_of result) (S.taken store.old) (S.taken store.new) }
 {
     over_pieces(alloc, store, first, second, &Whole { judge }, &mut None)
 }
@@ -187,11 +174,7 @@ impl<'s, 'j, J: JudgeTwo> JudgePieces<'s> for Whole<'j, J> {
 
     ghost says = { λ s. J.says s.judge.now };
 
-    ghost spec = { λ s. J.spec s.judge.now };
-
     ghost begins = { λ s sys bytes. bytes.items ≡ [] };
-
-    ghost laws = { λ s. J.laws s.judge.now };
 
     fn begin(&self, alloc: Global, _sys: &'s System) -> Result<Vec<u8>, Ending> {
         Ok(Vec::new(alloc))

@@ -3,7 +3,7 @@ use Rattle.std.proofs.Common.{◌≡◌, ℕ, List, [], ◌∷◌, refl}
 use Rattle.server_sched.specs.declared.supplies.Pattern.{Pattern}
 use Rattle.rt_report.specs.Version.{version_text}
 use Rattle.command_frame.specs.declared.status.Status.{Status}
-use Rattle.command_frame.specs.Answer.{Contents}
+use Rattle.command_frame.specs.Answer.{Contents, IfSystem}
 use Rattle.admit_commands.specs.Admit.{AdmitMeans}
 use Rattle.admit_commands.specs.Certify.{CertifyMeans}
 use Rattle.admit_commands.specs.Check.{CheckMeans}
@@ -43,13 +43,15 @@ abbrev Means : Command → Contents → Status → List ℕ → Type 0
 Means command contents status text = (spec_of command).Means contents status text
 
 commands_over_one_file : (file part text : List ℕ) (low high : ℕ) (contents : Contents) (status : Status) →
-    (Means (admit file) contents status text → AdmitMeans contents status text)
-    × (Means (certify file) contents status text → CertifyMeans contents status text)
-    × (Means (responses file) contents status text → RespondMeans contents status text)
-    × (Means (interface file part low) contents status text → InterfaceMeans part low contents status text)
-    × (Means (choose file part low high) contents status text → ChooseMeans part low high contents status text)
-    × (Means (slack file part) contents status text → SlackMeans part contents status text)
-    × (Means (isolate file) contents status text → IsolateMeans contents status text)
+    (Means (admit file) contents status text → IfSystem contents (λ sys. AdmitMeans sys status text))
+    × (Means (certify file) contents status text → IfSystem contents (λ sys. CertifyMeans sys status text))
+    × (Means (responses file) contents status text → IfSystem contents (λ sys. RespondMeans sys status text))
+    × (Means (interface file part low) contents status text
+    → IfSystem contents (λ sys. InterfaceMeans part low sys status text))
+    × (Means (choose file part low high) contents status text
+    → IfSystem contents (λ sys. ChooseMeans part low high sys status text))
+    × (Means (slack file part) contents status text → IfSystem contents (λ sys. SlackMeans part sys status text))
+    × (Means (isolate file) contents status text → IfSystem contents (λ sys. IsolateMeans sys status text))
 commands_over_one_file file part text low high contents status =
     (λ h. h, λ h. h, λ h. h, λ h. h, λ h. h, λ h. h, λ h. h)
 

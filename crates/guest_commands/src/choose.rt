@@ -1,5 +1,5 @@
-ghost use Rattle.std.specs.Prelude.{◌≡◌, ◌<◌, length, IfOk, refl};
-ghost use Rattle.guest_commands.specs.Choose.{choice_status, choice_text, IsChosen, ChoosesSystem, the_choose};
+ghost use Rattle.std.specs.Prelude.{◌≡◌, ◌<◌, length, IfOk};
+ghost use Rattle.guest_commands.specs.Choose.{choice_status, choice_text, IsChosen, Chooses};
 ghost use Rattle.command_frame.specs.Steps.{IsJudged};
 
 use crate::periods::Periods;
@@ -18,11 +18,7 @@ pub struct Choose<'a> {
 }
 
 impl JudgeOne for Choose<'_> {
-    ghost says = { λ s. ChoosesSystem s.part.now s.periods.low s.periods.high };
-
-    ghost spec = { λ s file. the_choose file s.part.now s.periods.low s.periods.high };
-
-    ghost laws = { λ s file. record { files = refl; answers = λ contents status text said. said } };
+    ghost says = { λ s. Chooses s.part.now s.periods.low s.periods.high };
 
     #[tactic(auto, using(command_frame::proofs::NamedLeaf::leaf_said, command_frame::proofs::NamedLeaf::leaf_refused))]
     fn judge(&self, alloc: Global, sys: &System) -> Result<Answer, Ending> {

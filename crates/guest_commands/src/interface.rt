@@ -1,5 +1,5 @@
-ghost use Rattle.std.specs.Prelude.{◌≡◌, ◌<◌, length, IfOk, refl};
-ghost use Rattle.guest_commands.specs.Interface.{least_status, least_text, AtDeadline, InterfacesSystem, the_interface};
+ghost use Rattle.std.specs.Prelude.{◌≡◌, ◌<◌, length, IfOk};
+ghost use Rattle.guest_commands.specs.Interface.{least_status, least_text, AtDeadline, Interfaces};
 ghost use Rattle.command_frame.specs.Steps.{IsJudged};
 
 use crate::periods::Period;
@@ -19,11 +19,7 @@ pub struct Interface<'a> {
 }
 
 impl JudgeOne for Interface<'_> {
-    ghost says = { λ s. InterfacesSystem s.part.now s.deadline.slots };
-
-    ghost spec = { λ s file. the_interface file s.part.now s.deadline.slots };
-
-    ghost laws = { λ s file. record { files = refl; answers = λ contents status text said. said } };
+    ghost says = { λ s. Interfaces s.part.now s.deadline.slots };
 
     #[tactic(auto, using(command_frame::proofs::NamedLeaf::leaf_said, command_frame::proofs::NamedLeaf::leaf_refused))]
     fn judge(&self, alloc: Global, sys: &System) -> Result<Answer, Ending> {

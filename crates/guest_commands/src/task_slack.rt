@@ -1,6 +1,6 @@
-ghost use Rattle.std.specs.Prelude.{◌≡◌, ◌<◌, length, true, refl};
+ghost use Rattle.std.specs.Prelude.{◌≡◌, ◌<◌, length, true};
 ghost use Rattle.tree_model.specs.System.{is_leaf_at};
-ghost use Rattle.guest_commands.specs.Slack.{SlackensLeaf, SlackensSystem, the_slack};
+ghost use Rattle.guest_commands.specs.Slack.{SlackensLeaf, Slackens};
 ghost use Rattle.command_frame.specs.Steps.{ending_of, IfAnswered, EndsJudged};
 
 use command_frame::{Answer, Ending, JudgeOne, Status, admitted, find_leaf, part_at};
@@ -17,11 +17,7 @@ pub struct Slack<'a> {
 }
 
 impl JudgeOne for Slack<'_> {
-    ghost says = { λ s. SlackensSystem s.part.now };
-
-    ghost spec = { λ s file. the_slack file s.part.now };
-
-    ghost laws = { λ s file. record { files = refl; answers = λ contents status text said. said } };
+    ghost says = { λ s. Slackens s.part.now };
 
     #[tactic(auto, using(command_frame::proofs::NamedLeaf::leaf_stopped, command_frame::proofs::NamedLeaf::leaf_refused))]
     fn judge(&self, alloc: Global, sys: &System) -> Result<Answer, Ending> {

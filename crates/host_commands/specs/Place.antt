@@ -26,10 +26,11 @@ use Rattle.rt_report.specs.Refusal.{refusal_text}
 use Rattle.command_frame.specs.declared.status.Status.{Status}
 use Rattle.command_frame.specs.declared.status.Status.TheVariants.{Yes, No, BadFile, NoMemory as NoRoom}
 use Rattle.command_frame.specs.CommandSpec.{CommandSpec, IsVerdict}
-use Rattle.command_frame.specs.Answer.{Contents}
+use Rattle.command_frame.specs.Answer.{Contents, Saying}
 use Rattle.command_frame.specs.Attempt.{Attempt, OnAttempt}
 use Rattle.command_frame.specs.Budgets.{refusal_status, IsTrulyOverfull}
-use Rattle.command_frame.specs.TwoFiles.{OnTwoFiles, SpellsSystem, AreReadable}
+use Rattle.command_frame.specs.OverFiles.{OnRead, over_pair}
+use Rattle.command_frame.specs.TwoFiles.{SpellsSystem}
 
 -- the bytes of the second file spell guests, or have a first fault
 abbrev pub guests_fault_text : GuestFault → List ℕ
@@ -84,15 +85,12 @@ pub record IsSystemText (placed : SystemView) (status : Status) (text : List ℕ
   pub told : IsDocumentText false (printed placed) text
   pub reads_back : system_of text ≡ Ok placed
 
--- the answer to a system and guests, to a system and bytes, and to two files
+-- the answer to a system and guests, and to a system and bytes
 abbrev pub PlacesGuests : SystemView → List PartView → Status → List ℕ → Type 0
 PlacesGuests sys guests = OnAttempt (placing sys guests) IsSystemText
 
-abbrev pub PlacesBytes : SystemView → List ℕ → Status → List ℕ → Type 0
-PlacesBytes sys bytes = OnAttempt (guesting bytes) (PlacesGuests sys)
-
-abbrev pub Places : Contents → Status → List ℕ → Type 0
-Places contents = OnTwoFiles contents PlacesBytes
+abbrev pub Places : SystemView → Saying
+Places = OnRead (λ sys. guesting) PlacesGuests
 
 -- yes means: the text is read as a system that has the given cores and parts and then the guests,
 -- each on the first core on which it fits; budgets admit it, no job is lost on any level in any
@@ -148,14 +146,6 @@ PlaceMeans contents status text = (sys : SystemView) (guests : List PartView)
     → SpellsSystem contents sys (λ bytes. SpellsGuests (records_of bytes) guests)
     → MeansOfPlaces sys guests status text
 
--- the files are there, short enough, and spell a system and guests
-pub record AreGuests (sys : SystemView) (bytes : List ℕ) : Type 0 where
-  pub guests : List PartView
-  pub spelled : SpellsGuests (records_of bytes) guests
-
-abbrev pub CanPlace : Contents → Type 0
-CanPlace contents = AreReadable contents AreGuests
-
 -- a guest of the files can be no leaf of the system that those before it make
 pub record SpellsBadGuest (contents : Contents) : Type 0 where
   pub sys : SystemView
@@ -170,11 +160,5 @@ EndsPlacing contents BadFile = SpellsBadGuest contents
 EndsPlacing contents status = IsVerdict status
 
 -- what there is to say of the command
-abbrev pub the_place : List ℕ → List ℕ → CommandSpec
-the_place file guests = record {
-  files = file ∷ guests ∷ [];
-  Answers = Places;
-  Means = PlaceMeans;
-  CanJudge = CanPlace;
-  EndsAs = EndsPlacing;
-}
+abbrev pub the_place : (file guests : List ℕ) → CommandSpec
+the_place = over_pair (λ sys. guesting) PlacesGuests PlaceMeans EndsPlacing

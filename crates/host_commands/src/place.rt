@@ -1,8 +1,8 @@
-ghost use Rattle.std.specs.Prelude.{◌<◌, ◌^◌, length, IfOk, IfErr, refl};
+ghost use Rattle.std.specs.Prelude.{◌<◌, ◌^◌, length, IfOk, IfErr};
 ghost use Rattle.csv_rows.specs.Reading.{records_of};
 ghost use Rattle.script_file.specs.Guests.{SpellsGuests};
 ghost use Rattle.command_frame.specs.Attempt.{IsRefused};
-ghost use Rattle.host_commands.specs.Place.{guesting, placing, IsPlacement, IsSystemText, PlacesBytes, the_place};
+ghost use Rattle.host_commands.specs.Place.{guesting, placing, IsPlacement, IsSystemText, Places};
 ghost use Rattle.command_frame.specs.Steps.{IfAnswered, IsJudged, EndsJudged};
 
 use crate::refusing::refuse_system;
@@ -20,14 +20,7 @@ use tree_model::{Part, Refusal, System};
 pub struct Placer;
 
 impl JudgeTwo for Placer {
-    ghost says = { λ _. PlacesBytes };
-
-    ghost spec = { λ _. the_place };
-
-    ghost laws = { λ s first second. record {
-      files = refl;
-      answers = λ contents status text said. said;
-    } };
+    ghost says = { λ _. Places };
 
     fn judge(&self, alloc: Global, sys: &System, bytes: &[u8]) -> Result<Answer, Ending> {
         let guests = spelled_guests(alloc, bytes)?;

@@ -1,9 +1,9 @@
-ghost use Rattle.std.specs.Prelude.{◌≡◌, IfOk, IfErr, refl};
+ghost use Rattle.std.specs.Prelude.{◌≡◌, IfOk, IfErr};
 ghost use Rattle.csv_rows.specs.Reading.{records_of};
 ghost use Rattle.admission_session.specs.Answers.{IsAdmitted};
 ghost use Rattle.script_file.specs.Script.{SpellsScript};
 ghost use Rattle.command_frame.specs.Attempt.{IsRefused};
-ghost use Rattle.host_commands.specs.Session.{scripting, EditsBytes, the_session};
+ghost use Rattle.host_commands.specs.Session.{scripting, Edits};
 ghost use Rattle.command_frame.specs.Steps.{ending_of, IfAnswered, EndsJudged};
 
 use crate::editing::edit_all;
@@ -21,14 +21,7 @@ use tree_model::{Refusal, System};
 pub struct Editor;
 
 impl JudgeTwo for Editor {
-    ghost says = { λ _. EditsBytes };
-
-    ghost spec = { λ _. the_session };
-
-    ghost laws = { λ s first second. record {
-      files = refl;
-      answers = λ contents status text said. said;
-    } };
+    ghost says = { λ _. Edits };
 
     // A fault of the script goes before a refusal of the system.
     fn judge(&self, alloc: Global, sys: &System, bytes: &[u8]) -> Result<Answer, Ending> {
@@ -49,7 +42,7 @@ fn edited(alloc: Global, sys: &System, opened: Session, bytes: &[u8]) -> Result<
     requires same { opened ≡ sys.now }
     requires admitted { IsAdmitted sys.now }
     ensures answer { IfAnswered (ending_of result)
-        (λ a. EditsBytes sys.now bytes.now a.status a.text.items) }
+        (λ a. Edits sys.now bytes.now a.status a.text.items) }
     ensures judged { EndsJudged (ending_of result) }
 {
     match edit_all(alloc, opened, bytes) {

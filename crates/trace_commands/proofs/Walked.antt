@@ -18,15 +18,16 @@ use Rattle.rt_report.specs.Tally.{tally_text}
 use Rattle.command_frame.specs.declared.status.Status.{Status}
 use Rattle.command_frame.specs.declared.answer.Ending.{Ending}
 use Rattle.command_frame.specs.declared.answer.Ending.TheVariants.{Answered, Unread, NoMemory as NoRoom}
-use Rattle.command_frame.specs.Attempt.{IsRefused}
+use Rattle.command_frame.specs.Attempt.{GivesSome, IsRefused}
+use Rattle.command_frame.specs.OverFiles.{OnRead}
 use Rattle.command_frame.specs.Steps.{IfAnswered, HasTaken}
 use Rattle.trace_commands.specs.declared.walk.TraceWalk.{TraceWalk}
 use Rattle.trace_commands.specs.declared.walk.Walker.{Walker}
 use Rattle.trace_commands.specs.declared.walk.Walker.TheVariants.{Audits, Checks}
 use Rattle.trace_commands.specs.declared.audit.TraceCommand.{TraceCommand}
 use Rattle.trace_commands.specs.declared.audit.TraceCommand.TheVariants.{Audit as ToAudit, Tally as ToTally}
-use Rattle.trace_commands.specs.Audit.{tracing, finding_status, AuditsBytes, IsAudited, OnTrace, IsTrace}
-use Rattle.trace_commands.specs.Tally.{IsToldTally, TalliesBytes}
+use Rattle.trace_commands.specs.Audit.{tracing, finding_status, Audits as AuditsTrace, IsAudited, OnEvents}
+use Rattle.trace_commands.specs.Tally.{IsToldTally, Tallies}
 use Rattle.trace_commands.specs.Told.{trace_says}
 use Rattle.trace_commands.specs.inner.Walk.{HasWalked, HasTakenTrace, IsAuditUnder, IsWaiting, IsUnaudited}
 
@@ -92,16 +93,16 @@ module _ (sys : SystemView) (bytes : List ℕ) where
   unspelled Unread refused = tt
   unspelled NoRoom refused = tt
 
-  pub waited : IsTrace sys bytes → (stop : Ending) → IsWaiting sys stop
+  pub waited : GivesSome (tracing sys bytes) → (stop : Ending) → IsWaiting sys stop
       → IfAnswered stop (λ a. IsUnaudited sys bytes a.status a.text.items)
   waited trace (Answered a) waiting =
-      inl (record { value = trace.events; gives = trace.spelled; said = waiting.refused })
+      inl (record { value = trace.value; gives = trace.gives; said = waiting.refused })
   waited trace Unread waiting = tt
   waited trace NoRoom waiting = tt
 
   unaudited : (Says : SystemView → List ℕ → List Event → Status → List ℕ → Type 0) (stop : Ending)
       → IfAnswered stop (λ a. IsUnaudited sys bytes a.status a.text.items)
-      → IfAnswered stop (λ a. OnTrace Says sys bytes a.status a.text.items)
+      → IfAnswered stop (λ a. OnRead tracing (OnEvents Says) sys bytes a.status a.text.items)
   unaudited Says (Answered a) h = elim h [
     | inl given ↦ inl (record { value = given.value; gives = given.gives; said = inr given.said })
     | inr refused ↦ inr refused
@@ -118,7 +119,7 @@ module _ (sys : SystemView) (bytes : List ℕ) where
   -- and what is found and counted is said of it
   pub found_said : (budgets : List ℕ) (audit : Audit) (finding : Finding) (status : Status) (text : List ℕ)
       → IsAuditUnder sys bytes budgets audit → IsFindingOf sys budgets bytes finding
-      → status ≡ finding_status finding → text ≡ audit_text sys budgets finding → AuditsBytes sys bytes status text
+      → status ≡ finding_status finding → text ≡ audit_text sys budgets finding → AuditsTrace sys bytes status text
   found_said budgets audit finding status text under is status_is told =
       inl (record {
         value = is.events;
@@ -133,7 +134,7 @@ module _ (sys : SystemView) (bytes : List ℕ) where
   pub tallied_said : (budgets : List ℕ) (audit : Audit) (finding : Finding) (tallies : List Tally) (status : Status)
       (text : List ℕ) → IsAuditUnder sys bytes budgets audit → IsTalliedOf sys budgets bytes finding tallies
       → status ≡ finding_status finding → text ≡ tally_text sys budgets finding tallies
-      → TalliesBytes sys bytes status text
+      → Tallies sys bytes status text
   tallied_said budgets audit finding tallies status text under is status_is told =
       inl (record {
         value = is.events;

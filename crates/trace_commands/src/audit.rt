@@ -1,7 +1,7 @@
 ghost use Rattle.std.specs.Prelude.{◌≡◌, List, ℕ};
 ghost use Rattle.command_frame.specs.Steps.{ending_of, IfAnswered, EndsJudged};
 ghost use Rattle.trace_commands.specs.Audit.{finding_status};
-ghost use Rattle.trace_commands.specs.Told.{trace_laws, trace_says, trace_spec};
+ghost use Rattle.trace_commands.specs.Told.{trace_says};
 ghost use Rattle.trace_commands.specs.inner.Walk.{IsAuditUnder};
 
 use crate::walk::{TraceWalk, finished};
@@ -25,10 +25,6 @@ impl<'s> JudgePieces<'s> for TraceCommand {
     type Taker = TraceWalk<'s>;
 
     ghost says = { trace_says };
-
-    ghost spec = { trace_spec };
-
-    ghost laws = { trace_laws };
 
     ghost begins = { λ _ sys walk. walk.sys.now ≡ sys };
 

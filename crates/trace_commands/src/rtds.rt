@@ -1,4 +1,4 @@
-ghost use Rattle.std.specs.Prelude.{◌≡◌, ◌<◌, List, ℕ, IfOk, IfErr, length, refl};
+ghost use Rattle.std.specs.Prelude.{◌≡◌, ◌<◌, List, ℕ, IfOk, IfErr, length};
 ghost use Rattle.csv_rows.specs.Reading.{records_of};
 ghost use Rattle.tree_model.specs.Plans.{IsPlan};
 ghost use Rattle.release_file.specs.Workload.{IsWorkload};
@@ -7,7 +7,7 @@ ghost use Rattle.rt_report.specs.Fault.{not_rtds_text};
 ghost use Rattle.command_frame.specs.Attempt.{IsRefused};
 ghost use Rattle.rtds_sim.specs.Fault.{AllRtds};
 ghost use Rattle.rtds_sim.specs.RunText.{IsRunText};
-ghost use Rattle.trace_commands.specs.Rtds.{waking, running, RunsBytes, the_rtds};
+ghost use Rattle.trace_commands.specs.Rtds.{waking, running, Runs};
 ghost use Rattle.command_frame.specs.Steps.{IfAnswered, EndsJudged};
 
 use crate::slots::Slots;
@@ -26,14 +26,7 @@ pub struct Rtds {
 }
 
 impl JudgeTwo for Rtds {
-    ghost says = { λ s. RunsBytes s.slots.count };
-
-    ghost spec = { λ s first second. the_rtds first second s.slots.count };
-
-    ghost laws = { λ s first second. record {
-      files = refl;
-      answers = λ contents status text said. said;
-    } };
+    ghost says = { λ s. Runs s.slots.count };
 
     fn judge(&self, alloc: Global, sys: &System, bytes: &[u8]) -> Result<Answer, Ending> {
         let wakes = spelled_workload(alloc, sys, bytes)?;

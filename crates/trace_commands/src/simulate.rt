@@ -1,4 +1,4 @@
-ghost use Rattle.std.specs.Prelude.{◌≡◌, ◌⊎◌, List, ℕ, ◌^◌, ◌<◌, ◌≤◌, length, map, IfOk, IfErr, refl};
+ghost use Rattle.std.specs.Prelude.{◌≡◌, ◌⊎◌, List, ℕ, ◌^◌, ◌<◌, ◌≤◌, length, map, IfOk, IfErr};
 ghost use Rattle.csv_rows.specs.Reading.{records_of};
 ghost use Rattle.tree_model.specs.Plans.{IsPlan};
 ghost use Rattle.tree_model.specs.System.{IsSystem};
@@ -6,7 +6,7 @@ ghost use Rattle.tree_model.specs.Releases.{AreReleases, jobs_at};
 ghost use Rattle.release_file.specs.ReleaseFile.{SpellsReleases};
 ghost use Rattle.command_frame.specs.Answer.{file_limit};
 ghost use Rattle.command_frame.specs.Attempt.{IsRefused};
-ghost use Rattle.trace_commands.specs.Simulate.{releasing, kept_status, IsSimulated, SimulatesBytes, the_simulate};
+ghost use Rattle.trace_commands.specs.Simulate.{releasing, kept_status, IsSimulated, Simulates};
 ghost use Rattle.command_frame.specs.Steps.{IfAnswered, EndsJudged};
 
 use crate::slots::Slots;
@@ -27,14 +27,7 @@ pub struct Simulate {
 }
 
 impl JudgeTwo for Simulate {
-    ghost says = { λ s. SimulatesBytes s.pattern s.slots.count };
-
-    ghost spec = { λ s first second. the_simulate first second s.pattern s.slots.count };
-
-    ghost laws = { λ s first second. record {
-      files = refl;
-      answers = λ contents status text said. said;
-    } };
+    ghost says = { λ s. Simulates s.pattern s.slots.count };
 
     fn judge(&self, alloc: Global, sys: &System, bytes: &[u8]) -> Result<Answer, Ending> {
         let jobs = spelled_releases(alloc, sys, bytes)?;

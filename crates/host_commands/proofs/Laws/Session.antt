@@ -27,8 +27,9 @@ use Rattle.command_frame.specs.declared.status.Status.TheVariants.{Yes, No, Wide
 use Rattle.command_frame.specs.Answer.{Contents, IsOne}
 use Rattle.command_frame.specs.Budgets.{composing}
 use Rattle.command_frame.specs.CommandSpec.{IsVerdict}
-use Rattle.host_commands.specs.Session.{the_session, scripting, IsSession, EditsSystem, Edits, MeansOfEdits, SessionMeans, IsScript, DenialsHold, MakesNoSystem, RefusedMakeNone}
+use Rattle.host_commands.specs.Session.{the_session, scripting, IsSession, EditsSystem, Edits, MeansOfEdits, SessionMeans, DenialsHold, MakesNoSystem, RefusedMakeNone}
 use Rattle.command_frame.specs.Steps.{IsJudged}
+use Rattle.command_frame.specs.TwoFiles.{OnTwoFiles}
 use Rattle.command_frame.proofs.Attempt.{IsDecided, one_attempt, statuses_attempt}
 use Rattle.command_frame.proofs.Budgets.{composing_decided, refused_status, refused_means}
 use Rattle.command_frame.proofs.CommandLaws.{CommandLaws}
@@ -154,7 +155,7 @@ edits_read = record {
   judged = λ sys edits. edits_status IsJudged tt tt tt sys edits;
 }
 
-session_means : (contents : Contents) (status : Status) (text : List ℕ) → Edits contents status text
+session_means : (contents : Contents) (status : Status) (text : List ℕ) → OnTwoFiles contents Edits status text
     → SessionMeans contents status text
 session_means contents status text h = λ sys edits spelled.
     edits_means sys (is_spelled_system contents sys _ spelled) edits status text
@@ -162,10 +163,8 @@ session_means contents status text h = λ sys edits spelled.
 
 pub session_laws : (file script : List ℕ) → CommandLaws (the_session file script)
 session_laws file script =
-    read_laws file script (λ sys. scripting) EditsSystem SessionMeans IsScript (λ contents. IsVerdict) edits_read
-    (record {
+    read_laws file script (λ sys. scripting) EditsSystem SessionMeans (λ contents. IsVerdict) edits_read (record {
       means = session_means;
-      good = λ sys bytes script. (script.edits, script.spelled);
       verdict = λ contents sys spelled edits. edits_status IsVerdict tt tt tt sys edits;
       no_memory = λ contents. tt;
     })

@@ -1,7 +1,7 @@
 use Rattle.slot_model.proofs.HandedOn.{err_is}
 use Rattle.command_frame.specs.Steps.{ending_of}
 use Rattle.command_frame.proofs.OneFile.{is_system, stop_said, system_said}
-use Rattle.command_frame.proofs.Taking.{end_takes, one_takes}
+use Rattle.command_frame.proofs.Taking.{end_takes}
 use Rattle.command_frame.proofs.one_file.over_one.Goals as goal
 
 pub judge-requires : goal.judge-requires
@@ -10,29 +10,20 @@ judge-requires g c =
 
 pub returns-in_err-sys-clause-answer : goal.returns-in_err-sys-clause-answer
 returns-in_err-sys-clause-answer g c =
-    let spec = g.J.JudgeOne.spec c.args.judge.now c.args.file.now in
     rw (err_is c.from_residual.result _ c.from_residual.ensures.1)
-    (stop_said spec c.args.file.now (g.J.JudgeOne.says c.args.judge.now)
-    (g.met.J.JudgeOne.laws c.args.judge.now c.args.file.now) (g.S.Store.files c.args.store.now)
+    (stop_said c.args.file.now (g.J.JudgeOne.says c.args.judge.now) (g.S.Store.files c.args.store.now)
     c.in_err-sys.field-0.0 c.in_err-sys.ensures.refused)
 
 pub returns-clause-answer : goal.returns-clause-answer
 returns-clause-answer g c =
-    let spec = g.J.JudgeOne.spec c.args.judge.now c.args.file.now in
-    system_said spec c.args.file.now (g.J.JudgeOne.says c.args.judge.now)
-    (g.met.J.JudgeOne.laws c.args.judge.now c.args.file.now) (g.S.Store.files c.args.store.now) c.in_ok-sys.sys
-    c.in_ok-sys.ensures.spelled (ending_of c.judge.result) c.judge.ensures.answer
+    system_said c.args.file.now (g.J.JudgeOne.says c.args.judge.now) (g.S.Store.files c.args.store.now)
+    c.in_ok-sys.sys c.in_ok-sys.ensures.spelled (ending_of c.judge.result) c.judge.ensures.answer
 
 pub returns-in_err-sys-clause-taken : goal.returns-in_err-sys-clause-taken
 returns-in_err-sys-clause-taken g c =
-    let over = g.met.J.JudgeOne.laws c.args.judge.now c.args.file.now in
     rw (err_is c.from_residual.result _ c.from_residual.ensures.1)
-    (λ all told. one_takes (g.J.JudgeOne.spec c.args.judge.now c.args.file.now) c.args.file.now all
-    c.in_err-sys.field-0.0 _ _ over.files (c.in_err-sys.ensures.taken all told))
+    (λ all told. c.in_err-sys.ensures.taken all told)
 
 pub returns-clause-taken : goal.returns-clause-taken
 returns-clause-taken g c =
-    let over = g.met.J.JudgeOne.laws c.args.judge.now c.args.file.now in
-    let end = ending_of c.judge.result in
-    λ all told. one_takes (g.J.JudgeOne.spec c.args.judge.now c.args.file.now) c.args.file.now all end _ _ over.files
-    (end_takes end _ _ _ (c.in_ok-sys.ensures.taken all told))
+    λ all told. end_takes (ending_of c.judge.result) _ _ _ (c.in_ok-sys.ensures.taken all told)

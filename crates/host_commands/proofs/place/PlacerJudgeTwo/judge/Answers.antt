@@ -6,14 +6,14 @@ use Rattle.script_file.specs.Guests.{SpellsGuests}
 use Rattle.command_frame.specs.declared.answer.Ending.{Ending}
 use Rattle.command_frame.specs.declared.answer.Ending.TheVariants.{Answered, Unread, NoMemory}
 use Rattle.command_frame.specs.Attempt.{IsRefused}
-use Rattle.host_commands.specs.Place.{placing, PlacesBytes}
+use Rattle.host_commands.specs.Place.{placing, Places}
 use Rattle.command_frame.specs.Steps.{IfAnswered}
 use Rattle.host_commands.proofs.place.PlacerJudgeTwo.judge.Goals as goal
 
 -- guests that are spelled and not placed
 spelled_unplaced : (sys : SystemView) (bytes : List ℕ) (guests : List PartView) → SpellsGuests (records_of bytes) guests
     → (stop : Ending) → IfAnswered stop (λ a. IsRefused (placing sys guests) a.status a.text.items)
-    → IfAnswered stop (λ a. PlacesBytes sys bytes a.status a.text.items)
+    → IfAnswered stop (λ a. Places sys bytes a.status a.text.items)
 spelled_unplaced sys bytes guests spelled (Answered a) refused =
     inl (record { value = guests; gives = spelled; said = inr refused })
 spelled_unplaced sys bytes guests spelled Unread refused = tt

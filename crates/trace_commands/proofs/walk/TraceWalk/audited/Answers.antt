@@ -23,5 +23,5 @@ returns-in_ok-finished-in-Checks-clause-refused c sys bytes h =
     let taken = checking sys bytes _ _ _ c.in-Checks.is h in
     let kept = IfOk-at_ok _ c.in_ok-finished-in-Checks.ensures.value (c.finish.ensures.kept sys bytes
     (subst (HasChecked sys bytes) (sym c.in-Checks.check-is) taken.0)) in
-    waited sys bytes (record { events = kept.0; spelled = kept.1 }) _
+    waited sys bytes (record { value = kept.0; gives = kept.1 }) _
     (subst (IsWaiting sys) (sym c.in-Checks.refused-is) taken.1)
