@@ -9,24 +9,20 @@ use Rattle.cert_verify.specs.Proves.{Proves}
 use Rattle.cert_verify.specs.Flaws.{FirstFlaw}
 use Rattle.rt_report.specs.declared.fault.FileFault.TheVariants.{Cert}
 use Rattle.rt_report.specs.Check.{check_text}
-use Rattle.rt_report.specs.Fault.{fault_text}
 use Rattle.command_frame.specs.declared.status.Status.{Status}
-use Rattle.command_frame.specs.declared.status.Status.TheVariants.{Yes, No, BadFile}
+use Rattle.command_frame.specs.declared.status.Status.TheVariants.{Yes, No}
 use Rattle.command_frame.specs.CommandSpec.{CommandSpec, IsYesOrNo}
 use Rattle.command_frame.specs.Answer.{Contents, Saying}
 use Rattle.command_frame.specs.Attempt.{Attempt}
 use Rattle.command_frame.specs.OverFiles.{OnRead, over_pair}
+use Rattle.command_frame.specs.SecondFile.{reading_as}
 use Rattle.command_frame.specs.TwoFiles.{SpellsSystem}
 use Rattle.admit_commands.specs.Certify.{IsProof}
 
 -- the bytes of the second file spell a certificate, or have a first fault
 abbrev pub spelling : List ℕ → Attempt (List NodeView) CertFault
-spelling bytes = record {
-  Gives = λ nodes. certificate_of bytes ≡ Ok nodes;
-  Refuses = λ fault. certificate_of bytes ≡ Err fault;
-  status_of = λ fault. BadFile;
-  text_of = λ fault. fault_text (Cert fault) 2;
-}
+spelling bytes = reading_as Cert
+    (λ nodes. certificate_of bytes ≡ Ok nodes) (λ fault. certificate_of bytes ≡ Err fault)
 
 -- no: the text tells the first flaw
 pub record IsFlawed (sys : SystemView) (nodes : List NodeView) (text : List ℕ) : Type 0 where

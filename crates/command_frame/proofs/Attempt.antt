@@ -3,7 +3,10 @@
 use Rattle.std.proofs.Common.{◌≡◌, List, ℕ, sym, ◌∙◌, ap, subst, inl, inr}
 use Rattle.command_frame.specs.declared.status.Status.{Status}
 use Rattle.command_frame.specs.Answer.{IsOne}
-use Rattle.command_frame.specs.Attempt.{Attempt, OnAttempt}
+use Rattle.command_frame.specs.Attempt.{Attempt, IsRefused, OnAttempt}
+use Rattle.command_frame.specs.declared.answer.Ending.{Ending}
+use Rattle.command_frame.specs.declared.answer.Ending.TheVariants.{Answered, Unread, NoMemory as NoRoom}
+use Rattle.command_frame.specs.Steps.{IfAnswered}
 
 -- it gives one value at most, or is refused in one way
 pub record IsDecided {Value Refusal : Type 0} (attempt : Attempt Value Refusal) : Type 0 where
@@ -58,3 +61,18 @@ said_of_given {Value} attempt Says status text decided x gives h = elim h [
   | inl a ↦ subst (λ (v : Value). Says v status text) (decided.one_value a.value x a.gives gives) a.said
   | inr a ↦ absurd (decided.never_both x a.refusal gives a.refuses)
 ]
+
+-- what was said of the value that it gave, and that it was refused, is what is said at the step
+module _ {Value Refusal : Type 0} (attempt : Attempt Value Refusal) (Says : Value → Status → List ℕ → Type 0) where
+  pub given_stops : (value : Value) → attempt.Gives value → (stop : Ending)
+      → IfAnswered stop (λ a. Says value a.status a.text.items)
+      → IfAnswered stop (λ a. OnAttempt attempt Says a.status a.text.items)
+  given_stops value gives (Answered a) said = inl (record { value = value; gives = gives; said = said })
+  given_stops value gives Unread said = tt
+  given_stops value gives NoRoom said = tt
+
+  pub refusal_stops : (stop : Ending) → IfAnswered stop (λ a. IsRefused attempt a.status a.text.items)
+      → IfAnswered stop (λ a. OnAttempt attempt Says a.status a.text.items)
+  refusal_stops (Answered a) refused = inr refused
+  refusal_stops Unread refused = tt
+  refusal_stops NoRoom refused = tt

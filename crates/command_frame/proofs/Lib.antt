@@ -6,6 +6,7 @@ pub mod OneFile
 pub mod TwoFiles
 pub mod NamedLeaf
 pub mod ReadSecond
+pub mod SecondFile
 pub mod Statuses
 mod Steps
 pub mod Taking

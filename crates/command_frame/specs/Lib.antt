@@ -3,6 +3,7 @@ pub mod Attempt
 pub mod Budgets
 pub mod TwoFiles
 pub mod OverFiles
+pub mod SecondFile
 pub mod NamedLeaf
 pub mod CommandSpec
 pub mod Reading

@@ -6,6 +6,7 @@ mod file;
 mod leaf;
 mod one_file;
 mod refusing;
+mod second_file;
 mod status;
 mod two_files;
 
@@ -14,5 +15,6 @@ pub use file::{bad_file, second_fault};
 pub use leaf::{find_leaf, part_at};
 pub use one_file::{JudgeOne, over_one};
 pub use refusing::{admitted, admitted_edges, assigned, refuse};
+pub use second_file::{SecondFault, spelled};
 pub use status::Status;
 pub use two_files::{JudgePieces, JudgeTwo, over_pieces, over_two};

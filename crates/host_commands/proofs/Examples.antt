@@ -47,10 +47,11 @@ use Rattle.command_frame.specs.CommandSpec.{IsVerdict}
 use Rattle.command_frame.specs.TwoFiles.{SpellsSystem}
 use Rattle.command_frame.specs.declared.status.Status.{Status}
 use Rattle.command_frame.specs.declared.status.Status.TheVariants.{Yes, No, Usage, BadFile, Wide, Absent, TooLong, ReadFault, WriteFault}
+use Rattle.command_frame.specs.SecondFile.{guest_fault}
 use Rattle.command_frame.proofs.Attempt.{refused_first}
 use Rattle.command_frame.proofs.Budgets.{composing_decided}
 use Rattle.host_commands.specs.Session.{Edits, EditsSystem, IsSession, MeansOfEdits, scripting, the_session}
-use Rattle.host_commands.specs.Place.{IsSystemText, MeansOfPlaces, Places, PlacesGuests, TellsUnplaced, guesting, guests_fault_text, place_fault_text, place_status, placing, the_place}
+use Rattle.host_commands.specs.Place.{IsSystemText, MeansOfPlaces, Places, PlacesGuests, TellsUnplaced, guesting, place_fault_text, place_status, placing, the_place}
 use Rattle.host_commands.specs.Bulk.{HostKeepsDeadlines}
 use Rattle.host_commands.proofs.Laws.Session.{scripting_decided}
 use Rattle.host_commands.proofs.Laws.Place.{guesting_decided, placing_decided}
@@ -136,14 +137,14 @@ a_script_with_a_fault sys bytes fault status text wrong said =
 
 guests_with_a_fault : (sys : SystemView) (bytes : List ℕ) (fault : GuestFault) (status : Status) (text : List ℕ)
     → IsGuestFault (records_of bytes) fault → Places sys bytes status text
-    → (status ≡ BadFile) × (text ≡ guests_fault_text fault)
+    → (status ≡ BadFile) × (text ≡ fault_text (guest_fault fault) 2)
 guests_with_a_fault sys bytes fault status text wrong said =
     refused_first (guesting bytes) (PlacesGuests sys) (guesting_decided bytes) fault wrong status text said
 
 faults_of_guests :
-    (guests_fault_text (NoScript BadHeader) ≡ codes "fault=BadHeader row=1 file=2\n")
-    × (guests_fault_text (NoScript (BadRow 3)) ≡ codes "fault=BadRow row=3 file=2\n")
-    × (guests_fault_text (Other 4) ≡ codes "fault=BadGuest row=4 file=2\n")
+    (fault_text (guest_fault (NoScript BadHeader)) 2 ≡ codes "fault=BadHeader row=1 file=2\n")
+    × (fault_text (guest_fault (NoScript (BadRow 3))) 2 ≡ codes "fault=BadRow row=3 file=2\n")
+    × (fault_text (guest_fault (Other 4)) 2 ≡ codes "fault=BadGuest row=4 file=2\n")
 unfolding digits
 faults_of_guests = (refl, refl, refl)
 

@@ -15,11 +15,10 @@ use Rattle.placement.specs.declared.fault.PlaceFault.TheVariants.{Refused, BadGu
 use Rattle.placement.specs.Placement.{IsPlaced}
 use Rattle.placement.specs.Answers.{AreRefused, IsBadGuest, IsNoLeaf, IsNoneWith, PlaceFails, StopsAt, guest_at}
 use Rattle.script_file.specs.declared.guests.GuestFault.{GuestFault}
-use Rattle.script_file.specs.declared.guests.GuestFault.TheVariants.{Script as NoScript, Other}
 use Rattle.script_file.specs.Guests.{SpellsGuests, IsGuestFault}
 use Rattle.system_file.specs.Printed.{printed}
 use Rattle.system_file.specs.SystemFile.{system_of}
-use Rattle.rt_report.specs.declared.fault.FileFault.TheVariants.{Script, BadGuest as BadRow}
+use Rattle.rt_report.specs.declared.fault.FileFault.TheVariants.{BadGuest as BadRow}
 use Rattle.rt_report.specs.Fault.{fault_text}
 use Rattle.rt_report.specs.Place.{unplaced_text}
 use Rattle.rt_report.specs.Refusal.{refusal_text}
@@ -30,20 +29,13 @@ use Rattle.command_frame.specs.Answer.{Contents, Saying}
 use Rattle.command_frame.specs.Attempt.{Attempt, OnAttempt}
 use Rattle.command_frame.specs.Budgets.{refusal_status, IsTrulyOverfull}
 use Rattle.command_frame.specs.OverFiles.{OnRead, over_pair}
+use Rattle.command_frame.specs.SecondFile.{guest_fault, reading_as}
 use Rattle.command_frame.specs.TwoFiles.{SpellsSystem}
 
 -- the bytes of the second file spell guests, or have a first fault
-abbrev pub guests_fault_text : GuestFault → List ℕ
-guests_fault_text (NoScript fault) = fault_text (Script fault) 2
-guests_fault_text (Other row) = fault_text (BadRow row) 2
-
 abbrev pub guesting : List ℕ → Attempt (List PartView) GuestFault
-guesting bytes = record {
-  Gives = SpellsGuests (records_of bytes);
-  Refuses = IsGuestFault (records_of bytes);
-  status_of = λ fault. BadFile;
-  text_of = guests_fault_text;
-}
+guesting bytes =
+    reading_as guest_fault (SpellsGuests (records_of bytes)) (IsGuestFault (records_of bytes))
 
 -- the guests are placed on the cores of an admitted system, or there is a first fault
 pub record IsPlacement (sys : SystemView) (guests : List PartView) (placed : SystemView)

@@ -15,25 +15,21 @@ use Rattle.admission_session.specs.History.{AreAnswered}
 use Rattle.script_file.specs.declared.fault.ScriptFault.{ScriptFault}
 use Rattle.script_file.specs.Script.{SpellsScript, IsScriptFault, script_rows}
 use Rattle.rt_report.specs.declared.fault.FileFault.TheVariants.{Script}
-use Rattle.rt_report.specs.Fault.{fault_text}
 use Rattle.rt_report.specs.Session.{session_text}
 use Rattle.command_frame.specs.declared.status.Status.{Status}
-use Rattle.command_frame.specs.declared.status.Status.TheVariants.{Yes, No, BadFile}
+use Rattle.command_frame.specs.declared.status.Status.TheVariants.{Yes, No}
 use Rattle.command_frame.specs.CommandSpec.{CommandSpec, IsVerdict}
 use Rattle.command_frame.specs.Answer.{Contents, Saying}
 use Rattle.command_frame.specs.Attempt.{Attempt}
 use Rattle.command_frame.specs.Budgets.{OnAdmitted, IsTrulyOverfull}
 use Rattle.command_frame.specs.OverFiles.{OnRead, over_pair}
+use Rattle.command_frame.specs.SecondFile.{reading_as}
 use Rattle.command_frame.specs.TwoFiles.{SpellsSystem}
 
 -- the bytes of the second file spell edits, or have a first fault
 abbrev pub scripting : List ℕ → Attempt (List Edit) ScriptFault
-scripting bytes = record {
-  Gives = SpellsScript (records_of bytes);
-  Refuses = IsScriptFault (script_rows (records_of bytes));
-  status_of = λ fault. BadFile;
-  text_of = λ fault. fault_text (Script fault) 2;
-}
+scripting bytes = reading_as Script (SpellsScript (records_of bytes))
+    (IsScriptFault (script_rows (records_of bytes)))
 
 -- the text tells the answer to each edit, and the plan of the system that they leave
 pub record IsSession (sys : SystemView) (edits : List Edit) (status : Status) (text : List ℕ)

@@ -12,24 +12,20 @@ use Rattle.auditor.specs.declared.finding.Finding.TheVariants.{Yes as Kept, Shor
 use Rattle.auditor.specs.Finding.{IsFinding}
 use Rattle.rt_report.specs.declared.fault.FileFault.TheVariants.{Trace}
 use Rattle.rt_report.specs.Audit.{audit_text}
-use Rattle.rt_report.specs.Fault.{fault_text}
 use Rattle.command_frame.specs.declared.status.Status.{Status}
-use Rattle.command_frame.specs.declared.status.Status.TheVariants.{Yes, No, BadFile}
+use Rattle.command_frame.specs.declared.status.Status.TheVariants.{Yes, No}
 use Rattle.command_frame.specs.CommandSpec.{CommandSpec, IsVerdict}
 use Rattle.command_frame.specs.Answer.{Contents, IfNo, IfSystem, Saying}
 use Rattle.command_frame.specs.Attempt.{Attempt}
 use Rattle.command_frame.specs.Budgets.{OnAssigned, AssignedOrNone}
 use Rattle.command_frame.specs.OverFiles.{OnRead, over_pair}
+use Rattle.command_frame.specs.SecondFile.{reading_as}
 use Rattle.command_frame.specs.TwoFiles.{SpellsSystem}
 
 -- the bytes of the second file spell events, or have a first fault
 abbrev pub tracing : SystemView → List ℕ → Attempt (List Event) TraceFault
-tracing sys bytes = record {
-  Gives = Spells sys (records_of bytes);
-  Refuses = IsFileFault sys (rows_of (records_of bytes));
-  status_of = λ fault. BadFile;
-  text_of = λ fault. fault_text (Trace fault) 2;
-}
+tracing sys bytes =
+    reading_as Trace (Spells sys (records_of bytes)) (IsFileFault sys (rows_of (records_of bytes)))
 
 -- yes where nothing is found
 abbrev pub finding_status : Finding → Status

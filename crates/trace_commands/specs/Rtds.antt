@@ -19,7 +19,7 @@ use Rattle.rtds_sim.specs.Printed.{IsRtdsTrace}
 use Rattle.rtds_sim.specs.Fault.{AllRtds, IsFirstOther}
 use Rattle.rtds_sim.specs.Giving.{AlwaysRunnable, ServersFit, AlwaysServed, GivesBudgets, NeverOver, NoneOver}
 use Rattle.rt_report.specs.declared.fault.FileFault.TheVariants.{Release}
-use Rattle.rt_report.specs.Fault.{fault_text, not_rtds_text}
+use Rattle.rt_report.specs.Fault.{not_rtds_text}
 use Rattle.command_frame.specs.declared.status.Status.{Status}
 use Rattle.command_frame.specs.declared.status.Status.TheVariants.{Yes, BadFile}
 use Rattle.command_frame.specs.CommandSpec.{CommandSpec, IsVerdict}
@@ -27,16 +27,13 @@ use Rattle.command_frame.specs.Answer.{Contents, Saying, IfNo, IfSystem, IsReada
 use Rattle.command_frame.specs.Attempt.{Attempt, OnAttempt}
 use Rattle.command_frame.specs.Budgets.{OnAssigned, IsTrulyUnassigned}
 use Rattle.command_frame.specs.OverFiles.{OnRead, over_pair}
+use Rattle.command_frame.specs.SecondFile.{reading_as}
 use Rattle.command_frame.specs.TwoFiles.{SpellsSystem}
 
 -- the bytes of the second file spell a workload, or have a first fault
 abbrev pub waking : SystemView → List ℕ → Attempt (List Wake) ReleaseFault
-waking sys bytes = record {
-  Gives = SpellsWorkload sys (records_of bytes);
-  Refuses = IsWorkloadFault sys (wake_rows (records_of bytes));
-  status_of = λ fault. BadFile;
-  text_of = λ fault. fault_text (Release fault) 2;
-}
+waking sys bytes = reading_as Release (SpellsWorkload sys (records_of bytes))
+    (IsWorkloadFault sys (wake_rows (records_of bytes)))
 
 -- over cores that are all full and under earliest deadline first, the events of the run of the
 -- workload; else the first core that is not refuses

@@ -11,25 +11,21 @@ use Rattle.server_sched.specs.declared.supplies.Pattern.{Pattern}
 use Rattle.server_sched.specs.Patterns.{pattern_supplies}
 use Rattle.tree_spans.specs.TreeCounts.{CountsView, no_node_misses, AreTreeCounts, NoneMisses}
 use Rattle.rt_report.specs.declared.fault.FileFault.TheVariants.{Release}
-use Rattle.rt_report.specs.Fault.{fault_text}
 use Rattle.rt_report.specs.Simulate.{simulate_text}
 use Rattle.command_frame.specs.declared.status.Status.{Status}
-use Rattle.command_frame.specs.declared.status.Status.TheVariants.{Yes, No, BadFile}
+use Rattle.command_frame.specs.declared.status.Status.TheVariants.{Yes, No}
 use Rattle.command_frame.specs.CommandSpec.{CommandSpec, IsVerdict}
 use Rattle.command_frame.specs.Answer.{Contents, Saying, IfNo, IfSystem}
 use Rattle.command_frame.specs.Attempt.{Attempt}
 use Rattle.command_frame.specs.Budgets.{OnAssigned, AssignedOrNone}
 use Rattle.command_frame.specs.OverFiles.{OnRead, over_pair}
+use Rattle.command_frame.specs.SecondFile.{reading_as}
 use Rattle.command_frame.specs.TwoFiles.{SpellsSystem}
 
 -- the bytes of the second file spell the jobs of each part, or have a first fault
 abbrev pub releasing : SystemView → List ℕ → Attempt (List (List Job)) ReleaseFault
-releasing sys bytes = record {
-  Gives = SpellsReleases sys (records_of bytes);
-  Refuses = IsReleasesFault sys (release_rows (records_of bytes));
-  status_of = λ fault. BadFile;
-  text_of = λ fault. fault_text (Release fault) 2;
-}
+releasing sys bytes = reading_as Release (SpellsReleases sys (records_of bytes))
+    (IsReleasesFault sys (release_rows (records_of bytes)))
 
 -- the runs of the cores and the parts are the first run of the tree over n slots of the pattern
 abbrev pub RunsFirst : SystemView → Pattern → ℕ → List (List Job) → List ℕ →
