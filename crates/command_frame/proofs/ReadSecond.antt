@@ -97,7 +97,7 @@ read_verdict : {Value Fault : Type 0} (reading : SystemView → List ℕ → Att
     → MeansRead reading Says Means EndsAs → (contents : Contents) (status : Status) (text : List ℕ)
     → AreReadable contents (λ sys bytes. GivesSome (reading sys bytes))
     → OnTwoFiles contents (OnRead reading Says) status text → EndsAs contents status
-read_verdict reading Says Means IsGood EndsAs judges means contents status text can h =
+read_verdict reading Says Means EndsAs judges means contents status text can h =
     let bytes = can.spelled.second.bytes in
     let read = can.spelled.second.good in
     means.verdict contents can.sys can.spelled.first read.value status text

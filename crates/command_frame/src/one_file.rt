@@ -31,9 +31,9 @@ pub fn over_one<S: Store, J: JudgeOne>(
     file: &str,
     judge: &J,
 ) -> Result<Answer, Ending>
-    ensures answer { let says = λ contents. OnOneFile contents (J.says judge.now) in
-        IfAnswered (ending_of result) (λ a.
-        IsSaidOver (file.now ∷ []) says (S.files store.old) a.status a.text.items) }
+    ensures answer { IfAnswered (ending_of result) (λ a.
+        IsSaidOver (file.now ∷ []) (λ contents. OnOneFile contents (J.says judge.now))
+        (S.files store.old) a.status a.text.items) }
     ensures explained { let counts = counts_of S.faults S.absences S.taken in
         Explains (ending_of result) (counts store.old) (counts store.new) }
     ensures same_files { S.files store.new ≡ S.files store.old }

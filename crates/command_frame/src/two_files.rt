@@ -57,10 +57,10 @@ pub fn over_pieces<'s, S: Store, J: JudgePieces<'s>>(
     judge: &J,
     room: &'s mut Option<System>,
 ) -> Result<Answer, Ending>
-    ensures answer { let says = λ contents. OnTwoFiles contents (J.says judge.now) in
-        IfAnswered (ending_of result) (λ a.
-        IsSaidOver (first.now ∷ second.now ∷ []) says (S.files store.old)
-        a.status a.text.items) }
+    ensures answer { IfAnswered (ending_of result) (λ a.
+        IsSaidOver (first.now ∷ second.now ∷ [])
+        (λ contents. OnTwoFiles contents (J.says judge.now))
+        (S.files store.old) a.status a.text.items) }
     ensures explained { let counts = counts_of S.faults S.absences S.taken in
         Explains (ending_of result) (counts store.old) (counts store.new) }
     ensures same_files { S.files store.new ≡ S.files store.old }
@@ -148,10 +148,10 @@ pub fn over_two<S: Store, J: JudgeTwo>(
     second: &str,
     judge: &J,
 ) -> Result<Answer, Ending>
-    ensures answer { let says = λ contents. OnTwoFiles contents (J.says judge.now) in
-        IfAnswered (ending_of result) (λ a.
-        IsSaidOver (first.now ∷ second.now ∷ []) says (S.files store.old)
-        a.status a.text.items) }
+    ensures answer { IfAnswered (ending_of result) (λ a.
+        IsSaidOver (first.now ∷ second.now ∷ [])
+        (λ contents. OnTwoFiles contents (J.says judge.now))
+        (S.files store.old) a.status a.text.items) }
     ensures explained { let counts = counts_of S.faults S.absences S.taken in
         Explains (ending_of result) (counts store.old) (counts store.new) }
     ensures same_files { S.files store.new ≡ S.files store.old }
