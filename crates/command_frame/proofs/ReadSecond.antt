@@ -1,6 +1,6 @@
 -- What is said over a system file and what the bytes of a second file spell: the laws of a command
 -- that has a judge of both.
-use Rattle.std.proofs.Common.{◌≡◌, ℕ, List, [], ◌∷◌, sym, subst}
+use Rattle.std.proofs.Common.{◌≡◌, ℕ, List, sym, subst}
 use Rattle.std.specs.Prelude.{Ok}
 use Rattle.tree_model.specs.View.{SystemView}
 use Rattle.tree_model.specs.System.{IsSystem}
@@ -8,7 +8,7 @@ use Rattle.system_file.specs.SystemFile.{system_of}
 use Rattle.system_file.proofs.Laws.{read_is_spelled}
 use Rattle.command_frame.specs.declared.status.Status.{Status}
 use Rattle.command_frame.specs.declared.status.Status.TheVariants.{BadFile, NoMemory}
-use Rattle.command_frame.specs.Answer.{Contents, Saying, AtFile, IfNo, IfSystem, IsOne, IsReadable, file_at}
+use Rattle.command_frame.specs.Answer.{Contents, AtFile, IfNo, IfSystem, IsOne, IsReadable, file_at}
 use Rattle.command_frame.specs.Attempt.{Attempt, GivesSome}
 use Rattle.command_frame.specs.OverFiles.{OnRead, over_pair}
 use Rattle.command_frame.specs.TwoFiles.{OnTwoFiles, SpellsSystem, AreReadable}

@@ -1,5 +1,5 @@
 -- `place FILE GUESTS`: what it answers, and what its yes and no mean to who runs the host.
-use Rattle.std.specs.Prelude.{◌≡◌, ◌≢◌, ℕ, ◌<◌, ◌⊎◌, false, List, [], ◌∷◌, length, take, Ok, ⊤}
+use Rattle.std.specs.Prelude.{◌≡◌, ◌≢◌, ℕ, ◌<◌, ◌⊎◌, false, List, [], length, take, Ok, ⊤}
 use Rattle.toml.specs.Text.{IsDocumentText}
 use Rattle.csv_rows.specs.Reading.{records_of}
 use Rattle.csv_rows.specs.Rules.{row_of}

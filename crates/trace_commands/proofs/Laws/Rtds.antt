@@ -27,7 +27,7 @@ use Rattle.command_frame.specs.declared.status.Status.{Status}
 use Rattle.command_frame.specs.declared.status.Status.TheVariants.{Yes, BadFile}
 use Rattle.command_frame.specs.Answer.{Contents, IfNo, IsOne, IsReadable}
 use Rattle.command_frame.specs.Attempt.{OnAttempt}
-use Rattle.command_frame.specs.Budgets.{IsTrulyUnassigned, OnAssigned}
+use Rattle.command_frame.specs.Budgets.{IsTrulyUnassigned}
 use Rattle.trace_commands.specs.Rtds.{the_rtds, waking, running, IsTraceOf, IsTraceText, Runs, RunsWakes, IsRunOf, IsServed, TellsRun, RunMeans, IsVerdictOfRun}
 use Rattle.command_frame.specs.Steps.{IsJudged}
 use Rattle.command_frame.specs.TwoFiles.{OnTwoFiles}

@@ -16,7 +16,7 @@ use Rattle.rt_report.proofs.OneCounts.{one_counts}
 use Rattle.command_frame.specs.declared.status.Status.{Status}
 use Rattle.command_frame.specs.declared.status.Status.TheVariants.{Yes, No, Wide}
 use Rattle.command_frame.specs.Answer.{Contents, IsOne}
-use Rattle.command_frame.specs.Budgets.{AssignedOrNone, OnAssigned}
+use Rattle.command_frame.specs.Budgets.{AssignedOrNone}
 use Rattle.command_frame.specs.CommandSpec.{IsVerdict}
 use Rattle.trace_commands.specs.Simulate.{the_simulate, releasing, RunsFirst, kept_status, IsSimulated, IsSimulationOf, Simulates, SimulatesJobs, TellsNoMiss, SimulateMeans}
 use Rattle.command_frame.specs.Steps.{IsJudged}
