@@ -65,6 +65,10 @@ class Completion(unittest.TestCase):
         self.assertEqual((ran.returncode, ran.stderr), (0, ""))
         return sorted(filter(None, ran.stdout.split("\n")))
 
+    def test_it_has_the_forms_of_the_usage_line(self):
+        forms = re.search(r'^_rtadmit_forms="(.*?)"$', COMPLETION.read_text(), re.M | re.S)[1]
+        self.assertEqual(forms.replace("\\\n", "").split(" | "), FORMS)
+
     def test_commands(self):
         self.assertEqual(self.replies(""), sorted([*COMMANDS, "--unproved"]))
         self.assertEqual(self.replies("a"), ["admit", "audit"])

@@ -24,16 +24,16 @@ use Rattle.miss_witness.specs.Defeat.{Defeats}
 use Rattle.miss_witness.specs.Replay.{AreReplays, AllDefeat}
 use Rattle.rt_report.specs.Admit.{admit_text}
 use Rattle.rt_report.specs.Refusal.{refusal_text}
-use Rattle.command_steps.specs.declared.status.Status.{Status}
-use Rattle.command_steps.specs.declared.status.Status.TheVariants.{Yes, No, Wide, BadFile}
-use Rattle.command_steps.specs.Budgets.{composing, refusal_status}
-use Rattle.command_steps.proofs.Attempt.{refused_first, said_of_given}
-use Rattle.command_steps.proofs.Budgets.{composing_decided}
-use Rattle.admit_commands.specs.Admit.{AdmitsSystem, IsAdmission, MeansOfSystem}
+use Rattle.command_frame.specs.declared.status.Status.{Status}
+use Rattle.command_frame.specs.declared.status.Status.TheVariants.{Yes, No, Wide, BadFile}
+use Rattle.command_frame.specs.Budgets.{composing, refusal_status}
+use Rattle.command_frame.proofs.Attempt.{refused_first, said_of_given}
+use Rattle.command_frame.proofs.Budgets.{composing_decided}
+use Rattle.admit_commands.specs.Admit.{Admits, IsAdmission, AdmitMeans}
 use Rattle.tree_model.specs.CertificateView.{NodeView}
 use Rattle.cert_reader.specs.CertificateFile.{certificate_of}
 use Rattle.cert_verify.specs.Proves.{budgets_of, Proves}
-use Rattle.admit_commands.specs.Certify.{certifying, IsPrinted, CertifiesSystem, IsProof, CertificateMeans}
+use Rattle.admit_commands.specs.Certify.{certifying, IsPrinted, Certifies, IsProof, CertifyMeans}
 use Rattle.admit_commands.proofs.Laws.Certify.{certifying_decided}
 use Rattle.admit_commands.specs.Check.{spelling, ChecksNodes}
 use Rattle.cert_reader.specs.declared.fault.CertFault.TheVariants.{NotJson, TooMany}
@@ -43,7 +43,7 @@ use Rattle.cert_verify.specs.Flaws.{FirstFlaw}
 
 -- a yes tells budgets that admit the system, that lose no job, and that can't be smaller at a
 -- computed leaf
-what_a_yes_gives : (sys : SystemView) (text : List ℕ) → MeansOfSystem sys Yes text
+what_a_yes_gives : (sys : SystemView) (text : List ℕ) → AdmitMeans sys Yes text
     → (budgets : List ℕ) × (replays : List Replay) × (text ≡ admit_text sys budgets replays) × Admitted sys budgets
     × NoLoss sys budgets × IsTight sys budgets × AreReplays sys budgets replays × AllDefeat sys replays
 what_a_yes_gives sys text kept = (
@@ -60,7 +60,7 @@ what_a_yes_gives sys text kept = (
 -- the witness of the computed leaf in place k: with each smaller budget than that of the leaf its
 -- supply gives that budget, and its release, which is legal, misses over it in every permitted run;
 -- where it names a task, the job of that task that is released at the start does
-what_a_witness_gives : (sys : SystemView) (text : List ℕ) → (kept : MeansOfSystem sys Yes text)
+what_a_witness_gives : (sys : SystemView) (text : List ℕ) → (kept : AdmitMeans sys Yes text)
     → (k : ℕ) (replay : Replay) → slice_get kept.replays k ≡ Some replay
     → let q = slice_index (computed_leaves sys) k in
     let leaf = part_at sys q in
@@ -94,12 +94,12 @@ what_a_witness_gives sys text kept k replay e =
     )
 
 -- a no tells the first refusal, and it holds
-what_a_no_gives : (sys : SystemView) (text : List ℕ) → MeansOfSystem sys No text
+what_a_no_gives : (sys : SystemView) (text : List ℕ) → AdmitMeans sys No text
     → (node : Place) × (short : Short) × (text ≡ refusal_text sys (Overfull node short))
     × FirstRefusal sys (Overfull node short) × RefusalHolds sys (Overfull node short)
 what_a_no_gives sys text over = (over.node, over.short, over.told, over.first, over.holds)
 
-a_certificate_that_is_told : (sys : SystemView) (text : List ℕ) → CertificateMeans sys Yes text
+a_certificate_that_is_told : (sys : SystemView) (text : List ℕ) → CertifyMeans sys Yes text
     → (nodes : List NodeView) × (certificate_of text ≡ Ok nodes) × IsProof sys nodes
 a_certificate_that_is_told sys text told = (told.nodes, told.read, told.proof)
 
@@ -124,7 +124,7 @@ what_checking_tells sys nodes text = (λ h. h, λ h. (h.flaw, h.first, h.told))
 
 -- a system that budgets admit is answered yes, and so it is certified
 who_is_admitted_is_answered_yes : (sys : SystemView) → IsSystem sys → (budgets : List ℕ) (status : Status)
-    (text : List ℕ) → Admitted sys budgets → AdmitsSystem sys status text ⊎ CertifiesSystem sys status text
+    (text : List ℕ) → Admitted sys budgets → Admits sys status text ⊎ Certifies sys status text
     → status ≡ Yes
 who_is_admitted_is_answered_yes sys is budgets status text admitted said = elim said [
   | inl of_admit ↦
@@ -139,7 +139,7 @@ who_is_admitted_is_answered_yes sys is budgets status text admitted said = elim 
 -- and one that a node refuses is answered no or wide, by that node, also where a certificate was
 -- asked for
 refused_alike : (sys : SystemView) → IsSystem sys → (refusal : Refusal) (status : Status) (text : List ℕ)
-    → FirstRefusal sys refusal → AdmitsSystem sys status text ⊎ CertifiesSystem sys status text
+    → FirstRefusal sys refusal → Admits sys status text ⊎ Certifies sys status text
     → (status ≡ refusal_status refusal) × (text ≡ refusal_text sys refusal)
 refused_alike sys is refusal status text first said = elim said [
   | inl of_admit ↦
@@ -149,7 +149,7 @@ refused_alike sys is refusal status text first said = elim said [
 ]
 
 who_is_refused_is_told_the_node : (sys : SystemView) → IsSystem sys → (node : Place) (short : Short)
-    (status : Status) (text : List ℕ) → AdmitsSystem sys status text ⊎ CertifiesSystem sys status text
+    (status : Status) (text : List ℕ) → Admits sys status text ⊎ Certifies sys status text
     → (FirstRefusal sys (Overfull node short) → (status ≡ No) × (text ≡ refusal_text sys (Overfull node short)))
     × (FirstRefusal sys (NodeWide node) → (status ≡ Wide) × (text ≡ refusal_text sys (NodeWide node)))
 who_is_refused_is_told_the_node sys is node short status text said = (

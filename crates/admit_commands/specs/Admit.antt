@@ -1,18 +1,17 @@
 -- `admit FILE`: what it answers, and what its yes and no mean to who ships hardware on them.
-use Rattle.std.specs.Prelude.{◌≡◌, ℕ, List, [], ◌∷◌, ⊤}
+use Rattle.std.specs.Prelude.{◌≡◌, ℕ, List, ⊤}
 use Rattle.tree_model.specs.View.{SystemView}
 use Rattle.tree_model.specs.Tree.{NoLoss}
 use Rattle.tree_model.specs.Admission.{Admitted}
 use Rattle.compose_tree.specs.Truth.{IsTight}
-use Rattle.system_file.specs.SystemFile.{system_of}
 use Rattle.miss_witness.specs.declared.replay.Replay.{Replay}
 use Rattle.rt_report.specs.Admit.{admit_text}
 use Rattle.miss_witness.specs.Replay.{AreReplays, AllDefeat}
-use Rattle.command_steps.specs.declared.status.Status.{Status}
-use Rattle.command_steps.specs.declared.status.Status.TheVariants.{Yes, No}
-use Rattle.command_steps.specs.Budgets.{OnAdmitted, IsTrulyOverfull}
-use Rattle.command_steps.specs.CommandSpec.{CommandSpec, IsVerdict}
-use Rattle.command_steps.specs.Answer.{Contents, AtFile, OnSystem, IfSystem, HasSystem}
+use Rattle.command_frame.specs.declared.status.Status.{Status}
+use Rattle.command_frame.specs.declared.status.Status.TheVariants.{Yes, No}
+use Rattle.command_frame.specs.Budgets.{OnAdmitted, IsTrulyOverfull}
+use Rattle.command_frame.specs.CommandSpec.{CommandSpec}
+use Rattle.command_frame.specs.OverFiles.{over_system}
 
 -- yes: the text tells the budgets, with the replay of each computed leaf
 pub record IsAdmission (sys : SystemView) (budgets : List ℕ) (status : Status) (text : List ℕ)
@@ -23,12 +22,8 @@ pub record IsAdmission (sys : SystemView) (budgets : List ℕ) (status : Status)
   pub told : text ≡ admit_text sys budgets replays
 
 -- the answer to a system: budgets admit it, or the first refusal is told, no or wide
-abbrev pub AdmitsSystem : SystemView → Status → List ℕ → Type 0
-AdmitsSystem sys = OnAdmitted sys (IsAdmission sys)
-
--- the answer to a file
-abbrev pub Admits : Contents → Status → List ℕ → Type 0
-Admits contents = AtFile 1 contents (λ bytes. OnSystem (system_of bytes) AdmitsSystem)
+abbrev pub Admits : SystemView → Status → List ℕ → Type 0
+Admits sys = OnAdmitted sys (IsAdmission sys)
 
 -- yes means: the budgets that the text tells admit the system, no job is lost on any level in any
 -- permitted run, whenever each server begins, and every whole budget below a computed leaf budget
@@ -46,20 +41,11 @@ pub record KeepsDeadlines (sys : SystemView) (text : List ℕ) : Type 0 where
 
 -- what an answer to a system means: no means that the first refusal is true, and of a wide one
 -- nothing is claimed
-abbrev pub MeansOfSystem : SystemView → Status → List ℕ → Type 0
-MeansOfSystem sys Yes text = KeepsDeadlines sys text
-MeansOfSystem sys No text = IsTrulyOverfull sys text
-MeansOfSystem sys _ text = ⊤
-
-abbrev pub AdmitMeans : Contents → Status → List ℕ → Type 0
-AdmitMeans contents status text = IfSystem contents (λ sys. MeansOfSystem sys status text)
+abbrev pub AdmitMeans : SystemView → Status → List ℕ → Type 0
+AdmitMeans sys Yes text = KeepsDeadlines sys text
+AdmitMeans sys No text = IsTrulyOverfull sys text
+AdmitMeans sys _ text = ⊤
 
 -- what there is to say of the command
 abbrev pub the_admit : List ℕ → CommandSpec
-the_admit file = record {
-  files = file ∷ [];
-  Answers = Admits;
-  Means = AdmitMeans;
-  CanJudge = HasSystem;
-  EndsAs = λ contents. IsVerdict;
-}
+the_admit = over_system Admits AdmitMeans

@@ -1,5 +1,5 @@
 -- `certify FILE`: what it answers, and what its yes and no mean to who keeps the certificate.
-use Rattle.std.specs.Prelude.{◌≡◌, ℕ, List, [], ◌∷◌, Ok, ⊤}
+use Rattle.std.specs.Prelude.{◌≡◌, ℕ, List, Ok, ⊤}
 use Rattle.tree_model.specs.declared.plan.Refusal.{Refusal}
 use Rattle.tree_model.specs.CertificateView.{NodeView}
 use Rattle.tree_model.specs.View.{SystemView}
@@ -10,14 +10,13 @@ use Rattle.cert_reader.specs.CertificateFile.{certificate_of}
 use Rattle.cert_reader.specs.Printed.{certificate_text}
 use Rattle.cert_verify.specs.Proves.{budgets_of, Proves}
 use Rattle.certificate.specs.Made.{IsCertificate}
-use Rattle.system_file.specs.SystemFile.{system_of}
 use Rattle.rt_report.specs.Refusal.{refusal_text}
-use Rattle.command_steps.specs.declared.status.Status.{Status}
-use Rattle.command_steps.specs.declared.status.Status.TheVariants.{Yes, No}
-use Rattle.command_steps.specs.CommandSpec.{CommandSpec, IsVerdict}
-use Rattle.command_steps.specs.Answer.{Contents, AtFile, OnSystem, IfSystem, HasSystem}
-use Rattle.command_steps.specs.Attempt.{Attempt, OnAttempt}
-use Rattle.command_steps.specs.Budgets.{refusal_status, IsTrulyOverfull}
+use Rattle.command_frame.specs.declared.status.Status.{Status}
+use Rattle.command_frame.specs.declared.status.Status.TheVariants.{Yes, No}
+use Rattle.command_frame.specs.CommandSpec.{CommandSpec}
+use Rattle.command_frame.specs.OverFiles.{over_system}
+use Rattle.command_frame.specs.Attempt.{Attempt, OnAttempt}
+use Rattle.command_frame.specs.Budgets.{refusal_status, IsTrulyOverfull}
 
 -- a certificate is made, or a first refusal is answered
 abbrev pub certifying : SystemView → Attempt (List NodeView) Refusal
@@ -34,12 +33,9 @@ pub record IsPrinted (nodes : List NodeView) (status : Status) (text : List ℕ)
   pub told : text ≡ certificate_text nodes
   pub reads_back : certificate_of text ≡ Ok nodes
 
--- the answer to a system, and to a file
-abbrev pub CertifiesSystem : SystemView → Status → List ℕ → Type 0
-CertifiesSystem sys = OnAttempt (certifying sys) IsPrinted
-
-abbrev pub Certifies : Contents → Status → List ℕ → Type 0
-Certifies contents = AtFile 1 contents (λ bytes. OnSystem (system_of bytes) CertifiesSystem)
+-- the answer to a system
+abbrev pub Certifies : SystemView → Status → List ℕ → Type 0
+Certifies sys = OnAttempt (certifying sys) IsPrinted
 
 -- What a certificate that proves a system says of it: its budgets admit the system, no job is lost
 -- on any level in any permitted run, whenever each server begins, and every whole budget below a
@@ -57,20 +53,11 @@ pub record TellsCertificate (sys : SystemView) (text : List ℕ) : Type 0 where
   pub proof : IsProof sys nodes
 
 -- what an answer to a system means; its no means what that of `admit` does
-abbrev pub CertificateMeans : SystemView → Status → List ℕ → Type 0
-CertificateMeans sys Yes text = TellsCertificate sys text
-CertificateMeans sys No text = IsTrulyOverfull sys text
-CertificateMeans sys _ text = ⊤
-
-abbrev pub CertifyMeans : Contents → Status → List ℕ → Type 0
-CertifyMeans contents status text = IfSystem contents (λ sys. CertificateMeans sys status text)
+abbrev pub CertifyMeans : SystemView → Status → List ℕ → Type 0
+CertifyMeans sys Yes text = TellsCertificate sys text
+CertifyMeans sys No text = IsTrulyOverfull sys text
+CertifyMeans sys _ text = ⊤
 
 -- what there is to say of the command
 abbrev pub the_certify : List ℕ → CommandSpec
-the_certify file = record {
-  files = file ∷ [];
-  Answers = Certifies;
-  Means = CertifyMeans;
-  CanJudge = HasSystem;
-  EndsAs = λ contents. IsVerdict;
-}
+the_certify = over_system Certifies CertifyMeans

@@ -1,5 +1,5 @@
 -- `check FILE CERT`: what it answers, and what its yes means to who was handed the certificate.
-use Rattle.std.specs.Prelude.{◌≡◌, ℕ, List, [], ◌∷◌, Ok, Err, IsOk}
+use Rattle.std.specs.Prelude.{◌≡◌, ℕ, List, Ok, Err}
 use Rattle.tree_model.specs.CertificateView.{NodeView}
 use Rattle.tree_model.specs.View.{SystemView}
 use Rattle.cert_reader.specs.declared.fault.CertFault.{CertFault}
@@ -9,23 +9,20 @@ use Rattle.cert_verify.specs.Proves.{Proves}
 use Rattle.cert_verify.specs.Flaws.{FirstFlaw}
 use Rattle.rt_report.specs.declared.fault.FileFault.TheVariants.{Cert}
 use Rattle.rt_report.specs.Check.{check_text}
-use Rattle.rt_report.specs.Fault.{fault_text}
-use Rattle.command_steps.specs.declared.status.Status.{Status}
-use Rattle.command_steps.specs.declared.status.Status.TheVariants.{Yes, No, BadFile}
-use Rattle.command_steps.specs.CommandSpec.{CommandSpec, IsYesOrNo}
-use Rattle.command_steps.specs.Answer.{Contents}
-use Rattle.command_steps.specs.Attempt.{Attempt, OnAttempt}
-use Rattle.command_steps.specs.TwoFiles.{OnTwoFiles, SpellsSystem, AreReadable}
+use Rattle.command_frame.specs.declared.status.Status.{Status}
+use Rattle.command_frame.specs.declared.status.Status.TheVariants.{Yes, No}
+use Rattle.command_frame.specs.CommandSpec.{CommandSpec, IsYesOrNo}
+use Rattle.command_frame.specs.Answer.{Contents, Saying}
+use Rattle.command_frame.specs.Attempt.{Attempt}
+use Rattle.command_frame.specs.OverFiles.{OnRead, over_pair}
+use Rattle.command_frame.specs.SecondFile.{reading_as}
+use Rattle.command_frame.specs.TwoFiles.{SpellsSystem}
 use Rattle.admit_commands.specs.Certify.{IsProof}
 
 -- the bytes of the second file spell a certificate, or have a first fault
 abbrev pub spelling : List ℕ → Attempt (List NodeView) CertFault
-spelling bytes = record {
-  Gives = λ nodes. certificate_of bytes ≡ Ok nodes;
-  Refuses = λ fault. certificate_of bytes ≡ Err fault;
-  status_of = λ fault. BadFile;
-  text_of = λ fault. fault_text (Cert fault) 2;
-}
+spelling bytes = reading_as Cert
+    (λ nodes. certificate_of bytes ≡ Ok nodes) (λ fault. certificate_of bytes ≡ Err fault)
 
 -- no: the text tells the first flaw
 pub record IsFlawed (sys : SystemView) (nodes : List NodeView) (text : List ℕ) : Type 0 where
@@ -39,12 +36,9 @@ ChecksNodes sys nodes Yes text = Proves sys nodes × (text ≡ check_text sys (O
 ChecksNodes sys nodes No text = IsFlawed sys nodes text
 ChecksNodes sys nodes _ text = ⊥
 
--- the answer to a system and the bytes of a certificate, and to two files
-abbrev pub ChecksBytes : SystemView → List ℕ → Status → List ℕ → Type 0
-ChecksBytes sys bytes = OnAttempt (spelling bytes) (ChecksNodes sys)
-
-abbrev pub Checks : Contents → Status → List ℕ → Type 0
-Checks contents = OnTwoFiles contents ChecksBytes
+-- the answer to a system and the bytes of a certificate
+abbrev pub Checks : SystemView → Saying
+Checks = OnRead (λ sys. spelling) ChecksNodes
 
 -- Yes means: under the budgets that the certificate tells the system is admitted, no deadline is
 -- missed on any level, and no smaller leaf budget serves. Where it proves the system, the answer is
@@ -59,16 +53,7 @@ CheckMeans contents status = (sys : SystemView) (nodes : List NodeView)
     → SpellsSystem contents sys (λ bytes. certificate_of bytes ≡ Ok nodes)
     → TellsProof sys nodes status
 
--- the files are there, short enough, and spell a system and a certificate
-abbrev pub CanCheck : Contents → Type 0
-CanCheck contents = AreReadable contents (λ sys bytes. IsOk (certificate_of bytes))
-
 -- what there is to say of the command
-abbrev pub the_check : List ℕ → List ℕ → CommandSpec
-the_check file cert = record {
-  files = file ∷ cert ∷ [];
-  Answers = Checks;
-  Means = λ contents status text. CheckMeans contents status;
-  CanJudge = CanCheck;
-  EndsAs = λ contents. IsYesOrNo;
-}
+abbrev pub the_check : (file cert : List ℕ) → CommandSpec
+the_check = over_pair (λ sys. spelling) ChecksNodes
+    (λ contents status text. CheckMeans contents status) (λ contents. IsYesOrNo)

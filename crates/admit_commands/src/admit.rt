@@ -1,7 +1,6 @@
-ghost use Rattle.std.specs.Prelude.{refl};
-ghost use Rattle.admit_commands.specs.Admit.{AdmitsSystem, the_admit};
+ghost use Rattle.admit_commands.specs.Admit.{Admits};
 
-use command_steps::{Answer, Ending, JudgeOne, Status, admitted_edges};
+use command_frame::{Answer, Ending, JudgeOne, Status, admitted_edges};
 use miss_witness::replay_all;
 use rt_report::admit_text;
 use std::alloc::Global;
@@ -13,11 +12,7 @@ use tree_model::System;
 pub struct Admit;
 
 impl JudgeOne for Admit {
-    ghost says = { λ _. AdmitsSystem };
-
-    ghost spec = { λ _. the_admit };
-
-    ghost laws = { λ s file. record { files = refl; answers = λ contents status text said. said } };
+    ghost says = { λ _. Admits };
 
     fn judge(&self, alloc: Global, sys: &System) -> Result<Answer, Ending> {
         let composed = admitted_edges(alloc, sys)?;

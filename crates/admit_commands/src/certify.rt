@@ -1,8 +1,7 @@
-ghost use Rattle.std.specs.Prelude.{refl};
-ghost use Rattle.admit_commands.specs.Certify.{CertifiesSystem, the_certify};
+ghost use Rattle.admit_commands.specs.Certify.{Certifies};
 
 use certificate::print_certificate;
-use command_steps::{Answer, Ending, JudgeOne, Status, refuse};
+use command_frame::{Answer, Ending, JudgeOne, Status, refuse};
 use std::alloc::Global;
 use tree_model::{Refusal, System};
 
@@ -11,13 +10,9 @@ use tree_model::{Refusal, System};
 pub struct Certify;
 
 impl JudgeOne for Certify {
-    ghost says = { λ _. CertifiesSystem };
+    ghost says = { λ _. Certifies };
 
-    ghost spec = { λ _. the_certify };
-
-    ghost laws = { λ s file. record { files = refl; answers = λ contents status text said. said } };
-
-    #[tactic(auto, using(command_steps::proofs::Budgets::refusal_told, crate::proofs::Laws::Certify::printed))]
+    #[tactic(auto, using(command_frame::proofs::Budgets::refusal_told, crate::proofs::Laws::Certify::printed))]
     fn judge(&self, alloc: Global, sys: &System) -> Result<Answer, Ending> {
         match certificate::certify(alloc, sys) {
             Ok(certificate) => Ok(Answer {

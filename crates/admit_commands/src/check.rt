@@ -1,13 +1,10 @@
-ghost use Rattle.std.specs.Prelude.{◌≡◌, Ok, IfOk, IfErr, refl};
-ghost use Rattle.cert_reader.specs.CertificateFile.{certificate_of};
-ghost use Rattle.command_steps.specs.Attempt.{IsRefused};
-ghost use Rattle.admit_commands.specs.Check.{spelling, ChecksNodes, ChecksBytes, the_check};
-ghost use Rattle.command_steps.specs.Steps.{IfAnswered, EndsJudged};
+ghost use Rattle.std.specs.Prelude.{IfOk};
+ghost use Rattle.admit_commands.specs.Check.{ChecksNodes, Checks};
 
-use cert_reader::{CertFault, read_certificate};
+use cert_reader::read_certificate;
 use cert_verify::verify;
-use command_steps::{Answer, Ending, JudgeTwo, Status, second_fault};
-use rt_report::{FileFault, check_text};
+use command_frame::{Answer, Ending, JudgeTwo, Status, spelled};
+use rt_report::check_text;
 use std::alloc::{AllocError, Global};
 use tree_model::{Certificate, System};
 
@@ -17,32 +14,11 @@ use tree_model::{Certificate, System};
 pub struct Check;
 
 impl JudgeTwo for Check {
-    ghost says = { λ _. ChecksBytes };
-
-    ghost spec = { λ _. the_check };
-
-    ghost laws = { λ s first second. record {
-      files = refl;
-      answers = λ contents status text said. said;
-    } };
+    ghost says = { λ _. Checks };
 
     fn judge(&self, alloc: Global, sys: &System, bytes: &[u8]) -> Result<Answer, Ending> {
-        let certificate = spelled_certificate(alloc, bytes)?;
+        let certificate = spelled(alloc, read_certificate(alloc, bytes))?;
         Ok(verdict(alloc, sys, &certificate)?)
-    }
-}
-
-// The certificate that the bytes of the second file word spell. It stops where they are refused.
-fn spelled_certificate(alloc: Global, bytes: &[u8]) -> Result<Certificate, Ending>
-    ensures spelled { IfOk result (λ c. certificate_of bytes.now ≡ Ok c.nodes) }
-    ensures refused { IfErr result (λ stop. IfAnswered stop (λ a.
-        IsRefused (spelling bytes.now) a.status a.text.items)) }
-    ensures judged { IfErr result (λ stop. EndsJudged stop) }
-{
-    match read_certificate(alloc, bytes) {
-        Ok(certificate) => Ok(certificate),
-        Err(CertFault::NoMemory) => Err(Ending::NoMemory),
-        Err(fault) => Err(second_fault(alloc, FileFault::Cert(fault))),
     }
 }
 

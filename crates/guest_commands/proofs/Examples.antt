@@ -35,23 +35,23 @@ use Rattle.rt_report.specs.Interface.{interface_text}
 use Rattle.rt_report.specs.Refusal.{refusal_text}
 use Rattle.rt_report.specs.Responses.{responses_text}
 use Rattle.rt_report.specs.Slack.{slack_text}
-use Rattle.command_steps.specs.declared.status.Status.{Status}
-use Rattle.command_steps.specs.declared.status.Status.TheVariants.{Yes, No, Wide, BadFile}
-use Rattle.command_steps.specs.Answer.{Contents, IsReadable}
-use Rattle.command_steps.specs.Budgets.{composing, refusal_status, IsTrulyOverfull}
-use Rattle.command_steps.specs.CommandSpec.{IsVerdict}
-use Rattle.command_steps.specs.NamedLeaf.{HasNoLeaf, OnLeaf}
-use Rattle.command_steps.proofs.Attempt.{refused_first, said_of_given}
-use Rattle.command_steps.proofs.Budgets.{composing_decided}
-use Rattle.guest_commands.specs.Interface.{AtDeadline, InterfacesSystem, InterfaceTells, IsInterface, least_status, least_text, the_interface}
-use Rattle.guest_commands.specs.Choose.{ChoiceTells, ChoosesSystem, IsChosen, choice_status, the_choose}
-use Rattle.guest_commands.specs.Slack.{SlackensLeaf, SlackensSystem, SlackTells, TellsWorks, the_slack}
-use Rattle.guest_commands.specs.Responses.{AreResponses, IsReplayOf, IsResponseOf, IsTold, RespondsInTree, RespondsSystem, ResponsesMean, answered_tasks, the_responses}
+use Rattle.command_frame.specs.declared.status.Status.{Status}
+use Rattle.command_frame.specs.declared.status.Status.TheVariants.{Yes, No, Wide, BadFile}
+use Rattle.command_frame.specs.Answer.{Contents, IsReadable}
+use Rattle.command_frame.specs.Budgets.{composing, refusal_status, IsTrulyOverfull}
+use Rattle.command_frame.specs.CommandSpec.{IsVerdict}
+use Rattle.command_frame.specs.NamedLeaf.{HasNoLeaf, OnLeaf}
+use Rattle.command_frame.proofs.Attempt.{refused_first, said_of_given}
+use Rattle.command_frame.proofs.Budgets.{composing_decided}
+use Rattle.guest_commands.specs.Interface.{AtDeadline, Interfaces, InterfaceMeans, IsInterface, least_status, least_text, the_interface}
+use Rattle.guest_commands.specs.Choose.{ChooseMeans, Chooses, IsChosen, choice_status, the_choose}
+use Rattle.guest_commands.specs.Slack.{SlackensLeaf, Slackens, SlackMeans, TellsWorks, the_slack}
+use Rattle.guest_commands.specs.Responses.{AreResponses, IsReplayOf, IsResponseOf, IsTold, RespondsInTree, Responds, RespondMeans, answered_tasks, the_responses}
 
 -- `interface`: with the budget that is told no job of the leaf is lost, and with each smaller one
 -- it must miss; or with each up to the deadline
 what_an_interface_gives : (sys : SystemView) (part : List ℕ) (deadline : ℕ) (text : List ℕ)
-    → InterfaceTells part deadline sys Yes text
+    → InterfaceMeans part deadline sys Yes text
     → (leaf : ℕ) × (budget : ℕ) × IsLeafNamed sys part leaf
     × (text ≡ interface_text (part_at sys leaf) deadline budget) × (budget ≤ deadline)
     × (deadline ≤ (part_at sys leaf).period)
@@ -63,7 +63,7 @@ what_an_interface_gives sys part deadline text told =
     (told.leaf, told.budget, told.found, told.told, told.in_deadline, told.in_period, told.no_loss, told.tight)
 
 what_no_interface_gives : (sys : SystemView) (part : List ℕ) (deadline : ℕ) (text : List ℕ)
-    → InterfaceTells part deadline sys No text
+    → InterfaceMeans part deadline sys No text
     → (leaf : ℕ) × (short : Short) × IsLeafNamed sys part leaf × (text ≡ refusal_text sys (Overfull (Part leaf) short))
     × IsShortfall (part_at sys leaf).sched (own_tasks_at sys leaf) (sbf_by (part_at sys leaf).period deadline deadline)
     short
@@ -83,7 +83,7 @@ what_refuses_a_deadline file part deadline contents ends = (ends.sys, ends.spell
 -- `choose`: the budget that is told is the best of the range, with it no job of the leaf is lost,
 -- and with each smaller one it must miss; or nothing passes
 what_a_choice_gives : (sys : SystemView) (part : List ℕ) (low high : ℕ) (text : List ℕ)
-    → ChoiceTells part low high sys Yes text
+    → ChooseMeans part low high sys Yes text
     → (leaf : ℕ) × (period : ℕ) × (budget : ℕ) × IsLeafNamed sys part leaf
     × (text ≡ best_text (part_at sys leaf) period budget)
     × IsBest (part_at sys leaf).sched (own_tasks_at sys leaf) low high period budget
@@ -95,7 +95,7 @@ what_a_choice_gives sys part low high text told =
     (told.leaf, told.period, told.budget, told.found, told.told, told.best, told.no_loss, told.tight)
 
 what_no_choice_gives : (sys : SystemView) (part : List ℕ) (low high : ℕ) (text : List ℕ)
-    → ChoiceTells part low high sys No text
+    → ChooseMeans part low high sys No text
     → (leaf : ℕ) × (over : ℕ) × (wide : ℕ) × IsLeafNamed sys part leaf × (text ≡ nothing_text over wide)
     × (nothing : IsNothing (part_at sys leaf).sched (own_tasks_at sys leaf) low high over wide)
     × ((q b : ℕ) → low ≤ q → q ≤ high → b ≤ q
@@ -117,7 +117,7 @@ what_refuses_a_choice file part low high contents ends = (ends.sys, ends.spelled
 
 -- `slack`: no job is lost under budgets that admit the system, nor with each work up to the one
 -- that is told
-what_slack_gives : (sys : SystemView) (part text : List ℕ) → SlackTells part sys Yes text
+what_slack_gives : (sys : SystemView) (part text : List ℕ) → SlackMeans part sys Yes text
     → (leaf : ℕ) × (budgets : List ℕ) × (works : List ℕ) × IsLeafNamed sys part leaf × Admitted sys budgets
     × NoLoss sys budgets × AreMostWorks sys leaf works × (text ≡ slack_text (part_at sys leaf) works)
     × ((i work : ℕ) → i < length (part_at sys leaf).tasks → 1 ≤ work → work ≤ slice_index_or works i 0
@@ -125,7 +125,7 @@ what_slack_gives : (sys : SystemView) (part text : List ℕ) → SlackTells part
 what_slack_gives sys part text told =
     (told.leaf, told.budgets, told.works, told.found, told.admitted, told.no_loss, told.most, told.told, told.safe)
 
-what_no_slack_gives : (sys : SystemView) (part text : List ℕ) → SlackTells part sys No text → IsTrulyOverfull sys text
+what_no_slack_gives : (sys : SystemView) (part text : List ℕ) → SlackMeans part sys No text → IsTrulyOverfull sys text
 what_no_slack_gives sys part text over = over
 
 what_refuses_slack : (file part : List ℕ) (contents : Contents) → (the_slack file part).EndsAs contents BadFile
@@ -135,7 +135,7 @@ what_refuses_slack file part contents ends = (ends.sys, ends.spelled, ends.such)
 
 -- `responses`: budgets admit the system and lose no job, and a line tells the greatest response of
 -- its task, which is in the task's room, and which no job of it passes in the tree
-what_responses_give : (sys : SystemView) (text : List ℕ) → ResponsesMean sys Yes text
+what_responses_give : (sys : SystemView) (text : List ℕ) → RespondMeans sys Yes text
     → (budgets : List ℕ) × (rows : List Response) × Admitted sys budgets × NoLoss sys budgets
     × AreResponses sys budgets rows × All (RespondsInTree sys budgets) rows × (text ≡ responses_text sys rows)
 what_responses_give sys text told =
@@ -148,7 +148,7 @@ what_a_response_gives : (sched : Sched) (tasks : List SporadicTask) (period budg
     × IsReplayOf sched tasks period budget i row.worst row.replay
 what_a_response_gives sched tasks period budget i row of = (of.greatest, of.limit_is, of.in_limit, of.replayed)
 
-what_no_responses_give : (sys : SystemView) (text : List ℕ) → ResponsesMean sys No text → IsTrulyOverfull sys text
+what_no_responses_give : (sys : SystemView) (text : List ℕ) → RespondMeans sys No text → IsTrulyOverfull sys text
 what_no_responses_give sys text over = over
 
 -- a name of no leaf is told before anything else is asked: of `interface` the deadline, of `slack`
@@ -164,8 +164,8 @@ no_leaf_is_told sys part Says status text none said = elim said [
 
 a_name_of_no_leaf : (sys : SystemView) (part : List ℕ) (deadline low high : ℕ) (status : Status) (text : List ℕ)
     → HasNoLeaf sys part
-    → InterfacesSystem part deadline sys status text ⊎ (ChoosesSystem part low high sys status text
-    ⊎ SlackensSystem part sys status text)
+    → Interfaces part deadline sys status text ⊎ (Chooses part low high sys status text
+    ⊎ Slackens part sys status text)
     → (status ≡ BadFile) × (text ≡ codes "fault=NoSuchLeaf file=1\n")
 a_name_of_no_leaf sys part deadline low high status text none said = elim said [
   | inl of_interface ↦ no_leaf_is_told sys part (AtDeadline sys deadline) status text none of_interface
@@ -251,7 +251,7 @@ responses_end_with_a_verdict file contents status ends = ends
 
 -- a system that budgets admit is answered yes by `responses`, and by `slack` of a leaf of it
 who_is_admitted_is_answered_yes : (sys : SystemView) → IsSystem sys → (budgets : List ℕ) (leaf : ℕ) (status : Status)
-    (text : List ℕ) → Admitted sys budgets → RespondsSystem sys status text ⊎ SlackensLeaf sys leaf status text
+    (text : List ℕ) → Admitted sys budgets → Responds sys status text ⊎ SlackensLeaf sys leaf status text
     → status ≡ Yes
 who_is_admitted_is_answered_yes sys is budgets leaf status text admitted said = elim said [
   | inl of_responses ↦
@@ -264,7 +264,7 @@ who_is_admitted_is_answered_yes sys is budgets leaf status text admitted said = 
 
 -- and one that a node refuses is answered as `admit` answers it
 who_is_refused_is_told_the_node : (sys : SystemView) → IsSystem sys → (refusal : Refusal) (leaf : ℕ) (status : Status)
-    (text : List ℕ) → FirstRefusal sys refusal → RespondsSystem sys status text ⊎ SlackensLeaf sys leaf status text
+    (text : List ℕ) → FirstRefusal sys refusal → Responds sys status text ⊎ SlackensLeaf sys leaf status text
     → (status ≡ refusal_status refusal) × (text ≡ refusal_text sys refusal)
 who_is_refused_is_told_the_node sys is refusal leaf status text first said = elim said [
   | inl of_responses ↦

@@ -1,6 +1,6 @@
 -- `choose FILE PART LOW HIGH`: what it answers, and what its yes and no mean to who sets the period
 -- of a guest.
-use Rattle.std.specs.Prelude.{◌≡◌, ℕ, ◌<◌, ◌≤◌, true, List, [], ◌∷◌, ⊤}
+use Rattle.std.specs.Prelude.{◌≡◌, ℕ, ◌<◌, ◌≤◌, true, List, ⊤}
 use Rattle.slot_model.specs.Supply.{GivesBudget}
 use Rattle.slot_model.specs.Order.{before_of}
 use Rattle.slot_model.specs.Bound.{sbf, TestPasses}
@@ -11,13 +11,13 @@ use Rattle.period_choice.specs.Choice.{is_over, IsBest, IsNothing, IsChoice}
 use Rattle.tree_model.specs.View.{SystemView}
 use Rattle.tree_model.specs.System.{part_at, own_tasks_at}
 use Rattle.tree_model.specs.NamedLeaf.{IsLeafNamed}
-use Rattle.system_file.specs.SystemFile.{system_of}
 use Rattle.rt_report.specs.Choose.{best_text, nothing_text}
-use Rattle.command_steps.specs.declared.status.Status.{Status}
-use Rattle.command_steps.specs.declared.status.Status.TheVariants.{Yes, No, Wide}
-use Rattle.command_steps.specs.CommandSpec.{CommandSpec}
-use Rattle.command_steps.specs.Answer.{Contents, AtFile, OnSystem, IfSystem, HasSystem}
-use Rattle.command_steps.specs.NamedLeaf.{HasNoLeaf, OnLeaf, IsVerdictUnless}
+use Rattle.command_frame.specs.declared.status.Status.{Status}
+use Rattle.command_frame.specs.declared.status.Status.TheVariants.{Yes, No, Wide}
+use Rattle.command_frame.specs.CommandSpec.{CommandSpec}
+use Rattle.command_frame.specs.Answer.{Contents}
+use Rattle.command_frame.specs.OverFiles.{over_system_ending}
+use Rattle.command_frame.specs.NamedLeaf.{HasNoLeaf, OnLeaf, IsVerdictUnless}
 
 -- the status and the text that tell a choice for leaf q
 abbrev pub choice_status : Choice → Status
@@ -36,13 +36,9 @@ pub record IsChosen (sys : SystemView) (low high q : ℕ) (status : Status) (tex
   pub status_is : status ≡ choice_status choice
   pub told : text ≡ choice_text sys q choice
 
--- the answer to a system, and to a file
-abbrev pub ChoosesSystem : List ℕ → ℕ → ℕ → SystemView → Status → List ℕ → Type 0
-ChoosesSystem part low high sys = OnLeaf sys part (IsChosen sys low high)
-
-abbrev pub Chooses : List ℕ → ℕ → ℕ → Contents → Status → List ℕ → Type 0
-Chooses part low high contents =
-    AtFile 1 contents (λ bytes. OnSystem (system_of bytes) (ChoosesSystem part low high))
+-- the answer to a system
+abbrev pub Chooses : List ℕ → ℕ → ℕ → SystemView → Status → List ℕ → Type 0
+Chooses part low high sys = OnLeaf sys part (IsChosen sys low high)
 
 -- Yes means: of all budgets that pass at a period of the range, the one that the text tells has the
 -- least share of its period, at the shortest period with that share. Over every list that gives it
@@ -79,14 +75,10 @@ pub record TellsNothing (sys : SystemView) (part : List ℕ) (low high : ℕ) (t
       MustMiss (GivesBudget q b) (before_of (part_at sys leaf).sched tasks) tasks
 
 -- what an answer to a system means
-abbrev pub ChoiceTells : List ℕ → ℕ → ℕ → SystemView → Status → List ℕ → Type 0
-ChoiceTells part low high sys Yes text = TellsBest sys part low high text
-ChoiceTells part low high sys No text = TellsNothing sys part low high text
-ChoiceTells part low high sys _ text = ⊤
-
-abbrev pub ChooseMeans : List ℕ → ℕ → ℕ → Contents → Status → List ℕ → Type 0
-ChooseMeans part low high contents status text =
-    IfSystem contents (λ sys. ChoiceTells part low high sys status text)
+abbrev pub ChooseMeans : List ℕ → ℕ → ℕ → SystemView → Status → List ℕ → Type 0
+ChooseMeans part low high sys Yes text = TellsBest sys part low high text
+ChooseMeans part low high sys No text = TellsNothing sys part low high text
+ChooseMeans part low high sys _ text = ⊤
 
 -- it ends with yes or no, or there is no leaf of that name, or memory runs out
 abbrev pub EndsChoosing : List ℕ → Contents → Status → Type 0
@@ -94,11 +86,6 @@ EndsChoosing part contents Wide = ⊥
 EndsChoosing part contents status = IsVerdictUnless (λ sys. HasNoLeaf sys part) contents status
 
 -- what there is to say of the command
-abbrev pub the_choose : List ℕ → List ℕ → ℕ → ℕ → CommandSpec
-the_choose file part low high = record {
-  files = file ∷ [];
-  Answers = Chooses part low high;
-  Means = ChooseMeans part low high;
-  CanJudge = HasSystem;
-  EndsAs = EndsChoosing part;
-}
+abbrev pub the_choose : (file part : List ℕ) (low high : ℕ) → CommandSpec
+the_choose file part low high =
+    over_system_ending (Chooses part low high) (ChooseMeans part low high) (EndsChoosing part) file

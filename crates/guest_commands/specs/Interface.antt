@@ -1,6 +1,6 @@
 -- `interface FILE PART DEADLINE`: what it answers, and what its yes and no mean to who gives a
 -- guest its budget early in each period.
-use Rattle.std.specs.Prelude.{◌≡◌, ◌⊎◌, ℕ, ◌<◌, ◌≤◌, List, [], ◌∷◌, ⊤}
+use Rattle.std.specs.Prelude.{◌≡◌, ◌⊎◌, ℕ, ◌<◌, ◌≤◌, List, ⊤}
 use Rattle.slot_model.specs.declared.sched.Short.{Short}
 use Rattle.slot_model.specs.Bound.{sbf_by, IsShortfall}
 use Rattle.slot_model.specs.Supply.{GivesByDeadline}
@@ -14,16 +14,15 @@ use Rattle.tree_model.specs.declared.plan.Refusal.TheVariants.{Overfull, Wide as
 use Rattle.tree_model.specs.View.{SystemView}
 use Rattle.tree_model.specs.System.{part_at, own_tasks_at}
 use Rattle.tree_model.specs.NamedLeaf.{IsLeafNamed}
-use Rattle.system_file.specs.SystemFile.{system_of}
 use Rattle.rt_report.specs.declared.fault.FileFault.TheVariants.{BadDeadline}
 use Rattle.rt_report.specs.Fault.{fault_text}
 use Rattle.rt_report.specs.Interface.{interface_text}
 use Rattle.rt_report.specs.Refusal.{refusal_text}
-use Rattle.command_steps.specs.declared.status.Status.{Status}
-use Rattle.command_steps.specs.declared.status.Status.TheVariants.{Yes, No, Wide, BadFile}
-use Rattle.command_steps.specs.CommandSpec.{CommandSpec}
-use Rattle.command_steps.specs.Answer.{Contents, AtFile, OnSystem, IfSystem, HasSystem}
-use Rattle.command_steps.specs.NamedLeaf.{HasNoLeaf, OnLeaf, IsVerdictUnless}
+use Rattle.command_frame.specs.declared.status.Status.{Status}
+use Rattle.command_frame.specs.declared.status.Status.TheVariants.{Yes, No, Wide, BadFile}
+use Rattle.command_frame.specs.CommandSpec.{CommandSpec}
+use Rattle.command_frame.specs.OverFiles.{over_system_ending}
+use Rattle.command_frame.specs.NamedLeaf.{HasNoLeaf, OnLeaf, IsVerdictUnless}
 
 -- the status and the text that tell the least budget of leaf q by a deadline, or that it has none
 abbrev pub least_status : Least → Status
@@ -53,13 +52,9 @@ pub record AtDeadline (sys : SystemView) (deadline q : ℕ) (status : Status) (t
       (status ≡ BadFile) × (text ≡ fault_text BadDeadline 1)
   pub within : deadline ≤ (part_at sys q).period → IsInterface sys q deadline status text
 
--- the answer to a system, and to a file
-abbrev pub InterfacesSystem : List ℕ → ℕ → SystemView → Status → List ℕ → Type 0
-InterfacesSystem part deadline sys = OnLeaf sys part (AtDeadline sys deadline)
-
-abbrev pub Interfaces : List ℕ → ℕ → Contents → Status → List ℕ → Type 0
-Interfaces part deadline contents =
-    AtFile 1 contents (λ bytes. OnSystem (system_of bytes) (InterfacesSystem part deadline))
+-- the answer to a system
+abbrev pub Interfaces : List ℕ → ℕ → SystemView → Status → List ℕ → Type 0
+Interfaces part deadline sys = OnLeaf sys part (AtDeadline sys deadline)
 
 -- over every list that gives leaf q this budget by the deadline in each of its periods, and for
 -- every legal release of its tasks: no job is lost in any permitted run
@@ -102,14 +97,10 @@ pub record HasNoInterface (sys : SystemView) (part : List ℕ) (deadline : ℕ) 
   pub misses : (b : ℕ) → b ≤ deadline → MustMissBy sys leaf deadline b
 
 -- what an answer to a system means; of a wide one nothing is claimed
-abbrev pub InterfaceTells : List ℕ → ℕ → SystemView → Status → List ℕ → Type 0
-InterfaceTells part deadline sys Yes text = TellsInterface sys part deadline text
-InterfaceTells part deadline sys No text = HasNoInterface sys part deadline text
-InterfaceTells part deadline sys _ text = ⊤
-
-abbrev pub InterfaceMeans : List ℕ → ℕ → Contents → Status → List ℕ → Type 0
-InterfaceMeans part deadline contents status text =
-    IfSystem contents (λ sys. InterfaceTells part deadline sys status text)
+abbrev pub InterfaceMeans : List ℕ → ℕ → SystemView → Status → List ℕ → Type 0
+InterfaceMeans part deadline sys Yes text = TellsInterface sys part deadline text
+InterfaceMeans part deadline sys No text = HasNoInterface sys part deadline text
+InterfaceMeans part deadline sys _ text = ⊤
 
 -- the system has no leaf of that name, or one whose period the deadline passes
 abbrev pub HasNoFit : List ℕ → ℕ → SystemView → Type 0
@@ -118,11 +109,7 @@ HasNoFit part deadline sys =
     ⊎ ((q : ℕ) × IsLeafNamed sys part q × ((part_at sys q).period < deadline))
 
 -- what there is to say of the command
-abbrev pub the_interface : List ℕ → List ℕ → ℕ → CommandSpec
-the_interface file part deadline = record {
-  files = file ∷ [];
-  Answers = Interfaces part deadline;
-  Means = InterfaceMeans part deadline;
-  CanJudge = HasSystem;
-  EndsAs = IsVerdictUnless (HasNoFit part deadline);
-}
+abbrev pub the_interface : (file part : List ℕ) (deadline : ℕ) → CommandSpec
+the_interface file part deadline =
+    over_system_ending (Interfaces part deadline) (InterfaceMeans part deadline)
+    (IsVerdictUnless (HasNoFit part deadline)) file

@@ -1,5 +1,5 @@
 -- `responses FILE`: what it answers, and what its yes and no mean.
-use Rattle.std.specs.Prelude.{◌≡◌, ℕ, ◌+◌, ◌<◌, ◌≤◌, Bool, if◌then◌else◌, not, ◌&&◌, List, [], ◌∷◌, map, length, All, slice_index_or, Option, Some, None, ⊤}
+use Rattle.std.specs.Prelude.{◌≡◌, ℕ, ◌+◌, ◌<◌, ◌≤◌, Bool, if◌then◌else◌, not, ◌&&◌, List, [], map, length, All, slice_index_or, Option, Some, None, ⊤}
 use Rattle.std.specs.List.{flat_map, range_with_len}
 use Rattle.slot_model.specs.declared.sched.Sched.{Sched}
 use Rattle.slot_model.specs.declared.job.Job.{Job}
@@ -13,14 +13,13 @@ use Rattle.tree_model.specs.View.{PartView, SystemView}
 use Rattle.tree_model.specs.System.{is_edf, is_leaf, own_tasks, part_at}
 use Rattle.tree_model.specs.Tree.{budget_at, run_at, StartedTree, TreeInputs, NoLoss}
 use Rattle.tree_model.specs.Admission.{Admitted}
-use Rattle.system_file.specs.SystemFile.{system_of}
 use Rattle.rt_report.specs.declared.responses.Response.{Response}
 use Rattle.rt_report.specs.Responses.{responses_text}
-use Rattle.command_steps.specs.declared.status.Status.{Status}
-use Rattle.command_steps.specs.declared.status.Status.TheVariants.{Yes, No}
-use Rattle.command_steps.specs.Budgets.{OnAdmitted, IsTrulyOverfull}
-use Rattle.command_steps.specs.CommandSpec.{CommandSpec, IsVerdict}
-use Rattle.command_steps.specs.Answer.{Contents, AtFile, OnSystem, IfSystem, HasSystem}
+use Rattle.command_frame.specs.declared.status.Status.{Status}
+use Rattle.command_frame.specs.declared.status.Status.TheVariants.{Yes, No}
+use Rattle.command_frame.specs.Budgets.{OnAdmitted, IsTrulyOverfull}
+use Rattle.command_frame.specs.CommandSpec.{CommandSpec}
+use Rattle.command_frame.specs.OverFiles.{over_system}
 
 -- a leaf under a fixed priority, and so not under earliest deadline first
 abbrev pub is_fixed_leaf : PartView → Bool
@@ -82,12 +81,8 @@ pub record IsTold (sys : SystemView) (budgets : List ℕ) (status : Status) (tex
   pub told : text ≡ responses_text sys rows
 
 -- the answer to a system: budgets admit it, or the first refusal is told, no or wide
-abbrev pub RespondsSystem : SystemView → Status → List ℕ → Type 0
-RespondsSystem sys = OnAdmitted sys (IsTold sys)
-
--- the answer to a file
-abbrev pub Responds : Contents → Status → List ℕ → Type 0
-Responds contents = AtFile 1 contents (λ bytes. OnSystem (system_of bytes) RespondsSystem)
+abbrev pub Responds : SystemView → Status → List ℕ → Type 0
+Responds sys = OnAdmitted sys (IsTold sys)
 
 -- in a run of a leaf each job of task i has its work t slots after its release, where the run is
 -- that long
@@ -121,20 +116,11 @@ pub record TellsResponses (sys : SystemView) (text : List ℕ) : Type 0 where
   pub told : text ≡ responses_text sys rows
 
 -- what an answer to a system means; of a wide one nothing is claimed
-abbrev pub ResponsesMean : SystemView → Status → List ℕ → Type 0
-ResponsesMean sys Yes text = TellsResponses sys text
-ResponsesMean sys No text = IsTrulyOverfull sys text
-ResponsesMean sys _ text = ⊤
-
-abbrev pub RespondMeans : Contents → Status → List ℕ → Type 0
-RespondMeans contents status text = IfSystem contents (λ sys. ResponsesMean sys status text)
+abbrev pub RespondMeans : SystemView → Status → List ℕ → Type 0
+RespondMeans sys Yes text = TellsResponses sys text
+RespondMeans sys No text = IsTrulyOverfull sys text
+RespondMeans sys _ text = ⊤
 
 -- what there is to say of the command
 abbrev pub the_responses : List ℕ → CommandSpec
-the_responses file = record {
-  files = file ∷ [];
-  Answers = Responds;
-  Means = RespondMeans;
-  CanJudge = HasSystem;
-  EndsAs = λ contents. IsVerdict;
-}
+the_responses = over_system Responds RespondMeans

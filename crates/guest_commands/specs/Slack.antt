@@ -1,19 +1,18 @@
 -- `slack FILE PART`: what it answers, and what its yes and no mean to who lets a task grow.
-use Rattle.std.specs.Prelude.{◌≡◌, ℕ, ◌<◌, ◌≤◌, List, [], ◌∷◌, length, slice_index_or, ⊤}
+use Rattle.std.specs.Prelude.{◌≡◌, ℕ, ◌<◌, ◌≤◌, List, length, slice_index_or, ⊤}
 use Rattle.tree_model.specs.View.{SystemView}
 use Rattle.tree_model.specs.System.{part_at}
 use Rattle.tree_model.specs.Admission.{Admitted}
 use Rattle.tree_model.specs.NamedLeaf.{IsLeafNamed}
 use Rattle.tree_model.specs.Tree.{NoLoss}
 use Rattle.slack.specs.MostWork.{AreMostWorks, with_work}
-use Rattle.system_file.specs.SystemFile.{system_of}
 use Rattle.rt_report.specs.Slack.{slack_text}
-use Rattle.command_steps.specs.declared.status.Status.{Status}
-use Rattle.command_steps.specs.declared.status.Status.TheVariants.{Yes, No}
-use Rattle.command_steps.specs.CommandSpec.{CommandSpec}
-use Rattle.command_steps.specs.Answer.{Contents, AtFile, OnSystem, IfSystem, HasSystem}
-use Rattle.command_steps.specs.Budgets.{OnAdmitted, IsTrulyOverfull}
-use Rattle.command_steps.specs.NamedLeaf.{HasNoLeaf, OnLeaf, IsVerdictUnless}
+use Rattle.command_frame.specs.declared.status.Status.{Status}
+use Rattle.command_frame.specs.declared.status.Status.TheVariants.{Yes, No}
+use Rattle.command_frame.specs.CommandSpec.{CommandSpec}
+use Rattle.command_frame.specs.OverFiles.{over_system_ending}
+use Rattle.command_frame.specs.Budgets.{OnAdmitted, IsTrulyOverfull}
+use Rattle.command_frame.specs.NamedLeaf.{HasNoLeaf, OnLeaf, IsVerdictUnless}
 
 -- yes: the text tells the greatest work of each task of leaf q
 pub record TellsWorks (sys : SystemView) (q : ℕ) (status : Status) (text : List ℕ) : Type 0 where
@@ -26,13 +25,9 @@ pub record TellsWorks (sys : SystemView) (q : ℕ) (status : Status) (text : Lis
 abbrev pub SlackensLeaf : SystemView → ℕ → Status → List ℕ → Type 0
 SlackensLeaf sys q = OnAdmitted sys (λ budgets. TellsWorks sys q)
 
--- the answer to a system, and to a file
-abbrev pub SlackensSystem : List ℕ → SystemView → Status → List ℕ → Type 0
-SlackensSystem part sys = OnLeaf sys part (SlackensLeaf sys)
-
-abbrev pub Slackens : List ℕ → Contents → Status → List ℕ → Type 0
-Slackens part contents =
-    AtFile 1 contents (λ bytes. OnSystem (system_of bytes) (SlackensSystem part))
+-- the answer to a system
+abbrev pub Slackens : List ℕ → SystemView → Status → List ℕ → Type 0
+Slackens part sys = OnLeaf sys part (SlackensLeaf sys)
 
 -- budgets admit the system, and no job is lost on any level in any permitted run, whenever each
 -- server begins
@@ -56,24 +51,16 @@ pub record TellsSlack (sys : SystemView) (part : List ℕ) (text : List ℕ) : T
   pub told : text ≡ slack_text (part_at sys leaf) works
 
 -- what an answer to a system means; its no means what that of `admit` does
-abbrev pub SlackTells : List ℕ → SystemView → Status → List ℕ → Type 0
-SlackTells part sys Yes text = TellsSlack sys part text
-SlackTells part sys No text = IsTrulyOverfull sys text
-SlackTells part sys _ text = ⊤
-
-abbrev pub SlackMeans : List ℕ → Contents → Status → List ℕ → Type 0
-SlackMeans part contents status text = IfSystem contents (λ sys. SlackTells part sys status text)
+abbrev pub SlackMeans : List ℕ → SystemView → Status → List ℕ → Type 0
+SlackMeans part sys Yes text = TellsSlack sys part text
+SlackMeans part sys No text = IsTrulyOverfull sys text
+SlackMeans part sys _ text = ⊤
 
 -- the system has no leaf of that name
 abbrev pub LacksLeaf : List ℕ → SystemView → Type 0
 LacksLeaf part sys = HasNoLeaf sys part
 
 -- what there is to say of the command
-abbrev pub the_slack : List ℕ → List ℕ → CommandSpec
-the_slack file part = record {
-  files = file ∷ [];
-  Answers = Slackens part;
-  Means = SlackMeans part;
-  CanJudge = HasSystem;
-  EndsAs = IsVerdictUnless (LacksLeaf part);
-}
+abbrev pub the_slack : (file part : List ℕ) → CommandSpec
+the_slack file part =
+    over_system_ending (Slackens part) (SlackMeans part) (IsVerdictUnless (LacksLeaf part)) file

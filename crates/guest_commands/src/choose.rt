@@ -1,9 +1,9 @@
-ghost use Rattle.std.specs.Prelude.{◌≡◌, ◌<◌, length, IfOk, refl};
-ghost use Rattle.guest_commands.specs.Choose.{choice_status, choice_text, IsChosen, ChoosesSystem, the_choose};
-ghost use Rattle.command_steps.specs.Steps.{IsJudged};
+ghost use Rattle.std.specs.Prelude.{◌≡◌, ◌<◌, length, IfOk};
+ghost use Rattle.guest_commands.specs.Choose.{choice_status, choice_text, IsChosen, Chooses};
+ghost use Rattle.command_frame.specs.Steps.{IsJudged};
 
 use crate::periods::Periods;
-use command_steps::{Answer, Ending, JudgeOne, Status, find_leaf, part_at};
+use command_frame::{Answer, Ending, JudgeOne, Status, find_leaf, part_at};
 use period_choice::{Choice, choose};
 use rt_report::{best_text, nothing_text};
 use std::alloc::{AllocError, Global};
@@ -18,13 +18,9 @@ pub struct Choose<'a> {
 }
 
 impl JudgeOne for Choose<'_> {
-    ghost says = { λ s. ChoosesSystem s.part.now s.periods.low s.periods.high };
+    ghost says = { λ s. Chooses s.part.now s.periods.low s.periods.high };
 
-    ghost spec = { λ s file. the_choose file s.part.now s.periods.low s.periods.high };
-
-    ghost laws = { λ s file. record { files = refl; answers = λ contents status text said. said } };
-
-    #[tactic(auto, using(command_steps::proofs::NamedLeaf::leaf_said, command_steps::proofs::NamedLeaf::leaf_refused))]
+    #[tactic(auto, using(command_frame::proofs::NamedLeaf::leaf_said, command_frame::proofs::NamedLeaf::leaf_refused))]
     fn judge(&self, alloc: Global, sys: &System) -> Result<Answer, Ending> {
         let q = find_leaf(alloc, sys, self.part)?;
         Ok(of_leaf(alloc, sys, q, self.periods)?)

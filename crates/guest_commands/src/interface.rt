@@ -1,9 +1,9 @@
-ghost use Rattle.std.specs.Prelude.{◌≡◌, ◌<◌, length, IfOk, refl};
-ghost use Rattle.guest_commands.specs.Interface.{least_status, least_text, AtDeadline, InterfacesSystem, the_interface};
-ghost use Rattle.command_steps.specs.Steps.{IsJudged};
+ghost use Rattle.std.specs.Prelude.{◌≡◌, ◌<◌, length, IfOk};
+ghost use Rattle.guest_commands.specs.Interface.{least_status, least_text, AtDeadline, Interfaces};
+ghost use Rattle.command_frame.specs.Steps.{IsJudged};
 
 use crate::periods::Period;
-use command_steps::{Answer, Ending, JudgeOne, Status, bad_file, find_leaf, part_at, refuse};
+use command_frame::{Answer, Ending, JudgeOne, Status, bad_file, find_leaf, part_at, refuse};
 use edp_supply::least_explicit;
 use least_budget::Least;
 use rt_report::{FileFault, interface_text};
@@ -19,13 +19,9 @@ pub struct Interface<'a> {
 }
 
 impl JudgeOne for Interface<'_> {
-    ghost says = { λ s. InterfacesSystem s.part.now s.deadline.slots };
+    ghost says = { λ s. Interfaces s.part.now s.deadline.slots };
 
-    ghost spec = { λ s file. the_interface file s.part.now s.deadline.slots };
-
-    ghost laws = { λ s file. record { files = refl; answers = λ contents status text said. said } };
-
-    #[tactic(auto, using(command_steps::proofs::NamedLeaf::leaf_said, command_steps::proofs::NamedLeaf::leaf_refused))]
+    #[tactic(auto, using(command_frame::proofs::NamedLeaf::leaf_said, command_frame::proofs::NamedLeaf::leaf_refused))]
     fn judge(&self, alloc: Global, sys: &System) -> Result<Answer, Ending> {
         let q = find_leaf(alloc, sys, self.part)?;
         Ok(of_leaf(alloc, sys, q, self.deadline)?)

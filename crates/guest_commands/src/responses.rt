@@ -1,8 +1,7 @@
-ghost use Rattle.std.specs.Prelude.{refl};
-ghost use Rattle.guest_commands.specs.Responses.{RespondsSystem, the_responses};
+ghost use Rattle.guest_commands.specs.Responses.{Responds};
 
 use crate::responding::respond_all;
-use command_steps::{Answer, Ending, JudgeOne, Status, admitted};
+use command_frame::{Answer, Ending, JudgeOne, Status, admitted};
 use rt_report::responses_text;
 use std::alloc::Global;
 use tree_model::System;
@@ -13,11 +12,7 @@ use tree_model::System;
 pub struct Responses;
 
 impl JudgeOne for Responses {
-    ghost says = { λ _. RespondsSystem };
-
-    ghost spec = { λ _. the_responses };
-
-    ghost laws = { λ s file. record { files = refl; answers = λ contents status text said. said } };
+    ghost says = { λ _. Responds };
 
     fn judge(&self, alloc: Global, sys: &System) -> Result<Answer, Ending> {
         let plan = admitted(alloc, sys)?;

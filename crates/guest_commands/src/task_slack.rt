@@ -1,9 +1,9 @@
-ghost use Rattle.std.specs.Prelude.{◌≡◌, ◌<◌, length, true, refl};
+ghost use Rattle.std.specs.Prelude.{◌≡◌, ◌<◌, length, true};
 ghost use Rattle.tree_model.specs.System.{is_leaf_at};
-ghost use Rattle.guest_commands.specs.Slack.{SlackensLeaf, SlackensSystem, the_slack};
-ghost use Rattle.command_steps.specs.Steps.{ending_of, IfAnswered, EndsJudged};
+ghost use Rattle.guest_commands.specs.Slack.{SlackensLeaf, Slackens};
+ghost use Rattle.command_frame.specs.Steps.{ending_of, IfAnswered, EndsJudged};
 
-use command_steps::{Answer, Ending, JudgeOne, Status, admitted, find_leaf, part_at};
+use command_frame::{Answer, Ending, JudgeOne, Status, admitted, find_leaf, part_at};
 use rt_report::slack_text;
 use slack::slacks;
 use std::alloc::Global;
@@ -17,13 +17,9 @@ pub struct Slack<'a> {
 }
 
 impl JudgeOne for Slack<'_> {
-    ghost says = { λ s. SlackensSystem s.part.now };
+    ghost says = { λ s. Slackens s.part.now };
 
-    ghost spec = { λ s file. the_slack file s.part.now };
-
-    ghost laws = { λ s file. record { files = refl; answers = λ contents status text said. said } };
-
-    #[tactic(auto, using(command_steps::proofs::NamedLeaf::leaf_stopped, command_steps::proofs::NamedLeaf::leaf_refused))]
+    #[tactic(auto, using(command_frame::proofs::NamedLeaf::leaf_stopped, command_frame::proofs::NamedLeaf::leaf_refused))]
     fn judge(&self, alloc: Global, sys: &System) -> Result<Answer, Ending> {
         let q = find_leaf(alloc, sys, self.part)?;
         of_leaf(alloc, sys, q)

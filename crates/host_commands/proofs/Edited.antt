@@ -18,11 +18,11 @@ use Rattle.script_file.proofs.RowsTaking.{behind_header, edit_is, edits_more, ke
 use Rattle.rt_report.specs.Session.{answer_line, answer_lines, plan_lines, IsToldAnswer}
 use Rattle.rt_report.proofs.AnswerLines.{lines_more}
 use Rattle.host_commands.specs.declared.editing.Editing.{Editing}
-use Rattle.command_steps.specs.declared.status.Status.{Status}
-use Rattle.command_steps.specs.declared.status.Status.TheVariants.{Yes}
-use Rattle.host_commands.specs.Session.{EditsBytes}
+use Rattle.command_frame.specs.declared.status.Status.{Status}
+use Rattle.command_frame.specs.declared.status.Status.TheVariants.{Yes}
+use Rattle.host_commands.specs.Session.{Edits}
 use Rattle.host_commands.specs.inner.Editing.{HasEdited, IsToldSession}
-use Rattle.command_steps.proofs.Budgets.{refusal_told}
+use Rattle.command_frame.proofs.Budgets.{refusal_told}
 
 -- an answer can be told
 pub can_tell : (sys : SystemView) (edit : Edit) (answer : Answer) (now : SystemView) → IsAnswered sys edit answer now
@@ -117,7 +117,7 @@ told_all sys bytes text start now header same begun is_header all end =
 
 -- so the answer is that to the system and the bytes
 pub edits_told : (sys : SystemView) (bytes text : List ℕ) (status : Status) → IsAdmitted sys
-    → IsToldSession sys bytes text → status ≡ Yes → EditsBytes sys bytes status text
+    → IsToldSession sys bytes text → status ≡ Yes → Edits sys bytes status text
 edits_told sys bytes text status admitted t is_yes =
     inl (record {
       value = t.edits;

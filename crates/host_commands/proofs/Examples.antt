@@ -41,16 +41,17 @@ use Rattle.rt_report.specs.Fault.{fault_text}
 use Rattle.rt_report.specs.Place.{unplaced_text}
 use Rattle.rt_report.specs.Session.{session_text}
 use Rattle.rt_report.specs.Refusal.{refusal_text}
-use Rattle.command_steps.specs.Answer.{Contents, IsReadable}
-use Rattle.command_steps.specs.Budgets.{IsTrulyOverfull, composing, refusal_status}
-use Rattle.command_steps.specs.CommandSpec.{IsVerdict}
-use Rattle.command_steps.specs.TwoFiles.{SpellsSystem}
-use Rattle.command_steps.specs.declared.status.Status.{Status}
-use Rattle.command_steps.specs.declared.status.Status.TheVariants.{Yes, No, Usage, BadFile, Wide, Absent, TooLong, ReadFault, WriteFault}
-use Rattle.command_steps.proofs.Attempt.{refused_first}
-use Rattle.command_steps.proofs.Budgets.{composing_decided}
-use Rattle.host_commands.specs.Session.{EditsBytes, EditsSystem, IsSession, MeansOfEdits, scripting, the_session}
-use Rattle.host_commands.specs.Place.{IsSystemText, MeansOfPlaces, PlacesBytes, PlacesGuests, TellsUnplaced, guesting, guests_fault_text, place_fault_text, place_status, placing, the_place}
+use Rattle.command_frame.specs.Answer.{Contents, IsReadable}
+use Rattle.command_frame.specs.Budgets.{IsTrulyOverfull, composing, refusal_status}
+use Rattle.command_frame.specs.CommandSpec.{IsVerdict}
+use Rattle.command_frame.specs.TwoFiles.{SpellsSystem}
+use Rattle.command_frame.specs.declared.status.Status.{Status}
+use Rattle.command_frame.specs.declared.status.Status.TheVariants.{Yes, No, Usage, BadFile, Wide, Absent, TooLong, ReadFault, WriteFault}
+use Rattle.command_frame.specs.SecondFile.{guest_fault}
+use Rattle.command_frame.proofs.Attempt.{refused_first}
+use Rattle.command_frame.proofs.Budgets.{composing_decided}
+use Rattle.host_commands.specs.Session.{Edits, EditsSystem, IsSession, MeansOfEdits, scripting, the_session}
+use Rattle.host_commands.specs.Place.{IsSystemText, MeansOfPlaces, Places, PlacesGuests, TellsUnplaced, guesting, place_fault_text, place_status, placing, the_place}
 use Rattle.host_commands.specs.Bulk.{HostKeepsDeadlines}
 use Rattle.host_commands.proofs.Laws.Session.{scripting_decided}
 use Rattle.host_commands.proofs.Laws.Place.{guesting_decided, placing_decided}
@@ -129,21 +130,21 @@ what_a_generated_host_gives n host =
 
 -- a fault of the second file goes before what the system is refused for
 a_script_with_a_fault : (sys : SystemView) (bytes : List ℕ) (fault : ScriptFault) (status : Status) (text : List ℕ)
-    → IsScriptFault (script_rows (records_of bytes)) fault → EditsBytes sys bytes status text
+    → IsScriptFault (script_rows (records_of bytes)) fault → Edits sys bytes status text
     → (status ≡ BadFile) × (text ≡ fault_text (Script fault) 2)
 a_script_with_a_fault sys bytes fault status text wrong said =
     refused_first (scripting bytes) (EditsSystem sys) (scripting_decided bytes) fault wrong status text said
 
 guests_with_a_fault : (sys : SystemView) (bytes : List ℕ) (fault : GuestFault) (status : Status) (text : List ℕ)
-    → IsGuestFault (records_of bytes) fault → PlacesBytes sys bytes status text
-    → (status ≡ BadFile) × (text ≡ guests_fault_text fault)
+    → IsGuestFault (records_of bytes) fault → Places sys bytes status text
+    → (status ≡ BadFile) × (text ≡ fault_text (guest_fault fault) 2)
 guests_with_a_fault sys bytes fault status text wrong said =
     refused_first (guesting bytes) (PlacesGuests sys) (guesting_decided bytes) fault wrong status text said
 
 faults_of_guests :
-    (guests_fault_text (NoScript BadHeader) ≡ codes "fault=BadHeader row=1 file=2\n")
-    × (guests_fault_text (NoScript (BadRow 3)) ≡ codes "fault=BadRow row=3 file=2\n")
-    × (guests_fault_text (Other 4) ≡ codes "fault=BadGuest row=4 file=2\n")
+    (fault_text (guest_fault (NoScript BadHeader)) 2 ≡ codes "fault=BadHeader row=1 file=2\n")
+    × (fault_text (guest_fault (NoScript (BadRow 3))) 2 ≡ codes "fault=BadRow row=3 file=2\n")
+    × (fault_text (guest_fault (Other 4)) 2 ≡ codes "fault=BadGuest row=4 file=2\n")
 unfolding digits
 faults_of_guests = (refl, refl, refl)
 
@@ -194,7 +195,7 @@ files_that_are_judged file other one two sys edits guests short shorter is =
                     bytes = two;
                     there = refl;
                     short = shorter;
-                    good = record { edits = edits; spelled = good };
+                    good = record { value = edits; gives = good };
                   };
             };
       }),
@@ -208,7 +209,7 @@ files_that_are_judged file other one two sys edits guests short shorter is =
                     bytes = two;
                     there = refl;
                     short = shorter;
-                    good = record { guests = guests; spelled = good };
+                    good = record { value = guests; gives = good };
                   };
             };
       }),

@@ -8,9 +8,9 @@ use Rattle.bulk_host.specs.Host.{bulk_host}
 use Rattle.bulk_run.specs.declared.counts.BulkCounts.{BulkCounts}
 use Rattle.bulk_run.specs.Summary.{bulk_slots, bulk_supplies, bulk_jobs, AreBulkCounts}
 use Rattle.rt_report.specs.Bulk.{bulk_text}
-use Rattle.command_steps.specs.declared.status.Status.{Status}
-use Rattle.command_steps.specs.declared.status.Status.TheVariants.{Yes}
-use Rattle.command_steps.specs.CommandSpec.{CommandSpec, IsYes}
+use Rattle.command_frame.specs.declared.status.Status.{Status}
+use Rattle.command_frame.specs.declared.status.Status.TheVariants.{Yes}
+use Rattle.command_frame.specs.CommandSpec.{CommandSpec, IsYes}
 
 -- the answer is yes, always: the text tells the counts of the host of n guests, 1 to 256
 pub record AnswersBulk (n : ℕ) (status : Status) (text : List ℕ) : Type 0 where

@@ -1,5 +1,5 @@
 -- `place FILE GUESTS`: what it answers, and what its yes and no mean to who runs the host.
-use Rattle.std.specs.Prelude.{◌≡◌, ◌≢◌, ℕ, ◌<◌, ◌⊎◌, false, List, [], ◌∷◌, length, take, Ok, ⊤}
+use Rattle.std.specs.Prelude.{◌≡◌, ◌≢◌, ℕ, ◌<◌, ◌⊎◌, false, List, [], length, take, Ok, ⊤}
 use Rattle.toml.specs.Text.{IsDocumentText}
 use Rattle.csv_rows.specs.Reading.{records_of}
 use Rattle.csv_rows.specs.Rules.{row_of}
@@ -15,34 +15,27 @@ use Rattle.placement.specs.declared.fault.PlaceFault.TheVariants.{Refused, BadGu
 use Rattle.placement.specs.Placement.{IsPlaced}
 use Rattle.placement.specs.Answers.{AreRefused, IsBadGuest, IsNoLeaf, IsNoneWith, PlaceFails, StopsAt, guest_at}
 use Rattle.script_file.specs.declared.guests.GuestFault.{GuestFault}
-use Rattle.script_file.specs.declared.guests.GuestFault.TheVariants.{Script as NoScript, Other}
 use Rattle.script_file.specs.Guests.{SpellsGuests, IsGuestFault}
 use Rattle.system_file.specs.Printed.{printed}
 use Rattle.system_file.specs.SystemFile.{system_of}
-use Rattle.rt_report.specs.declared.fault.FileFault.TheVariants.{Script, BadGuest as BadRow}
+use Rattle.rt_report.specs.declared.fault.FileFault.TheVariants.{BadGuest as BadRow}
 use Rattle.rt_report.specs.Fault.{fault_text}
 use Rattle.rt_report.specs.Place.{unplaced_text}
 use Rattle.rt_report.specs.Refusal.{refusal_text}
-use Rattle.command_steps.specs.declared.status.Status.{Status}
-use Rattle.command_steps.specs.declared.status.Status.TheVariants.{Yes, No, BadFile, NoMemory as NoRoom}
-use Rattle.command_steps.specs.CommandSpec.{CommandSpec, IsVerdict}
-use Rattle.command_steps.specs.Answer.{Contents}
-use Rattle.command_steps.specs.Attempt.{Attempt, OnAttempt}
-use Rattle.command_steps.specs.Budgets.{refusal_status, IsTrulyOverfull}
-use Rattle.command_steps.specs.TwoFiles.{OnTwoFiles, SpellsSystem, AreReadable}
+use Rattle.command_frame.specs.declared.status.Status.{Status}
+use Rattle.command_frame.specs.declared.status.Status.TheVariants.{Yes, No, BadFile, NoMemory as NoRoom}
+use Rattle.command_frame.specs.CommandSpec.{CommandSpec, IsVerdict}
+use Rattle.command_frame.specs.Answer.{Contents, Saying}
+use Rattle.command_frame.specs.Attempt.{Attempt, OnAttempt}
+use Rattle.command_frame.specs.Budgets.{refusal_status, IsTrulyOverfull}
+use Rattle.command_frame.specs.OverFiles.{OnRead, over_pair}
+use Rattle.command_frame.specs.SecondFile.{guest_fault, reading_as}
+use Rattle.command_frame.specs.TwoFiles.{SpellsSystem}
 
 -- the bytes of the second file spell guests, or have a first fault
-abbrev pub guests_fault_text : GuestFault → List ℕ
-guests_fault_text (NoScript fault) = fault_text (Script fault) 2
-guests_fault_text (Other row) = fault_text (BadRow row) 2
-
 abbrev pub guesting : List ℕ → Attempt (List PartView) GuestFault
-guesting bytes = record {
-  Gives = SpellsGuests (records_of bytes);
-  Refuses = IsGuestFault (records_of bytes);
-  status_of = λ fault. BadFile;
-  text_of = guests_fault_text;
-}
+guesting bytes =
+    reading_as guest_fault (SpellsGuests (records_of bytes)) (IsGuestFault (records_of bytes))
 
 -- the guests are placed on the cores of an admitted system, or there is a first fault
 pub record IsPlacement (sys : SystemView) (guests : List PartView) (placed : SystemView)
@@ -84,15 +77,12 @@ pub record IsSystemText (placed : SystemView) (status : Status) (text : List ℕ
   pub told : IsDocumentText false (printed placed) text
   pub reads_back : system_of text ≡ Ok placed
 
--- the answer to a system and guests, to a system and bytes, and to two files
+-- the answer to a system and guests, and to a system and bytes
 abbrev pub PlacesGuests : SystemView → List PartView → Status → List ℕ → Type 0
 PlacesGuests sys guests = OnAttempt (placing sys guests) IsSystemText
 
-abbrev pub PlacesBytes : SystemView → List ℕ → Status → List ℕ → Type 0
-PlacesBytes sys bytes = OnAttempt (guesting bytes) (PlacesGuests sys)
-
-abbrev pub Places : Contents → Status → List ℕ → Type 0
-Places contents = OnTwoFiles contents PlacesBytes
+abbrev pub Places : SystemView → Saying
+Places = OnRead (λ sys. guesting) PlacesGuests
 
 -- yes means: the text is read as a system that has the given cores and parts and then the guests,
 -- each on the first core on which it fits; budgets admit it, no job is lost on any level in any
@@ -148,14 +138,6 @@ PlaceMeans contents status text = (sys : SystemView) (guests : List PartView)
     → SpellsSystem contents sys (λ bytes. SpellsGuests (records_of bytes) guests)
     → MeansOfPlaces sys guests status text
 
--- the files are there, short enough, and spell a system and guests
-pub record AreGuests (sys : SystemView) (bytes : List ℕ) : Type 0 where
-  pub guests : List PartView
-  pub spelled : SpellsGuests (records_of bytes) guests
-
-abbrev pub CanPlace : Contents → Type 0
-CanPlace contents = AreReadable contents AreGuests
-
 -- a guest of the files can be no leaf of the system that those before it make
 pub record SpellsBadGuest (contents : Contents) : Type 0 where
   pub sys : SystemView
@@ -170,11 +152,5 @@ EndsPlacing contents BadFile = SpellsBadGuest contents
 EndsPlacing contents status = IsVerdict status
 
 -- what there is to say of the command
-abbrev pub the_place : List ℕ → List ℕ → CommandSpec
-the_place file guests = record {
-  files = file ∷ guests ∷ [];
-  Answers = Places;
-  Means = PlaceMeans;
-  CanJudge = CanPlace;
-  EndsAs = EndsPlacing;
-}
+abbrev pub the_place : (file guests : List ℕ) → CommandSpec
+the_place = over_pair (λ sys. guesting) PlacesGuests PlaceMeans EndsPlacing

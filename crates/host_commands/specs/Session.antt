@@ -1,5 +1,5 @@
 -- `session FILE SCRIPT`: what it answers, and what its yes and no mean to who runs the host.
-use Rattle.std.specs.Prelude.{◌≡◌, ℕ, List, [], ◌∷◌, take, slice_get, Some, ⊤}
+use Rattle.std.specs.Prelude.{◌≡◌, ℕ, List, take, slice_get, Some, ⊤}
 use Rattle.csv_rows.specs.Reading.{records_of}
 use Rattle.tree_model.specs.declared.plan.Refusal.{Refusal}
 use Rattle.tree_model.specs.View.{SystemView}
@@ -15,24 +15,21 @@ use Rattle.admission_session.specs.History.{AreAnswered}
 use Rattle.script_file.specs.declared.fault.ScriptFault.{ScriptFault}
 use Rattle.script_file.specs.Script.{SpellsScript, IsScriptFault, script_rows}
 use Rattle.rt_report.specs.declared.fault.FileFault.TheVariants.{Script}
-use Rattle.rt_report.specs.Fault.{fault_text}
 use Rattle.rt_report.specs.Session.{session_text}
-use Rattle.command_steps.specs.declared.status.Status.{Status}
-use Rattle.command_steps.specs.declared.status.Status.TheVariants.{Yes, No, BadFile}
-use Rattle.command_steps.specs.CommandSpec.{CommandSpec, IsVerdict}
-use Rattle.command_steps.specs.Answer.{Contents}
-use Rattle.command_steps.specs.Attempt.{Attempt, OnAttempt}
-use Rattle.command_steps.specs.Budgets.{OnAdmitted, IsTrulyOverfull}
-use Rattle.command_steps.specs.TwoFiles.{OnTwoFiles, SpellsSystem, AreReadable}
+use Rattle.command_frame.specs.declared.status.Status.{Status}
+use Rattle.command_frame.specs.declared.status.Status.TheVariants.{Yes, No}
+use Rattle.command_frame.specs.CommandSpec.{CommandSpec, IsVerdict}
+use Rattle.command_frame.specs.Answer.{Contents, Saying}
+use Rattle.command_frame.specs.Attempt.{Attempt}
+use Rattle.command_frame.specs.Budgets.{OnAdmitted, IsTrulyOverfull}
+use Rattle.command_frame.specs.OverFiles.{OnRead, over_pair}
+use Rattle.command_frame.specs.SecondFile.{reading_as}
+use Rattle.command_frame.specs.TwoFiles.{SpellsSystem}
 
 -- the bytes of the second file spell edits, or have a first fault
 abbrev pub scripting : List ℕ → Attempt (List Edit) ScriptFault
-scripting bytes = record {
-  Gives = SpellsScript (records_of bytes);
-  Refuses = IsScriptFault (script_rows (records_of bytes));
-  status_of = λ fault. BadFile;
-  text_of = λ fault. fault_text (Script fault) 2;
-}
+scripting bytes = reading_as Script (SpellsScript (records_of bytes))
+    (IsScriptFault (script_rows (records_of bytes)))
 
 -- the text tells the answer to each edit, and the plan of the system that they leave
 pub record IsSession (sys : SystemView) (edits : List Edit) (status : Status) (text : List ℕ)
@@ -45,15 +42,12 @@ pub record IsSession (sys : SystemView) (edits : List Edit) (status : Status) (t
   pub admitted : Admitted last budgets
   pub told : text ≡ session_text answers last budgets
 
--- the answer to a system and rows, to a system and bytes, and to two files
+-- the answer to a system and rows, and to a system and bytes
 abbrev pub EditsSystem : SystemView → List Edit → Status → List ℕ → Type 0
 EditsSystem sys edits = OnAdmitted sys (λ budgets. IsSession sys edits)
 
-abbrev pub EditsBytes : SystemView → List ℕ → Status → List ℕ → Type 0
-EditsBytes sys bytes = OnAttempt (scripting bytes) (EditsSystem sys)
-
-abbrev pub Edits : Contents → Status → List ℕ → Type 0
-Edits contents = OnTwoFiles contents EditsBytes
+abbrev pub Edits : SystemView → Saying
+Edits = OnRead (λ sys. scripting) EditsSystem
 
 -- of each row that is denied, what its refusal says of the system as that row edits it holds
 -- (`RefusalHolds`, which says nothing of a node that is too wide to be judged)
@@ -105,20 +99,6 @@ SessionMeans contents status text = (sys : SystemView) (edits : List Edit)
     → SpellsSystem contents sys (λ bytes. SpellsScript (records_of bytes) edits)
     → MeansOfEdits sys edits status text
 
--- the files are there, short enough, and spell a system and a script
-pub record IsScript (sys : SystemView) (bytes : List ℕ) : Type 0 where
-  pub edits : List Edit
-  pub spelled : SpellsScript (records_of bytes) edits
-
-abbrev pub CanEdit : Contents → Type 0
-CanEdit contents = AreReadable contents IsScript
-
 -- what there is to say of the command
-abbrev pub the_session : List ℕ → List ℕ → CommandSpec
-the_session file script = record {
-  files = file ∷ script ∷ [];
-  Answers = Edits;
-  Means = SessionMeans;
-  CanJudge = CanEdit;
-  EndsAs = λ contents. IsVerdict;
-}
+abbrev pub the_session : (file script : List ℕ) → CommandSpec
+the_session = over_pair (λ sys. scripting) EditsSystem SessionMeans (λ contents. IsVerdict)

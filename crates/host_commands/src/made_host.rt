@@ -2,11 +2,11 @@ ghost use Rattle.std.specs.Prelude.{Option};
 ghost use Rattle.outside.specs.Counts.{Counts};
 ghost use Rattle.outside.specs.Files.{Files};
 ghost use Rattle.host_commands.specs.Bulk.{the_bulk};
-ghost use Rattle.command_steps.specs.Steps.{ending_of, IfAnswered, Explains, IsSaid, EndsJudged};
+ghost use Rattle.command_frame.specs.Steps.{ending_of, IfAnswered, Explains, IsSaid, EndsJudged};
 
 use crate::guests::Guests;
 use bulk_run::bulk_counts;
-use command_steps::{Answer, Ending, Status};
+use command_frame::{Answer, Ending, Status};
 use rt_report::bulk_text;
 use std::alloc::Global;
 

@@ -1,16 +1,14 @@
-ghost use Rattle.std.specs.Prelude.{◌<◌, ◌^◌, length, IfOk, IfErr, refl};
-ghost use Rattle.csv_rows.specs.Reading.{records_of};
-ghost use Rattle.script_file.specs.Guests.{SpellsGuests};
-ghost use Rattle.command_steps.specs.Attempt.{IsRefused};
-ghost use Rattle.host_commands.specs.Place.{guesting, placing, IsPlacement, IsSystemText, PlacesBytes, the_place};
-ghost use Rattle.command_steps.specs.Steps.{IfAnswered, IsJudged, EndsJudged};
+ghost use Rattle.std.specs.Prelude.{◌<◌, ◌^◌, length, IfOk, IfErr};
+ghost use Rattle.command_frame.specs.Attempt.{IsRefused};
+ghost use Rattle.host_commands.specs.Place.{placing, IsPlacement, IsSystemText, Places};
+ghost use Rattle.command_frame.specs.Steps.{IfAnswered, IsJudged, EndsJudged};
 
 use crate::refusing::refuse_system;
-use command_steps::{Answer, Ending, JudgeTwo, Status, second_fault};
+use command_frame::{Answer, Ending, JudgeTwo, Status, second_fault, spelled};
 use csv_rows::row_of;
 use placement::{PlaceFault, place};
 use rt_report::{FileFault, unplaced_text};
-use script_file::{GuestFault, ScriptFault, read_guests};
+use script_file::read_guests;
 use std::alloc::{AllocError, Global};
 use system_file::print_system;
 use tree_model::{Part, Refusal, System};
@@ -20,36 +18,12 @@ use tree_model::{Part, Refusal, System};
 pub struct Placer;
 
 impl JudgeTwo for Placer {
-    ghost says = { λ _. PlacesBytes };
-
-    ghost spec = { λ _. the_place };
-
-    ghost laws = { λ s first second. record {
-      files = refl;
-      answers = λ contents status text said. said;
-    } };
+    ghost says = { λ _. Places };
 
     fn judge(&self, alloc: Global, sys: &System, bytes: &[u8]) -> Result<Answer, Ending> {
-        let guests = spelled_guests(alloc, bytes)?;
+        let guests = spelled(alloc, read_guests(alloc, bytes))?;
         let placed = placed(alloc, sys, &guests)?;
         Ok(printed(alloc, &placed)?)
-    }
-}
-
-// The guests that the bytes of the second file word spell. It stops where they are refused.
-fn spelled_guests(alloc: Global, bytes: &[u8]) -> Result<Vec<Part>, Ending>
-    ensures spelled { IfOk result
-        (λ guests. SpellsGuests (records_of bytes.now) guests.items) }
-    ensures few { IfOk result (λ guests. length guests.items < 2 ^ 32) }
-    ensures refused { IfErr result (λ stop. IfAnswered stop (λ a.
-        IsRefused (guesting bytes.now) a.status a.text.items)) }
-    ensures judged { IfErr result (λ stop. EndsJudged stop) }
-{
-    match read_guests(alloc, bytes) {
-        Ok(guests) => Ok(guests),
-        Err(GuestFault::Script(ScriptFault::NoMemory)) => Err(Ending::NoMemory),
-        Err(GuestFault::Script(fault)) => Err(second_fault(alloc, FileFault::Script(fault))),
-        Err(GuestFault::Other(row)) => Err(second_fault(alloc, FileFault::BadGuest(row))),
     }
 }
 

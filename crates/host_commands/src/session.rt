@@ -1,17 +1,13 @@
-ghost use Rattle.std.specs.Prelude.{◌≡◌, IfOk, IfErr, refl};
-ghost use Rattle.csv_rows.specs.Reading.{records_of};
+ghost use Rattle.std.specs.Prelude.{◌≡◌};
 ghost use Rattle.admission_session.specs.Answers.{IsAdmitted};
-ghost use Rattle.script_file.specs.Script.{SpellsScript};
-ghost use Rattle.command_steps.specs.Attempt.{IsRefused};
-ghost use Rattle.host_commands.specs.Session.{scripting, EditsBytes, the_session};
-ghost use Rattle.command_steps.specs.Steps.{ending_of, IfAnswered, EndsJudged};
+ghost use Rattle.host_commands.specs.Session.{Edits};
+ghost use Rattle.command_frame.specs.Steps.{ending_of, IfAnswered, EndsJudged};
 
 use crate::editing::edit_all;
 use crate::refusing::refuse_system;
-use admission_session::{Edit, Session, copy_system};
-use command_steps::{Answer, Ending, JudgeTwo, Status, second_fault};
-use rt_report::FileFault;
-use script_file::{ScriptFault, read_edits};
+use admission_session::{Session, copy_system};
+use command_frame::{Answer, Ending, JudgeTwo, Status, spelled};
+use script_file::read_edits;
 use std::alloc::Global;
 use tree_model::{Refusal, System};
 
@@ -21,14 +17,7 @@ use tree_model::{Refusal, System};
 pub struct Editor;
 
 impl JudgeTwo for Editor {
-    ghost says = { λ _. EditsBytes };
-
-    ghost spec = { λ _. the_session };
-
-    ghost laws = { λ s first second. record {
-      files = refl;
-      answers = λ contents status text said. said;
-    } };
+    ghost says = { λ _. Edits };
 
     // A fault of the script goes before a refusal of the system.
     fn judge(&self, alloc: Global, sys: &System, bytes: &[u8]) -> Result<Answer, Ending> {
@@ -37,7 +26,7 @@ impl JudgeTwo for Editor {
             Ok(opened) => edited(alloc, sys, opened, bytes),
             Err((_, Refusal::NoMemory)) => Err(Ending::NoMemory),
             Err((_, refusal)) => {
-                spelled_script(alloc, bytes)?;
+                spelled(alloc, read_edits(alloc, bytes))?;
                 Ok(refuse_system(alloc, sys, refusal)?)
             }
         }
@@ -49,29 +38,12 @@ fn edited(alloc: Global, sys: &System, opened: Session, bytes: &[u8]) -> Result<
     requires same { opened ≡ sys.now }
     requires admitted { IsAdmitted sys.now }
     ensures answer { IfAnswered (ending_of result)
-        (λ a. EditsBytes sys.now bytes.now a.status a.text.items) }
+        (λ a. Edits sys.now bytes.now a.status a.text.items) }
     ensures judged { EndsJudged (ending_of result) }
 {
-    match edit_all(alloc, opened, bytes) {
-        Ok(text) => Ok(Answer {
-            status: Status::Yes,
-            text,
-        }),
-        Err(ScriptFault::NoMemory) => Err(Ending::NoMemory),
-        Err(fault) => Err(second_fault(alloc, FileFault::Script(fault))),
-    }
-}
-
-// The edits that the bytes of the second file word spell. It stops where they are refused.
-fn spelled_script(alloc: Global, bytes: &[u8]) -> Result<Vec<Edit>, Ending>
-    ensures spelled { IfOk result (λ edits. SpellsScript (records_of bytes.now) edits.items) }
-    ensures refused { IfErr result (λ stop. IfAnswered stop (λ a.
-        IsRefused (scripting bytes.now) a.status a.text.items)) }
-    ensures judged { IfErr result (λ stop. EndsJudged stop) }
-{
-    match read_edits(alloc, bytes) {
-        Ok(edits) => Ok(edits),
-        Err(ScriptFault::NoMemory) => Err(Ending::NoMemory),
-        Err(fault) => Err(second_fault(alloc, FileFault::Script(fault))),
-    }
+    let text = spelled(alloc, edit_all(alloc, opened, bytes))?;
+    Ok(Answer {
+        status: Status::Yes,
+        text,
+    })
 }

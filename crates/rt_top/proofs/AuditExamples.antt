@@ -6,10 +6,10 @@ use Rattle.tree_model.specs.View.{SystemView}
 use Rattle.outside.specs.Files.{Files, file_named}
 use Rattle.trace_file.specs.declared.event.Event.{Event}
 use Rattle.trace_file.specs.Periods.{Satisfied}
-use Rattle.command_steps.specs.declared.status.Status.{Status}
-use Rattle.command_steps.specs.declared.status.Status.TheVariants.{Yes, No}
-use Rattle.command_words.specs.Commands.{audit, command_of}
-use Rattle.command_steps.specs.Answer.{Contents}
+use Rattle.command_frame.specs.declared.status.Status.{Status}
+use Rattle.command_frame.specs.declared.status.Status.TheVariants.{Yes, No}
+use Rattle.command_line.specs.Commands.{audit, command_of}
+use Rattle.command_frame.specs.Answer.{Contents}
 use Rattle.trace_commands.specs.Audit.{IsAuditOf, AuditMeans}
 use Rattle.rt_top.specs.Report.{Reported}
 

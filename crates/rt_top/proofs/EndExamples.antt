@@ -4,12 +4,13 @@ use Rattle.std.proofs.Common.{◌≡◌, ℕ, ◌≤◌, List, [], ◌∷◌, le
 use Rattle.std.specs.Prelude.{IsOk, Ok}
 use Rattle.tree_model.specs.View.{SystemView}
 use Rattle.system_file.specs.SystemFile.{system_of}
-use Rattle.command_steps.specs.declared.status.Status.TheVariants.{Usage, BadFile, Absent, TooLong, ReadFault, WriteFault}
-use Rattle.command_words.specs.Commands.{Command, responses, interface, choose, session, place, isolate, slack, tally, version}
-use Rattle.command_steps.specs.Answer.{Contents, IsReadable}
-use Rattle.host_commands.specs.Session.{IsScript}
-use Rattle.host_commands.specs.Place.{AreGuests, SpellsBadGuest}
-use Rattle.trace_commands.specs.Audit.{IsTrace}
+use Rattle.command_frame.specs.declared.status.Status.TheVariants.{Usage, BadFile, Absent, TooLong, ReadFault, WriteFault}
+use Rattle.command_line.specs.Commands.{Command, responses, interface, choose, session, place, isolate, slack, tally, version}
+use Rattle.command_frame.specs.Answer.{Contents, IsReadable}
+use Rattle.command_frame.specs.Attempt.{GivesSome}
+use Rattle.host_commands.specs.Session.{scripting}
+use Rattle.host_commands.specs.Place.{SpellsBadGuest, guesting}
+use Rattle.trace_commands.specs.Audit.{tracing}
 use Rattle.trace_commands.specs.Rtds.{HasOtherCore}
 use Rattle.rt_top.specs.Causes.{CanJudge, EndsAs}
 
@@ -26,9 +27,9 @@ one_file_is_enough file part one n m short good =
 -- and these ask for a second file that is well formed
 two_files_are_enough : (file other one two : List ℕ) (sys : SystemView) → length one ≤ 67108864 → length two ≤ 67108864
     → system_of one ≡ Ok sys →
-    (IsScript sys two → CanJudge (session file other) (Some one ∷ Some two ∷ []))
-    × (AreGuests sys two → CanJudge (place file other) (Some one ∷ Some two ∷ []))
-    × (IsTrace sys two → CanJudge (tally file other) (Some one ∷ Some two ∷ []))
+    (GivesSome (scripting two) → CanJudge (session file other) (Some one ∷ Some two ∷ []))
+    × (GivesSome (guesting two) → CanJudge (place file other) (Some one ∷ Some two ∷ []))
+    × (GivesSome (tracing sys two) → CanJudge (tally file other) (Some one ∷ Some two ∷ []))
 two_files_are_enough file other one two sys short shorter spelled =
     let first : IsReadable 1 (Some one ∷ Some two ∷ []) (λ bytes. system_of bytes ≡ Ok sys)
     = record { bytes = one; there = refl; short = short; good = spelled } in (

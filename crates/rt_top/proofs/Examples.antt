@@ -6,11 +6,11 @@ use Rattle.std.specs.Io.KnownBytes.{Appends}
 use Rattle.outside.specs.Files.{Files, file_named}
 use Rattle.outside.specs.Written.{AppendsProperPrefix}
 use Rattle.system_file.specs.SystemFile.{system_of}
-use Rattle.command_steps.specs.declared.status.Status.{Status}
-use Rattle.command_steps.specs.declared.status.Status.TheVariants.{Yes, No, Usage, BadFile, Wide, TooLong, ReadFault, WriteFault, NoMemory}
-use Rattle.command_words.specs.Commands.{Command, admit, usage_line}
-use Rattle.command_steps.specs.Answer.{Contents, IfSystem}
-use Rattle.command_steps.specs.Budgets.{IsTrulyOverfull}
+use Rattle.command_frame.specs.declared.status.Status.{Status}
+use Rattle.command_frame.specs.declared.status.Status.TheVariants.{Yes, No, Usage, BadFile, Wide, TooLong, ReadFault, WriteFault, NoMemory}
+use Rattle.command_line.specs.Commands.{Command, admit, usage_line}
+use Rattle.command_frame.specs.Answer.{Contents, IfSystem}
+use Rattle.command_frame.specs.Budgets.{IsTrulyOverfull}
 use Rattle.admit_commands.specs.Admit.{AdmitMeans, KeepsDeadlines}
 use Rattle.rt_top.specs.Report.{IsAnswer, Reported}
 use Rattle.rt_top.specs.Causes.{HasNoAbsence, IsJudgeable, Stays}
@@ -30,13 +30,15 @@ what_a_yes_reports : (name : List ℕ) (files : Files) (old new : Option (List �
     → Reported (Some (admit name)) (Some files) Yes old new →
     (text : List ℕ) × IfSystem (file_named name files ∷ []) (λ sys. KeepsDeadlines sys text) × Appends old new text
 what_a_yes_reports name files old new h =
-    (h.text, subst (λ (c : Contents). AdmitMeans c Yes h.text) h.answer.held h.answer.means, h.written)
+    let means = subst (λ (c : Contents). IfSystem c (λ sys. AdmitMeans sys Yes h.text)) h.answer.held h.answer.means in
+    (h.text, means, h.written)
 
 what_a_no_reports : (name : List ℕ) (files : Files) (old new : Option (List ℕ))
     → Reported (Some (admit name)) (Some files) No old new →
     (text : List ℕ) × IfSystem (file_named name files ∷ []) (λ sys. IsTrulyOverfull sys text) × Appends old new text
 what_a_no_reports name files old new h =
-    (h.text, subst (λ (c : Contents). AdmitMeans c No h.text) h.answer.held h.answer.means, h.written)
+    let means = subst (λ (c : Contents). IfSystem c (λ sys. AdmitMeans sys No h.text)) h.answer.held h.answer.means in
+    (h.text, means, h.written)
 
 -- words that spell no command get the usage line, over any files
 the_usage_line_is_written : (files : Option Files) (old new : Option (List ℕ)) → Reported None files Usage old new

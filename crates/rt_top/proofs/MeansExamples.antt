@@ -25,12 +25,12 @@ use Rattle.server_sched.specs.declared.supplies.Pattern.{Pattern}
 use Rattle.tree_spans.specs.TreeCounts.{NoneMisses}
 use Rattle.cert_reader.specs.CertificateFile.{certificate_of}
 use Rattle.cert_verify.specs.Proves.{Proves}
-use Rattle.command_steps.specs.declared.status.Status.{Status}
-use Rattle.command_steps.specs.declared.status.Status.TheVariants.{Yes, No, Usage, BadFile, Wide, Absent, TooLong, ReadFault, WriteFault}
-use Rattle.command_words.specs.Commands.{Command, admit, certify, check, rtds, audit, simulate, bulk, version}
-use Rattle.command_steps.specs.Answer.{Contents, file_at, IfSystem, IsReadable}
-use Rattle.command_steps.specs.TwoFiles.{SpellsSystem}
-use Rattle.command_steps.specs.Budgets.{IsTrulyOverfull, IsTrulyUnassigned}
+use Rattle.command_frame.specs.declared.status.Status.{Status}
+use Rattle.command_frame.specs.declared.status.Status.TheVariants.{Yes, No, Usage, BadFile, Wide, Absent, TooLong, ReadFault, WriteFault}
+use Rattle.command_line.specs.Commands.{Command, admit, certify, check, rtds, audit, simulate, bulk, version}
+use Rattle.command_frame.specs.Answer.{Contents, file_at, IfSystem, IsReadable}
+use Rattle.command_frame.specs.TwoFiles.{SpellsSystem}
+use Rattle.command_frame.specs.Budgets.{IsTrulyOverfull, IsTrulyUnassigned}
 use Rattle.admit_commands.specs.Certify.{IsProof, TellsCertificate, CertifyMeans}
 use Rattle.admit_commands.specs.Check.{CheckMeans}
 use Rattle.trace_commands.specs.Rtds.{TellsRun, RunMeans, IsRunOf}
@@ -49,13 +49,15 @@ what_a_yes_certifies : (name : List ℕ) (files : Files) (old new : Option (List
     → Reported (Some (certify name)) (Some files) Yes old new →
     (text : List ℕ) × IfSystem (file_named name files ∷ []) (λ sys. TellsCertificate sys text) × Appends old new text
 what_a_yes_certifies name files old new h =
-    (h.text, subst (λ (c : Contents). CertifyMeans c Yes h.text) h.answer.held h.answer.means, h.written)
+    let means = subst (λ (c : Contents). IfSystem c (λ s. CertifyMeans s Yes h.text)) h.answer.held h.answer.means in
+    (h.text, means, h.written)
 
 what_a_no_certifies : (name : List ℕ) (files : Files) (old new : Option (List ℕ))
     → Reported (Some (certify name)) (Some files) No old new →
     (text : List ℕ) × IfSystem (file_named name files ∷ []) (λ sys. IsTrulyOverfull sys text) × Appends old new text
 what_a_no_certifies name files old new h =
-    (h.text, subst (λ (c : Contents). CertifyMeans c No h.text) h.answer.held h.answer.means, h.written)
+    let means = subst (λ (c : Contents). IfSystem c (λ s. CertifyMeans s No h.text)) h.answer.held h.answer.means in
+    (h.text, means, h.written)
 
 -- `check`: yes says that the certificate proves the system, and no that it does not
 abbrev SpellCertificate : Contents → SystemView → List NodeView → Type 0
@@ -180,25 +182,19 @@ each_command_is_judged : (file other word : List ℕ) (pattern : Pattern) (n : �
     (nodes : List NodeView) (wakes : List Wake) (events : List Event) (jobs : List (List Job)) →
     length one ≤ 67108864 → length two ≤ 67108864 → system_of one ≡ Ok sys →
     (IsOk (system_of one) → CanJudge (certify file) (Some one ∷ []))
-    × (certificate_of two ≡ Ok nodes → IsOk (certificate_of two)
-    → CanJudge (check file other) (Some one ∷ Some two ∷ []))
+    × (certificate_of two ≡ Ok nodes → CanJudge (check file other) (Some one ∷ Some two ∷ []))
     × (SpellsWorkload sys (records_of two) wakes → CanJudge (rtds file other n) (Some one ∷ Some two ∷ []))
     × (Spells sys (records_of two) events → CanJudge (audit file other) (Some one ∷ Some two ∷ []))
     × (SpellsReleases sys (records_of two) jobs → CanJudge (simulate file other pattern n) (Some one ∷ Some two ∷ []))
     × CanJudge (bulk n) []
 each_command_is_judged file other word pattern n one two sys nodes wakes events jobs short shorter spelled = (
   (λ good. readable 1 _ one _ refl short good),
-  (λ read good. record {
-    sys = sys;
-    spelled =
-        record { first = readable 1 _ one _ refl short spelled; second = readable 2 _ two _ refl shorter good };
-  }),
   (λ good. record {
     sys = sys;
     spelled =
         record {
           first = readable 1 _ one _ refl short spelled;
-          second = readable 2 _ two _ refl shorter (record { wakes = wakes; spelled = good });
+          second = readable 2 _ two _ refl shorter (record { value = nodes; gives = good });
         };
   }),
   (λ good. record {
@@ -206,7 +202,7 @@ each_command_is_judged file other word pattern n one two sys nodes wakes events 
     spelled =
         record {
           first = readable 1 _ one _ refl short spelled;
-          second = readable 2 _ two _ refl shorter (record { events = events; spelled = good });
+          second = readable 2 _ two _ refl shorter (record { value = wakes; gives = good });
         };
   }),
   (λ good. record {
@@ -214,7 +210,15 @@ each_command_is_judged file other word pattern n one two sys nodes wakes events 
     spelled =
         record {
           first = readable 1 _ one _ refl short spelled;
-          second = readable 2 _ two _ refl shorter (record { jobs = jobs; spelled = good });
+          second = readable 2 _ two _ refl shorter (record { value = events; gives = good });
+        };
+  }),
+  (λ good. record {
+    sys = sys;
+    spelled =
+        record {
+          first = readable 1 _ one _ refl short spelled;
+          second = readable 2 _ two _ refl shorter (record { value = jobs; gives = good });
         };
   }),
   tt,

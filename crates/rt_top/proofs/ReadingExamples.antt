@@ -2,10 +2,10 @@
 -- wrong definition breaks one of them.
 use Rattle.std.proofs.Common.{◌≡◌, ℕ, List, [], ◌∷◌, Some, None, refl, arith, inl, inr}
 use Rattle.outside.specs.Files.{Files, file_named}
-use Rattle.command_steps.specs.declared.status.Status.TheVariants.{Yes, No, Usage, BadFile, Wide, Absent, TooLong, ReadFault, WriteFault, NoMemory}
-use Rattle.command_words.specs.Commands.{admit, check, bulk}
-use Rattle.command_steps.specs.Reading.{read_in}
-use Rattle.command_words.specs.Reading.{bytes_to_read, NamesNoFile}
+use Rattle.command_frame.specs.declared.status.Status.TheVariants.{Yes, No, Usage, BadFile, Wide, Absent, TooLong, ReadFault, WriteFault, NoMemory}
+use Rattle.command_line.specs.Commands.{admit, check, bulk}
+use Rattle.command_frame.specs.Reading.{read_in}
+use Rattle.command_line.specs.Reading.{bytes_to_read, NamesNoFile}
 use Rattle.rt_top.specs.Reading.{Takes, EndsWithoutFile}
 
 the_files_of_the_command : (file cert : List ℕ) (files : Files)

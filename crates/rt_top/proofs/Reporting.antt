@@ -5,18 +5,18 @@ use Rattle.std.specs.Io.KnownBytes.{Appends}
 use Rattle.outside.specs.Files.{Files}
 use Rattle.outside.specs.Counts.{Rose}
 use Rattle.outside.specs.Written.{AppendsProperPrefix}
-use Rattle.command_words.specs.declared.commands.Command.{Command as Parsed}
-use Rattle.command_steps.specs.declared.status.Status.{Status}
-use Rattle.command_steps.specs.declared.status.Status.TheVariants.{Yes, No, Usage, BadFile, Wide, Absent, TooLong, ReadFault, WriteFault, NoMemory}
-use Rattle.command_words.specs.Commands.{Command, command_told, spec_of}
-use Rattle.command_steps.specs.Answer.{Contents, IsOne}
+use Rattle.command_line.specs.declared.commands.Command.{Command as Parsed}
+use Rattle.command_frame.specs.declared.status.Status.{Status}
+use Rattle.command_frame.specs.declared.status.Status.TheVariants.{Yes, No, Usage, BadFile, Wide, Absent, TooLong, ReadFault, WriteFault, NoMemory}
+use Rattle.command_line.specs.Commands.{Command, command_told, spec_of}
+use Rattle.command_frame.specs.Answer.{Contents, IsOne}
 use Rattle.rt_top.specs.Report.{JobAnswers, Answers, AreContents, IsAnswer, Reported, HasOneAnswer}
-use Rattle.command_words.specs.Reading.{contents_of}
+use Rattle.command_line.specs.Reading.{contents_of}
 use Rattle.rt_top.specs.Causes.{IsJudgeable, IsVerdictOf, Stays}
-use Rattle.command_words.specs.Steps.{IsSaidTo}
-use Rattle.command_steps.proofs.CommandLaws.{CommandLaws, no_contents}
-use Rattle.command_words.proofs.Laws.{AreLawful, laws_of}
-use Rattle.command_steps.proofs.Statuses.{IsOfJob}
+use Rattle.command_line.specs.Steps.{IsSaidTo}
+use Rattle.command_frame.proofs.CommandLaws.{CommandLaws, no_contents}
+use Rattle.command_line.proofs.Laws.{AreLawful, laws_of}
+use Rattle.command_frame.proofs.Statuses.{IsOfJob}
 
 parsed_lawful : (parsed : Option Parsed) → AreLawful (option_map command_told parsed)
 parsed_lawful None = tt

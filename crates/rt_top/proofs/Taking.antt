@@ -3,17 +3,17 @@ use Rattle.std.proofs.Common.{◌≡◌, ◌≢◌, ◌⊎◌, ℕ, ◌+◌, ◌
 use Rattle.std.specs.Prelude.{option_map}
 use Rattle.outside.specs.Counts.{RoseBy}
 use Rattle.outside.specs.Files.{Files}
-use Rattle.command_steps.specs.declared.status.Status.{Status}
-use Rattle.command_steps.specs.declared.status.Status.TheVariants.{Yes, No, Usage, BadFile, Wide, Absent, TooLong, ReadFault, WriteFault, NoMemory}
-use Rattle.command_steps.specs.declared.answer.Answer.{Answer}
-use Rattle.command_steps.specs.declared.answer.Ending.TheVariants.{Answered, Unread}
-use Rattle.command_words.specs.Commands.{Command, command_told}
+use Rattle.command_frame.specs.declared.status.Status.{Status}
+use Rattle.command_frame.specs.declared.status.Status.TheVariants.{Yes, No, Usage, BadFile, Wide, Absent, TooLong, ReadFault, WriteFault, NoMemory}
+use Rattle.command_frame.specs.declared.answer.Answer.{Answer}
+use Rattle.command_frame.specs.declared.answer.Ending.TheVariants.{Answered, Unread}
+use Rattle.command_line.specs.Commands.{Command, command_told}
 use Rattle.rt_top.specs.Report.{IsAnswer}
-use Rattle.command_words.specs.Reading.{bytes_to_read, NamesNoFile}
+use Rattle.command_line.specs.Reading.{bytes_to_read, NamesNoFile}
 use Rattle.rt_top.specs.Reading.{Takes, EndsWithoutFile}
-use Rattle.command_words.specs.declared.commands.Command.{Command as Parsed}
-use Rattle.command_words.specs.Steps.{CommandTakes}
-use Rattle.command_words.proofs.Laws.{AreLawful}
+use Rattle.command_line.specs.declared.commands.Command.{Command as Parsed}
+use Rattle.command_line.specs.Steps.{CommandTakes}
+use Rattle.command_line.proofs.Laws.{AreLawful}
 
 status_takes : (status : Status) (bytes before after : ℕ) → RoseBy bytes before after → Takes status bytes before after
 status_takes Yes bytes before after rose = rose

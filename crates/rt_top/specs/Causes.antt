@@ -1,11 +1,11 @@
 -- Why a command stops, as a store counts it, and when a verdict comes.
 use Rattle.std.specs.Prelude.{◌≡◌, ℕ, ◌-◌, ◌^◌, ◌<◌, Option, Some, ⊤}
 use Rattle.outside.specs.Files.{Files}
-use Rattle.command_steps.specs.declared.status.Status.{Status}
-use Rattle.command_steps.specs.declared.status.Status.TheVariants.{Absent, WriteFault, NoMemory}
-use Rattle.command_words.specs.Commands.{Command, spec_of}
-use Rattle.command_words.specs.Reading.{contents_of}
-use Rattle.command_steps.specs.Answer.{Contents}
+use Rattle.command_frame.specs.declared.status.Status.{Status}
+use Rattle.command_frame.specs.declared.status.Status.TheVariants.{Absent, WriteFault, NoMemory}
+use Rattle.command_line.specs.Commands.{Command, spec_of}
+use Rattle.command_line.specs.Reading.{contents_of}
+use Rattle.command_frame.specs.Answer.{Contents}
 
 -- a status before which each name was there: behind the others a missing file may stand, since its
 -- answer may fail to be written, or to be made for want of memory

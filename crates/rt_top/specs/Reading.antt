@@ -1,9 +1,9 @@
 -- How much a run takes of its files, and how words end that name none.
 use Rattle.std.specs.Prelude.{◌≡◌, ◌⊎◌, ℕ, ◌+◌, ◌≤◌, [], Option, Some, None}
 use Rattle.outside.specs.Counts.{RoseBy}
-use Rattle.command_steps.specs.declared.status.Status.{Status}
-use Rattle.command_steps.specs.declared.status.Status.TheVariants.{Yes, Usage, ReadFault, WriteFault, NoMemory}
-use Rattle.command_words.specs.Commands.{Command, file_names}
+use Rattle.command_frame.specs.declared.status.Status.{Status}
+use Rattle.command_frame.specs.declared.status.Status.TheVariants.{Yes, Usage, ReadFault, WriteFault, NoMemory}
+use Rattle.command_line.specs.Commands.{Command, file_names}
 
 -- so many bytes were taken of the store; and no more, where a read failed or memory ran out
 abbrev pub Takes : Status → ℕ → ℕ → ℕ → Type 0

@@ -4,11 +4,11 @@ use Rattle.std.specs.Prelude.{◌≡◌, ℕ, List, Option, Some, None, ⊤}
 use Rattle.std.specs.Io.KnownBytes.{Appends}
 use Rattle.outside.specs.Files.{Files}
 use Rattle.outside.specs.Written.{AppendsProperPrefix}
-use Rattle.command_steps.specs.declared.status.Status.{Status}
-use Rattle.command_steps.specs.declared.status.Status.TheVariants.{Usage, ReadFault, WriteFault, NoMemory}
-use Rattle.command_words.specs.Commands.{Command, spec_of, usage_line}
-use Rattle.command_words.specs.Reading.{names_of}
-use Rattle.command_steps.specs.Answer.{Contents, AreContentsOf, IsOne}
+use Rattle.command_frame.specs.declared.status.Status.{Status}
+use Rattle.command_frame.specs.declared.status.Status.TheVariants.{Usage, ReadFault, WriteFault, NoMemory}
+use Rattle.command_line.specs.Commands.{Command, spec_of, usage_line}
+use Rattle.command_line.specs.Reading.{names_of}
+use Rattle.command_frame.specs.Answer.{Contents, AreContentsOf, IsOne}
 
 -- the answer to a command, whose files have these contents
 abbrev pub JobAnswers : Command → Contents → Status → List ℕ → Type 0

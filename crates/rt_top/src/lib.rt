@@ -3,5 +3,5 @@
 
 mod top;
 
-pub use command_steps::Status;
+pub use command_frame::Status;
 pub use top::run;

@@ -3,15 +3,15 @@ ghost use Rattle.std.specs.Io.KnownBytes.{Appends};
 ghost use Rattle.outside.specs.Counts.{Rose, RoseBeyond};
 ghost use Rattle.outside.specs.Files.{Files};
 ghost use Rattle.outside.specs.Written.{AppendsProperPrefix};
-ghost use Rattle.command_words.specs.Commands.{command_of};
+ghost use Rattle.command_line.specs.Commands.{command_of};
 ghost use Rattle.rt_top.specs.Report.{Reported, HasOneAnswer};
 ghost use Rattle.rt_top.specs.Causes.{HasNoAbsence, IsJudgeable, IsVerdictOf, Stays};
-ghost use Rattle.command_words.specs.Reading.{bytes_to_read, NamesNoFile};
+ghost use Rattle.command_line.specs.Reading.{bytes_to_read, NamesNoFile};
 ghost use Rattle.rt_top.specs.Reading.{Takes, EndsWithoutFile};
 
 use crate::Status;
-use command_steps::Ending;
-use command_words::{answer, parse};
+use command_frame::Ending;
+use command_line::{answer, parse};
 use outside::{Sink, Store, write_all};
 use std::alloc::Global;
 

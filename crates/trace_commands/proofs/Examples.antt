@@ -15,7 +15,7 @@ use Rattle.tree_model.specs.Tree.{run_at, budget_at}
 use Rattle.tree_model.specs.Admission.{Admitted, Assigned, FirstRefusal, FirstUnassigned}
 use Rattle.compose_tree.specs.Truth.{LeafIsOverfull, RefusalHolds}
 use Rattle.slot_model.specs.Slots.{sum_below}
-use Rattle.command_steps.specs.declared.status.Status.TheVariants.{Yes, No, BadFile}
+use Rattle.command_frame.specs.declared.status.Status.TheVariants.{Yes, No, BadFile}
 use Rattle.trace_file.specs.declared.event.Event.{Event}
 use Rattle.trace_file.specs.declared.fault.TraceFault.{TraceFault}
 use Rattle.trace_file.specs.declared.fault.TraceFault.TheVariants.{BadHeader, TimeFalls}
@@ -39,20 +39,21 @@ use Rattle.rt_report.specs.Fault.{fault_text, not_rtds_text}
 use Rattle.rt_report.specs.Isolation.{isolation_text}
 use Rattle.rt_report.specs.Refusal.{refusal_text}
 use Rattle.rt_report.specs.Tally.{tally_lines}
-use Rattle.command_steps.specs.declared.status.Status.{Status}
-use Rattle.command_steps.specs.Answer.{Contents, IfSystem, IsReadable}
-use Rattle.command_steps.specs.Attempt.{OnAttempt}
-use Rattle.command_steps.specs.Budgets.{AssignedOrNone, IsTrulyOverfull, IsTrulyUnassigned, OnAssigned, assigning, composing, refusal_status}
-use Rattle.command_steps.specs.CommandSpec.{IsVerdict}
-use Rattle.command_steps.proofs.Attempt.{refused_first}
-use Rattle.command_steps.proofs.Budgets.{assigning_decided, composing_decided}
+use Rattle.command_frame.specs.declared.status.Status.{Status}
+use Rattle.command_frame.specs.Answer.{Contents, IfSystem, IsReadable}
+use Rattle.command_frame.specs.Attempt.{OnAttempt}
+use Rattle.command_frame.specs.Budgets.{AssignedOrNone, IsTrulyOverfull, IsTrulyUnassigned, OnAssigned, assigning, composing, refusal_status}
+use Rattle.command_frame.specs.CommandSpec.{IsVerdict}
+use Rattle.command_frame.proofs.Attempt.{refused_first}
+use Rattle.command_frame.proofs.Budgets.{assigning_decided, composing_decided}
 use Rattle.rtds_model.specs.Demand.{later}
 use Rattle.rtds_sim.specs.Fault.{AllRtds, IsFirstOther}
 use Rattle.system_file.specs.SystemFile.{system_of}
-use Rattle.trace_commands.specs.Audit.{tracing, finding_status, the_audit, AuditMeans, AuditsBytes, IsAudited, OnTrace, TellsSatisfied}
-use Rattle.trace_commands.specs.Isolate.{isolating, isolation_status, the_isolate, IsToldIsolation, IsolatesSystem, IsolationsMean, LineMeans, TellsIsolations}
-use Rattle.trace_commands.specs.Simulate.{kept_status, releasing, the_simulate, IsSimulated, SimulateMeans, SimulatesBytes}
-use Rattle.trace_commands.specs.Tally.{the_tally, IsToldTally, TalliesBytes, TallyMeans, TellsTally}
+use Rattle.command_frame.specs.OverFiles.{OnRead}
+use Rattle.trace_commands.specs.Audit.{tracing, finding_status, the_audit, AuditMeans, Audits, IsAudited, OnEvents, TellsSatisfied}
+use Rattle.trace_commands.specs.Isolate.{isolating, isolation_status, the_isolate, IsToldIsolation, Isolates, IsolateMeans, LineMeans, TellsIsolations}
+use Rattle.trace_commands.specs.Simulate.{kept_status, releasing, the_simulate, IsSimulated, SimulateMeans, Simulates}
+use Rattle.trace_commands.specs.Tally.{the_tally, IsToldTally, Tallies, TallyMeans, TellsTally}
 use Rattle.trace_commands.proofs.Laws.Rtds.{waking_decided}
 use Rattle.trace_commands.proofs.Laws.Simulate.{releasing_decided}
 use Rattle.trace_commands.proofs.Laws.Traced.{tracing_decided}
@@ -69,7 +70,7 @@ use Rattle.release_file.specs.Workload.{IsWorkload}
 use Rattle.release_file.specs.declared.workload.Wake.{Wake}
 use Rattle.rtds_model.specs.Rtds.{CoreRun, RtdsRun}
 use Rattle.rtds_model.specs.Giving.{AlwaysRunnable, ServersFit, AlwaysServed, GivesBudgets, NeverOver, NoneOver}
-use Rattle.trace_commands.specs.Rtds.{IsTraceOf, IsTraceText, RunMeans, RunsBytes, TellsRun, running, waking}
+use Rattle.trace_commands.specs.Rtds.{IsTraceOf, IsTraceText, RunMeans, Runs, TellsRun, running, waking}
 
 -- faults of the trace
 faults_of_the_trace : (sys : SystemView) (bytes : List ℕ) →
@@ -162,10 +163,10 @@ what_lines_say sys text all told = (
   ),
 )
 
-a_yes_isolates_all : (sys : SystemView) (text : List ℕ) → IsolationsMean sys Yes text → TellsIsolations sys text true
+a_yes_isolates_all : (sys : SystemView) (text : List ℕ) → IsolateMeans sys Yes text → TellsIsolations sys text true
 a_yes_isolates_all sys text told = told
 
-a_no_isolates_not_all : (sys : SystemView) (text : List ℕ) → IsolationsMean sys No text
+a_no_isolates_not_all : (sys : SystemView) (text : List ℕ) → IsolateMeans sys No text
     → IsTrulyOverfull sys text ⊎ TellsIsolations sys text false
 a_no_isolates_not_all sys text told = told
 
@@ -269,7 +270,7 @@ statuses_of_runs = (refl, refl, refl, refl, refl)
 -- a fault of the second file goes before a part that has no budget
 a_trace_with_a_fault : (Says : SystemView → List ℕ → List Event → Status → List ℕ → Type 0) (sys : SystemView)
     (bytes : List ℕ) (fault : TraceFault) (status : Status) (text : List ℕ)
-    → IsFileFault sys (rows_of (records_of bytes)) fault → OnTrace Says sys bytes status text
+    → IsFileFault sys (rows_of (records_of bytes)) fault → OnRead tracing (OnEvents Says) sys bytes status text
     → (status ≡ BadFile) × (text ≡ fault_text (Trace fault) 2)
 a_trace_with_a_fault Says sys bytes fault status text wrong said =
     refused_first (tracing sys bytes) (λ events. OnAssigned sys (λ budgets. Says sys budgets events))
@@ -277,7 +278,7 @@ a_trace_with_a_fault Says sys bytes fault status text wrong said =
 
 what_is_said_of_a_trace : (sys : SystemView) (bytes : List ℕ) (fault : TraceFault) (status : Status) (text : List ℕ)
     → IsFileFault sys (rows_of (records_of bytes)) fault
-    → AuditsBytes sys bytes status text ⊎ TalliesBytes sys bytes status text
+    → Audits sys bytes status text ⊎ Tallies sys bytes status text
     → (status ≡ BadFile) × (text ≡ fault_text (Trace fault) 2)
 what_is_said_of_a_trace sys bytes fault status text wrong said = elim said [
   | inl audited ↦ a_trace_with_a_fault IsAudited sys bytes fault status text wrong audited
@@ -285,7 +286,7 @@ what_is_said_of_a_trace sys bytes fault status text wrong said = elim said [
 ]
 
 a_workload_with_a_fault : (slots : ℕ) (sys : SystemView) (bytes : List ℕ) (fault : ReleaseFault) (status : Status)
-    (text : List ℕ) → IsWorkloadFault sys (wake_rows (records_of bytes)) fault → RunsBytes slots sys bytes status text
+    (text : List ℕ) → IsWorkloadFault sys (wake_rows (records_of bytes)) fault → Runs slots sys bytes status text
     → (status ≡ BadFile) × (text ≡ fault_text (Release fault) 2)
 a_workload_with_a_fault slots sys bytes fault status text wrong said =
     refused_first (waking sys bytes)
@@ -294,7 +295,7 @@ a_workload_with_a_fault slots sys bytes fault status text wrong said =
 
 releases_with_a_fault : (pattern : Pattern) (slots : ℕ) (sys : SystemView) (bytes : List ℕ) (fault : ReleaseFault)
     (status : Status) (text : List ℕ) → IsReleasesFault sys (release_rows (records_of bytes)) fault
-    → SimulatesBytes pattern slots sys bytes status text
+    → Simulates pattern slots sys bytes status text
     → (status ≡ BadFile) × (text ≡ fault_text (Release fault) 2)
 releases_with_a_fault pattern slots sys bytes fault status text wrong said =
     refused_first (releasing sys bytes) (λ jobs. OnAssigned sys (λ budgets. IsSimulated pattern slots sys jobs budgets))
@@ -303,7 +304,7 @@ releases_with_a_fault pattern slots sys bytes fault status text wrong said =
 -- and a part that has no budget, or the first node that refuses, before such a core
 a_workload_without_budgets : (slots : ℕ) (sys : SystemView) → IsSystem sys → (bytes : List ℕ) (wakes : List Wake)
     (refusal : Refusal) (status : Status) (text : List ℕ) → SpellsWorkload sys (records_of bytes) wakes
-    → FirstUnassigned sys refusal → RunsBytes slots sys bytes status text
+    → FirstUnassigned sys refusal → Runs slots sys bytes status text
     → (status ≡ refusal_status refusal) × (text ≡ refusal_text sys refusal)
 a_workload_without_budgets slots sys is bytes wakes refusal status text spelled first said = elim said [
   | inl given ↦
@@ -314,7 +315,7 @@ a_workload_without_budgets slots sys is bytes wakes refusal status text spelled 
 ]
 
 a_refused_isolation : (sys : SystemView) → IsSystem sys → (refusal : Refusal) (status : Status) (text : List ℕ)
-    → FirstRefusal sys refusal → IsolatesSystem sys status text
+    → FirstRefusal sys refusal → Isolates sys status text
     → (status ≡ refusal_status refusal) × (text ≡ refusal_text sys refusal)
 a_refused_isolation sys is refusal status text first said =
     refused_first (composing sys) (λ budgets. OnAttempt (isolating sys budgets) (IsToldIsolation sys))
@@ -335,7 +336,7 @@ files_that_are_judged file other one two sys events short shorter = (
         record {
           first = record { bytes = one; there = refl; short = short; good = is };
           second =
-              record { bytes = two; there = refl; short = shorter; good = record { events = events; spelled = good } };
+              record { bytes = two; there = refl; short = shorter; good = record { value = events; gives = good } };
         };
   }),
 )

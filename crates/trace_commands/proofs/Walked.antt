@@ -1,11 +1,15 @@
 -- From a trace that was taken piece by piece to what is answered.
-use Rattle.std.proofs.Common.{◌≡◌, ℕ, ◌++◌, List, Result, Ok, Err, sym, ◌∙◌, subst, inl, inr}
-use Rattle.std.specs.Prelude.{OnOk}
+use Rattle.std.proofs.Common.{◌≡◌, ◌⊎◌, ℕ, ◌++◌, List, Result, Ok, Err, sym, ◌∙◌, subst, inl, inr}
+use Rattle.std.specs.Prelude.{IfErr, OnOk}
+use Rattle.csv_rows.specs.Reading.{records_of}
 use Rattle.outside.specs.Taker.{Took}
 use Rattle.tree_model.specs.View.{SystemView}
 use Rattle.trace_file.specs.declared.check.TraceCheck.{TraceCheck}
 use Rattle.trace_file.specs.declared.event.Event.{Event}
+use Rattle.trace_file.specs.declared.fault.TraceFault.{TraceFault}
+use Rattle.trace_file.specs.declared.fault.TraceFault.TheVariants.{NoMemory as TraceNoMemory}
 use Rattle.trace_file.specs.Fed.{HasChecked}
+use Rattle.trace_file.specs.File.{IsFileFault, Spells, rows_of}
 use Rattle.auditor.specs.declared.finding.Finding.{Finding}
 use Rattle.auditor.specs.declared.finding.Finding.TheVariants.{Yes as Kept, Short, Over}
 use Rattle.auditor.specs.Finding.{IsFinding, IsFindingOf}
@@ -13,20 +17,25 @@ use Rattle.auditor.specs.Tally.{IsTalliedOf}
 use Rattle.vcpu_watch.specs.declared.tally.Tally.{Tally}
 use Rattle.auditor.specs.declared.pieces.Audit.{Audit}
 use Rattle.auditor.specs.Pieces.{HasAudited}
+use Rattle.rt_report.specs.declared.fault.FileFault.TheVariants.{Trace}
 use Rattle.rt_report.specs.Audit.{audit_text, IsFindingOf as IsToldOf}
 use Rattle.rt_report.specs.Tally.{tally_text}
-use Rattle.command_steps.specs.declared.status.Status.{Status}
-use Rattle.command_steps.specs.declared.answer.Ending.{Ending}
-use Rattle.command_steps.specs.declared.answer.Ending.TheVariants.{Answered, Unread, NoMemory as NoRoom}
-use Rattle.command_steps.specs.Attempt.{IsRefused}
-use Rattle.command_steps.specs.Steps.{IfAnswered, HasTaken}
+use Rattle.command_frame.specs.declared.status.Status.{Status}
+use Rattle.command_frame.specs.declared.answer.Ending.{Ending}
+use Rattle.command_frame.specs.declared.answer.Ending.TheVariants.{Answered, Unread, NoMemory as NoRoom}
+use Rattle.command_frame.specs.Attempt.{GivesSome, IsRefused}
+use Rattle.command_frame.specs.Budgets.{assigning}
+use Rattle.command_frame.specs.OverFiles.{OnRead}
+use Rattle.command_frame.specs.SecondFile.{IsToldFault}
+use Rattle.command_frame.specs.Steps.{IfAnswered, HasTaken}
+use Rattle.command_frame.proofs.SecondFile.{fault_said, unless_memory}
 use Rattle.trace_commands.specs.declared.walk.TraceWalk.{TraceWalk}
 use Rattle.trace_commands.specs.declared.walk.Walker.{Walker}
 use Rattle.trace_commands.specs.declared.walk.Walker.TheVariants.{Audits, Checks}
 use Rattle.trace_commands.specs.declared.audit.TraceCommand.{TraceCommand}
 use Rattle.trace_commands.specs.declared.audit.TraceCommand.TheVariants.{Audit as ToAudit, Tally as ToTally}
-use Rattle.trace_commands.specs.Audit.{tracing, finding_status, AuditsBytes, IsAudited, OnTrace, IsTrace}
-use Rattle.trace_commands.specs.Tally.{IsToldTally, TalliesBytes}
+use Rattle.trace_commands.specs.Audit.{tracing, finding_status, Audits as AuditsTrace, IsAudited, OnEvents}
+use Rattle.trace_commands.specs.Tally.{IsToldTally, Tallies}
 use Rattle.trace_commands.specs.Told.{trace_says}
 use Rattle.trace_commands.specs.inner.Walk.{HasWalked, HasTakenTrace, IsAuditUnder, IsWaiting, IsUnaudited}
 
@@ -85,23 +94,25 @@ told_of_part sys budgets events (Over v from got) found = found.over.period.is_p
 -- a trace that is refused, and then the budgets, is what is said of the bytes, whatever is said of
 -- a trace under budgets
 module _ (sys : SystemView) (bytes : List ℕ) where
-  pub unspelled : (stop : Ending)
-      → IfAnswered stop (λ a. IsRefused (tracing sys bytes) a.status a.text.items)
+  pub unspelled : {Made : Type 0} (made : Result Made TraceFault)
+      → IfErr made (λ fault. (fault ≡ TraceNoMemory) ⊎ IsFileFault sys (rows_of (records_of bytes)) fault)
+      → (stop : Ending) → IfAnswered stop (λ a. IsToldFault Trace made a.status a.text.items)
       → IfAnswered stop (λ a. IsUnaudited sys bytes a.status a.text.items)
-  unspelled (Answered a) refused = inr refused
-  unspelled Unread refused = tt
-  unspelled NoRoom refused = tt
+  unspelled made fault =
+      fault_said Trace (Spells sys (records_of bytes)) (IsFileFault sys (rows_of (records_of bytes))) made
+      (unless_memory (λ f. f ≡ TraceNoMemory) (IsFileFault sys (rows_of (records_of bytes))) made fault)
+      (λ events. IsRefused (assigning sys))
 
-  pub waited : IsTrace sys bytes → (stop : Ending) → IsWaiting sys stop
+  pub waited : GivesSome (tracing sys bytes) → (stop : Ending) → IsWaiting sys stop
       → IfAnswered stop (λ a. IsUnaudited sys bytes a.status a.text.items)
   waited trace (Answered a) waiting =
-      inl (record { value = trace.events; gives = trace.spelled; said = waiting.refused })
+      inl (record { value = trace.value; gives = trace.gives; said = waiting.refused })
   waited trace Unread waiting = tt
   waited trace NoRoom waiting = tt
 
   unaudited : (Says : SystemView → List ℕ → List Event → Status → List ℕ → Type 0) (stop : Ending)
       → IfAnswered stop (λ a. IsUnaudited sys bytes a.status a.text.items)
-      → IfAnswered stop (λ a. OnTrace Says sys bytes a.status a.text.items)
+      → IfAnswered stop (λ a. OnRead tracing (OnEvents Says) sys bytes a.status a.text.items)
   unaudited Says (Answered a) h = elim h [
     | inl given ↦ inl (record { value = given.value; gives = given.gives; said = inr given.said })
     | inr refused ↦ inr refused
@@ -118,7 +129,7 @@ module _ (sys : SystemView) (bytes : List ℕ) where
   -- and what is found and counted is said of it
   pub found_said : (budgets : List ℕ) (audit : Audit) (finding : Finding) (status : Status) (text : List ℕ)
       → IsAuditUnder sys bytes budgets audit → IsFindingOf sys budgets bytes finding
-      → status ≡ finding_status finding → text ≡ audit_text sys budgets finding → AuditsBytes sys bytes status text
+      → status ≡ finding_status finding → text ≡ audit_text sys budgets finding → AuditsTrace sys bytes status text
   found_said budgets audit finding status text under is status_is told =
       inl (record {
         value = is.events;
@@ -133,7 +144,7 @@ module _ (sys : SystemView) (bytes : List ℕ) where
   pub tallied_said : (budgets : List ℕ) (audit : Audit) (finding : Finding) (tallies : List Tally) (status : Status)
       (text : List ℕ) → IsAuditUnder sys bytes budgets audit → IsTalliedOf sys budgets bytes finding tallies
       → status ≡ finding_status finding → text ≡ tally_text sys budgets finding tallies
-      → TalliesBytes sys bytes status text
+      → Tallies sys bytes status text
   tallied_said budgets audit finding tallies status text under is status_is told =
       inl (record {
         value = is.events;

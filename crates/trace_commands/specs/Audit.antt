@@ -1,5 +1,5 @@
 -- `audit FILE TRACE`: what it answers, and what its yes means to who recorded the trace.
-use Rattle.std.specs.Prelude.{◌≡◌, ℕ, List, [], ◌∷◌}
+use Rattle.std.specs.Prelude.{◌≡◌, ℕ, List}
 use Rattle.csv_rows.specs.Reading.{records_of}
 use Rattle.tree_model.specs.View.{SystemView}
 use Rattle.tree_model.specs.Admission.{Assigned}
@@ -12,23 +12,20 @@ use Rattle.auditor.specs.declared.finding.Finding.TheVariants.{Yes as Kept, Shor
 use Rattle.auditor.specs.Finding.{IsFinding}
 use Rattle.rt_report.specs.declared.fault.FileFault.TheVariants.{Trace}
 use Rattle.rt_report.specs.Audit.{audit_text}
-use Rattle.rt_report.specs.Fault.{fault_text}
-use Rattle.command_steps.specs.declared.status.Status.{Status}
-use Rattle.command_steps.specs.declared.status.Status.TheVariants.{Yes, No, BadFile}
-use Rattle.command_steps.specs.CommandSpec.{CommandSpec, IsVerdict}
-use Rattle.command_steps.specs.Answer.{Contents, IfNo, IfSystem, Saying}
-use Rattle.command_steps.specs.Attempt.{Attempt, OnAttempt}
-use Rattle.command_steps.specs.Budgets.{OnAssigned, AssignedOrNone}
-use Rattle.command_steps.specs.TwoFiles.{OnTwoFiles, SpellsSystem, AreReadable}
+use Rattle.command_frame.specs.declared.status.Status.{Status}
+use Rattle.command_frame.specs.declared.status.Status.TheVariants.{Yes, No}
+use Rattle.command_frame.specs.CommandSpec.{CommandSpec, IsVerdict}
+use Rattle.command_frame.specs.Answer.{Contents, IfNo, IfSystem, Saying}
+use Rattle.command_frame.specs.Attempt.{Attempt}
+use Rattle.command_frame.specs.Budgets.{OnAssigned, AssignedOrNone}
+use Rattle.command_frame.specs.OverFiles.{OnRead, over_pair}
+use Rattle.command_frame.specs.SecondFile.{reading_as}
+use Rattle.command_frame.specs.TwoFiles.{SpellsSystem}
 
 -- the bytes of the second file spell events, or have a first fault
 abbrev pub tracing : SystemView → List ℕ → Attempt (List Event) TraceFault
-tracing sys bytes = record {
-  Gives = Spells sys (records_of bytes);
-  Refuses = IsFileFault sys (rows_of (records_of bytes));
-  status_of = λ fault. BadFile;
-  text_of = λ fault. fault_text (Trace fault) 2;
-}
+tracing sys bytes =
+    reading_as Trace (Spells sys (records_of bytes)) (IsFileFault sys (rows_of (records_of bytes)))
 
 -- yes where nothing is found
 abbrev pub finding_status : Finding → Status
@@ -44,19 +41,14 @@ pub record IsAudited (sys : SystemView) (budgets : List ℕ) (events : List Even
   pub status_is : status ≡ finding_status finding
   pub told : text ≡ audit_text sys budgets finding
 
--- the answer to a system and the bytes of a trace, where this is said of the budgets that are
--- assigned and of the events
-abbrev pub OnTrace : (SystemView → List ℕ → List Event → Status → List ℕ → Type 0)
-    → SystemView → Saying
-OnTrace Says sys bytes =
-    OnAttempt (tracing sys bytes) (λ events. OnAssigned sys (λ budgets. Says sys budgets events))
+-- the answer to a system and events, where this is said of the budgets that are assigned
+abbrev pub OnEvents : (SystemView → List ℕ → List Event → Status → List ℕ → Type 0)
+    → SystemView → List Event → Status → List ℕ → Type 0
+OnEvents Says sys events = OnAssigned sys (λ budgets. Says sys budgets events)
 
--- the answer to a system and the bytes of a trace, and to two files
-abbrev pub AuditsBytes : SystemView → Saying
-AuditsBytes = OnTrace IsAudited
-
-abbrev pub Audits : Contents → Status → List ℕ → Type 0
-Audits contents = OnTwoFiles contents AuditsBytes
+-- the answer to a system and the bytes of a trace
+abbrev pub Audits : SystemView → Saying
+Audits = OnRead tracing (OnEvents IsAudited)
 
 -- the files spell this system and these events, and these budgets are assigned to it
 pub record IsAuditOf (contents : Contents) (sys : SystemView) (budgets : List ℕ)
@@ -83,20 +75,10 @@ abbrev pub AuditMeans : Contents → Status → List ℕ → Type 0
 AuditMeans =
     TraceMeans (λ sys budgets events status text. TellsSatisfied sys budgets events status)
 
--- the files are there, short enough, and spell a system and a trace
-pub record IsTrace (sys : SystemView) (bytes : List ℕ) : Type 0 where
-  pub events : List Event
-  pub spelled : Spells sys (records_of bytes) events
+-- what there is to say of a command over a trace, and of this one
+abbrev pub over_trace : (SystemView → List ℕ → List Event → Status → List ℕ → Type 0)
+    → (Contents → Status → List ℕ → Type 0) → (file trace : List ℕ) → CommandSpec
+over_trace Says Means = over_pair tracing (OnEvents Says) Means (λ contents. IsVerdict)
 
-abbrev pub CanAudit : Contents → Type 0
-CanAudit contents = AreReadable contents IsTrace
-
--- what there is to say of the command
-abbrev pub the_audit : List ℕ → List ℕ → CommandSpec
-the_audit file trace = record {
-  files = file ∷ trace ∷ [];
-  Answers = Audits;
-  Means = AuditMeans;
-  CanJudge = CanAudit;
-  EndsAs = λ contents. IsVerdict;
-}
+abbrev pub the_audit : (file trace : List ℕ) → CommandSpec
+the_audit = over_trace IsAudited AuditMeans

@@ -1,8 +1,7 @@
 -- `isolate FILE`: what it answers, and what its yes and no mean to who lets guests block.
-use Rattle.std.specs.Prelude.{◌≡◌, ◌⊎◌, ℕ, Bool, true, false, if◌then◌else◌, List, [], ◌∷◌, length, All, ⊤}
+use Rattle.std.specs.Prelude.{◌≡◌, ◌⊎◌, ℕ, Bool, true, false, if◌then◌else◌, List, length, All, ⊤}
 use Rattle.tree_model.specs.View.{SystemView}
 use Rattle.tree_model.specs.Admission.{Admitted, Assigned}
-use Rattle.system_file.specs.SystemFile.{system_of}
 use Rattle.rtds_sim.specs.Fault.{AllRtds, IsFirstOther}
 use Rattle.rtds_model.specs.Giving.{ServersFit}
 use Rattle.isolation.specs.declared.isolation.Isolation.{Isolation}
@@ -13,12 +12,12 @@ use Rattle.isolation.specs.InTrace.{KeepsInTrace, IsExposedInTrace}
 use Rattle.isolation.specs.Answers.{own_core, AreIsolations, are_isolated}
 use Rattle.rt_report.specs.Fault.{not_rtds_text}
 use Rattle.rt_report.specs.Isolation.{isolation_text}
-use Rattle.command_steps.specs.declared.status.Status.{Status}
-use Rattle.command_steps.specs.declared.status.Status.TheVariants.{Yes, No, BadFile}
-use Rattle.command_steps.specs.Attempt.{Attempt, OnAttempt}
-use Rattle.command_steps.specs.Budgets.{OnAdmitted, IsTrulyOverfull}
-use Rattle.command_steps.specs.CommandSpec.{CommandSpec}
-use Rattle.command_steps.specs.Answer.{Contents, AtFile, OnSystem, IfSystem, HasSystem}
+use Rattle.command_frame.specs.declared.status.Status.{Status}
+use Rattle.command_frame.specs.declared.status.Status.TheVariants.{Yes, No, BadFile}
+use Rattle.command_frame.specs.Attempt.{Attempt, OnAttempt}
+use Rattle.command_frame.specs.Budgets.{OnAdmitted, IsTrulyOverfull}
+use Rattle.command_frame.specs.CommandSpec.{CommandSpec}
+use Rattle.command_frame.specs.OverFiles.{over_system_ending}
 use Rattle.trace_commands.specs.Rtds.{IsVerdictOfRun}
 
 -- over cores that are all full and under earliest deadline first, what each part on a core keeps;
@@ -45,13 +44,10 @@ pub record IsToldIsolation (sys : SystemView) (rows : List PartIsolation) (statu
   pub status_is : status ≡ isolation_status rows
   pub told : text ≡ isolation_text sys rows
 
--- the answer to a system, whose budgets are those that admit it, and to a file
-abbrev pub IsolatesSystem : SystemView → Status → List ℕ → Type 0
-IsolatesSystem sys = OnAdmitted sys (λ budgets.
+-- the answer to a system, whose budgets are those that admit it
+abbrev pub Isolates : SystemView → Status → List ℕ → Type 0
+Isolates sys = OnAdmitted sys (λ budgets.
     OnAttempt (isolating sys budgets) (IsToldIsolation sys))
-
-abbrev pub Isolates : Contents → Status → List ℕ → Type 0
-Isolates contents = AtFile 1 contents (λ bytes. OnSystem (system_of bytes) IsolatesSystem)
 
 -- What a line means of part v of core c, under the budgets with which `rtds` runs the system.
 -- `isolated`: over every workload, v has its budget in each period in whose last slots, so many, it
@@ -86,20 +82,11 @@ pub record TellsIsolations (sys : SystemView) (text : List ℕ) (all : Bool) : T
 
 -- what an answer to a system means: yes, that each part on a core is isolated; no, that it is not
 -- admitted, or that some part is not; of a wide one nothing is claimed
-abbrev pub IsolationsMean : SystemView → Status → List ℕ → Type 0
-IsolationsMean sys Yes text = TellsIsolations sys text true
-IsolationsMean sys No text = IsTrulyOverfull sys text ⊎ TellsIsolations sys text false
-IsolationsMean sys _ text = ⊤
-
-abbrev pub IsolateMeans : Contents → Status → List ℕ → Type 0
-IsolateMeans contents status text = IfSystem contents (λ sys. IsolationsMean sys status text)
+abbrev pub IsolateMeans : SystemView → Status → List ℕ → Type 0
+IsolateMeans sys Yes text = TellsIsolations sys text true
+IsolateMeans sys No text = IsTrulyOverfull sys text ⊎ TellsIsolations sys text false
+IsolateMeans sys _ text = ⊤
 
 -- what there is to say of the command
 abbrev pub the_isolate : List ℕ → CommandSpec
-the_isolate file = record {
-  files = file ∷ [];
-  Answers = Isolates;
-  Means = IsolateMeans;
-  CanJudge = HasSystem;
-  EndsAs = IsVerdictOfRun;
-}
+the_isolate = over_system_ending Isolates IsolateMeans IsVerdictOfRun

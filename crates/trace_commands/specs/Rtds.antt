@@ -1,6 +1,6 @@
 -- `rtds FILE WORKLOAD SLOTS`: what it answers, and what its yes means to who takes the trace for
 -- what the scheduler does.
-use Rattle.std.specs.Prelude.{◌≡◌, ℕ, ◌<◌, List, [], ◌∷◌, length, Option, Ok}
+use Rattle.std.specs.Prelude.{◌≡◌, ℕ, ◌<◌, List, length, Option, Ok}
 use Rattle.csv_rows.specs.Printing.{text_of}
 use Rattle.csv_rows.specs.Reading.{records_of}
 use Rattle.tree_model.specs.View.{SystemView}
@@ -19,23 +19,21 @@ use Rattle.rtds_trace.specs.Printed.{IsRtdsTrace}
 use Rattle.rtds_sim.specs.Fault.{AllRtds, IsFirstOther}
 use Rattle.rtds_model.specs.Giving.{AlwaysRunnable, ServersFit, AlwaysServed, GivesBudgets, NeverOver, NoneOver}
 use Rattle.rt_report.specs.declared.fault.FileFault.TheVariants.{Release}
-use Rattle.rt_report.specs.Fault.{fault_text, not_rtds_text}
-use Rattle.command_steps.specs.declared.status.Status.{Status}
-use Rattle.command_steps.specs.declared.status.Status.TheVariants.{Yes, BadFile}
-use Rattle.command_steps.specs.CommandSpec.{CommandSpec, IsVerdict}
-use Rattle.command_steps.specs.Answer.{Contents, IfNo, IfSystem, IsReadable}
-use Rattle.command_steps.specs.Attempt.{Attempt, OnAttempt}
-use Rattle.command_steps.specs.Budgets.{OnAssigned, IsTrulyUnassigned}
-use Rattle.command_steps.specs.TwoFiles.{OnTwoFiles, SpellsSystem, AreReadable}
+use Rattle.rt_report.specs.Fault.{not_rtds_text}
+use Rattle.command_frame.specs.declared.status.Status.{Status}
+use Rattle.command_frame.specs.declared.status.Status.TheVariants.{Yes, BadFile}
+use Rattle.command_frame.specs.CommandSpec.{CommandSpec, IsVerdict}
+use Rattle.command_frame.specs.Answer.{Contents, Saying, IfNo, IfSystem, IsReadable}
+use Rattle.command_frame.specs.Attempt.{Attempt, OnAttempt}
+use Rattle.command_frame.specs.Budgets.{OnAssigned, IsTrulyUnassigned}
+use Rattle.command_frame.specs.OverFiles.{OnRead, over_pair}
+use Rattle.command_frame.specs.SecondFile.{reading_as}
+use Rattle.command_frame.specs.TwoFiles.{SpellsSystem}
 
 -- the bytes of the second file spell a workload, or have a first fault
 abbrev pub waking : SystemView → List ℕ → Attempt (List Wake) ReleaseFault
-waking sys bytes = record {
-  Gives = SpellsWorkload sys (records_of bytes);
-  Refuses = IsWorkloadFault sys (wake_rows (records_of bytes));
-  status_of = λ fault. BadFile;
-  text_of = λ fault. fault_text (Release fault) 2;
-}
+waking sys bytes = reading_as Release (SpellsWorkload sys (records_of bytes))
+    (IsWorkloadFault sys (wake_rows (records_of bytes)))
 
 -- over cores that are all full and under earliest deadline first, the events of the run of the
 -- workload; else the first core that is not refuses
@@ -59,13 +57,13 @@ pub record IsTraceText (sys : SystemView) (events : List Event) (status : Status
   pub told : text ≡ text_of (printed_rows sys events)
   pub reads_back : Spells sys (records_of text) events
 
--- the answer to a system and the bytes of a workload, and to two files
-abbrev pub RunsBytes : ℕ → SystemView → List ℕ → Status → List ℕ → Type 0
-RunsBytes slots sys bytes = OnAttempt (waking sys bytes) (λ wakes.
-    OnAssigned sys (λ budgets. OnAttempt (running sys budgets wakes slots) (IsTraceText sys)))
+-- the answer to a system and a workload, and to a system and the bytes of one
+abbrev pub RunsWakes : ℕ → SystemView → List Wake → Status → List ℕ → Type 0
+RunsWakes slots sys wakes = OnAssigned sys
+    (λ budgets. OnAttempt (running sys budgets wakes slots) (IsTraceText sys))
 
-abbrev pub Runs : ℕ → Contents → Status → List ℕ → Type 0
-Runs slots contents = OnTwoFiles contents (RunsBytes slots)
+abbrev pub Runs : ℕ → SystemView → Saying
+Runs slots = OnRead waking (RunsWakes slots)
 
 -- the files spell this system and this workload, and these budgets are assigned to it
 pub record IsRunOf (contents : Contents) (sys : SystemView) (budgets : List ℕ)
@@ -107,14 +105,6 @@ pub record RunMeans (slots : ℕ) (contents : Contents) (status : Status) (text 
       → IsRunOf contents sys budgets wakes → status ≡ Yes → TellsRun sys budgets wakes slots text
   pub unassigned : IfSystem contents (λ sys. IfNo status (IsTrulyUnassigned sys text))
 
--- the files are there, short enough, and spell a system and a workload
-pub record IsRunnable (sys : SystemView) (bytes : List ℕ) : Type 0 where
-  pub wakes : List Wake
-  pub spelled : SpellsWorkload sys (records_of bytes) wakes
-
-abbrev pub CanRun : Contents → Type 0
-CanRun contents = AreReadable contents IsRunnable
-
 -- the first file spells a system with a core that is not full or not under earliest deadline first
 pub record HasOtherCore (contents : Contents) : Type 0 where
   pub sys : SystemView
@@ -129,11 +119,6 @@ IsVerdictOfRun contents BadFile = HasOtherCore contents
 IsVerdictOfRun contents status = IsVerdict status
 
 -- what there is to say of the command
-abbrev pub the_rtds : List ℕ → List ℕ → ℕ → CommandSpec
-the_rtds file workload slots = record {
-  files = file ∷ workload ∷ [];
-  Answers = Runs slots;
-  Means = RunMeans slots;
-  CanJudge = CanRun;
-  EndsAs = IsVerdictOfRun;
-}
+abbrev pub the_rtds : (file workload : List ℕ) (slots : ℕ) → CommandSpec
+the_rtds file workload slots =
+    over_pair waking (RunsWakes slots) (RunMeans slots) IsVerdictOfRun file workload

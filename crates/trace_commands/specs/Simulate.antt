@@ -1,5 +1,5 @@
 -- `simulate FILE RELEASES PATTERN SLOTS`: what it answers, and what its yes and no mean.
-use Rattle.std.specs.Prelude.{◌≡◌, ℕ, Bool, true, false, List, [], ◌∷◌, Option}
+use Rattle.std.specs.Prelude.{◌≡◌, ℕ, Bool, true, false, List, Option}
 use Rattle.csv_rows.specs.Reading.{records_of}
 use Rattle.slot_model.specs.declared.job.Job.{Job}
 use Rattle.tree_model.specs.View.{SystemView}
@@ -11,24 +11,21 @@ use Rattle.server_sched.specs.declared.supplies.Pattern.{Pattern}
 use Rattle.server_sched.specs.Patterns.{pattern_supplies}
 use Rattle.tree_spans.specs.TreeCounts.{CountsView, no_node_misses, AreTreeCounts, NoneMisses}
 use Rattle.rt_report.specs.declared.fault.FileFault.TheVariants.{Release}
-use Rattle.rt_report.specs.Fault.{fault_text}
 use Rattle.rt_report.specs.Simulate.{simulate_text}
-use Rattle.command_steps.specs.declared.status.Status.{Status}
-use Rattle.command_steps.specs.declared.status.Status.TheVariants.{Yes, No, BadFile}
-use Rattle.command_steps.specs.CommandSpec.{CommandSpec, IsVerdict}
-use Rattle.command_steps.specs.Answer.{Contents, IfNo, IfSystem}
-use Rattle.command_steps.specs.Attempt.{Attempt, OnAttempt}
-use Rattle.command_steps.specs.Budgets.{OnAssigned, AssignedOrNone}
-use Rattle.command_steps.specs.TwoFiles.{OnTwoFiles, SpellsSystem, AreReadable}
+use Rattle.command_frame.specs.declared.status.Status.{Status}
+use Rattle.command_frame.specs.declared.status.Status.TheVariants.{Yes, No}
+use Rattle.command_frame.specs.CommandSpec.{CommandSpec, IsVerdict}
+use Rattle.command_frame.specs.Answer.{Contents, Saying, IfNo, IfSystem}
+use Rattle.command_frame.specs.Attempt.{Attempt}
+use Rattle.command_frame.specs.Budgets.{OnAssigned, AssignedOrNone}
+use Rattle.command_frame.specs.OverFiles.{OnRead, over_pair}
+use Rattle.command_frame.specs.SecondFile.{reading_as}
+use Rattle.command_frame.specs.TwoFiles.{SpellsSystem}
 
 -- the bytes of the second file spell the jobs of each part, or have a first fault
 abbrev pub releasing : SystemView → List ℕ → Attempt (List (List Job)) ReleaseFault
-releasing sys bytes = record {
-  Gives = SpellsReleases sys (records_of bytes);
-  Refuses = IsReleasesFault sys (release_rows (records_of bytes));
-  status_of = λ fault. BadFile;
-  text_of = λ fault. fault_text (Release fault) 2;
-}
+releasing sys bytes = reading_as Release (SpellsReleases sys (records_of bytes))
+    (IsReleasesFault sys (release_rows (records_of bytes)))
 
 -- the runs of the cores and the parts are the first run of the tree over n slots of the pattern
 abbrev pub RunsFirst : SystemView → Pattern → ℕ → List (List Job) → List ℕ →
@@ -53,13 +50,13 @@ pub record IsSimulated (pattern : Pattern) (n : ℕ) (sys : SystemView) (jobs : 
   pub status_is : status ≡ kept_status (no_node_misses counts)
   pub told : text ≡ simulate_text sys counts
 
--- the answer to a system and the bytes of its releases, and to two files
-abbrev pub SimulatesBytes : Pattern → ℕ → SystemView → List ℕ → Status → List ℕ → Type 0
-SimulatesBytes pattern n sys bytes = OnAttempt (releasing sys bytes) (λ jobs.
-    OnAssigned sys (λ budgets. IsSimulated pattern n sys jobs budgets))
+-- the answer to a system and its jobs, and to a system and the bytes of its releases
+abbrev pub SimulatesJobs : Pattern → ℕ → SystemView → List (List Job) → Status → List ℕ → Type 0
+SimulatesJobs pattern n sys jobs =
+    OnAssigned sys (λ budgets. IsSimulated pattern n sys jobs budgets)
 
-abbrev pub Simulates : Pattern → ℕ → Contents → Status → List ℕ → Type 0
-Simulates pattern n contents = OnTwoFiles contents (SimulatesBytes pattern n)
+abbrev pub Simulates : Pattern → ℕ → SystemView → Saying
+Simulates pattern n = OnRead releasing (SimulatesJobs pattern n)
 
 -- the files spell this system and these jobs, these budgets are assigned to it, and these runs are
 -- its first run
@@ -87,20 +84,8 @@ pub record SimulateMeans (pattern : Pattern) (n : ℕ) (contents : Contents) (st
       → TellsNoMiss sys n jobs budgets core_runs part_runs status
   pub unassigned : IfSystem contents (λ sys. IfNo status (AssignedOrNone sys text))
 
--- the files are there, short enough, and spell a system and releases
-pub record AreJobs (sys : SystemView) (bytes : List ℕ) : Type 0 where
-  pub jobs : List (List Job)
-  pub spelled : SpellsReleases sys (records_of bytes) jobs
-
-abbrev pub CanSimulate : Contents → Type 0
-CanSimulate contents = AreReadable contents AreJobs
-
 -- what there is to say of the command
-abbrev pub the_simulate : List ℕ → List ℕ → Pattern → ℕ → CommandSpec
-the_simulate file releases pattern slots = record {
-  files = file ∷ releases ∷ [];
-  Answers = Simulates pattern slots;
-  Means = SimulateMeans pattern slots;
-  CanJudge = CanSimulate;
-  EndsAs = λ contents. IsVerdict;
-}
+abbrev pub the_simulate : (file releases : List ℕ) → Pattern → (slots : ℕ) → CommandSpec
+the_simulate file releases pattern slots =
+    over_pair releasing (SimulatesJobs pattern slots) (SimulateMeans pattern slots)
+    (λ contents. IsVerdict) file releases

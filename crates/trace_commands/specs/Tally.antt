@@ -1,6 +1,6 @@
 -- `tally FILE TRACE`: what it answers, which is that of `audit` and the counts behind it, and what
 -- it means.
-use Rattle.std.specs.Prelude.{◌≡◌, ℕ, ◌++◌, List, [], ◌∷◌, length}
+use Rattle.std.specs.Prelude.{◌≡◌, ℕ, ◌++◌, List, length}
 use Rattle.slot_model.specs.Slots.{sum_below}
 use Rattle.tree_model.specs.View.{SystemView}
 use Rattle.trace_file.specs.declared.event.Event.{Event}
@@ -11,12 +11,12 @@ use Rattle.auditor.specs.Finding.{IsFinding}
 use Rattle.auditor.specs.Tally.{AreTallies, tally_at}
 use Rattle.rt_report.specs.Audit.{audit_text}
 use Rattle.rt_report.specs.Tally.{tally_lines, tally_text}
-use Rattle.command_steps.specs.declared.status.Status.{Status}
-use Rattle.command_steps.specs.declared.status.Status.TheVariants.{Yes}
-use Rattle.command_steps.specs.CommandSpec.{CommandSpec, IsVerdict}
-use Rattle.command_steps.specs.Answer.{Contents, Saying}
-use Rattle.command_steps.specs.TwoFiles.{OnTwoFiles}
-use Rattle.trace_commands.specs.Audit.{OnTrace, finding_status, TellsSatisfied, TraceMeans, CanAudit}
+use Rattle.command_frame.specs.declared.status.Status.{Status}
+use Rattle.command_frame.specs.declared.status.Status.TheVariants.{Yes}
+use Rattle.command_frame.specs.CommandSpec.{CommandSpec}
+use Rattle.command_frame.specs.Answer.{Contents, Saying}
+use Rattle.command_frame.specs.OverFiles.{OnRead}
+use Rattle.trace_commands.specs.Audit.{tracing, over_trace, OnEvents, finding_status, TellsSatisfied, TraceMeans}
 
 -- the text tells the finding of an audit, and what is counted of each VCPU
 pub record IsToldTally (sys : SystemView) (budgets : List ℕ) (events : List Event)
@@ -28,12 +28,9 @@ pub record IsToldTally (sys : SystemView) (budgets : List ℕ) (events : List Ev
   pub status_is : status ≡ finding_status finding
   pub told : text ≡ tally_text sys budgets finding tallies
 
--- the answer to a system and the bytes of a trace, and to two files
-abbrev pub TalliesBytes : SystemView → Saying
-TalliesBytes = OnTrace IsToldTally
-
-abbrev pub Tallies : Contents → Status → List ℕ → Type 0
-Tallies contents = OnTwoFiles contents TalliesBytes
+-- the answer to a system and the bytes of a trace
+abbrev pub Tallies : SystemView → Saying
+Tallies = OnRead tracing (OnEvents IsToldTally)
 
 -- The text is that of an audit, and behind it what is counted of each VCPU. Yes and no mean what
 -- they mean after `audit`; and on yes the periods that the second line counts are those that the
@@ -54,11 +51,5 @@ abbrev pub TallyMeans : Contents → Status → List ℕ → Type 0
 TallyMeans = TraceMeans TellsTally
 
 -- what there is to say of the command
-abbrev pub the_tally : List ℕ → List ℕ → CommandSpec
-the_tally file trace = record {
-  files = file ∷ trace ∷ [];
-  Answers = Tallies;
-  Means = TallyMeans;
-  CanJudge = CanAudit;
-  EndsAs = λ contents. IsVerdict;
-}
+abbrev pub the_tally : (file trace : List ℕ) → CommandSpec
+the_tally = over_trace IsToldTally TallyMeans

@@ -1,12 +1,12 @@
 ghost use Rattle.std.specs.Prelude.{◌≡◌, List, ℕ};
-ghost use Rattle.command_steps.specs.Steps.{ending_of, IfAnswered, EndsJudged};
+ghost use Rattle.command_frame.specs.Steps.{ending_of, IfAnswered, EndsJudged};
 ghost use Rattle.trace_commands.specs.Audit.{finding_status};
-ghost use Rattle.trace_commands.specs.Told.{trace_laws, trace_says, trace_spec};
+ghost use Rattle.trace_commands.specs.Told.{trace_says};
 ghost use Rattle.trace_commands.specs.inner.Walk.{IsAuditUnder};
 
-use crate::walk::{TraceWalk, finished};
+use crate::walk::TraceWalk;
 use auditor::{Audit, Finding};
-use command_steps::{Answer, Ending, JudgePieces, Status};
+use command_frame::{Answer, Ending, JudgePieces, Status, spelled};
 use rt_report::{audit_text, tally_text};
 use std::alloc::Global;
 use tree_model::{Plan, System};
@@ -25,10 +25,6 @@ impl<'s> JudgePieces<'s> for TraceCommand {
     type Taker = TraceWalk<'s>;
 
     ghost says = { trace_says };
-
-    ghost spec = { trace_spec };
-
-    ghost laws = { trace_laws };
 
     ghost begins = { λ _ sys walk. walk.sys.now ≡ sys };
 
@@ -59,14 +55,14 @@ fn answer_of(
 {
     match command {
         TraceCommand::Audit => {
-            let finding = finished(alloc, audit.finish())?;
+            let finding = spelled(alloc, audit.finish())?;
             Ok(Answer {
                 status: status_of(finding),
                 text: audit_text(alloc, sys, plan, &finding)?,
             })
         }
         TraceCommand::Tally => {
-            let tallied = finished(alloc, audit.finish_tallied(alloc))?;
+            let tallied = spelled(alloc, audit.finish_tallied(alloc))?;
             Ok(Answer {
                 status: status_of(tallied.finding),
                 text: tally_text(alloc, sys, plan, &tallied)?,

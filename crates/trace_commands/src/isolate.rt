@@ -1,11 +1,11 @@
-ghost use Rattle.std.specs.Prelude.{◌≡◌, List, ℕ, IfOk, IfErr, refl};
+ghost use Rattle.std.specs.Prelude.{◌≡◌, List, ℕ, IfOk, IfErr};
 ghost use Rattle.tree_model.specs.Plans.{IsPlan};
-ghost use Rattle.command_steps.specs.Attempt.{IsRefused};
-ghost use Rattle.trace_commands.specs.Isolate.{IsolatesAll, IsolatesSystem, isolating, isolation_status, the_isolate};
-ghost use Rattle.command_steps.specs.Steps.{IfAnswered, EndsJudged};
+ghost use Rattle.command_frame.specs.Attempt.{IsRefused};
+ghost use Rattle.trace_commands.specs.Isolate.{IsolatesAll, Isolates, isolating, isolation_status};
+ghost use Rattle.command_frame.specs.Steps.{IfAnswered, EndsJudged};
 
 use crate::rtds::not_rtds;
-use command_steps::{Answer, Ending, JudgeOne, Status, admitted};
+use command_frame::{Answer, Ending, JudgeOne, Status, admitted};
 use isolation::{PartIsolation, are_isolated, isolations};
 use rt_report::isolation_text;
 use rtds_sim::other_core;
@@ -18,11 +18,7 @@ use tree_model::{Plan, System};
 pub struct Isolate;
 
 impl JudgeOne for Isolate {
-    ghost says = { λ _. IsolatesSystem };
-
-    ghost spec = { λ _. the_isolate };
-
-    ghost laws = { λ s file. record { files = refl; answers = λ contents status text said. said } };
+    ghost says = { λ _. Isolates };
 
     fn judge(&self, alloc: Global, sys: &System) -> Result<Answer, Ending> {
         let plan = admitted(alloc, sys)?;

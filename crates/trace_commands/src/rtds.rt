@@ -1,19 +1,17 @@
-ghost use Rattle.std.specs.Prelude.{◌≡◌, ◌<◌, List, ℕ, IfOk, IfErr, length, refl};
-ghost use Rattle.csv_rows.specs.Reading.{records_of};
+ghost use Rattle.std.specs.Prelude.{◌≡◌, ◌<◌, List, ℕ, IfOk, IfErr, length};
 ghost use Rattle.tree_model.specs.Plans.{IsPlan};
 ghost use Rattle.release_file.specs.Workload.{IsWorkload};
-ghost use Rattle.release_file.specs.WorkloadFile.{SpellsWorkload};
 ghost use Rattle.rt_report.specs.Fault.{not_rtds_text};
-ghost use Rattle.command_steps.specs.Attempt.{IsRefused};
+ghost use Rattle.command_frame.specs.Attempt.{IsRefused};
 ghost use Rattle.rtds_sim.specs.Fault.{AllRtds};
 ghost use Rattle.rtds_trace.specs.RunText.{IsRunText};
-ghost use Rattle.trace_commands.specs.Rtds.{waking, running, RunsBytes, the_rtds};
-ghost use Rattle.command_steps.specs.Steps.{IfAnswered, EndsJudged};
+ghost use Rattle.trace_commands.specs.Rtds.{running, Runs};
+ghost use Rattle.command_frame.specs.Steps.{IfAnswered, EndsJudged};
 
 use crate::slots::Slots;
-use command_steps::{Answer, Ending, JudgeTwo, Status, assigned, second_fault};
-use release_file::{ReleaseFault, Wake, read_workload};
-use rt_report::{FileFault, not_rtds_text};
+use command_frame::{Answer, Ending, JudgeTwo, Status, assigned, spelled};
+use release_file::{Wake, read_workload};
+use rt_report::not_rtds_text;
 use rtds_sim::{RtdsFault, print_rtds};
 use std::alloc::{AllocError, Global};
 use tree_model::{Plan, System};
@@ -26,39 +24,16 @@ pub struct Rtds {
 }
 
 impl JudgeTwo for Rtds {
-    ghost says = { λ s. RunsBytes s.slots.count };
-
-    ghost spec = { λ s first second. the_rtds first second s.slots.count };
-
-    ghost laws = { λ s first second. record {
-      files = refl;
-      answers = λ contents status text said. said;
-    } };
+    ghost says = { λ s. Runs s.slots.count };
 
     fn judge(&self, alloc: Global, sys: &System, bytes: &[u8]) -> Result<Answer, Ending> {
-        let wakes = spelled_workload(alloc, sys, bytes)?;
+        let wakes = spelled(alloc, read_workload(alloc, sys, bytes))?;
         let plan = assigned(alloc, sys)?;
         let text = run_text(alloc, sys, &plan, &wakes, self.slots)?;
         Ok(Answer {
             status: Status::Yes,
             text,
         })
-    }
-}
-
-// The workload that the bytes of the second file word spell. It stops where they are refused.
-fn spelled_workload(alloc: Global, sys: &System, bytes: &[u8]) -> Result<Vec<Wake>, Ending>
-    ensures spelled { IfOk result
-        (λ wakes. SpellsWorkload sys.now (records_of bytes.now) wakes.items) }
-    ensures workload { IfOk result (λ wakes. IsWorkload sys.now wakes.items) }
-    ensures refused { IfErr result (λ stop. IfAnswered stop (λ a.
-        IsRefused (waking sys.now bytes.now) a.status a.text.items)) }
-    ensures judged { IfErr result (λ stop. EndsJudged stop) }
-{
-    match read_workload(alloc, sys, bytes) {
-        Ok(wakes) => Ok(wakes),
-        Err(ReleaseFault::NoMemory) => Err(Ending::NoMemory),
-        Err(fault) => Err(second_fault(alloc, FileFault::Release(fault))),
     }
 }
 

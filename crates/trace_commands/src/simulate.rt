@@ -1,18 +1,13 @@
-ghost use Rattle.std.specs.Prelude.{◌≡◌, ◌⊎◌, List, ℕ, ◌^◌, ◌<◌, ◌≤◌, length, map, IfOk, IfErr, refl};
-ghost use Rattle.csv_rows.specs.Reading.{records_of};
+ghost use Rattle.std.specs.Prelude.{◌≡◌, ◌⊎◌, List, ℕ, ◌^◌, ◌<◌, length, map, IfOk};
 ghost use Rattle.tree_model.specs.Plans.{IsPlan};
 ghost use Rattle.tree_model.specs.System.{IsSystem};
 ghost use Rattle.tree_model.specs.Releases.{AreReleases, jobs_at};
-ghost use Rattle.release_file.specs.ReleaseFile.{SpellsReleases};
-ghost use Rattle.command_steps.specs.Answer.{file_limit};
-ghost use Rattle.command_steps.specs.Attempt.{IsRefused};
-ghost use Rattle.trace_commands.specs.Simulate.{releasing, kept_status, IsSimulated, SimulatesBytes, the_simulate};
-ghost use Rattle.command_steps.specs.Steps.{IfAnswered, EndsJudged};
+ghost use Rattle.trace_commands.specs.Simulate.{kept_status, IsSimulated, Simulates};
 
 use crate::slots::Slots;
-use command_steps::{Answer, Ending, JudgeTwo, Status, assigned, second_fault};
-use release_file::{ReleaseFault, read_releases};
-use rt_report::{FileFault, counts_text};
+use command_frame::{Answer, Ending, JudgeTwo, Status, assigned, spelled};
+use release_file::read_releases;
+use rt_report::counts_text;
 use server_sched::{Pattern, core_supplies, count_tree};
 use slot_model::Job;
 use std::alloc::{AllocError, Global};
@@ -27,38 +22,12 @@ pub struct Simulate {
 }
 
 impl JudgeTwo for Simulate {
-    ghost says = { λ s. SimulatesBytes s.pattern s.slots.count };
-
-    ghost spec = { λ s first second. the_simulate first second s.pattern s.slots.count };
-
-    ghost laws = { λ s first second. record {
-      files = refl;
-      answers = λ contents status text said. said;
-    } };
+    ghost says = { λ s. Simulates s.pattern s.slots.count };
 
     fn judge(&self, alloc: Global, sys: &System, bytes: &[u8]) -> Result<Answer, Ending> {
-        let jobs = spelled_releases(alloc, sys, bytes)?;
+        let jobs = spelled(alloc, read_releases(alloc, sys, bytes))?;
         let plan = assigned(alloc, sys)?;
         Ok(simulated(alloc, sys, &plan, &jobs, self.pattern, self.slots)?)
-    }
-}
-
-// The jobs that the bytes of the second file word spell. It stops where they are refused.
-fn spelled_releases(alloc: Global, sys: &System, bytes: &[u8]) -> Result<Vec<Vec<Job>>, Ending>
-    requires { length bytes.now ≤ file_limit }
-    ensures spelled { IfOk result (λ jobs.
-        SpellsReleases sys.now (records_of bytes.now) (map (λ j. j.items) jobs.items)) }
-    ensures legal { IfOk result (λ jobs. AreReleases sys.now (map (λ j. j.items) jobs.items)) }
-    ensures few { IfOk result (λ jobs. (q : ℕ) → q < length sys.now.parts →
-        length (jobs_at (map (λ j. j.items) jobs.items) q) < 2 ^ 32) }
-    ensures refused { IfErr result (λ stop. IfAnswered stop (λ a.
-        IsRefused (releasing sys.now bytes.now) a.status a.text.items)) }
-    ensures judged { IfErr result (λ stop. EndsJudged stop) }
-{
-    match read_releases(alloc, sys, bytes) {
-        Ok(jobs) => Ok(jobs),
-        Err(ReleaseFault::NoMemory) => Err(Ending::NoMemory),
-        Err(fault) => Err(second_fault(alloc, FileFault::Release(fault))),
     }
 }
 

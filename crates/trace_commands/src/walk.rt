@@ -1,20 +1,14 @@
-ghost use Rattle.std.specs.Prelude.{◌≡◌, ◌⊎◌, ℕ, List, [], ◌++◌, Ok, IfOk, IfErr, OnOk};
-ghost use Rattle.csv_rows.specs.Reading.{records_of};
+ghost use Rattle.std.specs.Prelude.{◌≡◌, ℕ, List, [], ◌++◌, IfOk, IfErr, OnOk};
 ghost use Rattle.tree_model.specs.View.{SystemView};
-ghost use Rattle.trace_file.specs.declared.fault.TraceFault.TheVariants.{NoMemory as TraceNoMemory};
-ghost use Rattle.trace_file.specs.File.{IsFileFault, rows_of};
-ghost use Rattle.command_steps.specs.declared.answer.Ending.TheVariants.{NoMemory};
-ghost use Rattle.command_steps.specs.Attempt.{IsRefused};
-ghost use Rattle.command_steps.specs.Steps.{IfAnswered, EndsJudged};
-ghost use Rattle.trace_commands.specs.Audit.{tracing};
+ghost use Rattle.command_frame.specs.declared.answer.Ending.TheVariants.{NoMemory};
+ghost use Rattle.command_frame.specs.Steps.{IfAnswered, EndsJudged};
 ghost use Rattle.trace_commands.specs.inner.Walk.{HasWalked, HasTakenTrace, IsAuditUnder, IsUnaudited};
 
 use auditor::Audit;
-use command_steps::{Ending, assigned, second_fault};
+use command_frame::{Ending, assigned, spelled};
 use outside::ByteTaker;
-use rt_report::FileFault;
 use std::alloc::{AllocError, Global};
-use trace_file::{TraceCheck, TraceFault};
+use trace_file::TraceCheck;
 use tree_model::{Plan, System};
 
 /// What walks over a trace: an audit under the budgets that are assigned, or, where a part has
@@ -90,7 +84,7 @@ impl<'s> TraceWalk<'s> {
         match self.walker {
             Walker::Audits(plan, audit) => Ok((plan, audit)),
             Walker::Checks(check, refused) => {
-                finished(alloc, check.finish())?;
+                spelled(alloc, check.finish())?;
                 Err(refused)
             }
         }
@@ -102,22 +96,5 @@ impl<'s> ByteTaker for TraceWalk<'s> {
 
     fn take(&mut self, piece: &[u8]) -> Result<(), AllocError> {
         self.walker.take(piece)
-    }
-}
-
-/// What is made of all bytes of a trace. It stops where they are refused.
-pub fn finished<T>(alloc: Global, made: Result<T, TraceFault>) -> Result<T, Ending>
-    ensures value { IfOk result (λ value. made ≡ Ok value) }
-    ensures refused { (sys : SystemView) (bytes : List ℕ)
-        → IfErr made (λ fault. (fault ≡ TraceNoMemory)
-        ⊎ IsFileFault sys (rows_of (records_of bytes)) fault)
-        → IfErr result (λ stop. IfAnswered stop (λ a.
-        IsRefused (tracing sys bytes) a.status a.text.items)) }
-    ensures judged { IfErr result (λ stop. EndsJudged stop) }
-{
-    match made {
-        Ok(value) => Ok(value),
-        Err(TraceFault::NoMemory) => Err(Ending::NoMemory),
-        Err(fault) => Err(second_fault(alloc, FileFault::Trace(fault))),
     }
 }

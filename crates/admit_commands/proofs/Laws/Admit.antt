@@ -7,17 +7,17 @@ use Rattle.miss_witness.specs.declared.replay.Replay.{Replay}
 use Rattle.rt_report.specs.Admit.{admit_text}
 use Rattle.miss_witness.proofs.Defeated.{replays_defeat}
 use Rattle.miss_witness.proofs.OneReplay.{one_list_of_replays}
-use Rattle.command_steps.specs.declared.status.Status.{Status}
-use Rattle.command_steps.specs.declared.status.Status.TheVariants.{Yes, No, Wide}
-use Rattle.command_steps.specs.Answer.{IsOne}
-use Rattle.command_steps.specs.Budgets.{composing}
-use Rattle.command_steps.specs.CommandSpec.{IsVerdict}
-use Rattle.admit_commands.specs.Admit.{the_admit, IsAdmission, AdmitsSystem, MeansOfSystem}
-use Rattle.command_steps.specs.Steps.{IsJudged}
-use Rattle.command_steps.proofs.Attempt.{one_attempt, statuses_attempt}
-use Rattle.command_steps.proofs.Budgets.{composing_decided, refused_means, refused_status}
-use Rattle.command_steps.proofs.CommandLaws.{CommandLaws}
-use Rattle.command_steps.proofs.OneFile.{system_laws}
+use Rattle.command_frame.specs.declared.status.Status.{Status}
+use Rattle.command_frame.specs.declared.status.Status.TheVariants.{Yes, No, Wide}
+use Rattle.command_frame.specs.Answer.{IsOne}
+use Rattle.command_frame.specs.Budgets.{composing}
+use Rattle.command_frame.specs.CommandSpec.{IsVerdict}
+use Rattle.admit_commands.specs.Admit.{the_admit, IsAdmission, Admits, AdmitMeans}
+use Rattle.command_frame.specs.Steps.{IsJudged}
+use Rattle.command_frame.proofs.Attempt.{one_attempt, statuses_attempt}
+use Rattle.command_frame.proofs.Budgets.{composing_decided, refused_means, refused_status}
+use Rattle.command_frame.proofs.CommandLaws.{CommandLaws}
+use Rattle.command_frame.proofs.OneFile.{system_laws}
 
 -- one text tells budgets
 one_admission : (sys : SystemView) (budgets : List ℕ) → IsOne (IsAdmission sys budgets)
@@ -27,16 +27,16 @@ one_admission sys budgets = λ s t x y a b.
 
 -- its statuses
 admits_status : (P : Status → Type 0) → P Yes → P No → P Wide → (sys : SystemView) (status : Status) (text : List ℕ)
-    → AdmitsSystem sys status text → P status
+    → Admits sys status text → P status
 admits_status P at_yes at_no at_wide sys status text h =
     statuses_attempt P (composing sys) (IsAdmission sys) status text (refused_status P at_no at_wide sys)
     (λ budgets admission. subst P (sym admission.is_yes) at_yes) h
 
 -- and what it means
-admits_means : (sys : SystemView) → IsSystem sys → (status : Status) (text : List ℕ) → AdmitsSystem sys status text
-    → MeansOfSystem sys status text
+admits_means : (sys : SystemView) → IsSystem sys → (status : Status) (text : List ℕ) → Admits sys status text
+    → AdmitMeans sys status text
 admits_means sys is status text h = elim h [
-  | inl a ↦ subst (λ (s : Status). MeansOfSystem sys s text) (sym a.said.is_yes)
+  | inl a ↦ subst (λ (s : Status). AdmitMeans sys s text) (sym a.said.is_yes)
       (record {
         budgets = a.value;
         replays = a.said.replays;
@@ -48,11 +48,11 @@ admits_means sys is status text h = elim h [
         defeat = replays_defeat sys is a.value a.gives a.said.replays a.said.replayed;
       })
   | inr a ↦
-      refused_means MeansOfSystem sys is (λ t over. over) (λ t. tt) a.refusal a.refuses status text a.status_is a.told
+      refused_means AdmitMeans sys is (λ t over. over) (λ t. tt) a.refusal a.refuses status text a.status_is a.told
 ]
 
 pub admit_laws : (file : List ℕ) → CommandLaws (the_admit file)
-admit_laws file = system_laws file AdmitsSystem MeansOfSystem (record {
+admit_laws file = system_laws file Admits AdmitMeans (record {
   one =
       λ sys is. one_attempt (composing sys) (IsAdmission sys) (composing_decided sys is)
       (λ budgets admitted. one_admission sys budgets);

@@ -14,16 +14,16 @@ use Rattle.cert_verify.proofs.Admits.{proves_admits}
 use Rattle.certificate.specs.Made.{IsCertificate}
 use Rattle.certificate.proofs.Shows.{certificate_proves}
 use Rattle.certificate.proofs.OneCertificate.{one_certificate}
-use Rattle.command_steps.specs.declared.status.Status.{Status}
-use Rattle.command_steps.specs.declared.status.Status.TheVariants.{Yes, No, Wide}
-use Rattle.command_steps.specs.Answer.{IsOne}
-use Rattle.command_steps.specs.CommandSpec.{IsVerdict}
-use Rattle.admit_commands.specs.Certify.{the_certify, certifying, IsPrinted, CertifiesSystem, IsProof, CertificateMeans}
-use Rattle.command_steps.specs.Steps.{IsJudged}
-use Rattle.command_steps.proofs.Attempt.{IsDecided, one_attempt, statuses_attempt}
-use Rattle.command_steps.proofs.Budgets.{refused_status, refused_means}
-use Rattle.command_steps.proofs.CommandLaws.{CommandLaws}
-use Rattle.command_steps.proofs.OneFile.{system_laws}
+use Rattle.command_frame.specs.declared.status.Status.{Status}
+use Rattle.command_frame.specs.declared.status.Status.TheVariants.{Yes, No, Wide}
+use Rattle.command_frame.specs.Answer.{IsOne}
+use Rattle.command_frame.specs.CommandSpec.{IsVerdict}
+use Rattle.admit_commands.specs.Certify.{the_certify, certifying, IsPrinted, Certifies, IsProof, CertifyMeans}
+use Rattle.command_frame.specs.Steps.{IsJudged}
+use Rattle.command_frame.proofs.Attempt.{IsDecided, one_attempt, statuses_attempt}
+use Rattle.command_frame.proofs.Budgets.{refused_status, refused_means}
+use Rattle.command_frame.proofs.CommandLaws.{CommandLaws}
+use Rattle.command_frame.proofs.OneFile.{system_laws}
 
 -- a system has one certificate or one refusal
 pub certifying_decided : (sys : SystemView) → IsSystem sys → IsDecided (certifying sys)
@@ -40,7 +40,7 @@ one_printed nodes = λ s t x y p q. (p.is_yes ∙ sym q.is_yes, p.told ∙ sym q
 
 -- its statuses
 certified_status : (P : Status → Type 0) → P Yes → P No → P Wide → (sys : SystemView) (status : Status) (text : List ℕ)
-    → CertifiesSystem sys status text → P status
+    → Certifies sys status text → P status
 certified_status P at_yes at_no at_wide sys status text h =
     statuses_attempt P (certifying sys) IsPrinted status text (refused_status P at_no at_wide sys)
     (λ nodes said. subst P (sym said.is_yes) at_yes) h
@@ -63,7 +63,7 @@ few_nodes sys is nodes made = omega (arith, is.few_cores, is.few_parts, made.are
 -- the text of the certificate of a system is its answer
 pub printed : (sys : SystemView) → IsSystem sys → (nodes : List NodeView) (text : List ℕ) → IsCertificate sys nodes
     → text ≡ certificate_text nodes → (length nodes ≤ 576 → certificate_of text ≡ Ok nodes)
-    → CertifiesSystem sys Yes text
+    → Certifies sys Yes text
 printed sys is nodes text made told spells =
     inl (record {
       value = nodes;
@@ -73,22 +73,22 @@ printed sys is nodes text made told spells =
 
 -- what it means
 certifies_means : (sys : SystemView) → IsSystem sys → (status : Status) (text : List ℕ)
-    → CertifiesSystem sys status text → CertificateMeans sys status text
+    → Certifies sys status text → CertifyMeans sys status text
 certifies_means sys is status text h = elim h [
   | inl a ↦
-      subst (λ (s : Status). CertificateMeans sys s text) (sym a.said.is_yes)
+      subst (λ (s : Status). CertifyMeans sys s text) (sym a.said.is_yes)
       (record {
         nodes = a.value;
         read = a.said.reads_back;
         proof = proof_of sys is a.value (certificate_proves sys a.value a.gives);
       })
   | inr a ↦
-      refused_means CertificateMeans sys is (λ t over. over) (λ t. tt) a.refusal a.refuses status text a.status_is
+      refused_means CertifyMeans sys is (λ t over. over) (λ t. tt) a.refusal a.refuses status text a.status_is
       a.told
 ]
 
 pub certify_laws : (file : List ℕ) → CommandLaws (the_certify file)
-certify_laws file = system_laws file CertifiesSystem CertificateMeans (record {
+certify_laws file = system_laws file Certifies CertifyMeans (record {
   one = λ sys is. one_attempt (certifying sys) IsPrinted (certifying_decided sys is) (λ nodes made. one_printed nodes);
   judged = certified_status IsJudged tt tt tt;
   verdict = certified_status IsVerdict tt tt tt;

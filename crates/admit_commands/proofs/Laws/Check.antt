@@ -1,7 +1,7 @@
 -- What `check` answers: one thing, its statuses, and what it means.
 use Rattle.std.proofs.Common.{◌≡◌, ◌⊎◌, ℕ, ◌-◌, ◌<◌, List, length, refl, sym, ◌∙◌, ap, subst, inl, inr, arith}
-use Rattle.std.specs.Prelude.{Result, Ok, Err, IsOk, nat_lt}
-use Rattle.std.proofs.lemmas.Bool.{cases_lt, cond-true, cond-false, lt-ltb, le-ltb, false≢true}
+use Rattle.std.specs.Prelude.{Result, Ok, Err, nat_lt}
+use Rattle.std.proofs.lemmas.Bool.{cases_lt, cond-true, cond-false, lt-ltb, le-ltb}
 use Rattle.tree_model.specs.declared.place.Place.{Place}
 use Rattle.tree_model.specs.declared.place.Place.TheVariants.{Core, Part}
 use Rattle.tree_model.specs.CertificateView.{NodeView}
@@ -17,15 +17,16 @@ use Rattle.cert_verify.specs.Flaws.{FirstFlaw}
 use Rattle.cert_verify.proofs.Failing.{flaw_not_proves}
 use Rattle.cert_verify.proofs.OneFlaw.{one_flaw}
 use Rattle.rt_report.specs.Check.{check_text, IsFlawOf}
-use Rattle.command_steps.specs.declared.status.Status.{Status}
-use Rattle.command_steps.specs.declared.status.Status.TheVariants.{Yes, No, Usage, BadFile, Wide, Absent, TooLong, ReadFault, WriteFault, NoMemory}
-use Rattle.command_steps.specs.Answer.{Contents, IsOne}
-use Rattle.command_steps.specs.CommandSpec.{IsYesOrNo}
+use Rattle.command_frame.specs.declared.status.Status.{Status}
+use Rattle.command_frame.specs.declared.status.Status.TheVariants.{Yes, No, Usage, BadFile, Wide, Absent, TooLong, ReadFault, WriteFault, NoMemory}
+use Rattle.command_frame.specs.Answer.{Contents, IsOne}
+use Rattle.command_frame.specs.CommandSpec.{IsYesOrNo}
 use Rattle.admit_commands.specs.Check.{the_check, spelling, IsFlawed, ChecksNodes, Checks, TellsProof, CheckMeans}
-use Rattle.command_steps.specs.Steps.{IsJudged}
-use Rattle.command_steps.proofs.Attempt.{IsDecided}
-use Rattle.command_steps.proofs.CommandLaws.{CommandLaws}
-use Rattle.command_steps.proofs.ReadSecond.{JudgesRead, is_spelled_system, read_laws, said_of_read}
+use Rattle.command_frame.specs.Steps.{IsJudged}
+use Rattle.command_frame.specs.TwoFiles.{OnTwoFiles}
+use Rattle.command_frame.proofs.Attempt.{IsDecided}
+use Rattle.command_frame.proofs.CommandLaws.{CommandLaws}
+use Rattle.command_frame.proofs.ReadSecond.{JudgesRead, is_spelled_system, read_laws, said_of_read}
 use Rattle.admit_commands.proofs.Laws.Certify.{proof_of}
 
 -- bytes spell one certificate or have one first fault
@@ -93,10 +94,6 @@ verdict_status P at_yes at_no sys nodes status text h = elim (verdict_of sys nod
   | inr a ↦ subst P (sym a.0) at_no
 ]
 
-ok_of : (r : Result (List NodeView) CertFault) → IsOk r → (nodes : List NodeView) × (r ≡ Ok nodes)
-ok_of (Ok nodes) ok = (nodes, refl)
-ok_of (Err fault) ok = absurd (false≢true ok)
-
 -- what it means
 verdict_tells : (sys : SystemView) → IsSystem sys → (nodes : List NodeView) (status : Status) (text : List ℕ)
     → ChecksNodes sys nodes status text → TellsProof sys nodes status
@@ -118,7 +115,7 @@ check_reads = record {
   judged = verdict_status IsJudged tt tt;
 }
 
-check_means : (contents : Contents) (status : Status) (text : List ℕ) → Checks contents status text
+check_means : (contents : Contents) (status : Status) (text : List ℕ) → OnTwoFiles contents Checks status text
     → CheckMeans contents status
 check_means contents status text h = λ sys nodes of.
     verdict_tells sys (is_spelled_system contents sys _ of) nodes status text
@@ -127,9 +124,8 @@ check_means contents status text h = λ sys nodes of.
 pub check_laws : (file cert : List ℕ) → CommandLaws (the_check file cert)
 check_laws file cert =
     read_laws file cert (λ sys. spelling) ChecksNodes (λ contents status text. CheckMeans contents status)
-    (λ sys bytes. IsOk (certificate_of bytes)) (λ contents. IsYesOrNo) check_reads (record {
+    (λ contents. IsYesOrNo) check_reads (record {
       means = check_means;
-      good = λ sys bytes. ok_of (certificate_of bytes);
       verdict = λ contents sys spelled. verdict_status IsYesOrNo tt tt sys;
       no_memory = λ contents. tt;
     })

@@ -21,14 +21,14 @@ use Rattle.tree_model.specs.View.{SystemView}
 use Rattle.tree_model.specs.System.{IsSystem, part_at, own_tasks_at}
 use Rattle.tree_model.specs.NamedLeaf.{IsLeafNamed}
 use Rattle.tree_model.proofs.Parents.{leaf_constrained}
-use Rattle.command_steps.specs.declared.status.Status.{Status}
-use Rattle.command_steps.specs.declared.status.Status.TheVariants.{Yes, No}
-use Rattle.command_steps.specs.Answer.{IsOne}
-use Rattle.guest_commands.specs.Choose.{choice_status, choice_text, IsChosen, ChoosesSystem, ChoiceTells, EndsChoosing, the_choose}
-use Rattle.command_steps.specs.Steps.{IsJudged}
-use Rattle.command_steps.proofs.CommandLaws.{CommandLaws}
-use Rattle.command_steps.proofs.NamedLeaf.{one_on_leaf}
-use Rattle.command_steps.proofs.OneFile.{ending_laws}
+use Rattle.command_frame.specs.declared.status.Status.{Status}
+use Rattle.command_frame.specs.declared.status.Status.TheVariants.{Yes, No}
+use Rattle.command_frame.specs.Answer.{IsOne}
+use Rattle.guest_commands.specs.Choose.{choice_status, choice_text, IsChosen, Chooses, ChooseMeans, EndsChoosing, the_choose}
+use Rattle.command_frame.specs.Steps.{IsJudged}
+use Rattle.command_frame.proofs.CommandLaws.{CommandLaws}
+use Rattle.command_frame.proofs.NamedLeaf.{one_on_leaf}
+use Rattle.command_frame.proofs.OneFile.{ending_laws}
 
 one_chosen : (sys : SystemView) (low high q : ℕ) → 1 ≤ low → IsOne (IsChosen sys low high q)
 one_chosen sys low high q some = λ s t x y a b.
@@ -55,7 +55,7 @@ chosen_status P at_yes at_no sys low high q status text h =
     subst P (sym h.status_is) (of_choice P at_yes at_no h.choice)
 
 choose_judged : (part : List ℕ) (low high : ℕ) (sys : SystemView) (status : Status) (text : List ℕ)
-    → ChoosesSystem part low high sys status text → IsJudged status
+    → Chooses part low high sys status text → IsJudged status
 choose_judged part low high sys status text h = elim h [
   | inl found ↦ chosen_status IsJudged tt tt sys low high found.value status text found.said
   | inr none ↦ subst IsJudged (sym none.status_is) tt
@@ -74,7 +74,7 @@ period_misses sched tasks fits q b some within TooWide h over = absurd (false≢
 choice_tells : (part : List ℕ) (low high : ℕ) → 1 ≤ low → (sys : SystemView) → IsSystem sys → (q : ℕ)
     → IsLeafNamed sys part q
     → (choice : Choice) → IsChoice (part_at sys q).sched (own_tasks_at sys q) low high choice
-    → ChoiceTells part low high sys (choice_status choice) (choice_text sys q choice)
+    → ChooseMeans part low high sys (choice_status choice) (choice_text sys q choice)
 choice_tells part low high some sys is q found (Best period budget) best =
     let fits : AreConstrained (own_tasks_at sys q) = leaf_constrained sys is q found.is_part in
     let some_period : 1 ≤ period = omega (arith, some, best.from) in
@@ -113,19 +113,19 @@ choice_tells part low high some sys is q found (Nothing over wide) nothing =
     }
 
 choose_means : (part : List ℕ) (low high : ℕ) → 1 ≤ low → (sys : SystemView) → IsSystem sys
-    → (status : Status) (text : List ℕ) → ChoosesSystem part low high sys status text
-    → ChoiceTells part low high sys status text
+    → (status : Status) (text : List ℕ) → Chooses part low high sys status text
+    → ChooseMeans part low high sys status text
 choose_means part low high some sys is status text h = elim h [
   | inl found ↦ (let said = found.said in
-      subst (λ (s : Status). ChoiceTells part low high sys s text) (sym said.status_is)
-      (subst (ChoiceTells part low high sys (choice_status said.choice)) (sym said.told)
+      subst (λ (s : Status). ChooseMeans part low high sys s text) (sym said.status_is)
+      (subst (ChooseMeans part low high sys (choice_status said.choice)) (sym said.told)
       (choice_tells part low high some sys is found.value found.gives said.choice said.chosen)))
-  | inr none ↦ subst (λ (s : Status). ChoiceTells part low high sys s text) (sym none.status_is) tt
+  | inr none ↦ subst (λ (s : Status). ChooseMeans part low high sys s text) (sym none.status_is) tt
 ]
 
 pub choose_laws : (file part : List ℕ) (low high : ℕ) → 1 ≤ low → CommandLaws (the_choose file part low high)
 choose_laws file part low high some =
-    ending_laws file (ChoosesSystem part low high) (ChoiceTells part low high)
+    ending_laws file (Chooses part low high) (ChooseMeans part low high)
     (EndsChoosing part)
     (record {
       one = λ sys is. one_on_leaf sys is part (IsChosen sys low high) (λ q found. one_chosen sys low high q some);

@@ -18,15 +18,15 @@ use Rattle.tree_model.specs.NamedLeaf.{IsLeafNamed}
 use Rattle.tree_model.proofs.Parents.{leaf_constrained}
 use Rattle.rt_report.specs.declared.fault.FileFault.TheVariants.{BadDeadline}
 use Rattle.rt_report.specs.Fault.{fault_text}
-use Rattle.command_steps.specs.declared.status.Status.{Status}
-use Rattle.command_steps.specs.declared.status.Status.TheVariants.{Yes, No, Wide, BadFile}
-use Rattle.command_steps.specs.Answer.{IsOne}
-use Rattle.guest_commands.specs.Interface.{least_status, least_text, IsInterface, AtDeadline, InterfacesSystem, InterfaceTells, HasNoFit, the_interface}
-use Rattle.command_steps.specs.NamedLeaf.{IsVerdictUnless}
-use Rattle.command_steps.specs.Steps.{IsJudged}
-use Rattle.command_steps.proofs.CommandLaws.{CommandLaws}
-use Rattle.command_steps.proofs.NamedLeaf.{one_on_leaf}
-use Rattle.command_steps.proofs.OneFile.{ending_laws}
+use Rattle.command_frame.specs.declared.status.Status.{Status}
+use Rattle.command_frame.specs.declared.status.Status.TheVariants.{Yes, No, Wide, BadFile}
+use Rattle.command_frame.specs.Answer.{IsOne}
+use Rattle.guest_commands.specs.Interface.{least_status, least_text, IsInterface, AtDeadline, Interfaces, InterfaceMeans, HasNoFit, the_interface}
+use Rattle.command_frame.specs.NamedLeaf.{IsVerdictUnless}
+use Rattle.command_frame.specs.Steps.{IsJudged}
+use Rattle.command_frame.proofs.CommandLaws.{CommandLaws}
+use Rattle.command_frame.proofs.NamedLeaf.{one_on_leaf}
+use Rattle.command_frame.proofs.OneFile.{ending_laws}
 
 -- a period has one least budget by a deadline
 one_interface : (sys : SystemView) (q deadline : ℕ) → 1 ≤ deadline → deadline ≤ (part_at sys q).period
@@ -78,7 +78,7 @@ at_deadline_status P at_yes at_no at_wide sys deadline q status text bad h =
     ]
 
 interface_judged : (part : List ℕ) (deadline : ℕ) (sys : SystemView) (status : Status) (text : List ℕ)
-    → InterfacesSystem part deadline sys status text → IsJudged status
+    → Interfaces part deadline sys status text → IsJudged status
 interface_judged part deadline sys status text h = elim h [
   | inl found ↦ at_deadline_status IsJudged tt tt tt sys deadline found.value status text (λ past. tt) found.said
   | inr none ↦ subst IsJudged (sym none.status_is) tt
@@ -89,7 +89,7 @@ least_tells : (part : List ℕ) (deadline : ℕ) → 1 ≤ deadline → (sys : S
     → IsLeafNamed sys part q → deadline ≤ (part_at sys q).period
     → (answer : Least)
     → IsLeastExplicit (part_at sys q).sched (own_tasks_at sys q) (part_at sys q).period deadline answer
-    → InterfaceTells part deadline sys (least_status answer) (least_text sys q deadline answer)
+    → InterfaceMeans part deadline sys (least_status answer) (least_text sys q deadline answer)
 least_tells part deadline some sys is q found in_period (Budget budget) least =
     let period : ℕ = (part_at sys q).period in
     let fits : AreConstrained (own_tasks_at sys q) = leaf_constrained sys is q found.is_part in
@@ -128,22 +128,22 @@ least_tells part deadline some sys is q found in_period (Over short) least =
 least_tells part deadline some sys is q found in_period TooWide least = tt
 
 interface_means : (part : List ℕ) (deadline : ℕ) → 1 ≤ deadline → (sys : SystemView) → IsSystem sys
-    → (status : Status) (text : List ℕ) → InterfacesSystem part deadline sys status text
-    → InterfaceTells part deadline sys status text
+    → (status : Status) (text : List ℕ) → Interfaces part deadline sys status text
+    → InterfaceMeans part deadline sys status text
 interface_means part deadline some sys is status text h = elim h [
   | inl found ↦ elim (cases_lt (part_at sys found.value).period deadline) [
-    | inl past ↦ subst (λ (s : Status). InterfaceTells part deadline sys s text) (sym (found.said.past past).0) tt
+    | inl past ↦ subst (λ (s : Status). InterfaceMeans part deadline sys s text) (sym (found.said.past past).0) tt
     | inr within ↦ (let said = found.said.within within in
-        subst (λ (s : Status). InterfaceTells part deadline sys s text) (sym said.status_is)
-        (subst (InterfaceTells part deadline sys (least_status said.answer)) (sym said.told)
+        subst (λ (s : Status). InterfaceMeans part deadline sys s text) (sym said.status_is)
+        (subst (InterfaceMeans part deadline sys (least_status said.answer)) (sym said.told)
         (least_tells part deadline some sys is found.value found.gives within said.answer said.least)))
   ]
-  | inr none ↦ subst (λ (s : Status). InterfaceTells part deadline sys s text) (sym none.status_is) tt
+  | inr none ↦ subst (λ (s : Status). InterfaceMeans part deadline sys s text) (sym none.status_is) tt
 ]
 
 pub interface_laws : (file part : List ℕ) (deadline : ℕ) → 1 ≤ deadline → CommandLaws (the_interface file part deadline)
 interface_laws file part deadline some =
-    ending_laws file (InterfacesSystem part deadline) (InterfaceTells part deadline)
+    ending_laws file (Interfaces part deadline) (InterfaceMeans part deadline)
     (IsVerdictUnless (HasNoFit part deadline))
     (record {
       one =

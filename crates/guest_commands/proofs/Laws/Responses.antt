@@ -6,17 +6,17 @@ use Rattle.tree_model.specs.Tree.{NoLoss}
 use Rattle.compose_tree.proofs.Sound.{admitted_keeping, admitted_no_loss}
 use Rattle.rt_report.specs.declared.responses.Response.{Response}
 use Rattle.rt_report.specs.Responses.{responses_text}
-use Rattle.command_steps.specs.declared.status.Status.{Status}
-use Rattle.command_steps.specs.declared.status.Status.TheVariants.{Yes, No, Wide}
-use Rattle.command_steps.specs.Answer.{IsOne}
-use Rattle.command_steps.specs.Budgets.{composing}
-use Rattle.command_steps.specs.CommandSpec.{IsVerdict}
-use Rattle.guest_commands.specs.Responses.{the_responses, IsTold, RespondsSystem, ResponsesMean}
-use Rattle.command_steps.specs.Steps.{IsJudged}
-use Rattle.command_steps.proofs.Attempt.{one_attempt, statuses_attempt}
-use Rattle.command_steps.proofs.Budgets.{composing_decided, refused_status, refused_means}
-use Rattle.command_steps.proofs.CommandLaws.{CommandLaws}
-use Rattle.command_steps.proofs.OneFile.{system_laws}
+use Rattle.command_frame.specs.declared.status.Status.{Status}
+use Rattle.command_frame.specs.declared.status.Status.TheVariants.{Yes, No, Wide}
+use Rattle.command_frame.specs.Answer.{IsOne}
+use Rattle.command_frame.specs.Budgets.{composing}
+use Rattle.command_frame.specs.CommandSpec.{IsVerdict}
+use Rattle.guest_commands.specs.Responses.{the_responses, IsTold, Responds, RespondMeans}
+use Rattle.command_frame.specs.Steps.{IsJudged}
+use Rattle.command_frame.proofs.Attempt.{one_attempt, statuses_attempt}
+use Rattle.command_frame.proofs.Budgets.{composing_decided, refused_status, refused_means}
+use Rattle.command_frame.proofs.CommandLaws.{CommandLaws}
+use Rattle.command_frame.proofs.OneFile.{system_laws}
 use Rattle.guest_commands.proofs.OneResponses.{one_list_of_responses}
 use Rattle.guest_commands.proofs.TreeResponses.{all_respond_in_tree}
 
@@ -28,17 +28,17 @@ one_told sys budgets = λ s t x y a b.
 
 -- its statuses
 responds_status : (P : Status → Type 0) → P Yes → P No → P Wide → (sys : SystemView) (status : Status) (text : List ℕ)
-    → RespondsSystem sys status text → P status
+    → Responds sys status text → P status
 responds_status P at_yes at_no at_wide sys status text h =
     statuses_attempt P (composing sys) (IsTold sys) status text (refused_status P at_no at_wide sys)
     (λ budgets told. subst P (sym told.is_yes) at_yes) h
 
-responds_means : (sys : SystemView) → IsSystem sys → (status : Status) (text : List ℕ) → RespondsSystem sys status text
-    → ResponsesMean sys status text
+responds_means : (sys : SystemView) → IsSystem sys → (status : Status) (text : List ℕ) → Responds sys status text
+    → RespondMeans sys status text
 responds_means sys is status text h = elim h [
   | inl a ↦
       let no_loss : NoLoss sys a.value = admitted_no_loss sys is a.value a.gives in
-      subst (λ (s : Status). ResponsesMean sys s text) (sym a.said.is_yes)
+      subst (λ (s : Status). RespondMeans sys s text) (sym a.said.is_yes)
       (record {
         budgets = a.value;
         admitted = a.gives;
@@ -51,11 +51,11 @@ responds_means sys is status text h = elim h [
         told = a.said.told;
       })
   | inr a ↦
-      refused_means ResponsesMean sys is (λ t over. over) (λ t. tt) a.refusal a.refuses status text a.status_is a.told
+      refused_means RespondMeans sys is (λ t over. over) (λ t. tt) a.refusal a.refuses status text a.status_is a.told
 ]
 
 pub responses_laws : (file : List ℕ) → CommandLaws (the_responses file)
-responses_laws file = system_laws file RespondsSystem ResponsesMean (record {
+responses_laws file = system_laws file Responds RespondMeans (record {
   one =
       λ sys is. one_attempt (composing sys) (IsTold sys) (composing_decided sys is)
       (λ budgets admitted. one_told sys budgets);

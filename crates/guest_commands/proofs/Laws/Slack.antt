@@ -6,18 +6,18 @@ use Rattle.compose_tree.proofs.Sound.{admitted_no_loss}
 use Rattle.slack.proofs.OneMost.{one_list_of_works}
 use Rattle.slack.proofs.Grown.{grown_without_loss}
 use Rattle.rt_report.specs.Slack.{slack_text}
-use Rattle.command_steps.specs.declared.status.Status.{Status}
-use Rattle.command_steps.specs.declared.status.Status.TheVariants.{Yes, No, Wide}
-use Rattle.command_steps.specs.Answer.{IsOne}
-use Rattle.command_steps.specs.Budgets.{composing}
-use Rattle.guest_commands.specs.Slack.{TellsWorks, SlackensLeaf, SlackensSystem, SlackTells, LacksLeaf, the_slack}
-use Rattle.command_steps.specs.NamedLeaf.{IsVerdictUnless}
-use Rattle.command_steps.specs.Steps.{IsJudged}
-use Rattle.command_steps.proofs.Attempt.{one_attempt, statuses_attempt}
-use Rattle.command_steps.proofs.Budgets.{composing_decided, refused_status, refused_means}
-use Rattle.command_steps.proofs.CommandLaws.{CommandLaws}
-use Rattle.command_steps.proofs.NamedLeaf.{one_on_leaf}
-use Rattle.command_steps.proofs.OneFile.{ending_laws}
+use Rattle.command_frame.specs.declared.status.Status.{Status}
+use Rattle.command_frame.specs.declared.status.Status.TheVariants.{Yes, No, Wide}
+use Rattle.command_frame.specs.Answer.{IsOne}
+use Rattle.command_frame.specs.Budgets.{composing}
+use Rattle.guest_commands.specs.Slack.{TellsWorks, SlackensLeaf, Slackens, SlackMeans, LacksLeaf, the_slack}
+use Rattle.command_frame.specs.NamedLeaf.{IsVerdictUnless}
+use Rattle.command_frame.specs.Steps.{IsJudged}
+use Rattle.command_frame.proofs.Attempt.{one_attempt, statuses_attempt}
+use Rattle.command_frame.proofs.Budgets.{composing_decided, refused_status, refused_means}
+use Rattle.command_frame.proofs.CommandLaws.{CommandLaws}
+use Rattle.command_frame.proofs.NamedLeaf.{one_on_leaf}
+use Rattle.command_frame.proofs.OneFile.{ending_laws}
 
 -- a leaf has one list of greatest works
 one_told : (sys : SystemView) (q : ℕ) → IsOne (TellsWorks sys q)
@@ -38,7 +38,7 @@ leaf_status P at_yes at_no at_wide sys q status text h =
     (refused_status P at_no at_wide sys) (λ budgets told. subst P (sym told.is_yes) at_yes) h
 
 slack_judged : (part : List ℕ) (sys : SystemView) (status : Status) (text : List ℕ)
-    → SlackensSystem part sys status text → IsJudged status
+    → Slackens part sys status text → IsJudged status
 slack_judged part sys status text h = elim h [
   | inl found ↦ leaf_status IsJudged tt tt tt sys found.value status text found.said
   | inr none ↦ subst IsJudged (sym none.status_is) tt
@@ -46,10 +46,10 @@ slack_judged part sys status text h = elim h [
 
 -- what it means
 slack_means : (part : List ℕ) (sys : SystemView) → IsSystem sys → (status : Status) (text : List ℕ)
-    → SlackensSystem part sys status text → SlackTells part sys status text
+    → Slackens part sys status text → SlackMeans part sys status text
 slack_means part sys is status text h = elim h [
   | inl found ↦ elim found.said [
-    | inl a ↦ subst (λ (s : Status). SlackTells part sys s text) (sym a.said.is_yes)
+    | inl a ↦ subst (λ (s : Status). SlackMeans part sys s text) (sym a.said.is_yes)
         (record {
           leaf = found.value;
           found = found.gives;
@@ -63,15 +63,15 @@ slack_means part sys is status text h = elim h [
           told = a.said.told;
         })
     | inr a ↦
-        refused_means (SlackTells part) sys is (λ t over. over) (λ t. tt) a.refusal a.refuses status text a.status_is
+        refused_means (SlackMeans part) sys is (λ t over. over) (λ t. tt) a.refusal a.refuses status text a.status_is
         a.told
   ]
-  | inr none ↦ subst (λ (s : Status). SlackTells part sys s text) (sym none.status_is) tt
+  | inr none ↦ subst (λ (s : Status). SlackMeans part sys s text) (sym none.status_is) tt
 ]
 
 pub slack_laws : (file part : List ℕ) → CommandLaws (the_slack file part)
 slack_laws file part =
-    ending_laws file (SlackensSystem part) (SlackTells part) (IsVerdictUnless (LacksLeaf part))
+    ending_laws file (Slackens part) (SlackMeans part) (IsVerdictUnless (LacksLeaf part))
     (record {
       one = λ sys is. one_on_leaf sys is part (SlackensLeaf sys) (λ q found. one_for_leaf sys is q);
       judged = slack_judged part;

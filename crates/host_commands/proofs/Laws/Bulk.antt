@@ -9,14 +9,14 @@ use Rattle.bulk_run.specs.Summary.{AreBulkCounts}
 use Rattle.bulk_run.proofs.OneCount.{one_count}
 use Rattle.bulk_run.proofs.NoMiss.{host_misses_none, none_is_counted}
 use Rattle.rt_report.specs.Bulk.{bulk_text}
-use Rattle.command_steps.specs.declared.status.Status.{Status}
-use Rattle.command_steps.specs.declared.status.Status.TheVariants.{Yes}
-use Rattle.command_steps.specs.Answer.{IsOne}
-use Rattle.command_steps.specs.CommandSpec.{IsYes}
+use Rattle.command_frame.specs.declared.status.Status.{Status}
+use Rattle.command_frame.specs.declared.status.Status.TheVariants.{Yes}
+use Rattle.command_frame.specs.Answer.{IsOne}
+use Rattle.command_frame.specs.CommandSpec.{IsYes}
 use Rattle.host_commands.specs.Bulk.{the_bulk, AnswersBulk, HostKeepsDeadlines}
-use Rattle.command_steps.specs.Steps.{IsSaid}
-use Rattle.command_steps.proofs.CommandLaws.{CommandLaws, no_contents}
-use Rattle.command_steps.proofs.Statuses.{IsOfJob}
+use Rattle.command_frame.specs.Steps.{IsSaid}
+use Rattle.command_frame.proofs.CommandLaws.{CommandLaws, no_contents}
+use Rattle.command_frame.proofs.Statuses.{IsOfJob}
 
 one_bulk : (n : ℕ) → IsOne (AnswersBulk n)
 one_bulk n = λ s t x y a b. (

@@ -18,18 +18,18 @@ use Rattle.script_file.specs.Guests.{SpellsGuests}
 use Rattle.script_file.proofs.OneGuests.{one_guests, no_guest_fault, one_guest_fault}
 use Rattle.system_file.proofs.Laws.{read_is_spelled}
 use Rattle.system_file.proofs.OneText.{one_printed_text}
-use Rattle.command_steps.specs.declared.status.Status.{Status}
-use Rattle.command_steps.specs.declared.status.Status.TheVariants.{Yes, No, Wide, BadFile}
-use Rattle.command_steps.specs.Answer.{Contents, IsOne}
-use Rattle.command_steps.specs.Attempt.{IsRefused}
-use Rattle.command_steps.specs.TwoFiles.{SpellsSystem}
-use Rattle.command_steps.specs.Budgets.{composing}
-use Rattle.host_commands.specs.Place.{the_place, guesting, placing, place_status, place_fault_text, IsPlaceFault, IsSystemText, PlacesGuests, Places, TellsUnplaced, MeansOfPlaces, PlaceMeans, AreGuests, CanPlace, EndsPlacing}
-use Rattle.command_steps.specs.Steps.{IsJudged}
-use Rattle.command_steps.proofs.Attempt.{IsDecided, one_attempt, statuses_attempt}
-use Rattle.command_steps.proofs.Budgets.{refused_status}
-use Rattle.command_steps.proofs.CommandLaws.{CommandLaws}
-use Rattle.command_steps.proofs.ReadSecond.{JudgesRead, is_spelled_system, read_laws, said_of_read}
+use Rattle.command_frame.specs.declared.status.Status.{Status}
+use Rattle.command_frame.specs.declared.status.Status.TheVariants.{Yes, No, Wide, BadFile}
+use Rattle.command_frame.specs.Answer.{Contents, IsOne}
+use Rattle.command_frame.specs.Attempt.{GivesSome, IsRefused}
+use Rattle.command_frame.specs.TwoFiles.{AreReadable, OnTwoFiles, SpellsSystem}
+use Rattle.command_frame.specs.Budgets.{composing}
+use Rattle.host_commands.specs.Place.{the_place, guesting, placing, place_status, place_fault_text, IsPlaceFault, IsSystemText, PlacesGuests, Places, TellsUnplaced, MeansOfPlaces, PlaceMeans, EndsPlacing}
+use Rattle.command_frame.specs.Steps.{IsJudged}
+use Rattle.command_frame.proofs.Attempt.{IsDecided, one_attempt, statuses_attempt}
+use Rattle.command_frame.proofs.Budgets.{refused_status}
+use Rattle.command_frame.proofs.CommandLaws.{CommandLaws}
+use Rattle.command_frame.proofs.ReadSecond.{JudgesRead, is_spelled_system, read_laws, said_of_read}
 
 pub guesting_decided : (bytes : List ℕ) → IsDecided (guesting bytes)
 guesting_decided bytes = record {
@@ -149,37 +149,33 @@ places_read = record {
   judged = λ sys guests. places_status IsJudged tt tt tt sys guests (λ i stops. tt);
 }
 
-place_means : (contents : Contents) (status : Status) (text : List ℕ) → Places contents status text
+place_means : (contents : Contents) (status : Status) (text : List ℕ) → OnTwoFiles contents Places status text
     → PlaceMeans contents status text
 place_means contents status text h = λ sys guests spelled.
     places_means sys (is_spelled_system contents sys _ spelled) guests status text
     (said_of_read (λ sys. guesting) PlacesGuests places_read contents sys guests status text spelled h)
 
 -- how it ends
-placing_ends : (contents : Contents) (status : Status) (text : List ℕ) → CanPlace contents → Places contents status text
+placing_ends : (contents : Contents) (status : Status) (text : List ℕ)
+    → AreReadable contents (λ sys bytes. GivesSome (guesting bytes)) → OnTwoFiles contents Places status text
     → EndsPlacing contents status
 placing_ends contents status text can h =
-    let guests = can.spelled.second.good.guests in
-    let spelled : SpellsSystem contents can.sys (λ bytes. SpellsGuests (records_of bytes) guests)
+    let read = can.spelled.second in
+    let spelled : SpellsSystem contents can.sys (λ bytes. SpellsGuests (records_of bytes) read.good.value)
     = record {
       first = can.spelled.first;
-      second = record {
-        bytes = can.spelled.second.bytes;
-        there = can.spelled.second.there;
-        short = can.spelled.second.short;
-        good = can.spelled.second.good.spelled;
-      };
+      second = record { bytes = read.bytes; there = read.there; short = read.short; good = read.good.gives };
     } in
-    places_status (EndsPlacing contents) tt tt tt can.sys guests
-    (λ i stops. record { sys = can.sys; guests = guests; spelled = spelled; guest = i; stops = stops }) status text
-    (said_of_read (λ sys. guesting) PlacesGuests places_read contents can.sys guests status text spelled h)
+    places_status (EndsPlacing contents) tt tt tt can.sys read.good.value
+    (λ i stops. record { sys = can.sys; guests = read.good.value; spelled = spelled; guest = i; stops = stops })
+    status text
+    (said_of_read (λ sys. guesting) PlacesGuests places_read contents can.sys read.good.value status text spelled h)
 
 pub place_laws : (file guests : List ℕ) → CommandLaws (the_place file guests)
 place_laws file guests =
-    let laws = read_laws file guests (λ sys. guesting) PlacesGuests PlaceMeans AreGuests (λ contents status. ⊤)
-    places_read (record {
+    let laws = read_laws file guests (λ sys. guesting) PlacesGuests PlaceMeans (λ contents status. ⊤) places_read
+    (record {
       means = place_means;
-      good = λ sys bytes good. (good.guests, good.spelled);
       verdict = λ contents sys spelled gs status text said. tt;
       no_memory = λ contents. tt;
     }) in

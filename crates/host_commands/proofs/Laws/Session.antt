@@ -22,17 +22,18 @@ use Rattle.admission_session.proofs.NoFault.{never_refused}
 use Rattle.script_file.specs.Script.{script_rows}
 use Rattle.script_file.proofs.OneScript.{one_script, no_script_fault, one_script_fault}
 use Rattle.rt_report.specs.Session.{session_text}
-use Rattle.command_steps.specs.declared.status.Status.{Status}
-use Rattle.command_steps.specs.declared.status.Status.TheVariants.{Yes, No, Wide}
-use Rattle.command_steps.specs.Answer.{Contents, IsOne}
-use Rattle.command_steps.specs.Budgets.{composing}
-use Rattle.command_steps.specs.CommandSpec.{IsVerdict}
-use Rattle.host_commands.specs.Session.{the_session, scripting, IsSession, EditsSystem, Edits, MeansOfEdits, SessionMeans, IsScript, DenialsHold, MakesNoSystem, RefusedMakeNone}
-use Rattle.command_steps.specs.Steps.{IsJudged}
-use Rattle.command_steps.proofs.Attempt.{IsDecided, one_attempt, statuses_attempt}
-use Rattle.command_steps.proofs.Budgets.{composing_decided, refused_status, refused_means}
-use Rattle.command_steps.proofs.CommandLaws.{CommandLaws}
-use Rattle.command_steps.proofs.ReadSecond.{JudgesRead, is_spelled_system, read_laws, said_of_read}
+use Rattle.command_frame.specs.declared.status.Status.{Status}
+use Rattle.command_frame.specs.declared.status.Status.TheVariants.{Yes, No, Wide}
+use Rattle.command_frame.specs.Answer.{Contents, IsOne}
+use Rattle.command_frame.specs.Budgets.{composing}
+use Rattle.command_frame.specs.CommandSpec.{IsVerdict}
+use Rattle.host_commands.specs.Session.{the_session, scripting, IsSession, EditsSystem, Edits, MeansOfEdits, SessionMeans, DenialsHold, MakesNoSystem, RefusedMakeNone}
+use Rattle.command_frame.specs.Steps.{IsJudged}
+use Rattle.command_frame.specs.TwoFiles.{OnTwoFiles}
+use Rattle.command_frame.proofs.Attempt.{IsDecided, one_attempt, statuses_attempt}
+use Rattle.command_frame.proofs.Budgets.{composing_decided, refused_status, refused_means}
+use Rattle.command_frame.proofs.CommandLaws.{CommandLaws}
+use Rattle.command_frame.proofs.ReadSecond.{JudgesRead, is_spelled_system, read_laws, said_of_read}
 
 pub scripting_decided : (bytes : List ℕ) → IsDecided (scripting bytes)
 scripting_decided bytes = record {
@@ -154,7 +155,7 @@ edits_read = record {
   judged = λ sys edits. edits_status IsJudged tt tt tt sys edits;
 }
 
-session_means : (contents : Contents) (status : Status) (text : List ℕ) → Edits contents status text
+session_means : (contents : Contents) (status : Status) (text : List ℕ) → OnTwoFiles contents Edits status text
     → SessionMeans contents status text
 session_means contents status text h = λ sys edits spelled.
     edits_means sys (is_spelled_system contents sys _ spelled) edits status text
@@ -162,10 +163,8 @@ session_means contents status text h = λ sys edits spelled.
 
 pub session_laws : (file script : List ℕ) → CommandLaws (the_session file script)
 session_laws file script =
-    read_laws file script (λ sys. scripting) EditsSystem SessionMeans IsScript (λ contents. IsVerdict) edits_read
-    (record {
+    read_laws file script (λ sys. scripting) EditsSystem SessionMeans (λ contents. IsVerdict) edits_read (record {
       means = session_means;
-      good = λ sys bytes script. (script.edits, script.spelled);
       verdict = λ contents sys spelled edits. edits_status IsVerdict tt tt tt sys edits;
       no_memory = λ contents. tt;
     })

@@ -5,8 +5,8 @@ use Rattle.trace_file.specs.declared.event.Event.{Event}
 use Rattle.auditor.specs.declared.finding.Finding.{Finding}
 use Rattle.auditor.proofs.OneFinding.{one_finding}
 use Rattle.rt_report.specs.Audit.{audit_text}
-use Rattle.command_steps.specs.Answer.{IsOne}
-use Rattle.command_steps.proofs.CommandLaws.{CommandLaws}
+use Rattle.command_frame.specs.Answer.{IsOne}
+use Rattle.command_frame.proofs.CommandLaws.{CommandLaws}
 use Rattle.trace_commands.specs.Audit.{the_audit, finding_status, IsAudited, TellsSatisfied}
 use Rattle.trace_commands.proofs.Laws.Traced.{finding_tells, trace_laws}
 

@@ -21,18 +21,18 @@ use Rattle.isolation.proofs.Exposed.{means, means_in_trace}
 use Rattle.isolation.proofs.Listed.{each_vcpu}
 use Rattle.isolation.proofs.OneIsolation.{one_list_of_isolations}
 use Rattle.rt_report.specs.Isolation.{isolation_text}
-use Rattle.command_steps.specs.declared.status.Status.{Status}
-use Rattle.command_steps.specs.declared.status.Status.TheVariants.{Yes, No, Wide, BadFile}
-use Rattle.command_steps.specs.Answer.{IsOne}
-use Rattle.command_steps.specs.Attempt.{OnAttempt}
-use Rattle.command_steps.specs.Budgets.{composing}
-use Rattle.trace_commands.specs.Isolate.{the_isolate, isolating, IsolatesAll, IsToldIsolation, IsolatesSystem, LineMeans, TellsIsolations, IsolationsMean}
+use Rattle.command_frame.specs.declared.status.Status.{Status}
+use Rattle.command_frame.specs.declared.status.Status.TheVariants.{Yes, No, Wide, BadFile}
+use Rattle.command_frame.specs.Answer.{IsOne}
+use Rattle.command_frame.specs.Attempt.{OnAttempt}
+use Rattle.command_frame.specs.Budgets.{composing}
+use Rattle.trace_commands.specs.Isolate.{the_isolate, isolating, IsolatesAll, IsToldIsolation, Isolates, LineMeans, TellsIsolations, IsolateMeans}
 use Rattle.trace_commands.specs.Rtds.{IsVerdictOfRun}
-use Rattle.command_steps.specs.Steps.{IsJudged}
-use Rattle.command_steps.proofs.Attempt.{IsDecided, one_attempt, statuses_attempt}
-use Rattle.command_steps.proofs.Budgets.{composing_decided, refused_status, refused_means}
-use Rattle.command_steps.proofs.CommandLaws.{CommandLaws}
-use Rattle.command_steps.proofs.OneFile.{ending_laws}
+use Rattle.command_frame.specs.Steps.{IsJudged}
+use Rattle.command_frame.proofs.Attempt.{IsDecided, one_attempt, statuses_attempt}
+use Rattle.command_frame.proofs.Budgets.{composing_decided, refused_status, refused_means}
+use Rattle.command_frame.proofs.CommandLaws.{CommandLaws}
+use Rattle.command_frame.proofs.OneFile.{ending_laws}
 use Rattle.trace_commands.proofs.Laws.Rtds.{one_other, servers_fit}
 
 -- there is one list of what parts keep, or one first core that is not full under earliest deadline
@@ -51,7 +51,7 @@ Says sys budgets = OnAttempt (isolating sys budgets) (IsToldIsolation sys)
 one_told : (sys : SystemView) (rows : List PartIsolation) → IsOne (IsToldIsolation sys rows)
 one_told sys rows = λ s t x y p q. (p.status_is ∙ sym q.status_is, p.told ∙ sym q.told)
 
-one_isolated : (sys : SystemView) → IsSystem sys → IsOne (IsolatesSystem sys)
+one_isolated : (sys : SystemView) → IsSystem sys → IsOne (Isolates sys)
 one_isolated sys is =
     one_attempt (composing sys) (Says sys) (composing_decided sys is)
     (λ budgets admitted. one_attempt (isolating sys budgets) (IsToldIsolation sys)
@@ -64,7 +64,7 @@ either_status P at_yes at_no true = at_yes
 either_status P at_yes at_no false = at_no
 
 isolates_status : (P : Status → Type 0) → P Yes → P No → P Wide → (sys : SystemView) (status : Status) (text : List ℕ)
-    → ((c : ℕ) → IsFirstOther sys c → P BadFile) → IsolatesSystem sys status text → P status
+    → ((c : ℕ) → IsFirstOther sys c → P BadFile) → Isolates sys status text → P status
 isolates_status P at_yes at_no at_wide sys status text at_other h =
     statuses_attempt P (composing sys) (Says sys) status text (refused_status P at_no at_wide sys)
     (λ budgets said. statuses_attempt P (isolating sys budgets) (IsToldIsolation sys) status text at_other
@@ -109,28 +109,28 @@ tells sys is budgets admitted rows h text told b e = record {
 
 told_means : (sys : SystemView) → IsSystem sys → (budgets : List ℕ) → Admitted sys budgets → (rows : List PartIsolation)
     → IsolatesAll sys budgets rows → (status : Status) (text : List ℕ) → IsToldIsolation sys rows status text
-    → IsolationsMean sys status text
+    → IsolateMeans sys status text
 told_means sys is budgets admitted rows h status text told =
-    subst (λ (s : Status). IsolationsMean sys s text) (sym told.status_is) (go (are_isolated rows) refl)
+    subst (λ (s : Status). IsolateMeans sys s text) (sym told.status_is) (go (are_isolated rows) refl)
   where
-    go : (b : Bool) → are_isolated rows ≡ b → IsolationsMean sys (cond b Yes No) text
+    go : (b : Bool) → are_isolated rows ≡ b → IsolateMeans sys (cond b Yes No) text
     go true e = tells sys is budgets admitted rows h text told.told true e
     go false e = inr (tells sys is budgets admitted rows h text told.told false e)
 
-isolates_means : (sys : SystemView) → IsSystem sys → (status : Status) (text : List ℕ) → IsolatesSystem sys status text
-    → IsolationsMean sys status text
+isolates_means : (sys : SystemView) → IsSystem sys → (status : Status) (text : List ℕ) → Isolates sys status text
+    → IsolateMeans sys status text
 isolates_means sys is status text h = elim h [
   | inl a ↦ elim a.said [
     | inl given ↦ told_means sys is a.value a.gives given.value given.gives status text given.said
-    | inr other ↦ subst (λ (s : Status). IsolationsMean sys s text) (sym other.status_is) tt
+    | inr other ↦ subst (λ (s : Status). IsolateMeans sys s text) (sym other.status_is) tt
   ]
   | inr a ↦
-      refused_means IsolationsMean sys is (λ t over. inl over) (λ t. tt) a.refusal a.refuses status text a.status_is
+      refused_means IsolateMeans sys is (λ t over. inl over) (λ t. tt) a.refusal a.refuses status text a.status_is
       a.told
 ]
 
 pub isolate_laws : (file : List ℕ) → CommandLaws (the_isolate file)
-isolate_laws file = ending_laws file IsolatesSystem IsolationsMean IsVerdictOfRun
+isolate_laws file = ending_laws file Isolates IsolateMeans IsVerdictOfRun
     (record {
       one = one_isolated;
       judged = λ sys status text. isolates_status IsJudged tt tt tt sys status text (λ c other. tt);

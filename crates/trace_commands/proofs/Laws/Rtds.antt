@@ -23,17 +23,18 @@ use Rattle.rtds_model.specs.Rtds.{is_full, is_rtds}
 use Rattle.rtds_sim.specs.Fault.{AllRtds, IsFirstOther}
 use Rattle.rtds_model.specs.Giving.{AlwaysServed, ServersFit}
 use Rattle.rtds_trace.proofs.RunTraces.{each_gives, each_never_over, trace_of, trace_none_over, trace_satisfied}
-use Rattle.command_steps.specs.declared.status.Status.{Status}
-use Rattle.command_steps.specs.declared.status.Status.TheVariants.{Yes, BadFile}
-use Rattle.command_steps.specs.Answer.{Contents, IfNo, IsOne, IsReadable}
-use Rattle.command_steps.specs.Attempt.{OnAttempt}
-use Rattle.command_steps.specs.Budgets.{IsTrulyUnassigned, OnAssigned}
-use Rattle.trace_commands.specs.Rtds.{the_rtds, waking, running, IsTraceOf, IsTraceText, Runs, IsRunOf, IsServed, TellsRun, RunMeans, IsRunnable, IsVerdictOfRun}
-use Rattle.command_steps.specs.Steps.{IsJudged}
-use Rattle.command_steps.proofs.Attempt.{IsDecided, one_attempt, statuses_attempt}
-use Rattle.command_steps.proofs.Budgets.{no_without_budgets, one_assigned, said_of_assigned, statuses_assigned}
-use Rattle.command_steps.proofs.CommandLaws.{CommandLaws}
-use Rattle.command_steps.proofs.ReadSecond.{JudgesRead, is_spelled_system, no_of_read, read_laws, said_of_read}
+use Rattle.command_frame.specs.declared.status.Status.{Status}
+use Rattle.command_frame.specs.declared.status.Status.TheVariants.{Yes, BadFile}
+use Rattle.command_frame.specs.Answer.{Contents, IfNo, IsOne, IsReadable}
+use Rattle.command_frame.specs.Attempt.{OnAttempt}
+use Rattle.command_frame.specs.Budgets.{IsTrulyUnassigned}
+use Rattle.trace_commands.specs.Rtds.{the_rtds, waking, running, IsTraceOf, IsTraceText, Runs, RunsWakes, IsRunOf, IsServed, TellsRun, RunMeans, IsVerdictOfRun}
+use Rattle.command_frame.specs.Steps.{IsJudged}
+use Rattle.command_frame.specs.TwoFiles.{OnTwoFiles}
+use Rattle.command_frame.proofs.Attempt.{IsDecided, one_attempt, statuses_attempt}
+use Rattle.command_frame.proofs.Budgets.{no_without_budgets, one_assigned, said_of_assigned, statuses_assigned}
+use Rattle.command_frame.proofs.CommandLaws.{CommandLaws}
+use Rattle.command_frame.proofs.ReadSecond.{JudgesRead, is_spelled_system, no_of_read, read_laws, said_of_read}
 
 pub waking_decided : (sys : SystemView) (bytes : List ℕ) → IsDecided (waking sys bytes)
 waking_decided sys bytes = record {
@@ -41,10 +42,6 @@ waking_decided sys bytes = record {
   never_both = no_workload_fault sys (records_of bytes);
   one_refusal = one_workload_fault sys (wake_rows (records_of bytes));
 }
-
--- what is said of the workload
-abbrev RunsWakes : ℕ → SystemView → List Wake → Status → List ℕ → Type 0
-RunsWakes slots sys wakes = OnAssigned sys (λ budgets. OnAttempt (running sys budgets wakes slots) (IsTraceText sys))
 
 -- there is one trace of a workload, and one first core that is not full under earliest deadline
 -- first
@@ -159,7 +156,7 @@ printed_tells sys is budgets plan wakes workload slots few status text h told = 
 ]
 
 run_tells : (slots : ℕ) → slots ≤ 1000000 → (contents : Contents) (status : Status) (text : List ℕ)
-    → Runs slots contents status text → (sys : SystemView) (budgets : List ℕ) (wakes : List Wake)
+    → OnTwoFiles contents (Runs slots) status text → (sys : SystemView) (budgets : List ℕ) (wakes : List Wake)
     → IsRunOf contents sys budgets wakes → status ≡ Yes → TellsRun sys budgets wakes slots text
 run_tells slots few contents status text h = λ sys budgets wakes of told.
     let is : IsSystem sys = is_spelled_system contents sys _ of.spelled in
@@ -180,7 +177,7 @@ no_unassigned slots sys is wakes status text h =
     (λ events. printed_status (λ (s : Status). IfNo s (IsTrulyUnassigned sys text)) tt sys events status text)) h
 
 run_means : (slots : ℕ) → slots ≤ 1000000 → (contents : Contents) (status : Status) (text : List ℕ)
-    → Runs slots contents status text → RunMeans slots contents status text
+    → OnTwoFiles contents (Runs slots) status text → RunMeans slots contents status text
 run_means slots few contents status text h = record {
   run = run_tells slots few contents status text h;
   unassigned =
@@ -190,10 +187,8 @@ run_means slots few contents status text h = record {
 
 pub rtds_laws : (file workload : List ℕ) (slots : ℕ) → slots ≤ 1000000 → CommandLaws (the_rtds file workload slots)
 rtds_laws file workload slots few =
-    read_laws file workload waking (RunsWakes slots) (RunMeans slots) IsRunnable IsVerdictOfRun (run_reads slots)
-    (record {
+    read_laws file workload waking (RunsWakes slots) (RunMeans slots) IsVerdictOfRun (run_reads slots) (record {
       means = run_means slots few;
-      good = λ sys bytes workload. (workload.wakes, workload.spelled);
       verdict = run_verdict slots;
       no_memory = λ contents. tt;
     })

@@ -13,17 +13,18 @@ use Rattle.tree_spans.specs.TreeCounts.{CountsView, no_node_misses, AreTreeCount
 use Rattle.server_sched.proofs.Counted.{kept_exactly}
 use Rattle.rt_report.specs.Simulate.{simulate_text}
 use Rattle.rt_report.proofs.OneCounts.{one_counts}
-use Rattle.command_steps.specs.declared.status.Status.{Status}
-use Rattle.command_steps.specs.declared.status.Status.TheVariants.{Yes, No, Wide}
-use Rattle.command_steps.specs.Answer.{Contents, IsOne}
-use Rattle.command_steps.specs.Budgets.{AssignedOrNone, OnAssigned}
-use Rattle.command_steps.specs.CommandSpec.{IsVerdict}
-use Rattle.trace_commands.specs.Simulate.{the_simulate, releasing, RunsFirst, kept_status, IsSimulated, IsSimulationOf, Simulates, TellsNoMiss, SimulateMeans, AreJobs}
-use Rattle.command_steps.specs.Steps.{IsJudged}
-use Rattle.command_steps.proofs.Attempt.{IsDecided}
-use Rattle.command_steps.proofs.Budgets.{no_of_assigned, one_assigned, said_of_assigned, statuses_assigned}
-use Rattle.command_steps.proofs.CommandLaws.{CommandLaws}
-use Rattle.command_steps.proofs.ReadSecond.{JudgesRead, is_spelled_system, no_of_read, read_laws, said_of_read}
+use Rattle.command_frame.specs.declared.status.Status.{Status}
+use Rattle.command_frame.specs.declared.status.Status.TheVariants.{Yes, No, Wide}
+use Rattle.command_frame.specs.Answer.{Contents, IsOne}
+use Rattle.command_frame.specs.Budgets.{AssignedOrNone}
+use Rattle.command_frame.specs.CommandSpec.{IsVerdict}
+use Rattle.trace_commands.specs.Simulate.{the_simulate, releasing, RunsFirst, kept_status, IsSimulated, IsSimulationOf, Simulates, SimulatesJobs, TellsNoMiss, SimulateMeans}
+use Rattle.command_frame.specs.Steps.{IsJudged}
+use Rattle.command_frame.specs.TwoFiles.{OnTwoFiles}
+use Rattle.command_frame.proofs.Attempt.{IsDecided}
+use Rattle.command_frame.proofs.Budgets.{no_of_assigned, one_assigned, said_of_assigned, statuses_assigned}
+use Rattle.command_frame.proofs.CommandLaws.{CommandLaws}
+use Rattle.command_frame.proofs.ReadSecond.{JudgesRead, is_spelled_system, no_of_read, read_laws, said_of_read}
 
 pub releasing_decided : (sys : SystemView) (bytes : List ℕ) → IsDecided (releasing sys bytes)
 releasing_decided sys bytes = record {
@@ -31,10 +32,6 @@ releasing_decided sys bytes = record {
   never_both = no_release_fault sys (records_of bytes);
   one_refusal = one_release_fault sys (release_rows (records_of bytes));
 }
-
--- what is said of the jobs
-abbrev SimulatesJobs : Pattern → ℕ → SystemView → List (List Job) → Status → List ℕ → Type 0
-SimulatesJobs pattern n sys jobs = OnAssigned sys (λ budgets. IsSimulated pattern n sys jobs budgets)
 
 -- the counts of one first run of the tree are those of any other
 moved_counts : (pattern : Pattern) (n : ℕ) (sys : SystemView) (jobs : List (List Job)) (budgets : List ℕ) → IsSystem sys
@@ -112,7 +109,7 @@ simulate_reads pattern n = record {
 }
 
 simulate_tells : (pattern : Pattern) (n : ℕ) (contents : Contents) (status : Status) (text : List ℕ)
-    → Simulates pattern n contents status text
+    → OnTwoFiles contents (Simulates pattern n) status text
     → (sys : SystemView) (jobs : List (List Job)) (budgets : List ℕ) (core_runs part_runs : List (List (Option ℕ)))
     → IsSimulationOf pattern n contents sys jobs budgets core_runs part_runs
     → TellsNoMiss sys n jobs budgets core_runs part_runs status
@@ -124,7 +121,7 @@ simulate_tells pattern n contents status text h = λ sys jobs budgets core_runs 
     of.spelled h))
 
 simulate_means : (pattern : Pattern) (n : ℕ) (contents : Contents) (status : Status) (text : List ℕ)
-    → Simulates pattern n contents status text → SimulateMeans pattern n contents status text
+    → OnTwoFiles contents (Simulates pattern n) status text → SimulateMeans pattern n contents status text
 simulate_means pattern n contents status text h = record {
   tells = simulate_tells pattern n contents status text h;
   unassigned =
@@ -136,11 +133,9 @@ simulate_means pattern n contents status text h = record {
 pub simulate_laws : (file releases : List ℕ) (pattern : Pattern) (n : ℕ)
     → CommandLaws (the_simulate file releases pattern n)
 simulate_laws file releases pattern n =
-    read_laws file releases releasing (SimulatesJobs pattern n)
-    (SimulateMeans pattern n) AreJobs (λ contents. IsVerdict)
+    read_laws file releases releasing (SimulatesJobs pattern n) (SimulateMeans pattern n) (λ contents. IsVerdict)
     (simulate_reads pattern n) (record {
       means = simulate_means pattern n;
-      good = λ sys bytes releases. (releases.jobs, releases.spelled);
       verdict = λ contents sys spelled. simulates_status IsVerdict tt tt tt pattern n sys;
       no_memory = λ contents. tt;
     })

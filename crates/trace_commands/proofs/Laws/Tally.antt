@@ -12,12 +12,12 @@ use Rattle.auditor.specs.Tally.{AreTallies, tally_at}
 use Rattle.auditor.proofs.OneFinding.{one_finding}
 use Rattle.auditor.proofs.OneTally.{one_tallies, judged_sum}
 use Rattle.rt_report.specs.Tally.{tally_text}
-use Rattle.command_steps.specs.declared.status.Status.{Status}
-use Rattle.command_steps.specs.declared.status.Status.TheVariants.{Yes}
-use Rattle.command_steps.specs.Answer.{IsOne}
+use Rattle.command_frame.specs.declared.status.Status.{Status}
+use Rattle.command_frame.specs.declared.status.Status.TheVariants.{Yes}
+use Rattle.command_frame.specs.Answer.{IsOne}
 use Rattle.trace_commands.specs.Audit.{finding_status, TellsSatisfied}
 use Rattle.trace_commands.specs.Tally.{the_tally, IsToldTally, TellsTally}
-use Rattle.command_steps.proofs.CommandLaws.{CommandLaws}
+use Rattle.command_frame.proofs.CommandLaws.{CommandLaws}
 use Rattle.trace_commands.proofs.Laws.Traced.{finding_tells, trace_laws}
 
 -- one answer

@@ -1,6 +1,6 @@
 -- What a command answers that audits a trace, whatever it tells of it: one thing, its statuses, and
 -- what it means.
-use Rattle.std.proofs.Common.{◌≡◌, ℕ, List, [], ◌∷◌, refl, sym, subst, inl, inr}
+use Rattle.std.proofs.Common.{◌≡◌, ℕ, List, refl, sym, subst, inl, inr}
 use Rattle.csv_rows.specs.Reading.{records_of}
 use Rattle.tree_model.specs.View.{SystemView}
 use Rattle.tree_model.specs.System.{IsSystem}
@@ -10,18 +10,19 @@ use Rattle.trace_file.proofs.Same.{same_events, no_fault, one_file_fault}
 use Rattle.auditor.specs.declared.finding.Finding.{Finding}
 use Rattle.auditor.specs.declared.finding.Finding.TheVariants.{Yes as Kept, Short, Over}
 use Rattle.auditor.specs.Finding.{IsFinding}
-use Rattle.command_steps.specs.declared.status.Status.{Status}
-use Rattle.command_steps.specs.declared.status.Status.TheVariants.{Yes, No, Wide}
-use Rattle.command_steps.specs.Answer.{Contents, IsOne}
-use Rattle.command_steps.specs.Budgets.{AssignedOrNone, OnAssigned}
-use Rattle.command_steps.specs.CommandSpec.{CommandSpec, IsVerdict}
-use Rattle.command_steps.specs.Steps.{IsJudged}
-use Rattle.command_steps.specs.TwoFiles.{OnTwoFiles}
-use Rattle.command_steps.proofs.Attempt.{IsDecided}
-use Rattle.command_steps.proofs.Budgets.{no_of_assigned, one_assigned, said_of_assigned, statuses_assigned}
-use Rattle.command_steps.proofs.CommandLaws.{CommandLaws}
-use Rattle.command_steps.proofs.ReadSecond.{JudgesRead, is_spelled_system, no_of_read, read_laws, said_of_read}
-use Rattle.trace_commands.specs.Audit.{tracing, finding_status, IsAuditOf, OnTrace, TellsSatisfied, TraceMeans, CanAudit, IsTrace}
+use Rattle.command_frame.specs.declared.status.Status.{Status}
+use Rattle.command_frame.specs.declared.status.Status.TheVariants.{Yes, No, Wide}
+use Rattle.command_frame.specs.Answer.{Contents, IsOne}
+use Rattle.command_frame.specs.Budgets.{AssignedOrNone}
+use Rattle.command_frame.specs.CommandSpec.{IsVerdict}
+use Rattle.command_frame.specs.Steps.{IsJudged}
+use Rattle.command_frame.specs.OverFiles.{OnRead}
+use Rattle.command_frame.specs.TwoFiles.{OnTwoFiles}
+use Rattle.command_frame.proofs.Attempt.{IsDecided}
+use Rattle.command_frame.proofs.Budgets.{no_of_assigned, one_assigned, said_of_assigned, statuses_assigned}
+use Rattle.command_frame.proofs.CommandLaws.{CommandLaws}
+use Rattle.command_frame.proofs.ReadSecond.{JudgesRead, is_spelled_system, no_of_read, read_laws, said_of_read}
+use Rattle.trace_commands.specs.Audit.{tracing, finding_status, over_trace, IsAuditOf, OnEvents, TellsSatisfied, TraceMeans}
 
 pub tracing_decided : (sys : SystemView) (bytes : List ℕ) → IsDecided (tracing sys bytes)
 tracing_decided sys bytes = record {
@@ -57,19 +58,15 @@ pub record TellsTrace (Says Tells : SystemView → List ℕ → List Event → S
       → Says sys budgets events status text → Tells sys budgets events status text
 
 module _ (Says Tells : SystemView → List ℕ → List Event → Status → List ℕ → Type 0) (told : TellsTrace Says Tells) where
-  -- what is said of the events
-  abbrev OnEvents : SystemView → List Event → Status → List ℕ → Type 0
-  OnEvents sys events = OnAssigned sys (λ budgets. Says sys budgets events)
-
   events_status : (P : Status → Type 0) → P Yes → P No → P Wide
-      → (sys : SystemView) (events : List Event) (status : Status) (text : List ℕ) → OnEvents sys events status text
-      → P status
+      → (sys : SystemView) (events : List Event) (status : Status) (text : List ℕ)
+      → OnEvents Says sys events status text → P status
   events_status P at_yes at_no at_wide sys events status text h =
       statuses_assigned P at_no at_wide sys (λ budgets. Says sys budgets events) status text
       (λ budgets said. let found = told.status sys budgets events status text said in
       subst P (sym found.1) (finding_is P at_yes at_no found.0)) h
 
-  reads : JudgesRead tracing OnEvents
+  reads : JudgesRead tracing (OnEvents Says)
   reads = record {
     decided = tracing_decided;
     bad_file = λ sys bytes fault. refl;
@@ -80,38 +77,28 @@ module _ (Says Tells : SystemView → List ℕ → List Event → Status → Lis
   }
 
   tells_trace : (contents : Contents) (status : Status) (text : List ℕ)
-      → OnTwoFiles contents (OnTrace Says) status text
+      → OnTwoFiles contents (OnRead tracing (OnEvents Says)) status text
       → (sys : SystemView) (budgets : List ℕ) (events : List Event)
       → IsAuditOf contents sys budgets events → Tells sys budgets events status text
   tells_trace contents status text h = λ sys budgets events of.
       let is : IsSystem sys = is_spelled_system contents sys _ of.spelled in
       told.means sys is budgets events status text
       (said_of_assigned sys is (λ b. Says sys b events) status text budgets of.assigned
-      (said_of_read tracing OnEvents reads contents sys events status text of.spelled h))
+      (said_of_read tracing (OnEvents Says) reads contents sys events status text of.spelled h))
 
   means_trace : (contents : Contents) (status : Status) (text : List ℕ)
-      → OnTwoFiles contents (OnTrace Says) status text → TraceMeans Tells contents status text
+      → OnTwoFiles contents (OnRead tracing (OnEvents Says)) status text → TraceMeans Tells contents status text
   means_trace contents status text h = record {
     tells = tells_trace contents status text h;
     unassigned =
-        no_of_read tracing OnEvents reads AssignedOrNone
+        no_of_read tracing (OnEvents Says) reads AssignedOrNone
         (λ sys is events s t. no_of_assigned sys is (λ budgets. Says sys budgets events) s t) contents status text h;
   }
 
-  abbrev over_trace : List ℕ → List ℕ → CommandSpec
-  over_trace file trace = record {
-    files = file ∷ trace ∷ [];
-    Answers = λ contents. OnTwoFiles contents (OnTrace Says);
-    Means = TraceMeans Tells;
-    CanJudge = CanAudit;
-    EndsAs = λ contents. IsVerdict;
-  }
-
-  pub trace_laws : (file trace : List ℕ) → CommandLaws (over_trace file trace)
+  pub trace_laws : (file trace : List ℕ) → CommandLaws (over_trace Says (TraceMeans Tells) file trace)
   trace_laws file trace =
-      read_laws file trace tracing OnEvents (TraceMeans Tells) IsTrace (λ contents. IsVerdict) reads (record {
+      read_laws file trace tracing (OnEvents Says) (TraceMeans Tells) (λ contents. IsVerdict) reads (record {
         means = means_trace;
-        good = λ sys bytes trace. (trace.events, trace.spelled);
         verdict = λ contents sys spelled events. events_status IsVerdict tt tt tt sys events;
         no_memory = λ contents. tt;
       })

@@ -6,11 +6,11 @@ use Rattle.tree_model.specs.Plans.{IsPlan}
 use Rattle.trace_file.specs.Fed.{HasChecked}
 use Rattle.auditor.specs.Pieces.{HasAudited}
 use Rattle.auditor.specs.declared.pieces.Audit.{Audit}
-use Rattle.command_steps.specs.declared.status.Status.{Status}
-use Rattle.command_steps.specs.declared.answer.Ending.{Ending}
-use Rattle.command_steps.specs.Attempt.{IsRefused, OnAttempt}
-use Rattle.command_steps.specs.Budgets.{assigning}
-use Rattle.command_steps.specs.Steps.{IfAnswered, EndsJudged}
+use Rattle.command_frame.specs.declared.status.Status.{Status}
+use Rattle.command_frame.specs.declared.answer.Ending.{Ending}
+use Rattle.command_frame.specs.Attempt.{IsRefused, OnAttempt}
+use Rattle.command_frame.specs.Budgets.{assigning}
+use Rattle.command_frame.specs.Steps.{IfAnswered, EndsJudged}
 use Rattle.trace_commands.specs.declared.walk.TraceWalk.{TraceWalk}
 use Rattle.trace_commands.specs.declared.walk.Walker.{Walker}
 use Rattle.trace_commands.specs.declared.walk.Walker.TheVariants.{Audits, Checks}

@@ -2,8 +2,8 @@ use Rattle.std.proofs.Common.{Option, map, string_bytes}
 use Rattle.std.specs.Io.KnownBytes.{Appends}
 use Rattle.outside.specs.Counts.{Rose}
 use Rattle.outside.specs.Written.{AppendsProperPrefix}
-use Rattle.command_words.specs.Commands.{Command, command_of}
-use Rattle.command_words.proofs.Laws.{AreLawful}
+use Rattle.command_line.specs.Commands.{Command, command_of}
+use Rattle.command_line.proofs.Laws.{AreLawful}
 use Rattle.rt_top.specs.Report.{IsAnswer}
 use Rattle.rt_top.proofs.Reporting.{Finishes, answer_of_said, finished_read, finished_report, finished_usage, finished_verdict, finished_write, lawful, no_memory_ends, one_answer, stays_not_rose}
 use Rattle.rt_top.proofs.Taking.{ends_without_file, no_memory_without_file, unread_of_parsed, finished_takes, unanswered_takes}

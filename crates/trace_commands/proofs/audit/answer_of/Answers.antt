@@ -21,9 +21,9 @@ pub returns-in_err-finding-in-Audit-clause-answer : goal.returns-in_err-finding-
 returns-in_err-finding-in-Audit-clause-answer c = λ bytes under.
     rw (err_is c.from_residual.result _ c.from_residual.ensures.1)
     (refused_said c.args.sys.now bytes c.args.command c.in_err-finding-in-Audit.field-0.0
-    (unspelled c.args.sys.now bytes c.in_err-finding-in-Audit.field-0.0
-    (c.in_err-finding-in-Audit.ensures.refused c.args.sys.now bytes
-    (c.finish.ensures.fault c.args.sys.now c.args.plan.now bytes under.audited))))
+    (unspelled c.args.sys.now bytes c.finish.result
+    (c.finish.ensures.fault c.args.sys.now c.args.plan.now bytes under.audited) c.in_err-finding-in-Audit.field-0.0
+    c.in_err-finding-in-Audit.ensures.refused))
 
 pub audit_text-requires-clause-part : goal.audit_text-requires-clause-part
 audit_text-requires-clause-part c =
@@ -45,9 +45,9 @@ pub returns-in_err-tallied-in-Tally-clause-answer : goal.returns-in_err-tallied-
 returns-in_err-tallied-in-Tally-clause-answer c = λ bytes under.
     rw (err_is c.from_residual-in_err-tallied-in-Tally.result _ c.from_residual-in_err-tallied-in-Tally.ensures.1)
     (refused_said c.args.sys.now bytes c.args.command c.in_err-tallied-in-Tally.field-0.0
-    (unspelled c.args.sys.now bytes c.in_err-tallied-in-Tally.field-0.0
-    (c.in_err-tallied-in-Tally.ensures.refused c.args.sys.now bytes
-    (c.finish_tallied.ensures.fault c.args.sys.now c.args.plan.now bytes under.audited))))
+    (unspelled c.args.sys.now bytes c.finish_tallied.result
+    (c.finish_tallied.ensures.fault c.args.sys.now c.args.plan.now bytes under.audited)
+    c.in_err-tallied-in-Tally.field-0.0 c.in_err-tallied-in-Tally.ensures.refused))
 
 tallied_of : (c : After-status_of-in-Tally)
     → Tallies c.args.sys.now c.args.plan.now c.requires.0 c.in_ok-tallied-in-Tally.tallied

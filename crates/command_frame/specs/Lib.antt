@@ -1,0 +1,12 @@
+pub mod Answer
+pub mod Attempt
+pub mod Budgets
+pub mod TwoFiles
+pub mod OverFiles
+pub mod SecondFile
+pub mod NamedLeaf
+pub mod CommandSpec
+pub mod Reading
+pub mod Statuses
+pub mod Steps
+pub mod inner
