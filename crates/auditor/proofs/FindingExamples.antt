@@ -1,7 +1,7 @@
 -- Worked findings: A, with extra time and 1 slot in every 4, and B, with 2 slots in every 4, stand
 -- on one core. A slot is 1,000 moments. A trace has one finding (`OneFinding`), so none of these
 -- has another.
-use Rattle.std.proofs.Common.{◌≡◌, ℕ, zero, suc, ◌+◌, ◌*◌, ◌<◌, ◌≤◌, true, false, List, [], ◌∷◌, Some, None, refl, sym, ◌∙◌, subst, arith, inl, inr}
+use Rattle.std.proofs.Common.{◌≡◌, ℕ, zero, suc, ◌≤◌, true, false, List, [], ◌∷◌, Some, refl, sym, ◌∙◌, subst, arith, inl, inr}
 use Rattle.std.proofs.lemmas.Bool.{true≢false}
 use Rattle.std.proofs.lemmas.Option.{same_Some}
 use Rattle.csv_rows.specs.Last.{last_below}
@@ -10,7 +10,7 @@ use Rattle.trace_file.specs.declared.event.Event.{Event}
 use Rattle.trace_file.specs.declared.event.What.TheVariants.{Start, Run, Stop, End}
 use Rattle.trace_file.specs.Events.{end_of, start_of}
 use Rattle.trace_file.proofs.TraceExamples.{host, row}
-use Rattle.trace_file.specs.Periods.{begins, period_of, blocked, is_judged, got_in, judged_periods, HasPeriod, IsBroken, IsShort, IsOver, IsFirstBroken}
+use Rattle.trace_file.specs.Periods.{period_of, blocked, is_judged, got_in, judged_periods, HasPeriod, IsBroken, IsShort, IsOver, IsFirstBroken}
 use Rattle.auditor.specs.declared.finding.Finding.TheVariants.{Yes, Short, Over}
 use Rattle.auditor.specs.Finding.{IsFinding}
 

@@ -3,7 +3,6 @@ use Rattle.std.specs.Prelude.{◌≡◌, []}
 use Rattle.tree_model.specs.View.{SystemView}
 use Rattle.tree_model.specs.System.{IsSystem}
 use Rattle.trace_file.specs.declared.row_reader.RowReader.{RowReader}
-use Rattle.trace_file.specs.declared.trace_taker.Stage.TheVariants as stage
 use Rattle.trace_file.specs.Named.{AreNames}
 use Rattle.trace_file.specs.Rows.{IsAfter}
 
