@@ -12,7 +12,7 @@ use Rattle.tree_model.specs.declared.place.Place.{Place}
 use Rattle.tree_model.specs.declared.place.Place.TheVariants.{Core, Part}
 use Rattle.tree_model.specs.declared.plan.Refusal.{Refusal}
 use Rattle.tree_model.specs.View.{PartView, SystemView}
-use Rattle.tree_model.specs.System.{IsSystem, part_at, is_leaf, is_leaf_at}
+use Rattle.tree_model.specs.System.{IsSystem, part_at, is_leaf_at}
 use Rattle.tree_model.specs.Tree.{place_of, same_place, is_child, budget_at, server_task, child_tasks, server_tasks, node_tasks}
 use Rattle.tree_model.specs.Admission.{largest_budget, Admitted}
 use Rattle.tree_model.specs.Plans.{IsPlan}
@@ -109,13 +109,6 @@ trial_at was now guest n c e l =
     ap (λ (s : SystemView). moved_to s n c) e
     ∙ (ap (λ (k : ℕ). moved_to (with_guest was guest 0) k c) l ∙ moved_guest was guest 0 c)
 
-pub trial_leaf : (was now : SystemView) (guest : PartView) (n : ℕ) → now ≡ with_guest was guest 0
-    → n ≡ length was.parts → is_leaf guest.tasks ≡ true → is_leaf_at now n ≡ true
-trial_leaf was now guest n e l filled =
-    ap (λ (s : SystemView). is_leaf_at s n) e
-    ∙ (ap (λ (k : ℕ). is_leaf_at (with_guest was guest 0) k) l
-    ∙ (ap (λ (p : PartView). is_leaf p.tasks) (added_here was (on_parent guest (on_core 0))) ∙ filled))
-
 pub trial_system : (was now : SystemView) (guest : PartView) (n : ℕ) → now ≡ with_guest was guest 0
     → n ≡ length was.parts → IsSystem was → IsNewLeaf was guest → (c : ℕ) → c < length now.cores
     → IsSystem (moved_to now n c)
@@ -129,18 +122,6 @@ pub trial_kept : (was now : SystemView) (guest : PartView) (n : ℕ) → now ≡
 trial_kept was now guest n e l plan budgets b admitted c =
     subst (λ (s : SystemView). IsKept s budgets (Part n)) (sym (trial_at was now guest n c e l))
     (add_keeps was (with_guest was guest c) (on_parent guest (on_core c)) plan budgets 1 n refl b l admitted)
-
--- the system on which it is moved has as many parts
-pub same_length : (was now : SystemView) (q : ℕ) → moved_to now q 0 ≡ moved_to was q 0 → q < length was.parts
-    → q < length now.parts
-same_length was now q e h =
-    omega (
-      arith,
-      h,
-      ap (λ (s : SystemView). length s.parts) e,
-      length-set now.parts q (on_parent (part_at now q) (on_core 0)),
-      length-set was.parts q (on_parent (part_at was q) (on_core 0)),
-    )
 
 -- a part that is to be settled has its place
 pub leaf_place : (sys : SystemView) (q c : ℕ) (kept : List ℕ) → IsKept (moved_to sys q c) kept (Part q)

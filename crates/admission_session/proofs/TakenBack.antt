@@ -1,17 +1,14 @@
 -- A system that is edited in place, and the same once the edit is undone.
-use Rattle.std.proofs.Common.{◌≡◌, ℕ, ◌-◌, ◌<◌, ◌≤◌, true, length, length-set, arith, sym, ◌∙◌, ap, subst}
+use Rattle.std.proofs.Common.{◌≡◌, ℕ, ◌<◌, true, length, arith, sym, ◌∙◌, ap, subst}
 use Rattle.tree_model.specs.declared.place.Parent.TheVariants.{Core as on_core}
 use Rattle.tree_model.specs.View.{PartView, SystemView}
 use Rattle.tree_model.specs.System.{IsSystem, part_at, is_leaf_at}
 use Rattle.admission_session.specs.Leaves.{on_parent, with_leaf, with_guest, with_changed, fallen_part, without_leaf}
 use Rattle.admission_session.specs.inner.Undone.{without_last, with_leaf_back}
-use Rattle.admission_session.proofs.KeptByEdits.{changed_here, removed_length}
-use Rattle.admission_session.proofs.Undone.{last_off, last_is, some_part, changed_back, leaf_back}
+use Rattle.admission_session.proofs.KeptByEdits.{removed_length}
+use Rattle.admission_session.proofs.Undone.{last_off, changed_back, leaf_back}
 
 -- a leaf was put behind all parts
-pub off_some : (was now : SystemView) (leaf : PartView) → now ≡ with_leaf was leaf → 1 ≤ length now.parts
-off_some was now leaf e = subst (λ (s : SystemView). 1 ≤ length s.parts) (sym e) (some_part was leaf)
-
 pub off_system : (was now : SystemView) (leaf : PartView) → IsSystem was → now ≡ with_leaf was leaf
     → IsSystem (without_last now)
 off_system was now leaf is e =
@@ -20,11 +17,6 @@ off_system was now leaf is e =
 pub off_is : (was now after : SystemView) (leaf : PartView) → now ≡ with_leaf was leaf → after ≡ without_last now
     → after ≡ was
 off_is was now after leaf e f = f ∙ (ap without_last e ∙ last_off was leaf)
-
-pub off_leaf : (was now : SystemView) (leaf back : PartView) → now ≡ with_leaf was leaf
-    → back ≡ part_at now (length now.parts - 1) → back ≡ leaf
-off_leaf was now leaf back e f =
-    f ∙ (ap (λ (s : SystemView). part_at s (length s.parts - 1)) e ∙ last_is was leaf)
 
 -- a guest that no core took
 pub guest_off_system : (was put now : SystemView) (guest : PartView) → IsSystem was → put ≡ with_guest was guest 0
@@ -36,11 +28,6 @@ pub guest_off : (was put now after : SystemView) (guest : PartView) → put ≡ 
 guest_off was put now after guest e same f = off_is was now after (on_parent guest (on_core 0)) (same ∙ e) f
 
 -- a leaf was changed
-pub back_inside : (was now : SystemView) (q : ℕ) (leaf : PartView) → q < length was.parts
-    → now ≡ with_changed was q leaf → q < length now.parts
-back_inside was now q leaf h e =
-    subst (λ (s : SystemView). q < length s.parts) (sym e) (omega (arith, h, length-set was.parts q leaf))
-
 pub back_system : (was now : SystemView) (q : ℕ) (leaf old : PartView) → IsSystem was
     → now ≡ with_changed was q leaf → old ≡ part_at was q → IsSystem (with_changed now q old)
 back_system was now q leaf old is e o =
@@ -55,16 +42,7 @@ back_is was now after q leaf old e o f =
     ∙ (ap (with_changed now q) o
     ∙ (ap (λ (s : SystemView). with_changed s q (part_at was q)) e ∙ changed_back was q leaf))
 
-pub back_leaf : (was now : SystemView) (q : ℕ) (leaf back : PartView) → q < length was.parts
-    → now ≡ with_changed was q leaf → back ≡ part_at now q → back ≡ leaf
-back_leaf was now q leaf back h e f = f ∙ (ap (λ (s : SystemView). part_at s q) e ∙ changed_here was q leaf h)
-
 -- a leaf was taken out
-pub put_place : (was now : SystemView) (q : ℕ) → q < length was.parts → now ≡ without_leaf was q
-    → q ≤ length now.parts
-put_place was now q h e =
-    subst (λ (s : SystemView). q ≤ length s.parts) (sym e) (omega (arith, h, removed_length was q h))
-
 pub put_fewer : (was now : SystemView) (q : ℕ) → q < length was.parts → now ≡ without_leaf was q
     → length now.parts < length was.parts
 put_fewer was now q h e =

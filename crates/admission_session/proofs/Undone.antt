@@ -3,7 +3,7 @@ use Rattle.std.proofs.Common.{◌≡◌, ℕ, zero, suc, ◌+◌, ◌-◌, ◌<�
 use Rattle.std.specs.Prelude.{All}
 use Rattle.std.specs.List.{insert, remove}
 use Rattle.std.proofs.lemmas.Bool.{cases_lt, cond-true, cond-false, le-leb, lt-leb}
-use Rattle.std.proofs.lemmas.List.{length_push, get_or_push, set-set, set-get_or, get_or_default}
+use Rattle.std.proofs.lemmas.List.{length_push, set-set, set-get_or, get_or_default}
 use Rattle.std.proofs.lemmas.List.Edits.{remove-append_right}
 use Rattle.tree_model.specs.declared.place.Parent.{Parent}
 use Rattle.tree_model.specs.declared.place.Parent.TheVariants.{Core as on_core, Part as on_part}
@@ -24,13 +24,6 @@ last_off sys leaf =
     ∙ (remove-append_right sys.parts (leaf ∷ []) (length sys.parts) (length sys.parts) refl (omega arith)
     ∙ (ap (λ (k : ℕ). sys.parts ++ remove (leaf ∷ []) k)
     (let e : length sys.parts - length sys.parts ≡ 0 = omega arith in e) ∙ append-nil sys.parts)))
-
-pub last_is : (sys : SystemView) (leaf : PartView)
-    → part_at (with_leaf sys leaf) (length (with_leaf sys leaf).parts - 1) ≡ leaf
-last_is sys leaf = get_or_push sys.parts leaf no_part _ (sym (last_place sys leaf))
-
-pub some_part : (sys : SystemView) (leaf : PartView) → 1 ≤ length (with_leaf sys leaf).parts
-some_part sys leaf = omega (arith, length_push sys.parts leaf)
 
 -- a changed leaf is changed again
 pub changed_back : (sys : SystemView) (q : ℕ) (leaf : PartView)

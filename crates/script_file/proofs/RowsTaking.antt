@@ -1,6 +1,6 @@
 -- The rows of a script that were read.
-use Rattle.std.proofs.Common.{◌≡◌, ℕ, ◌+◌, ◌<◌, ◌^◌, true, false, Bool, not, Result, Ok, Err, List, [], ◌∷◌, ◌++◌, length, Option, Some, None, refl, sym, ◌∙◌, ap, subst}
-use Rattle.std.specs.Prelude.{OnOk, is_some, unwrap_or}
+use Rattle.std.proofs.Common.{◌≡◌, ℕ, true, not, List, [], ◌∷◌, ◌++◌, length, Option, Some, None, refl, sym, ◌∙◌, ap, subst}
+use Rattle.std.specs.Prelude.{is_some, unwrap_or}
 use Rattle.std.proofs.lemmas.List.{map-append}
 use Rattle.csv_rows.specs.declared.records.Records.{Records}
 use Rattle.csv_rows.specs.Reading.{HasRead}
@@ -10,7 +10,7 @@ use Rattle.admission_session.specs.declared.edit.Edit.TheVariants.{Remove}
 use Rattle.script_file.specs.declared.fault.ScriptFault.{ScriptFault}
 use Rattle.script_file.specs.declared.fault.ScriptFault.TheVariants.{BadRow}
 use Rattle.script_file.specs.declared.script_rows.ScriptRows.{ScriptRows}
-use Rattle.script_file.specs.Script.{edit_in, edit_of, edits_of, is_row, script_rules, is_script_header, script_rows, SpellsScript, IsScriptFault}
+use Rattle.script_file.specs.Script.{edit_in, edit_of, edits_of, script_rules, is_script_header, script_rows, SpellsScript, IsScriptFault}
 use Rattle.script_file.specs.inner.Taken.{HasTakenRows}
 
 pub edits_more : (rows : List (List (List ℕ))) (row : List (List ℕ))
@@ -23,33 +23,9 @@ pub keeps : (rows : List (List (List ℕ))) (row : List (List ℕ)) (edit : Edit
 keeps rows row edit e =
     ap (λ (o : Option Edit). fault_if (not (is_some o)) (BadRow (row_of (length rows))) None) (sym e)
 
-pub breaks : (rows : List (List (List ℕ))) (row : List (List ℕ)) (number : ℕ) → None ≡ edit_in row
-    → number ≡ length rows + 2 → script_rules rows row ≡ Some (BadRow number)
-breaks rows row number e n =
-    ap (λ (o : Option Edit). fault_if (not (is_some o)) (BadRow (row_of (length rows))) None) (sym e)
-    ∙ ap (λ (m : ℕ). Some (BadRow m)) (sym n)
-
 -- and that edit is the one of the row
 pub edit_is : (row : List (List ℕ)) (edit : Edit) → Some edit ≡ edit_in row → edit ≡ edit_of row
 edit_is row edit e = ap (λ (o : Option Edit). unwrap_or o (Remove [])) e
-
--- a row is taken
-pub took_row : {A : Type 0} (start before after : ScriptRows) (rows : List (List (List ℕ))) (row : List (List ℕ))
-    (edit : Edit) (result : Result A ScriptFault) → HasTakenRows start before rows → Some edit ≡ edit_in row
-    → OnOk result (after.edits.items ≡ before.edits.items ++ edit ∷ [])
-    → OnOk result (length after.edits.items < 2 ^ 32)
-    → OnOk result ((script_rules rows row ≡ None) × HasTakenRows start after (rows ++ row ∷ []))
-took_row start before after rows row edit (Ok done) has spelt items few = (
-  keeps rows row edit spelt,
-  record {
-    edits =
-        items
-        ∙ (ap (λ (z : List Edit). z ++ edit ∷ []) has.edits
-        ∙ (ap (λ (e : Edit). edits_of rows ++ e ∷ []) (edit_is row edit spelt) ∙ sym (edits_more rows row)));
-    few = few;
-  },
-)
-took_row start before after rows row edit (Err fault) has spelt items few = tt
 
 -- a header was read, and no row behind it
 abbrev pub HeaderRead : List ℕ → Records → Type 0

@@ -1,5 +1,5 @@
 ghost use Rattle.std.specs.Prelude.{◌≡◌, ◌⊎◌, ◌∷◌, ◌<◌, ◌^◌, [], List, ℕ, true, None, length, map, IfOk, IfErr, OnOk};
-ghost use Rattle.admission_session.specs.Rows.{as_row};
+ghost use Rattle.admission_session.specs.Rows.{as_row, leaf_row};
 ghost use Rattle.csv_rows.specs.Reading.{HasRead, IsOpen, records_of};
 ghost use Rattle.script_file.specs.declared.fault.ScriptFault.TheVariants.{BadHeader, NoMemory};
 ghost use Rattle.script_file.specs.Script.{SpellsRows, SpellsScript, IsScriptFault, is_script_header, script_rows};
@@ -7,8 +7,9 @@ ghost use Rattle.script_file.specs.Script.{SpellsRows, SpellsScript, IsScriptFau
 use crate::ScriptFault;
 use crate::row_fields::is_script_header;
 use crate::script_rows::ScriptRows;
-use admission_session::{Edit, Row};
+use admission_session::{Edit, Leaf, Op, Row};
 use csv_rows::{Records, read_rows};
+use slot_model::{Name, Sched};
 use std::alloc::{AllocError, Global};
 
 /// The header of a script.
@@ -68,6 +69,39 @@ fn rows_of(alloc: Global, edits: Vec<Edit>) -> Result<Vec<Row>, AllocError>
 {
     edits
         .into_iter()
-        .map(|edit| Row::of_edit(alloc, edit))
+        .map(|edit| row_of(alloc, edit))
         .collect(alloc)
+}
+
+/// The row of an edit.
+fn row_of(alloc: Global, edit: Edit) -> Row
+    ensures { result ≡ as_row edit }
+{
+    match edit {
+        Edit::Add { leaf, parent } => leaf_row(Op::Add, leaf, parent),
+        Edit::Remove(name) => Row {
+            op: Op::Remove,
+            name,
+            parent: None,
+            sched: Sched::Edf,
+            period: 1,
+            budget: None,
+            tasks: Vec::new(alloc),
+        },
+        Edit::Change(leaf) => leaf_row(Op::Change, leaf, None),
+    }
+}
+
+fn leaf_row(op: Op, leaf: Leaf, parent: Option<Name>) -> Row
+    ensures { result ≡ leaf_row op leaf parent }
+{
+    Row {
+        op,
+        name: leaf.name,
+        parent,
+        sched: leaf.sched,
+        period: leaf.period,
+        budget: leaf.budget,
+        tasks: leaf.tasks,
+    }
 }

@@ -1,8 +1,8 @@
 -- The two searches by halving: what is known between the least and the greatest that are left.
 use Rattle.std.proofs.Common.{◌≡◌, ℕ, set, length-set, ◌-◌, ◌<◌, ◌≤◌, true, List, length, Option, Some, None, refl, sym, ◌∙◌, ap, subst, arith, get_or}
-use Rattle.std.proofs.lemmas.List.{set-get_or, set-set}
+use Rattle.std.proofs.lemmas.List.{set-set}
 use Rattle.slot_model.specs.declared.sched.Sched.{Sched}
-use Rattle.slot_model.specs.Task.{SporadicTask, default_task, room_of, task_at}
+use Rattle.slot_model.specs.Task.{SporadicTask, room_of, task_at}
 use Rattle.slot_model.specs.Bound.{sbf, TestPasses}
 use Rattle.slot_model.proofs.Budgets.{larger_passes}
 use Rattle.tree_model.specs.View.{PartView, SystemView}
@@ -16,7 +16,7 @@ use Rattle.compose_tree.proofs.Heavier.{lighter_test}
 use Rattle.admission_session.specs.Answers.{IsAdmitted}
 use Rattle.admission_session.specs.Leaves.{with_changed}
 use Rattle.admission_session.proofs.KeptByEdits.{changed_here}
-use Rattle.slack.specs.inner.Steps.{part_with_budget, with_budget, IsOpenTo, IsMostBudget, tasks_with, IsMostPassing}
+use Rattle.slack.specs.inner.Steps.{part_with_budget, with_budget, IsOpenTo, IsMostBudget, tasks_with}
 use Rattle.slack.proofs.Lower.{standing_open}
 use Rattle.slack.proofs.Most.{AtLeaf, at_leaf, at_changed, budget_admitted, differs, differs_first, heavier_with, with_budget_is}
 
@@ -28,23 +28,6 @@ pub record WorkBetween (sched : Sched) (tasks : List SporadicTask) (period budge
   pub passes : TestPasses sched (tasks_with tasks i low) (sbf period budget) period
   pub past : (work : ℕ) → high < work → work ≤ room_of (task_at tasks i)
       → TestPasses sched (tasks_with tasks i work) (sbf period budget) period → ⊥
-
--- a task with the work that it has
-pub as_it_is : (tasks : List SporadicTask) (i : ℕ) → tasks_with tasks i (task_at tasks i).work ≡ tasks
-as_it_is tasks i = set-get_or tasks i default_task
-
-pub work_begins : (sched : Sched) (tasks : List SporadicTask) (period budget i : ℕ)
-    → (task_at tasks i).work ≤ room_of (task_at tasks i) → TestPasses sched tasks (sbf period budget) period
-    → WorkBetween sched tasks period budget i (task_at tasks i).work (room_of (task_at tasks i))
-work_begins sched tasks period budget i fits passes = record {
-  no_less = omega arith;
-  in_order = fits;
-  in_room = omega arith;
-  passes =
-      subst (λ (ts : List SporadicTask). TestPasses sched ts (sbf period budget) period) (sym (as_it_is tasks i))
-      passes;
-  past = λ work more room passing. omega (arith, more, room);
-}
 
 pub work_higher : (sched : Sched) (tasks : List SporadicTask) (period budget i low high middle : ℕ) → low ≤ middle
     → middle ≤ high → TestPasses sched (tasks_with tasks i middle) (sbf period budget) period
@@ -68,15 +51,6 @@ work_lower sched tasks period budget i low high middle li l m fails h = record {
   past =
       λ work more room passing. fails (lighter_test sched (tasks_with tasks i middle) (tasks_with tasks i work)
       (heavier_with tasks i middle work li (omega (arith, more, l))) (sbf period budget) period passing);
-}
-
-pub work_ends : (sched : Sched) (tasks : List SporadicTask) (period budget i low high : ℕ) → high ≤ low
-    → WorkBetween sched tasks period budget i low high → IsMostPassing sched tasks period budget i low
-work_ends sched tasks period budget i low high l h = record {
-  no_less = h.no_less;
-  in_room = omega (arith, h.in_order, h.in_room);
-  passes = h.passes;
-  past = λ work more room. h.past work (omega (arith, more, h.in_order, l)) room;
 }
 
 -- with the least budget of the leaf the system is admitted, and with none past the greatest

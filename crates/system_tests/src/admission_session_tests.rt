@@ -1,6 +1,6 @@
 use crate::helpers::{MEMORY, add_task, inner, name, system_of, task};
-use admission_session::{Answer, Edit, EditFault, Leaf, Op, Row, Session};
-use slot_model::Sched;
+use admission_session::{Answer, EditFault, Leaf, Op, Row, Session};
+use slot_model::{Name, Sched};
 use std::alloc::Global;
 use std::process::Abort;
 use tree_model::Parent;
@@ -51,33 +51,32 @@ fn leaf(rt: &impl Abort, alloc: Global, text: &str, work: u64) -> Leaf {
     }
 }
 
-/// The edit that adds such a leaf on the core.
-fn addition(rt: &impl Abort, alloc: Global, text: &str, work: u64) -> Edit {
-    Edit::Add {
-        leaf: leaf(rt, alloc, text, work),
-        parent: Some(name(rt, alloc, "cpu0")),
+/// The row of an operation on such a leaf.
+fn row(op: Op, leaf: Leaf, parent: Option<Name>) -> Row {
+    Row {
+        op,
+        name: leaf.name,
+        parent,
+        sched: leaf.sched,
+        period: leaf.period,
+        budget: leaf.budget,
+        tasks: leaf.tasks,
     }
-}
-
-fn removal(rt: &impl Abort, alloc: Global, text: &str) -> Edit {
-    Edit::Remove(name(rt, alloc, text))
 }
 
 #[test]
 fn a_row_is_answered_as_its_edit(rt: HostRuntime) {
     let alloc = rt.alloc();
     let mut session = open(&rt, alloc);
-    let row = Row::of_edit(alloc, removal(&rt, alloc, "w"));
-    assert!(rt; row.op == Op::Remove && row.period == 1 && row.tasks.is_empty());
-    let answer = session.edit(row).expect(&rt, MEMORY);
+    let removal = row(Op::Remove, leaf(&rt, alloc, "w", 1), None);
+    let answer = session.edit(removal).expect(&rt, MEMORY);
     assert!(rt; matches!(answer, Answer::Done));
-    let row = Row::of_edit(alloc, addition(&rt, alloc, "z", 1));
-    assert!(rt; row.op == Op::Add && row.parent.is_some());
-    let answer = session.edit(row).expect(&rt, MEMORY);
+    let core = Some(name(&rt, alloc, "cpu0"));
+    let addition = row(Op::Add, leaf(&rt, alloc, "z", 1), core);
+    let answer = session.edit(addition).expect(&rt, MEMORY);
     assert!(rt; matches!(answer, Answer::Done));
-    let row = Row::of_edit(alloc, Edit::Change(leaf(&rt, alloc, "nothing", 1)));
-    assert!(rt; row.op == Op::Change && row.parent.is_none());
-    let answer = session.edit(row).expect(&rt, MEMORY);
+    let change = row(Op::Change, leaf(&rt, alloc, "nothing", 1), None);
+    let answer = session.edit(change).expect(&rt, MEMORY);
     assert!(rt; matches!(answer, Answer::Refused(EditFault::NoSuchLeaf)));
     assert!(rt; session.system().parts().len() == 4);
 }

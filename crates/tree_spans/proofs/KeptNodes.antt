@@ -1,5 +1,5 @@
 -- What is kept of the nodes of a tree, one after the other.
-use Rattle.std.proofs.Common.{◌≡◌, ◌≢◌, ℕ, suc, ◌+◌, ◌<◌, Bool, true, false, List, [], ◌∷◌, ◌++◌, length, take, set, get_or, refl, sym, ◌∙◌, ap, arith, subst, inl, inr, length-set, get_or-set_same, get_or-set_other}
+use Rattle.std.proofs.Common.{◌≡◌, ◌≢◌, ℕ, suc, ◌+◌, ◌<◌, Bool, true, false, List, [], ◌∷◌, ◌++◌, length, take, get_or, refl, sym, ◌∙◌, ap, arith, subst, inl, inr}
 use Rattle.std.proofs.lemmas.Bool.{cases_Bool, cases_lt, eqb-true, false≢true}
 use Rattle.std.proofs.lemmas.List.{get_or_append_left, get_or_push, length_push, get_or_default, ext_get_or, map-append, take_more}
 use Rattle.slot_model.specs.declared.job.Job.{Job}
@@ -74,21 +74,6 @@ pub record PartGiven {K : Type 0} (is_kept_of : K → NodeView → ℕ → Type 
   pub share : PartShare sys budgets n core_nodes nodes q
 
 module _ {K : Type 0} (is_kept_of : K → NodeView → ℕ → Type 0) where
-  -- an entry that is written, the others, and one entry more
-  pub kept_set : (kept : List K) (i : ℕ) (x : K) (node : NodeView) (k : ℕ) → i < length kept → is_kept_of x node k
-      → IsKeptAt is_kept_of (set kept i x) i node k
-  kept_set kept i x node k l h = record {
-    there = omega (arith, l, length-set kept i x);
-    is = λ one e. subst (λ (z : K). is_kept_of z node k) (sym (e ∙ get_or-set_same kept i x one l)) h;
-  }
-
-  pub kept_other : (kept : List K) (i j : ℕ) (x : K) (node : NodeView) (k : ℕ) → j ≢ i
-      → IsKeptAt is_kept_of kept j node k → IsKeptAt is_kept_of (set kept i x) j node k
-  kept_other kept i j x node k ne h = record {
-    there = omega (arith, h.there, length-set kept i x);
-    is = λ one e. h.is one (e ∙ get_or-set_other kept i j x one ne);
-  }
-
   kept_earlier : (kept : List K) (x : K) (i : ℕ) (node : NodeView) (k : ℕ) → IsKeptAt is_kept_of kept i node k
       → IsKeptAt is_kept_of (kept ++ x ∷ []) i node k
   kept_earlier kept x i node k h = record {
