@@ -19,6 +19,7 @@ use Rattle.isolation.specs.Demand.{AsksTooMuch}
 use Rattle.isolation.specs.Keeping.{IsExposed}
 use Rattle.isolation.specs.Answer.{IsIsolation, Means, MeansInTrace}
 use Rattle.isolation.proofs.Least.{in_file_order}
+use Rattle.rtds_model.proofs.Setting.{setting}
 use Rattle.isolation.proofs.Isolated.{keeps, keeps_openly}
 use Rattle.isolation.proofs.Short.{IsWitness, short_period}
 use Rattle.isolation.proofs.Breaking.{r, rows, is_workload, is_witness}
@@ -59,7 +60,8 @@ exposed sys is_sys budgets plan c v lv cv too_much longest fit up_to in_limit =
         (rtds_run-is sys budgets all_rows slots).cores c (core_of_child sys is_sys c v lv cv),
       );
       short =
-          λ run is. short_period sys budgets plan all_rows workload slots c run is v from fit (omega arith) w too_much;
+          λ run is. short_period (setting sys budgets plan all_rows workload slots c run) is v from fit (omega arith) w
+          too_much;
     }
 
 pub means : (sys : SystemView) → IsSystem sys → (budgets : List ℕ) → IsPlan sys budgets → (c v : ℕ)

@@ -75,8 +75,8 @@ pub record ServesByDeadline (tie : ℕ → ℕ → ℕ) (m n : ℕ) (period budg
 abbrev pub SteadyAreAble : (ℕ → ℕ) → (ℕ → Bool) → (ℕ → ℕ → Bool) → (ℕ → Bool) → Type 0
 SteadyAreAble start on able steady = (u x : ℕ) → on u ≡ true → steady u ≡ true → start u ≤ x → able u x ≡ true
 
-module _ (tie : ℕ → ℕ → ℕ) (m n : ℕ) (period budget start : ℕ → ℕ) (on : ℕ → Bool) (able : ℕ → ℕ → Bool)
-    (run : List (Option ℕ)) (serves : ServesByDeadline tie m n period budget start on able run) where
+module _ {tie : ℕ → ℕ → ℕ} {m n : ℕ} {period budget start : ℕ → ℕ} {on : ℕ → Bool} {able : ℕ → ℕ → Bool}
+    {run : List (Option ℕ)} (serves : ServesByDeadline tie m n period budget start on able run) where
   -- the slots from r on and before x that u has
   abbrev pub got : ℕ → ℕ → ℕ → ℕ
   got u r x = count_between (λ y. holds (held run y) u) r x

@@ -1,7 +1,6 @@
 -- What the accounts say at a slot whose rows are taken: who is eligible, and who goes first.
 use Rattle.std.proofs.Common.{◌≡◌, ◌==◌, ℕ, suc, ◌*◌, ◌/◌, ◌<◌, ◌≤◌, nat_lt, Bool, true, not, ◌&&◌, ◌||◌, List, length, Option, sym, ◌∙◌, ap, arith, inl, inr, eq-eqb, ltb-true, lt-ltb, le-ltb}
 use Rattle.std.proofs.Math.Nat.{div-eq_of_lt}
-use Rattle.std.specs.Prelude.{is_some}
 use Rattle.std.proofs.lemmas.Bool.{cases_Bool, cases_lt, both_ways, and_parts, ne_eqb}
 use Rattle.tree_model.specs.declared.place.Place.TheVariants.{Core}
 use Rattle.tree_model.specs.View.{SystemView}
@@ -10,14 +9,13 @@ use Rattle.tree_model.specs.Tree.{is_child, budget_at}
 use Rattle.tree_model.specs.Plans.{IsPlan}
 use Rattle.rtds_queues.specs.declared.account.Account.{Account}
 use Rattle.release_file.specs.declared.workload.Wake.{Wake as Row}
-use Rattle.release_file.specs.Workload.{row_at, last_row, is_by, is_of, starts, blocks, started_after, blocked_after, is_started_at, is_blocked_at}
+use Rattle.release_file.specs.Workload.{is_started_at, is_blocked_at}
 use Rattle.rtds_model.specs.Rtds.{used, level_at, deadline_at, can_run, is_eligible, goes_before, RtdsEntry}
 use Rattle.rtds_queues.specs.Keys.{goes_first}
 use Rattle.rtds_queues.specs.Accounts.{account_eligible, goes_ahead}
 use Rattle.rtds_sim.specs.inner.Accounts.{HasNumbers, IsInPeriod, IsAccount}
 use Rattle.rtds_trace.specs.Printed.{AreBefore}
 use Rattle.rtds_sim.proofs.Members.{IsChoiceBy}
-use Rattle.csv_rows.proofs.Last.{last_by_moment}
 use Rattle.rtds_trace.proofs.Rows.{started_by, blocked_by}
 
 -- a VCPU has budget left where it has not had it once

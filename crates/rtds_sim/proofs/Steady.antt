@@ -5,11 +5,9 @@ use Rattle.std.proofs.Math.Nat.{div-eq_of_lt, zero-div}
 use Rattle.std.proofs.lemmas.Bool.{cases_eq, cases_lt, cases_Bool, both_ways, and_parts, cond-true, cond-false}
 use Rattle.slot_model.specs.Run.{held, holds}
 use Rattle.slot_model.proofs.Runs.{holds-is}
-use Rattle.tree_model.specs.declared.place.Parent.{Parent}
-use Rattle.tree_model.specs.declared.place.Parent.TheVariants.{Core as on_core, Part as on_part}
 use Rattle.tree_model.specs.declared.place.Place.TheVariants.{Core}
 use Rattle.tree_model.specs.View.{SystemView}
-use Rattle.tree_model.specs.System.{part_at, IsSystem, Stands}
+use Rattle.tree_model.specs.System.{part_at}
 use Rattle.tree_model.specs.Tree.{is_child, budget_at}
 use Rattle.trace_file.specs.Periods.{begins, count_between}
 use Rattle.trace_file.proofs.Counting.{between_alike}
@@ -19,7 +17,7 @@ use Rattle.tree_model.specs.Plans.{IsPlan}
 use Rattle.release_file.specs.Workload.{is_started_at, is_blocked_at, start_of}
 use Rattle.rtds_model.specs.Rtds.{period_number, period_from, used, level_at, deadline_at, can_run, is_eligible, goes_before, RtdsEntry, CoreRun}
 use Rattle.rtds_queues.specs.Keys.{goes_first}
-use Rattle.rtds_trace.specs.Printed.{core_of, AreBefore}
+use Rattle.rtds_trace.specs.Printed.{AreBefore}
 use Rattle.rtds_queues.specs.Accounts.{renewed, using, had_budget}
 use Rattle.rtds_sim.specs.inner.Accounts.{used_more, gone_on, left_of, HasNumbers, IsInPeriod, IsAccount}
 use Rattle.rtds_sim.specs.inner.Running.{RowsFrom}

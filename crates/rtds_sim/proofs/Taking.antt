@@ -1,10 +1,9 @@
 -- Rows at one slot, taken one after the other.
-use Rattle.std.proofs.Common.{◌≡◌, ◌≢◌, ℕ, suc, ◌+◌, ◌*◌, ◌-◌, ◌/◌, ◌<◌, ◌≤◌, Bool, true, false, cond, leb, ◌&&◌, List, length, Option, Some, None, refl, sym, ◌∙◌, ap, arith, subst, inl, inr, eq-eqb, eqb-true, ne_eqb}
+use Rattle.std.proofs.Common.{◌≡◌, ◌≢◌, ℕ, suc, ◌+◌, ◌*◌, ◌-◌, ◌/◌, ◌<◌, ◌≤◌, Bool, true, false, ◌&&◌, List, length, Option, refl, sym, ◌∙◌, ap, arith, subst, inl, inr, eq-eqb, ne_eqb}
 use Rattle.std.specs.Prelude.{is_some}
-use Rattle.std.proofs.lemmas.Bool.{cases_eq, cases_Bool, and_parts, and_from, false≢true, lt-leb, and_right}
+use Rattle.std.proofs.lemmas.Bool.{cases_eq, and_from, and_right}
 use Rattle.std.proofs.Math.Nat.{div-eq_of_lt, zero-div}
 use Rattle.slot_model.specs.Run.{held, holds}
-use Rattle.slot_model.proofs.Sums.{sum_below-same, sum_below-none}
 use Rattle.tree_model.specs.View.{SystemView}
 use Rattle.tree_model.specs.System.{part_at}
 use Rattle.tree_model.specs.Tree.{budget_at}
@@ -14,14 +13,13 @@ use Rattle.rtds_queues.specs.declared.account.Account.{Account}
 use Rattle.release_file.specs.declared.workload.Wake.{Wake as Row}
 use Rattle.release_file.specs.declared.workload.WakeKind.{WakeKind}
 use Rattle.release_file.specs.declared.workload.WakeKind.TheVariants.{Start, Wake, Block}
-use Rattle.release_file.specs.Workload.{row_at, last_row, is_of, is_start, starts, is_block, blocks, slot_of, start_of, may_follow, IsWorkload}
+use Rattle.release_file.specs.Workload.{row_at, is_of, is_start, starts, is_block, blocks, start_of, IsWorkload}
 use Rattle.rtds_model.specs.Rtds.{period_number, period_from, used}
-use Rattle.rtds_trace.specs.Printed.{event_of, row_event_at}
 use Rattle.rtds_queues.specs.Accounts.{account_at}
 use Rattle.rtds_sim.specs.inner.Accounts.{left_of, row_taken, TakesRow, HasNumbers, IsInPeriod, IsAccount, AreOn}
 use Rattle.rtds_sim.proofs.Members.{of_same}
 use Rattle.rtds_sim.proofs.TakenRows.{takes_numbers}
-use Rattle.csv_rows.proofs.Last.{last_below-no, last_below-yes, last_is, some_row}
+use Rattle.csv_rows.proofs.Last.{last_below-no, last_below-yes}
 use Rattle.rtds_model.proofs.Starts.{start_is}
 use Rattle.rtds_model.proofs.Counts.{none_between}
 

@@ -1,5 +1,5 @@
 -- What a visit of a slot tells, and that nothing is told until the next one.
-use Rattle.std.proofs.Common.{◌≡◌, ℕ, zero, suc, ◌<◌, ◌≤◌, Bool, true, false, not, cond, ◌&&◌, List, [], ◌++◌, length, Option, Some, None, refl, sym, ◌∙◌, ap, arith, inl, inr, eq-eqb, eqb-true, ◌==◌}
+use Rattle.std.proofs.Common.{◌≡◌, ℕ, zero, suc, ◌<◌, ◌≤◌, Bool, true, false, not, cond, ◌&&◌, List, [], length, Option, Some, None, refl, sym, ◌∙◌, ap, arith, inl, inr, eq-eqb, eqb-true, ◌==◌}
 use Rattle.std.proofs.lemmas.Bool.{cases_lt, and_parts, not-true}
 use Rattle.std.proofs.lemmas.Option.{none-some}
 use Rattle.slot_model.specs.Run.{held}
@@ -11,7 +11,7 @@ use Rattle.release_file.specs.declared.workload.Wake.{Wake as Row}
 use Rattle.release_file.specs.Workload.{is_started_at, is_blocked_at}
 use Rattle.rtds_model.specs.Rtds.{can_run, CoreRun}
 use Rattle.rtds_sim.specs.inner.Running.{RowsFrom, Stands}
-use Rattle.rtds_trace.specs.Printed.{gathered, on_at, on_core_at, switch_to, holder_before, is_blocked_one, holder_left, row_event_at, switch_on, printed_at, printed_below, AreBefore}
+use Rattle.rtds_trace.specs.Printed.{gathered, on_at, on_core_at, switch_to, holder_before, is_blocked_one, holder_left, row_event_at, switch_on, AreBefore}
 use Rattle.rtds_sim.specs.inner.Accounts.{part_of, holder_of, is_blocked_in, gives_up, core_left, IsReady}
 use Rattle.rtds_model.proofs.Runs.{eligible_runs}
 use Rattle.rtds_trace.proofs.Gathered.{gathered-none}

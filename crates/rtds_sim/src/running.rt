@@ -1,8 +1,7 @@
 ghost use Rattle.std.specs.Prelude.{◌≡◌, ◌≤◌, ◌<◌, if◌then◌else◌, [], ◌∷◌, ◌++◌, OnOk};
 ghost use Rattle.slot_model.specs.declared.task.TheConstants.{LIMIT};
 ghost use Rattle.tree_model.specs.declared.system.TheConstants.{MAX_CORES};
-ghost use Rattle.rtds_trace.specs.Printed.{on_at};
-ghost use Rattle.rtds_sim.specs.inner.Switching.{stays, going_to};
+ghost use Rattle.rtds_trace.specs.Printed.{on_at, stays, going_to};
 
 use crate::host_core::HostCore;
 use crate::moment::moment_of_slot;

@@ -1,10 +1,11 @@
 -- What is printed of the worked runs.
-use Rattle.std.proofs.Common.{◌≡◌, ℕ, true, false, None, [], ◌∷◌, refl}
+use Rattle.std.proofs.Common.{◌≡◌, ℕ, true, false, if◌then◌else◌, Option, Some, None, [], ◌∷◌, refl}
+use Rattle.slot_model.specs.Run.{holds}
 use Rattle.csv_rows.specs.Last.{last_below}
 use Rattle.trace_file.specs.declared.event.Event.{Event}
 use Rattle.trace_file.specs.declared.event.What.{What}
 use Rattle.trace_file.specs.declared.event.What.TheVariants.{Start as Starts, Wake as Wakes, Block as Blocks, Run, Stop, End}
-use Rattle.rtds_trace.specs.Printed.{gathered, printed_below, printed}
+use Rattle.rtds_trace.specs.Printed.{gathered, switch_to, printed_below, printed}
 use Rattle.rtds_model.proofs.Examples.{host, both_start, with_extra, without_extra, one_blocks, blocked_run}
 use Rattle.rtds_model.proofs.LevelExamples.{core_each, b_before_a, a_twice, b_twice}
 
@@ -46,3 +47,15 @@ each_core_printed : printed core_each b_before_a (a_twice ∷ b_twice ∷ []) 3
     ∷ on 0 3000 End ∷ []
 unfolding printed_below gathered last_below
 each_core_printed = refl
+
+-- a core tells nothing where it goes on being idle, stops where it goes to none, and else tells a
+-- VCPU that it does not have
+idle_goes_on : switch_to None None ≡ None
+idle_goes_on = refl
+
+goes_to_none : (u : ℕ) → switch_to (Some u) None ≡ Some Stop
+goes_to_none u = refl
+
+goes_to_one : (holder : Option ℕ) (v : ℕ) → switch_to holder (Some v) ≡ (if holds holder v then None else Some (Run v))
+goes_to_one None v = refl
+goes_to_one (Some u) v = refl

@@ -1,5 +1,5 @@
 -- The rows of a workload at a slot, and before the next.
-use Rattle.std.proofs.Common.{◌≡◌, ◌≢◌, ℕ, suc, Bool, ◌&&◌, cond, List, length, Option, Some, None, ap, arith, eq-eqb, ne_eqb}
+use Rattle.std.proofs.Common.{◌≡◌, ◌≢◌, ℕ, suc, Bool, ◌&&◌, cond, List, length, Some, None, ap, arith, eq-eqb, ne_eqb}
 use Rattle.std.specs.Prelude.{is_some}
 use Rattle.tree_model.specs.View.{SystemView}
 use Rattle.release_file.specs.declared.workload.Wake.{Wake as Row}

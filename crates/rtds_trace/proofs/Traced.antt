@@ -36,6 +36,7 @@ use Rattle.rtds_model.proofs.Starts.{start_is, started_from}
 use Rattle.rtds_trace.proofs.Keeping.{OnCore, vcpu_core, holder_below, started_below, blocked_below}
 use Rattle.rtds_trace.proofs.Pushing.{started_more}
 use Rattle.rtds_trace.proofs.Told.{AllOf, all_one, all_append, told_below, Behind, behind}
+use Rattle.rtds_model.proofs.Setting.{setting}
 use Rattle.rtds_model.proofs.Giving.{gives_budgets}
 use Rattle.rtds_model.proofs.Over.{never_over}
 
@@ -314,7 +315,7 @@ module _ (sys : SystemView) (system : IsSystem sys) (budgets : List ℕ) (plan :
       = omega (arith, begins_is v f (suc k) s, judged, end_is) in
       let enough : budget_at budgets v
       ≤ slots_got (λ y. holds (held (run_at runs c) y) v) (part_at sys v).period (start_of rows v) k
-      = gives_budgets sys budgets plan rows workload n c (run_at runs c) (is.cores c s.core.is_core)
+      = gives_budgets (setting sys budgets plan rows workload n c (run_at runs c)) (is.cores c s.core.is_core)
       (served.runnable c s.core.is_core) (served.fit c s.core.is_core) v k
       (record { is_part = h.period.is_part; on_core = s.core.child; started = s.started }) ends in
       absurd (omega (arith, h.short, got_whole v f k s ends, enough))

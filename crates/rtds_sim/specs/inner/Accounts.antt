@@ -11,7 +11,7 @@ use Rattle.trace_file.specs.declared.event.What.TheVariants.{Stop}
 use Rattle.release_file.specs.declared.workload.Wake.{Wake as Row}
 use Rattle.release_file.specs.declared.workload.WakeKind.{WakeKind}
 use Rattle.release_file.specs.declared.workload.WakeKind.TheVariants.{Start, Wake, Block}
-use Rattle.release_file.specs.Workload.{row_at, started_after, blocked_after}
+use Rattle.release_file.specs.Workload.{started_after, blocked_after}
 use Rattle.rtds_queues.specs.declared.account.Account.{Account}
 use Rattle.rtds_queues.specs.Accounts.{no_account, account_at, renewed, starting, waking, blocking, had_slots}
 use Rattle.rtds_queues.specs.Vcpus.{IsPlaceOf, NoEndBefore}

@@ -31,7 +31,7 @@ returns-clause-answer c =
         gives = c.in_ok-plan.ensures.assigned;
         said = inl (record {
           value = made.events;
-          gives = record { all = c.in_ok-text.ensures.rtds; trace = made.trace };
+          gives = record { all = c.in_ok-text.ensures.rtds; trace = made.run.trace };
           said = record { status_is = refl; told = made.told; reads_back = made.reads_back };
         });
       });
