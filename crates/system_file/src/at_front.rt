@@ -16,7 +16,7 @@ use crate::tasks::task_of;
 use crate::told::told_task;
 use crate::{Spot, SystemFault};
 use std::alloc::Global;
-use toml_items::{Entry, Header, header_again, header_in, pairs, pairs_into};
+use toml_items::{Entry, Header, element, header_again, header_in, pairs, pairs_into};
 use tree_model::{Core, Named, Part};
 
 /// A core, and the text behind it.
@@ -39,7 +39,7 @@ pub fn core_at<'t>(
         (path_of header.entry.parent ++ header.entry.key.now ∷ []) text.now place names.old
         there.core names.new there.rest.now) }
 {
-    let Some(found) = pairs(alloc, text)? else {
+    let Some(found) = element(alloc, header, text)? else {
         return Err(SystemFault::NotToml);
     };
     let core = core_of(alloc, &found.entries, Spot::Core(place as u32), names)?;

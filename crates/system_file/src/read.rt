@@ -21,7 +21,7 @@ use crate::whole::{Nodes, whole_system};
 use crate::{Spot, SystemFault};
 use std::alloc::Global;
 use std::str;
-use toml_items::{DocumentFault, Entry, Item, read_document, table_entries};
+use toml_items::{Document, DocumentFault, Entry, Item, read_document, table_entries};
 use tree_model::{MAX_PARTS, System};
 
 /// The format of a document, and the values of its cores and parts.
@@ -79,14 +79,15 @@ fn system_in(alloc: Global, table: &[Entry<'_>]) -> Result<System, SystemFault>
     whole_system(alloc, nodes)
 }
 
-/// The system of a text's document, or its first fault, by way of the document's table.
-fn read_table(alloc: Global, text: &str) -> Result<System, SystemFault>
+/// The system of a text's document, or its first fault, by way of all items of the document.
+fn read_items(alloc: Global, text: &str) -> Result<System, SystemFault>
     ensures spelled { IfOk result (λ sys. system_of_document (parse_document text.now) ≡ Ok sys) }
     ensures fault { IfErr result (λ fault. fault ≢ NoMemory →
         system_of_document (parse_document text.now) ≡ Err fault) }
 {
     match read_document(alloc, text) {
-        Ok(table) => {
+        Ok(Document::Entries(entries)) => system_in(alloc, &entries),
+        Ok(Document::Table(table)) => {
             let entries = table_entries(alloc, &table)?;
             system_in(alloc, &entries)
         }
@@ -95,8 +96,8 @@ fn read_table(alloc: Global, text: &str) -> Result<System, SystemFault>
     }
 }
 
-/// The system of a text's document, or its first fault. A text that is not read to its end in one
-/// walk is read by way of its table.
+/// The system of a text's document, or its first fault. Where the text is not read to its end in
+/// one walk, it is read whole.
 fn read_text(alloc: Global, text: &str) -> Result<System, SystemFault>
     ensures spelled { IfOk result (λ sys. system_of_document (parse_document text.now) ≡ Ok sys) }
     ensures fault { IfErr result (λ fault. fault ≢ NoMemory →
@@ -105,7 +106,7 @@ fn read_text(alloc: Global, text: &str) -> Result<System, SystemFault>
     match read_plain(alloc, text) {
         Ok(system) => Ok(system),
         Err(SystemFault::NoMemory) => Err(SystemFault::NoMemory),
-        Err(_) => read_table(alloc, text),
+        Err(_) => read_items(alloc, text),
     }
 }
 

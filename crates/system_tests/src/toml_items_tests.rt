@@ -2,8 +2,8 @@ use std::alloc::Global;
 use std::process::Abort;
 use toml::Table;
 use toml_items::{
-    Body, DocumentFault, Entry, Item, array_at, header_again, header_in, is_end, number_line,
-    pairs, read_document, table_entries, text_line, top_pairs,
+    Body, Document, DocumentFault, Entry, Header, Item, array_at, element, header_again, is_end,
+    number_line, read_document, table_entries, text_line, top_pairs,
 };
 
 const PLAIN: &str = "# a host
@@ -68,9 +68,33 @@ fn table_at<'e, 't>(entries: &'e [Entry<'t>], key: &str, place: usize) -> Option
     }
 }
 
-/// The pairs of an element of an array of a plain text.
-fn pairs_at<'t>(rt: &impl Abort, alloc: Global, text: &'t str) -> Body<'t> {
-    let found = pairs(alloc, text).expect(rt, "out of memory");
+/// The entries of a text that is plain.
+fn plain_entries(alloc: Global, text: &str) -> Option<Vec<Entry<'_>>> {
+    match read_document(alloc, text) {
+        Ok(Document::Entries(entries)) => Some(entries),
+        _ => None,
+    }
+}
+
+#[test]
+fn a_plain_text_gives_its_items_without_a_table(rt: HostRuntime) {
+    let top = plain_entries(rt.alloc(), PLAIN).expect(&rt, "a plain text");
+    assert!(rt; top.len() == 3 && number_at(&top, "format") == Some(1));
+    assert!(rt; count_at(&top, "core") == 1 && count_at(&top, "part") == 2);
+    let core = table_at(&top, "core", 0).expect(&rt, "a core");
+    assert!(rt; is_text_at(core, "name", "cpu0") && is_text_at(core, "sched", "edf"));
+    let first = table_at(&top, "part", 0).expect(&rt, "a part");
+    assert!(rt; is_text_at(first, "name", "a b") && is_true_at(first, "extra"));
+    assert!(rt; count_at(first, "task") == 2);
+    let task = table_at(first, "task", 1).expect(&rt, "a task");
+    assert!(rt; number_at(task, "period") == Some(-5));
+    let second = table_at(&top, "part", 1).expect(&rt, "another part");
+    assert!(rt; second.len() == 1 && is_text_at(second, "name", "c"));
+}
+
+/// The element behind a header of an array of a plain text.
+fn element_at<'t>(rt: &impl Abort, alloc: Global, header: Header<'t>, text: &'t str) -> Body<'t> {
+    let found = element(alloc, header, text).expect(rt, "out of memory");
     found.expect(rt, "an element")
 }
 
@@ -82,21 +106,14 @@ fn a_plain_text_is_walked_element_by_element(rt: HostRuntime) {
         .expect(&rt, "pairs");
     assert!(rt; top.entries.len() == 1 && number_at(&top.entries, "format") == Some(1));
     let cores = array_at(top.rest).expect(&rt, "an array");
-    let core = pairs_at(&rt, alloc, cores.rest);
+    let core = element_at(&rt, alloc, cores, cores.rest);
     assert!(rt; cores.key == "core" && is_text_at(&core.entries, "name", "cpu0"));
     assert!(rt; header_again(cores, core.rest).is_none() && !is_end(core.rest));
     let parts = array_at(core.rest).expect(&rt, "another array");
-    let first = pairs_at(&rt, alloc, parts.rest);
-    assert!(rt; parts.key == "part" && is_text_at(&first.entries, "name", "a b"));
-    assert!(rt; is_true_at(&first.entries, "extra"));
-    let tasks = header_in(Some(parts.key), first.rest).expect(&rt, "an array in the part");
-    let task = pairs_at(&rt, alloc, tasks.rest);
-    assert!(rt; tasks.key == "task" && number_at(&task.entries, "period") == Some(20));
-    let another = header_again(tasks, task.rest).expect(&rt, "another task");
-    let last = pairs_at(&rt, alloc, another);
-    assert!(rt; number_at(&last.entries, "period") == Some(-5));
-    let again = header_again(parts, last.rest).expect(&rt, "another part");
-    let second = pairs_at(&rt, alloc, again);
+    let first = element_at(&rt, alloc, parts, parts.rest);
+    assert!(rt; parts.key == "part" && count_at(&first.entries, "task") == 2);
+    let again = header_again(parts, first.rest).expect(&rt, "another part");
+    let second = element_at(&rt, alloc, parts, again);
     assert!(rt; is_text_at(&second.entries, "name", "c") && is_end(second.rest));
     assert!(rt; header_again(parts, second.rest).is_none() && array_at(second.rest).is_none());
 }
@@ -105,38 +122,40 @@ fn a_plain_text_is_walked_element_by_element(rt: HostRuntime) {
 #[test]
 fn a_walk_ends_where_a_text_is_not_plain(rt: HostRuntime) {
     let alloc = rt.alloc();
-    let twice = top_pairs(alloc, "a = 1\na = 2").expect(&rt, "out of memory");
-    assert!(rt; twice.is_none());
+    for text in &["\u{feff}a = 1", "a = 'b'", "a = 1\na = 2"] {
+        let pairs = top_pairs(alloc, text).expect(&rt, "out of memory");
+        assert!(rt; pairs.is_none());
+    }
     for text in &["[a]", "[[a.b]]", "a = 1", "", "[[a]] b"] {
         assert!(rt; array_at(text).is_none());
     }
     let header = array_at("[[a]]\nb = 'c'").expect(&rt, "an array");
     assert!(rt;
-        pairs(alloc, header.rest)
+        element(alloc, header, header.rest)
             .expect(&rt, "out of memory")
             .is_none()
     );
 }
 
-const PLAIN_TEXTS: [(&str, usize); 5] = [
+const PLAIN_TEXTS: [(&str, usize); 7] = [
     ("", 0),
     ("\n# nothing\n", 0),
     ("a=1", 1),
     ("a = 0x1F\r\nb = false\r\n", 2),
     ("b = 1\na = 2\na-b_9 = 1_000\n", 3),
+    ("[[a]]\n[[a]]\n[[b]]\n", 2),
+    ("[[a]]\n[[a.b]]\n[[a.c]]\nd = 1\n[[a]]\n[[e]]\n", 2),
 ];
 
 #[test]
 fn these_texts_are_plain(rt: HostRuntime) {
     for (text, count) in &PLAIN_TEXTS {
-        let top = top_pairs(rt.alloc(), text)
-            .expect(&rt, "out of memory")
-            .expect(&rt, "pairs");
-        assert!(rt; top.entries.len() == *count && is_end(top.rest));
+        let entries = plain_entries(rt.alloc(), text).expect(&rt, "a plain text");
+        assert!(rt; entries.len() == *count);
     }
 }
 
-const OTHER_TEXTS: [&str; 10] = [
+const OTHER_TEXTS: [&str; 14] = [
     "\u{feff}a = 1",
     "a = 'b'",
     "a = \"\"",
@@ -146,6 +165,10 @@ const OTHER_TEXTS: [&str; 10] = [
     "a = [1]",
     "a.b = 1",
     "\"a\" = 1",
+    "[a]",
+    "[[a]]\n[[b]]\n[[a]]",
+    "[[a.b]]",
+    "[[a]]\n[[a.b]]\n[[a.b.c]]",
     "= 1",
 ];
 
@@ -153,8 +176,11 @@ const OTHER_TEXTS: [&str; 10] = [
 #[test]
 fn these_texts_are_not(rt: HostRuntime) {
     for text in &OTHER_TEXTS {
-        let top = top_pairs(rt.alloc(), text).expect(&rt, "out of memory");
-        assert!(rt; top.is_none());
+        match read_document(rt.alloc(), text) {
+            Ok(Document::Entries(_)) => panic!(rt; "plain"),
+            Ok(Document::Table(_)) => (),
+            Err(fault) => assert!(rt; fault == DocumentFault::NotToml),
+        }
     }
 }
 
@@ -165,14 +191,10 @@ fn expect_entries(rt: &impl Abort, alloc: Global, table: &Table, count: usize) {
 }
 
 #[test]
-fn any_text_is_read_by_the_kit(rt: HostRuntime) {
+fn any_other_is_read_by_the_kit(rt: HostRuntime) {
     match read_document(rt.alloc(), "a = 'b'\n[c]\nd = 1.5") {
-        Ok(table) => expect_entries(&rt, rt.alloc(), &table, 2),
-        Err(_) => panic!(rt; "no table"),
-    }
-    match read_document(rt.alloc(), "= 1") {
-        Ok(_) => panic!(rt; "a table"),
-        Err(fault) => assert!(rt; fault == DocumentFault::NotToml),
+        Ok(Document::Table(table)) => expect_entries(&rt, rt.alloc(), &table, 2),
+        _ => panic!(rt; "no table"),
     }
 }
 

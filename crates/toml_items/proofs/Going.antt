@@ -147,15 +147,12 @@ last_element path k text here rest items ms reads element root_of place ns =
           (reads root_of place ns) goes,
     )
 
--- and behind another header of the array
-pub one_more_element : (path : List (List ℕ)) (k text here rest behind : List ℕ)
-    (items : Items) (ms : Members) →
-    ReadsElements path k text items here → ReadsTable (path ++ k ∷ []) here ms rest →
-    IsLine rest ((path, k), array_table) behind →
-    ReadsElements path k text (push_item items (table ms)) behind
-one_more_element path k text here rest behind items ms reads element read root_of place ns =
-    let (done, last, later, same, goes)
-    = last_element path k text here rest items ms reads element root_of place ns in
+-- behind another header of the array
+pub next_element : (path : List (List ℕ)) (k text rest behind : List ℕ) (items : Items) →
+    ReadsArray path k text items rest → IsLine rest ((path, k), array_table) behind →
+    ReadsElements path k text items behind
+next_element path k text rest behind items reads read root_of place ns =
+    let (done, last, later, same, goes) = reads root_of place ns in
     let begun = root_of (insert k (open_array no_items no_nodes) ns) in
     let before = root_of (insert k (open_array done last) ns) in
     let after = root_of (insert k (open_array (push_item done (table (close last))) no_nodes) ns) in
@@ -165,6 +162,15 @@ one_more_element path k text here rest behind items ms reads element read root_o
     rw (← same)
     (joined text (begun, path ++ k ∷ []) rest (before, later) behind (after, path ++ k ∷ [])
     goes next)
+
+pub one_more_element : (path : List (List ℕ)) (k text here rest behind : List ℕ)
+    (items : Items) (ms : Members) →
+    ReadsElements path k text items here → ReadsTable (path ++ k ∷ []) here ms rest →
+    IsLine rest ((path, k), array_table) behind →
+    ReadsElements path k text (push_item items (table ms)) behind
+one_more_element path k text here rest behind items ms reads element =
+    next_element path k text rest behind (push_item items (table ms))
+    (last_element path k text here rest items ms reads element)
 
 without_mark : (text : List ℕ) → (first text == 0xEF) ≡ false → skip_bom text ≡ text
 unfolding skip_bom

@@ -1,12 +1,12 @@
 -- An item, level by level, and lists of them.
-use Rattle.std.proofs.Common.{◌≡◌, ℕ, ℤ, ◌<◌, ◌+◌, List, [], ◌∷◌, ◌++◌, map, length, take, get_or, String, string_bytes, Global, Bor, refl, sym, ap, rules}
+use Rattle.std.proofs.Common.{◌≡◌, ℕ, ℤ, ◌<◌, ◌+◌, List, [], ◌∷◌, ◌++◌, map, length, take, get_or, String, string_bytes, Vec, Global, Bor, refl, sym, ap, rules}
 use Rattle.std.proofs.lemmas.List.{map-append, take_more}
 use Rattle.std.specs.Map.Iter.{deref_pair}
-use Rattle.toml.specs.Data.{item, member, string, integer, push_item}
+use Rattle.toml.specs.Data.{item, member, string, integer, array, table, push_item}
 use Rattle.toml.specs.View.{view, items_view, members_view}
 use Rattle.toml.specs.declared.value.Value.{Value}
 use Rattle.toml.proofs.Views.{with_last, items_view-push, members_view-last}
-use Rattle.toml_items.specs.declared.item.Item.{Item, Text, Number, the_lemmas}
+use Rattle.toml_items.specs.declared.item.Item.{Item, Text, Number, List as ListCase, Table, the_lemmas}
 use Rattle.toml_items.specs.Item.{item_view, list_view, entries_view}
 
 abbrev pub Entry : Type 0
@@ -17,6 +17,12 @@ item_view-Text s = search (rules, the_lemmas)
 
 pub item_view-Number : (z : ℤ) → item_view (Number z) ≡ integer z
 item_view-Number z = search (rules, the_lemmas)
+
+pub item_view-List : (v : Vec Item Global) → item_view (ListCase v) ≡ array (list_view v.items)
+item_view-List v = search (rules, the_lemmas)
+
+pub item_view-Table : (v : Vec Entry Global) → item_view (Table v) ≡ table (entries_view v.items)
+item_view-Table v = search (rules, the_lemmas)
 
 -- one more item at the end
 pub list_view-push : (items : List Item) (x : Item)

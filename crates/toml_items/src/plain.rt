@@ -1,14 +1,35 @@
-ghost use Rattle.std.specs.Prelude.{◌≡◌, ◌<◌, ◌≤◌, ◌↔◌, ◌==◌, List, ℕ, [], length, IsTrue, IfOk, IfSome};
+ghost use Rattle.std.specs.Prelude.{◌≡◌, ◌<◌, ◌≤◌, ◌↔◌, ◌==◌, List, ℕ, [], ◌∷◌, ◌++◌, length, Some, IsTrue, IfOk, IfSome};
 ghost use Rattle.toml_parser.specs.Lexical as lexical;
 ghost use Rattle.toml.specs.Tables.{array_table};
-ghost use Rattle.toml_items.specs.Item.{entries_view};
-ghost use Rattle.toml_items.specs.Plain.{path_of, IsLine, ReadsTable, BeginsWith};
+ghost use Rattle.toml.specs.Parse.{parse_document};
+ghost use Rattle.toml_items.specs.Item.{list_view, entries_view};
+ghost use Rattle.toml_items.specs.Plain.{path_of, IsLine, ReadsTable, ReadsArray, BeginsWith};
 
 use crate::entry::put_entry;
 use crate::line::{after_blank, ends_here, header_at, pair_at};
-use crate::{Entry, Header};
+use crate::{Entry, Header, Item};
 use std::alloc::{AllocError, Global};
 use toml_parser::text::{first, skip_blank};
+
+/// The entries of a document, where its text is plain: pairs of a bare key and a text without
+/// escapes, a whole number or a truth value, and arrays of tables, at most two in one another,
+/// whose elements stand together.
+pub(crate) fn plain_entries(alloc: Global, text: &str) -> Result<Option<Vec<Entry<'_>>>, AllocError>
+    ensures { IfOk result (λ found. IfSome found
+        (λ entries. parse_document text.now ≡ Some (entries_view entries.items))) }
+{
+    if is_marked(text) {
+        return Ok(None);
+    }
+    let Some(top) = table(alloc, None, text)? else {
+        return Ok(None);
+    };
+    if is_end(top.rest) {
+        Ok(Some(top.entries))
+    } else {
+        Ok(None)
+    }
+}
 
 /// The pairs of the top table of a plain text, and the text from the first header or the end on.
 pub fn top_pairs(alloc: Global, text: &str) -> Result<Option<Body<'_>>, AllocError>
@@ -49,6 +70,88 @@ pub fn is_end(text: &str) -> bool
 pub struct Body<'t> {
     pub entries: Vec<Entry<'t>>,
     pub rest: &'t str,
+}
+
+/// The items of an array of tables, and the text behind them.
+#[derive(Drop)]
+struct Elements<'t> {
+    items: Vec<Item<'t>>,
+    rest: &'t str,
+}
+
+/// The top table, or an element of the array at this key there, with the arrays in it.
+#[cycle(table)]
+fn table<'t>(
+    alloc: Global,
+    key: Option<&'t str>,
+    text: &'t str,
+) -> Result<Option<Body<'t>>, AllocError>
+    ensures reads { IfOk result (λ found. IfSome found (λ t.
+        ReadsTable (path_of key.entry) text.now (entries_view t.entries.items) t.rest.now)) }
+    ensures within { IfOk result (λ found. IfSome found (λ t.
+        length t.rest.now ≤ length text.now)) }
+{
+    let Some(mut found) = pairs(alloc, text)? else {
+        return Ok(None);
+    };
+    'arrays: while let Some(header) = header_in(key, found.rest) {
+        let Some(elements) = array(alloc, header)? else {
+            return Ok(None);
+        };
+        if !put_entry(&mut found.entries, header.key, Item::List(elements.items))? {
+            return Ok(None);
+        }
+        found.rest = elements.rest;
+    }
+    Ok(Some(found))
+}
+
+/// The array of tables whose first element begins behind this header.
+#[cycle(table)]
+fn array<'t>(alloc: Global, header: Header<'t>) -> Result<Option<Elements<'t>>, AllocError>
+    ensures reads { IfOk result (λ found. IfSome found (λ a.
+        ReadsArray (path_of header.entry.parent) header.entry.key.now header.entry.rest.now
+        (list_view a.items.items) a.rest.now)) }
+    ensures within { IfOk result (λ found. IfSome found (λ a.
+        length a.rest.now ≤ length header.entry.rest.now)) }
+{
+    let mut items = Vec::new(alloc);
+    let mut rest = header.rest;
+    'elements: loop {
+        let Some(found) = element(alloc, header, rest)? else {
+            return Ok(None);
+        };
+        items.push(Item::Table(found.entries))?;
+        match header_again(header, found.rest) {
+            Some(after) => rest = after,
+            None => {
+                return Ok(Some(Elements {
+                    items,
+                    rest: found.rest,
+                }));
+            }
+        }
+    }
+}
+
+/// The element at the front of a text, behind a header of its array. Two arrays deep it has no
+/// array in it.
+#[cycle(table)]
+pub fn element<'t>(
+    alloc: Global,
+    header: Header<'t>,
+    text: &'t str,
+) -> Result<Option<Body<'t>>, AllocError>
+    ensures reads { IfOk result (λ found. IfSome found (λ t.
+        ReadsTable (path_of header.entry.parent ++ header.entry.key.now ∷ [])
+        text.now (entries_view t.entries.items) t.rest.now)) }
+    ensures within { IfOk result (λ found. IfSome found (λ t.
+        length t.rest.now ≤ length text.now)) }
+{
+    match header.parent {
+        None => table(alloc, Some(header.key), text),
+        Some(_) => pairs(alloc, text),
+    }
 }
 
 /// The pairs at the front of a table, up to a header or the end, and the text from there.
