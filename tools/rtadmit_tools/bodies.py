@@ -61,7 +61,6 @@ def body_of(name, sources, texts):
 
 
 def rounds(some, most):
-    """Bodies in lists of at most so many, of which no two change one function."""
     lists = []
     for it in some:
         takes = it.takes()

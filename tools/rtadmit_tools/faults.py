@@ -35,8 +35,6 @@ class Found:
 
 
 # The rules of the pages
-
-
 @functools.cache
 def rows_of(page, heading):
     """The rows of the tables under a heading of a page, each as its cells without marks."""
@@ -46,7 +44,6 @@ def rows_of(page, heading):
 
 
 def rule_of(page, heading, word):
-    """What the page says behind a word, or nothing."""
     told = [cells[cells.index(word) + 1] for cells in rows_of(page, heading) if word in cells[:-1]]
     return "; or ".join(dict.fromkeys(told))
 
@@ -65,8 +62,6 @@ def keys_of(spot):
 
 
 # A system file
-
-
 def shown(value):
     told = json.dumps(value) if isinstance(value, (str, bool)) else str(value)
     return told if isinstance(value, (str, int, float)) else CALLED.get(type(value), "a time")
@@ -175,7 +170,6 @@ def text_fault(data):
 
 
 def of_system(path, word, spot, core):
-    """What is told of a fault of a system file."""
     data, rule = pathlib.Path(path).read_bytes(), rule_of("formats.md", "Faults of a system file", word)
     if word == "NotToml":
         found = text_fault(data)
@@ -212,8 +206,6 @@ def told(path, where, found, rule, line):
 
 
 # A second file of rows
-
-
 PLAIN = re.compile("0|[1-9][0-9]*")
 
 
@@ -286,8 +278,6 @@ class Rows:
 
 
 class Trace(Rows):
-    """A trace, as `audit` reads it."""
-
     heads, heading, words = ("at,core,what,vcpu", "at_ns,core,what,vcpu"), "Faults of a trace", ("audit",)
     FILLED = {"start": "core vcpu", "wake": "core vcpu", "block": "core vcpu", "run": "core vcpu", "stop": "core", "end": ""}
 
@@ -333,8 +323,6 @@ class Trace(Rows):
 
 
 class Workload(Rows):
-    """A workload, as `rtds` reads it."""
-
     heads, heading, words = ("at,vcpu,what",), "Workload file", ("rtds", 1)
 
     def faults_of_row(self, row):
@@ -351,8 +339,6 @@ class Workload(Rows):
 
 
 class Releases(Rows):
-    """A release file, as `simulate` reads it."""
-
     heads, heading, words = ("at,part,task,work", "at,part,task,work,early"), "Release file", ("simulate", "early", 1)
 
     def faults_of_row(self, row):
@@ -376,8 +362,6 @@ class Releases(Rows):
 
 
 class Script(Rows):
-    """A script, as `session` reads it."""
-
     heads, heading, words = ("op,part,parent,sched,period,budget,tasks",), "Script file", ("session",)
     FREE = {"add": {"parent", "budget", "tasks"}, "change": {"budget", "tasks"}, "remove": set()}
     EMPTY = {"add": set(), "change": {"parent"}, "remove": {"parent", "sched", "period", "budget", "tasks"}}
@@ -443,15 +427,11 @@ class Guests(Script):
 
 
 # A certificate
-
-
 class Number(str):
     """A number of a JSON text, as it is spelled."""
 
 
 class Certificate:
-    """A certificate, as `check` reads it."""
-
     heads, words = ("{",), ("check",)
     KEYS = {
         "budget": ("number", 64), "computed": ("truth",), "falls": ("list of number", 64), "hits": ("list of number", 64),
@@ -519,8 +499,6 @@ class Certificate:
 
 
 # The words
-
-
 KINDS_OF_SECOND = {
     "trace": Trace, "workload": Workload, "releases": Releases, "script": Script, "guests": Guests, "certificate": Certificate,
 }
@@ -544,7 +522,6 @@ def words_of(kind, file, second):
 
 
 def of_second(path, second, kind, word, number):
-    """What is told of a fault of a second file."""
     text = pathlib.Path(second).read_bytes().decode(errors="surrogateescape")
     if kind == "certificate":
         found = next((found for found in Certificate(text).faults() if found.word == word), None)

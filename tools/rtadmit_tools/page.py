@@ -8,8 +8,6 @@ STYLE = pathlib.Path(__file__).with_name("page.css").read_text()
 
 @dataclass
 class Cell:
-    """The text of a cell, as HTML, and how it is marked."""
-
     text: str
     mark: str = ""
 

@@ -71,8 +71,6 @@ class Answer:
 
 
 class Program:
-    """A program of rtadmit's words."""
-
     def __init__(self, words):
         self.words, self.asked = words, 0
 

@@ -27,8 +27,6 @@ def sum_of(path):
 
 
 # The gate
-
-
 @dataclass
 class Gate:
     """The last line of what a gate printed into a file: the sum of the program that it left, the commit, and the logic that proved it."""
@@ -110,15 +108,12 @@ def origin_of(program, gate, unproved):
 
 
 # The folder and its archive
-
-
 def end_by_signal():
     """Lets a folder that is being made go where its maker is told to end."""
     signal.signal(signal.SIGTERM, lambda *_: sys.exit(128 + signal.SIGTERM))
 
 
 def entry_of(packed, path, name, moment):
-    """The entry of a file or folder in an archive, without anything of who made it and when."""
     entry = packed.gettarinfo(path, name)
     entry.uid = entry.gid = 0
     entry.uname = entry.gname = ""

@@ -17,8 +17,6 @@ CLAUSE = re.compile(r" *(?:requires|ensures|ghost)\b")
 
 @dataclass
 class File:
-    """A file of a crate: its path below the top, its module and its text."""
-
     path: object
     module: str
     text: str
@@ -50,7 +48,6 @@ def part_of(text, head):
 
 
 def told(lines):
-    """What a check says, and its status: 1 where it says something."""
     return "".join(f"{line}\n" for line in lines), int(bool(lines))
 
 

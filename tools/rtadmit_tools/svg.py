@@ -15,7 +15,6 @@ def step_of(length, most):
 
 
 def marks(first, last, most):
-    """Round numbers from the first to the last, at most so many."""
     step = step_of(last - first, max(1, most))
     return range(-(-first // step) * step, last + 1, step)
 

@@ -132,7 +132,6 @@ class System:
 
 
 def tree_text(tree):
-    """The tables of a system as the text of a system file."""
     told = [f"format = {tree['format']}"]
     for kind, keys in KEYS.items():
         for table in tree.get(kind, []):
@@ -143,7 +142,6 @@ def tree_text(tree):
 
 
 def pairs_of(table, keys):
-    """The lines of a table's keys."""
     for key in keys:
         value = table.get(key)
         if value is not None:
@@ -188,8 +186,6 @@ def lines_of(path):
 
 
 # The text of a new file
-
-
 def core_text(name):
     return f'[[core]]\nname = "{name}"\nsched = "edf"\n'
 
@@ -211,8 +207,6 @@ def system_text(head, cores, parts):
 
 
 # The budgets of an admitted file
-
-
 @dataclass
 class Server:
     """A part on a core of an admitted file, with its budget and the line of its name."""

@@ -30,8 +30,6 @@ def lines_of(path, file):
 
 
 # A host, as the rows so far leave it
-
-
 @dataclass(eq=False)
 class Core:
     name: str
@@ -79,8 +77,6 @@ class Host:
 
 
 # The rows
-
-
 @dataclass(slots=True)
 class Row:
     """What a row says behind its moment. Where it breaks a rule by that alone, `fault` tells so."""
@@ -174,7 +170,6 @@ class Reader:
 
     @staticmethod
     def breach(row):
-        """The rule on what it does that a row breaks, or None."""
         what, vcpu = row.what, row.vcpu
         if what == "end":
             return None
@@ -214,8 +209,6 @@ def spans(reader, host, horizon=math.inf):
 
 
 # Periods
-
-
 @dataclass
 class Server:
     """What a system file gives a VCPU, in the unit of a trace; the budget may not be known."""

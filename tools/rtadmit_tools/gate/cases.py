@@ -49,13 +49,11 @@ class Run:
 
 
 def status_of(said):
-    """The status that a text or a number says."""
     need(str(said).isascii() and str(said).isdigit() and int(said) < 256, f"its status is no number below 256: {said!r}")
     return int(said)
 
 
 def rows_of(name, case, args):
-    """The runs of a table."""
     try:
         table = json.loads((case / "rows.json").read_text())
         for number, (told, *rest) in enumerate(table["rows"], 1):
@@ -71,7 +69,6 @@ def rows_of(name, case, args):
 
 
 def read_case(name, case):
-    """The runs of a case."""
     has = {path.name for path in case.iterdir()}
     if "rows.json" in has:
         need(not has & {"stdout", "status"}, "it has rows.json and what is printed beside it")

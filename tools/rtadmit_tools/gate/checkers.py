@@ -24,8 +24,6 @@ LONGEST, BY_COMMAND = 8_000, 40
 
 
 # Systems, as lists of tables: each the line that begins it, and its keys with their values
-
-
 def draw_task(chance, number, server_period, share):
     """A task that asks for about a share of the processor."""
     period = server_period * chance.randint(2, 6) + chance.choice([0, 0, 1, server_period // 2])
@@ -62,7 +60,6 @@ def draw_system(chance):
 
 
 def spell(tables):
-    """The system file of tables."""
     lines = ["format = 2"]
     for head, keys in tables:
         lines += [head, *(f"{key} = {json.dumps(value)}" for key, value in keys.items())]
@@ -86,8 +83,6 @@ def changed_system(chance, tables):
 
 
 # Certificates
-
-
 def text_of(value):
     return json.dumps(value, separators=(",", ":")).encode()
 
@@ -214,7 +209,6 @@ def certificate_of(*nodes, format=1):
 
 
 def of_deadlines():
-    """Under earliest deadline first."""
     file = with_leaf("edf", 10, None, (50, 50, 0, 7))
     leaf = dict(NODE, kind="part", computed=True, budget=2, period=10, witness="50")
     for points in (["44", "94", "144", "194"], ["0", "44", "94"], [MOST], ["44", MOST], [], ["44", "94", MOST]):
@@ -293,8 +287,6 @@ def at_limits():
 
 
 # The comparison
-
-
 def pairs(program, chance, count):
     """At least so many pairs of a system and a certificate: those at the limits, and then those of systems that are drawn."""
     made = list(at_limits())

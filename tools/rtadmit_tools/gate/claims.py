@@ -37,7 +37,6 @@ def unknown(entry, labels, anywhere):
 
 
 def of_crate(crate, labels, anywhere):
-    """What is wrong with the page of a crate."""
     name = f"crates/{crate}/README.md"
     if not (sources.TOP / name).exists():
         return [f"{crate} has no README.md"]
@@ -49,15 +48,10 @@ def of_crate(crate, labels, anywhere):
 
 
 def of_claims(anywhere):
-    """What is wrong with docs/proof/claims.md."""
     rows = re.findall(r"^\| `(\w+)(?: [A-Z]+)*` (\|.*)$", sources.page("docs/proof/claims.md"), re.M)
     known = anywhere | {command for command, _ in rows}
     spans = [span for _, row in rows for span in re.findall(r"`([^`]+)`", row)]
     return [f"docs/proof/claims.md: `{span}` stands nowhere" for span in spans if re.fullmatch(NAME, span) and span not in known]
-
-
-def add_words(parser):
-    pass
 
 
 def run(given):

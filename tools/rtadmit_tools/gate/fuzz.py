@@ -59,8 +59,6 @@ class File(bytes):
 
 
 # Good calls: a list of words each, where a File is written to a file.
-
-
 def hosts():
     """A few small hosts, with jitter in one and levels in another."""
     late, nested = inputs.small(), inputs.tree()
@@ -104,8 +102,6 @@ def page_calls(program):
 
 
 # How a good call is spoilt.
-
-
 def number(dice):
     if dice.random() < 0.3:
         return dice.choice(ODD).encode()
@@ -226,8 +222,6 @@ def spoil(dice, words, others):
 
 
 # Great files: what the file is, which word of which form it is, and its bytes in pieces of a size that is 1 at most.
-
-
 def count(size, most):
     return max(1, int(most * size))
 
@@ -314,8 +308,6 @@ BESIDE = {
 
 
 # Runs
-
-
 class Fuzz:
     """Runs calls, judges each, keeps those that failed, and remembers the largest and for each size of files the slowest."""
 
@@ -329,7 +321,6 @@ class Fuzz:
         self.slowest, self.largest = {}, (0, "")
 
     def told(self, program, words, out, limit):
-        """How a run ended, its text and its complaint."""
         text, complaint = self.scratch / "out", self.scratch / "err"
         text.write_bytes(b"")
         if out == "closed":
@@ -342,7 +333,6 @@ class Fuzz:
         return ended, text.read_bytes(), complaint.read_bytes()
 
     def wrong_with(self, ended, text, complaint, out, limit):
-        """What is wrong with a run, or nothing."""
         status = ended.status
         if status is None:
             return f"was not done after {limit:.0f} seconds"
@@ -432,7 +422,6 @@ class Fuzz:
 
 
 def forms_of(program):
-    """The forms of words of the usage line."""
     line = program.ask().text
     if not line.startswith("usage: "):
         raise Refused(program.path, None, f"answers {line[:60]!r} without words, and no usage line")

@@ -47,8 +47,6 @@ WORDS = {
 
 
 # the texts of edits
-
-
 @dataclass(frozen=True)
 class Edit:
     """An edit of a crate: its name, its text, and the texts of the files that it makes, by their paths, or why it cannot be applied."""
@@ -82,7 +80,6 @@ def made_by(text, crate):
 
 
 def edits_in(folder, crate):
-    """The edits of a folder, of a crate's folder."""
     texts = {path.stem: path.read_text(encoding="utf-8", errors="replace") for path in sorted(folder.glob("*.edit"))}
     return [Edit(name, text, made_by(text, crate)) for name, text in texts.items()]
 
@@ -107,8 +104,6 @@ def faults_of_texts():
 
 
 # what an edit's answer depends on
-
-
 def crates_below():
     """For each crate the repository's crates that it stands on, directly or not."""
     found = {}
@@ -150,8 +145,6 @@ class Results:
 
 
 # the room
-
-
 def fill(room, tried):
     """Makes the room's crates those of the checkout. Where one that is needed has no kept proofs, it gets those of the checkout."""
     top, below, crates = sources.TOP, crates_below(), sources.crates()
@@ -172,10 +165,7 @@ def fill(room, tried):
 
 
 # the tries
-
-
 def kind_of(said):
-    """The kind of what `rt must-fail` says of an edit."""
     kinds = {"BAD EDIT": "bad", "NOT REFUSED": "through", "only because a proof file names": "named"}
     return next((kind for words, kind in kinds.items() if words in said), "refused")
 
@@ -243,7 +233,6 @@ def tried_together(room, crate, texts, some):
 
 
 def texts_of(folder):
-    """The sources of a crate's folder, by their paths."""
     return {str(path.relative_to(folder)): path.read_text(encoding="utf-8") for path in (folder / "src").rglob("*.rt")}
 
 
@@ -297,7 +286,6 @@ def summed_up(kinds, faults):
 
 
 def ready(room):
-    """Makes the room, where there may be one."""
     if room == sources.TOP or sources.TOP in room.parents:
         raise Refused(None, None, f"the room {room} lies in this checkout: tell another folder")
     if room.is_dir() and any(room.iterdir()) and not (room / "crates.txt").is_file():
@@ -310,7 +298,6 @@ def interrupt(_signal, _frame):
 
 
 def kept(crate):
-    """The edits of a crate that are kept."""
     return edits_in(sources.TOP / FOLDER / crate, sources.TOP / "crates" / crate)
 
 

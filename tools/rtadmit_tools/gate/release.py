@@ -31,12 +31,10 @@ VERSION = "crates/rt_report/src/version.rt"
 
 
 def version():
-    """The line of the version that the source of the program tells."""
     return "rtadmit " + re.search(r'^pub const VERSION: &str = "(.+)";$', (TOP / VERSION).read_text(), re.MULTILINE)[1]
 
 
 def check(origin):
-    """Refuses a program that is not of the checkout."""
     if said("git", "status", "--porcelain"):
         raise Refused(None, None, "the checkout has changes that are not committed")
     if said("git", "rev-parse", "HEAD") != origin.gate.commit:
@@ -50,7 +48,6 @@ def check(origin):
 
 
 def about(size, origin):
-    """The text of RELEASE."""
     return f"""program: rtadmit, {size} bytes, sha256 {origin.sum}
 commit: {origin.gate.commit}, {said('git', 'log', '-1', '--format=%cs')}
 version: {origin.version}

@@ -21,8 +21,6 @@ from ..program import Answer
 
 @dataclass(frozen=True)
 class Guest:
-    """A guest under a fixed priority with a budget in every period."""
-
     sched: str
     period: int
     budget: int
@@ -84,7 +82,6 @@ def system_of(guest):
 
 
 def expected(guest):
-    """The answer that what was met asks for."""
     worst, late = search(guest)
     if late:
         return Answer(1, f"verdict=no\noverfull part leaf task=t{min(late)}\n")

@@ -30,10 +30,7 @@ def script_text(rows):
 
 
 # The model: a host is the tables of its file, a row the table of a part with a word
-
-
 def leaf_named(host, name):
-    """The place of the leaf of a name, or none."""
     return next((place for place, part in enumerate(host["part"]) if part["name"] == name and part["task"]), None)
 
 
@@ -44,7 +41,6 @@ def is_bad_part(row):
 
 
 def fault_of(host, row):
-    """The first fault of a row, or none."""
     parts = {part["name"]: part for part in host["part"]}
     known = parts.keys() | {core["name"] for core in host["core"]}
     if row["op"] == "add":
@@ -78,8 +74,6 @@ def edited(host, row):
 
 
 # What is drawn
-
-
 def some_tasks(draw):
     tasks = []
     for number in range(draw.choice([1, 1, 2, 3])):
@@ -155,8 +149,6 @@ def some_placement(draw):
 
 
 # What has to be answered
-
-
 def admitted(room, host):
     """What `admit` says of a host: yes with the lines of its parts, or the line of its refusal."""
     verdict, *lines = room.run("admit", room.write("edited.toml", host)).lines

@@ -53,7 +53,6 @@ class Used:
 
 
 def functions_of(crate, file):
-    """The functions of a file that have a body."""
     line, imports = 1, {}
     for _, first, rest in IMPORT.findall(file.text):
         imports.update(dict.fromkeys(re.findall(r"\w+", rest), crate if first in ("crate", "super", "self") else first))
@@ -82,7 +81,6 @@ class Program:
         self.reached = self.reached_from(one for one in self.functions if (one.crate, one.name) == ("rtadmit", "main"))
 
     def reached_from(self, starts):
-        """What these functions reach, by their places."""
         reached, todo, seen = set(), list(starts), set()
         while todo:
             reached.update(one.place for one in todo)

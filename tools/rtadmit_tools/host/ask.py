@@ -47,7 +47,6 @@ def objects(lines):
 
 
 def object_of(words, answer):
-    """The whole answer as an object."""
     told = {"words": words, "status": answer.status, "answer": STATUS[answer.status], "verdict": None, "lines": []}
     lines, command = answer.lines, words[0] if words else ""
     if lines and lines[0] in ("verdict=yes", "verdict=no", "verdict=wide"):
@@ -104,7 +103,6 @@ def place_of(line, command, files, answer):
 
 
 def escaped(text, more=""):
-    """A text as GitHub's lines have it."""
     for letter in "%\r\n" + more:
         text = text.replace(letter, f"%{ord(letter):02X}")
     return text

@@ -163,7 +163,6 @@ class Audit:
         return broken
 
     def text(self, whole):
-        """The whole answer."""
         told = ["verdict=no", *map(str, sorted(self.broken))]
         if not self.broken:
             told = [f"verdict={'yes' if whole else 'unknown'}", f"periods={self.periods}"]
@@ -174,7 +173,6 @@ class Audit:
 
 
 def told_answer(piece):
-    """The answer that was kept beside a piece."""
     path = piece.path.with_name(piece.path.name + ".told")
     text = path.read_text()
     found = STATUS_LINE.search(text)
@@ -211,7 +209,6 @@ def add_words(parser):
     parser.add_argument("--parallel", action="store_true", help="prints the work as lines for GNU parallel, and asks nothing")
     parser.add_argument("--told", action="store_true", help="takes the answers that such lines kept")
     add_program(parser)
-    parser.set_defaults(refuse=parser.error)
 
 
 def run(given):

@@ -33,7 +33,6 @@ WITNESS_LINE = re.compile(r"witness (\S+) budget=(\d+) start=\d+ span=(\d+) task
 
 
 def read_leaf(path, name):
-    """A part with tasks of a system file."""
     node = read_system(path).nodes.get(name)
     if node is None or node.kind != "part":
         raise Refused(path, None, f"it has no part {name}")
@@ -43,7 +42,6 @@ def read_leaf(path, name):
 
 
 def task_called(leaf, name):
-    """The place of a leaf's task."""
     found = next((place for place, task in enumerate(leaf.tasks) if task.name == name), None)
     if found is None:
         raise Refused(None, None, f"{leaf.name} has no task {name}; it has {', '.join(task.name for task in leaf.tasks)}")
@@ -51,8 +49,6 @@ def task_called(leaf, name):
 
 
 # The program
-
-
 @dataclass
 class Told:
     """What the program tells of a leaf: its budget, and the window that is short, of which task, and with which budget."""
@@ -69,7 +65,6 @@ class Told:
 
 
 def told_by(answer, program, path, leaf):
-    """What an answer of the program tells of the leaf."""
     if answer.status == 1 and answer.lines[:1] == ["verdict=no"]:
         return told_on_no(path, leaf, answer)
     if not answer.is_yes:
@@ -99,12 +94,8 @@ def told_on_no(path, leaf, answer):
 
 
 # What is drawn
-
-
 @dataclass
 class Curve:
-    """A curve of windows from a first one on, how it is drawn, and what it is."""
-
     of: Callable
     first: int
     colour: str
@@ -134,7 +125,6 @@ class Curves:
         self.check()
 
     def rank(self, task):
-        """Takes the task whose request is drawn."""
         leaf, told, order = self.leaf, self.told, ranks(self.leaf.sched, self.leaf.tasks)
         place = task_called(leaf, task or told.task or leaf.tasks[order[-1]].name)
         above = [leaf.tasks[other] for other in order[:order.index(place)]]
@@ -172,7 +162,6 @@ class Curves:
         return self.given(less, window), self.asked(window), self.given(self.told.budget, window)
 
     def until(self):
-        """The last window that is drawn."""
         leaf, told = self.leaf, self.told
         if self.task:
             return self.task.room + max(2, self.task.room // 8)
@@ -208,7 +197,6 @@ def windows(plot, first, exact):
 
 
 def steps(plot, curve, exact):
-    """A curve as the steps of a path."""
     at, *others = windows(plot, curve.first, exact)
     last = plot.y(curve.of(at))
     told = [f"M{plot.x(at):.2f} {last:.2f}"]
@@ -255,7 +243,6 @@ class Picture:
         self.canvas.text(12, 44, f"period {leaf.period} µs, {budget}; {order}", fill=GREY)
 
     def mark(self, plot):
-        """The marked window in a plot, from it to the next one, and what is missing in it."""
         less, asked, _ = self.curves.levels(self.marked)
         left = plot.x(self.marked)
         width = max(2, plot.x(self.marked + 1) - left)

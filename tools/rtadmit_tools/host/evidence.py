@@ -55,7 +55,6 @@ def certified(program):
 
 
 def verdicts(asked, mark):
-    """The text of verdicts.txt."""
     admit, *others = [(f"rtadmit {words}", answer) for words, answer in asked.answers]
     answers = [admit, *certified(asked.program), *others]
     told = [f"$ {words}\n{answer.text}status {answer.status}\n" for words, answer in answers]
@@ -63,7 +62,6 @@ def verdicts(asked, mark):
 
 
 def fill(folder, given, program, origin):
-    """Puts all into a new folder."""
     shutil.copyfile(given.file, folder / SYSTEM)
     if given.trace:
         shutil.copyfile(given.trace, folder / TRACE)

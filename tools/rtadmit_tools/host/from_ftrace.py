@@ -122,8 +122,6 @@ class Vcpu:
 
 
 # Reading
-
-
 def at_of(seconds, fraction):
     """The nanoseconds of a moment whose whole seconds and whose digits behind the point are these."""
     return int(seconds) * 1_000_000_000 + int(fraction.ljust(9, "0"))
@@ -180,7 +178,6 @@ class Reader:
         yield from (((lost,) for lost in losses) if self.last else ())
 
     def event(self, line, text):
-        """The event of a line, or None where it has none."""
         found = EVENT.fullmatch(text) or PERF.fullmatch(text)
         if not found:
             return self.other(line, text)
@@ -208,8 +205,6 @@ class Reader:
 
 
 # From events to rows
-
-
 @dataclass
 class Map:
     """What the words say: the recording, the cores by processor, the VCPUs by thread, and their servers by name (see servers_of)."""
@@ -352,7 +347,6 @@ class Host:
                 self.start(vcpu, vcpu.due - vcpu.due % self.event.unit)
 
     def take(self, event):
-        """Takes one event."""
         self.event = event
         self.renew()
         if event.kind == "switch":
@@ -378,7 +372,6 @@ class Host:
 
 
 def why_not(vcpu):
-    """Why a thread did not start, and what to do."""
     if vcpu.pid is None:
         return "no event is of it"
     if vcpu.fresh == 0:
@@ -531,8 +524,6 @@ def translate(lines, named, rows, since=0, until=None, longest=False, missing=la
 
 
 # The words
-
-
 def moment(text):
     found = SECONDS.fullmatch(text)
     if not found:
@@ -541,13 +532,11 @@ def moment(text):
 
 
 def shown(at):
-    """A moment as the recording has it."""
     seconds, fraction = divmod(at, 1_000_000_000)
     return f"{seconds}.{fraction:09d}" if fraction % 1000 else f"{seconds}.{fraction // 1000:06d}"
 
 
 def map_of(given):
-    """What the words and the system file say."""
     try:
         cores, threads = pairs(given.cpu, "--cpu", "last"), pairs(given.thread, "--thread", "last")
     except Refused as refused:
@@ -590,7 +579,6 @@ def add_words(parser):
     length = parser.add_mutually_exclusive_group()
     length.add_argument("--any-length", action="store_true", help="the trace may pass 1000 seconds, for tools/host split")
     length.add_argument("--as-it-comes", action="store_true", help="writes rows while it is read, of any length, for tools/host split")
-    parser.set_defaults(refuse=parser.error)
 
 
 def say(given, text, line=""):

@@ -60,10 +60,7 @@ class Thread:
 
 
 # What is recorded
-
-
 def read_record(path):
-    """The threads of a record that are under SCHED_DEADLINE."""
     threads = {}
     for line, text in lines_of(path):
         head, found = THREAD.fullmatch(text), None
@@ -91,8 +88,6 @@ def read_record(path):
 
 
 # What this machine has
-
-
 def list_of(cpus):
     """The text of a set of processors, as taskset prints it."""
     spans = []
@@ -114,7 +109,6 @@ def reservation(libc, number, tid):
 
 
 def read_machine():
-    """The threads of this machine that are under SCHED_DEADLINE."""
     number = GETATTR.get(platform.machine())
     if sys.platform != "linux" or number is None:
         raise Refused("this machine", None, f"no Linux of a known kind ({platform.machine()}): give a RECORD")
@@ -133,8 +127,6 @@ def read_machine():
 
 
 # The file
-
-
 def plain(name):
     """A thread's name as a system file may have it, or nothing."""
     return re.sub(r"[^A-Za-z0-9_-]", "-", name) if re.match("[A-Za-z]", name) else ""
@@ -152,7 +144,6 @@ def names_of(threads, given):
 
 
 def wrong_with(thread):
-    """What keeps a thread from being a part, or None."""
     runtime, deadline, period = thread.times
     odd = next(((what, value) for what, value in (("runtime", runtime), ("period", period)) if value % 1000), None)
     if deadline < period:
@@ -167,7 +158,6 @@ def wrong_with(thread):
 
 
 def text_of(where, threads, given, stand_ins, left_out, extras):
-    """The system file of the threads."""
     for tid in [*given, *left_out]:
         if tid not in {thread.tid for thread in threads}:
             raise Refused(where, None, f"no thread {tid} reserves time, and a word tells of it")

@@ -123,7 +123,6 @@ class Host:
             self.learn(event, self.vcpus.get(event.vcpu), self.holders.get(event.cpu))
 
     def learn(self, event, vcpu, holder):
-        """Goes through an event: the processor, the first state and the replenishments of its VCPU."""
         if vcpu is None:
             if holder is not None:
                 self.refuse(event, f"{holder.key} has processor {event.cpu}, and another VCPU runs on it: a line is missing")

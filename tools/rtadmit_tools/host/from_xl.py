@@ -103,7 +103,6 @@ class Host:
         return self.names.get(vcpu.domain, vcpu.domain)
 
     def part(self, vcpu):
-        """The name of a VCPU in the file."""
         return f"{self.called(vcpu)}-{vcpu.number}"
 
     def place(self, key, vcpu):
@@ -121,7 +120,6 @@ class Host:
                 yield Refused(self.vcpus, line, f"{cause}: xl vcpu-pin {shlex.quote(vcpu.domain)} {vcpu.number} CPU")
 
     def wrong(self, key, vcpu):
-        """What is wrong with a VCPU."""
         yield from self.place(key, vcpu)
         name, short = self.part(vcpu), self.called(vcpu)
         if not NAME.fullmatch(name):

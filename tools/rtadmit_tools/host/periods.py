@@ -76,7 +76,6 @@ def needs_of(program, path, name, low, high, most):
 
 
 def picture_of(leaf, needs, best):
-    """Shares over periods."""
     asked = sum(task.work / task.period for task in leaf.tasks)
     twentieths = int(max([need.share for need in needs if need.budget is not None] + [asked]) * 20) + 2
     canvas, low = Canvas(), needs[0].period

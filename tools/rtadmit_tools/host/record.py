@@ -68,7 +68,6 @@ class Thread:
         return 0 if LIBC.syscall(number, 0, wanted, 0) == 0 else ctypes.get_errno()
 
     def asleep_mark(self, pid):
-        """The mark that says that the thread sleeps with its time reserved, and has done so for longer than its period."""
         return f"asleep comm={self.name} pid={pid} cpu={self.cpu} runtime={self.runtime} period={self.period}"
 
     def random_times(self, seed):
@@ -112,8 +111,6 @@ def spend(microseconds):
 
 
 # Files of the kernel
-
-
 def read(path):
     with open(path) as file:
         return file.read().strip()
@@ -160,8 +157,6 @@ def change(stack, path, text):
 
 
 # The core's own cpuset
-
-
 def mounted(mounts, kind, option=None):
     """Where a filesystem of a kind is mounted, by the text of /proc/mounts."""
     for line in mounts.splitlines():
@@ -218,8 +213,6 @@ def own_cores_second(stack, root, cpus):
 
 
 # The trace buffer
-
-
 def mount_tracefs(stack, mounts):
     """Where the trace filesystem is; it is mounted for the time where it is nowhere."""
     folder = mounted(mounts, "tracefs")
@@ -233,7 +226,6 @@ def mount_tracefs(stack, mounts):
 
 
 def own_buffer(stack, tracefs):
-    """A trace buffer of its own, that records nothing yet."""
     folder = f"{tracefs}/instances/{PREFIX}"
     make(stack, folder)
     for name, text in (("tracing_on", 0), ("buffer_size_kb", BUFFER_KB), ("trace_clock", "mono")):
@@ -242,7 +234,6 @@ def own_buffer(stack, tracefs):
 
 
 def choose_events(buffer, pids):
-    """The switches from or to the threads, and their wakeups."""
     switch = " || ".join(f"prev_pid=={pid} || next_pid=={pid}" for pid in pids)
     wakeup = " || ".join(f"pid=={pid}" for pid in pids)
     for event, chosen in (("sched_switch", switch), ("sched_wakeup", wakeup), ("sched_migrate_task", wakeup)):
@@ -251,12 +242,10 @@ def choose_events(buffer, pids):
 
 
 def mark(buffer, text):
-    """Writes a line of the recorder's own into the buffer, among the events."""
     write(f"{buffer}/trace_marker", f"rtadmit: {text}\n")
 
 
 def whole(buffer):
-    """The text of the buffer, which must hold each event that it was handed."""
     for folder in sorted(os.listdir(f"{buffer}/per_cpu")):
         for line in read(f"{buffer}/per_cpu/{folder}/stats").splitlines():
             what, _, count = line.partition(": ")
@@ -266,8 +255,6 @@ def whole(buffer):
 
 
 # The processes of the recorder's: they end with it, and by nothing else
-
-
 def child(stack, live):
     """A process that lives so, and is ended with the stack: its number."""
     pid = os.fork()
@@ -337,13 +324,10 @@ class Child:
         check_state(self.pid, "S", f"{self.thread.name} does not sleep before the recording")
 
     def start(self):
-        """Wakes the thread, and tells it the moment."""
         os.write(self.go, time.monotonic_ns().to_bytes(8, "little"))
 
 
 # The recording
-
-
 class Pause:
     """Waits, and ends early by an exception where a signal asked for it. A signal acts nowhere else, so no step is cut."""
 
@@ -403,7 +387,6 @@ def record(threads, seconds, seed, pause):
 
 
 def gaps_of(text, threads):
-    """The gaps of a recording."""
     gaps, named = [], Map("", {thread.cpu: f"cpu{thread.cpu}" for thread in threads}, {thread.name: thread.name for thread in threads})
     with tempfile.TemporaryFile("w+") as file, contextlib.suppress(Refused):
         translate(enumerate(text.splitlines(), 1), named, Rows("", file), missing=gaps.append)
@@ -423,7 +406,6 @@ def record_whole(given, pause):
 
 
 def several(text):
-    """A whole number from 1 on."""
     if not text.isdecimal() or int(text) == 0:
         raise argparse.ArgumentTypeError(f"{text!r} is no whole number from 1 on")
     return int(text)
@@ -435,7 +417,6 @@ def add_words(parser):
     parser.add_argument("--seconds", type=float, default=2, metavar="S", help="for how long; 2 where it is not said")
     parser.add_argument("--random", type=int, metavar="SEED", help="threads with a WORK work and sleep as guests that halt do")
     parser.add_argument("--tries", type=several, default=8, metavar="N", help="how often to record at the most, until no event is missing")
-    parser.set_defaults(refuse=parser.error)
 
 
 def run(given):

@@ -112,12 +112,10 @@ class Asked:
         return answer
 
     def lines(self, kinds, command, *words, always=False):
-        """The lines of some kinds in the answer to a command."""
         answer = self.ask(command, *words, always=always)
         return answer.told(*kinds.split()) if answer else []
 
     def share(self, name):
-        """The share of a part, or None where no budget is told."""
         given = self.system.nodes[name].budget
         budget = self.budgets[name][0] if name in self.budgets else given
         return None if budget is None else Fraction(budget, self.system.nodes[name].period)
@@ -136,7 +134,6 @@ class Page:
     # The verdicts
 
     def verdict(self):
-        """What `admit` says, in a sentence."""
         answer = self.asked.admit
         if answer.is_yes:
             unknown = f" What runs in {names_of(self.asked.stand_ins)} is not known (stand-in)." if self.asked.stand_ins else ""
@@ -152,7 +149,6 @@ class Page:
         return banner("no", "No.", f"The {found[1]} {name_of(found[2])} is overfull: {where}.")
 
     def sleeping(self):
-        """What `isolate` says, in a sentence."""
         asked = self.asked
         if not asked.admit.is_yes or not asked.vcpus:
             return ""
@@ -202,7 +198,6 @@ class Page:
     # The guests
 
     def guests(self):
-        """A row for each part."""
         asked = self.asked
         columns = {
             "guest": self.guest, "on": lambda part: Cell(name_of(part.parent), "where"), "period": lambda part: str(part.period),
@@ -232,7 +227,6 @@ class Page:
 
     @staticmethod
     def closest(lines, part, key, limit, sign):
-        """Of the tasks of a part the one that has the least room up to its limit."""
         found = max((line for line in lines if line["name"] == part.name), key=lambda line: Fraction(line[key], line[limit]), default=None)
         return name_of(found["task"]) + " " + number(f"{found[key]} {sign} {found[limit]}") if found else "–"
 

@@ -163,7 +163,6 @@ class Cutter:
             piece.close(at)
 
     def begin(self, at):
-        """The next stretch begins."""
         self.newest = Piece(at, self.folder, self.room)
         self.open.append(self.newest)
         self.due = at + self.length
@@ -210,7 +209,6 @@ class Cutter:
             piece.close(at)
 
     def drop(self):
-        """Removes what is not whole."""
         for piece in self.open:
             piece.drop()
 

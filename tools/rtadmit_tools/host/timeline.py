@@ -47,8 +47,6 @@ WORDS = {1000: "µs", 1: "ns"}
 
 @dataclass
 class View:
-    """The moments that are drawn."""
-
     begin: int
     end: int
 
@@ -158,8 +156,6 @@ def servers_of(path, given, program, scale):
 
 
 class Picture(Canvas):
-    """VCPUs of a trace, the spans of each and of its core by their names, and what is drawn of the periods of those that are servers."""
-
     def __init__(self, view, unit, framed, vcpus, spans, drawn):
         super().__init__()
         self.view, self.unit, self.framed, self.vcpus, self.spans, self.drawn = view, unit, framed, vcpus, spans, drawn
@@ -297,7 +293,6 @@ class Picture(Canvas):
         self.text(x, y + 10, f"{told if bands else 'below each period: time got / budget'}; + has extra time", size=11, fill=GREY)
 
     def all(self):
-        """The text of the picture."""
         bands = {name for name, drawn in self.drawn.items() if drawn.is_band}
         rows = [(self.core, name, CORE_ROW + GAP) for name in self.cores]
         rows += [(self.vcpu, vcpu, VCPU_ROW + GAP + (BAND - 18 if vcpu.name in bands else 0)) for vcpu in self.vcpus]
@@ -351,7 +346,6 @@ def end_of(path, file):
 
 
 def picture_of(given):
-    """The text of the picture that the words ask for."""
     with opened(given.trace) as file:
         file = file if file.seekable() else io.StringIO(file.read())
         end = end_of(given.trace, file)
@@ -382,7 +376,6 @@ def add_words(parser):
     parser.add_argument("--until", type=int, metavar="AT", help="draws up to this moment of the trace")
     parser.add_argument("--around", type=at_sign, metavar="NAME@FROM_NS", help="draws the period of NAME that `audit` tells so")
     add_program(parser)
-    parser.set_defaults(refuse=parser.error)
 
 
 def run(given):

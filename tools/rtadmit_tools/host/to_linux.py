@@ -34,7 +34,6 @@ TID = re.compile("[1-9][0-9]{0,8}")
 
 
 def runtime_of(path, server, tick):
-    """What a part reserves in each period, in microseconds."""
     least, most = PERIODS
     if not least <= server.period <= most:
         raise Refused(path, server.line, f"{server.name} has a period of {server.period}, and the kernel takes {least} to {most}")
@@ -48,13 +47,11 @@ def runtime_of(path, server, tick):
 
 
 def percent(share):
-    """A share of a processor, rounded up to tenths of a percent."""
     tenths = -(-share * 1000 // 1)
     return f"{tenths // 10}.{tenths % 10}%"
 
 
 def calls(path, program, threads, without, tick, limit):
-    """The calls for all parts on the cores of an admitted file, core by core."""
     file = admitted(path, program)
     need_full(path, file.cores, "Linux")
     names = [server.name for server in file.servers]

@@ -47,7 +47,6 @@ def named_in(path, file):
 
 
 def call(path, server, domains):
-    """The call for one VCPU."""
     found = VCPU.fullmatch(server.name)
     if not found:
         raise Refused(path, server.line, f"{server.name} is not named DOMAIN-NUMBER, for a VCPU")

@@ -52,8 +52,6 @@ KINDS = {
 
 
 # Why: what the node that is told serves, and what it gets
-
-
 def slots(count):
     return f"{count} slot" if count == 1 else f"{count} slots"
 
@@ -85,7 +83,6 @@ class Told:
         self.tasks = self.node.tasks or [self.child(name, program) for name in self.node.children]
 
     def child(self, name, program):
-        """A part that the node serves, as a task of its budget."""
         period = self.system.nodes[name].period
         return Task(name, period, period, budget_of(self.system, name, program), 0)
 
@@ -154,8 +151,6 @@ def is_stand_in(part):
 
 
 # What helps
-
-
 @dataclass
 class Offer:
     """A change that helps: of which kind, how large it is beside others of that kind, and what it is."""
@@ -211,7 +206,6 @@ class Search:
         return [part for part in self.parts() if not is_stand_in(part)]
 
     def budgets(self):
-        """The budgets that are given, left out."""
         for part in self.known():
             change = f"{part.name}.budget=open"
             if part.budget is None or not self.helps(change):
@@ -236,7 +230,6 @@ class Search:
         return self.load(node) if node.kind == "core" else self.weight(node)
 
     def works(self):
-        """For each task the greatest lower work that helps."""
         tasks = [(part, task) for part in self.parts() for task in part.tasks if task.work > 1]
         for part, task in self.largest(tasks, lambda pair: share_of(pair[1])):
             change = f"{part.name}.{task.name}.work="
@@ -274,7 +267,6 @@ class Search:
                     break
 
     def load(self, core):
-        """The share of a core that its parts have, as far as the file tells it."""
         given = fractions.Fraction(core.budget, core.period)
         return sum(self.weight(self.system.nodes[name]) for name in core.children) / given
 
@@ -345,8 +337,6 @@ def offer_lines(path, offers, most, asked):
 
 
 # The words
-
-
 def called(name):
     """The words by which a file of this checkout is called from where one stands."""
     return shlex.quote(str(TOP / name)) if pathlib.Path.cwd() != TOP else name if "/" in name else f"./{name}"
@@ -369,7 +359,6 @@ def judged(path, program, most, asked=None):
 
 
 def refused(path, second, kind, answer):
-    """The status, and what is told of a file that is refused."""
     told = faults.lines_of(path, second, kind, answer)
     return 3, [f"{second or path}{f', read as {kind}' if kind else ''}: {answer.shown}", "", *told]
 
@@ -387,7 +376,6 @@ def judged_second(path, second, kind, program):
 
 
 def wide_lines(system, answer):
-    """What is to be said of a node whose periods share too few factors."""
     node = system.nodes.get(answer.lines[1].split()[-1]) if len(answer.lines) > 1 else None
     if node is None:
         raise Refused(system.path, None, f"the program's answer tells no node of the file: {answer.shown}")
