@@ -104,9 +104,8 @@ def built_program():
 
 
 def add_program(parser):
-    parser.add_argument(
-        "--program", metavar="WORDS", help="the program to ask; where none is named, the one that RTADMIT names, or else the proved one of this folder"
-    )
+    told = "the program to ask; where none is named, the one that RTADMIT names, or else the proved one of this folder"
+    parser.add_argument("--program", metavar="WORDS", help=told)
 
 
 def program_of(words=None):

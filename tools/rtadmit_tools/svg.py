@@ -1,4 +1,5 @@
 """Pictures as texts of SVG: elements, round scales, and the whole text."""
+import itertools
 from xml.sax.saxutils import escape
 
 INK, GREY, FAINT = "#222222", "#666666", "#dddddd"
@@ -6,12 +7,8 @@ INK, GREY, FAINT = "#222222", "#666666", "#dddddd"
 
 def step_of(length, most):
     """A round distance of the scale's marks, of which at most so many fit into a length."""
-    step = 1
-    while True:
-        for factor in (1, 2, 5):
-            if length <= most * step * factor:
-                return step * factor
-        step *= 10
+    steps = (factor * 10**power for power in itertools.count() for factor in (1, 2, 5))
+    return next(step for step in steps if length <= most * step)
 
 
 def marks(first, last, most):
@@ -28,7 +25,8 @@ class Canvas:
     def text(self, x, y, text, anchor="start", fill=INK, size=12, more=""):
         if anchor == "start":
             self.reach = max(self.reach, x + size * sum(1 if letter in "MWmw" else 0.64 for letter in text))
-        self.lines.append(f'<text x="{x:.2f}" y="{y:g}" text-anchor="{anchor}" fill="{fill}" font-size="{size}" {more}>{escape(text)}</text>')
+        place = f'x="{x:.2f}" y="{y:g}" text-anchor="{anchor}"'
+        self.lines.append(f'<text {place} fill="{fill}" font-size="{size}" {more}>{escape(text)}</text>')
 
     def line(self, x1, y1, x2, y2, stroke, width=1, more=""):
         self.lines.append(f'<line x1="{x1:.2f}" y1="{y1:g}" x2="{x2:.2f}" y2="{y2:g}" stroke="{stroke}" stroke-width="{width}" {more}/>')
@@ -44,9 +42,9 @@ class Canvas:
 
     def whole(self, width, height, front=""):
         """The text of the picture; `front` stands behind its head, for patterns."""
-        head = f'<svg xmlns="http://www.w3.org/2000/svg" width="{width}" height="{height}" viewBox="0 0 {width} {height}" font-family="sans-serif">'
-        ground = f'<rect width="{width}" height="{height}" fill="white"/>'
-        return "\n".join([head, *[front] * bool(front), ground, *self.lines, "</svg>", ""])
+        size = f'width="{width}" height="{height}"'
+        head = f'<svg xmlns="http://www.w3.org/2000/svg" {size} viewBox="0 0 {width} {height}" font-family="sans-serif">'
+        return "\n".join([head, *[front] * bool(front), f'<rect {size} fill="white"/>', *self.lines, "</svg>", ""])
 
 
 class Plot:
@@ -56,17 +54,10 @@ class Plot:
 
     def __init__(self, canvas, left, top, width, height, across, up):
         self.canvas, self.left, self.top, self.width, self.height = canvas, left, top, width, height
-        self.begin, self.end = across
-        self.low, self.high = up
-
-    @property
-    def bottom(self):
-        return self.top + self.height
-
-    @property
-    def right(self):
-        """Where the picture ends, so that its last mark fits."""
-        return self.left + self.width + max(28, 4 * len(str(self.end)) + 8)
+        (self.begin, self.end), (self.low, self.high) = across, up
+        self.bottom = top + height
+        # where the picture ends, so that its last mark fits
+        self.right = left + width + max(28, 4 * len(str(self.end)) + 8)
 
     def x(self, value):
         return self.left + self.width * (value - self.begin) / (self.end - self.begin)

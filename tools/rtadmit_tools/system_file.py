@@ -2,6 +2,7 @@
 import copy
 import pathlib
 import re
+import textwrap
 import tomllib
 from dataclasses import dataclass, field
 
@@ -14,6 +15,9 @@ CHANGE = re.compile(r"([^.=]+)\.(?:(period|budget|parent|sched)|([^.=]+)\.(work)
 KEYS = {"core": ("name", "sched", "supply_period", "supply_budget"), "part": ("name", "parent", "sched", "period", "budget", "extra")}
 TASK_KEYS = ("name", "period", "deadline", "jitter", "work")
 
+HEAD = """All times are microseconds. What {} does not know is open: `rtadmit admit` refuses this file until each part has its sched and a
+task. Leave the budget of a part out, and the program computes the least that is enough for the tasks that you wrote down. Keep that of a
+stand-in: its task is invented."""
 OPEN = """\
 # open: write what is below without the #, and a [[part.task]] for each thread with a deadline
 # sched = "edf"        # how the guest orders them: edf, rm, dm or listed (docs/use/guide.md)
@@ -78,11 +82,10 @@ class System:
 
     def below(self, name):
         """The names of all parts that stand on a node, directly or not, in file order."""
-        found = {name}
+        found = [name]
         for part in self.parts():
-            if part.parent in found:
-                found.add(part.name)
-        return [part.name for part in self.parts() if part.name in found and part.name != name]
+            found += [part.name] * (part.parent in found)
+        return found[1:]
 
     def root(self, name):
         """The core on which a node stands, or that it is."""
@@ -186,10 +189,6 @@ def lines_of(path):
 
 
 # The text of a new file
-def core_text(name):
-    return f'[[core]]\nname = "{name}"\nsched = "edf"\n'
-
-
 def part_text(about, name, core, period, budget, extra=False, stand_in=False):
     """A server on a core. What runs in it is left open, or one slot a second stands for it."""
     sched = 'sched = "edf"\n' if stand_in else ""
@@ -200,10 +199,12 @@ def part_text(about, name, core, period, budget, extra=False, stand_in=False):
     )
 
 
-def system_text(head, cores, parts):
-    """The whole file: what is said first, the names of the cores, and the texts of the parts."""
+def system_text(about, host, more, processors, parts):
+    """The whole file: what it is, what of the host leaves things open, other lines of its head, a core for each processor, and the parts."""
+    head = [*textwrap.wrap(f"{about}. {HEAD.format(host)}", 132), *more]
     told = "".join(f"# {line}\n" for line in head)
-    return "\n".join([f"{told}format = 2\n", *map(core_text, cores), *parts])
+    cores = [f'[[core]]\nname = "cpu{processor}"\nsched = "edf"\n' for processor in sorted(set(processors))]
+    return "\n".join([f"{told}format = 2\n", *cores, *parts])
 
 
 # The budgets of an admitted file
@@ -219,25 +220,15 @@ class Server:
     line: int | None
 
 
-@dataclass
-class Admitted:
-    """The cores of an admitted file, as they stand in it, the servers on them, in its order, and its text."""
-
-    cores: list
-    servers: list
-    text: str
-
-
 def line_of(text, name):
     """The line on which a name is given, as far as it stands on one of its own."""
-    for line, told in enumerate(text.splitlines(), 1):
-        if re.match(rf"\s*name\s*=\s*[\"']{re.escape(name)}[\"']", told):
-            return line
-    return None
+    form = re.compile(rf"\s*name\s*=\s*[\"']{re.escape(name)}[\"']")
+    return next((line for line, told in enumerate(text.splitlines(), 1) if form.match(told)), None)
 
 
-def admitted(path, program):
-    """The servers of a system file with the budgets that the program tells. Refused where it does not admit the file."""
+def admitted(path, program, whose):
+    """The names of the cores of an admitted file, the servers on them, with the budgets that the program tells, and its text. Refused where
+    the program does not admit it, and where a core is not a whole processor under edf, as the host has it that is told."""
     text = pathlib.Path(path).read_text(errors="surrogateescape")
     answer = program.ask("admit", path)
     if answer.status != 0:
@@ -245,17 +236,12 @@ def admitted(path, program):
         raise Refused(path, None, f"not admitted, so there is nothing to set: status {answer.status}, {told or 'no text'}")
     if not answer.is_yes:
         raise Refused(program.path, None, "this program does not answer as rtadmit does")
-    tree, budgets = read_system(path).tree, answer.budgets()
-    cores = [core["name"] for core in tree["core"]]
-    servers = [
-        Server(part["name"], part["parent"], part["period"], budgets[part["name"]][0], part.get("extra", False), line_of(text, part["name"]))
-        for part in tree.get("part", []) if part["parent"] in cores
-    ]
-    return Admitted(tree["core"], servers, text)
-
-
-def need_full(path, cores, whose):
-    """Refuses a core that is not served as the host serves its processors."""
-    for core in cores:
+    system, budgets = read_system(path), answer.budgets()
+    for core in system.tree["core"]:
         if core["sched"] != "edf" or "supply_period" in core:
             raise Refused(path, None, f"{core['name']} is not a whole processor under edf, as {whose} has it")
+    cores = [core.name for core in system.cores()]
+    return cores, [
+        Server(part.name, part.parent, part.period, budgets[part.name][0], part.extra, line_of(text, part.name))
+        for part in system.parts() if part.parent in cores
+    ], text

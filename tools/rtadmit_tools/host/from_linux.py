@@ -29,18 +29,17 @@ from ..system_file import LIMIT, NAME, lines_of, part_text, system_text
 SCHED_DEADLINE, RECLAIM = 6, 2
 GETATTR = {"x86_64": 315, "aarch64": 275, "riscv64": 275}
 THREAD = re.compile(r"thread ([0-9]{1,9})(?: (.*))?")
-POLICY = re.compile(r"pid ([0-9]{1,9})'s current scheduling policy: (\w+)(?:\|\S+)?")
-PRIORITY = re.compile(r"pid ([0-9]{1,9})'s current scheduling priority: [0-9]+")
-TIMES = re.compile(r"pid ([0-9]{1,9})'s current runtime/deadline/period parameters: ([0-9]{1,19})/([0-9]{1,19})/([0-9]{1,19})")
-AFFINITY = re.compile(r"pid ([0-9]{1,9})'s current affinity list: ([0-9,-]+)")
-HEAD = [
-    "The threads of a Linux host under SCHED_DEADLINE, by tools/host from-linux. All times are microseconds. What the kernel does not",
-    "know is open: `rtadmit admit` refuses this file until each part has its sched and a task. Leave the budget of a part out, and the",
-    "program computes the least that is enough for the tasks that you wrote down. Keep that of a stand-in: its task is invented.",
-]
+FORMS = {key: re.compile(f"pid ([0-9]{{1,9}})'s current {form}") for key, form in {
+    "policy": r"scheduling policy: (\w+)(?:\|\S+)?",
+    "priority": "scheduling priority: ([0-9]+)",
+    "times": "runtime/deadline/period parameters: ([0-9]{1,19})/([0-9]{1,19})/([0-9]{1,19})",
+    "affinity": "affinity list: ([0-9,-]+)",
+}.items()}
+ABOUT = "The threads of a Linux host under SCHED_DEADLINE, by tools/host from-linux"
 HINT = """no thread reserves time (SCHED_DEADLINE). To begin, write a file with a core for each processor and a part for each
 thread that is to reserve time, as examples/linux/tick.toml (those of KVM are called CPU 0/KVM and so on: ps -eLo tid,comm), without
-budgets; ask rtadmit admit, and let tools/host to-linux print the calls that reserve what it computes (docs/use/guide.md, "Linux and KVM")"""
+budgets; ask rtadmit admit, and let tools/host to-linux print the calls that reserve what it computes (docs/use/guide.md, "Linux \
+and KVM")"""
 
 
 @dataclass
@@ -63,22 +62,18 @@ class Thread:
 def read_record(path):
     threads = {}
     for line, text in lines_of(path):
-        head, found = THREAD.fullmatch(text), None
-        if head:
+        if head := THREAD.fullmatch(text):
             if int(head[1]) in threads:
                 raise Refused(path, line, f"thread {head[1]} stands twice")
             threads[int(head[1])] = Thread(int(head[1]), head[2] or "", line)
             continue
-        for key, form in (("policy", POLICY), (None, PRIORITY), ("times", TIMES), ("affinity", AFFINITY)):
-            found = form.fullmatch(text)
-            if found:
-                break
+        key, found = next(((key, found) for key, form in FORMS.items() if (found := form.fullmatch(text))), (None, None))
         if not found:
             raise Refused(path, line, "no line of a record: neither `thread TID NAME`, nor of `chrt -p`, nor of `taskset -cp`")
         thread = threads.get(int(found[1]))
         if thread is None:
             raise Refused(path, line, f"no line `thread {found[1]} NAME` is above")
-        if key is not None:
+        if key != "priority":
             setattr(thread, key, tuple(map(int, found.groups()[1:])) if key == "times" else found[2])
         thread.reclaims |= key == "policy" and "RECLAIM" in text
     for thread in threads.values():
@@ -90,13 +85,8 @@ def read_record(path):
 # What this machine has
 def list_of(cpus):
     """The text of a set of processors, as taskset prints it."""
-    spans = []
-    for cpu in sorted(cpus):
-        if spans and spans[-1][1] == cpu - 1:
-            spans[-1][1] = cpu
-        else:
-            spans.append([cpu, cpu])
-    return ",".join(str(first) if first == last else f"{first}-{last}" for first, last in spans)
+    firsts, lasts = ([cpu for cpu in sorted(cpus) if cpu + step not in cpus] for step in (-1, 1))
+    return ",".join(str(first) if first == last else f"{first}-{last}" for first, last in zip(firsts, lasts))
 
 
 def reservation(libc, number, tid):
@@ -139,17 +129,17 @@ def names_of(threads, given):
     for thread in threads:
         own = plain(thread.name)
         alone = NAME.fullmatch(own) and taken.count(own) == 1 and not re.fullmatch("cpu[0-9]+", own)
-        names[thread.tid] = given.get(thread.tid) or (own if alone else f"{own or 'thread'}-{thread.tid}")
+        names[thread.tid] = given.get(thread.tid, own if alone else f"{own or 'thread'}-{thread.tid}")
     return names
 
 
 def wrong_with(thread):
     runtime, deadline, period = thread.times
-    odd = next(((what, value) for what, value in (("runtime", runtime), ("period", period)) if value % 1000), None)
     if deadline < period:
         return f"has a deadline of {deadline} ns, below its period of {period}: a part has its budget by the end of its period"
-    if odd:
-        return f"has a {odd[0]} of {odd[1]} ns, which is no whole number of microseconds"
+    for what, value in (("runtime", runtime), ("period", period)):
+        if value % 1000:
+            return f"has a {what} of {value} ns, which is no whole number of microseconds"
     if not 1000 <= runtime <= period <= deadline or period > LIMIT * 1000:
         return f"has not 1 <= runtime <= period <= {LIMIT} microseconds"
     if not thread.affinity.isdecimal():
@@ -161,7 +151,7 @@ def text_of(where, threads, given, stand_ins, left_out, extras):
     for tid in [*given, *left_out]:
         if tid not in {thread.tid for thread in threads}:
             raise Refused(where, None, f"no thread {tid} reserves time, and a word tells of it")
-    head = HEAD + [f"{thread.name!a}, thread {thread.tid}, is left out." for thread in threads if thread.tid in left_out]
+    more = [f"{thread.name!a}, thread {thread.tid}, is left out." for thread in threads if thread.tid in left_out]
     threads = [thread for thread in threads if thread.tid not in left_out]
     if not threads:
         raise Refused(where, None, HINT)
@@ -177,7 +167,7 @@ def text_of(where, threads, given, stand_ins, left_out, extras):
         about = f"thread {thread.tid}, which is called {thread.name!a}"
         extra = thread.reclaims or name in extras
         parts.append(part_text(about, name, f"cpu{int(thread.affinity)}", period // 1000, runtime // 1000, extra, name in stand_ins))
-    return system_text(head, [f"cpu{core}" for core in sorted({int(thread.affinity) for thread in threads})], parts)
+    return system_text(ABOUT, "the kernel", more, (int(thread.affinity) for thread in threads), parts)
 
 
 def add_words(parser):

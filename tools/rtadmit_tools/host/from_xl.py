@@ -26,11 +26,7 @@ DOMAINS_HEAD = re.compile(r"Name\s+ID\s+Period\s+Budget.*")
 SCHED_ROW = re.compile(r"(\S.*?)\s+([0-9]{1,9})\s+([0-9]{1,9})\s+([0-9]{1,10})\s+([0-9]{1,10})(?:\s+(yes|no))?")
 VCPUS_HEAD = re.compile(r"Name\s+ID\s+VCPU\s+CPU\s+State\s+Time\(s\)\s+Affinity \(Hard / Soft\)")
 VCPUS_ROW = re.compile(r"(\S.*?)\s+([0-9]{1,9})\s+([0-9]{1,9})\s+([0-9]{1,9}|-)\s+([a-z-]{3})\s+([0-9.]+)\s+(\S+) / (\S+)")
-HEAD = [
-    "What `xl sched-rtds -v all` and `xl vcpu-list` printed, by tools/host from-xl. All times are microseconds. What Xen does not know is",
-    "open: `rtadmit admit` refuses this file until each part has its sched and a task. Leave the budget of a part out, and the program",
-    "computes the least that is enough for the tasks that you wrote down. Keep that of a stand-in: its task is invented.",
-]
+ABOUT = "What `xl sched-rtds -v all` and `xl vcpu-list` printed, by tools/host from-xl"
 NAMED = "tools/host to-xl reads from here which domain has another name in this file:"
 
 
@@ -95,9 +91,8 @@ class Host:
         self.sched, self.vcpus, self.names = sched, vcpus, names
         self.servers, self.places = read_sched(sched), rows(vcpus, VCPUS_HEAD, VCPUS_ROW)
         self.parts, self.domains = {}, {}
-        for name in names:
-            if name not in {vcpu.domain for vcpu in self.servers.values()}:
-                raise Refused(sched, None, f"no VCPU of a domain {name}, which --name tells")
+        if unknown := [name for name in names if name not in {vcpu.domain for vcpu in self.servers.values()}]:
+            raise Refused(sched, None, f"no VCPU of a domain {unknown[0]}, which --name tells")
 
     def called(self, vcpu):
         return self.names.get(vcpu.domain, vcpu.domain)
@@ -134,20 +129,19 @@ class Host:
 
     def text(self, stand_ins):
         refuse_all(cause for key, vcpu in self.servers.items() for cause in self.wrong(key, vcpu))
-        for name in stand_ins:
-            if name not in self.parts:
-                raise Refused(self.sched, None, f"no part is called {name}; --stand-in wants the part, as {next(iter(self.parts))}")
+        if unknown := [name for name in stand_ins if name not in self.parts]:
+            raise Refused(self.sched, None, f"no part is called {unknown[0]}; --stand-in wants the part, as {next(iter(self.parts))}")
         online = {name: vcpu for name, vcpu in self.parts.items() if vcpu.is_online}
         if not online:
             raise Refused(self.vcpus, None, "every VCPU is offline")
-        head = HEAD + [f"{name} is offline and left out." for name in self.parts if name not in online]
+        more = [f"{name} is offline and left out." for name in self.parts if name not in online]
         if self.names:
-            head += [NAMED, *(f"--name {shlex.quote(f'{domain}={name}')}" for domain, name in self.names.items())]
+            more += [NAMED, *(f"--name {shlex.quote(f'{domain}={name}')}" for domain, name in self.names.items())]
         parts = []
         for name, vcpu in online.items():
             about = f"VCPU {vcpu.number} of the domain {vcpu.domain}"
             parts.append(part_text(about, name, f"cpu{int(vcpu.processors)}", vcpu.period, vcpu.budget, vcpu.extra, name in stand_ins))
-        return system_text(head, [f"cpu{core}" for core in sorted({int(vcpu.processors) for vcpu in online.values()})], parts)
+        return system_text(ABOUT, "Xen", more, (int(vcpu.processors) for vcpu in online.values()), parts)
 
 
 def add_words(parser):

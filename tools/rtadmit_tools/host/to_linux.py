@@ -26,7 +26,7 @@ from fractions import Fraction
 from ..command_line import Refused, WrongWords, pairs, several
 from ..places import rewritten
 from ..program import add_program, program_of
-from ..system_file import System, admitted, need_full, read_system
+from ..system_file import System, admitted, read_system
 
 LEAST_NS = 1024
 PERIODS = (100, 4_194_304)
@@ -52,16 +52,13 @@ def percent(share):
 
 
 def calls(path, program, threads, without, tick, limit):
-    file = admitted(path, program)
-    need_full(path, file.cores, "Linux")
-    names = [server.name for server in file.servers]
-    for option, told in (("--map", threads), ("--without", without)):
-        for name in told:
-            if name not in names:
-                raise Refused(path, None, f"no part on a core is {name}, which {option} tells")
+    cores, every, _ = admitted(path, program, "Linux")
+    for option, names in (("--map", threads), ("--without", without)):
+        if unknown := [name for name in names if name not in [server.name for server in every]]:
+            raise Refused(path, None, f"no part on a core is {unknown[0]}, which {option} tells")
     told = []
-    for core in file.cores:
-        servers = [server for server in file.servers if server.core == core["name"] and server.name not in without]
+    for core in cores:
+        servers = [server for server in every if server.core == core and server.name not in without]
         share, lines = Fraction(0), []
         for server in servers:
             if server.name not in threads:
@@ -71,10 +68,10 @@ def calls(path, program, threads, without, tick, limit):
             period = server.period * 1000
             lines.append(f"chrt -R -d -T {runtime * 1000} -D {period} -P {period} -p 0 {threads[server.name]}\n")
         if share > limit:
-            cause = f"{core['name']}: its parts reserve {percent(share)}, and the kernel grants {percent(limit)} (--limit)"
+            cause = f"{core}: its parts reserve {percent(share)}, and the kernel grants {percent(limit)} (--limit)"
             raise Refused(path, servers[0].line, cause)
-        told += [f"# {core['name']}: {percent(share)} of at most {percent(limit)}\n", *lines] if servers else []
-    if tick and any(not server.extra for server in file.servers if server.name in threads):
+        told += [f"# {core}: {percent(share)} of at most {percent(limit)}\n", *lines] if servers else []
+    if tick and any(not server.extra for server in every if server.name in threads):
         told.append("# an audit lets the tick pass where a part has extra = true (--audit)\n")
     return "".join(told)
 

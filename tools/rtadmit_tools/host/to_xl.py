@@ -19,7 +19,7 @@ import sys
 
 from ..command_line import Refused, pairs, several
 from ..program import add_program, program_of
-from ..system_file import admitted, need_full
+from ..system_file import admitted
 
 LEAST = 10
 VCPU = re.compile(r"(.+)-(0|[1-9][0-9]*)")
@@ -29,8 +29,7 @@ NAMED = re.compile(r"# --name (.*)")
 def named_in(path, file):
     """The domain that each name stands for, as the comments of tools/host from-xl tell it."""
     domains = {}
-    for line, text in enumerate(file.split("\n"), 1):
-        found = NAMED.fullmatch(text)
+    for line, found in enumerate(map(NAMED.fullmatch, file.split("\n")), 1):
         if not found:
             continue
         try:
@@ -61,26 +60,21 @@ def call(path, server, domains):
 
 def tell_exposed(path, program):
     """Says on standard error which VCPUs are exposed, where the program answers that."""
-    for line in program.ask("isolate", path).lines:
-        if line.startswith("exposed "):
-            _, name, by, *_ = line.split()
-            told = f"{name} is exposed ({by}): its budget is not proved safe when others of its core sleep (docs/use/no.md)"
-            print(f"{path}: {told}", file=sys.stderr)
+    for line in program.ask("isolate", path).told("exposed"):
+        told = f"{line['name']} is exposed (by={line['by']}): its budget is not proved safe when others of its core sleep (docs/use/no.md)"
+        print(f"{path}: {told}", file=sys.stderr)
 
 
 def calls(path, program, domains, names):
     """The calls for all VCPUs of an admitted file, with the names of domains that are given and those of the comments of a file."""
-    file = admitted(path, program)
-    need_full(path, file.cores, "Xen's RTDS")
-    if not file.servers:
+    _, servers, text = admitted(path, program, "Xen's RTDS")
+    if not servers:
         raise Refused(path, None, "no VCPU")
-    comments = named_in(names or path, pathlib.Path(names).read_text(errors="surrogateescape") if names else file.text)
-    named = {**comments, **domains}
-    told = [call(path, server, named) for server in file.servers]
-    known = {VCPU.fullmatch(server.name)[1] for server in file.servers}
-    for name in domains:
-        if name not in known:
-            raise Refused(path, None, f"no part is named for a domain {name}, which --name tells")
+    named = named_in(names or path, pathlib.Path(names).read_text(errors="surrogateescape") if names else text) | domains
+    told = [call(path, server, named) for server in servers]
+    known = {VCPU.fullmatch(server.name)[1] for server in servers}
+    if unknown := [name for name in domains if name not in known]:
+        raise Refused(path, None, f"no part is named for a domain {unknown[0]}, which --name tells")
     tell_exposed(path, program)
     return "".join(told)
 
