@@ -15,11 +15,9 @@ In each run the file NAME is the front, the row's text and the back. A row may b
 runs with them, and a table of words alone has neither args nor "file". PRINTED and STATUS may be left out of rows where the table has
 them, as "printed" and "status". Each row counts as a case.
 
-What is printed and the status come from the rules, by hand, and never from a run of the program. Each case runs in a fresh folder
-with copies of its files, with nothing on standard input; several run side by side. Nothing may come on standard error. A NAME is
-COMMAND/CASE, or COMMAND for all of its cases; the cases are all where none is named. Each case that differs is told with what differs,
-and the last line counts them. Ends with 1 where one differs, where a case lacks its words or its text, where there is no case, and where
-a folder cases/ stands at the top, of which none would run."""
+What is printed and the status come from the rules, by hand, and never from a run of the program. Nothing may come on standard error. A NAME
+is COMMAND/CASE, or COMMAND for all of its cases. Ends with 1 where a case differs, lacks its words or its text, where there is no case, and
+where a folder cases/ stands at the top, of which none would run."""
 import difflib
 import json
 import pathlib

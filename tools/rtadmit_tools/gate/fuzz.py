@@ -6,12 +6,11 @@ for N seconds (60), calls that are good (those of examples/README.md, and some t
 bytes flipped, numbers made huge, keys doubled, brackets nested, lines made long; words spoilt, dropped or doubled; a file that is none; an
 output that is full or closed.
 
-Each run may have MIB of memory (2048; with --heavy 8192), and has to end by itself within the limit (20 seconds, six times
-that for great files), with one of the ten statuses and the text that goes with it, with nothing on standard error and by no
-signal. With --beside another program has to answer the same to the commands that it has; where the two differ the files are
-kept, and the rules say which is wrong. Each failure, the largest run, and of files of each number of digits of bytes the slowest
-run, is kept in a folder with its words. The seed is printed: with it and --case the same case runs again. Ends with 1 where a run failed,
-and with 2 where every run was answered by the usage line."""
+Each run may have 2048 MiB of memory, with --heavy 8192, and has to end by itself within the limit (20 seconds, six times that for great
+files), with one of the ten statuses and the text that goes with it, with nothing on standard error and by no signal. With --beside another
+program has to answer the same to the commands that it has. Each failure, the largest run, and of files of each number of digits of bytes
+the slowest run, is kept in a folder with its words. The seed is printed: with it and --case the same case runs again. Ends with 1 where a
+run failed, and with 2 where every run was answered by the usage line."""
 import os
 import pathlib
 import random

@@ -12,12 +12,9 @@ one has the core. No formula and no worst case stands here. What must hold is th
 Random runs (100): a system of one to three cores with one to five VCPUs each, some with extra time and some with a part on them, and four
 workloads over it, in which VCPUs start, block and wake at moments that look random, many of them together. In the trace that `rtds` writes
 each period of an isolated VCPU, of one by ties too, has its budget where it ends by the end and the VCPU does not block in its last T
-slots.
+slots. Each VCPU that is exposed by=block, on a small core or a random one, is short by the workload of tools/host expose.
 
-Each VCPU that is exposed by=block, on a small core or a random one, is short by the workload of tools/host expose.
-
-Ends with 1 where something does not hold, where the program has no `isolate`, and where so few were isolated or exposed that this would
-show little."""
+Ends with 1 where something does not hold, and where so few were isolated or exposed that this would show little."""
 import itertools
 import random
 

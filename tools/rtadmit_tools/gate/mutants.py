@@ -6,11 +6,10 @@ an edit is kept there, by a sum of the edit, of its crate's files, of those of t
 stopped goes on where it was, but for those that it had begun, and one after a change tries anew what the change can reach.
 
 Wrong bodies of different functions are tried together, in one check of those functions alone, which tells of each whether it is proved.
-So the libraries are read once for some dozens, and nothing is proved but what was changed. An edit of anything but bodies is tried by `rt
-must-fail`, and costs a proof of its crate.
+An edit of anything but bodies is tried by `rt must-fail`, and costs a proof of its crate.
 
 Told is of each edit whether it is refused (or only because a proof names what the edit took away, which says little of the contract), let
-through, or cannot be applied. The status is 1 where one is let through, can't be applied or was not tried, and 2 where the words are wrong.
+through, or cannot be applied. The status is 1 where one is let through, can't be applied or was not tried, and 2 where there is no try.
 
 An edit is a file NAME.edit as `rt must-fail` takes it: lines 'file: src/lib.rt', and pairs of lines 'old: TEXT' and 'new: TEXT', each TEXT
 exactly once in that file as the pairs before left it.

@@ -12,15 +12,12 @@ standard input, and each is asked about as its name comes. It prints
                                                            for each broken period, by its moment in the recording
     vcpu NAME begun=N judged=N short=N over=N least_ns=X most_ns=Y, for each part on a core
 
-Each period counts once; docs/use/audit.md says what is counted by whom. Where the broken periods of a piece that are looked up here are not
-as many as the program counts, or the first is another, there is no answer. A program without `tally` is asked `audit`: then the first
-broken period of each piece is told, and no counts.
+Each period counts once; docs/use/audit.md says what is counted by whom. A program without `tally` is asked `audit`: then the first
+broken period of each piece is told, and no counts. --parallel prints for each piece a line that asks about it, and keeps the answer
+beside it, as PIECE.told. GNU parallel runs such lines, also on other machines that have the folder. --told takes these answers.
 
---parallel prints for each piece a line that asks about it, and keeps the answer beside it, as PIECE.told. GNU parallel runs such lines,
-also on other machines that have the folder. --told takes these answers in place of asking.
-
-The status is 0 on yes, 1 on no, 2 where the words are wrong, and 3 where there is no answer, with the cause on standard error: a piece
-that is missing or that the program does not judge; a table that breaks its form. A recording that was cut off, whose table has no last
+The status is 0 on yes, 1 on no, and 3 where there is no answer: a piece that is missing or that the program does not judge, or of which
+other periods are found broken here than it tells; a table that breaks its form. A recording that was cut off, whose table has no last
 row, is no yes: `verdict=unknown` where no period of its pieces is broken, and 3."""
 import concurrent.futures
 import csv

@@ -6,13 +6,10 @@ less. Under earliest deadline first the first is the demand of all tasks. Under 
 work and that of all which rank above it, up to the window in which it must be done: of the task that would be short; or of
 TASK; or of the one that ranks last.
 
-The budget and the window that is short are those of `admit FILE`, and they are marked. The curves are computed here, by the formulas of
-docs/use/certificate.md; where they do not say the same of the marked window, there is no picture. Where the part itself is refused, its curve
-is that of the budget that is too small, or of all slots. Where something else is refused, no budget is told, and there is no picture of
-it. A second plot is close around the marked window, where the first does not show what is missing. More windows than a picture has
-columns are drawn at every half column.
-
-The status is 0, 1 where there is no picture, with the cause on standard error, and 2 where the words are wrong."""
+The budget and the window that is short are those of `admit FILE`, and they are marked. The curves are computed here, by the formulas
+of docs/use/certificate.md; where they do not say the same of the marked window, there is no picture. Where the part itself is refused,
+its curve is that of the budget that is too small, or of all slots. Where something else is refused, no budget is told, and there is no
+picture of it. A second plot is close around the marked window, where the first does not show what is missing."""
 import math
 import pathlib
 import re

@@ -3,19 +3,16 @@
 FILE is the system file and NAME a part that `isolate` tells as exposed by=block. OUT gets the workload (docs/use/formats.md). It is that of
 the proof: let r be twice the longest period of the core. Each VCPU of the core starts in its first period, so that one of its periods ends
 where the period of NAME ends that begins at r, or a slot before where it stands behind NAME in the file. It blocks a slot later, and wakes
-at r. So all others wake with NAME, with whole budgets, in periods that end no later than its own.
-
-The tool then runs `rtds` over the workload and `tally` over the trace, and prints the short period and the words that show it:
+at r. So all others wake with NAME, with whole budgets, in periods that end no later than its own. The tool then runs `rtds` over the
+workload and `tally` over the trace, and prints the short period and the words that show it:
 
     exposed NAME by=block: OUT, SLOTS slots
     short NAME from_ns=X got_ns=G of_ns=B
     ./rtadmit rtds FILE OUT SLOTS | ./rtadmit tally FILE /dev/stdin
 
---trace keeps the trace, for `audit` and tools/host timeline. `audit` may tell another part, which is short from the same moment.
-
-Refused, with nothing written and the status 1: a NAME that `isolate` does not tell as exposed by=block, with what it tells; a file that it
-refuses; a core whose longest period is more than 333,333, since a run has at most 1,000,000 slots; a period that comes out as not short,
-which contradicts what is proved. The status is 2 where the words are wrong."""
+`audit` may tell another part, which is short from the same moment. Refused, with nothing written: a NAME that `isolate` does not tell as
+exposed by=block, with what it tells; a file that it refuses; a core whose longest period is more than 333,333, since a run has at most
+1,000,000 slots; a period that comes out as not short, which contradicts what is proved."""
 import os
 import pathlib
 import shlex

@@ -1,32 +1,27 @@
 """Makes a trace for the auditor out of the text of a Linux kernel's trace buffer.
 
-RECORDING is what the kernel's file `trace` holds, what `trace-cmd report` prints (with -t in nanoseconds), or what `perf script`
-or `perf sched script` prints (with --ns). `-` is standard input; memory does not grow with the recording. It needs the events
-sched_switch and sched_wakeup, in perf's text sched_waking in its place, and takes timer:hrtimer_start where it is; others are passed
-over. WHO is the number or the name of a thread, N the number of a processor. The trace goes to standard output without --out. It counts
-nanoseconds where the recording does, else microseconds, from the first `start` on.
-
-docs/use/audit.md says which events become which rows, and when a VCPU starts: only where a period of it begins for sure. The periods, and the
-budgets that the threads have at least, are those of the system file (--system). What a thread does before its start is no row.
+RECORDING is what the kernel's file `trace` holds, what `trace-cmd report` prints (with -t in nanoseconds), or what `perf script` or
+`perf sched script` prints (with --ns). `-` is standard input; memory does not grow with the recording. It needs the events sched_switch
+and sched_wakeup, in perf's text sched_waking in its place, and takes timer:hrtimer_start where it is; others are passed over. WHO is the
+number or the name of a thread, N the number of a processor. The trace goes to standard output without --out. It counts nanoseconds where
+the recording does, else microseconds, from the first `start` on. docs/use/audit.md says which events become which rows, and when a VCPU
+starts. What a thread does before its start is no row.
 
 The `end` is where a mark says that the recording was stopped, at --until, or else at the last event: then standard error says so, since
 what waits to the end is not seen then. Where an event is missing the trace ends, and another one begins behind the gap, in which each VCPU
 starts anew: standard error tells the gaps, from when until when nothing is missing, and who does not start there. Several traces stand one
-behind another in the text, with moments that go on; tools/host split cuts it. --longest-whole keeps the longest alone.
+behind another in the text, with moments that go on; tools/host split cuts it.
 
 --from and --until take moments of the recording. What is earlier, marks and sleeps too, is as if it had not been recorded.
-With --any-length a trace may be longer than 1,000 seconds: `audit` does not take it then, and tools/host split cuts it.
-
---as-it-comes is for a recording that goes on, as the kernel's file `trace_pipe`: rows are written while it is read, in nanoseconds, and
-the trace may have any length. Events are put in order first where they come up to 10 ms late, since the kernel empties one processor's
-buffer after another's. A trace that ends at a gap has no end then, and tools/host split keeps those of its pieces that are whole:
+--as-it-comes is for a recording that goes on, as the kernel's file `trace_pipe`: rows are written while it is read, in nanoseconds. Events
+are put in order first where they come up to 10 ms late. A trace that ends at a gap has no end then:
 
     cat trace_pipe | tools/host from-ftrace - --as-it-comes .. | tools/host split - .. | tools/host audit-all system.toml -
 
 Refused, with the line, and nothing written (but for rows that came): fewer events than the head of the recording tells; a thread of the
 map that never starts; a mark that tells another period than the system file; a processor that is not in the map; a thread that migrates;
 time that falls or passes what a trace holds; two threads of one name; a line that is no event, and a file that looks like something else,
-with what to do. The status is 1 then, and 2 where the words are wrong."""
+with what to do."""
 import argparse
 import contextlib
 import heapq

@@ -8,13 +8,12 @@ Without RECORD it looks at each thread of this machine. RECORD is the text of th
 Each processor to which such threads are bound becomes a core, and each thread a part on it, with its runtime as the budget. A part is
 called as its thread, with `-` for each sign that no name has, and the thread's number behind it where that would not tell it from others;
 or as --name says. A thread that may use what others leave (SCHED_FLAG_RECLAIM) gets `extra = true`; `chrt` does not print that, so of a
-RECORD --extra says it. How the threads of a guest are ordered and what they ask for is left open, by lines that say how to fill them, and
-`rtadmit admit` refuses the file until that is there. A thread of which nothing is known but its runtime gets one slot a second by
---stand-in, and --without leaves one out; the file says so.
+RECORD --extra says it. What the threads of a guest ask for is left open, and `rtadmit admit` refuses the file until that is there. A
+thread of which nothing is known but its runtime gets one slot a second by --stand-in.
 
-Refused, by the name of the thread and, where there is one, the line, and nothing written: a deadline below the period, since a part has
-its budget by the end of its period; a runtime or a period that is no whole number of microseconds; a thread that may use more than one
-processor; a record that lacks something of a thread, or has other lines. The status is 1 then, and 2 where the words are wrong."""
+Refused, by the name of the thread and, where there is one, the line, and nothing written: a deadline below the period; a runtime or a
+period that is no whole number of microseconds; a thread that may use more than one processor; a record that lacks something of a thread,
+or has other lines."""
 import ctypes
 import os
 import platform

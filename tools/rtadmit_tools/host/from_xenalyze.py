@@ -10,10 +10,10 @@ ran there, and the event (docs/use/audit.md). These lines matter, for the VCPUs 
     runstate_change d1v0 runnable->blocked, ..     block; blocked is `blocked` or `offline`
     runstate_change d1v0 blocked->runnable         wake
 
-Rows begin with a VCPU's start: what is known of it there, from the lines before and after, is told at that moment. A replenishment
-that comes with a wake-up may come late in a period, since RTDS gives a VCPU that slept past the end of its period its budget when it
-wakes. So the start is the first replenishment of a VCPU that has run or was preempted since it last woke; where there is none, it is
-the first one, and standard error says so. The trace counts nanoseconds from the first start, and ends with the last line.
+Rows begin with a VCPU's start. A replenishment that comes with a wake-up may come late in a period, since RTDS gives a VCPU that slept
+past the end of its period its budget when it wakes. So the start is the first replenishment of a VCPU that has run or was preempted since
+it last woke; where there is none, it is the first one, and standard error says so. The trace counts nanoseconds from the first start, and
+ends with the last line.
 
 With --system the budget that each replenishment tells is compared with that of the part in FILE, the given one or else the one that the
 program computes for it: an audit with another budget than the host has says nothing of the host.
@@ -21,7 +21,7 @@ program computes for it: an audit with another budget than the host has says not
 Refused, with the line, and nothing written: lost records; changes of a VCPU that do not follow from the ones before; a VCPU that
 runs on two processors, or on one that is not in the map; two VCPUs that have one processor; time that falls on a processor or passes
 what a trace holds; a VCPU without a replenishment; a change or a replenishment in another form; with --system, a budget that is another
-one than the part's, or that a line does not tell. Other lines are passed over. The status is 1 then, and 2 where the words are wrong."""
+one than the part's, or that a line does not tell."""
 import re
 import sys
 from dataclasses import dataclass, field

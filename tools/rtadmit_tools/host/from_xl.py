@@ -3,16 +3,14 @@
     xl sched-rtds -v all >SCHED; xl vcpu-list >VCPUS
 
 Each processor to which VCPUs are pinned becomes a core, and each VCPU a part on it: VCPU 0 of the domain `audio` is `audio-0`, with
-the period, the budget and the extra time that it has. What Xen does not know is left open, by lines that say how to fill them: how the
-guest orders its threads, and what they ask for. `rtadmit admit` refuses the file until that is there. A VCPU of which nothing is
-known but its budget gets one slot a second by --stand-in; keep its budget in the file, since the least one for that slot is no answer about
-the VCPU. PART is the name in the file, as Domain-0-0. --name gives a domain another name in the file, and the file says so, for
-tools/host to-xl. Both may be given several times; quote a word with a blank: --name 'vm 3=vm3'.
+the period, the budget and the extra time that it has. What its threads ask for is left open, and `rtadmit admit` refuses the file until
+that is there. A VCPU of which nothing is known but its budget gets one slot a second by --stand-in; keep its budget in the file, since the
+least one for that slot is no answer about the VCPU. PART is the name in the file, as Domain-0-0. --name gives a domain another name in
+the file, and the file says so, for tools/host to-xl; quote a word with a blank: --name 'vm 3=vm3'.
 
 A VCPU that is offline is left out, and the file says so. Refused, with the file and the line, and nothing written: a VCPU that is not
 pinned to one processor, or stands in only one of the texts, and a domain whose name the file cannot have, all such at once; a text without
-the line `Cpupool ..: sched=RTDS`, since it may lack other domains of the pool; and any line of no such text. The status is 1 then, and 2
-where the words are wrong."""
+the line `Cpupool ..: sched=RTDS`, since it may lack other domains of the pool; and any line of no such text."""
 import re
 import shlex
 from dataclasses import dataclass

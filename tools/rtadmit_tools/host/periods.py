@@ -8,10 +8,8 @@ more, it prints the least budget and its share of the period, rounded to million
 
 At a period at which no budget passes the line ends with `nothing`. The last line has the best period of the whole range, also where
 not all of its periods are printed. The budgets are those of `choose FILE PART PERIOD PERIOD` and the best is that of `choose FILE PART LOW
-HIGH`; no share is compared here. OUT gets a picture of the lines, with the best marked, and with what the tasks ask for in the long run,
-which no share can be below.
-
-The status is 0, 1 where the program tells no periods, with its answer on standard error, and 2 where the words are wrong."""
+HIGH`. OUT gets a picture of the lines, with the best marked, and with what the tasks ask for in the long run, which no share can be below.
+Where the program tells no periods, its answer is the refusal."""
 import concurrent.futures
 import os
 import pathlib

@@ -3,16 +3,12 @@
 A THREAD is NAME@CPU=RUNTIME/PERIOD, which runs whenever it is let, or NAME@CPU=RUNTIME/PERIOD/WORK, which works that long and then sleeps
 to its next period. With --random it works as guests do that halt: for a random time up to WORK, and then it sleeps for a random time up to
 two periods, in step with nothing; a SEED gives the same times again. All times are microseconds. OUT gets the text of the kernel's trace
-buffer: the switches and wakeups of these threads, which tools/host from-ftrace turns into a trace.
+buffer: the switches and wakeups of these threads, which tools/host from-ftrace turns into a trace (docs/use/audit.md).
 
-On each core runs a filler of the lowest priority, so that no switch is from the idle thread, and marks in the buffer say that each thread
-slept, with its time reserved, and when the recording was stopped (docs/use/audit.md). A recording in which a switch is missing all the same, by
-the rules of tools/host from-ftrace, is made again, up to N times in all; where the last one has a gap too it is written, and standard
-error tells the line.
-
-Root is needed. Everything is put back as it was, also where the recording fails or is stopped (SIGINT, SIGTERM, SIGHUP); nothing is
-written then. The status is 0; 1 where OUT can't be written; 2 where the words are wrong; 3 where the machine does not allow the recording,
-with the cause on standard error; and 128 + the signal where it was stopped."""
+A recording in which a switch is missing, by the rules of tools/host from-ftrace, is made again, up to N times in all; where the last one
+has a gap too it is written, and standard error tells the line. Root is needed. Everything is put back as it was, also where the recording
+fails or is stopped (SIGINT, SIGTERM, SIGHUP); nothing is written then. The status is 1 where OUT can't be written; 3 where the machine
+does not allow the recording, with the cause on standard error; and 128 + the signal where it was stopped."""
 import argparse
 import contextlib
 import ctypes

@@ -3,17 +3,14 @@
 FILE is a system file. The page has the verdict in a sentence, which is of VCPUs that do not sleep, and beside it what `isolate` says of
 those that do; the cores, with the shares of what stands on them; a table of the guests, with how much their work may grow (`slack`), their
 worst response (`responses`) and whether they keep their budget when others block; and of each guest with tasks the picture of tools/host
-curves. A guest with the one invented task of from-xl or from-linux is marked as a stand-in. On a no it has what tools/host why says, and
-the budgets that the program computes for each guest by itself. With TRACE it has the verdict of `audit`, of which guests that says
-nothing, what `tally` counted, and the picture of tools/host timeline, around the broken period where there is one.
+curves. On a no it has what tools/host why says, and the budgets that the program computes for each guest by itself. With TRACE it has the
+verdict of `audit`, of which guests that says nothing, what `tally` counted, and the picture of tools/host timeline, around the broken
+period where there is one.
 
 Every verdict, budget and number of these columns is the program's; a command that it does not have is told as not asked. The foot has the
 words that were asked, the sums of the program and the files, and the commit and the logic that the gate's line of the program's sum tells,
 or that no such line is known. The same answers give the same page. Refused is a gate that tells another sum, and a program that says of
-itself that it is unproved; that is taken by --unproved, and the page begins with it.
-
-The status is 0, also where the verdict is a no; 1 where there is no page, with the cause on standard error, and 2 where the words are
-wrong."""
+itself that it is unproved; that is taken by --unproved, and the page begins with it. The status is 0 also where the verdict is a no."""
 import pathlib
 import re
 from fractions import Fraction

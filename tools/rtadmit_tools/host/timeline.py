@@ -6,16 +6,15 @@ answer of `audit`, `over NAME from_ns=FROM_NS ..`. Without OUT the picture goes 
 
 With the system file, whose periods and budgets count microseconds, each period of a VCPU is a box that tells the time that it got and
 its budget. A period is short where it is over before the end, the VCPU is blocked nowhere in it, and it got less than its
-budget; and over where the VCPU has no extra time and got more. Both have a colour and a hatching of their own. A budget that the
-system file leaves out is given by --budget, or else is asked of the program, if there is one.
+budget; and over where the VCPU has no extra time and got more. A budget that the system file leaves out is given by --budget, or else is
+asked of the program, if there is one.
 
 Where the periods of a VCPU are less than 3 pixels wide, they are a band in place of boxes: for each column of 2 pixels the least
 and the most that a period of it got, with a line at the middle one (the median), a dashed line at the budget, and below it a mark
 where one is short or over. Where a row has more spans than columns, each column is filled by the share of time: a core by which
 VCPU had it, a VCPU by the time that it ran, from below, and was blocked, from above.
 
-A trace that breaks the rules of docs/use/formats.md is refused with its line, as far as it is read. The status is 1 then, and 2 where
-the words are wrong."""
+A trace that breaks the rules of docs/use/formats.md is refused with its line, as far as it is read."""
 import argparse
 import collections
 import io

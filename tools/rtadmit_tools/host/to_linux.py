@@ -3,21 +3,18 @@
 It asks the program and prints for each core its share, beside the kernel's limit, and a call for each part on it: thread TID gets the
 budget as its runtime, and the period as its period and its deadline, in nanoseconds. -R lets the thread make others, which get no
 reservation; without it the kernel refuses that. A part that stands on a part is a reservation inside its guest, and has no call. `extra`
-says nothing here: no such thread gets more than it reserves but by what the kernel is late. --without names a part that is no thread, as
-one that stands for what the kernel keeps for others: it has no call, and does not count as reserved.
+says nothing here. --without names a part that is no thread, as one that stands for what the kernel keeps for others: it has no call, and
+does not count as reserved.
 
 --tick adds to each runtime what a kernel without HRTICK can be late in stopping a thread: one tick, as 4000 with 250 ticks a second. The
 kernel takes back in later periods what a thread ran too long, so without it a thread may lack up to a tick in a period. A thread
 may use its tick, so an audit with FILE calls it `over` where its part has no `extra`; --audit writes the file to audit such a host with,
-which is FILE with `extra = true` for each thread: its budgets are what each period is sure of, and more is let pass.
-
---limit is what the kernel lets all threads of a core reserve: kernel.sched_rt_runtime_us of every kernel.sched_rt_period_us, less the 5%
-that a newer kernel keeps for ordinary threads. Without it that is 900000/1000000.
+which is FILE with `extra = true` for each thread. --limit is what the kernel lets all threads of a core reserve: kernel.sched_rt_runtime_us
+of every kernel.sched_rt_period_us, less the 5% that a newer kernel keeps for ordinary threads; else it is 900000/1000000.
 
 Refused, with the file and the line, and nothing printed: a file that is not admitted; a part on a core that has no thread in the map, and
 a name in the words that is no such part; a runtime below 1024 ns or, with the tick, above the period; a period that is not 100 to 4194304
-microseconds; a core whose parts reserve more than the limit; a core that is not a whole processor under edf, as Linux has it.
-The status is 1 then, and 2 where the words are wrong."""
+microseconds; a core whose parts reserve more than the limit; a core that is not a whole processor under edf, as Linux has it."""
 import copy
 import pathlib
 import re

@@ -3,15 +3,15 @@
 It asks the program and prints a call of `xl sched-rtds` for each part that stands on a core, in the order of the file: the part `audio-0`
 is VCPU 0 of the domain `audio`, and -e says whether it has extra time. It is another domain where a comment of the file says so, by a line
 `# --name DOMAIN=NAME` as from-xl writes it, or by --name, which goes before the file. A file that the program writes (`place`) has no
-comments: --names OTHER reads them in the file that it was made of. --name may be given several times; quote a word with a blank:
---name 'vm 3=vm3'. A part that stands on a part is a reservation inside its guest, and has no call.
+comments: --names OTHER reads them in the file that it was made of. Quote a word with a blank: --name 'vm 3=vm3'. A part that stands on a
+part is a reservation inside its guest, and has no call.
 
 Where the program knows `isolate`, standard error has a line for each VCPU that it calls exposed: one whose budget is not proved safe
 when others of its core sleep (docs/use/no.md). The calls are printed all the same.
 
 Refused, with the file and the line, and nothing printed: a file that is not admitted; a part that is not named for a domain and a VCPU's
 number; a comment `# --name` that tells no domain and name, or one of them twice; a period or a budget below the 10 microseconds that
-Xen asks for; a core that is not a whole processor under edf, as RTDS has it. The status is 1 then, and 2 where the words are wrong."""
+Xen asks for; a core that is not a whole processor under edf, as RTDS has it."""
 import pathlib
 import re
 import shlex

@@ -12,19 +12,17 @@ Then it looks for changes that make the answer a yes, each by itself, by asking 
     PART.period=N         a shorter period of one part; of the periods that were tried the longest that helps
     PART.parent=CORE      a part that stands on a core is moved to another core: of those that help, that with the least load
 
-They are looked for on the core in question alone, and each is asked about in the whole file before it is told. `--copy CHANGE` writes that
-file, with its comments, so that anyone can ask again; the words that are printed for it have the program that --program names. Of a
-stand-in, whose one task is that of from-xl and from-linux, the budget and the period stay as they are, since nothing is known of its real
-tasks. Where no change helps by itself, those are told with which the program goes on to a node behind the one that is told. Of each kind
-the smallest five are told, and with --all all. Of more than 24 tasks, or parts, those with the greatest shares are tried.
+`--copy CHANGE` writes the file with a change, with its comments, so that anyone can ask again. Of a stand-in, whose one task is that of
+from-xl and from-linux, the budget and the period stay as they are. Where no change helps by itself, those are told with which the program
+goes on to a node behind the one that is told. Of each kind the smallest five are told, and with --all all. Of more than 24 tasks, or
+parts, those with the greatest shares are tried.
 
 Where the program refuses FILE, or SECOND behind it, it tells the line, the table and the key, or the field of the row, what is wrong there
 and the rule of docs/use/formats.md. SECOND is a trace, a workload, a release file, a script, guests for `place` or a certificate, as its
 first line says, or --as. The program names the fault, and the place is found by reading the file here once more; where that reading finds
 no such fault there, or does not take the file (Python's reader of TOML is one of TOML 1.0), it says so.
 
-The status is that of the program's answer: 0 on yes, 1 on no, 4 on wide, 3 where a file is refused; 2 where the words are wrong; and 3,
-with the cause on standard error, where there is no answer."""
+The status is that of the program's answer: 0 on yes, 1 on no, 4 on wide, 3 where a file is refused; and 3 where there is no answer."""
 import fractions
 import math
 import pathlib
