@@ -50,9 +50,9 @@ def overview(kind):
 
 
 def parser_of(kind, verb, module):
-    ends = f"The status is {getattr(module, 'REFUSED', 1)} where it refuses, with the cause on standard error, and 2 where the words are wrong."
     parser = argparse.ArgumentParser(
-        prog=f"tools/{kind} {verb}", description=module.__doc__, epilog=ends, formatter_class=argparse.RawDescriptionHelpFormatter
+        prog=f"tools/{kind} {verb}", description=module.__doc__, formatter_class=argparse.RawDescriptionHelpFormatter,
+        epilog=f"Where it refuses, the status is {getattr(module, 'REFUSED', 1)}, with the cause on standard error; of wrong words it is 2.",
     )
     parser.set_defaults(refuse=parser.error)
     getattr(module, "add_words", lambda parser: None)(parser)

@@ -12,7 +12,7 @@ import math
 import pathlib
 import re
 import tomllib
-from dataclasses import dataclass
+from collections import namedtuple
 
 from .command_line import TOP, Refused
 from .formulas import SCHEDS
@@ -24,14 +24,8 @@ KINDS = {key: kind for kind, keys in ((str, "name parent sched"), (bool, "extra"
 CALLED = {str: "text", bool: "a truth value", int: "a whole number", float: "a number with a point", list: "an array", dict: "a table"}
 
 
-@dataclass
-class Found:
-    """A fault that stands in a file: its word, the key or field, and what is wrong, with the line where the file as such tells none."""
-
-    word: str
-    key: str | None
-    cause: str
-    line: int | None = None
+# a fault that stands in a file: its word, the key or field, and what is wrong, with the line where the file as such tells none
+Found = namedtuple("Found", "word key cause line", defaults=[None])
 
 
 # The rules of the pages

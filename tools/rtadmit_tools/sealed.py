@@ -11,11 +11,14 @@ import signal
 import sys
 import tarfile
 import tempfile
+from collections import namedtuple
 from dataclasses import dataclass
 
 from .command_line import TOP, Refused
 from .program import built_program, is_built
 
+# the last line of what a gate printed into a file: the sum of the program that it left, the commit, and the logic that proved it
+Gate = namedtuple("Gate", "path line sum commit logic")
 FIRST_FORM = re.compile(r"program sha256=[0-9a-f]{64} commit=[0-9a-f]{40,64}(\+changes)?")
 GATE_LINE = re.compile(r"program sha256=([0-9a-f]{64}) commit=([0-9a-f]{40,64})(\+changes)? logic=([0-9a-f]{16})")
 UNPROVED = " unproved"
@@ -27,17 +30,6 @@ def sum_of(path):
 
 
 # The gate
-@dataclass
-class Gate:
-    """The last line of what a gate printed into a file: the sum of the program that it left, the commit, and the logic that proved it."""
-
-    path: str
-    line: str
-    sum: str
-    commit: str
-    logic: str
-
-
 def gate_of(path):
     """The last line of what a gate printed. Refused where it tells no program."""
     lines = pathlib.Path(path).read_text(errors="replace").rstrip().split("\n")

@@ -1,5 +1,6 @@
 """How the checks of sources read a repository: the files of its crates, definitions, functions as `rt fmt` lays them out, pages."""
 import re
+from collections import namedtuple
 from dataclasses import dataclass
 
 from . import command_line
@@ -82,15 +83,8 @@ def used_crates():
     return found
 
 
-@dataclass(frozen=True)
-class Function:
-    """A function: its module's path, the type or the trait around it, the trait on that type, its name, and whether it is public."""
-
-    module: str
-    owner: str
-    trait: str | None
-    name: str
-    is_public: bool
+# a function: its module's path, the type or the trait around it, the trait on that type, its name, and whether it is public
+Function = namedtuple("Function", "module owner trait name is_public")
 
 
 @dataclass(frozen=True)

@@ -4,11 +4,14 @@ import pathlib
 import re
 import textwrap
 import tomllib
+from collections import namedtuple
 from dataclasses import dataclass, field
 
 from .command_line import Refused
 from .formulas import SCHEDS, task_of
 
+# a part on a core of an admitted file, with its budget and the line of its name
+Server = namedtuple("Server", "name core period budget extra line")
 LIMIT = 1_000_000_000
 NAME = re.compile(r"[A-Za-z][A-Za-z0-9_-]{0,31}")
 CHANGE = re.compile(r"([^.=]+)\.(?:(period|budget|parent|sched)|([^.=]+)\.(work))=([^.=]+)")
@@ -200,7 +203,7 @@ def part_text(about, name, core, period, budget, extra=False, stand_in=False):
 
 
 def system_text(about, host, more, processors, parts):
-    """The whole file: what it is, what of the host leaves things open, other lines of its head, a core for each processor, and the parts."""
+    """The whole file: what it is, what leaves things open, other lines of its head, a core for each processor, and the parts."""
     head = [*textwrap.wrap(f"{about}. {HEAD.format(host)}", 132), *more]
     told = "".join(f"# {line}\n" for line in head)
     cores = [f'[[core]]\nname = "cpu{processor}"\nsched = "edf"\n' for processor in sorted(set(processors))]
@@ -208,18 +211,6 @@ def system_text(about, host, more, processors, parts):
 
 
 # The budgets of an admitted file
-@dataclass
-class Server:
-    """A part on a core of an admitted file, with its budget and the line of its name."""
-
-    name: str
-    core: str
-    period: int
-    budget: int
-    extra: bool
-    line: int | None
-
-
 def line_of(text, name):
     """The line on which a name is given, as far as it stands on one of its own."""
     form = re.compile(rf"\s*name\s*=\s*[\"']{re.escape(name)}[\"']")
@@ -227,8 +218,8 @@ def line_of(text, name):
 
 
 def admitted(path, program, whose):
-    """The names of the cores of an admitted file, the servers on them, with the budgets that the program tells, and its text. Refused where
-    the program does not admit it, and where a core is not a whole processor under edf, as the host has it that is told."""
+    """The names of the cores of an admitted file, the servers on them, and its text. Refused where the program does not admit it, and where
+    a core is not a whole processor under edf, as the host has it that is told."""
     text = pathlib.Path(path).read_text(errors="surrogateescape")
     answer = program.ask("admit", path)
     if answer.status != 0:

@@ -3,8 +3,8 @@
 The run ends as with ample memory, or with status 9 (no memory) and nothing written, and it gives back all that it took where it did so
 before. The pages are those of which examples/compare runs the commands.
 
-With --all every allocation from the refused one on is refused too. Of a call with more than 2000 allocations as many are refused, spread
-evenly. It needs a C compiler. It ends with 1 where a run ended otherwise, or where no run ended with no memory, since that shows nothing."""
+With --all every allocation from the refused one on is refused too. Of a call with more than 2000 allocations as many are refused,
+spread evenly. It needs a C compiler. It ends with 1 where a run ended otherwise, or where no run ended with no memory."""
 import mmap
 import os
 import subprocess

@@ -26,7 +26,7 @@ import re
 import shutil
 import signal
 import subprocess
-from dataclasses import dataclass
+from collections import namedtuple
 
 from .. import bodies, plants, sources
 from ..command_line import Refused, counted
@@ -46,13 +46,8 @@ WORDS = {
 
 
 # the texts of edits
-@dataclass(frozen=True)
-class Edit:
-    """An edit of a crate: its name, its text, and the texts of the files that it makes, by their paths, or why it cannot be applied."""
-
-    name: str
-    text: str
-    made: dict | str
+# an edit of a crate: its name, its text, and the texts of the files that it makes, by their paths, or why it cannot be applied
+Edit = namedtuple("Edit", "name text made")
 
 
 def made_by(text, crate):

@@ -16,6 +16,7 @@ exposed by=block, with what it tells; a file that it refuses; a core whose longe
 import os
 import pathlib
 import shlex
+from collections import namedtuple
 from dataclasses import dataclass
 
 from ..command_line import Refused
@@ -23,26 +24,11 @@ from ..program import add_program, line_object, program_of
 from ..system_file import read_system
 from .why import called
 
+Vcpu = namedtuple("Vcpu", "name period budget")
+# what `isolate` tells of a VCPU: "isolated", "ties" or "block", and the slots that are enough where there are some
+Kept = namedtuple("Kept", "name how last", defaults=[None])
 MOST_SLOTS = 1_000_000
 KEYS = {"isolated": ["last", "of"], "ties": ["by", "last", "of"], "block": ["by"]}
-
-
-@dataclass(frozen=True)
-class Vcpu:
-    """A part on a core: its name, its period and its budget."""
-
-    name: str
-    period: int
-    budget: int
-
-
-@dataclass(frozen=True)
-class Kept:
-    """What `isolate` tells of a VCPU: "isolated", "ties" or "block", and the slots that are enough where there are some."""
-
-    name: str
-    how: str
-    last: int | None = None
 
 
 @dataclass(frozen=True)

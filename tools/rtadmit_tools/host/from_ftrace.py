@@ -29,6 +29,7 @@ import itertools
 import re
 import sys
 import tempfile
+from collections import namedtuple
 from dataclasses import dataclass, field
 
 from ..command_line import Refused, pairs
@@ -200,14 +201,8 @@ class Reader:
 
 
 # From events to rows
-@dataclass
-class Map:
-    """What the words say: the recording, the cores by processor, the VCPUs by thread, and their servers by name (see servers_of)."""
-
-    path: str
-    cores: dict
-    threads: dict
-    servers: dict = field(default_factory=dict)
+# what the words say: the recording, the cores by processor, the VCPUs by thread, and their servers by name (see servers_of)
+Map = namedtuple("Map", "path cores threads servers", defaults=[{}])
 
 
 class Host:

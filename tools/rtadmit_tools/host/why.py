@@ -28,7 +28,7 @@ import math
 import pathlib
 import shlex
 import tomllib
-from dataclasses import dataclass
+from collections import namedtuple
 
 from .. import faults
 from ..command_line import TOP, Refused, counted
@@ -37,6 +37,8 @@ from ..places import rewritten
 from ..program import add_program, program_of
 from ..system_file import STAND_IN, budget_of, read_admitted, read_system
 
+# a change that helps: of which kind, how large it is beside others of that kind, and what it is
+Offer = namedtuple("Offer", "kind size change text")
 REFUSED = 3
 MOST_TRIED, MOST_TOLD = 24, 5
 INVENTED = [task_of(table) for table in tomllib.loads("[[part]]\n" + STAND_IN)["part"][0]["task"]]
@@ -149,16 +151,6 @@ def is_stand_in(part):
 
 
 # What helps
-@dataclass
-class Offer:
-    """A change that helps: of which kind, how large it is beside others of that kind, and what it is."""
-
-    kind: str
-    size: fractions.Fraction
-    change: str
-    text: str
-
-
 class Search:
     """Looks for changes of a system that help, by asking the program about changed copies. It asks about the core in question alone, and
     about the one to which a part is moved, since what stands on other cores has no part in it."""
