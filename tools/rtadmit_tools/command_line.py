@@ -52,7 +52,7 @@ def overview(kind):
 def parser_of(kind, verb, module):
     parser = argparse.ArgumentParser(
         prog=f"tools/{kind} {verb}", description=module.__doc__, formatter_class=argparse.RawDescriptionHelpFormatter,
-        epilog=f"Where it refuses, the status is {getattr(module, 'REFUSED', 1)}, with the cause on standard error; of wrong words it is 2.",
+        epilog=f"Where it refuses, the status is {getattr(module, 'REFUSED', 1)}, with the cause on standard error; for wrong words 2.",
     )
     parser.set_defaults(refuse=parser.error)
     getattr(module, "add_words", lambda parser: None)(parser)

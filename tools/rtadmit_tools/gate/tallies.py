@@ -29,7 +29,7 @@ def stretches(rows, begins, ends, end):
             since = None
         if since is None and begins(row):
             since = row[0]
-    return found + ([(since, end)] if since is not None else [])
+    return found + [(since, end)] * (since is not None)
 
 
 def within(spans, begin, end):

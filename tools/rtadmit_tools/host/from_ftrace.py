@@ -186,14 +186,13 @@ class Reader:
         if NO_CLOCK.fullmatch(text):
             advice = "`echo mono > trace_clock` (`trace-cmd record -C mono`), and record anew"
             raise Refused(self.path, line, f"its clock counts no time: {advice}")
-        counts, lost, begun = COUNTS.match(text), LOST.fullmatch(text), BEGUN.fullmatch(text)
         cpu, cause = None, None
-        if counts:
+        if counts := COUNTS.match(text):
             self.promised = int(counts[1])
             cause = f"{counts[2]} were written and {counts[1]} are kept" if counts[1] != counts[2] else None
-        elif lost:
+        elif lost := LOST.fullmatch(text):
             cpu, cause = int(lost[1] or lost[3]), text if lost[1] else lost[4]
-        elif begun:
+        elif begun := BEGUN.fullmatch(text):
             cause = f"processor {begun[1]} has none from before this line" if self.last else None
         elif not NO_EVENT.fullmatch(text):
             raise Refused(self.path, line, "no line of a trace buffer, of `trace-cmd report` or of `perf script`")
@@ -232,9 +231,9 @@ class Host:
     def vcpu(self, pid, name):
         """The VCPU of a thread, or None where the map does not have it."""
         vcpu = self.threads.get(pid) or self.threads.get(name)
-        if vcpu is not None and vcpu.pid not in (None, int(pid)):
+        if vcpu and vcpu.pid not in (None, int(pid)):
             self.refuse(f"two threads are {vcpu.name}: {vcpu.pid} and {pid}; name them by their numbers")
-        if vcpu is not None:
+        if vcpu:
             vcpu.pid = int(pid)
         return vcpu
 
@@ -257,7 +256,7 @@ class Host:
         vcpu.state = "ready"
         if vcpu.due is not None and vcpu.due <= self.event.at:
             vcpu.due = None
-        if vcpu.since is not None:
+        if vcpu.since:
             vcpu.longest_sleep = max(vcpu.longest_sleep, self.event.at - vcpu.since.at)
         if vcpu.started:
             self.row(cpu, "wake", vcpu.name)
@@ -266,27 +265,26 @@ class Host:
 
     def leave(self, vcpu, cpu):
         """Checks the thread that is switched out against what is known of its processor and of it."""
-        if cpu not in self.holders:
-            if vcpu is not None and vcpu.state is not None:
-                self.missing(f"{vcpu.name} is switched out of processor {cpu}, and had not been switched in", None)
-        elif self.holders[cpu] is not vcpu:
-            holder = self.holders[cpu]
+        holder = self.holders.get(cpu)
+        if cpu not in self.holders and vcpu and vcpu.state:
+            self.missing(f"{vcpu.name} is switched out of processor {cpu}, and had not been switched in", None)
+        if cpu in self.holders and holder is not vcpu:
             had = f"{holder.name} has" if holder else "no thread of the map has"
             self.missing(f"{had} processor {cpu}, and another thread is switched out", self.switched.get(cpu))
-        if vcpu is not None:
+        if vcpu:
             self.place(vcpu, cpu)
 
     def enter(self, vcpu, cpu):
         """Gives a processor to the thread that is switched in."""
         holder = self.holders.get(cpu)
-        if vcpu is not None:
+        if vcpu:
             self.place(vcpu, cpu)
             if vcpu.state == "asleep":
                 self.missing(f"{vcpu.name} is asleep, and is switched in: its wakeup is missing", vcpu.since)
             vcpu.state, vcpu.since, vcpu.due = "running", self.event, None
-        if vcpu is not None and vcpu.started:
+        if vcpu and vcpu.started:
             self.row(cpu, "run", vcpu.name)
-        elif holder is not None and holder.started:
+        elif holder and holder.started:
             self.row(cpu, "stop")
         self.holders[cpu] = vcpu
 
@@ -310,7 +308,7 @@ class Host:
         vcpu = self.vcpu(found[2], found[1]) if found else None
         if vcpu is None:
             return
-        if vcpu.state is not None:
+        if vcpu.state:
             self.refuse(f"a mark says that {vcpu.name} has slept from before the recording on, and it did not")
         told, period = vcpu.period, int(found[4])
         if told not in (None, period * 1000):
@@ -346,13 +344,11 @@ class Host:
                 self.switch(before, after, event.cpu, not state.startswith("R"))
         elif event.kind == "wakeup":
             name, pid, cpu = self.fields(WAKEUPS)
-            vcpu = self.vcpu(pid, name)
-            if vcpu is not None:
+            if vcpu := self.vcpu(pid, name):
                 self.wake(vcpu, int(cpu))
         elif event.kind == "move":
             name, pid, cpu, other = self.fields(MIGRATIONS)
-            vcpu = self.vcpu(pid, name)
-            if vcpu is not None and vcpu.started:
+            if (vcpu := self.vcpu(pid, name)) and vcpu.started:
                 self.refuse(f"{vcpu.name} migrates from processor {cpu} to {other}")
         elif event.kind == "mark":
             self.mark(event.text)
@@ -478,17 +474,13 @@ def translate(lines, named, rows, since=0, until=None, longest=False, missing=la
     for event in reader.events():
         if stopped is not None or event.at < since or until is not None and event.at > until:
             continue
-        gap = None
-        if event.kind == "lost":
-            gap = Gap(event.line, event.text, host and host.seen.get(event.cpu))
-        else:
+        try:
+            if event.kind == "lost":
+                raise Gap(event.line, event.text, host and host.seen.get(event.cpu))
             host = host or begin(event)
             rows.check(event.at, event.line)
-            try:
-                host.take(event)
-            except Gap as found:
-                gap = found
-        if gap:
+            host.take(event)
+        except Gap as gap:
             missing(gap)
             if host and gap.sure:
                 stretches[-1].close(gap.sure)
@@ -549,9 +541,8 @@ def server(period, budget, tick):
 def servers_of(path, names, tick=TICK):
     """The server of each VCPU of these names, by a system file."""
     parts = {part.name: server(part.period, part.budget, tick) for part in parts_of(path)[1]}
-    for name in names:
-        if name not in parts:
-            raise Refused(path, None, f"it has no part {name}")
+    if unknown := [name for name in names if name not in parts]:
+        raise Refused(path, None, f"it has no part {unknown[0]}")
     return parts
 
 

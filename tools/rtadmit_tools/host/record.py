@@ -13,6 +13,7 @@ import argparse
 import contextlib
 import ctypes
 import os
+import pathlib
 import platform
 import random
 import re
@@ -23,7 +24,7 @@ import tempfile
 import time
 from dataclasses import dataclass
 
-from ..command_line import Refused
+from ..command_line import Refused, ended
 from .from_ftrace import Map, Rows, translate
 
 REFUSED = 3
@@ -74,16 +75,15 @@ class Thread:
 
     def live(self, start, seed):
         """Works, from a moment in nanoseconds on, and sleeps where it has a work: to its next period, or for random times."""
-        if self.work is not None and seed is not None:
-            for work, sleep in self.random_times(seed):
-                spend(work)
-                time.sleep(sleep / 1e6)
-        while self.work is not None:
+        while self.work is None:
+            pass
+        for work, sleep in self.random_times(seed) if seed is not None else ():
+            spend(work)
+            time.sleep(sleep / 1e6)
+        while True:
             spend(self.work)
             start += self.period * 1000
             time.sleep(max(0, start - time.monotonic_ns()) / 1e9)
-        while True:
-            pass
 
 
 def thread_of(text):
@@ -155,11 +155,8 @@ def change(stack, path, text):
 # The core's own cpuset
 def mounted(mounts, kind, option=None):
     """Where a filesystem of a kind is mounted, by the text of /proc/mounts."""
-    for line in mounts.splitlines():
-        _, folder, found, options = line.split()[:4]
-        if found == kind and (option is None or option in options.split(",")):
-            return folder
-    return None
+    rows = (line.split()[1:4] for line in mounts.splitlines())
+    return next((folder for folder, found, options in rows if found == kind and option in (None, *options.split(","))), None)
 
 
 def cpus_of(text):
@@ -171,9 +168,9 @@ def cpus_of(text):
 def own_cores(stack, mounts, cpus):
     """Gives each processor a cpuset of its own. Answers the file that takes a thread's id, by processor."""
     first, second = mounted(mounts, "cgroup", "cpuset"), mounted(mounts, "cgroup2")
-    if first is not None:
+    if first:
         return own_cores_first(stack, first, cpus)
-    if second is not None and "cpuset" in read(f"{second}/cgroup.controllers").split():
+    if second and "cpuset" in read(f"{second}/cgroup.controllers").split():
         return own_cores_second(stack, second, cpus)
     raise NotAllowed("no cpuset controller is mounted, neither of the first nor of the second version of control groups")
 
@@ -423,10 +420,8 @@ def run(given):
     except Stopped as stopped:
         print("stopped, and nothing is written", file=sys.stderr)
         return 128 + stopped.args[0]
-    try:
-        with open(given.out, "w") as file:
-            file.write(text)
-    except OSError as fault:
-        print(f"{fault.filename}: {fault.strerror}", file=sys.stderr)
-        return 1
-    return 0
+
+    def write_out():
+        pathlib.Path(given.out).write_text(text)
+
+    return ended(write_out)

@@ -18,6 +18,7 @@ A trace that breaks the rules of docs/use/formats.md is refused with its line, a
 import argparse
 import collections
 import io
+import pathlib
 import statistics
 import sys
 from dataclasses import dataclass, field
@@ -69,16 +70,11 @@ class Spans:
 
     def add(self, start, stop, key):
         start, stop = max(start, self.view.begin), min(stop, self.view.end)
-        if start >= stop:
-            return
-        if self.shares is None:
-            self.spans.append((start, stop, key))
-            if len(self.spans) > COLUMNS:
-                spans, self.spans, self.shares = self.spans, [], {}
-                for span in spans:
-                    self.share(*span)
-        else:
-            self.share(start, stop, key)
+        self.spans += [(start, stop, key)] * (start < stop)
+        if len(self.spans) > COLUMNS and self.shares is None:
+            self.shares = {}
+        while self.spans and self.shares is not None:
+            self.share(*self.spans.pop())
 
     def share(self, start, stop, key):
         columns = self.shares.setdefault(key, [0] * COLUMNS)
@@ -122,7 +118,7 @@ class Drawn:
         told = [f"{'?' if server.budget is None else server.budget} of {server.period}{' +' if server.extra else ''}"]
         if self.is_band:
             told.append(f"got {min(self.amounts)} to {max(self.amounts)}" if self.amounts else "no whole period")
-            told.append(f"{self.counts['short']} short, {self.counts['over']} over")
+            told.append("{short} short, {over} over".format(**self.counts))
         return told
 
     def levels(self):
@@ -135,21 +131,18 @@ class Drawn:
 
 def servers_of(path, given, program, scale):
     """The servers of a system file, by name, in units of which so many are a microsecond."""
-    system = read_system(path)
-    parts = {part.name: part for part in system.parts()}
-    for name in given:
-        if name not in parts:
-            raise Refused(path, None, f"it has no part {name}")
-    missing = [name for name, part in parts.items() if part.budget is None and name not in given]
-    asked = {}
-    if missing:
-        try:
-            answer = program_of(program).ask("admit", path)
-            asked = {name: budget for name, (budget, _) in answer.budgets().items()} if answer.status == 0 else {}
-            if answer.status != 0:
-                print(f"{path}: admit gives no budgets: {answer.shown} (status {answer.status})", file=sys.stderr)
-        except Refused as refused:
-            print(f"{path}: the budget of {missing[0]} is left out, and --budget does not give it: {refused}", file=sys.stderr)
+    parts = {part.name: part for part in read_system(path).parts()}
+    if unknown := [name for name in given if name not in parts]:
+        raise Refused(path, None, f"it has no part {unknown[0]}")
+    missing, asked = [name for name, part in parts.items() if part.budget is None and name not in given], {}
+    try:
+        answer = missing and program_of(program).ask("admit", path)
+        if answer and answer.status == 0:
+            asked = {name: budget for name, (budget, _) in answer.budgets().items()}
+        elif answer:
+            print(f"{path}: admit gives no budgets: {answer.shown} (status {answer.status})", file=sys.stderr)
+    except Refused as refused:
+        print(f"{path}: the budget of {missing[0]} is left out, and --budget does not give it: {refused}", file=sys.stderr)
     budgets = {name: given.get(name, part.budget or asked.get(name)) for name, part in parts.items()}
     return {name: Server(part.period * scale, budgets[name] and budgets[name] * scale, part.extra) for name, part in parts.items()}
 
@@ -315,9 +308,8 @@ def at_sign(text, sign="@", what="NAME@FROM_NS"):
 
 def view_of(given, servers, end, scale):
     """What is drawn, and the framed period as its VCPU and its start where one is asked for."""
-    if given.around is None:
-        view, framed = View(given.since or 0, end if given.until is None else min(end, given.until)), None
-    else:
+    view, framed = View(given.since or 0, end if given.until is None else min(end, given.until)), None
+    if given.around:
         name, at = given.around
         if name not in servers:
             cause = f"it has no part {name}, whose period is drawn: --around needs the system file"
@@ -385,6 +377,4 @@ def run(given):
     picture = picture_of(given)
     if given.out is None:
         return picture
-    with open(given.out, "w") as file:
-        file.write(picture)
-    return 0
+    pathlib.Path(given.out).write_text(picture)

@@ -53,11 +53,11 @@ KINDS = {
 
 # Why: what the node that is told serves, and what it gets
 def slots(count):
-    return f"{count} slot" if count == 1 else f"{count} slots"
+    return f"{count} slot{'s' * (count != 1)}"
 
 
 def missing(count):
-    return f"{count} is missing" if count == 1 else f"{count} are missing"
+    return f"{count} {'is' if count == 1 else 'are'} missing"
 
 
 def percent(share):
@@ -209,15 +209,11 @@ class Search:
         """For each node that goes by a fixed priority the first other one that helps, and earliest deadline first where that does. What
         goes by earliest deadline first passes with no other where it does not pass."""
         cores = [self.told.node] if self.told.node.kind == "core" else []
-        for node in self.largest([node for node in cores + self.known() if node.sched != "edf"], self.load_of):
+        for node in self.largest([node for node in cores + self.known() if node.sched != "edf"], self.load):
             helping = [sched for sched in ("dm", "rm", "edf") if sched != node.sched and self.helps(f"{node.name}.sched={sched}")]
             for place, sched in enumerate(dict.fromkeys([*helping[:1], *helping[-1:]])):
                 text = f"{node.name}: {SCHEDS[sched]}, where it was {SCHEDS[node.sched]}"
                 yield Offer("sched", fractions.Fraction(place), f"{node.name}.sched={sched}", text)
-
-    def load_of(self, node):
-        """The share of a node, as far as the file tells it."""
-        return self.load(node) if node.kind == "core" else self.weight(node)
 
     def works(self):
         tasks = [(part, task) for part in self.parts() for task in part.tasks if task.work > 1]
@@ -230,7 +226,7 @@ class Search:
 
     def periods(self):
         """For each part a shorter period that helps: the first of some, each shorter than the one before, and from there on by halving."""
-        for part in self.largest(self.known(), self.weight):
+        for part in self.largest(self.known(), self.load):
             change, longer = f"{part.name}.period=", part.period
             for shorter in shorter_periods(part.period):
                 if self.helps(change + str(shorter)):
@@ -240,9 +236,11 @@ class Search:
                     break
                 longer = shorter
 
-    def weight(self, part):
-        """The share of a part, as far as the file tells it."""
-        return fractions.Fraction(part.budget, part.period) if part.budget else sum(map(share_of, part.tasks))
+    def load(self, node):
+        """The share that a part has, or of a core what its parts have, as far as the file tells it."""
+        if node.kind == "core":
+            return sum(self.load(self.system.nodes[name]) for name in node.children) / fractions.Fraction(node.budget, node.period)
+        return fractions.Fraction(node.budget, node.period) if node.budget else sum(map(share_of, node.tasks))
 
     def moves(self):
         """For each part on a core that is told the least loaded other core that takes it."""
@@ -255,10 +253,6 @@ class Search:
                 if self.helps_in(self.program.admit(self.system.only([self.core, core]).changed(change))):
                     yield Offer("parent", share_of(child), change, f"{child.name}, {percent(share_of(child))} of a core, to {core}")
                     break
-
-    def load(self, core):
-        given = fractions.Fraction(core.budget, core.period)
-        return sum(self.weight(self.system.nodes[name]) for name in core.children) / given
 
 
 def shorter_periods(period):
@@ -288,16 +282,15 @@ def helping(system, told, program):
         if offers:
             break
     yes = [(offer, answer) for offer, answer in offers if answer.is_yes]
+    head = "No change that was tried helps by itself."
+    if offers:
+        head = "No change that was tried makes it a yes by itself. With any one of these the program comes to another node:"
     if yes:
         head = "With any one of these changes the program answers yes:"
-    elif offers:
-        head = "No change that was tried makes it a yes by itself. With any one of these the program comes to another node:"
-    else:
-        head = "No change that was tried helps by itself."
     kept = ", ".join(part.name for part in search.parts() if is_stand_in(part))
-    kept = [f"({kept}: the task is invented, so budget and period stay as they are.)"] if kept else []
-    kept += [f"(Of the tasks and parts the {MOST_TRIED} with the greatest shares were tried.)"] if search.cut else []
-    return [head, *kept], yes or offers
+    notes = [f"({kept}: the task is invented, so budget and period stay as they are.)"] * bool(kept)
+    notes += [f"(Of the tasks and parts the {MOST_TRIED} with the greatest shares were tried.)"] * search.cut
+    return [head, *notes], yes or offers
 
 
 def by_kind(offers):
