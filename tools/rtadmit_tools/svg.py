@@ -37,6 +37,13 @@ class Canvas:
     def circle(self, x, y, radius, fill, more=""):
         self.lines.append(f'<circle cx="{x:.2f}" cy="{y:.2f}" r="{radius}" fill="{fill}" {more}/>')
 
+    def ring(self, x, y, colour):
+        self.circle(x, y, 4.5, "white", f'stroke="{colour}" stroke-width="2"')
+
+    def title(self, name, about):
+        self.text(12, 24, name, size=16, more='font-weight="bold" font-family="monospace"')
+        self.text(12, 44, about, fill=GREY)
+
     def path(self, told, more):
         self.lines.append(f'<path d="{told}" {more}/>')
 

@@ -328,7 +328,7 @@ class Fuzz:
         else:
             writer = os.open("/dev/full" if out == "full" else text, os.O_WRONLY)
         with open(writer, "wb") as to, open(complaint, "wb") as err:
-            ended = runs.run([*program.words, *words], to, err, limit, self.given.memory or (8192 if self.given.heavy else 2048))
+            ended = runs.run([*program.words, *words], to, err, limit, 8192 if self.given.heavy else 2048)
         return ended, text.read_bytes(), complaint.read_bytes()
 
     def wrong_with(self, ended, text, complaint, out, limit):
@@ -436,7 +436,6 @@ def add_words(parser):
     parser.add_argument("--beside", metavar="PROGRAM", help="another program, which has to answer the same")
     parser.add_argument("--only", metavar="COMMAND", help="no other command")
     parser.add_argument("--keep", metavar="FOLDER", help="where the files of failures are kept, and of the largest and the slowest runs")
-    parser.add_argument("--memory", type=int, metavar="MIB", help="what a run may have")
     add_program(parser)
 
 
