@@ -181,15 +181,10 @@ def of_system(path, word, spot, core):
     else:
         candidates = faults_of_table(spot, tables[spot], tree) if spot in tables else ()
         found = next((found for found in candidates if found.word == word), None)
-    key, name = found and found.key, listed_name(tables.get(spot))
-    own = keys_of(spot).get(key)
-    where = f"{spot}, {name}" if name else "the top table" if spot == "top" else spot
+    key, table = found and found.key, tables.get(spot)
+    name, own = table.get("name") if isinstance(table, dict) else None, keys_of(spot).get(key)
+    where = f"{spot}, {name}" if name and isinstance(name, str) else "the top table" if spot == "top" else spot
     return told(path, where, found, f"{key}: {own}" if own else f"{word}: {rule}", Places(text).line(spot, key))
-
-
-def listed_name(table):
-    name = table.get("name") if isinstance(table, dict) else None
-    return name if isinstance(name, str) else None
 
 
 def told(path, where, found, rule, line):
@@ -203,13 +198,8 @@ def told(path, where, found, rule, line):
 PLAIN = re.compile("0|[1-9][0-9]*")
 
 
-class Row:
+class Row(namedtuple("Row", "line fields keys")):
     """A row of a file of comma-separated values: its line, and its fields by the keys of the header."""
-
-    __slots__ = ("line", "fields", "keys")
-
-    def __init__(self, line, fields, keys):
-        self.line, self.fields, self.keys = line, fields, keys
 
     def __getattr__(self, key):
         return dict(zip(self.keys, self.fields)).get(key, "")

@@ -43,6 +43,8 @@ WORDS = {
     "bad": "CANNOT BE APPLIED",
     "untried": "NOT TRIED",
 }
+# what `rt must-fail` says of an edit that is not just refused
+KINDS = {"BAD EDIT": "bad", "NOT REFUSED": "through", "only because a proof file names": "named"}
 
 
 # the texts of edits
@@ -111,15 +113,12 @@ def sum_of(*parts):
     return hashlib.sha256(repr(parts).encode()).hexdigest()
 
 
-def sum_of_crate(crate):
-    paths = sorted(path for room in sources.ROOMS for path in (sources.TOP / "crates" / crate / room).rglob("*") if path.is_file())
-    return sum_of(*((str(path.relative_to(sources.TOP)), path.read_bytes()) for path in paths))
-
-
 def sums_of(crates, toolchain):
     """For each crate a sum of all that the check of its edits reads but the edit."""
-    below = crates_below()
-    own = {it: sum_of_crate(it) for it in {*crates}.union(*(below[crate] for crate in crates))}
+    below, own = crates_below(), {}
+    for crate in {*crates}.union(*(below[crate] for crate in crates)):
+        paths = sorted(path for room in sources.ROOMS for path in (sources.TOP / "crates" / crate / room).rglob("*") if path.is_file())
+        own[crate] = sum_of(*((str(path.relative_to(sources.TOP)), path.read_bytes()) for path in paths))
     return {crate: sum_of(toolchain, own[crate], *((it, own[it]) for it in sorted(below[crate]))) for crate in crates}
 
 
@@ -159,11 +158,6 @@ def fill(room, tried):
 
 
 # the tries
-def kind_of(said):
-    kinds = {"BAD EDIT": "bad", "NOT REFUSED": "through", "only because a proof file names": "named"}
-    return next((kind for words, kind in kinds.items() if words in said), "refused")
-
-
 def run_rt(room, words, seconds=None, folder="."):
     """The output of rt, or None where it ran out of time. What it starts ends with this tool."""
     made = subprocess.Popen(
@@ -188,9 +182,10 @@ def tried_alone(room, crate, edits):
         (folder / f"{edit.name}.edit").write_text(edit.text)
     text = run_rt(room, ["must-fail", crate])
     shutil.rmtree(folder, ignore_errors=True)
-    said = dict(re.findall(rf"^rt: must-fail {re.escape(crate)}/(\S+)\.edit: (.*)$", text, re.M))
-    last = ("untried", ["rt said nothing", *filter(str.strip, text.split("\n"))][-1])
-    return {edit.name: (kind_of(said[edit.name]), said[edit.name]) if edit.name in said else last for edit in edits}
+    found = dict.fromkeys((edit.name for edit in edits), ("untried", ["rt said nothing", *filter(str.strip, text.split("\n"))][-1]))
+    for name, said in re.findall(rf"^rt: must-fail {re.escape(crate)}/(\S+)\.edit: (.*)$", text, re.M):
+        found[name] = next((kind for words, kind in KINDS.items() if words in said), "refused"), said
+    return found
 
 
 def checked(room, crate, texts, some):

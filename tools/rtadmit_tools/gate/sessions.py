@@ -19,20 +19,16 @@ PLACEMENTS = 60
 KEYS = ("name", "parent", "sched", "period", "budget")
 
 
-def row_text(row):
-    tasks = ";".join(":".join(str(one[key]) for key in TASK_KEYS) for one in row["task"])
-    return ",".join(str("" if row[key] is None else row[key]) for key in ("op", *KEYS)) + f",{tasks}\n"
-
-
 def script_text(rows):
-    return "op,part,parent,sched,period,budget,tasks\n" + "".join(map(row_text, rows))
+    lines = ["op,part,parent,sched,period,budget,tasks\n"]
+    for row in rows:
+        fields = ["" if row[key] is None else str(row[key]) for key in ("op", *KEYS)]
+        tasks = ";".join(":".join(str(one[key]) for key in TASK_KEYS) for one in row["task"])
+        lines.append(",".join([*fields, tasks]) + "\n")
+    return "".join(lines)
 
 
 # The model: a host is the tables of its file, a row the table of a part with a word
-def leaf_named(host, name):
-    return next((place for place, part in enumerate(host["part"]) if part["name"] == name and part["task"]), None)
-
-
 def is_bad_part(row):
     names = [one["name"] for one in row["task"]]
     good_budget = row["budget"] is None or 1 <= row["budget"] <= row["period"]
@@ -56,15 +52,12 @@ def fault_of(host, row):
 
 def edited(host, row):
     """The host with a row that has no fault."""
-    parts, place = list(host["part"]), leaf_named(host, row["name"])
     new = {key: row[key] for key in (*KEYS, "task")}
     if row["op"] == "add":
-        parts.append(new)
-    elif row["op"] == "remove":
-        del parts[place]
-    else:
-        parts[place] = new | {"parent": parts[place]["parent"]}
-    return host | {"part": parts}
+        return host | {"part": [*host["part"], new]}
+    if row["op"] == "remove":
+        return host | {"part": [part for part in host["part"] if part["name"] != row["name"]]}
+    return host | {"part": [new | {"parent": part["parent"]} if part["name"] == row["name"] else part for part in host["part"]]}
 
 
 # What is drawn

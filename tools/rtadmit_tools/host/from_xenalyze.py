@@ -77,19 +77,17 @@ def event_of(path, line, text, known):
             raise Refused(path, line, "no line of `xenalyze --dump-all`: no moment with nine digits, or no processor")
         return None
     event = Event(line, int(found[1]) * 1_000_000_000 + int(found[2]), len(found[3]), "")
-    change = CHANGE.fullmatch(found[5])
-    if found[5].startswith("runstate_change") and not change:
-        raise Refused(path, line, "no text of a runstate_change")
-    if change and change[1] not in known and change[3] == "running":
-        event.new = RUNNING
+    change, replenished = CHANGE.fullmatch(found[5]), REPLENISHED.fullmatch(found[5])
+    kind = next((kind for kind in ("runstate_change", "rtds:repl_budget") if found[5].startswith(kind)), None)
+    if kind and not (change or replenished):
+        raise Refused(path, line, f"no text of a {kind}")
     if change and change[1] in known:
         if change[2] not in STATES or change[3] not in STATES:
             raise Refused(path, line, f"{change[2]}->{change[3]} are no states of a VCPU that runs")
         event.vcpu, event.old, event.new = change[1], STATES[change[2]], STATES[change[3]]
-    replenished = REPLENISHED.fullmatch(found[5])
-    if found[5].startswith("rtds:repl_budget") and not replenished:
-        raise Refused(path, line, "no text of a rtds:repl_budget")
-    if replenished and replenished[1] in known:
+    elif change and change[3] == "running":
+        event.new = RUNNING
+    elif replenished and replenished[1] in known:
         budget = BUDGET.search(found[5])
         event.vcpu, event.budget_ns = replenished[1], budget and int(budget[1])
     return event
@@ -97,19 +95,17 @@ def event_of(path, line, text, known):
 
 def read(path, known):
     """The events of the map in order of time, and the moment of the last line."""
-    events, last, times = [], 0, {}
+    events, times = [], {}
     for line, text in lines_of(path):
         event = event_of(path, line, text, known)
-        if event is None:
-            continue
-        if event.at < times.get(event.cpu, 0):
+        if event and event.at < times.get(event.cpu, 0):
             raise Refused(path, line, f"time falls on processor {event.cpu}")
-        times[event.cpu] = event.at
-        last = max(last, event.at)
-        events += [event] if event.vcpu or event.new else []
+        if event:
+            times[event.cpu] = event.at
+            events += [event] * bool(event.vcpu or event.new)
     if not times:
         raise Refused(path, None, "no line of `xenalyze --dump-all`")
-    return sorted(events, key=lambda event: event.at), last
+    return sorted(events, key=lambda event: event.at), max(times.values())
 
 
 class Host:
