@@ -1,7 +1,6 @@
 """How the checks of sources read a repository: the files of its crates, definitions, functions as `rt fmt` lays them out, pages."""
 import re
 from collections import namedtuple
-from dataclasses import dataclass
 
 from . import command_line
 
@@ -16,12 +15,7 @@ NO_CODE = re.compile(r"\s*(?:invariant|decreases|requires|ensures|measure|prove!
 CLAUSE = re.compile(r" *(?:requires|ensures|ghost)\b")
 
 
-@dataclass
-class File:
-    path: object
-    module: str
-    text: str
-
+class File(namedtuple("File", "path module text")):
     @property
     def lines(self):
         return self.text.split("\n")
@@ -87,13 +81,8 @@ def used_crates():
 Function = namedtuple("Function", "module owner trait name is_public")
 
 
-@dataclass(frozen=True)
-class Piece:
+class Piece(namedtuple("Piece", "function head body", defaults=[()])):
     """Some lines of a source: the head and the body of a function, or, of what stands between functions, a head alone."""
-
-    function: Function | None
-    head: tuple
-    body: tuple = ()
 
     @property
     def lines(self):

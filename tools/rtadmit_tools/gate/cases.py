@@ -20,30 +20,18 @@ is COMMAND/CASE, or COMMAND for all of its cases. Ends with 1 where a case diffe
 where a folder cases/ stands at the top, of which none would run."""
 import difflib
 import json
-import pathlib
 import shutil
-from dataclasses import dataclass, field
+from collections import namedtuple
 
 from .. import comparing
 from ..command_line import TOP, Refused
 from ..comparing import Broken, compare, need
 
+# the words, the content of the files that are no copies, what is printed, and the status; or why there is no such run
+Run = namedtuple("Run", "name case words own printed status fault", defaults=[(), {}, b"", 0, None])
 CASES, FORMER = TOP / "tests/cases", TOP / "cases"
 OWN = ("args", "stdout", "status", "rows.json")
 TABLE = {"file", "front", "back", "printed", "status", "rows"}
-
-
-@dataclass
-class Run:
-    """The words, the content of the files that are no copies, what is printed, and the status; or why there is no such run."""
-
-    name: str
-    case: pathlib.Path
-    words: list = field(default_factory=list)
-    own: dict = field(default_factory=dict)
-    printed: bytes = b""
-    status: int = 0
-    fault: Broken | None = None
 
 
 def status_of(said):

@@ -17,7 +17,6 @@ import os
 import pathlib
 import shlex
 from collections import namedtuple
-from dataclasses import dataclass
 
 from ..command_line import Refused
 from ..program import add_program, line_object, program_of
@@ -31,13 +30,8 @@ MOST_SLOTS = 1_000_000
 KEYS = {"isolated": ["last", "of"], "ties": ["by", "last", "of"], "block": ["by"]}
 
 
-@dataclass(frozen=True)
-class Workload:
+class Workload(namedtuple("Workload", "rows slots begins")):
     """Rows of a moment, a name and a word; how many slots its run has; and where the period begins that is short in it."""
-
-    rows: list
-    slots: int
-    begins: int
 
     def text(self):
         return "".join(["at,vcpu,what\n", *(f"{at},{name},{what}\n" for at, name, what in self.rows)])

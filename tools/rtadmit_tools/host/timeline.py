@@ -16,11 +16,11 @@ VCPU had it, a VCPU by the time that it ran, from below, and was blocked, from a
 
 A trace that breaks the rules of docs/use/formats.md is refused with its line, as far as it is read."""
 import argparse
-import collections
 import io
 import pathlib
 import statistics
 import sys
+from collections import defaultdict, namedtuple
 from dataclasses import dataclass, field
 
 from ..command_line import Refused
@@ -45,11 +45,7 @@ HATCHES = "\n".join(["<defs>", *(
 WORDS = {1000: "µs", 1: "ns"}
 
 
-@dataclass
-class View:
-    begin: int
-    end: int
-
+class View(namedtuple("View", "begin end")):
     def x(self, at):
         """The distance of a moment from the left side of the plot."""
         return PLOT * (at - self.begin) / max(self.end - self.begin, 1)
@@ -344,7 +340,7 @@ def picture_of(given):
         scale = 1000 // reader.unit
         servers = servers_of(given.system, dict(given.budget), given.program, scale) if given.system else {}
         view, framed = view_of(given, servers, end, scale)
-        spans, drawn = collections.defaultdict(lambda: Spans(view)), {name: Drawn(view, server) for name, server in servers.items()}
+        spans, drawn = defaultdict(lambda: Spans(view)), {name: Drawn(view, server) for name, server in servers.items()}
         tell = lambda name, *period: drawn[name].tell(*period)
         for vcpu, runs, since, until in judged(reader, host, servers, tell, view.begin, view.end):
             spans["vcpu", vcpu.name].add(since, until, "run" if runs else "blocked")
