@@ -3,7 +3,7 @@ import os
 import re
 import shlex
 import subprocess
-from dataclasses import dataclass
+from collections import namedtuple
 
 from .command_line import TOP, Refused
 
@@ -37,12 +37,8 @@ def line_object(line):
     return {"kind": kind, **told, **dict(zip(ALONE[kind], alone)), **{key: value_of(value) for key, value in pairs}}
 
 
-@dataclass
-class Answer:
+class Answer(namedtuple("Answer", "status text")):
     """What the program printed, and its status."""
-
-    status: int
-    text: str
 
     @property
     def lines(self):

@@ -12,7 +12,6 @@ import sys
 import tarfile
 import tempfile
 from collections import namedtuple
-from dataclasses import dataclass
 
 from .command_line import TOP, Refused
 from .program import built_program, is_built
@@ -43,16 +42,9 @@ def gate_of(path):
     return Gate(str(path), lines[-1], found[1], found[2], found[4])
 
 
-@dataclass
-class Origin:
+class Origin(namedtuple("Origin", "path sum version gate is_asked_for")):
     """What a program is: its sum, the answer of its `version`, the gate that left it, as far as one is known, and whether one that no gate
     left was asked for."""
-
-    path: str
-    sum: str
-    version: str
-    gate: Gate | None
-    is_asked_for: bool
 
     @property
     def is_unproved(self):

@@ -26,6 +26,7 @@ import pathlib
 import re
 import shlex
 import sys
+from collections import namedtuple
 from dataclasses import dataclass, field
 
 from ..command_line import Refused, counted
@@ -71,16 +72,8 @@ def pieces_of(folder):
     return pieces, whole
 
 
-@dataclass(order=True)
-class Broken:
+class Broken(namedtuple("Broken", "from_ns place what name got_ns of_ns")):
     """A broken period: where it begins in the recording, and what is told of it. Its order is that in which `audit` tells."""
-
-    from_ns: int
-    place: int
-    what: str
-    name: str
-    got_ns: int
-    of_ns: int
 
     def __str__(self):
         return f"{self.what} {self.name} from_ns={self.from_ns} got_ns={self.got_ns} of_ns={self.of_ns}"

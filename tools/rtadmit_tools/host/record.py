@@ -22,7 +22,7 @@ import struct
 import sys
 import tempfile
 import time
-from dataclasses import dataclass
+from collections import namedtuple
 
 from ..command_line import Refused, ended
 from .from_ftrace import Map, Rows, translate
@@ -46,15 +46,8 @@ class Stopped(Exception):
     """A signal asked for an early end: its number."""
 
 
-@dataclass
-class Thread:
+class Thread(namedtuple("Thread", "name cpu runtime period work")):
     """A thread to record: its reservation, and its work in each period where it sleeps. Microseconds."""
-
-    name: str
-    cpu: int
-    runtime: int
-    period: int
-    work: int | None
 
     def reserve(self):
         """Puts the caller under SCHED_DEADLINE. Answers 0 or the number of the error."""
