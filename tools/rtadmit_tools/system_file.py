@@ -5,11 +5,12 @@ import re
 import textwrap
 import tomllib
 from collections import namedtuple
-from dataclasses import dataclass, field
 
 from .command_line import Refused
 from .formulas import SCHEDS, task_of
 
+# a core or a part: its supply, and what it serves in which order; a core without a supply has every slot
+Node = namedtuple("Node", "kind name sched period budget parent extra tasks children", defaults=[None, False, (), ()])
 # a part on a core of an admitted file, with its budget and the line of its name
 Server = namedtuple("Server", "name core period budget extra line")
 LIMIT = 1_000_000_000
@@ -40,21 +41,6 @@ work = 1
 """
 
 
-@dataclass
-class Node:
-    """A core or a part: its supply, and what it serves in which order. A core without a supply has every slot."""
-
-    kind: str
-    name: str
-    sched: str
-    period: int
-    budget: int | None
-    parent: str | None = None
-    extra: bool = False
-    tasks: list = field(default_factory=list)
-    children: list = field(default_factory=list)
-
-
 class System:
     """A system file as tables, and its nodes by name: the cores and then the parts, in file order."""
 
@@ -63,11 +49,10 @@ class System:
         try:
             for core in tree["core"]:
                 period, budget = core.get("supply_period", 1), core.get("supply_budget", 1)
-                self.nodes[core["name"]] = Node("core", core["name"], core["sched"], period, budget)
+                self.nodes[core["name"]] = Node("core", core["name"], core["sched"], period, budget, children=[])
             for part in tree.get("part", []):
-                tasks = [task_of(table) for table in part.get("task", [])]
-                extra = part.get("extra", False)
-                node = Node("part", part["name"], part["sched"], part["period"], part.get("budget"), part["parent"], extra, tasks)
+                tasks, supply = list(map(task_of, part.get("task", []))), (part["period"], part.get("budget"))
+                node = Node("part", part["name"], part["sched"], *supply, part["parent"], part.get("extra", False), tasks, [])
                 self.nodes[node.name] = node
                 self.nodes[node.parent].children.append(node.name)
         except (KeyError, TypeError, AttributeError) as fault:

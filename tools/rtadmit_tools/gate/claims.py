@@ -2,7 +2,8 @@
 
 Below "Proved", each name in backquotes is a function, a type, a trait or a ghost item of some crate, a definition of some specs/, or the
 label of an `ensures`; a label has to be one of the crate, and of the functions of it that its entry names, where it names one. And each
-function that a crate hands out has to be named there. Of docs/proof/claims.md the same for the rows that begin with a command."""
+function that a crate hands out has to be named there. Of docs/proof/claims.md the same for the rows that begin with a command.
+Ends with 1 where something is wrong."""
 import re
 
 from .. import sources

@@ -6,7 +6,8 @@ N scripts (100, as the gate does) of 4 to 10 rows, over small hosts of one or tw
 changes, of which some are wrong in each way in which a row can be. The model keeps the parts as a list. A row that it refuses has to be
 refused with the same word; of any other the edited file is judged by `admit`, and the row has to be answered by what that says. Sixty
 placements of 2 to 8 guests on hosts of one to six cores: each guest is tried on the cores in order by `admit` of the file with it, and the
-text of `place` has to be that file in the end, or to name the guest that is bad or fits on no core. The seed is printed."""
+text of `place` has to be that file in the end, or to name the guest that is bad or fits on no core. The seed is printed.
+Ends with 1 where an answer differs."""
 import random
 import tomllib
 
